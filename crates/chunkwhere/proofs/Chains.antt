@@ -1,0 +1,53 @@
+-- In a chain an index lies in one chunk at most, and so its box and its place are the only ones.
+use Rattle.std.proofs.Common.{◌≡◌, ℕ, zero, suc, ◌+◌, ◌<◌, ◌≤◌, IsTrue, List, [], ◌∷◌, refl, sym, ap, subst, ⊎_elim, add-one, arith}
+use Rattle.std.proofs.lemmas.Bool.{cases_lt}
+use Rattle.std.specs.List.{AllByRecursion}
+use Rattle.chunkwhere.specs.Dimension.{Dimension, Holds, IsChain, InBox}
+
+-- a chunk ends before a later one starts
+ends_before : (d : Dimension) → IsChain d → (c m : ℕ) → c ≤ m → IsTrue (d.has_chunk (m + 1)) → d.end c ≤ d.start (m + 1)
+ends_before d chain c zero below has =
+    let first : c ≡ zero = omega arith in
+    let gap = chain.no_gap zero has in
+    subst (λ k. d.end k ≤ d.start (zero + 1)) (sym first) (omega (arith, gap.1))
+ends_before d chain c (suc m) below has =
+    let gap = chain.no_gap (suc m) has in
+    let holds_something : d.start (suc m) < d.end (suc m) = chain.not_empty (suc m) gap.0 in
+    ⊎_elim
+        (λ (before : c < suc m).
+            let rest : d.end c ≤ d.start (m + 1) = ends_before d chain c m (omega arith) (rw (add-one) gap.0) in
+            let same : d.start (m + 1) ≡ d.start (suc m) = ap d.start (add-one m) in
+            omega (arith, gap.1))
+        (λ (after : suc m ≤ c). let same : c ≡ suc m = omega arith in subst (λ k. d.end k ≤ d.start (suc m + 1)) (sym same) (omega (arith, gap.1)))
+        (cases_lt c (suc m))
+
+-- no index lies in a chunk and in a later one
+not_later : (d : Dimension) → IsChain d → (c e i : ℕ) → Holds d c i → Holds d e i → c < e → ⊥
+not_later d chain c zero i first second before = absurd (omega arith)
+not_later d chain c (suc m) i first second before =
+    let has : IsTrue (d.has_chunk (m + 1)) = rw add-one second.chunk in
+    let apart : d.end c ≤ d.start (m + 1) = ends_before d chain c m (omega arith) has in
+    let same : d.start (m + 1) ≡ d.start (suc m) = ap d.start (add-one m) in
+    let low = first.below in
+    let high = second.from in
+    absurd (omega arith)
+
+same_chunk : (d : Dimension) → IsChain d → (c e i : ℕ) → Holds d c i → Holds d e i → c ≡ e
+same_chunk d chain c e i first second =
+    ⊎_elim (λ before. absurd (not_later d chain c e i first second before))
+        (λ le. ⊎_elim (λ after. absurd (not_later d chain e c i second first after)) (λ ge. let same : c ≡ e = omega arith in same) (cases_lt e c))
+        (cases_lt c e)
+
+-- an index lies in the box of one chunk at most
+pub same_box : (ds : List Dimension) (chunk other index : List ℕ) → AllByRecursion IsChain ds → InBox ds chunk index → InBox ds other index → chunk ≡ other
+same_box [] [] [] [] chains first second = refl
+same_box (d ∷ ds) (c ∷ chunk) (e ∷ other) (i ∷ index) chains first second =
+    let here = same_chunk d chains.0 c e i first.0 second.0 in
+    let rest = same_box ds chunk other index chains.1 first.1 second.1 in
+    cc
+same_box [] [] [] (_ ∷ _) chains first second = absurd first
+same_box [] [] (_ ∷ _) _ chains first second = absurd second
+same_box [] (_ ∷ _) _ _ chains first second = absurd first
+same_box (_ ∷ _) [] _ _ chains first second = absurd first
+same_box (_ ∷ _) (_ ∷ _) [] _ chains first second = absurd second
+same_box (_ ∷ _) (_ ∷ _) (_ ∷ _) [] chains first second = absurd first

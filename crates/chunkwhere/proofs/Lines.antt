@@ -1,0 +1,71 @@
+-- The lines so far, and what they leave to say of the indices that are left.
+use Rattle.std.proofs.Common.{◌≡◌, ◌≢◌, ℕ, zero, suc, ◌+◌, ◌<◌, ◌≤◌, List, [], ◌∷◌, ◌++◌, length, map, drop, get_or, Vec, Global, add-one, refl, sym, ap, ◌∙◌, subst, append_assoc, append-nil, arith}
+use Rattle.std.specs.List.{AllByRecursion}
+use Rattle.chunkwhere.specs.declared.incompatible_dimensionality_error.IncompatibleDimensionalityError.{IncompatibleDimensionalityError}
+use Rattle.chunkwhere.specs.Answer.{HasLengthOf, IsFirstWrongLength}
+use Rattle.chunkwhere.specs.ChunkKey.{Encoding}
+use Rattle.chunkwhere.specs.Dimension.{Dimension}
+use Rattle.chunkwhere.specs.Output.{IsLine, IsOutput}
+use Rattle.chunkwhere.specs.Refusal.{TellsLengths}
+
+-- the lists of numbers in vectors
+abbrev pub lists_of : List (Vec ℕ Global) → List (List ℕ)
+lists_of vs = map (λ v. v.items) vs
+
+-- what is left from a vector's place on begins with its numbers
+pub begins_with : (vs : List (Vec ℕ Global)) (i : ℕ) (v : Vec ℕ Global) → i < length vs → v ≡ get_or vs i v
+    → drop i (lists_of vs) ≡ v.items ∷ drop (i + 1) (lists_of vs)
+begins_with vs i v within is = rw (add-one) (at vs i within is) where
+  at : (ws : List (Vec ℕ Global)) (k : ℕ) → k < length ws → v ≡ get_or ws k v → drop k (lists_of ws) ≡ v.items ∷ drop (suc k) (lists_of ws)
+  at [] k within is = absurd (omega arith)
+  at (w ∷ ws) zero within is = ap (λ (u : Vec ℕ Global). u.items ∷ lists_of ws) (sym is)
+  at (w ∷ ws) (suc k) within is = at ws k (omega arith) is
+
+pub nothing_left : (vs : List (Vec ℕ Global)) (i : ℕ) → length vs ≤ i → drop i (lists_of vs) ≡ []
+nothing_left [] zero h = refl
+nothing_left [] (suc i) h = refl
+nothing_left (v ∷ vs) zero h = absurd (omega arith)
+nothing_left (v ∷ vs) (suc i) h = nothing_left vs i (omega arith)
+
+-- The text has the lines of all indices before the rest, which begins at the position: what holds of the
+-- rest holds, after the text, of all.
+pub record IsSoFar (ds : List Dimension) (encoding : Encoding) (all rest : List (List ℕ)) (position : ℕ) (text : List ℕ) : Type 0 where
+  pub lengths : AllByRecursion (HasLengthOf ds) rest → AllByRecursion (HasLengthOf ds) all
+  pub output : (more : List ℕ) → IsOutput ds encoding rest more → IsOutput ds encoding all (text ++ more)
+  pub wrong : (n : ℕ) (e : IncompatibleDimensionalityError) → IsFirstWrongLength ds rest n e → IsFirstWrongLength ds all (position + n) e
+
+module _ (ds : List Dimension) (encoding : Encoding) (all : List (List ℕ)) where
+  pub at_start : (text : List ℕ) → text ≡ [] → IsSoFar ds encoding all all 0 text
+  at_start text empty = record {
+      lengths = λ h. h;
+      output = λ more h. rw empty h;
+      wrong = λ n e h. let same : 0 + n ≡ n = omega arith in rw same h;
+    }
+
+  pub one_more : (rest : List (List ℕ)) (position : ℕ) (text : List ℕ) (index line : List ℕ) (rest_after : List (List ℕ)) (text_after : List ℕ)
+      → IsSoFar ds encoding all rest position text → rest ≡ index ∷ rest_after → HasLengthOf ds index → IsLine ds encoding index line
+      → text_after ≡ text ++ line → IsSoFar ds encoding all rest_after (position + 1) text_after
+  one_more rest position text index line rest_after text_after so_far first has_length is_line longer = record {
+      lengths = λ h. so_far.lengths (subst (AllByRecursion (HasLengthOf ds)) (sym first) (has_length, h));
+      output = λ more h.
+          let said = so_far.output (line ++ more) (subst (λ r. IsOutput ds encoding r (line ++ more)) (sym first) (line, more, is_line, h, refl)) in
+          subst (IsOutput ds encoding all) (sym (append_assoc text line more) ∙ ap (λ t. t ++ more) (sym longer)) said;
+      wrong = λ n e h.
+          let said = so_far.wrong (suc n) e (subst (λ r. IsFirstWrongLength ds r (suc n) e) (sym first) (has_length, h)) in
+          let same : position + suc n ≡ position + 1 + n = omega arith in
+          subst (λ p. IsFirstWrongLength ds all p e) same said;
+    }
+
+  pub at_wrong : (rest : List (List ℕ)) (position : ℕ) (text : List ℕ) (index : List ℕ) (rest_after : List (List ℕ)) (e : IncompatibleDimensionalityError)
+      → IsSoFar ds encoding all rest position text → rest ≡ index ∷ rest_after → length index ≢ length ds → TellsLengths (length index) (length ds) e
+      → IsFirstWrongLength ds all position e
+  at_wrong rest position text index rest_after e so_far first unequal tells =
+      let said = so_far.wrong 0 e (subst (λ r. IsFirstWrongLength ds r 0 e) (sym first) (unequal, tells)) in
+      let same : position + 0 ≡ position = omega arith in
+      subst (λ p. IsFirstWrongLength ds all p e) same said
+
+  pub at_end : (rest : List (List ℕ)) (position : ℕ) (text : List ℕ) → IsSoFar ds encoding all rest position text → rest ≡ []
+      → AllByRecursion (HasLengthOf ds) all × IsOutput ds encoding all text
+  at_end rest position text so_far empty =
+      (so_far.lengths (subst (AllByRecursion (HasLengthOf ds)) (sym empty) tt),
+       subst (IsOutput ds encoding all) (append-nil text) (so_far.output [] (subst (λ r. IsOutput ds encoding r []) (sym empty) refl)))

@@ -1,0 +1,74 @@
+-- The outcomes of a run, put together from its steps.
+use Rattle.std.proofs.Common.{◌≡◌, ℕ, Bool, true, false, List, [], ◌++◌, Option, None, Some, Result, Ok, Err, IfSome, IfErr, OnOk, OnErr, refl, sym, ◌∙◌, subst, ⊎_elim}
+use Rattle.chunkwhere.specs.declared.run_fault.RunFault.{RunFault}
+use Rattle.chunkwhere.specs.declared.run_fault.RunFault.TheVariants.{Read, NotJson, NotObject, Missing, WrongValue, Metadata, Grid, Encoding, Index, Write, Memory}
+use Rattle.chunkwhere.specs.Document.{not_json, not_of_form}
+use Rattle.chunkwhere.specs.Run.{IsFirstFault, no_document, no_answer, IsTextFor, IsWritten, IsReadToEnd, RunLeaves, Streams}
+use Rattle.chunkwhere.specs.RunFault.{OrMemory}
+
+-- ---- a fault of an input is none of reading, memory or writing
+
+no_read : {input : List ℕ} → IsFirstFault input Read → ⊥
+no_read (no_document (not_json none e)) = cc
+no_read (no_document (not_of_form tree is h)) = h
+no_read (no_answer tree document is stands h) = h
+
+no_memory : {input : List ℕ} → IsFirstFault input Memory → ⊥
+no_memory (no_document (not_json none e)) = cc
+no_memory (no_document (not_of_form tree is h)) = h
+no_memory (no_answer tree document is stands h) = h
+
+no_write : {input : List ℕ} → IsFirstFault input Write → ⊥
+no_write (no_document (not_json none e)) = cc
+no_write (no_document (not_of_form tree is h)) = h
+no_write (no_answer tree document is stands h) = h
+
+leaves_first : (input held : List ℕ) (fault : RunFault) (s : Streams) → IsFirstFault input fault → IsReadToEnd s → IsWritten held s → RunLeaves input held (Err fault) s
+leaves_first input held Read s first end written = absurd (no_read first)
+leaves_first input held Memory s first end written = absurd (no_memory first)
+leaves_first input held Write s first end written = absurd (no_write first)
+leaves_first input held NotJson s first end written = (end, first, written)
+leaves_first input held NotObject s first end written = (end, first, written)
+leaves_first input held (Missing field) s first end written = (end, first, written)
+leaves_first input held (WrongValue field) s first end written = (end, first, written)
+leaves_first input held (Metadata field e) s first end written = (end, first, written)
+leaves_first input held (Grid e) s first end written = (end, first, written)
+leaves_first input held (Encoding e) s first end written = (end, first, written)
+leaves_first input held (Index position e) s first end written = (end, first, written)
+
+-- ---- after everything was read
+
+-- no text, and nothing was written
+pub after_fault : (left left_after holds : Option (List ℕ)) (read_before read_after write : Bool) (bytes : List ℕ) (fault : RunFault)
+    → IfSome left (λ input. (bytes ≡ input) × (left_after ≡ Some [])) → read_after ≡ read_before → OrMemory (IsFirstFault bytes) fault
+    → IfSome left (λ input. IfSome holds (λ held. read_before ≡ false → write ≡ false
+        → RunLeaves input held (Err fault) (record { left = left_after; read_failed = read_after; holds = holds; write_failed = write })))
+after_fault None left_after holds read_before read_after write bytes fault read same why = tt
+after_fault (Some input) left_after None read_before read_after write bytes fault read same why = tt
+after_fault (Some input) left_after (Some held) read_before read_after write bytes fault read same why = λ not_read not_written.
+    let s : Streams = record { left = left_after; read_failed = read_after; holds = Some held; write_failed = write } in
+    ⊎_elim
+        (λ wanting. subst (λ f. RunLeaves input held (Err f) s) (sym wanting) (same ∙ not_read, (refl, not_written)))
+        (λ first. leaves_first input held fault s (subst (λ b. IsFirstFault b fault) read.0 first) (read.1, same ∙ not_read) (refl, not_written))
+        why
+
+-- the text was written, or a beginning of it
+pub after_writing : (left left_after holds holds_after : Option (List ℕ)) (read_before read_after write_before write_after : Bool) (bytes text : List ℕ)
+    (r : Result (Unit {0}) RunFault)
+    → IfSome left (λ input. (bytes ≡ input) × (left_after ≡ Some [])) → read_after ≡ read_before → IsTextFor bytes text
+    → OnOk r (IfSome holds (λ held. holds_after ≡ Some (held ++ text))) → OnOk r (write_after ≡ write_before)
+    → OnErr r (IfSome holds (λ held. (written : List ℕ) × (rest : List ℕ) × (text ≡ written ++ rest) × (holds_after ≡ Some (held ++ written))))
+    → IfErr r (λ fault. (fault ≡ Write) × (write_after ≡ true))
+    → IfSome left (λ input. IfSome holds (λ held. read_before ≡ false → write_before ≡ false
+        → RunLeaves input held r (record { left = left_after; read_failed = read_after; holds = holds_after; write_failed = write_after })))
+after_writing None left_after holds holds_after read_before read_after write_before write_after bytes text r read same is_text ok unfailed err failed = tt
+after_writing (Some input) left_after None holds_after read_before read_after write_before write_after bytes text r read same is_text ok unfailed err failed = tt
+after_writing (Some input) left_after (Some held) holds_after read_before read_after write_before write_after bytes text (Ok u) read same is_text ok unfailed err failed =
+    λ not_read not_written.
+        ((read.1, same ∙ not_read), text, subst (λ b. IsTextFor b text) read.0 is_text, (ok, unfailed ∙ not_written))
+after_writing (Some input) left_after (Some held) holds_after read_before read_after write_before write_after bytes text (Err fault) read same is_text ok unfailed err failed =
+    λ not_read not_written.
+        let s : Streams = record { left = left_after; read_failed = read_after; holds = holds_after; write_failed = write_after } in
+        let (written, rest, whole, is_held) = err in
+        subst (λ f. RunLeaves input held (Err f) s) (sym failed.0)
+            ((read.1, same ∙ not_read), text, written, rest, subst (λ b. IsTextFor b text) read.0 is_text, whole, is_held, failed.1)

@@ -1,0 +1,50 @@
+-- The answer to a document, and the first fault of one that has none.
+use Rattle.std.specs.Prelude.{◌≡◌, ◌≢◌, ℕ, zero, suc, List, [], ◌∷◌, length}
+use Rattle.std.specs.List.{AllByRecursion}
+use Rattle.chunkwhere.specs.declared.run_fault.RunFault.{RunFault}
+use Rattle.chunkwhere.specs.declared.run_fault.RunFault.TheVariants.{Grid, Encoding as EncodingFault, Index}
+use Rattle.chunkwhere.specs.declared.incompatible_dimensionality_error.IncompatibleDimensionalityError.{IncompatibleDimensionalityError}
+use Rattle.chunkwhere.specs.ChunkGrid.{IsGrid, IsGridFault}
+use Rattle.chunkwhere.specs.ChunkKey.{Encoding}
+use Rattle.chunkwhere.specs.ChunkKeyEncoding.{IsEncoding, IsEncodingFault}
+use Rattle.chunkwhere.specs.Dimension.{Dimension}
+use Rattle.chunkwhere.specs.Document.{Document}
+use Rattle.chunkwhere.specs.Refusal.{TellsLengths}
+use Rattle.chunkwhere.specs.Output.{IsOutput}
+
+-- the document's grid and encoding
+pub record HasParts (document : Document) (dimensions : List Dimension) (encoding : Encoding) : Type 0 where
+  pub grid : IsGrid document.chunk_grid document.shape dimensions
+  pub key_encoding : IsEncoding document.chunk_key_encoding encoding
+
+-- the index has a number for each dimension
+abbrev pub HasLengthOf : List Dimension → List ℕ → Type 0
+HasLengthOf dimensions index = length index ≡ length dimensions
+
+-- the first index of a wrong length is at the position, counted from 0
+abbrev pub IsFirstWrongLength : List Dimension → List (List ℕ) → ℕ → IncompatibleDimensionalityError → Type 0
+IsFirstWrongLength dimensions [] position e = ⊥
+IsFirstWrongLength dimensions (index ∷ indices) zero e = (length index ≢ length dimensions) × TellsLengths (length index) (length dimensions) e
+IsFirstWrongLength dimensions (index ∷ indices) (suc position) e = HasLengthOf dimensions index × IsFirstWrongLength dimensions indices position e
+
+-- the fault says which index has a wrong length
+abbrev pub IsIndexFault : List Dimension → List (List ℕ) → RunFault → Type 0
+IsIndexFault dimensions indices (Index position e) = IsFirstWrongLength dimensions indices position e
+IsIndexFault _ _ _ = ⊥
+
+-- the text that answers a document
+pub record IsAnswer (document : Document) (text : List ℕ) : Type 0 where
+  pub dimensions : List Dimension
+  pub encoding : Encoding
+  pub parts : HasParts document dimensions encoding
+  pub lengths : AllByRecursion (HasLengthOf dimensions) document.indices
+  pub output : IsOutput dimensions encoding document.indices text
+
+-- The first fault of a document that has no answer: the grid, the encoding, or the first index with a wrong length.
+abbrev pub IsAnswerFault : Document → RunFault → Type 0
+IsAnswerFault document (Grid fault) = IsGridFault document.chunk_grid document.shape fault
+IsAnswerFault document (EncodingFault fault) =
+    ((dimensions : List Dimension) × IsGrid document.chunk_grid document.shape dimensions) × IsEncodingFault document.chunk_key_encoding fault
+IsAnswerFault document (Index position fault) =
+    (dimensions : List Dimension) × (encoding : Encoding) × HasParts document dimensions encoding × IsFirstWrongLength dimensions document.indices position fault
+IsAnswerFault document _ = ⊥

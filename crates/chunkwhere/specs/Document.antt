@@ -1,0 +1,103 @@
+-- The program's document: a JSON object with the members `shape`, `chunk_grid`, `chunk_key_encoding`
+-- and `indices`; what else it has says nothing.
+use Rattle.std.specs.Prelude.{◌≡◌, ◌⊎◌, ℕ, List, [], ◌∷◌, map, Contains, IsSome, Option, Some, None, option_and_then, IsUtf8, codes}
+use Rattle.serde_json.specs.Data.{Data}
+use Rattle.serde_json.specs.Read.{read}
+use Rattle.serde_json.specs.Find.{get, as_object}
+use Rattle.chunkwhere.specs.declared.document.Document.{Document as DocumentValue}
+use Rattle.chunkwhere.specs.declared.metadata.MetadataError.{MetadataError}
+use Rattle.chunkwhere.specs.declared.run_fault.RunFault.{RunFault}
+use Rattle.chunkwhere.specs.declared.run_fault.RunFault.TheVariants.{NotJson, NotObject, Missing, WrongValue, Metadata}
+use Rattle.chunkwhere.specs.Json.{size_of, list_of}
+use Rattle.chunkwhere.specs.Metadata.{Extension, extension_of, IsExtension, IsMetadataFault}
+
+-- the tree that bytes are the text of
+abbrev pub IsTreeOf : List ℕ → Data → Type 0
+IsTreeOf input d = IsUtf8 input × (read input ≡ Some d)
+
+-- a document, without where it lies in memory
+pub record Document : Type 0 where
+  pub shape : List ℕ
+  pub chunk_grid : Extension
+  pub chunk_key_encoding : Extension
+  pub indices : List (List ℕ)
+
+-- what a value of the program stands for
+abbrev pub document_of : DocumentValue → Document
+document_of d = record {
+    shape = d.shape.items;
+    chunk_grid = extension_of d.chunk_grid;
+    chunk_key_encoding = extension_of d.chunk_key_encoding;
+    indices = map (λ index. index.items) d.indices.items;
+  }
+
+-- `shape`: a list of sizes
+abbrev pub shape_of : Data → Option (List ℕ)
+shape_of d = option_and_then (list_of size_of) (get (codes "shape") d)
+
+-- `indices`: a list of lists of sizes
+abbrev pub indices_of : Data → Option (List (List ℕ))
+indices_of d = option_and_then (list_of (list_of size_of)) (get (codes "indices") d)
+
+-- the member is an extension's metadata
+abbrev pub HasExtension : Data → List ℕ → Extension → Type 0
+HasExtension d field e = (m : Data) × (get field d ≡ Some m) × IsExtension m e
+
+abbrev pub HasSomeExtension : Data → List ℕ → Type 0
+HasSomeExtension d field = (e : Extension) × HasExtension d field e
+
+-- the member is there and is no extension's metadata; this is its first fault
+abbrev pub HasMetadataFault : Data → List ℕ → MetadataError → Type 0
+HasMetadataFault d field fault = (m : Data) × (get field d ≡ Some m) × IsMetadataFault m fault
+
+-- the document that a tree stands for
+pub record IsDocument (d : Data) (document : Document) : Type 0 where
+  pub shape : shape_of d ≡ Some document.shape
+  pub chunk_grid : HasExtension d (codes "chunk_grid") document.chunk_grid
+  pub chunk_key_encoding : HasExtension d (codes "chunk_key_encoding") document.chunk_key_encoding
+  pub indices : indices_of d ≡ Some document.indices
+
+-- the members that have to be there, in the order in which they are missed
+abbrev pub document_members : List (List ℕ)
+document_members = codes "shape" ∷ codes "chunk_grid" ∷ codes "chunk_key_encoding" ∷ codes "indices" ∷ []
+
+-- x is the first of the list for which P holds
+abbrev pub IsFirst : {X : Type 0} → (X → Type 0) → List X → X → Type 0
+IsFirst P [] x = ⊥
+IsFirst P (y ∷ ys) x = (P y × (x ≡ y)) ⊎ (¬ P y × IsFirst P ys x)
+
+-- each member that has to be there is
+abbrev pub HasMembers : Data → Type 0
+HasMembers d = (name : List ℕ) → Contains document_members name → IsSome (get name d)
+
+-- the fault says that the member is missing
+abbrev pub IsMissingFault : Data → List ℕ → RunFault → Type 0
+IsMissingFault d name (Missing field) = (field.now ≡ name) × (get name d ≡ None)
+IsMissingFault _ _ _ = ⊥
+
+-- the fault says why the member's value is no extension's metadata
+abbrev pub IsExtensionFault : Data → List ℕ → RunFault → Type 0
+IsExtensionFault value name (Metadata field fault) = (field.now ≡ name) × IsMetadataFault value fault
+IsExtensionFault _ _ _ = ⊥
+
+-- The first fault of a tree that is no document: it is no object; a member is missing; a member isn't
+-- of its form, of `shape`, `chunk_grid`, `chunk_key_encoding` and `indices` the first.
+abbrev pub IsFormFault : Data → RunFault → Type 0
+IsFormFault d NotObject = as_object d ≡ None
+IsFormFault d (Missing field) = IsSome (as_object d) × IsFirst (λ name. get name d ≡ None) document_members field.now
+IsFormFault d (WrongValue field) =
+    HasMembers d
+    × (((field.now ≡ codes "shape") × (shape_of d ≡ None))
+    ⊎ ((field.now ≡ codes "indices") × IsSome (shape_of d) × HasSomeExtension d (codes "chunk_grid")
+    × HasSomeExtension d (codes "chunk_key_encoding") × (indices_of d ≡ None)))
+IsFormFault d (Metadata field fault) =
+    HasMembers d × IsSome (shape_of d)
+    × (((field.now ≡ codes "chunk_grid") × HasMetadataFault d (codes "chunk_grid") fault)
+    ⊎ ((field.now ≡ codes "chunk_key_encoding") × HasSomeExtension d (codes "chunk_grid")
+    × HasMetadataFault d (codes "chunk_key_encoding") fault))
+IsFormFault d _ = ⊥
+
+-- The first fault of an input that is no document: it is no JSON, or its tree isn't of the form.
+pub data IsInputFault (input : List ℕ) (fault : RunFault) : Type 0 where
+  not_json : ((tree : Data) → ¬ IsTreeOf input tree) → fault ≡ NotJson → IsInputFault input fault
+  not_of_form : (tree : Data) → IsTreeOf input tree → IsFormFault tree fault → IsInputFault input fault

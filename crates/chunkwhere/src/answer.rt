@@ -1,0 +1,105 @@
+//! The text that answers a document.
+ghost use Rattle.std.specs.Prelude.{◌≡◌, ◌≢◌, ℕ, List, ◌++◌, codes, length, map, MatchResult, OnOk, string_bytes};
+ghost use Rattle.std.specs.List.{AllByRecursion};
+ghost use Rattle.chunkwhere.specs.Answer.{HasLengthOf, IsAnswer, IsAnswerFault, IsIndexFault};
+ghost use Rattle.chunkwhere.specs.ChunkKey.{IsKey};
+ghost use Rattle.chunkwhere.specs.DefaultChunkKeyEncoding.{encoding_of};
+ghost use Rattle.chunkwhere.specs.Document.{document_of};
+ghost use Rattle.chunkwhere.specs.Numeral.{IsNumerals};
+ghost use Rattle.chunkwhere.specs.Output.{IsLine, IsOutput};
+ghost use Rattle.chunkwhere.specs.Refusal.{IfRefused, TellsLengths};
+ghost use Rattle.chunkwhere.specs.RegularChunkGrid.{dimensions_of};
+ghost use Rattle.chunkwhere.specs.RunFault.{OrMemory};
+
+use crate::chunk_grid;
+use crate::chunk_grid::regular::RegularChunkGrid;
+use crate::chunk_key_encoding;
+use crate::chunk_key_encoding::default::DefaultChunkKeyEncoding;
+use crate::document::Document;
+use crate::incompatible_dimensionality_error::IncompatibleDimensionalityError;
+use crate::numerals::append_numerals;
+use crate::refusal::Refusal;
+use crate::run_fault::RunFault;
+use std::alloc::{AllocError, Global};
+
+/// The whole text that answers a document, or the first fault.
+pub(crate) fn answer(alloc: Global, document: &Document) -> Result<String, RunFault>
+    ensures { MatchResult result (λ text. IsAnswer (document_of document.now) (string_bytes text))
+        (OrMemory (IsAnswerFault (document_of document.now))) }
+{
+    let grid = match chunk_grid::from_metadata(alloc, &document.chunk_grid, &document.shape) {
+        Ok(grid) => grid,
+        Err(Refusal::Refused(error)) => return Err(RunFault::Grid(error)),
+        Err(Refusal::Memory(_)) => return Err(RunFault::Memory),
+    };
+    let encoding = match chunk_key_encoding::from_metadata(alloc, &document.chunk_key_encoding) {
+        Ok(encoding) => encoding,
+        Err(Refusal::Refused(error)) => return Err(RunFault::Encoding(error)),
+        Err(Refusal::Memory(_)) => return Err(RunFault::Memory),
+    };
+    lines(alloc, &grid, &encoding, &document.indices)
+}
+
+/// A line for each index list.
+fn lines(
+    alloc: Global,
+    grid: &RegularChunkGrid,
+    encoding: &DefaultChunkKeyEncoding,
+    indices: &[Vec<u64>],
+) -> Result<String, RunFault>
+    ensures { MatchResult result
+        (λ text. AllByRecursion (HasLengthOf (dimensions_of grid.now)) (map (λ index. index.items) indices.now)
+            × IsOutput (dimensions_of grid.now) (encoding_of encoding.now) (map (λ index. index.items) indices.now) (string_bytes text))
+        (OrMemory (IsIndexFault (dimensions_of grid.now) (map (λ index. index.items) indices.now))) }
+{
+    let mut text = String::new(alloc);
+    for (position, index) in indices.iter().enumerate() {
+        match append_line(alloc, &mut text, grid, encoding, index) {
+            Ok(()) => {}
+            Err(Refusal::Refused(error)) => return Err(RunFault::Index(position, error)),
+            Err(Refusal::Memory(_)) => return Err(RunFault::Memory),
+        }
+    }
+    Ok(text)
+}
+
+/// Appends the line of an index list: the key of its chunk and its place there, or `-` where no
+/// chunk holds it.
+fn append_line(
+    alloc: Global,
+    text: &mut String,
+    grid: &RegularChunkGrid,
+    encoding: &DefaultChunkKeyEncoding,
+    index: &[u64],
+) -> Result<(), Refusal<IncompatibleDimensionalityError>>
+    ensures { MatchResult result
+        (λ _. HasLengthOf (dimensions_of grid.now) index.now
+            × (line : List ℕ) × IsLine (dimensions_of grid.now) (encoding_of encoding.now) index.now line
+            × (string_bytes text.new ≡ string_bytes text.old ++ line))
+        (λ refusal. IfRefused refusal (λ e. (length index.now ≢ length (dimensions_of grid.now))
+            × TellsLengths (length index.now) (length (dimensions_of grid.now)) e)) }
+{
+    let chunk = grid.chunk_indices(alloc, index)?;
+    let place = grid.chunk_element_indices(alloc, index)?;
+    let (Some(chunk), Some(place)) = (chunk, place) else {
+        text.push_str("-\n")?;
+        return Ok(());
+    };
+    append_found(text, encoding, &chunk, &place)?;
+    Ok(())
+}
+
+/// Appends the key of a chunk and a place in it.
+fn append_found(
+    text: &mut String,
+    encoding: &DefaultChunkKeyEncoding,
+    chunk: &[u64],
+    place: &[u64],
+) -> Result<(), AllocError>
+    ensures { OnOk result ((key : List ℕ) × (numbers : List ℕ) × IsKey (encoding_of encoding.now) chunk.now key
+        × IsNumerals 32 place.now numbers × (string_bytes text.new ≡ string_bytes text.old ++ (key ++ numbers ++ codes "\n"))) }
+{
+    encoding.append_key(text, chunk)?;
+    append_numerals(text, ' ', place)?;
+    text.push_str("\n")
+}

@@ -1,0 +1,35 @@
+//! Chunk grids: in which chunk an element lies, and at which place.
+pub(crate) mod regular;
+
+use crate::metadata::MetadataV3;
+use crate::plugin_create_error::PluginCreateError;
+use crate::refusal::Refusal;
+use regular::RegularChunkGrid;
+use std::alloc::Global;
+
+ghost use Rattle.std.specs.Prelude.{MatchResult};
+ghost use Rattle.chunkwhere.specs.ChunkGrid.{IsGrid, IsGridFault};
+ghost use Rattle.chunkwhere.specs.Metadata.{extension_of};
+ghost use Rattle.chunkwhere.specs.Refusal.{IfRefused};
+ghost use Rattle.chunkwhere.specs.RegularChunkGrid.{dimensions_of};
+
+/// The chunk grid that an array's metadata stands for.
+///
+/// # Errors
+/// The name is none of a chunk grid, the configuration isn't of its form, or the grid doesn't
+/// accept it for this array shape; or there was no memory.
+pub(crate) fn from_metadata(
+    alloc: Global,
+    metadata: &MetadataV3,
+    array_shape: &[u64],
+) -> Result<RegularChunkGrid, Refusal<PluginCreateError>>
+    ensures { MatchResult result (λ grid. IsGrid (extension_of metadata.now) array_shape.now (dimensions_of grid))
+        (λ refusal. IfRefused refusal (IsGridFault (extension_of metadata.now) array_shape.now)) }
+{
+    match metadata.name() {
+        "regular" => RegularChunkGrid::create(alloc, metadata, array_shape),
+        name => Err(Refusal::Refused(PluginCreateError::NameUnsupported(
+            String::from_str(alloc, name)?,
+        ))),
+    }
+}

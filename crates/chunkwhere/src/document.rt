@@ -1,0 +1,85 @@
+//! The program's document.
+ghost use Rattle.std.specs.Prelude.{◌≡◌, MatchResult, Some};
+ghost use Rattle.serde_json.specs.Data.{Data};
+ghost use Rattle.serde_json.specs.Find.{get};
+ghost use Rattle.serde_json.specs.View.{view};
+ghost use Rattle.chunkwhere.specs.Document.{document_of, IsTreeOf, IsDocument, IsMissingFault, IsExtensionFault, IsFormFault, IsInputFault};
+ghost use Rattle.chunkwhere.specs.Metadata.{extension_of, IsExtension};
+ghost use Rattle.chunkwhere.specs.RunFault.{OrMemory};
+
+use crate::from_tree::FromTree;
+use crate::metadata::MetadataV3;
+use crate::refusal::Refusal;
+use crate::run_fault::RunFault;
+use serde_json::Value;
+use std::alloc::Global;
+
+/// An array's metadata, and the indices of the elements to look up.
+#[derive(Drop)]
+pub(crate) struct Document {
+    pub(crate) shape: Vec<u64>,
+    pub(crate) chunk_grid: MetadataV3,
+    pub(crate) chunk_key_encoding: MetadataV3,
+    pub(crate) indices: Vec<Vec<u64>>,
+}
+
+/// The document that an input is the text of, or the first fault.
+pub(crate) fn parse(alloc: Global, input: &[u8]) -> Result<Document, RunFault>
+    ensures { MatchResult result
+        (λ document. (tree : Data) × IsTreeOf input.now tree × IsDocument tree (document_of document))
+        (OrMemory (IsInputFault input.now)) }
+{
+    match Value::from_slice(alloc, input) {
+        Ok(tree) => document_from(alloc, &tree),
+        Err(error) if error.is_memory() => Err(RunFault::Memory),
+        Err(_) => Err(RunFault::NotJson),
+    }
+}
+
+/// The document that a tree stands for, or the first fault.
+fn document_from(alloc: Global, tree: &Value) -> Result<Document, RunFault>
+    ensures { MatchResult result (λ document. IsDocument (view tree.now) (document_of document))
+        (OrMemory (IsFormFault (view tree.now))) }
+{
+    if !tree.is_object() {
+        return Err(RunFault::NotObject);
+    }
+    let shape = required(tree, "shape")?;
+    let chunk_grid = required(tree, "chunk_grid")?;
+    let chunk_key_encoding = required(tree, "chunk_key_encoding")?;
+    let indices = required(tree, "indices")?;
+    let Some(shape) = Vec::from_tree(alloc, shape)? else {
+        return Err(RunFault::WrongValue("shape"));
+    };
+    let chunk_grid = metadata(alloc, chunk_grid, "chunk_grid")?;
+    let chunk_key_encoding = metadata(alloc, chunk_key_encoding, "chunk_key_encoding")?;
+    let Some(indices) = Vec::from_tree(alloc, indices)? else {
+        return Err(RunFault::WrongValue("indices"));
+    };
+    Ok(Document {
+        shape,
+        chunk_grid,
+        chunk_key_encoding,
+        indices,
+    })
+}
+
+/// A member that has to be there.
+fn required<'t>(tree: &'t Value, field: &'static str) -> Result<&'t Value, RunFault>
+    ensures { MatchResult result (λ value. get field.now (view tree.now) ≡ Some (view value.now))
+        (IsMissingFault (view tree.now) field.now) }
+{
+    tree.get(field).ok_or(RunFault::Missing(field))
+}
+
+/// A member's value as an extension's metadata.
+fn metadata(alloc: Global, tree: &Value, field: &'static str) -> Result<MetadataV3, RunFault>
+    ensures { MatchResult result (λ metadata. IsExtension (view tree.now) (extension_of metadata))
+        (OrMemory (IsExtensionFault (view tree.now) field.now)) }
+{
+    match MetadataV3::from_tree(alloc, tree) {
+        Ok(metadata) => Ok(metadata),
+        Err(Refusal::Refused(error)) => Err(RunFault::Metadata(field, error)),
+        Err(Refusal::Memory(_)) => Err(RunFault::Memory),
+    }
+}

@@ -1,0 +1,126 @@
+//! The metadata of an extension: a name, and for some a configuration.
+ghost use Rattle.std.specs.Prelude.{◌≡◌, Bool, MatchResult, Option, codes, option_map};
+ghost use Rattle.serde_json.specs.Find.{get, as_bool, as_object};
+ghost use Rattle.serde_json.specs.View.{view, members_view};
+ghost use Rattle.chunkwhere.specs.Metadata.{IsMisformed, IsOptional};
+ghost use Rattle.chunkwhere.specs.Refusal.{IfRefused};
+
+use crate::configuration::Configuration;
+use crate::refusal::Refusal;
+use serde_json::Value;
+use std::alloc::Global;
+use thiserror::Error;
+
+/// Why a JSON tree is no extension's metadata, in the order in which faults are looked for.
+#[derive(Clone, Copy, Debug, PartialEq, Eq, Error)]
+pub enum MetadataError {
+    /// Neither a text nor an object.
+    #[error("not an extension")]
+    NotAnExtension,
+    /// An object without a member `name`.
+    #[error("name is missing")]
+    NameMissing,
+    /// A `name` that is no text.
+    #[error("name is not a text")]
+    NameNotText,
+    /// A `configuration` that is no object.
+    #[error("configuration is not an object")]
+    ConfigurationNotObject,
+    /// A `must_understand` that is no truth value.
+    #[error("must_understand is not a truth value")]
+    MustUnderstandNotBool,
+}
+
+/// The metadata of an extension of Zarr V3.
+#[derive(Debug, Drop)]
+pub struct MetadataV3 {
+    name: String,
+    configuration: Option<Configuration>,
+}
+
+impl MetadataV3 {
+    ghost use Rattle.std.specs.Prelude.{◌≡◌, MatchResult, option_map, string_bytes};
+    ghost use Rattle.serde_json.specs.View.{view, members_view};
+    ghost use Rattle.chunkwhere.specs.Metadata.{extension_of, IsExtension, IsMetadataFault};
+    ghost use Rattle.chunkwhere.specs.Refusal.{IfRefused};
+
+    /// The metadata that a tree stands for: a text, which is the name alone, or an object with a
+    /// `name` and an optional `configuration`. Its `must_understand` has to be a truth value and
+    /// isn't kept; other members are ignored.
+    ///
+    /// # Errors
+    /// The first fault of the tree, or want of memory.
+    pub fn from_tree(alloc: Global, tree: &Value) -> Result<MetadataV3, Refusal<MetadataError>>
+        ensures { MatchResult result (λ m. IsExtension (view tree.now) (extension_of m))
+            (λ refusal. IfRefused refusal (IsMetadataFault (view tree.now))) }
+    {
+        if let Some(name) = tree.as_str() {
+            return Ok(MetadataV3 {
+                name: String::from_str(alloc, name)?,
+                configuration: None,
+            });
+        }
+        if !tree.is_object() {
+            return Err(Refusal::Refused(MetadataError::NotAnExtension));
+        }
+        let Some(name) = tree.get("name") else {
+            return Err(Refusal::Refused(MetadataError::NameMissing));
+        };
+        let Some(name) = name.as_str() else {
+            return Err(Refusal::Refused(MetadataError::NameNotText));
+        };
+        let configuration = configuration_of(tree)?;
+        check_must_understand(tree)?;
+        Ok(MetadataV3 {
+            name: String::from_str(alloc, name)?,
+            configuration,
+        })
+    }
+
+    /// The extension's name.
+    pub fn name(&self) -> &str
+        ensures { result.now ≡ (extension_of self.now).name }
+    {
+        self.name.as_str()
+    }
+
+    /// The extension's configuration, where there is one.
+    pub fn configuration(&self) -> Option<&Configuration>
+        ensures { option_map (λ c. members_view c.now.entries) result ≡ (extension_of self.now).configuration }
+    {
+        self.configuration.as_ref()
+    }
+}
+
+/// A copy of the member `configuration`, where there is one.
+fn configuration_of(tree: &Value) -> Result<Option<Configuration>, Refusal<MetadataError>>
+    ensures { MatchResult result
+        (λ c. IsOptional as_object (get (codes "configuration") (view tree.now)) (option_map (λ c. members_view c.entries) c))
+        (λ refusal. IfRefused refusal (λ error. (error ≡ MetadataError.ConfigurationNotObject)
+            × IsMisformed as_object (get (codes "configuration") (view tree.now)))) }
+{
+    match tree.get("configuration") {
+        None => Ok(None),
+        Some(configuration) => match configuration.clone()? {
+            Value::Object(members) => Ok(Some(members)),
+            _ => Err(Refusal::Refused(MetadataError::ConfigurationNotObject)),
+        },
+    }
+}
+
+/// Refuses a member `must_understand` that is no truth value.
+fn check_must_understand(tree: &Value) -> Result<(), Refusal<MetadataError>>
+    ensures { MatchResult result
+        (λ _. (b : Option Bool) × IsOptional as_bool (get (codes "must_understand") (view tree.now)) b)
+        (λ refusal. IfRefused refusal (λ error. (error ≡ MetadataError.MustUnderstandNotBool)
+            × IsMisformed as_bool (get (codes "must_understand") (view tree.now)))) }
+{
+    let Some(must_understand) = tree.get("must_understand") else {
+        return Ok(());
+    };
+    if must_understand.is_boolean() {
+        Ok(())
+    } else {
+        Err(Refusal::Refused(MetadataError::MustUnderstandNotBool))
+    }
+}

@@ -1,0 +1,29 @@
+//! Writing everything.
+ghost use Rattle.std.specs.Prelude.{◌≡◌, ℕ, List, ◌++◌, true, IfErr, IfSome, OnErr, OnOk, Some};
+ghost use Rattle.chunkwhere.specs.Watched.{watched, has_failed};
+
+use crate::run_fault::RunFault;
+use crate::watched::Watched;
+use std::io::Write;
+
+/// Writes all bytes, in order, and flushes.
+pub(crate) fn write_all<W: Write>(writer: &mut Watched<W>, bytes: &[u8]) -> Result<(), RunFault>
+    ensures ok { OnOk result (IfSome (W.contents (watched writer.old)) (λ held.
+        W.contents (watched writer.new) ≡ Some (held ++ bytes.now))) }
+    ensures unfailed { OnOk result (has_failed writer.new ≡ has_failed writer.old) }
+    ensures err { OnErr result (IfSome (W.contents (watched writer.old)) (λ held. (written : List ℕ) × (rest : List ℕ)
+        × (bytes.now ≡ written ++ rest) × (W.contents (watched writer.new) ≡ Some (held ++ written)))) }
+    ensures failed { IfErr result (λ fault. (fault ≡ RunFault.Write) × (has_failed writer.new ≡ true)) }
+{
+    let mut rest = bytes;
+    while !rest.is_empty() {
+        match writer.write(rest) {
+            Ok(count) if count > 0 => (_, rest) = rest.split_at(count),
+            _ => return Err(RunFault::Write),
+        }
+    }
+    match writer.flush() {
+        Ok(()) => Ok(()),
+        Err(_) => Err(RunFault::Write),
+    }
+}

@@ -1,0 +1,64 @@
+//! The program over any reader and writer.
+ghost use Rattle.std.specs.Prelude.{◌≡◌, false, IfSome, MatchResult, OnOk, string_bytes};
+ghost use Rattle.std.specs.Io.KnownBytes.{Keeps};
+ghost use Rattle.chunkwhere.specs.Run.{IsFirstFault, IsTextFor, RunLeaves};
+ghost use Rattle.chunkwhere.specs.RunFault.{OrMemory};
+ghost use Rattle.chunkwhere.specs.Watched.{watched, has_failed};
+
+use crate::answer::answer;
+use crate::document::parse;
+use crate::input::read_to_end;
+use crate::output::write_all;
+use crate::run_fault::RunFault;
+use crate::watched::Watched;
+use std::alloc::Global;
+use std::io::{Read, Write};
+
+/// Reads a document to its end and writes where the elements of its `indices` are stored: a line
+/// for each, in order, with the key of the chunk and the place in the chunk, or `-` where no chunk
+/// holds the element. Nothing is written before the whole text stands.
+///
+/// # Errors
+/// The first fault, or want of memory. A failed read comes first, then a text that is no JSON, then
+/// a document that isn't of its form (all members have to be there before the form of one is looked
+/// at, in the order `shape`, `chunk_grid`, `chunk_key_encoding`, `indices`), then a grid or an
+/// encoding that can't be made, then an index list of a wrong length, then a failed write.
+pub fn run<R: Read, W: Write>(
+    alloc: Global,
+    reader: &mut Watched<R>,
+    writer: &mut Watched<W>,
+) -> Result<(), RunFault>
+    ensures { IfSome (R.remaining (watched reader.old)) (λ input. IfSome (W.contents (watched writer.old)) (λ held.
+        has_failed reader.old ≡ false → has_failed writer.old ≡ false
+        → RunLeaves input held result (record {
+            left = R.remaining (watched reader.new); read_failed = has_failed reader.new;
+            holds = W.contents (watched writer.new); write_failed = has_failed writer.new }))) }
+{
+    let input = read_to_end(alloc, reader)?;
+    let text = respond(alloc, input)?;
+    write_all(writer, text.as_bytes())
+}
+
+/// The text that answers an input, or the first fault.
+fn respond(alloc: Global, input: Vec<u8>) -> Result<String, RunFault>
+    ensures { MatchResult result (λ text. IsTextFor input.items (string_bytes text)) (OrMemory (IsFirstFault input.items)) }
+{
+    let document = parse(alloc, &input)?;
+    drop(input);
+    answer(alloc, &document)
+}
+
+/// Tells a run's fault in one line, if it had one, and answers the status to end with: 0, or 1
+/// after a fault. That the line can't be written changes nothing.
+pub fn finish<W: Write>(outcome: &Result<(), RunFault>, errors: &mut W) -> u8
+    ensures status { MatchResult outcome.now (λ _. result ≡ 0) (λ _. result ≡ 1) }
+    ensures silent { OnOk outcome.now (Keeps (W.contents errors.old) (W.contents errors.new)) }
+{
+    match outcome {
+        Ok(()) => 0,
+        Err(fault) => {
+            let _ = writeln!(errors, "chunkwhere: {fault}");
+            1
+        }
+    }
+}
