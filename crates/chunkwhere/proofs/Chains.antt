@@ -14,12 +14,12 @@ ends_before d chain c (suc m) below has =
     let gap = chain.no_gap (suc m) has in
     let holds_something : d.start (suc m) < d.end (suc m) = chain.not_empty (suc m) gap.0 in
     ⊎_elim
-        (λ (before : c < suc m).
-            let rest : d.end c ≤ d.start (m + 1) = ends_before d chain c m (omega arith) (rw (add-one) gap.0) in
-            let same : d.start (m + 1) ≡ d.start (suc m) = ap d.start (add-one m) in
-            omega (arith, gap.1))
-        (λ (after : suc m ≤ c). let same : c ≡ suc m = omega arith in subst (λ k. d.end k ≤ d.start (suc m + 1)) (sym same) (omega (arith, gap.1)))
-        (cases_lt c (suc m))
+    (λ (before : c < suc m).
+    let rest : d.end c ≤ d.start (m + 1) = ends_before d chain c m (omega arith) (rw (add-one) gap.0) in
+    let same : d.start (m + 1) ≡ d.start (suc m) = ap d.start (add-one m) in
+    omega (arith, gap.1))
+    (λ (after : suc m ≤ c). let same : c ≡ suc m = omega arith in subst (λ k. d.end k ≤ d.start (suc m + 1)) (sym same) (omega (arith, gap.1)))
+    (cases_lt c (suc m))
 
 -- no index lies in a chunk and in a later one
 not_later : (d : Dimension) → IsChain d → (c e i : ℕ) → Holds d c i → Holds d e i → c < e → ⊥
@@ -35,8 +35,8 @@ not_later d chain c (suc m) i first second before =
 same_chunk : (d : Dimension) → IsChain d → (c e i : ℕ) → Holds d c i → Holds d e i → c ≡ e
 same_chunk d chain c e i first second =
     ⊎_elim (λ before. absurd (not_later d chain c e i first second before))
-        (λ le. ⊎_elim (λ after. absurd (not_later d chain e c i second first after)) (λ ge. let same : c ≡ e = omega arith in same) (cases_lt e c))
-        (cases_lt c e)
+    (λ le. ⊎_elim (λ after. absurd (not_later d chain e c i second first after)) (λ ge. let same : c ≡ e = omega arith in same) (cases_lt e c))
+    (cases_lt c e)
 
 -- an index lies in the box of one chunk at most
 pub same_box : (ds : List Dimension) (chunk other index : List ℕ) → AllByRecursion IsChain ds → InBox ds chunk index → InBox ds other index → chunk ≡ other

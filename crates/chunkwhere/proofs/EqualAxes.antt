@@ -42,24 +42,24 @@ holds_axis axis i =
 
 equal_edges_axis : (a : ℕ) (s : NonZeroU64) → IsEqualEdges (dimension_of (axis_from (a, s))) a (non_zero_u64_get s)
 equal_edges_axis a s = record {
-    array_size = refl;
-    chunks = λ c. refl;
-    start = λ c. refl;
-    end = λ c. refl;
-    covers = (div_ceil_times a (non_zero_u64_get s) s.ok).0;
-    least = λ n. ceil_least a (non_zero_u64_get s) n s.ok;
-  }
+  array_size = refl;
+  chunks = λ c. refl;
+  start = λ c. refl;
+  end = λ c. refl;
+  covers = (div_ceil_times a (non_zero_u64_get s) s.ok).0;
+  least = λ n. ceil_least a (non_zero_u64_get s) n s.ok;
+}
 
 chain_axis : (axis : EqualAxis) → IsChain (dimension_of axis)
 chain_axis axis =
     let edge = non_zero_u64_get axis.edge in
     let positive : 0 < edge = axis.edge.ok in
     record {
-        from_zero = λ _. omega arith;
-        not_empty = λ c _. omega (arith, next_multiple c edge);
-        no_gap = λ c _. (refl, refl);
-        counted = λ c _. refl;
-        reaches = λ i within. (chunk_number axis i, quotient_counted axis.array_size edge i positive within, holds_axis axis i);
+      from_zero = λ _. omega arith;
+      not_empty = λ c _. omega (arith, next_multiple c edge);
+      no_gap = λ c _. (refl, refl);
+      counted = λ c _. refl;
+      reaches = λ i within. (chunk_number axis i, quotient_counted axis.array_size edge i positive within, holds_axis axis i);
     }
 
 -- ---- lists of them

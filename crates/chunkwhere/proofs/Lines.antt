@@ -37,24 +37,24 @@ pub record IsSoFar (ds : List Dimension) (encoding : Encoding) (all rest : List 
 module _ (ds : List Dimension) (encoding : Encoding) (all : List (List ℕ)) where
   pub at_start : (text : List ℕ) → text ≡ [] → IsSoFar ds encoding all all 0 text
   at_start text empty = record {
-      lengths = λ h. h;
-      output = λ more h. rw empty h;
-      wrong = λ n e h. let same : 0 + n ≡ n = omega arith in rw same h;
-    }
+    lengths = λ h. h;
+    output = λ more h. rw empty h;
+    wrong = λ n e h. let same : 0 + n ≡ n = omega arith in rw same h;
+  }
 
   pub one_more : (rest : List (List ℕ)) (position : ℕ) (text : List ℕ) (index line : List ℕ) (rest_after : List (List ℕ)) (text_after : List ℕ)
       → IsSoFar ds encoding all rest position text → rest ≡ index ∷ rest_after → HasLengthOf ds index → IsLine ds encoding index line
       → text_after ≡ text ++ line → IsSoFar ds encoding all rest_after (position + 1) text_after
   one_more rest position text index line rest_after text_after so_far first has_length is_line longer = record {
-      lengths = λ h. so_far.lengths (subst (AllByRecursion (HasLengthOf ds)) (sym first) (has_length, h));
-      output = λ more h.
-          let said = so_far.output (line ++ more) (subst (λ r. IsOutput ds encoding r (line ++ more)) (sym first) (line, more, is_line, h, refl)) in
-          subst (IsOutput ds encoding all) (sym (append_assoc text line more) ∙ ap (λ t. t ++ more) (sym longer)) said;
-      wrong = λ n e h.
-          let said = so_far.wrong (suc n) e (subst (λ r. IsFirstWrongLength ds r (suc n) e) (sym first) (has_length, h)) in
-          let same : position + suc n ≡ position + 1 + n = omega arith in
-          subst (λ p. IsFirstWrongLength ds all p e) same said;
-    }
+    lengths = λ h. so_far.lengths (subst (AllByRecursion (HasLengthOf ds)) (sym first) (has_length, h));
+    output = λ more h.
+        let said = so_far.output (line ++ more) (subst (λ r. IsOutput ds encoding r (line ++ more)) (sym first) (line, more, is_line, h, refl)) in
+        subst (IsOutput ds encoding all) (sym (append_assoc text line more) ∙ ap (λ t. t ++ more) (sym longer)) said;
+    wrong = λ n e h.
+        let said = so_far.wrong (suc n) e (subst (λ r. IsFirstWrongLength ds r (suc n) e) (sym first) (has_length, h)) in
+        let same : position + suc n ≡ position + 1 + n = omega arith in
+        subst (λ p. IsFirstWrongLength ds all p e) same said;
+  }
 
   pub at_wrong : (rest : List (List ℕ)) (position : ℕ) (text : List ℕ) (index : List ℕ) (rest_after : List (List ℕ)) (e : IncompatibleDimensionalityError)
       → IsSoFar ds encoding all rest position text → rest ≡ index ∷ rest_after → length index ≢ length ds → TellsLengths (length index) (length ds) e
@@ -66,6 +66,7 @@ module _ (ds : List Dimension) (encoding : Encoding) (all : List (List ℕ)) whe
 
   pub at_end : (rest : List (List ℕ)) (position : ℕ) (text : List ℕ) → IsSoFar ds encoding all rest position text → rest ≡ []
       → AllByRecursion (HasLengthOf ds) all × IsOutput ds encoding all text
-  at_end rest position text so_far empty =
-      (so_far.lengths (subst (AllByRecursion (HasLengthOf ds)) (sym empty) tt),
-       subst (IsOutput ds encoding all) (append-nil text) (so_far.output [] (subst (λ r. IsOutput ds encoding r []) (sym empty) refl)))
+  at_end rest position text so_far empty = (
+    so_far.lengths (subst (AllByRecursion (HasLengthOf ds)) (sym empty) tt),
+    subst (IsOutput ds encoding all) (append-nil text) (so_far.output [] (subst (λ r. IsOutput ds encoding r []) (sym empty) refl)),
+  )

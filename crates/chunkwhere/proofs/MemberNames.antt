@@ -66,9 +66,9 @@ after_first : (k : String Global) (es : List Entry) (name : List ℕ) → AllByR
 after_first k [] name above h = absurd (true≢false (sym h))
 after_first k (e ∷ es) name above h =
     ⊎_elim
-        (λ same. subst (λ n. slice_cmp nat_cmp (string_bytes k) n ≡ Less) (sym (exact_bytes name (string_bytes e.0) same)) above.0)
-        (λ later. after_first k es name above.1 later)
-        (member_cases (slice_cmp nat_cmp name (string_bytes e.0)) (view e.1) _ h)
+    (λ same. subst (λ n. slice_cmp nat_cmp (string_bytes k) n ≡ Less) (sym (exact_bytes name (string_bytes e.0) same)) above.0)
+    (λ later. after_first k es name above.1 later)
+    (member_cases (slice_cmp nat_cmp name (string_bytes e.0)) (view e.1) _ h)
 
 -- ---- none is unknown
 
@@ -90,10 +90,10 @@ none_unknown known [] none name unknown = true≢false (sym unknown.0)
 none_unknown known (e ∷ es) none name unknown =
     let parts = find_none (is_unknown_key known) e.0 (find (is_unknown_key known) (keys_of es)) none in
     ⊎_elim
-        (λ same. unknown.1 (subst (Contains (texts known)) (sym (exact_bytes name (string_bytes e.0) same))
-            (Contains-from_known known (string_bytes e.0) (not-false _ parts.0))))
-        (λ later. none_unknown known es parts.1 name (later, unknown.1))
-        (member_cases (slice_cmp nat_cmp name (string_bytes e.0)) (view e.1) _ unknown.0)
+    (λ same. unknown.1 (subst (Contains (texts known)) (sym (exact_bytes name (string_bytes e.0) same))
+    (Contains-from_known known (string_bytes e.0) (not-false _ parts.0))))
+    (λ later. none_unknown known es parts.1 name (later, unknown.1))
+    (member_cases (slice_cmp nat_cmp name (string_bytes e.0)) (view e.1) _ unknown.0)
 
 -- ---- the first unknown
 
@@ -109,31 +109,32 @@ unfolding IsStrictlySortedBy
 first_unknown known [] k sorted found = cc
 first_unknown known (e ∷ es) k sorted found =
     ⊎_elim
-        (λ (unknown, is_first).
-            let same : string_bytes e.0 ≡ string_bytes k = ap string_bytes is_first in
-            record {
-                holds = subst (IsUnknown (texts known) (members_view (e ∷ es))) same
-                    ( member_first (slice_cmp nat_cmp (string_bytes e.0) (string_bytes e.0)) (view e.1) _ (tied_itself nat_list_cmp_total (string_bytes e.0)),
-                      λ has. both_ways _ (not-true _ unknown) (known_from_Contains known (string_bytes e.0) has));
-                least = λ other h. subst (λ n. slice_cmp nat_cmp n other ≢ Greater) same
-                    (⊎_elim
-                        (λ tie. subst (λ n. slice_cmp nat_cmp (string_bytes e.0) n ≢ Greater) (sym (exact_bytes other (string_bytes e.0) tie))
-                            (Equal≢Greater _ (tied_itself nat_list_cmp_total (string_bytes e.0))))
-                        (λ later. Less≢Greater _ (after_first e.0 es other sorted.0 later))
-                        (member_cases (slice_cmp nat_cmp other (string_bytes e.0)) (view e.1) _ h.0));
-            })
-        (λ (is_known_first, later).
-            let rest = first_unknown known es k sorted.1 later in
-            record {
-                holds = (member_later (slice_cmp nat_cmp (string_bytes k) (string_bytes e.0)) (view e.1) _ rest.holds.0, rest.holds.1);
-                least = λ other h.
-                    ⊎_elim
-                        (λ tie. absurd (h.1 (subst (Contains (texts known)) (sym (exact_bytes other (string_bytes e.0) tie))
-                            (Contains-from_known known (string_bytes e.0) (not-false _ is_known_first)))))
-                        (λ among. rest.least other (among, h.1))
-                        (member_cases (slice_cmp nat_cmp other (string_bytes e.0)) (view e.1) _ h.0);
-            })
-        (find_some (is_unknown_key known) e.0 (find (is_unknown_key known) (keys_of es)) k found)
+    (λ (unknown, is_first).
+    let same : string_bytes e.0 ≡ string_bytes k = ap string_bytes is_first in
+    record {
+      holds = subst (IsUnknown (texts known) (members_view (e ∷ es))) same (
+        member_first (slice_cmp nat_cmp (string_bytes e.0) (string_bytes e.0)) (view e.1) _ (tied_itself nat_list_cmp_total (string_bytes e.0)),
+        λ has. both_ways _ (not-true _ unknown) (known_from_Contains known (string_bytes e.0) has),
+      );
+      least = λ other h. subst (λ n. slice_cmp nat_cmp n other ≢ Greater) same
+          (⊎_elim
+          (λ tie. subst (λ n. slice_cmp nat_cmp (string_bytes e.0) n ≢ Greater) (sym (exact_bytes other (string_bytes e.0) tie))
+          (Equal≢Greater _ (tied_itself nat_list_cmp_total (string_bytes e.0))))
+          (λ later. Less≢Greater _ (after_first e.0 es other sorted.0 later))
+          (member_cases (slice_cmp nat_cmp other (string_bytes e.0)) (view e.1) _ h.0));
+    })
+    (λ (is_known_first, later).
+    let rest = first_unknown known es k sorted.1 later in
+    record {
+      holds = (member_later (slice_cmp nat_cmp (string_bytes k) (string_bytes e.0)) (view e.1) _ rest.holds.0, rest.holds.1);
+      least = λ other h.
+          ⊎_elim
+          (λ tie. absurd (h.1 (subst (Contains (texts known)) (sym (exact_bytes other (string_bytes e.0) tie))
+          (Contains-from_known known (string_bytes e.0) (not-false _ is_known_first)))))
+          (λ among. rest.least other (among, h.1))
+          (member_cases (slice_cmp nat_cmp other (string_bytes e.0)) (view e.1) _ h.0);
+    })
+    (find_some (is_unknown_key known) e.0 (find (is_unknown_key known) (keys_of es)) k found)
 
 -- ---- where one name is known
 
@@ -162,7 +163,7 @@ pub least_wrong : (name : List ℕ) (ms : Members) (Form : List ℕ → Data →
     → Some d ≡ get_member name ms → ¬ Form name d → IsLeastName (IsWrong Form ms) name
 least_wrong name ms Form d all_known found wrong =
     record {
-        holds = (d, sym found, wrong);
-        least = λ other (e, there, _) behind.
-            all_known other (ap is_some there, λ known. not_behind name other (only_one name other known) behind);
+      holds = (d, sym found, wrong);
+      least = λ other (e, there, _) behind.
+          all_known other (ap is_some there, λ known. not_behind name other (only_one name other known) behind);
     }

@@ -11,9 +11,13 @@ pub IsNumerals-push : (before : ℕ) (ns : List ℕ) (text : List ℕ) (n : ℕ)
     → IsNumerals before (ns ++ n ∷ []) (text ++ before ∷ numeral)
 IsNumerals-push before [] text n numeral none is =
     (numeral, [], is, refl, ap (λ t. t ++ before ∷ numeral) none ∙ sym (append-nil (before ∷ numeral)))
-IsNumerals-push before (m ∷ ns) text n numeral (first, rest, is_first, are_rest, e) is =
-    (first, rest ++ before ∷ numeral, is_first, IsNumerals-push before ns rest n numeral are_rest is,
-        ap (λ t. t ++ before ∷ numeral) e ∙ append_assoc (before ∷ first) rest (before ∷ numeral))
+IsNumerals-push before (m ∷ ns) text n numeral (first, rest, is_first, are_rest, e) is = (
+  first,
+  rest ++ before ∷ numeral,
+  is_first,
+  IsNumerals-push before ns rest n numeral are_rest is,
+  ap (λ t. t ++ before ∷ numeral) e ∙ append_assoc (before ∷ first) rest (before ∷ numeral),
+)
 
 -- a byte and a numeral, pushed onto a text one after the other
 pub pushed : (first so_far text middle done encoded numeral format : List ℕ) (before : ℕ) → text ≡ first ++ so_far → middle ≡ text ++ encoded → encoded ≡ before ∷ []

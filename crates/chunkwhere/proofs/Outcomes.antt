@@ -42,15 +42,15 @@ leaves_first input held (Index position e) s first end written = (end, first, wr
 pub after_fault : (left left_after holds : Option (List ℕ)) (read_before read_after write : Bool) (bytes : List ℕ) (fault : RunFault)
     → IfSome left (λ input. (bytes ≡ input) × (left_after ≡ Some [])) → read_after ≡ read_before → OrMemory (IsFirstFault bytes) fault
     → IfSome left (λ input. IfSome holds (λ held. read_before ≡ false → write ≡ false
-        → RunLeaves input held (Err fault) (record { left = left_after; read_failed = read_after; holds = holds; write_failed = write })))
+    → RunLeaves input held (Err fault) (record { left = left_after; read_failed = read_after; holds = holds; write_failed = write })))
 after_fault None left_after holds read_before read_after write bytes fault read same why = tt
 after_fault (Some input) left_after None read_before read_after write bytes fault read same why = tt
 after_fault (Some input) left_after (Some held) read_before read_after write bytes fault read same why = λ not_read not_written.
     let s : Streams = record { left = left_after; read_failed = read_after; holds = Some held; write_failed = write } in
     ⊎_elim
-        (λ wanting. subst (λ f. RunLeaves input held (Err f) s) (sym wanting) (same ∙ not_read, (refl, not_written)))
-        (λ first. leaves_first input held fault s (subst (λ b. IsFirstFault b fault) read.0 first) (read.1, same ∙ not_read) (refl, not_written))
-        why
+    (λ wanting. subst (λ f. RunLeaves input held (Err f) s) (sym wanting) (same ∙ not_read, (refl, not_written)))
+    (λ first. leaves_first input held fault s (subst (λ b. IsFirstFault b fault) read.0 first) (read.1, same ∙ not_read) (refl, not_written))
+    why
 
 -- the text was written, or a beginning of it
 pub after_writing : (left left_after holds holds_after : Option (List ℕ)) (read_before read_after write_before write_after : Bool) (bytes text : List ℕ)
@@ -60,15 +60,15 @@ pub after_writing : (left left_after holds holds_after : Option (List ℕ)) (rea
     → OnErr r (IfSome holds (λ held. (written : List ℕ) × (rest : List ℕ) × (text ≡ written ++ rest) × (holds_after ≡ Some (held ++ written))))
     → IfErr r (λ fault. (fault ≡ Write) × (write_after ≡ true))
     → IfSome left (λ input. IfSome holds (λ held. read_before ≡ false → write_before ≡ false
-        → RunLeaves input held r (record { left = left_after; read_failed = read_after; holds = holds_after; write_failed = write_after })))
+    → RunLeaves input held r (record { left = left_after; read_failed = read_after; holds = holds_after; write_failed = write_after })))
 after_writing None left_after holds holds_after read_before read_after write_before write_after bytes text r read same is_text ok unfailed err failed = tt
 after_writing (Some input) left_after None holds_after read_before read_after write_before write_after bytes text r read same is_text ok unfailed err failed = tt
 after_writing (Some input) left_after (Some held) holds_after read_before read_after write_before write_after bytes text (Ok u) read same is_text ok unfailed err failed =
     λ not_read not_written.
-        ((read.1, same ∙ not_read), text, subst (λ b. IsTextFor b text) read.0 is_text, (ok, unfailed ∙ not_written))
+    ((read.1, same ∙ not_read), text, subst (λ b. IsTextFor b text) read.0 is_text, (ok, unfailed ∙ not_written))
 after_writing (Some input) left_after (Some held) holds_after read_before read_after write_before write_after bytes text (Err fault) read same is_text ok unfailed err failed =
     λ not_read not_written.
-        let s : Streams = record { left = left_after; read_failed = read_after; holds = holds_after; write_failed = write_after } in
-        let (written, rest, whole, is_held) = err in
-        subst (λ f. RunLeaves input held (Err f) s) (sym failed.0)
-            ((read.1, same ∙ not_read), text, written, rest, subst (λ b. IsTextFor b text) read.0 is_text, whole, is_held, failed.1)
+    let s : Streams = record { left = left_after; read_failed = read_after; holds = holds_after; write_failed = write_after } in
+    let (written, rest, whole, is_held) = err in
+    subst (λ f. RunLeaves input held (Err f) s) (sym failed.0)
+    ((read.1, same ∙ not_read), text, written, rest, subst (λ b. IsTextFor b text) read.0 is_text, whole, is_held, failed.1)

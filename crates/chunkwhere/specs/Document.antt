@@ -25,11 +25,11 @@ pub record Document : Type 0 where
 -- what a value of the program stands for
 abbrev pub document_of : DocumentValue → Document
 document_of d = record {
-    shape = d.shape.items;
-    chunk_grid = extension_of d.chunk_grid;
-    chunk_key_encoding = extension_of d.chunk_key_encoding;
-    indices = map (λ index. index.items) d.indices.items;
-  }
+  shape = d.shape.items;
+  chunk_grid = extension_of d.chunk_grid;
+  chunk_key_encoding = extension_of d.chunk_key_encoding;
+  indices = map (λ index. index.items) d.indices.items;
+}
 
 -- `shape`: a list of sizes
 abbrev pub shape_of : Data → Option (List ℕ)

@@ -11,15 +11,14 @@ ghost use Rattle.chunkwhere.specs.Refusal.{IfRefused, TellsLengths};
 ghost use Rattle.chunkwhere.specs.RegularChunkGrid.{dimensions_of};
 ghost use Rattle.chunkwhere.specs.RunFault.{OrMemory};
 
-use crate::chunk_grid;
 use crate::chunk_grid::regular::RegularChunkGrid;
-use crate::chunk_key_encoding;
 use crate::chunk_key_encoding::default::DefaultChunkKeyEncoding;
 use crate::document::Document;
 use crate::incompatible_dimensionality_error::IncompatibleDimensionalityError;
 use crate::numerals::append_numerals;
 use crate::refusal::Refusal;
 use crate::run_fault::RunFault;
+use crate::{chunk_grid, chunk_key_encoding};
 use std::alloc::{AllocError, Global};
 
 /// The whole text that answers a document, or the first fault.
@@ -49,7 +48,7 @@ fn lines(
 ) -> Result<String, RunFault>
     ensures { MatchResult result
         (λ text. AllByRecursion (HasLengthOf (dimensions_of grid.now)) (map (λ index. index.items) indices.now)
-            × IsOutput (dimensions_of grid.now) (encoding_of encoding.now) (map (λ index. index.items) indices.now) (string_bytes text))
+        × IsOutput (dimensions_of grid.now) (encoding_of encoding.now) (map (λ index. index.items) indices.now) (string_bytes text))
         (OrMemory (IsIndexFault (dimensions_of grid.now) (map (λ index. index.items) indices.now))) }
 {
     let mut text = String::new(alloc);
@@ -74,10 +73,10 @@ fn append_line(
 ) -> Result<(), Refusal<IncompatibleDimensionalityError>>
     ensures { MatchResult result
         (λ _. HasLengthOf (dimensions_of grid.now) index.now
-            × (line : List ℕ) × IsLine (dimensions_of grid.now) (encoding_of encoding.now) index.now line
-            × (string_bytes text.new ≡ string_bytes text.old ++ line))
+        × (line : List ℕ) × IsLine (dimensions_of grid.now) (encoding_of encoding.now) index.now line
+        × (string_bytes text.new ≡ string_bytes text.old ++ line))
         (λ refusal. IfRefused refusal (λ e. (length index.now ≢ length (dimensions_of grid.now))
-            × TellsLengths (length index.now) (length (dimensions_of grid.now)) e)) }
+        × TellsLengths (length index.now) (length (dimensions_of grid.now)) e)) }
 {
     let chunk = grid.chunk_indices(alloc, index)?;
     let place = grid.chunk_element_indices(alloc, index)?;

@@ -1,17 +1,17 @@
 //! Chunk grids: in which chunk an element lies, and at which place.
 pub(crate) mod regular;
 
-use crate::metadata::MetadataV3;
-use crate::plugin_create_error::PluginCreateError;
-use crate::refusal::Refusal;
-use regular::RegularChunkGrid;
-use std::alloc::Global;
-
 ghost use Rattle.std.specs.Prelude.{MatchResult};
 ghost use Rattle.chunkwhere.specs.ChunkGrid.{IsGrid, IsGridFault};
 ghost use Rattle.chunkwhere.specs.Metadata.{extension_of};
 ghost use Rattle.chunkwhere.specs.Refusal.{IfRefused};
 ghost use Rattle.chunkwhere.specs.RegularChunkGrid.{dimensions_of};
+
+use crate::metadata::MetadataV3;
+use crate::plugin_create_error::PluginCreateError;
+use crate::refusal::Refusal;
+use regular::RegularChunkGrid;
+use std::alloc::Global;
 
 /// The chunk grid that an array's metadata stands for.
 ///
@@ -28,8 +28,8 @@ pub(crate) fn from_metadata(
 {
     match metadata.name() {
         "regular" => RegularChunkGrid::create(alloc, metadata, array_shape),
-        name => Err(Refusal::Refused(PluginCreateError::NameUnsupported(
-            String::from_str(alloc, name)?,
-        ))),
+        name => Err(Refusal::Refused(PluginCreateError::NameUnsupported(String::from_str(
+            alloc, name,
+        )?))),
     }
 }

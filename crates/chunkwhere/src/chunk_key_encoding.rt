@@ -1,17 +1,17 @@
 //! Chunk key encodings: under which key a chunk is stored.
 pub(crate) mod default;
 
-use crate::metadata::MetadataV3;
-use crate::plugin_create_error::PluginCreateError;
-use crate::refusal::Refusal;
-use default::DefaultChunkKeyEncoding;
-use std::alloc::Global;
-
 ghost use Rattle.std.specs.Prelude.{MatchResult};
 ghost use Rattle.chunkwhere.specs.ChunkKeyEncoding.{IsEncoding, IsEncodingFault};
 ghost use Rattle.chunkwhere.specs.DefaultChunkKeyEncoding.{encoding_of};
 ghost use Rattle.chunkwhere.specs.Metadata.{extension_of};
 ghost use Rattle.chunkwhere.specs.Refusal.{IfRefused};
+
+use crate::metadata::MetadataV3;
+use crate::plugin_create_error::PluginCreateError;
+use crate::refusal::Refusal;
+use default::DefaultChunkKeyEncoding;
+use std::alloc::Global;
 
 /// The chunk key encoding that an array's metadata stands for.
 ///
@@ -27,8 +27,8 @@ pub(crate) fn from_metadata(
 {
     match metadata.name() {
         "default" => DefaultChunkKeyEncoding::create(alloc, metadata),
-        name => Err(Refusal::Refused(PluginCreateError::NameUnsupported(
-            String::from_str(alloc, name)?,
-        ))),
+        name => Err(Refusal::Refused(PluginCreateError::NameUnsupported(String::from_str(
+            alloc, name,
+        )?))),
     }
 }

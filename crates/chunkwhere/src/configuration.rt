@@ -26,10 +26,14 @@ pub enum ConfigurationFault {
     },
     /// A member that has to be there; of several the first by name.
     #[error("missing field `{field}`")]
-    MissingField { field: &'static str },
+    MissingField {
+        field: &'static str,
+    },
     /// A member whose value isn't of its form; of several the first by name.
     #[error("wrong value in field `{field}`")]
-    WrongValue { field: &'static str },
+    WrongValue {
+        field: &'static str,
+    },
 }
 
 /// The member of a name.

@@ -11,7 +11,10 @@ use std::io::Read;
 const PIECE_LEN: usize = 16384;
 
 /// All that a reader has left. A reader that never ends is answered with want of memory.
-pub(crate) fn read_to_end<R: Read>(alloc: Global, reader: &mut Watched<R>) -> Result<Vec<u8>, RunFault>
+pub(crate) fn read_to_end<R: Read>(
+    alloc: Global,
+    reader: &mut Watched<R>,
+) -> Result<Vec<u8>, RunFault>
     ensures bytes { IfOk result (λ bytes. IfSome (R.remaining (watched reader.old)) (λ input.
         (bytes.items ≡ input) × (R.remaining (watched reader.new) ≡ Some []))) }
     ensures failed { MatchResult result (λ _. has_failed reader.new ≡ has_failed reader.old)

@@ -97,7 +97,7 @@ fn configuration_of(tree: &Value) -> Result<Option<Configuration>, Refusal<Metad
     ensures { MatchResult result
         (λ c. IsOptional as_object (get (codes "configuration") (view tree.now)) (option_map (λ c. members_view c.entries) c))
         (λ refusal. IfRefused refusal (λ error. (error ≡ MetadataError.ConfigurationNotObject)
-            × IsMisformed as_object (get (codes "configuration") (view tree.now)))) }
+        × IsMisformed as_object (get (codes "configuration") (view tree.now)))) }
 {
     match tree.get("configuration") {
         None => Ok(None),
@@ -113,7 +113,7 @@ fn check_must_understand(tree: &Value) -> Result<(), Refusal<MetadataError>>
     ensures { MatchResult result
         (λ _. (b : Option Bool) × IsOptional as_bool (get (codes "must_understand") (view tree.now)) b)
         (λ refusal. IfRefused refusal (λ error. (error ≡ MetadataError.MustUnderstandNotBool)
-            × IsMisformed as_bool (get (codes "must_understand") (view tree.now)))) }
+        × IsMisformed as_bool (get (codes "must_understand") (view tree.now)))) }
 {
     let Some(must_understand) = tree.get("must_understand") else {
         return Ok(());

@@ -8,7 +8,11 @@ use std::alloc::AllocError;
 ///
 /// # Errors
 /// There was no memory; the text then ends in a beginning of this.
-pub(crate) fn append_numerals(text: &mut String, before: char, numbers: &[u64]) -> Result<(), AllocError>
+pub(crate) fn append_numerals(
+    text: &mut String,
+    before: char,
+    numbers: &[u64],
+) -> Result<(), AllocError>
     requires { before < 128 }
     ensures { OnOk result ((numerals : List ℕ) × IsNumerals before numbers.now numerals
         × (string_bytes text.new ≡ string_bytes text.old ++ numerals)) }

@@ -31,8 +31,11 @@ pub fn run<R: Read, W: Write>(
     ensures { IfSome (R.remaining (watched reader.old)) (λ input. IfSome (W.contents (watched writer.old)) (λ held.
         has_failed reader.old ≡ false → has_failed writer.old ≡ false
         → RunLeaves input held result (record {
-            left = R.remaining (watched reader.new); read_failed = has_failed reader.new;
-            holds = W.contents (watched writer.new); write_failed = has_failed writer.new }))) }
+          left = R.remaining (watched reader.new);
+          read_failed = has_failed reader.new;
+          holds = W.contents (watched writer.new);
+          write_failed = has_failed writer.new;
+        }))) }
 {
     let input = read_to_end(alloc, reader)?;
     let text = respond(alloc, input)?;

@@ -1,0 +1,381 @@
+//! What no contract says: that the program answers with ample memory, its texts, and readers and
+//! writers that fail.
+use crate::program::{finish, run};
+use crate::run_fault::RunFault;
+use crate::watched::Watched;
+use std::alloc::{AllocError, Global};
+use std::io;
+use std::io::{ErrorKind, Read, Write};
+use std::process::Abort;
+use std::test::Fail;
+
+const SHAPE: &str = "[5,7,52]";
+
+const REGULAR: &str = r#"{"name":"regular","configuration":{"chunk_shape":[1,2,3]}}"#;
+
+const DEFAULT: &str = r#"{"name":"default","configuration":{"separator":"/"}}"#;
+
+const INDICES: &str = "[[3,5,50],[0,0,0],[3,5,50]]";
+
+const LINES: &str = "c/3/2/16 0 1 2\nc/0/0/0 0 0 0\nc/3/2/16 0 1 2\n";
+
+fn document(
+    alloc: Global,
+    shape: &str,
+    grid: &str,
+    encoding: &str,
+    indices: &str,
+) -> Result<String, AllocError> {
+    format!(in alloc;
+        "{{\"shape\":{shape},\"chunk_grid\":{grid},\"chunk_key_encoding\":{encoding},\"indices\":{indices}}}"
+    )
+}
+
+/// Runs the program on an input, and compares what it writes, the line on a fault, and the status.
+fn check(
+    rt: &(impl Abort + AllocGlobal),
+    input: &[u8],
+    output: &str,
+    line: &str,
+) -> Result<(), AllocError> {
+    let mut reader = Watched::new(input);
+    let mut writer = Watched::new(Vec::new(rt.alloc()));
+    let result = run(rt.alloc(), &mut reader, &mut writer);
+    let mut errors = Vec::new(rt.alloc());
+    let status = finish(&result, &mut errors);
+    assert_eq!(rt;
+        writer.inner().as_slice(),
+        output.as_bytes(),
+        "output of {input:?}"
+    );
+    assert_eq!(rt; errors.as_slice(), line.as_bytes(), "line on {input:?}");
+    assert_eq!(rt; status, u8::from(!line.is_empty()), "status of {input:?}");
+    assert!(rt;
+        !reader.failed() && !writer.failed(),
+        "nothing failed on {input:?}"
+    );
+    Ok(())
+}
+
+#[test]
+fn documents_are_answered(rt: HostRuntime) -> Result<(), Fail> {
+    let rows = [
+        (SHAPE, REGULAR, DEFAULT, INDICES, LINES),
+        (SHAPE, REGULAR, DEFAULT, "[[3,5,53]]", "c/3/2/17 0 1 2\n"),
+        (SHAPE, REGULAR, r#""default""#, INDICES, LINES),
+        (
+            SHAPE,
+            REGULAR,
+            r#"{"name":"default","configuration":{"separator":"."}}"#,
+            INDICES,
+            "c.3.2.16 0 1 2\nc.0.0.0 0 0 0\nc.3.2.16 0 1 2\n",
+        ),
+        (SHAPE, REGULAR, DEFAULT, "[]", ""),
+        (
+            "[]",
+            r#"{"name":"regular","configuration":{"chunk_shape":[]}}"#,
+            r#""default""#,
+            "[[]]",
+            "c\n",
+        ),
+        (
+            "[18446744073709551615]",
+            r#"{"name":"regular","configuration":{"chunk_shape":[2]},"must_understand":false}"#,
+            r#"{"name":"default","configuration":{}}"#,
+            "[[18446744073709551615]]",
+            "c/9223372036854775807 1\n",
+        ),
+    ];
+    for (shape, grid, encoding, indices, output) in rows {
+        let input = document(rt.alloc(), shape, grid, encoding, indices)?;
+        check(&rt, input.as_bytes(), output, "")?;
+    }
+    Ok(())
+}
+
+/// An array's whole `zarr.json`, with `indices` added.
+const ZARR_JSON: &str = r#"{
+    "zarr_format": 3,
+    "node_type": "array",
+    "shape": [5, 7, 52],
+    "data_type": "float64",
+    "chunk_grid": {"name": "regular", "configuration": {"chunk_shape": [1, 2, 3]}},
+    "chunk_key_encoding": {"name": "default", "configuration": {"separator": "/"}},
+    "fill_value": 0.0,
+    "codecs": [{"name": "bytes", "configuration": {"endian": "little"}}],
+    "attributes": {"nested": [[[1.5e3, null], true]]},
+    "dimension_names": ["t", "y", "x"],
+    "indices": [[3, 5, 50], [0, 0, 0], [3, 5, 50]]
+}"#;
+
+#[test]
+fn an_arrays_metadata_is_a_document(rt: HostRuntime) -> Result<(), Fail> {
+    check(&rt, ZARR_JSON.as_bytes(), LINES, "")?;
+    Ok(())
+}
+
+#[test]
+fn inputs_are_refused(rt: HostRuntime) -> Result<(), Fail> {
+    let not_json = "chunkwhere: document is not JSON\n";
+    let rows: [(&[u8], &str); 7] = [
+        (br#"{"shape":[5]"#, not_json),
+        (b"", not_json),
+        (b"\xff", not_json),
+        (b"[]", "chunkwhere: document is not an object\n"),
+        (b"{}", "chunkwhere: missing field `shape`\n"),
+        (
+            br#"{"shape":1,"chunk_grid":2}"#,
+            "chunkwhere: missing field `chunk_key_encoding`\n",
+        ),
+        (
+            br#"{"indices":[],"shape":[],"chunk_key_encoding":"default"}"#,
+            "chunkwhere: missing field `chunk_grid`\n",
+        ),
+    ];
+    for (input, line) in rows {
+        check(&rt, input, "", line)?;
+    }
+    Ok(())
+}
+
+#[test]
+fn members_are_refused(rt: HostRuntime) -> Result<(), Fail> {
+    let grid = |text| (SHAPE, text, DEFAULT, INDICES);
+    let encoding = |text| (SHAPE, REGULAR, text, INDICES);
+    let rows = [
+        (
+            ("[5.0,7,52]", "5", DEFAULT, INDICES),
+            "wrong value in field `shape`",
+        ),
+        (
+            ("[5,7,-1]", REGULAR, DEFAULT, INDICES),
+            "wrong value in field `shape`",
+        ),
+        (
+            (SHAPE, REGULAR, DEFAULT, r#"[[3,5,"50"]]"#),
+            "wrong value in field `indices`",
+        ),
+        (grid("5"), "field `chunk_grid`: not an extension"),
+        (
+            grid(r#"{"name":5}"#),
+            "field `chunk_grid`: name is not a text",
+        ),
+        (
+            grid(r#"{"name":"regular","configuration":[]}"#),
+            "field `chunk_grid`: configuration is not an object",
+        ),
+        (
+            grid(r#"{"name":"regular","configuration":null}"#),
+            "field `chunk_grid`: configuration is not an object",
+        ),
+        (
+            grid(r#"{"name":"regular","must_understand":1}"#),
+            "field `chunk_grid`: must_understand is not a truth value",
+        ),
+        (
+            encoding(r#"{"configuration":{}}"#),
+            "field `chunk_key_encoding`: name is missing",
+        ),
+        (
+            (SHAPE, r#""hexagonal""#, DEFAULT, "[[1]]"),
+            "name `hexagonal` is not supported",
+        ),
+        (encoding(r#""v2""#), "name `v2` is not supported"),
+    ];
+    for ((shape, grid, encoding, indices), text) in rows {
+        let input = document(rt.alloc(), shape, grid, encoding, indices)?;
+        let line = format!(in rt.alloc(); "chunkwhere: {text}\n")?;
+        check(&rt, input.as_bytes(), "", line.as_str())?;
+    }
+    Ok(())
+}
+
+#[test]
+fn configurations_and_indices_are_refused(rt: HostRuntime) -> Result<(), Fail> {
+    let grid = |text| (SHAPE, text, DEFAULT, INDICES);
+    let encoding = |text| (SHAPE, REGULAR, text, INDICES);
+    let rows = [
+        (
+            grid(r#"{"name":"regular","configuration":{"chunk_shape":[1,2]}}"#),
+            "regular chunk shape and array shape have inconsistent dimensionality",
+        ),
+        (
+            grid(r#"{"name":"regular","configuration":{"invalid":[1,2,3]}}"#),
+            "configuration is unsupported: unknown field `invalid`, expected `chunk_shape`",
+        ),
+        (
+            grid(r#"{"name":"regular","configuration":{"chunk_shape":0,"b":1,"a":2}}"#),
+            "configuration is unsupported: unknown field `a`, expected `chunk_shape`",
+        ),
+        (
+            grid(r#""regular""#),
+            "configuration is unsupported: missing field `chunk_shape`",
+        ),
+        (
+            grid(r#"{"name":"regular","configuration":{"chunk_shape":[1,0,3]}}"#),
+            "configuration is unsupported: wrong value in field `chunk_shape`",
+        ),
+        (
+            grid(r#"{"name":"regular","configuration":{"chunk_shape":[1,2,3.0]}}"#),
+            "configuration is unsupported: wrong value in field `chunk_shape`",
+        ),
+        (
+            encoding(r#"{"name":"default","configuration":{"separator":"-"}}"#),
+            "configuration is unsupported: wrong value in field `separator`",
+        ),
+        (
+            encoding(r#"{"name":"default","configuration":{"suffix":""}}"#),
+            "configuration is unsupported: unknown field `suffix`, expected `separator`",
+        ),
+        (
+            (SHAPE, REGULAR, DEFAULT, "[[0,0,0],[1,2]]"),
+            "index 1: incompatible dimensionality 2, expected 3",
+        ),
+    ];
+    for ((shape, grid, encoding, indices), text) in rows {
+        let input = document(rt.alloc(), shape, grid, encoding, indices)?;
+        let line = format!(in rt.alloc(); "chunkwhere: {text}\n")?;
+        check(&rt, input.as_bytes(), "", line.as_str())?;
+    }
+    Ok(())
+}
+
+/// A reader that gives at most 16 bytes at once, and fails after so many reads.
+#[derive(Drop)]
+struct FailingReader<'a> {
+    rest: &'a [u8],
+    reads: usize,
+}
+
+impl Read for FailingReader<'_> {
+    fn read(&mut self, buf: &mut [u8]) -> io::Result<usize> {
+        if self.reads == 0 {
+            return Err(io::Error::from(ErrorKind::Interrupted));
+        }
+        self.reads -= 1;
+        let end = buf.len().min(16);
+        Read::read(&mut self.rest, &mut buf[..end])
+    }
+}
+
+/// A writer that takes one byte at once, and after so many writes fails or takes nothing.
+#[derive(Drop)]
+struct FailingWriter {
+    taken: Vec<u8>,
+    writes: usize,
+    fault: Option<ErrorKind>,
+    flush_fails: bool,
+}
+
+impl Write for FailingWriter {
+    fn write(&mut self, buf: &[u8]) -> io::Result<usize> {
+        if self.writes == 0 {
+            return match self.fault {
+                Some(kind) => Err(io::Error::from(kind)),
+                None => Ok(0),
+            };
+        }
+        let Some(first) = buf.first() else {
+            return Ok(0);
+        };
+        self.writes -= 1;
+        self.taken.push(*first)?;
+        Ok(1)
+    }
+
+    fn flush(&mut self) -> io::Result<()> {
+        if self.flush_fails {
+            return Err(io::Error::from(ErrorKind::Other));
+        }
+        Ok(())
+    }
+}
+
+#[test]
+fn a_failed_read_is_told(rt: HostRuntime) -> Result<(), Fail> {
+    let input = document(rt.alloc(), SHAPE, REGULAR, DEFAULT, INDICES)?;
+    let enough = input.len().div_ceil(16) + 1;
+    for reads in 0..=enough {
+        let mut reader = Watched::new(FailingReader {
+            rest: input.as_bytes(),
+            reads,
+        });
+        let mut writer = Watched::new(Vec::new(rt.alloc()));
+        let result = run(rt.alloc(), &mut reader, &mut writer);
+        let succeeds = reads == enough;
+        assert_eq!(rt; result.is_ok(), succeeds, "after {reads} reads");
+        assert_eq!(rt;
+            matches!(&result, Err(RunFault::Read)),
+            !succeeds,
+            "after {reads} reads"
+        );
+        assert_eq!(rt; reader.failed(), !succeeds, "after {reads} reads");
+        assert_eq!(rt; writer.inner().is_empty(), !succeeds, "after {reads} reads");
+    }
+    Ok(())
+}
+
+#[test]
+fn a_failed_write_is_told(rt: HostRuntime) -> Result<(), Fail> {
+    let input = document(rt.alloc(), SHAPE, REGULAR, DEFAULT, INDICES)?;
+    let interrupted = Some(ErrorKind::Interrupted);
+    for (fault, flush_fails) in [(interrupted, false), (None, false), (interrupted, true)] {
+        for writes in 0..=LINES.len() {
+            let mut reader = Watched::new(input.as_bytes());
+            let mut writer = Watched::new(FailingWriter {
+                taken: Vec::new(rt.alloc()),
+                writes,
+                fault,
+                flush_fails,
+            });
+            let result = run(rt.alloc(), &mut reader, &mut writer);
+            let succeeds = writes == LINES.len() && !flush_fails;
+            assert_eq!(rt; result.is_ok(), succeeds, "after {writes} writes");
+            assert_eq!(rt;
+                matches!(&result, Err(RunFault::Write)),
+                !succeeds,
+                "after {writes} writes"
+            );
+            assert_eq!(rt; writer.failed(), !succeeds, "after {writes} writes");
+            let (taken, _) = LINES.as_bytes().split_at(writes);
+            assert_eq!(rt;
+                writer.inner().taken.as_slice(),
+                taken,
+                "after {writes} writes"
+            );
+        }
+    }
+    Ok(())
+}
+
+#[test]
+fn other_faults_have_a_line(rt: HostRuntime) -> Result<(), Fail> {
+    let rows = [
+        (RunFault::Read, "chunkwhere: input failed\n"),
+        (RunFault::Write, "chunkwhere: output failed\n"),
+        (RunFault::Memory, "chunkwhere: out of memory\n"),
+    ];
+    for (fault, line) in rows {
+        let mut errors = Vec::new(rt.alloc());
+        assert_eq!(rt; finish(&Err(fault), &mut errors), 1);
+        assert_eq!(rt; errors.as_slice(), line.as_bytes());
+    }
+    let mut closed = FailingWriter {
+        taken: Vec::new(rt.alloc()),
+        writes: 0,
+        fault: Some(ErrorKind::Other),
+        flush_fails: true,
+    };
+    assert_eq!(rt; finish(&Err(RunFault::Read), &mut closed), 1);
+    Ok(())
+}
+
+#[test]
+fn each_beginning_of_a_document_is_refused(rt: HostRuntime) -> Result<(), Fail> {
+    let input = document(rt.alloc(), SHAPE, REGULAR, DEFAULT, INDICES)?;
+    for len in 0..input.len() {
+        let (beginning, _) = input.as_bytes().split_at(len);
+        check(&rt, beginning, "", "chunkwhere: document is not JSON\n")?;
+    }
+    Ok(())
+}

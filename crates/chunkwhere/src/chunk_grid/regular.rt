@@ -108,7 +108,7 @@ impl RegularChunkGrid {
     ) -> Result<RegularChunkGrid, Refusal<IncompatibleDimensionalityError>>
         ensures { MatchResult result (λ grid. AreEqualEdges (dimensions_of grid) array_shape.now (map non_zero_u64_get chunk_shape.now))
             (λ refusal. IfRefused refusal (λ e. (length chunk_shape.now ≢ length array_shape.now)
-                × TellsLengths (length chunk_shape.now) (length array_shape.now) e)) }
+            × TellsLengths (length chunk_shape.now) (length array_shape.now) e)) }
     {
         if chunk_shape.len() != array_shape.len() {
             return Err(Refusal::Refused(IncompatibleDimensionalityError::new(
@@ -191,7 +191,7 @@ impl RegularChunkGrid {
     ) -> Result<Option<Vec<u64>>, Refusal<IncompatibleDimensionalityError>>
         ensures { Answers (length indices.now) (length (dimensions_of self.now))
             (λ p. (c : List ℕ) × InBox (dimensions_of self.now) c indices.now
-                × IsPlace (dimensions_of self.now) c indices.now p.items)
+            × IsPlace (dimensions_of self.now) c indices.now p.items)
             ((c : List ℕ) → ¬ InBox (dimensions_of self.now) c indices.now) result }
     {
         self.check_length(indices)?;

@@ -14,7 +14,9 @@ returns c =
     let (key, numbers, is_key, are_numerals, text) = rw (c.deref.ensures.value, c.deref-2.ensures.value) at c.in_ok-append_found.ensures in
     let dimensions = dimensions_of c.args.grid.now in
     let chunk = c.in-Some-Some.chunk.items in
-    let same = same_box dimensions other chunk c.args.index.now (are_chains c.args.grid.now.axes.items) other_box box in
-    (same_length, key ++ numbers ++ codes "\n",
-     found chunk c.in-Some-Some.place.items key numbers box (subst (λ k. IsPlace dimensions k c.args.index.now c.in-Some-Some.place.items) same place) is_key are_numerals refl,
-     text)
+    let same = same_box dimensions other chunk c.args.index.now (are_chains c.args.grid.now.axes.items) other_box box in (
+      same_length,
+      key ++ numbers ++ codes "\n",
+      found chunk c.in-Some-Some.place.items key numbers box (subst (λ k. IsPlace dimensions k c.args.index.now c.in-Some-Some.place.items) same place) is_key are_numerals refl,
+      text,
+    )

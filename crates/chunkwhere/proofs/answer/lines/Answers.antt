@@ -24,7 +24,7 @@ loop-position-preserved c =
     let first = begins_with c.args.indices.now position index within c.index-indices-position.is in
     let (has_length, line, is_line, text) = rw c.deref.ensures.value at c.in-Ok.ensures in
     one_more (dimensions_of c.args.grid.now) (encoding_of c.args.encoding.now) (lists_of c.args.indices.now) _ position (string_bytes c.loop-position.text) index.items line
-        (drop (position + 1) (lists_of c.args.indices.now)) (string_bytes c.append_line.new.text) c.loop-position.invariant first has_length is_line text
+    (drop (position + 1) (lists_of c.args.indices.now)) (string_bytes c.append_line.new.text) c.loop-position.invariant first has_length is_line text
 
 pub returns : goal.returns
 returns c =

@@ -12,28 +12,35 @@ returns-in_err-chunk_key_encoding-2 c =
     let tree = view c.args.tree.now in
     let shape : shape_of tree ≡ Some c.in-Some.shape.items = shape_is tree _ c.in_ok-shape-2.field-0 c.in_ok-shape.ensures c.in_ok-shape-2.ensures ∙ ap (option_map numbers) c.in-Some.is in
     rw (p.1, p.2) (encoding_fault tree (view c.in_ok-chunk_key_encoding.chunk_key_encoding.now) _ c.in_ok-chunk_key_encoding.ensures
-        (has_members _ _ _ _ _ c.in_ok-shape.ensures c.in_ok-chunk_grid.ensures c.in_ok-chunk_key_encoding.ensures c.in_ok-indices.ensures)
-        (ap is_some shape) (extension_of c.in_ok-chunk_grid-2.chunk_grid, (view c.in_ok-chunk_grid.chunk_grid.now, c.in_ok-chunk_grid.ensures, c.in_ok-chunk_grid-2.ensures))
-        c.in_err-chunk_key_encoding-2.ensures)
+    (has_members _ _ _ _ _ c.in_ok-shape.ensures c.in_ok-chunk_grid.ensures c.in_ok-chunk_key_encoding.ensures c.in_ok-indices.ensures)
+    (ap is_some shape) (extension_of c.in_ok-chunk_grid-2.chunk_grid, (view c.in_ok-chunk_grid.chunk_grid.now, c.in_ok-chunk_grid.ensures, c.in_ok-chunk_grid-2.ensures))
+    c.in_err-chunk_key_encoding-2.ensures)
 
 pub returns-in_default-2 : goal.returns-in_default-2
 returns-in_default-2 c =
     let tree = view c.args.tree.now in
     let shape : shape_of tree ≡ Some c.in-Some.shape.items = shape_is tree _ c.in_ok-shape-2.field-0 c.in_ok-shape.ensures c.in_ok-shape-2.ensures ∙ ap (option_map numbers) c.in-Some.is in
     let no_indices : indices_of tree ≡ None = indices_is tree _ c.in_ok-indices-2.field-0 c.in_ok-indices.ensures c.in_ok-indices-2.ensures ∙ ap (option_map lists) c.in_default-2.is in
-    inr (has_members _ _ _ _ _ c.in_ok-shape.ensures c.in_ok-chunk_grid.ensures c.in_ok-chunk_key_encoding.ensures c.in_ok-indices.ensures,
-         inr (refl, ap is_some shape,
-             (extension_of c.in_ok-chunk_grid-2.chunk_grid, (view c.in_ok-chunk_grid.chunk_grid.now, c.in_ok-chunk_grid.ensures, c.in_ok-chunk_grid-2.ensures)),
-             (extension_of c.in_ok-chunk_key_encoding-2.chunk_key_encoding,
-                 (view c.in_ok-chunk_key_encoding.chunk_key_encoding.now, c.in_ok-chunk_key_encoding.ensures, c.in_ok-chunk_key_encoding-2.ensures)),
-             no_indices))
+    inr (
+      has_members _ _ _ _ _ c.in_ok-shape.ensures c.in_ok-chunk_grid.ensures c.in_ok-chunk_key_encoding.ensures c.in_ok-indices.ensures,
+      inr (
+        refl,
+        ap is_some shape,
+        (extension_of c.in_ok-chunk_grid-2.chunk_grid, (view c.in_ok-chunk_grid.chunk_grid.now, c.in_ok-chunk_grid.ensures, c.in_ok-chunk_grid-2.ensures)),
+        (
+          extension_of c.in_ok-chunk_key_encoding-2.chunk_key_encoding,
+          (view c.in_ok-chunk_key_encoding.chunk_key_encoding.now, c.in_ok-chunk_key_encoding.ensures, c.in_ok-chunk_key_encoding-2.ensures),
+        ),
+        no_indices,
+      ),
+    )
 
 pub returns : goal.returns
 returns c =
     let tree = view c.args.tree.now in
     record {
-        shape = shape_is tree _ c.in_ok-shape-2.field-0 c.in_ok-shape.ensures c.in_ok-shape-2.ensures ∙ ap (option_map numbers) c.in-Some.is;
-        chunk_grid = (view c.in_ok-chunk_grid.chunk_grid.now, c.in_ok-chunk_grid.ensures, c.in_ok-chunk_grid-2.ensures);
-        chunk_key_encoding = (view c.in_ok-chunk_key_encoding.chunk_key_encoding.now, c.in_ok-chunk_key_encoding.ensures, c.in_ok-chunk_key_encoding-2.ensures);
-        indices = indices_is tree _ c.in_ok-indices-2.field-0 c.in_ok-indices.ensures c.in_ok-indices-2.ensures ∙ ap (option_map lists) c.in-Some-2.is;
+      shape = shape_is tree _ c.in_ok-shape-2.field-0 c.in_ok-shape.ensures c.in_ok-shape-2.ensures ∙ ap (option_map numbers) c.in-Some.is;
+      chunk_grid = (view c.in_ok-chunk_grid.chunk_grid.now, c.in_ok-chunk_grid.ensures, c.in_ok-chunk_grid-2.ensures);
+      chunk_key_encoding = (view c.in_ok-chunk_key_encoding.chunk_key_encoding.now, c.in_ok-chunk_key_encoding.ensures, c.in_ok-chunk_key_encoding-2.ensures);
+      indices = indices_is tree _ c.in_ok-indices-2.field-0 c.in_ok-indices.ensures c.in_ok-indices-2.ensures ∙ ap (option_map lists) c.in-Some-2.is;
     }

@@ -8,5 +8,5 @@ pub returns-in-Ok : goal.returns-in-Ok
 returns-in-Ok c =
     let tree = view c.in-Ok.tree in
     MatchResult-weaker c.document_from.result c.document_from.ensures
-        (λ document is. (tree, c.in-Ok.ensures.ok, is))
-        (λ fault. ⊎_elim inl (λ first. inr (not_of_form tree c.in-Ok.ensures.ok first)))
+    (λ document is. (tree, c.in-Ok.ensures.ok, is))
+    (λ fault. ⊎_elim inl (λ first. inr (not_of_form tree c.in-Ok.ensures.ok first)))

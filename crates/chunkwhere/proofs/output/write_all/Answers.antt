@@ -17,8 +17,11 @@ loop-rest-preserved g c =
     let count = c.in-Ok.count in
     let rest = c.loop-rest.rest.now in
     let parts : rest ≡ take count rest ++ c.split_at.result.1.now =
-        sym (take-append-drop count rest) ∙ ap (λ back. take count rest ++ back) (sym c.split_at.ensures.back) in
-    ((written ++ take count rest,
-      all ∙ ap (λ r. written ++ r) parts ∙ sym (append_assoc written (take count rest) c.split_at.result.1.now),
-      Appends-trans _ _ _ written (take count rest) appended c.in-Ok.ensures.bytes),
-     not_failed _ _ _ count c.if-count-gt0.true c.in-Ok.ensures.failed ∙ c.loop-rest.invariant.1)
+    sym (take-append-drop count rest) ∙ ap (λ back. take count rest ++ back) (sym c.split_at.ensures.back) in (
+      (
+        written ++ take count rest,
+        all ∙ ap (λ r. written ++ r) parts ∙ sym (append_assoc written (take count rest) c.split_at.result.1.now),
+        Appends-trans _ _ _ written (take count rest) appended c.in-Ok.ensures.bytes,
+      ),
+      not_failed _ _ _ count c.if-count-gt0.true c.in-Ok.ensures.failed ∙ c.loop-rest.invariant.1,
+    )

@@ -14,5 +14,5 @@ returns c =
     let (tree, reads, stands_for) = rw c.deref.ensures.value at c.in_ok-document.ensures in
     let document = document_of c.in_ok-document.document in
     MatchResult-weaker c.answer.result c.answer.ensures
-        (λ text answers. record { tree = tree; document = document; reads = reads; stands_for = stands_for; answers = answers })
-        (λ fault. ⊎_elim inl (λ first. inr (no_answer tree document reads stands_for first)))
+    (λ text answers. record { tree = tree; document = document; reads = reads; stands_for = stands_for; answers = answers })
+    (λ fault. ⊎_elim inl (λ first. inr (no_answer tree document reads stands_for first)))

@@ -6,7 +6,8 @@ use Rattle.chunkwhere.proofs.chunk_grid.regular.RegularChunkGrid.chunk_indices.G
 
 pub returns : goal.returns
 returns c =
-    let same_length = c.in_ok-check_length.ensures in
-    (same_length,
-        subst (λ chunk. InBox (dimensions_of c.args.self.now) chunk c.args.indices.now) (sym (c.in_ok-chunk_numbers.ensures))
-            (rw c.deref.ensures.value (in_box c.args.self.now.axes.items c.args.indices.now same_length)))
+    let same_length = c.in_ok-check_length.ensures in (
+      same_length,
+      subst (λ chunk. InBox (dimensions_of c.args.self.now) chunk c.args.indices.now) (sym (c.in_ok-chunk_numbers.ensures))
+          (rw c.deref.ensures.value (in_box c.args.self.now.axes.items c.args.indices.now same_length)),
+    )

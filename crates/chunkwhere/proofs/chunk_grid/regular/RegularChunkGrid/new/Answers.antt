@@ -8,4 +8,4 @@ use Rattle.chunkwhere.proofs.chunk_grid.regular.RegularChunkGrid.new.Goals as go
 pub returns : goal.returns
 returns c =
     subst (λ axes. AreEqualEdges (map dimension_of axes) c.args.array_shape.now (map non_zero_u64_get c.args.chunk_shape.now)) (sym c.in_ok-axes_of.ensures)
-        (are_equal_edges c.args.array_shape.now c.args.chunk_shape.now c.if-chunk_shape-array_shape.false)
+    (are_equal_edges c.args.array_shape.now c.args.chunk_shape.now c.if-chunk_shape-array_shape.false)

@@ -9,8 +9,9 @@ returns-in_default c = (c.in_ok-refuse_unknown.ensures, least_missing _ _ c.in_d
 
 pub returns-in_default-2 : goal.returns-in_default-2
 returns-in_default-2 c =
-    let no_edges = rw c.in_default-2.is at c.in_ok-chunk_shape.ensures in
-    (c.in_ok-refuse_unknown.ensures,
-     none_missing _ _ (Some (view c.in-Some.tree.now)) refl c.in-Some.ensures,
-     least_wrong _ _ (λ _ d. IsSome (list_of edge_of d)) (view c.in-Some.tree.now) c.in_ok-refuse_unknown.ensures c.in-Some.ensures
-         (λ some. true≢false (sym some ∙ ap is_some (sym no_edges))))
+    let no_edges = rw c.in_default-2.is at c.in_ok-chunk_shape.ensures in (
+      c.in_ok-refuse_unknown.ensures,
+      none_missing _ _ (Some (view c.in-Some.tree.now)) refl c.in-Some.ensures,
+      least_wrong _ _ (λ _ d. IsSome (list_of edge_of d)) (view c.in-Some.tree.now) c.in_ok-refuse_unknown.ensures c.in-Some.ensures
+          (λ some. true≢false (sym some ∙ ap is_some (sym no_edges))),
+    )
