@@ -86,10 +86,11 @@ pub struct RegularChunkGrid {
 }
 
 impl RegularChunkGrid {
-    ghost use Rattle.std.specs.Prelude.{◌≡◌, ◌≢◌, List, ℕ, MatchResult, length, map};
+    ghost use Rattle.std.specs.Prelude.{◌≡◌, ◌≢◌, List, ℕ, IfOk, MatchResult, length, map};
+    ghost use Rattle.std.specs.List.{AllByRecursion};
     ghost use Rattle.std.specs.Int.NonZero.{non_zero_u64_get};
     ghost use Rattle.chunkwhere.specs.ChunkGrid.{IsRegularGrid, IsRegularGridFault};
-    ghost use Rattle.chunkwhere.specs.Dimension.{InBox, IsPlace};
+    ghost use Rattle.chunkwhere.specs.Dimension.{IsChain, InBox, IsPlace};
     ghost use Rattle.chunkwhere.specs.EqualEdges.{AreEqualEdges};
     ghost use Rattle.chunkwhere.specs.Metadata.{extension_of};
     ghost use Rattle.chunkwhere.specs.Refusal.{IfRefused, TellsLengths, RefusesLength, Answers};
@@ -106,7 +107,8 @@ impl RegularChunkGrid {
         array_shape: &[u64],
         chunk_shape: &[NonZeroU64],
     ) -> Result<RegularChunkGrid, Refusal<IncompatibleDimensionalityError>>
-        ensures { MatchResult result (λ grid. AreEqualEdges (dimensions_of grid) array_shape.now (map non_zero_u64_get chunk_shape.now))
+        ensures chained { IfOk result (λ grid. AllByRecursion IsChain (dimensions_of grid)) }
+        ensures made { MatchResult result (λ grid. AreEqualEdges (dimensions_of grid) array_shape.now (map non_zero_u64_get chunk_shape.now))
             (λ refusal. IfRefused refusal (λ e. (length chunk_shape.now ≢ length array_shape.now)
             × TellsLengths (length chunk_shape.now) (length array_shape.now) e)) }
     {
@@ -203,12 +205,12 @@ impl RegularChunkGrid {
         ensures { MatchResult result (λ _. length indices.now ≡ length (dimensions_of self.now))
             (RefusesLength (length indices.now) (length (dimensions_of self.now))) }
     {
-        if indices.len() == self.axes.len() {
+        if indices.len() == self.dimensionality() {
             Ok(())
         } else {
             Err(Refusal::Refused(IncompatibleDimensionalityError::new(
                 indices.len(),
-                self.axes.len(),
+                self.dimensionality(),
             )))
         }
     }

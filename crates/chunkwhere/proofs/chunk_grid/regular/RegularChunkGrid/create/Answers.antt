@@ -10,5 +10,5 @@ returns-in-Err-Refused-new c =
       c.in_ok-from_str-in-Err-Refused-new.ensures.ok,
       map non_zero_u64_get edges,
       search rules,
-      λ same. refused.0 (ap length c.deref.ensures.value ∙ sym (length-map edges non_zero_u64_get) ∙ same),
+      λ same. refused.made.0 (ap length c.deref.ensures.value ∙ sym (length-map edges non_zero_u64_get) ∙ same),
     )
