@@ -191,49 +191,65 @@ fn members_are_refused(rt: HostRuntime) -> Result<(), Fail> {
 }
 
 #[test]
-fn configurations_and_indices_are_refused(rt: HostRuntime) -> Result<(), Fail> {
-    let grid = |text| (SHAPE, text, DEFAULT, INDICES);
-    let encoding = |text| (SHAPE, REGULAR, text, INDICES);
+fn configurations_are_refused(rt: HostRuntime) -> Result<(), Fail> {
+    let grid = |text| (text, DEFAULT);
+    let encoding = |text| (REGULAR, text);
     let rows = [
         (
-            grid(r#"{"name":"regular","configuration":{"chunk_shape":[1,2]}}"#),
-            "regular chunk shape and array shape have inconsistent dimensionality",
-        ),
-        (
             grid(r#"{"name":"regular","configuration":{"invalid":[1,2,3]}}"#),
-            "configuration is unsupported: unknown field `invalid`, expected `chunk_shape`",
+            "unknown field `invalid`, expected `chunk_shape`",
         ),
         (
             grid(r#"{"name":"regular","configuration":{"chunk_shape":0,"b":1,"a":2}}"#),
-            "configuration is unsupported: unknown field `a`, expected `chunk_shape`",
+            "unknown field `a`, expected `chunk_shape`",
         ),
-        (
-            grid(r#""regular""#),
-            "configuration is unsupported: missing field `chunk_shape`",
-        ),
+        (grid(r#""regular""#), "missing field `chunk_shape`"),
         (
             grid(r#"{"name":"regular","configuration":{"chunk_shape":[1,0,3]}}"#),
-            "configuration is unsupported: wrong value in field `chunk_shape`",
+            "wrong value in field `chunk_shape`",
         ),
         (
             grid(r#"{"name":"regular","configuration":{"chunk_shape":[1,2,3.0]}}"#),
-            "configuration is unsupported: wrong value in field `chunk_shape`",
+            "wrong value in field `chunk_shape`",
         ),
         (
             encoding(r#"{"name":"default","configuration":{"separator":"-"}}"#),
-            "configuration is unsupported: wrong value in field `separator`",
+            "wrong value in field `separator`",
         ),
         (
             encoding(r#"{"name":"default","configuration":{"suffix":""}}"#),
-            "configuration is unsupported: unknown field `suffix`, expected `separator`",
-        ),
-        (
-            (SHAPE, REGULAR, DEFAULT, "[[0,0,0],[1,2]]"),
-            "index 1: incompatible dimensionality 2, expected 3",
+            "unknown field `suffix`, expected `separator`",
         ),
     ];
-    for ((shape, grid, encoding, indices), text) in rows {
-        let input = document(rt.alloc(), shape, grid, encoding, indices)?;
+    for ((grid, encoding), text) in rows {
+        let input = document(rt.alloc(), SHAPE, grid, encoding, INDICES)?;
+        let line = format!(in rt.alloc(); "chunkwhere: configuration is unsupported: {text}\n")?;
+        check(&rt, input.as_bytes(), "", line.as_str())?;
+    }
+    Ok(())
+}
+
+#[test]
+fn lengths_are_refused(rt: HostRuntime) -> Result<(), Fail> {
+    let rows = [
+        (
+            r#"{"name":"regular","configuration":{"chunk_shape":[1,2]}}"#,
+            INDICES,
+            "regular chunk shape and array shape have inconsistent dimensionality",
+        ),
+        (
+            REGULAR,
+            "[[0,0,0],[1,2]]",
+            "index 1: incompatible dimensionality 2, expected 3",
+        ),
+        (
+            REGULAR,
+            "[[],[1,2]]",
+            "index 0: incompatible dimensionality 0, expected 3",
+        ),
+    ];
+    for (grid, indices, text) in rows {
+        let input = document(rt.alloc(), SHAPE, grid, DEFAULT, indices)?;
         let line = format!(in rt.alloc(); "chunkwhere: {text}\n")?;
         check(&rt, input.as_bytes(), "", line.as_str())?;
     }
