@@ -224,34 +224,40 @@ fn axes_of(
 ) -> Result<Vec<EqualAxis>, AllocError>
     ensures { IfOk result (λ axes. axes.items ≡ map axis_from (zip array_shape.now chunk_shape.now)) }
 {
-    array_shape
-        .iter()
-        .zip(chunk_shape)
-        .map(|(array_size, edge)| EqualAxis {
+    let mut axes = Vec::with_capacity(alloc, array_shape.len())?;
+    axes.extend(
+        array_shape.iter().zip(chunk_shape).map(|(array_size, edge)| EqualAxis {
             array_size: *array_size,
             edge: *edge,
-        })
-        .collect(alloc)
+        }),
+    )?;
+    Ok(axes)
 }
 
 /// For each dimension the chunk that its index lies in.
 fn chunk_numbers(alloc: Global, axes: &[EqualAxis], indices: &[u64]) -> Result<Vec<u64>, AllocError>
     ensures { IfOk result (λ v. v.items ≡ map (λ p. chunk_number p.0 p.1) (zip axes.now indices.now)) }
 {
-    axes.iter()
-        .zip(indices)
-        .map(|(axis, index)| axis.chunk_of(*index))
-        .collect(alloc)
+    let mut chunk = Vec::with_capacity(alloc, axes.len())?;
+    chunk.extend(
+        axes.iter()
+            .zip(indices)
+            .map(|(axis, index)| axis.chunk_of(*index)),
+    )?;
+    Ok(chunk)
 }
 
 /// For each dimension how far behind its chunk's start its index lies.
 fn place_numbers(alloc: Global, axes: &[EqualAxis], indices: &[u64]) -> Result<Vec<u64>, AllocError>
     ensures { IfOk result (λ v. v.items ≡ map (λ p. place_number p.0 p.1) (zip axes.now indices.now)) }
 {
-    axes.iter()
-        .zip(indices)
-        .map(|(axis, index)| axis.place_of(*index))
-        .collect(alloc)
+    let mut place = Vec::with_capacity(alloc, axes.len())?;
+    place.extend(
+        axes.iter()
+            .zip(indices)
+            .map(|(axis, index)| axis.place_of(*index)),
+    )?;
+    Ok(place)
 }
 
 const INCONSISTENT: &str = "regular chunk shape and array shape have inconsistent dimensionality";
