@@ -235,23 +235,22 @@ fn lengths_are_refused(rt: HostRuntime) -> Result<(), Fail> {
         (
             r#"{"name":"regular","configuration":{"chunk_shape":[1,2]}}"#,
             INDICES,
-            "regular chunk shape and array shape have inconsistent dimensionality",
+            "chunkwhere: regular chunk shape and array shape have inconsistent dimensionality\n",
         ),
         (
             REGULAR,
             "[[0,0,0],[1,2]]",
-            "index 1: incompatible dimensionality 2, expected 3",
+            "chunkwhere: index 1: incompatible dimensionality 2, expected 3\n",
         ),
         (
             REGULAR,
             "[[],[1,2]]",
-            "index 0: incompatible dimensionality 0, expected 3",
+            "chunkwhere: index 0: incompatible dimensionality 0, expected 3\n",
         ),
     ];
-    for (grid, indices, text) in rows {
+    for (grid, indices, line) in rows {
         let input = document(rt.alloc(), SHAPE, grid, DEFAULT, indices)?;
-        let line = format!(in rt.alloc(); "chunkwhere: {text}\n")?;
-        check(&rt, input.as_bytes(), "", line.as_str())?;
+        check(&rt, input.as_bytes(), "", line)?;
     }
     Ok(())
 }
