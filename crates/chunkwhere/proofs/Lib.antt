@@ -1,6 +1,5 @@
-pub mod Chains
 pub mod DocumentMembers
-pub mod EqualAxes
+pub mod KeyEnds
 pub mod Lines
 pub mod MemberNames
 pub mod NumeralLemmas

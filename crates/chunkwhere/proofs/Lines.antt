@@ -1,12 +1,12 @@
 -- The lines so far, and what they leave to say of the indices that are left.
 use Rattle.std.proofs.Common.{◌≡◌, ◌≢◌, ℕ, zero, suc, ◌+◌, ◌<◌, ◌≤◌, List, [], ◌∷◌, ◌++◌, length, map, drop, get_or, Vec, Global, add-one, refl, sym, ap, ◌∙◌, subst, append_assoc, append-nil, arith}
 use Rattle.std.specs.List.{AllByRecursion}
-use Rattle.chunkwhere.specs.declared.incompatible_dimensionality_error.IncompatibleDimensionalityError.{IncompatibleDimensionalityError}
+use Rattle.zarrs_chunk_base.specs.declared.incompatible_dimensionality_error.IncompatibleDimensionalityError.{IncompatibleDimensionalityError}
 use Rattle.chunkwhere.specs.Answer.{HasLengthOf, IsFirstWrongLength}
 use Rattle.chunkwhere.specs.ChunkKey.{Encoding}
-use Rattle.chunkwhere.specs.Dimension.{Dimension}
+use Rattle.zarrs_chunk_base.specs.Dimension.{Dimension}
 use Rattle.chunkwhere.specs.Output.{IsLine, IsOutput}
-use Rattle.chunkwhere.specs.Refusal.{TellsLengths}
+use Rattle.zarrs_chunk_base.specs.Refusal.{TellsLengths}
 
 -- the lists of numbers in vectors
 abbrev pub lists_of : List (Vec ℕ Global) → List (List ℕ)

@@ -3,13 +3,13 @@ use Rattle.std.specs.Prelude.{◌≡◌, ◌≢◌, ℕ, zero, suc, List, [], �
 use Rattle.std.specs.List.{AllByRecursion}
 use Rattle.chunkwhere.specs.declared.run_fault.RunFault.{RunFault}
 use Rattle.chunkwhere.specs.declared.run_fault.RunFault.TheVariants.{Grid, Encoding as EncodingFault, Index}
-use Rattle.chunkwhere.specs.declared.incompatible_dimensionality_error.IncompatibleDimensionalityError.{IncompatibleDimensionalityError}
+use Rattle.zarrs_chunk_base.specs.declared.incompatible_dimensionality_error.IncompatibleDimensionalityError.{IncompatibleDimensionalityError}
 use Rattle.chunkwhere.specs.ChunkGrid.{IsGrid, IsGridFault}
 use Rattle.chunkwhere.specs.ChunkKey.{Encoding}
 use Rattle.chunkwhere.specs.ChunkKeyEncoding.{IsEncoding, IsEncodingFault}
-use Rattle.chunkwhere.specs.Dimension.{Dimension}
+use Rattle.zarrs_chunk_base.specs.Dimension.{Dimension}
 use Rattle.chunkwhere.specs.Document.{Document}
-use Rattle.chunkwhere.specs.Refusal.{TellsLengths}
+use Rattle.zarrs_chunk_base.specs.Refusal.{TellsLengths}
 use Rattle.chunkwhere.specs.Output.{IsOutput}
 
 -- the document's grid and encoding

@@ -2,11 +2,11 @@
 -- Source: Zarr V3 core, chunk grids.
 use Rattle.std.specs.Prelude.{◌≡◌, ◌≢◌, ℕ, List, [], ◌∷◌, length, Contains, String, string_bytes, codes}
 use Rattle.std.specs.declared.alloc.Global.{Global}
-use Rattle.chunkwhere.specs.declared.plugin_create_error.PluginCreateError.{PluginCreateError}
-use Rattle.chunkwhere.specs.declared.plugin_create_error.PluginCreateError.TheVariants.{NameUnsupported, ConfigurationUnsupported, Other}
+use Rattle.zarrs_chunk_base.specs.declared.plugin_create_error.PluginCreateError.{PluginCreateError}
+use Rattle.zarrs_chunk_base.specs.declared.plugin_create_error.PluginCreateError.TheVariants.{NameUnsupported, ConfigurationUnsupported, Other}
 use Rattle.chunkwhere.specs.Configuration.{IsRegularConfiguration, IsRegularFault}
-use Rattle.chunkwhere.specs.Dimension.{Dimension}
-use Rattle.chunkwhere.specs.EqualEdges.{AreEqualEdges}
+use Rattle.zarrs_chunk_base.specs.Dimension.{Dimension}
+use Rattle.zarrs_chunks.specs.EqualEdges.{AreEqualEdges}
 use Rattle.chunkwhere.specs.Metadata.{Extension, configuration_of}
 
 -- the extension names of chunk grids

@@ -1,14 +1,9 @@
 -- The keys under which chunks are stored.
 -- Source: Zarr V3 core, chunk key encodings.
 use Rattle.std.specs.Prelude.{◌≡◌, ℕ, List, ◌++◌, codes}
-use Rattle.chunkwhere.specs.declared.chunk_key_separator.ChunkKeySeparator.{ChunkKeySeparator}
-use Rattle.chunkwhere.specs.declared.chunk_key_separator.ChunkKeySeparator.TheVariants.{Slash, Dot}
+use Rattle.zarrs_chunk_base.specs.declared.chunk_key_separator.ChunkKeySeparator.{ChunkKeySeparator}
+use Rattle.zarrs_chunk_base.specs.ChunkKeySeparator.{separator_byte}
 use Rattle.chunkwhere.specs.Numeral.{IsNumerals}
-
--- the ASCII byte of a separator
-abbrev pub separator_byte : ChunkKeySeparator → ℕ
-separator_byte Slash = 47
-separator_byte Dot = 46
 
 -- default keys: `c`, and for each chunk number, in order, the separator and its numeral
 abbrev pub IsDefaultKey : ChunkKeySeparator → List ℕ → List ℕ → Type 0

@@ -2,9 +2,9 @@
 -- Source: Zarr V3 core, chunk key encodings.
 use Rattle.std.specs.Prelude.{◌≡◌, ℕ, List, [], ◌∷◌, Contains, String, string_bytes, codes}
 use Rattle.std.specs.declared.alloc.Global.{Global}
-use Rattle.chunkwhere.specs.declared.chunk_key_separator.ChunkKeySeparator.{ChunkKeySeparator}
-use Rattle.chunkwhere.specs.declared.plugin_create_error.PluginCreateError.{PluginCreateError}
-use Rattle.chunkwhere.specs.declared.plugin_create_error.PluginCreateError.TheVariants.{NameUnsupported, ConfigurationUnsupported, Other}
+use Rattle.zarrs_chunk_base.specs.declared.chunk_key_separator.ChunkKeySeparator.{ChunkKeySeparator}
+use Rattle.zarrs_chunk_base.specs.declared.plugin_create_error.PluginCreateError.{PluginCreateError}
+use Rattle.zarrs_chunk_base.specs.declared.plugin_create_error.PluginCreateError.TheVariants.{NameUnsupported, ConfigurationUnsupported, Other}
 use Rattle.chunkwhere.specs.ChunkKey.{Encoding, default_keys}
 use Rattle.chunkwhere.specs.Configuration.{IsDefaultConfiguration, IsDefaultFault}
 use Rattle.chunkwhere.specs.Metadata.{Extension, configuration_of}

@@ -5,11 +5,11 @@ use Rattle.std.specs.Cmp.Lexicographic.{slice_cmp}
 use Rattle.std.specs.declared.cmp.Ordering.TheVariants.{Greater}
 use Rattle.serde_json.specs.Data.{Data, Members}
 use Rattle.serde_json.specs.Find.{get_member, as_str}
-use Rattle.chunkwhere.specs.declared.configuration.ConfigurationFault.{ConfigurationFault}
-use Rattle.chunkwhere.specs.declared.configuration.ConfigurationFault.TheVariants.{UnknownField, MissingField, WrongValue}
-use Rattle.chunkwhere.specs.declared.chunk_key_separator.ChunkKeySeparator.{ChunkKeySeparator}
-use Rattle.chunkwhere.specs.declared.chunk_key_separator.ChunkKeySeparator.TheVariants.{Slash}
-use Rattle.chunkwhere.specs.ChunkKey.{separator_byte}
+use Rattle.zarrs_chunk_base.specs.declared.configuration_fault.ConfigurationFault.{ConfigurationFault}
+use Rattle.zarrs_chunk_base.specs.declared.configuration_fault.ConfigurationFault.TheVariants.{UnknownField, MissingField, WrongValue}
+use Rattle.zarrs_chunk_base.specs.declared.chunk_key_separator.ChunkKeySeparator.{ChunkKeySeparator}
+use Rattle.zarrs_chunk_base.specs.declared.chunk_key_separator.ChunkKeySeparator.TheVariants.{Slash}
+use Rattle.zarrs_chunk_base.specs.ChunkKeySeparator.{separator_byte}
 use Rattle.chunkwhere.specs.Json.{edge_of, list_of}
 
 -- of the names with P, the first in the order of their bytes

@@ -5,7 +5,7 @@ use Rattle.serde_json.specs.Data.{Data}
 use Rattle.serde_json.specs.Read.{read}
 use Rattle.serde_json.specs.Find.{get, as_object}
 use Rattle.chunkwhere.specs.declared.document.Document.{Document as DocumentValue}
-use Rattle.chunkwhere.specs.declared.metadata.MetadataError.{MetadataError}
+use Rattle.zarrs_chunk_base.specs.declared.metadata_error.MetadataError.{MetadataError}
 use Rattle.chunkwhere.specs.declared.run_fault.RunFault.{RunFault}
 use Rattle.chunkwhere.specs.declared.run_fault.RunFault.TheVariants.{NotJson, NotObject, Missing, WrongValue, Metadata}
 use Rattle.chunkwhere.specs.Json.{size_of, list_of}

@@ -4,15 +4,11 @@ pub mod ChunkKey
 pub mod ChunkKeyEncoding
 pub mod Configuration
 pub mod DefaultChunkKeyEncoding
-pub mod Dimension
 pub mod Document
-pub mod EqualEdges
 pub mod Json
 pub mod Metadata
 pub mod Numeral
 pub mod Output
-pub mod Refusal
-pub mod RegularChunkGrid
 pub mod Run
 pub mod RunFault
 pub mod Watched

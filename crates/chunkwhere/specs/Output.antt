@@ -1,6 +1,6 @@
 -- What the program writes: a line for each index list.
 use Rattle.std.specs.Prelude.{◌≡◌, ℕ, List, [], ◌∷◌, ◌++◌, codes}
-use Rattle.chunkwhere.specs.Dimension.{Dimension, InBox, IsPlace}
+use Rattle.zarrs_chunk_base.specs.Dimension.{Dimension, InBox, IsPlace}
 use Rattle.chunkwhere.specs.ChunkKey.{Encoding, IsKey}
 use Rattle.chunkwhere.specs.Numeral.{IsNumerals}
 

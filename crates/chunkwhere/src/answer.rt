@@ -7,19 +7,17 @@ ghost use Rattle.chunkwhere.specs.DefaultChunkKeyEncoding.{encoding_of};
 ghost use Rattle.chunkwhere.specs.Document.{document_of};
 ghost use Rattle.chunkwhere.specs.Numeral.{IsNumerals};
 ghost use Rattle.chunkwhere.specs.Output.{IsLine, IsOutput};
-ghost use Rattle.chunkwhere.specs.Refusal.{IfRefused, TellsLengths};
-ghost use Rattle.chunkwhere.specs.RegularChunkGrid.{dimensions_of};
+ghost use Rattle.zarrs_chunk_base.specs.Refusal.{IfRefused, TellsLengths};
 ghost use Rattle.chunkwhere.specs.RunFault.{OrMemory};
 
-use crate::chunk_grid::regular::RegularChunkGrid;
 use crate::chunk_key_encoding::default::DefaultChunkKeyEncoding;
 use crate::document::Document;
-use crate::incompatible_dimensionality_error::IncompatibleDimensionalityError;
 use crate::numerals::append_numerals;
-use crate::refusal::Refusal;
 use crate::run_fault::RunFault;
 use crate::{chunk_grid, chunk_key_encoding};
 use std::alloc::{AllocError, Global};
+use zarrs_chunk_base::{IncompatibleDimensionalityError, Refusal};
+use zarrs_chunks::ChunkGridTraits;
 
 /// The whole text that answers a document, or the first fault.
 pub(crate) fn answer(alloc: Global, document: &Document) -> Result<String, RunFault>
@@ -40,16 +38,16 @@ pub(crate) fn answer(alloc: Global, document: &Document) -> Result<String, RunFa
 }
 
 /// A line for each index list.
-fn lines(
+fn lines<G: ChunkGridTraits>(
     alloc: Global,
-    grid: &RegularChunkGrid,
+    grid: &G,
     encoding: &DefaultChunkKeyEncoding,
     indices: &[Vec<u64>],
 ) -> Result<String, RunFault>
     ensures { MatchResult result
-        (λ text. AllByRecursion (HasLengthOf (dimensions_of grid.now)) (map (λ index. index.items) indices.now)
-        × IsOutput (dimensions_of grid.now) (encoding_of encoding.now) (map (λ index. index.items) indices.now) (string_bytes text))
-        (OrMemory (IsIndexFault (dimensions_of grid.now) (map (λ index. index.items) indices.now))) }
+        (λ text. AllByRecursion (HasLengthOf (G.dimensions grid.now)) (map (λ index. index.items) indices.now)
+        × IsOutput (G.dimensions grid.now) (encoding_of encoding.now) (map (λ index. index.items) indices.now) (string_bytes text))
+        (OrMemory (IsIndexFault (G.dimensions grid.now) (map (λ index. index.items) indices.now))) }
 {
     let mut text = String::new(alloc);
     for (position, index) in indices.iter().enumerate() {
@@ -64,19 +62,19 @@ fn lines(
 
 /// Appends the line of an index list: the key of its chunk and its place there, or `-` where no
 /// chunk holds it.
-fn append_line(
+fn append_line<G: ChunkGridTraits>(
     alloc: Global,
     text: &mut String,
-    grid: &RegularChunkGrid,
+    grid: &G,
     encoding: &DefaultChunkKeyEncoding,
     index: &[u64],
 ) -> Result<(), Refusal<IncompatibleDimensionalityError>>
     ensures { MatchResult result
-        (λ _. HasLengthOf (dimensions_of grid.now) index.now
-        × (line : List ℕ) × IsLine (dimensions_of grid.now) (encoding_of encoding.now) index.now line
+        (λ _. HasLengthOf (G.dimensions grid.now) index.now
+        × (line : List ℕ) × IsLine (G.dimensions grid.now) (encoding_of encoding.now) index.now line
         × (string_bytes text.new ≡ string_bytes text.old ++ line))
-        (λ refusal. IfRefused refusal (λ e. (length index.now ≢ length (dimensions_of grid.now))
-        × TellsLengths (length index.now) (length (dimensions_of grid.now)) e)) }
+        (λ refusal. IfRefused refusal (λ e. (length index.now ≢ length (G.dimensions grid.now))
+        × TellsLengths (length index.now) (length (G.dimensions grid.now)) e)) }
 {
     let chunk = grid.chunk_indices(alloc, index)?;
     let place = grid.chunk_element_indices(alloc, index)?;
@@ -84,12 +82,13 @@ fn append_line(
         text.push_str("-\n")?;
         return Ok(());
     };
-    append_found(text, encoding, &chunk, &place)?;
+    append_found(alloc, text, encoding, &chunk, &place)?;
     Ok(())
 }
 
 /// Appends the key of a chunk and a place in it.
 fn append_found(
+    alloc: Global,
     text: &mut String,
     encoding: &DefaultChunkKeyEncoding,
     chunk: &[u64],
@@ -98,7 +97,8 @@ fn append_found(
     ensures { OnOk result ((key : List ℕ) × (numbers : List ℕ) × IsKey (encoding_of encoding.now) chunk.now key
         × IsNumerals 32 place.now numbers × (string_bytes text.new ≡ string_bytes text.old ++ (key ++ numbers ++ codes "\n"))) }
 {
-    encoding.append_key(text, chunk)?;
+    text.push_str(encoding.encode(alloc, chunk)?.as_str())?;
     append_numerals(text, ' ', place)?;
-    text.push_str("\n")
+    text.push_str("\n")?;
+    Ok(())
 }

@@ -4,14 +4,13 @@ pub(crate) mod regular;
 ghost use Rattle.std.specs.Prelude.{MatchResult};
 ghost use Rattle.chunkwhere.specs.ChunkGrid.{IsGrid, IsGridFault};
 ghost use Rattle.chunkwhere.specs.Metadata.{extension_of};
-ghost use Rattle.chunkwhere.specs.Refusal.{IfRefused};
-ghost use Rattle.chunkwhere.specs.RegularChunkGrid.{dimensions_of};
+ghost use Rattle.zarrs_chunk_base.specs.Refusal.{IfRefused};
+ghost use Rattle.zarrs_chunks.specs.RegularChunkGrid.{dimensions_of};
 
 use crate::metadata::MetadataV3;
-use crate::plugin_create_error::PluginCreateError;
-use crate::refusal::Refusal;
-use regular::RegularChunkGrid;
 use std::alloc::Global;
+use zarrs_chunk_base::{PluginCreateError, Refusal};
+use zarrs_chunks::RegularChunkGrid;
 
 /// The chunk grid that an array's metadata stands for.
 ///
@@ -27,7 +26,7 @@ pub(crate) fn from_metadata(
         (λ refusal. IfRefused refusal (IsGridFault (extension_of metadata.now) array_shape.now)) }
 {
     match metadata.name() {
-        "regular" => RegularChunkGrid::create(alloc, metadata, array_shape),
+        "regular" => regular::create(alloc, metadata, array_shape),
         name => Err(Refusal::Refused(PluginCreateError::NameUnsupported(String::from_str(
             alloc, name,
         )?))),

@@ -5,13 +5,12 @@ ghost use Rattle.std.specs.Prelude.{MatchResult};
 ghost use Rattle.chunkwhere.specs.ChunkKeyEncoding.{IsEncoding, IsEncodingFault};
 ghost use Rattle.chunkwhere.specs.DefaultChunkKeyEncoding.{encoding_of};
 ghost use Rattle.chunkwhere.specs.Metadata.{extension_of};
-ghost use Rattle.chunkwhere.specs.Refusal.{IfRefused};
+ghost use Rattle.zarrs_chunk_base.specs.Refusal.{IfRefused};
 
 use crate::metadata::MetadataV3;
-use crate::plugin_create_error::PluginCreateError;
-use crate::refusal::Refusal;
 use default::DefaultChunkKeyEncoding;
 use std::alloc::Global;
+use zarrs_chunk_base::{PluginCreateError, Refusal};
 
 /// The chunk key encoding that an array's metadata stands for.
 ///

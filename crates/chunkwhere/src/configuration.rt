@@ -4,37 +4,12 @@ ghost use Rattle.std.specs.List.{list_any};
 ghost use Rattle.std.specs.BTreeMap.{keys, IsOrdered};
 ghost use Rattle.serde_json.specs.Find.{get_member};
 ghost use Rattle.chunkwhere.specs.Configuration.{HasNoUnknown, IsUnknownFault};
-ghost use Rattle.chunkwhere.specs.Refusal.{IfRefused};
+ghost use Rattle.zarrs_chunk_base.specs.Refusal.{IfRefused};
 ghost use Rattle.serde_json.specs.View.{view, members_view};
 
-use crate::refusal::Refusal;
-use serde_json::{Map, Value};
+use serde_json::Value;
 use std::alloc::Global;
-use thiserror::Error;
-
-/// The members of an extension's configuration.
-pub type Configuration = Map<String, Value>;
-
-/// Why members are no configuration of their kind, in the order in which faults are looked for.
-#[derive(Debug, Drop, Error)]
-pub enum ConfigurationFault {
-    /// A member that the configuration doesn't have; of several the first by name.
-    #[error("unknown field `{field}`, expected {expected}")]
-    UnknownField {
-        field: String,
-        expected: &'static str,
-    },
-    /// A member that has to be there; of several the first by name.
-    #[error("missing field `{field}`")]
-    MissingField {
-        field: &'static str,
-    },
-    /// A member whose value isn't of its form; of several the first by name.
-    #[error("wrong value in field `{field}`")]
-    WrongValue {
-        field: &'static str,
-    },
-}
+use zarrs_chunk_base::{Configuration, ConfigurationFault, Refusal};
 
 /// The member of a name.
 pub(crate) fn member<'m>(members: &'m Configuration, name: &str) -> Option<&'m Value>

@@ -9,10 +9,10 @@ ghost use Rattle.chunkwhere.specs.RunFault.{OrMemory};
 
 use crate::from_tree::FromTree;
 use crate::metadata::MetadataV3;
-use crate::refusal::Refusal;
 use crate::run_fault::RunFault;
 use serde_json::Value;
 use std::alloc::Global;
+use zarrs_chunk_base::Refusal;
 
 /// An array's metadata, and the indices of the elements to look up.
 #[derive(Drop)]

@@ -20,18 +20,14 @@
 mod answer;
 mod chunk_grid;
 mod chunk_key_encoding;
-mod chunk_key_separator;
 mod configuration;
 mod document;
 mod from_tree;
-mod incompatible_dimensionality_error;
 mod input;
 mod metadata;
 mod numerals;
 mod output;
-mod plugin_create_error;
 mod program;
-mod refusal;
 mod run_fault;
 #[cfg(test)]
 mod tests;

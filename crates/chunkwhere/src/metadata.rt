@@ -3,33 +3,11 @@ ghost use Rattle.std.specs.Prelude.{◌≡◌, Bool, MatchResult, Option, codes,
 ghost use Rattle.serde_json.specs.Find.{get, as_bool, as_object};
 ghost use Rattle.serde_json.specs.View.{view, members_view};
 ghost use Rattle.chunkwhere.specs.Metadata.{IsMisformed, IsOptional};
-ghost use Rattle.chunkwhere.specs.Refusal.{IfRefused};
+ghost use Rattle.zarrs_chunk_base.specs.Refusal.{IfRefused};
 
-use crate::configuration::Configuration;
-use crate::refusal::Refusal;
 use serde_json::Value;
 use std::alloc::Global;
-use thiserror::Error;
-
-/// Why a JSON tree is no extension's metadata, in the order in which faults are looked for.
-#[derive(Clone, Copy, Debug, PartialEq, Eq, Error)]
-pub enum MetadataError {
-    /// Neither a text nor an object.
-    #[error("not an extension")]
-    NotAnExtension,
-    /// An object without a member `name`.
-    #[error("name is missing")]
-    NameMissing,
-    /// A `name` that is no text.
-    #[error("name is not a text")]
-    NameNotText,
-    /// A `configuration` that is no object.
-    #[error("configuration is not an object")]
-    ConfigurationNotObject,
-    /// A `must_understand` that is no truth value.
-    #[error("must_understand is not a truth value")]
-    MustUnderstandNotBool,
-}
+use zarrs_chunk_base::{Configuration, MetadataError, Refusal};
 
 /// The metadata of an extension of Zarr V3.
 #[derive(Debug, Drop)]
@@ -42,7 +20,7 @@ impl MetadataV3 {
     ghost use Rattle.std.specs.Prelude.{◌≡◌, MatchResult, option_map, string_bytes};
     ghost use Rattle.serde_json.specs.View.{view, members_view};
     ghost use Rattle.chunkwhere.specs.Metadata.{extension_of, IsExtension, IsMetadataFault};
-    ghost use Rattle.chunkwhere.specs.Refusal.{IfRefused};
+    ghost use Rattle.zarrs_chunk_base.specs.Refusal.{IfRefused};
 
     /// The metadata that a tree stands for: a text, which is the name alone, or an object with a
     /// `name` and an optional `configuration`. Its `must_understand` has to be a truth value and

@@ -2,11 +2,9 @@
 ghost use Rattle.std.specs.Prelude.{◌≡◌};
 ghost use Rattle.chunkwhere.specs.declared.run_fault.RunFault.TheVariants.{Memory};
 
-use crate::incompatible_dimensionality_error::IncompatibleDimensionalityError;
-use crate::metadata::MetadataError;
-use crate::plugin_create_error::PluginCreateError;
 use std::alloc::{AllocError, AllocFailed};
 use thiserror::Error;
+use zarrs_chunk_base::{IncompatibleDimensionalityError, MetadataError, PluginCreateError};
 
 /// Why a run stops. Nothing has been written, save on `Write`.
 #[derive(Debug, Drop, Error)]

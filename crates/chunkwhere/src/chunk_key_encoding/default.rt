@@ -1,17 +1,17 @@
 //! The `default` encoding: `c`, and for each chunk number the separator and the number.
 ghost use Rattle.std.specs.Prelude.{MatchOption};
 ghost use Rattle.serde_json.specs.View.{view};
-ghost use Rattle.chunkwhere.specs.declared.chunk_key_separator.ChunkKeySeparator.{ChunkKeySeparator};
+ghost use Rattle.zarrs_chunk_base.specs.declared.chunk_key_separator.ChunkKeySeparator.{ChunkKeySeparator};
 ghost use Rattle.chunkwhere.specs.Configuration.{IsSeparator};
 
-use crate::chunk_key_separator::ChunkKeySeparator;
-use crate::configuration::{Configuration, ConfigurationFault, member, refuse_unknown};
+use crate::configuration::{member, refuse_unknown};
 use crate::metadata::MetadataV3;
 use crate::numerals::append_numerals;
-use crate::plugin_create_error::PluginCreateError;
-use crate::refusal::Refusal;
 use serde_json::{Map, Value};
 use std::alloc::{AllocError, Global};
+use zarrs_chunk_base::{
+    ChunkKeySeparator, Configuration, ConfigurationFault, PluginCreateError, Refusal, StoreKey,
+};
 
 /// The configuration of the `default` encoding.
 #[derive(Clone, Copy, Debug, PartialEq, Eq)]
@@ -23,7 +23,7 @@ impl DefaultChunkKeyEncodingConfiguration {
     ghost use Rattle.std.specs.Prelude.{MatchResult};
     ghost use Rattle.serde_json.specs.View.{members_view};
     ghost use Rattle.chunkwhere.specs.Configuration.{IsDefaultConfiguration, IsDefaultFault};
-    ghost use Rattle.chunkwhere.specs.Refusal.{IfRefused};
+    ghost use Rattle.zarrs_chunk_base.specs.Refusal.{IfRefused};
 
     /// The configuration that members stand for: `separator`, the text `/` or `.`, and `/` where
     /// there is none.
@@ -69,12 +69,12 @@ pub struct DefaultChunkKeyEncoding {
 }
 
 impl DefaultChunkKeyEncoding {
-    ghost use Rattle.std.specs.Prelude.{◌≡◌, ◌++◌, List, ℕ, MatchResult, OnOk, string_bytes};
+    ghost use Rattle.std.specs.Prelude.{◌≡◌, IfOk, MatchResult};
     ghost use Rattle.chunkwhere.specs.ChunkKey.{IsKey, default_keys};
     ghost use Rattle.chunkwhere.specs.ChunkKeyEncoding.{IsDefaultEncoding, IsDefaultEncodingFault};
     ghost use Rattle.chunkwhere.specs.DefaultChunkKeyEncoding.{encoding_of};
     ghost use Rattle.chunkwhere.specs.Metadata.{extension_of};
-    ghost use Rattle.chunkwhere.specs.Refusal.{IfRefused};
+    ghost use Rattle.zarrs_chunk_base.specs.Refusal.{IfRefused};
 
     /// The encoding with this separator.
     pub fn new(separator: ChunkKeySeparator) -> DefaultChunkKeyEncoding
@@ -106,15 +106,16 @@ impl DefaultChunkKeyEncoding {
         }
     }
 
-    /// Appends the key of a chunk to a text.
+    /// The key of a chunk.
     ///
     /// # Errors
-    /// There was no memory; the text then ends in a beginning of the key.
-    pub fn append_key(&self, text: &mut String, chunk: &[u64]) -> Result<(), AllocError>
-        ensures { OnOk result ((key : List ℕ) × IsKey (encoding_of self.now) chunk.now key
-            × (string_bytes text.new ≡ string_bytes text.old ++ key)) }
+    /// There was no memory.
+    pub fn encode(&self, alloc: Global, chunk: &[u64]) -> Result<StoreKey, AllocError>
+        ensures { IfOk result (IsKey (encoding_of self.now) chunk.now) }
     {
-        text.push_str("c")?;
-        append_numerals(text, self.separator.as_char(), chunk)
+        let mut text = String::from_str(alloc, "c")?;
+        append_numerals(&mut text, self.separator.as_char(), chunk)?;
+        // A key ends in `c` or a digit, so it is a store key.
+        Ok(StoreKey::new(text).unwrap())
     }
 }

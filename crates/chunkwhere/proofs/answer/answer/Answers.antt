@@ -1,5 +1,5 @@
 use Rattle.std.proofs.Common.{inr}
-use Rattle.chunkwhere.specs.RegularChunkGrid.{dimensions_of}
+use Rattle.zarrs_chunks.specs.RegularChunkGrid.{dimensions_of}
 use Rattle.chunkwhere.proofs.answer.answer.Goals as goal
 
 pub returns-in-Err-Refused : goal.returns-in-Err-Refused

@@ -1,11 +1,10 @@
 use Rattle.std.proofs.Common.{drop, map, string_bytes}
 use Rattle.chunkwhere.specs.DefaultChunkKeyEncoding.{encoding_of}
-use Rattle.chunkwhere.specs.RegularChunkGrid.{dimensions_of}
 use Rattle.chunkwhere.proofs.Lines.{IsSoFar}
 use Rattle.chunkwhere.proofs.answer.lines.Given as goal
 
 -- the text has the lines of the indices so far
 abbrev pub invariant-loop-position : goal.invariant-loop-position
-invariant-loop-position l =
+invariant-loop-position g l =
     let all = map (λ index. index.items) l.indices in
-    IsSoFar (dimensions_of l.grid) (encoding_of l.encoding) all (drop l.position all) l.position (string_bytes l.text)
+    IsSoFar (g.G.ChunkGridTraits.dimensions l.grid) (encoding_of l.encoding) all (drop l.position all) l.position (string_bytes l.text)

@@ -1,6 +1,6 @@
 use Rattle.std.proofs.Common.{arith}
 use Rattle.serde_json.specs.View.{view}
-use Rattle.chunkwhere.specs.declared.chunk_key_separator.ChunkKeySeparator.{ChunkKeySeparator}
+use Rattle.zarrs_chunk_base.specs.declared.chunk_key_separator.ChunkKeySeparator.{ChunkKeySeparator}
 use Rattle.chunkwhere.specs.Configuration.{IsSeparator}
 use Rattle.chunkwhere.proofs.MemberNames.{least_wrong}
 use Rattle.chunkwhere.proofs.chunk_key_encoding.default.DefaultChunkKeyEncodingConfiguration.from_tree.Goals as goal

@@ -1,0 +1,20 @@
+-- What a copy of an error has in common with it.
+use Rattle.std.specs.Prelude.{◌≡◌, string_bytes}
+use Rattle.zarrs_chunk_base.specs.declared.configuration_fault.ConfigurationFault.{ConfigurationFault}
+use Rattle.zarrs_chunk_base.specs.declared.configuration_fault.ConfigurationFault.TheVariants.{UnknownField, MissingField, WrongValue}
+use Rattle.zarrs_chunk_base.specs.declared.plugin_create_error.PluginCreateError.{PluginCreateError}
+use Rattle.zarrs_chunk_base.specs.declared.plugin_create_error.PluginCreateError.TheVariants.{NameUnsupported, ConfigurationUnsupported, Other}
+
+-- the same fault, of equal texts
+abbrev pub IsSameFault : ConfigurationFault → ConfigurationFault → Type 0
+IsSameFault (UnknownField f e) (UnknownField g d) = (string_bytes f ≡ string_bytes g) × (e.now ≡ d.now)
+IsSameFault (MissingField f) (MissingField g) = f.now ≡ g.now
+IsSameFault (WrongValue f) (WrongValue g) = f.now ≡ g.now
+IsSameFault _ _ = ⊥
+
+-- the same refusal, of equal texts
+abbrev pub IsSameRefusal : PluginCreateError → PluginCreateError → Type 0
+IsSameRefusal (NameUnsupported s) (NameUnsupported t) = string_bytes s ≡ string_bytes t
+IsSameRefusal (ConfigurationUnsupported f) (ConfigurationUnsupported g) = IsSameFault f g
+IsSameRefusal (Other s) (Other t) = string_bytes s ≡ string_bytes t
+IsSameRefusal _ _ = ⊥

@@ -1,0 +1,63 @@
+//! What every layer of chunk grids and chunk keys speaks of: boxes of indices, keys in a store, and why
+//! calls are refused.
+//!
+//! Every call that takes memory is passed the allocator and can answer that there is none. A box of
+//! indices is made of ranges or of a start and a shape, and never ends past the greatest `u64`:
+//!
+//! ```text
+//! let subset = ArraySubset::new_with_ranges(alloc, &[3..5, 5..9])?;
+//! subset.contains(&[4, 8])     // true
+//! subset.contains(&[5, 8])     // false: a range ends before its end
+//! StoreKey::new(text)?         // refused where the text ends in a slash
+//! ```
+//!
+//! | Module | What it holds |
+//! |---|---|
+//! | `array_subset`, `array_subset_error`, `box_end_error` | a box of indices, and why there is none |
+//! | `store_key`, `store_key_error` | the key of a value in a store, and a text that is none |
+//! | `chunk_key_separator` | what stands between the parts of a chunk key |
+//! | `refusal` | a call's own refusal, or want of memory |
+//! | `incompatible_dimensionality_error` | a list of another length than there are dimensions |
+//! | `plugin_create_error`, `configuration_fault`, `metadata_error` | why an extension isn't made of its metadata |
+#![tactic(auto)]
+
+use serde_json::{Map, Value};
+use std::num::NonZeroU64;
+
+mod array_subset;
+mod array_subset_error;
+mod box_end_error;
+mod chunk_key_separator;
+mod configuration_fault;
+mod incompatible_dimensionality_error;
+mod metadata_error;
+mod plugin_create_error;
+mod refusal;
+mod store_key;
+mod store_key_error;
+#[cfg(test)]
+mod tests;
+
+pub use array_subset::ArraySubset;
+pub use array_subset_error::ArraySubsetError;
+pub use box_end_error::BoxEndError;
+pub use chunk_key_separator::ChunkKeySeparator;
+pub use configuration_fault::ConfigurationFault;
+pub use incompatible_dimensionality_error::IncompatibleDimensionalityError;
+pub use metadata_error::MetadataError;
+pub use plugin_create_error::PluginCreateError;
+pub use refusal::Refusal;
+pub use store_key::StoreKey;
+pub use store_key_error::StoreKeyError;
+
+/// Indices of an element, or the numbers of a chunk, one a dimension.
+pub type ArrayIndices = Vec<u64>;
+
+/// Sizes of an array or of a grid, one a dimension.
+pub type ArrayShape = Vec<u64>;
+
+/// Edges of a chunk, one a dimension, in elements.
+pub type ChunkShape = Vec<NonZeroU64>;
+
+/// The members of an extension's configuration.
+pub type Configuration = Map<String, Value>;

@@ -1,0 +1,44 @@
+//! Why a call that takes memory gives no answer.
+ghost use Rattle.std.specs.Prelude.{◌≡◌};
+ghost use Rattle.zarrs_chunk_base.specs.declared.refusal.Refusal.TheVariants.{Memory};
+
+use std::alloc::{AllocError, AllocFailed};
+use std::error::Error;
+use std::fmt;
+use std::fmt::{Debug, Display};
+
+/// A call's own refusal, or want of memory.
+#[derive(Debug, Drop)]
+pub enum Refusal<E> {
+    Refused(E),
+    Memory(AllocError),
+}
+
+impl<E> From<AllocError> for Refusal<E> {
+    ghost from_gives = { λ e r. r ≡ Memory e };
+
+    fn from(error: AllocError) -> Refusal<E> {
+        Refusal::Memory(error)
+    }
+}
+
+impl<E, T: Drop> From<AllocFailed<T>> for Refusal<E> {
+    ghost use Rattle.std.specs.Prelude.{alloc_error};
+
+    ghost from_gives = { λ _ r. r ≡ Memory alloc_error };
+
+    fn from(_failed: AllocFailed<T>) -> Refusal<E> {
+        Refusal::Memory(AllocError)
+    }
+}
+
+impl<E: Display> Display for Refusal<E> {
+    fn fmt<W: fmt::Write>(&self, f: &mut fmt::Formatter<W>) -> fmt::Result {
+        match self {
+            Refusal::Refused(error) => write!(f, "{error}"),
+            Refusal::Memory(_) => f.write_str("out of memory"),
+        }
+    }
+}
+
+impl<E: Debug + Display + Drop> Error for Refusal<E> {}

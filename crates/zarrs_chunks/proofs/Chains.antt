@@ -1,0 +1,66 @@
+-- In a chain an index lies in one chunk at most, and so its box and its place are the only ones.
+use Rattle.std.proofs.Common.{◌≡◌, ◌↔◌, IfOk, Ok, Err, Option, Some, None, Vec, Global, option_map, ℕ, zero, suc, ◌+◌, ◌<◌, ◌≤◌, IsTrue, List, [], ◌∷◌, refl, sym, ap, subst, ⊎_elim, add-one, arith}
+use Rattle.std.proofs.lemmas.Bool.{cases_lt}
+use Rattle.std.specs.List.{AllByRecursion}
+use Rattle.zarrs_chunk_base.specs.Dimension.{Dimension, Holds, IsChain, InBox}
+use Rattle.zarrs_chunks.specs.LookUp.{Looked, AnswersChunk}
+
+-- a chunk ends before a later one starts
+ends_before : (d : Dimension) → IsChain d → (c m : ℕ) → c ≤ m → IsTrue (d.has_chunk (m + 1)) → d.end c ≤ d.start (m + 1)
+ends_before d chain c zero below has =
+    let first : c ≡ zero = omega arith in
+    let gap = chain.no_gap zero has in
+    subst (λ k. d.end k ≤ d.start (zero + 1)) (sym first) (omega (arith, gap.1))
+ends_before d chain c (suc m) below has =
+    let gap = chain.no_gap (suc m) has in
+    let holds_something : d.start (suc m) < d.end (suc m) = chain.not_empty (suc m) gap.0 in
+    ⊎_elim
+    (λ (before : c < suc m).
+    let rest : d.end c ≤ d.start (m + 1) = ends_before d chain c m (omega arith) (rw (add-one) gap.0) in
+    let same : d.start (m + 1) ≡ d.start (suc m) = ap d.start (add-one m) in
+    omega (arith, gap.1))
+    (λ (after : suc m ≤ c). let same : c ≡ suc m = omega arith in subst (λ k. d.end k ≤ d.start (suc m + 1)) (sym same) (omega (arith, gap.1)))
+    (cases_lt c (suc m))
+
+-- no index lies in a chunk and in a later one
+not_later : (d : Dimension) → IsChain d → (c e i : ℕ) → Holds d c i → Holds d e i → c < e → ⊥
+not_later d chain c zero i first second before = absurd (omega arith)
+not_later d chain c (suc m) i first second before =
+    let has : IsTrue (d.has_chunk (m + 1)) = rw add-one second.chunk in
+    let apart : d.end c ≤ d.start (m + 1) = ends_before d chain c m (omega arith) has in
+    let same : d.start (m + 1) ≡ d.start (suc m) = ap d.start (add-one m) in
+    let low = first.below in
+    let high = second.from in
+    absurd (omega arith)
+
+same_chunk : (d : Dimension) → IsChain d → (c e i : ℕ) → Holds d c i → Holds d e i → c ≡ e
+same_chunk d chain c e i first second =
+    ⊎_elim (λ before. absurd (not_later d chain c e i first second before))
+    (λ le. ⊎_elim (λ after. absurd (not_later d chain e c i second first after)) (λ ge. let same : c ≡ e = omega arith in same) (cases_lt e c))
+    (cases_lt c e)
+
+-- an index lies in the box of one chunk at most
+pub same_box : (ds : List Dimension) (chunk other index : List ℕ) → AllByRecursion IsChain ds → InBox ds chunk index → InBox ds other index → chunk ≡ other
+same_box [] [] [] [] chains first second = refl
+same_box (d ∷ ds) (c ∷ chunk) (e ∷ other) (i ∷ index) chains first second =
+    let here = same_chunk d chains.0 c e i first.0 second.0 in
+    let rest = same_box ds chunk other index chains.1 first.1 second.1 in
+    cc
+same_box [] [] [] (_ ∷ _) chains first second = absurd first
+same_box [] [] (_ ∷ _) _ chains first second = absurd second
+same_box [] (_ ∷ _) _ _ chains first second = absurd first
+same_box (_ ∷ _) [] _ _ chains first second = absurd first
+same_box (_ ∷ _) (_ ∷ _) [] _ chains first second = absurd second
+same_box (_ ∷ _) (_ ∷ _) (_ ∷ _) [] chains first second = absurd first
+
+-- what `chunk_indices` names is the chunk whose box holds the index
+pub names_the_home : (ds : List Dimension) (index : List ℕ) → AllByRecursion IsChain ds → (r : Looked ℕ) → AnswersChunk ds index r
+    → IfOk r (λ named. (chunk : List ℕ) → InBox ds chunk index ↔ option_map (λ v. v.items) named ≡ Some chunk)
+names_the_home ds index chains (Ok (Some v)) h =
+    λ chunk. (λ box. ap Some (same_box ds v.items chunk index chains h.1 box), λ same. subst (λ c. InBox ds c index) (some_is same) h.1) where
+      some_is : {chunk : List ℕ} → option_map (λ v. v.items) (Some v) ≡ Some chunk → v.items ≡ chunk
+      some_is same = cc
+names_the_home ds index chains (Ok None) h = λ chunk. (λ box. absurd (h.1 chunk box), λ same. absurd (none_is same)) where
+  none_is : {chunk : List ℕ} → option_map {T = Vec ℕ Global} (λ v. v.items) None ≡ Some chunk → ⊥
+  none_is same = cc
+names_the_home ds index chains (Err e) h = tt

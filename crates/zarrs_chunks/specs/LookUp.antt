@@ -1,0 +1,38 @@
+-- What the look-ups of a chunk grid answer, over its dimensions.
+-- Sources: Zarr V3 core, chunk grids and the regular grid; ZEP 3, variable chunks.
+use Rattle.std.specs.Prelude.{ℕ, List, length, map, Option, Result, Vec}
+use Rattle.std.specs.Int.NonZero.{non_zero_u64_get}
+use Rattle.std.specs.declared.alloc.Global.{Global}
+use Rattle.std.specs.declared.num.NonZeroU64.{NonZeroU64}
+use Rattle.zarrs_chunk_base.specs.declared.incompatible_dimensionality_error.IncompatibleDimensionalityError.{IncompatibleDimensionalityError}
+use Rattle.zarrs_chunk_base.specs.declared.refusal.Refusal.{Refusal}
+use Rattle.zarrs_chunk_base.specs.Dimension.{Dimension, InBox, IsChunk, IsOrigin, IsPlace, IsShape}
+use Rattle.zarrs_chunk_base.specs.Greatest.{AllFit}
+use Rattle.zarrs_chunk_base.specs.Refusal.{Answers}
+
+-- a look-up's result: a list of numbers, none, or why it is refused
+abbrev pub Looked : Type 0 → Type 0
+Looked X = Result (Option (Vec X Global)) (Refusal IncompatibleDimensionalityError)
+
+-- the shape of a chunk, and none where the list names no chunk
+abbrev pub AnswersShape : List Dimension → List ℕ → Looked NonZeroU64 → Type 0
+AnswersShape ds chunk = Answers (length chunk) (length ds) (λ shape. IsShape ds chunk (map non_zero_u64_get shape.items)) (¬ IsChunk ds chunk)
+
+-- the same in plain numbers
+abbrev pub AnswersShapeNumbers : List Dimension → List ℕ → Looked ℕ → Type 0
+AnswersShapeNumbers ds chunk = Answers (length chunk) (length ds) (λ shape. IsShape ds chunk shape.items) (¬ IsChunk ds chunk)
+
+-- the origin of a chunk, and none where the list names no chunk or one that starts past the greatest number
+abbrev pub AnswersOrigin : List Dimension → List ℕ → Looked ℕ → Type 0
+AnswersOrigin ds chunk =
+    Answers (length chunk) (length ds) (λ origin. IsOrigin ds chunk origin.items) ((origin : List ℕ) → IsOrigin ds chunk origin → ¬ AllFit origin)
+
+-- the chunk whose box holds the index, and none where no box does
+abbrev pub AnswersChunk : List Dimension → List ℕ → Looked ℕ → Type 0
+AnswersChunk ds index = Answers (length index) (length ds) (λ chunk. InBox ds chunk.items index) ((chunk : List ℕ) → ¬ InBox ds chunk index)
+
+-- the index's place in the chunk whose box holds it, and none where no box does
+abbrev pub AnswersPlace : List Dimension → List ℕ → Looked ℕ → Type 0
+AnswersPlace ds index =
+    Answers (length index) (length ds) (λ place. (chunk : List ℕ) × InBox ds chunk index × IsPlace ds chunk index place.items)
+    ((chunk : List ℕ) → ¬ InBox ds chunk index)

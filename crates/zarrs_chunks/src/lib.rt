@@ -1,0 +1,31 @@
+//! Chunk grids: in which chunk of a large array an element lies, and at which place there.
+//!
+//! A grid is a list of dimensions, and a dimension is a chain of intervals. [`ChunkGridTraits`] says what
+//! every grid answers, over its dimensions; [`laws`] says what follows for all grids, also for those of
+//! other crates. Every call that takes memory is passed the allocator and can answer that there is none.
+//!
+//! ```text
+//! let grid = RegularChunkGrid::new(alloc, array_shape, chunk_shape)?;   // [5, 7, 52], chunks of [1, 2, 3]
+//! grid.grid_shape()                                     // [5, 4, 18]
+//! grid.chunk_indices(alloc, &[3, 5, 50])?               // Some([3, 2, 16])
+//! grid.chunk_element_indices(alloc, &[3, 5, 50])?       // Some([0, 1, 2])
+//! grid.chunk_origin(alloc, &[3, 2, 16])?                // Some([3, 4, 48])
+//! ```
+//!
+//! | Module | What it holds |
+//! |---|---|
+//! | `chunk_grid` | the trait of all chunk grids |
+//! | `chunk_grid::regular` | the `regular` grid |
+//! | `chunk_grid::axis`, `axis_grid` | one dimension with its look-ups on single numbers; a list of them, with every loop over dimensions |
+//! | `chunk_grid::equal_axis` | a dimension of chunks of one edge |
+//! | `laws` | what holds of every chunk grid |
+#![tactic(auto)]
+
+mod chunk_grid;
+pub mod laws;
+#[cfg(test)]
+mod tests;
+
+pub use chunk_grid::ChunkGridTraits;
+pub use chunk_grid::regular::RegularChunkGrid;
+pub use chunk_grid::regular_create_error::RegularChunkGridCreateError;
