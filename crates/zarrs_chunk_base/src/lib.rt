@@ -18,6 +18,7 @@
 //! | `chunk_key_separator` | what stands between the parts of a chunk key |
 //! | `refusal` | a call's own refusal, or want of memory |
 //! | `incompatible_dimensionality_error` | a list of another length than there are dimensions |
+//! | `rectangular_chunk_grid_dimension_configuration` | the chunk edges of one dimension |
 //! | `plugin_create_error`, `configuration_fault`, `metadata_error` | why an extension isn't made of its metadata |
 #![tactic(auto)]
 
@@ -32,6 +33,7 @@ mod configuration_fault;
 mod incompatible_dimensionality_error;
 mod metadata_error;
 mod plugin_create_error;
+mod rectangular_chunk_grid_dimension_configuration;
 mod refusal;
 mod store_key;
 mod store_key_error;
@@ -46,6 +48,7 @@ pub use configuration_fault::ConfigurationFault;
 pub use incompatible_dimensionality_error::IncompatibleDimensionalityError;
 pub use metadata_error::MetadataError;
 pub use plugin_create_error::PluginCreateError;
+pub use rectangular_chunk_grid_dimension_configuration::RectangularChunkGridDimensionConfiguration;
 pub use refusal::Refusal;
 pub use store_key::StoreKey;
 pub use store_key_error::StoreKeyError;

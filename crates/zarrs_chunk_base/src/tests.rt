@@ -1,13 +1,14 @@
 //! What no contract says: the texts of the errors, and that each call answers with ample memory.
 use crate::{
     ArraySubset, ArraySubsetError, BoxEndError, ChunkKeySeparator, ConfigurationFault,
-    IncompatibleDimensionalityError, MetadataError, PluginCreateError, Refusal, StoreKey,
-    StoreKeyError,
+    IncompatibleDimensionalityError, MetadataError, PluginCreateError,
+    RectangularChunkGridDimensionConfiguration, Refusal, StoreKey, StoreKeyError,
 };
 use std::alloc::{AllocError, Global};
 use std::cmp::Ordering;
 use std::fmt::Display;
 use std::hash::{DefaultHasher, Hash, Hasher};
+use std::num::NonZeroU64;
 use std::process::Abort;
 use std::test::Fail;
 
@@ -96,6 +97,22 @@ fn refused_extensions_have_their_texts(rt: HostRuntime) -> Result<(), Fail> {
     ] {
         check_text(&rt, &error, text)?;
         check_text(&rt, &error.clone()?, text)?;
+    }
+    Ok(())
+}
+
+#[test]
+fn edges_have_their_texts(rt: HostRuntime) -> Result<(), Fail> {
+    let five = NonZeroU64::new(5).ok_or("an edge of 0")?;
+    let fixed = RectangularChunkGridDimensionConfiguration::from(five);
+    let mut edges = Vec::new(rt.alloc());
+    edges.push(five)?;
+    edges.push(NonZeroU64::MIN)?;
+    let varying = RectangularChunkGridDimensionConfiguration::from(edges);
+    let none = RectangularChunkGridDimensionConfiguration::from(Vec::new(rt.alloc()));
+    for (configuration, text) in [(fixed, "5"), (varying, "[5, 1]"), (none, "[]")] {
+        check_text(&rt, &configuration, text)?;
+        check_text(&rt, &configuration.clone()?, text)?;
     }
     Ok(())
 }

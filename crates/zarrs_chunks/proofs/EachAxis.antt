@@ -1,5 +1,5 @@
 -- What is known of the look-ups in each axis, for the dimensions of the axes.
-use Rattle.std.proofs.Common.{◌≡◌, ◌≢◌, ℕ, ◌≤◌, List, [], ◌∷◌, map, length, IsTrue, Option, Some, None, MatchOption, Result, Ok, Err, ⊎_elim}
+use Rattle.std.proofs.Common.{◌≡◌, ℕ, ◌≤◌, List, [], ◌∷◌, map, IsTrue, Option, Some, None, MatchOption, Result, Ok, Err, ⊎_elim}
 use Rattle.zarrs_chunk_base.specs.declared.incompatible_dimensionality_error.IncompatibleDimensionalityError.{IncompatibleDimensionalityError}
 use Rattle.zarrs_chunk_base.specs.declared.refusal.Refusal.{Refusal}
 use Rattle.zarrs_chunk_base.specs.declared.refusal.Refusal.TheVariants.{Refused, Memory}
@@ -58,15 +58,15 @@ turned R (_ ∷ _) [] [] h = absurd h
 turned R (_ ∷ _) [] (_ ∷ _) h = absurd h
 turned R (_ ∷ _) (_ ∷ _) [] h = absurd h
 
--- what is related to the numbers that values stand for
-pub of_numbers : {X : Type 0} (number : X → ℕ) (R : Dimension → ℕ → ℕ → Type 0) (ds : List Dimension) (chunk : List ℕ) (xs : List X)
-    → InEach (λ d c x. R d c (number x)) ds chunk xs → InEach R ds chunk (map number xs)
-of_numbers number R [] [] [] h = tt
-of_numbers number R (d ∷ ds) (c ∷ chunk) (x ∷ xs) h = (h.0, of_numbers number R ds chunk xs h.1)
-of_numbers number R [] [] (_ ∷ _) h = absurd h
-of_numbers number R [] (_ ∷ _) _ h = absurd h
-of_numbers number R (_ ∷ _) [] _ h = absurd h
-of_numbers number R (_ ∷ _) (_ ∷ _) [] h = absurd h
+-- what is related to what values stand for
+pub of_mapped : {X Y : Type 0} (f : X → Y) (R : Dimension → ℕ → Y → Type 0) (ds : List Dimension) (chunk : List ℕ) (xs : List X)
+    → InEach (λ d c x. R d c (f x)) ds chunk xs → InEach R ds chunk (map f xs)
+of_mapped f R [] [] [] h = tt
+of_mapped f R (d ∷ ds) (c ∷ chunk) (x ∷ xs) h = (h.0, of_mapped f R ds chunk xs h.1)
+of_mapped f R [] [] (_ ∷ _) h = absurd h
+of_mapped f R [] (_ ∷ _) _ h = absurd h
+of_mapped f R (_ ∷ _) [] _ h = absurd h
+of_mapped f R (_ ∷ _) (_ ∷ _) [] h = absurd h
 
 -- numbers that fit, and what they are related to
 pub that_fit : (R : Dimension → ℕ → ℕ → Type 0) (ds : List Dimension) (chunk xs : List ℕ) → InEach R ds chunk xs → AllFit xs

@@ -1,5 +1,5 @@
 -- What was found in the axes so far, and what the rests decide.
-use Rattle.std.proofs.Common.{◌≡◌, ℕ, List, [], ◌∷◌, ◌++◌, Option, Some, None, length, inl, inr, subst, sym, append_assoc, append-nil, refl, arith}
+use Rattle.std.proofs.Common.{◌≡◌, ℕ, List, [], ◌∷◌, ◌++◌, Option, Some, length, inr, subst, sym, append_assoc, append-nil, arith}
 use Rattle.zarrs_chunks.specs.LookUpEach.{EachGives, SomeGivesNone}
 
 module _ {A X : Type 0} (gives : A → ℕ → Option X → Type 0) where

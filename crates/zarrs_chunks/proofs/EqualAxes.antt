@@ -1,23 +1,14 @@
 -- Axes of one edge are dimensions of equal edges.
-use Rattle.std.proofs.Common.{◌≡◌, ℕ, ◌+◌, ◌*◌, ◌<◌, ◌≤◌, List, [], ◌∷◌, length, map, zip, refl, arith}
-use Rattle.std.proofs.Math.Nat.{lt_of_mul-lt-mul_right}
+use Rattle.std.proofs.Common.{◌≡◌, ℕ, ◌+◌, ◌*◌, ◌<◌, List, [], ◌∷◌, map, refl, arith}
 use Rattle.std.proofs.lemmas.Grind.{div_ceil_times}
-use Rattle.std.specs.Int.{div_ceil}
 use Rattle.std.specs.Int.NonZero.{non_zero_u64_get}
-use Rattle.std.specs.declared.num.NonZeroU64.{NonZeroU64}
+use Rattle.zarrs_chunk_base.specs.Dimension.{Dimension}
 use Rattle.zarrs_chunks.specs.declared.chunk_grid.equal_axis.EqualAxis.{EqualAxis}
-use Rattle.zarrs_chunks.specs.EqualAxis.{axis_from, dimension_from, dimension_of, next_multiple}
+use Rattle.zarrs_chunks.specs.EqualAxis.{dimension_from, dimension_of}
+use Rattle.zarrs_chunks.specs.Multiples.{ceil_least}
 use Rattle.zarrs_chunks.specs.EqualEdges.{IsEqualEdges, AreEqualEdges, HaveEdges}
 
--- the quotient rounded up is the least that reaches
-ceil_least : (a s n : ℕ) → 0 < s → a ≤ n * s → div_ceil a s ≤ n
-ceil_least a s n positive h =
-    let small : div_ceil a s * s < a + s = (div_ceil_times a s positive).1 in
-    let fits : div_ceil a s * s < (n + 1) * s = omega (arith, next_multiple n s) in
-    let quotient : div_ceil a s < n + 1 = lt_of_mul-lt-mul_right s fits in
-    omega arith
-
-equal_edges : (a s : ℕ) → 0 < s → IsEqualEdges (dimension_from a s) a s
+pub equal_edges : (a s : ℕ) → 0 < s → IsEqualEdges (dimension_from a s) a s
 equal_edges a s positive = record {
   array_size = refl;
   chunks = λ c. refl;
@@ -27,32 +18,18 @@ equal_edges a s positive = record {
   least = λ n. ceil_least a s n positive;
 }
 
--- the dimensions of an array shape and a chunk shape
-pub are_equal_edges : (shape : List ℕ) (edges : List NonZeroU64) → length edges ≡ length shape
-    → AreEqualEdges (map dimension_of (map axis_from (zip shape edges))) shape (map non_zero_u64_get edges)
-are_equal_edges [] [] e = tt
-are_equal_edges [] (s ∷ edges) e = absurd (omega arith)
-are_equal_edges (a ∷ shape) [] e = absurd (omega arith)
-are_equal_edges (a ∷ shape) (s ∷ edges) e = (equal_edges a (non_zero_u64_get s) s.ok, are_equal_edges shape edges (omega arith))
-
--- their sizes
-pub sizes_are : (shape : List ℕ) (edges : List NonZeroU64) → length edges ≡ length shape
-    → shape ≡ map (λ d. d.array_size) (map dimension_of (map axis_from (zip shape edges)))
-sizes_are [] [] e = refl
-sizes_are [] (s ∷ edges) e = absurd (omega arith)
-sizes_are (a ∷ shape) [] e = absurd (omega arith)
-sizes_are (a ∷ shape) (s ∷ edges) e = let rest = sizes_are shape edges (omega arith) in cc
-
--- their edges: where the first chunk ends
-pub edges_are : (shape : List ℕ) (edges : List NonZeroU64) → length edges ≡ length shape
-    → map non_zero_u64_get edges ≡ map (λ d. d.end 0) (map dimension_of (map axis_from (zip shape edges)))
-edges_are [] [] e = refl
-edges_are [] (s ∷ edges) e = absurd (omega arith)
-edges_are (a ∷ shape) [] e = absurd (omega arith)
-edges_are (a ∷ shape) (s ∷ edges) e =
-    let rest = edges_are shape edges (omega arith) in
-    let first : non_zero_u64_get s ≡ (0 + 1) * non_zero_u64_get s = omega arith in
+-- an edge is where the first chunk ends
+pub edges_are : (ds : List Dimension) (shape edges : List ℕ) → AreEqualEdges ds shape edges → edges ≡ map (λ d. d.end 0) ds
+edges_are [] [] [] h = refl
+edges_are (d ∷ ds) (a ∷ shape) (s ∷ edges) h =
+    let rest = edges_are ds shape edges h.1 in
+    let end : d.end 0 ≡ (0 + 1) * s = h.0.end 0 in
+    let first : s ≡ d.end 0 = omega arith in
     cc
+edges_are [] [] (_ ∷ _) h = absurd h
+edges_are [] (_ ∷ _) _ h = absurd h
+edges_are (_ ∷ _) [] _ h = absurd h
+edges_are (_ ∷ _) (_ ∷ _) [] h = absurd h
 
 -- where the first chunk ends is the edge
 pub have_edges : (axes : List EqualAxis) → HaveEdges (map dimension_of axes) (map (λ d. d.end 0) (map dimension_of axes))

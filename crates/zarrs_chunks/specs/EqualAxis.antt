@@ -1,11 +1,10 @@
 -- How an axis of one edge is seen as a dimension, and that it is a chain.
-use Rattle.std.specs.Prelude.{◌≡◌, ℕ, ◌+◌, ◌*◌, ◌/◌, ◌<◌, ◌≤◌, true, refl}
+use Rattle.std.specs.Prelude.{ℕ, ◌+◌, ◌*◌, ◌/◌, ◌<◌, true, refl}
 use Rattle.std.proofs.Common.{arith}
-use Rattle.std.proofs.Math.Nat.{div-mul-le_self, lt-div-mul-add, lt_of_mul-lt-mul_right}
-use Rattle.std.proofs.lemmas.Grind.{div_ceil_times}
+use Rattle.std.proofs.Math.Nat.{div-mul-le_self}
 use Rattle.std.specs.Int.{div_ceil}
 use Rattle.std.specs.Int.NonZero.{non_zero_u64_get}
-use Rattle.std.specs.declared.num.NonZeroU64.{NonZeroU64}
+use Rattle.zarrs_chunks.specs.Multiples.{next_multiple, below_next, quotient_counted}
 use Rattle.zarrs_chunks.specs.declared.chunk_grid.equal_axis.EqualAxis.{EqualAxis}
 use Rattle.zarrs_chunk_base.specs.Dimension.{Dimension, Holds, IsChain}
 
@@ -14,30 +13,13 @@ abbrev pub dimension_from : ℕ → ℕ → Dimension
 dimension_from size edge =
     record { array_size = size; grid_size = div_ceil size edge; has_chunk = λ c. true; start = λ c. c * edge; end = λ c. (c + 1) * edge }
 
--- the axis of an array size and an edge
-abbrev pub axis_from : ℕ × NonZeroU64 → EqualAxis
-axis_from p = record { array_size = p.0; edge = p.1 }
-
 -- an axis as a dimension
 abbrev pub dimension_of : EqualAxis → Dimension
 dimension_of axis = dimension_from axis.array_size (non_zero_u64_get axis.edge)
 
-pub next_multiple : (c s : ℕ) → (c + 1) * s ≡ c * s + s
-next_multiple c s = omega arith
-
 -- the quotient is the chunk that an index lies in
 pub quotient_holds : (a s i : ℕ) → 0 < s → Holds (dimension_from a s) (i / s) i
-quotient_holds a s i positive =
-    let below : i < i / s * s + s = lt-div-mul-add positive in
-    record { chunk = refl; from = div-mul-le_self i s; below = omega (arith, next_multiple (i / s) s) }
-
--- the quotient is counted where the index is within the array
-quotient_counted : (a s i : ℕ) → 0 < s → i < a → i / s < div_ceil a s
-quotient_counted a s i positive within =
-    let reach : a ≤ div_ceil a s * s = (div_ceil_times a s positive).0 in
-    let low : i / s * s ≤ i = div-mul-le_self i s in
-    let fits : i / s * s < div_ceil a s * s = omega arith in
-    lt_of_mul-lt-mul_right s fits
+quotient_holds a s i positive = record { chunk = refl; from = div-mul-le_self i s; below = below_next i s positive }
 
 pub is_chain : (axis : EqualAxis) → IsChain (dimension_of axis)
 is_chain axis =

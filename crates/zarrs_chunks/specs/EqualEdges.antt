@@ -1,7 +1,7 @@
 -- Dimensions whose chunks all have one edge: the `regular` grid.
 -- Source: Zarr V3 core, regular grid.
-use Rattle.std.specs.Prelude.{◌≡◌, ℕ, ◌+◌, ◌*◌, ◌≤◌, IsTrue, List, [], ◌∷◌, map}
-use Rattle.zarrs_chunk_base.specs.Dimension.{Dimension}
+use Rattle.std.specs.Prelude.{◌≡◌, ℕ, ◌+◌, ◌*◌, ◌≤◌, IsTrue, List, map}
+use Rattle.zarrs_chunk_base.specs.Dimension.{Dimension, InEach}
 
 -- Every number has a chunk, as long as the edge; chunk c begins after c edges. As many are
 -- counted as it takes to reach over the array.
@@ -15,9 +15,7 @@ pub record IsEqualEdges (d : Dimension) (size edge : ℕ) : Type 0 where
 
 -- the dimensions of an array shape and a chunk shape, which are of one length
 abbrev pub AreEqualEdges : List Dimension → List ℕ → List ℕ → Type 0
-AreEqualEdges [] [] [] = Unit {0}
-AreEqualEdges (d ∷ ds) (a ∷ shape) (s ∷ edges) = IsEqualEdges d a s × AreEqualEdges ds shape edges
-AreEqualEdges _ _ _ = ⊥
+AreEqualEdges = InEach IsEqualEdges
 
 -- the edges of dimensions of equal edges
 abbrev pub HaveEdges : List Dimension → List ℕ → Type 0

@@ -1,9 +1,16 @@
 //! What every chunk grid answers.
 mod axis;
 mod axis_grid;
+mod bounded_axis;
+mod brackets;
 mod edges;
 mod equal_axis;
+mod equal_or_listed_axis;
+mod listed_axis;
+pub(crate) mod rectangular;
+pub(crate) mod rectangular_create_error;
 pub(crate) mod regular;
+pub(crate) mod regular_bounded;
 pub(crate) mod regular_create_error;
 
 ghost use Rattle.std.specs.Prelude.{◌≡◌, ℕ, ◌-◌, ◌<◌, List, length, map, slice_index_or};

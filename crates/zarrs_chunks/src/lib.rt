@@ -15,9 +15,9 @@
 //! | Module | What it holds |
 //! |---|---|
 //! | `chunk_grid` | the trait of all chunk grids |
-//! | `chunk_grid::regular` | the `regular` grid |
+//! | `chunk_grid::regular`, `regular_bounded`, `rectangular` | the grids |
 //! | `chunk_grid::axis`, `axis_grid` | one dimension with its look-ups on single numbers; a list of them, with every loop over dimensions |
-//! | `chunk_grid::equal_axis` | a dimension of chunks of one edge |
+//! | `chunk_grid::equal_axis`, `bounded_axis`, `listed_axis`, `equal_or_listed_axis` | the kinds of dimension |
 //! | `laws` | what holds of every chunk grid |
 #![tactic(auto)]
 
@@ -27,5 +27,8 @@ pub mod laws;
 mod tests;
 
 pub use chunk_grid::ChunkGridTraits;
+pub use chunk_grid::rectangular::RectangularChunkGrid;
+pub use chunk_grid::rectangular_create_error::RectangularChunkGridCreateError;
 pub use chunk_grid::regular::RegularChunkGrid;
+pub use chunk_grid::regular_bounded::RegularBoundedChunkGrid;
 pub use chunk_grid::regular_create_error::RegularChunkGridCreateError;

@@ -1,14 +1,19 @@
 //! What no contract says: that calls succeed with ample memory, texts, and vectors from outside.
 mod stairs;
 
-use crate::laws::{chunk_indices_names_the_home, chunks_share_no_index};
-use crate::{ChunkGridTraits, RegularChunkGrid, RegularChunkGridCreateError};
+use crate::laws::{
+    a_bounded_dimension_is_that_of_its_edges, chunk_indices_names_the_home, chunks_share_no_index,
+};
+use crate::{ChunkGridTraits, RectangularChunkGrid, RegularBoundedChunkGrid, RegularChunkGrid};
 use stairs::Stairs;
 use std::alloc::{AllocError, Global};
 use std::num::NonZeroU64;
 use std::process::Abort;
 use std::test::Fail;
-use zarrs_chunk_base::{ArrayIndices, ChunkShape, IncompatibleDimensionalityError, Refusal};
+use zarrs_chunk_base::{
+    ChunkShape, IncompatibleDimensionalityError, RectangularChunkGridDimensionConfiguration,
+    Refusal,
+};
 
 const MAX: u64 = u64::MAX;
 
@@ -28,6 +33,46 @@ fn regular(
 ) -> Result<RegularChunkGrid, Fail> {
     let chunk_shape = edges(alloc, chunk_shape)?;
     Ok(RegularChunkGrid::new(alloc, array_shape.to_vec(alloc)?, chunk_shape)?)
+}
+
+fn bounded(
+    alloc: Global,
+    array_shape: &[u64],
+    chunk_shape: &[u64],
+) -> Result<RegularBoundedChunkGrid, Fail> {
+    let chunk_shape = edges(alloc, chunk_shape)?;
+    Ok(RegularBoundedChunkGrid::new(alloc, array_shape.to_vec(alloc)?, chunk_shape)?)
+}
+
+/// What a rectangular grid is made of.
+fn configurations(
+    alloc: Global,
+    dimensions: &[Dimension],
+) -> Result<Vec<RectangularChunkGridDimensionConfiguration>, Fail> {
+    let mut configurations = Vec::new(alloc);
+    for dimension in dimensions {
+        configurations.push(match dimension {
+            Dimension::Fixed(edge) => NonZeroU64::new(*edge).ok_or("an edge of 0")?.into(),
+            Dimension::Varying(numbers) => edges(alloc, numbers)?.into(),
+        })?;
+    }
+    Ok(configurations)
+}
+
+/// The edges of one dimension.
+#[derive(Clone, Copy)]
+enum Dimension<'a> {
+    Fixed(u64),
+    Varying(&'a [u64]),
+}
+
+fn rectangular(
+    alloc: Global,
+    array_shape: &[u64],
+    dimensions: &[Dimension],
+) -> Result<RectangularChunkGrid, Fail> {
+    let chunk_shape = configurations(alloc, dimensions)?;
+    Ok(RectangularChunkGrid::new(alloc, array_shape.to_vec(alloc)?, &chunk_shape)?)
 }
 
 /// The element lies in this chunk, at this place there.
@@ -225,8 +270,147 @@ fn shapes_of_unequal_lengths_make_no_regular_grid(rt: HostRuntime) -> Result<(),
 }
 
 #[test]
+fn bounded_grids_are_looked_up(rt: HostRuntime) -> Result<(), Fail> {
+    let grid = bounded(rt.alloc(), &[5, 7, 52], &[1, 2, 3])?;
+    assert_eq!(rt; grid.dimensionality(), 3);
+    assert_eq!(rt; grid.array_shape(), [5, 7, 52].as_slice());
+    assert_eq!(rt; grid.grid_shape(), [5, 4, 18].as_slice());
+    check_home(&rt, &grid, &[3, 5, 50], Some((&[3, 2, 16], &[0, 1, 2])))?;
+    check_home(&rt, &grid, &[3, 5, 53], None)?;
+    check_chunk(&rt, &grid, &[6, 1, 1], None, None)?;
+    check_chunk(&rt, &grid, &[1, 1, 1], Some(&[1, 2, 3]), Some(&[1, 2, 3]))?;
+    check_chunk(&rt, &grid, &[0, 3, 17], Some(&[0, 6, 51]), Some(&[1, 1, 1]))?;
+    check_chunk(&rt, &grid, &[5, 0, 0], None, None)?;
+    check_home(
+        &rt,
+        &grid.clone()?,
+        &[3, 5, 50],
+        Some((&[3, 2, 16], &[0, 1, 2])),
+    )?;
+
+    let unlimited = bounded(rt.alloc(), &[5, 7, 0], &[1, 2, 3])?;
+    assert_eq!(rt; unlimited.grid_shape(), [5, 4, 0].as_slice());
+    check_home(&rt, &unlimited, &[3, 5, 1000], None)?;
+    check_chunk(&rt, &unlimited, &[3, 1, 1000], None, None)?;
+    check_home(&rt, &bounded(rt.alloc(), &[0], &[5])?, &[0], None)?;
+
+    let pairs = bounded(rt.alloc(), &[MAX], &[2])?;
+    let last = 9223372036854775807;
+    assert_eq!(rt; pairs.grid_shape(), [9223372036854775808].as_slice());
+    check_chunk(
+        &rt,
+        &pairs,
+        &[last],
+        Some(&[18446744073709551614]),
+        Some(&[1]),
+    )?;
+    check_chunk(&rt, &pairs, &[9223372036854775808], None, None)?;
+    check_home(&rt, &pairs, &[MAX], None)?;
+
+    let two = bounded(rt.alloc(), &[MAX], &[18446744073709551614])?;
+    assert_eq!(rt; two.grid_shape(), [2].as_slice());
+    check_chunk(&rt, &two, &[1], Some(&[18446744073709551614]), Some(&[1]))?;
+    check_chunk(&rt, &two, &[2], None, None)
+}
+
+#[test]
+fn rectangular_grids_are_looked_up(rt: HostRuntime) -> Result<(), Fail> {
+    let varying = Dimension::Varying(&[5, 5, 5, 15, 15, 20, 35]);
+    let grid = rectangular(rt.alloc(), &[100, 100], &[varying, Dimension::Fixed(10)])?;
+    assert_eq!(rt; grid.dimensionality(), 2);
+    assert_eq!(rt; grid.array_shape(), [100, 100].as_slice());
+    assert_eq!(rt; grid.grid_shape(), [7, 10].as_slice());
+    check_home(&rt, &grid, &[17, 17], Some((&[3, 1], &[2, 7])))?;
+    check_home(&rt, &grid, &[15, 0], Some((&[3, 0], &[0, 0])))?;
+    check_home(&rt, &grid, &[99, 99], Some((&[6, 9], &[34, 9])))?;
+    check_home(&rt, &grid, &[100, 100], None)?;
+    check_chunk(&rt, &grid, &[6, 9], Some(&[65, 90]), Some(&[35, 10]))?;
+    check_chunk(&rt, &grid, &[7, 9], None, None)?;
+    check_home(&rt, &grid.clone()?, &[17, 17], Some((&[3, 1], &[2, 7])))?;
+
+    let unlimited = rectangular(rt.alloc(), &[100, 0], &[varying, Dimension::Fixed(10)])?;
+    assert_eq!(rt; unlimited.grid_shape(), [7, 0].as_slice());
+    check_home(&rt, &unlimited, &[101, 150], None)?;
+
+    let greatest = Dimension::Varying(&[18446744073709551614, 1]);
+    let two = rectangular(rt.alloc(), &[MAX], &[greatest])?;
+    assert_eq!(rt; two.grid_shape(), [2].as_slice());
+    check_home(&rt, &two, &[18446744073709551614], Some((&[1], &[0])))?;
+    check_home(&rt, &two, &[MAX], None)
+}
+
+/// There is no rectangular grid of this shape and these edges, and the error and its copy say so.
+fn check_no_rectangular_grid(
+    rt: &(impl Abort + AllocGlobal),
+    array_shape: &[u64],
+    dimensions: &[Dimension],
+    text: &str,
+) -> Result<(), Fail> {
+    let chunk_shape = configurations(rt.alloc(), dimensions)?;
+    let array_shape = array_shape.to_vec(rt.alloc())?;
+    let error = match RectangularChunkGrid::new(rt.alloc(), array_shape, &chunk_shape) {
+        Err(Refusal::Refused(error)) => error,
+        _ => return Err("the edges were accepted".into()),
+    };
+    assert_eq!(rt; error.to_string(rt.alloc())?.as_str(), text);
+    assert_eq!(rt; error.clone()?.to_string(rt.alloc())?.as_str(), text);
+    Ok(())
+}
+
+#[test]
+fn edges_of_another_sum_make_no_rectangular_grid(rt: HostRuntime) -> Result<(), Fail> {
+    let varying = Dimension::Varying(&[5, 5, 5, 15, 15, 20, 35]);
+    let fixed = Dimension::Fixed(10);
+    check_no_rectangular_grid(
+        &rt,
+        &[123, 100],
+        &[varying, fixed],
+        "rectangular chunk grid configuration: [[5, 5, 5, 15, 15, 20, 35], 10] not compatible with array shape [123, 100]",
+    )?;
+    check_no_rectangular_grid(
+        &rt,
+        &[100, 100, 100],
+        &[varying, fixed],
+        "rectangular chunk grid configuration: [[5, 5, 5, 15, 15, 20, 35], 10] not compatible with array shape [100, 100, 100]",
+    )?;
+    check_no_rectangular_grid(
+        &rt,
+        &[1],
+        &[Dimension::Varying(&[])],
+        "rectangular chunk grid configuration: [[]] not compatible with array shape [1]",
+    )?;
+    check_no_rectangular_grid(
+        &rt,
+        &[MAX],
+        &[Dimension::Varying(&[MAX, 1])],
+        "rectangular chunk grid configuration: [[18446744073709551615, 1]] not compatible with array shape [18446744073709551615]",
+    )?;
+    check_no_rectangular_grid(
+        &rt,
+        &[],
+        &[fixed],
+        "rectangular chunk grid configuration: [10] not compatible with array shape []",
+    )
+}
+
+#[test]
+fn shapes_of_unequal_lengths_make_no_bounded_grid(rt: HostRuntime) -> Result<(), Fail> {
+    let array_shape = [0].to_vec(rt.alloc())?;
+    let chunk_shape = edges(rt.alloc(), &[1, 2, 3])?;
+    match RegularBoundedChunkGrid::new(rt.alloc(), array_shape, chunk_shape) {
+        Err(Refusal::Refused(error)) => {
+            assert_eq!(rt; error.given(), 3);
+            assert_eq!(rt; error.expected(), 1);
+            Ok(())
+        }
+        _ => Err("the shapes were accepted".into()),
+    }
+}
+
+#[test]
 fn a_grid_from_outside_is_looked_up(rt: HostRuntime) -> Result<(), Fail> {
     chunks_share_no_index(&Stairs);
+    a_bounded_dimension_is_that_of_its_edges();
     assert_eq!(rt; Stairs.dimensionality(), 1);
     assert_eq!(rt; Stairs.array_shape(), [6].as_slice());
     assert_eq!(rt; Stairs.grid_shape(), [3].as_slice());

@@ -1,10 +1,10 @@
-//! One dimension of a chunk grid.
-ghost use Rattle.std.specs.Prelude.{◌≡◌, ℕ, ◌<◌, IfOk, IsTrue, MatchOption};
+//! One dimension of a chunk grid, and what it is made of.
+ghost use Rattle.std.specs.Prelude.{◌≡◌, ◌↔◌, ℕ, ◌<◌, IfOk, IsTrue, MatchOption};
 ghost use Rattle.std.specs.Int.NonZero.{non_zero_u64_get};
 ghost use Rattle.zarrs_chunk_base.specs.Dimension.{Dimension, Holds, HasEdge, IsChain, StartsAt};
 ghost use Rattle.zarrs_chunk_base.specs.Greatest.{greatest};
 
-use std::alloc::AllocError;
+use std::alloc::{AllocError, Global};
 use std::num::NonZeroU64;
 
 /// One dimension of a chunk grid, with its look-ups on single numbers.
@@ -38,4 +38,25 @@ pub(crate) trait Axis: Sized + Drop {
 
     /// The dimension is a chain.
     ghost chained: { (axis : Self) → IsChain (dimension axis) };
+}
+
+/// An axis that is made of an array size and what a configuration says of its dimension.
+pub(crate) trait AxisFrom<C>: Axis {
+    /// There is such a dimension.
+    ghost accepted: { ℕ → C → Type 0 };
+
+    /// What the dimension is.
+    ghost made: { Dimension → ℕ → C → Type 0 };
+
+    /// Whether there is such a dimension.
+    fn accepts(array_size: u64, configuration: &C) -> bool
+        ensures { IsTrue result ↔ accepted array_size configuration.now };
+
+    /// The axis of such a dimension.
+    fn new(alloc: Global, array_size: u64, configuration: &C) -> Result<Self, AllocError>
+        requires { accepted array_size configuration.now }
+        ensures { IfOk result (λ axis. made (Self.dimension axis) array_size configuration.now) };
+
+    /// The array size is the dimension's.
+    ghost sized: { (d : Dimension) (size : ℕ) (configuration : C) → made d size configuration → d.array_size ≡ size };
 }

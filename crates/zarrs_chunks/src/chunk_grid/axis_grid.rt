@@ -1,11 +1,12 @@
 //! Any number of dimensions of one kind: every loop over dimensions is here.
-ghost use Rattle.std.specs.Prelude.{◌≡◌, ◌≢◌, IfOk, IsOk, List, MatchOption, length, map};
-ghost use Rattle.std.specs.List.{AllByRecursion};
+ghost use Rattle.std.specs.Prelude.{◌≡◌, ◌↔◌, IfOk, IsOk, IsTrue, List, MatchOption, length, map};
+ghost use Rattle.std.specs.List.{AllZip};
+ghost use Rattle.zarrs_chunk_base.specs.Dimension.{InEach};
 ghost use Rattle.zarrs_chunk_base.specs.Refusal.{Answers, HasMemory};
 ghost use Rattle.zarrs_chunks.specs.LookUp.{AnswersShape, AnswersOrigin, AnswersChunk};
 ghost use Rattle.zarrs_chunks.specs.LookUpEach.{At, IsFound, IsNotFound};
 
-use super::axis::Axis;
+use super::axis::{Axis, AxisFrom};
 use std::alloc::{AllocError, Global};
 use std::num::NonZeroU64;
 use zarrs_chunk_base::{
@@ -23,15 +24,35 @@ pub(crate) struct AxisGrid<A: Axis> {
 }
 
 impl<A: Axis> AxisGrid<A> {
-    /// The grid of these dimensions, over an array of these sizes.
-    pub(crate) fn new(
+    /// Whether there is a grid of these array sizes and configurations, one a dimension.
+    pub(crate) fn accepts<C>(array_shape: &[u64], configurations: &[C]) -> bool
+    where
+        A: AxisFrom<C>,
+        ensures { IsTrue result ↔ AllZip A.accepted array_shape.now configurations.now }
+    {
+        if array_shape.len() != configurations.len() {
+            return false;
+        }
+        for (array_size, configuration) in array_shape.iter().zip(configurations) {
+            if !A::accepts(*array_size, configuration) {
+                return false;
+            }
+        }
+        true
+    }
+
+    /// The grid of these array sizes and configurations, one a dimension.
+    pub(crate) fn new<C>(
         alloc: Global,
         array_shape: ArrayShape,
-        axes: Vec<A>,
+        configurations: &[C],
     ) -> Result<AxisGrid<A>, AllocError>
-        requires { array_shape.items ≡ map (λ d. d.array_size) (map A.dimension axes.items) }
-        ensures { IfOk result (λ grid. grid.axes.items ≡ axes.items) }
+    where
+        A: AxisFrom<C>,
+        requires { AllZip A.accepted array_shape.items configurations.now }
+        ensures { IfOk result (λ grid. InEach A.made (map A.dimension grid.axes.items) array_shape.items configurations.now) }
     {
+        let axes = axes_of(alloc, &array_shape, configurations)?;
         let grid_shape = grid_sizes(alloc, &axes)?;
         Ok(AxisGrid {
             axes,
@@ -155,6 +176,22 @@ fn look_up_each<A: Axis, T: Drop, F: Fn(&A, u64) -> Option<T>>(
         found.push(value)?;
     }
     Ok(Some(found))
+}
+
+/// For each dimension its axis.
+fn axes_of<C, A: AxisFrom<C>>(
+    alloc: Global,
+    array_shape: &[u64],
+    configurations: &[C],
+) -> Result<Vec<A>, AllocError>
+    requires { AllZip A.accepted array_shape.now configurations.now }
+    ensures { IfOk result (λ axes. InEach A.made (map A.dimension axes.items) array_shape.now configurations.now) }
+{
+    let mut axes = Vec::with_capacity(alloc, array_shape.len())?;
+    for (array_size, configuration) in array_shape.iter().zip(configurations) {
+        axes.push(A::new(alloc, *array_size, configuration)?)?;
+    }
+    Ok(axes)
 }
 
 /// For each dimension how many chunks are counted.

@@ -1,15 +1,15 @@
 //! One dimension of an array that is cut into chunks of one edge.
-use super::axis::Axis;
-use std::alloc::AllocError;
+use super::axis::{Axis, AxisFrom};
+use std::alloc::{AllocError, Global};
 use std::num::NonZeroU64;
 
 /// One dimension of an array, cut into chunks of one edge.
 #[derive(Debug, Drop)]
 pub(crate) struct EqualAxis {
     /// How many elements the array has.
-    pub(crate) array_size: u64,
+    array_size: u64,
     /// How many elements a chunk has.
-    pub(crate) edge: NonZeroU64,
+    edge: NonZeroU64,
 }
 
 impl Axis for EqualAxis {
@@ -43,6 +43,30 @@ impl Axis for EqualAxis {
         Ok(EqualAxis {
             array_size: self.array_size,
             edge: self.edge,
+        })
+    }
+}
+
+/// Every array size and edge make a dimension.
+impl AxisFrom<NonZeroU64> for EqualAxis {
+    ghost use Rattle.std.specs.Int.NonZero.{non_zero_u64_get};
+    ghost use Rattle.zarrs_chunks.specs.EqualEdges.{IsEqualEdges};
+
+    ghost accepted = { λ _ _. Unit {0} };
+
+    ghost made = { λ d size edge. IsEqualEdges d size (non_zero_u64_get edge) };
+
+    ghost sized = { λ d size edge is. is.array_size };
+
+    fn accepts(_array_size: u64, _edge: &NonZeroU64) -> bool {
+        true
+    }
+
+    #[tactic(auto, using(crate::proofs::EqualAxes::equal_edges))]
+    fn new(_alloc: Global, array_size: u64, edge: &NonZeroU64) -> Result<EqualAxis, AllocError> {
+        Ok(EqualAxis {
+            array_size,
+            edge: *edge,
         })
     }
 }

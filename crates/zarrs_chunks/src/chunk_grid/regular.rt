@@ -1,7 +1,7 @@
 //! The `regular` grid: chunks that all have one shape.
-ghost use Rattle.std.specs.Prelude.{◌≡◌, IfOk, map, zip};
+ghost use Rattle.std.specs.Prelude.{◌≡◌, map};
 ghost use Rattle.std.specs.Int.NonZero.{non_zero_u64_get};
-ghost use Rattle.zarrs_chunks.specs.EqualAxis.{axis_from, dimension_of};
+ghost use Rattle.zarrs_chunks.specs.EqualAxis.{dimension_of};
 
 use super::axis_grid::AxisGrid;
 use super::edges::plain;
@@ -48,9 +48,8 @@ impl RegularChunkGrid {
         if chunk_shape.len() != array_shape.len() {
             return Err(Refusal::Refused(RegularChunkGridCreateError(array_shape, chunk_shape)));
         }
-        let axes = axes_of(alloc, &array_shape, &chunk_shape)?;
         Ok(RegularChunkGrid {
-            axes: AxisGrid::new(alloc, array_shape, axes)?,
+            axes: AxisGrid::new(alloc, array_shape, &chunk_shape)?,
             chunk_shape,
         })
     }
@@ -130,22 +129,4 @@ impl ChunkGridTraits for RegularChunkGrid {
     ) -> Result<Option<ArrayIndices>, Refusal<IncompatibleDimensionalityError>> {
         self.axes.chunk_indices(alloc, array_indices)
     }
-}
-
-/// For each dimension its size and its edge.
-fn axes_of(
-    alloc: Global,
-    array_shape: &[u64],
-    chunk_shape: &[NonZeroU64],
-) -> Result<Vec<EqualAxis>, AllocError>
-    ensures { IfOk result (λ axes. axes.items ≡ map axis_from (zip array_shape.now chunk_shape.now)) }
-{
-    let mut axes = Vec::with_capacity(alloc, array_shape.len())?;
-    axes.extend(
-        array_shape.iter().zip(chunk_shape).map(|(array_size, edge)| EqualAxis {
-            array_size: *array_size,
-            edge: *edge,
-        }),
-    )?;
-    Ok(axes)
 }

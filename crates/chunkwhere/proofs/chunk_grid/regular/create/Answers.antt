@@ -1,4 +1,4 @@
-use Rattle.std.proofs.Common.{◌≡◌, ◌≢◌, length, map, rules, arith}
+use Rattle.std.proofs.Common.{◌≡◌, length, map, rules, arith}
 use Rattle.std.specs.Int.NonZero.{non_zero_u64_get}
 use Rattle.std.proofs.lemmas.List.{length-map}
 use Rattle.chunkwhere.proofs.chunk_grid.regular.create.Goals as goal

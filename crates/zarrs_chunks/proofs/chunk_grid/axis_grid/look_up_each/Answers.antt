@@ -1,5 +1,5 @@
 use Rattle.std.proofs.Common.{inl, refl, length, ◌≡◌, arith}
-use Rattle.zarrs_chunks.proofs.EachSoFar.{at_start, one_more, at_end}
+use Rattle.zarrs_chunks.proofs.EachSoFar.{one_more, at_end}
 use Rattle.zarrs_chunks.proofs.chunk_grid.axis_grid.look_up_each.Goals as goal
 
 pub returns-in_default-clause-found : goal.returns-in_default-clause-found

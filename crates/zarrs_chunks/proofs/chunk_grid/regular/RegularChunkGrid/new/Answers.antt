@@ -1,13 +1,20 @@
 use Rattle.std.proofs.Common.{arith}
-use Rattle.zarrs_chunks.proofs.EqualAxes.{are_equal_edges, sizes_are, edges_are}
+use Rattle.std.specs.Int.NonZero.{non_zero_u64_get}
+use Rattle.zarrs_chunks.specs.EqualEdges.{IsEqualEdges}
+use Rattle.zarrs_chunks.proofs.EachAxis.{of_mapped}
+use Rattle.zarrs_chunks.proofs.EqualAxes.{edges_are}
+use Rattle.zarrs_chunks.proofs.MadeSoFar.{any_accepted}
 use Rattle.zarrs_chunks.proofs.chunk_grid.regular.RegularChunkGrid.new.Goals as goal
 
 pub new-requires : goal.new-requires
-new-requires c = rw (c.in_ok-axes.ensures, c.deref.ensures.value, c.deref-2.ensures.value) (sizes_are c.args.array_shape.items c.args.chunk_shape.items (omega arith))
+new-requires c = rw c.deref.ensures.value (any_accepted c.args.array_shape.items c.args.chunk_shape.items (omega arith))
 
 pub invariant_of-result : goal.invariant_of-result
 invariant_of-result c =
-    record { edges = rw (c.in_ok-new.ensures, c.in_ok-axes.ensures, c.deref.ensures.value, c.deref-2.ensures.value) (edges_are c.args.array_shape.items c.args.chunk_shape.items (omega arith)) }
+    let made = rw c.deref.ensures.value at c.in_ok-new.ensures in
+    record { edges = edges_are _ _ _ (of_mapped non_zero_u64_get IsEqualEdges _ _ _ made) }
 
 pub returns : goal.returns
-returns c = rw (c.in_ok-new.ensures, c.in_ok-axes.ensures, c.deref.ensures.value, c.deref-2.ensures.value) (are_equal_edges c.args.array_shape.items c.args.chunk_shape.items (omega arith))
+returns c =
+    let made = rw c.deref.ensures.value at c.in_ok-new.ensures in
+    of_mapped non_zero_u64_get IsEqualEdges _ _ _ made

@@ -1,0 +1,31 @@
+use Rattle.std.proofs.Common.{◌≡◌, length, refl, sym, true≢false, arith}
+use Rattle.zarrs_chunks.proofs.MadeSoFar.{none_accepted, one_accepted, all_accepted, same_length}
+use Rattle.zarrs_chunks.proofs.chunk_grid.axis_grid.AxisGrid.accepts.Goals as goal
+
+pub returns-then-array_shape-configurations : goal.returns-then-array_shape-configurations
+returns-then-array_shape-configurations g c =
+    (λ t. absurd (true≢false (sym t)), λ all. absurd (omega (arith, same_length g.A.AxisFrom.accepted _ _ all)))
+
+pub loop-array_size-init : goal.loop-array_size-init
+loop-array_size-init g c =
+    let sizes : c.into_iter-array_size-iterator.result.a.rest.now ≡ c.args.array_shape.now = cc in
+    let configurations : c.into_iter-array_size-iterator.result.b.rest.now ≡ c.args.configurations.now = cc in
+    rw (sizes, configurations) (none_accepted _ _ _ (omega arith))
+
+pub returns-then-not-accepts : goal.returns-then-not-accepts
+returns-then-not-accepts g c =
+    let (sizes, configurations) = c.in-Some.ensures.steps in
+    let so_far = rw (sizes, configurations) at c.loop-array_size.invariant in
+    (λ t. absurd (true≢false (sym t)), λ all. absurd (true≢false (sym (c.if-not-accepts.ensures.1 (so_far.rest all).0))))
+
+pub loop-array_size-preserved : goal.loop-array_size-preserved
+loop-array_size-preserved g c =
+    let (sizes, configurations) = c.in-Some.ensures.steps in
+    let so_far = rw (sizes, configurations) at c.loop-array_size.invariant in
+    one_accepted _ _ _ _ _ _ _ so_far (c.if-not-accepts.ensures.0 refl)
+
+pub returns : goal.returns
+returns g c =
+    let lengths = c.loop-array_size.invariant.lengths in
+    let none : length c.loop-array_size.array_size-iterator.a.rest.now ≡ 0 = grind (arith, c.in-None.ensures.steps, lengths) in
+    (λ t. all_accepted _ _ _ _ _ c.loop-array_size.invariant none, λ all. refl)

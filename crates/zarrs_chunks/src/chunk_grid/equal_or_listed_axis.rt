@@ -1,0 +1,120 @@
+//! One dimension of an array that is cut into chunks of one edge, or with the edges of a list.
+ghost use Rattle.std.specs.Prelude.{◌≤◌, SomeIff, map};
+ghost use Rattle.std.specs.List.{sum};
+ghost use Rattle.std.specs.Int.NonZero.{non_zero_u64_get};
+ghost use Rattle.zarrs_chunk_base.specs.Greatest.{greatest};
+
+use super::axis::{Axis, AxisFrom};
+use super::equal_axis::EqualAxis;
+use super::listed_axis::ListedAxis;
+use std::alloc::{AllocError, Global};
+use std::num::NonZeroU64;
+use zarrs_chunk_base::RectangularChunkGridDimensionConfiguration;
+
+/// One dimension of an array, cut into chunks of one edge or with the edges of a list.
+#[derive(Debug, Drop)]
+pub(crate) enum EqualOrListedAxis {
+    Equal(EqualAxis),
+    Listed(ListedAxis),
+}
+
+impl Axis for EqualOrListedAxis {
+    ghost use Rattle.zarrs_chunks.specs.EqualOrListedAxis.{edges_dimension, edges_chain};
+
+    ghost dimension = { edges_dimension };
+
+    ghost chained = { edges_chain };
+
+    fn array_size(&self) -> u64 {
+        match self {
+            EqualOrListedAxis::Equal(axis) => axis.array_size(),
+            EqualOrListedAxis::Listed(axis) => axis.array_size(),
+        }
+    }
+
+    fn grid_size(&self) -> u64 {
+        match self {
+            EqualOrListedAxis::Equal(axis) => axis.grid_size(),
+            EqualOrListedAxis::Listed(axis) => axis.grid_size(),
+        }
+    }
+
+    fn chunk_of(&self, index: u64) -> Option<u64> {
+        match self {
+            EqualOrListedAxis::Equal(axis) => axis.chunk_of(index),
+            EqualOrListedAxis::Listed(axis) => axis.chunk_of(index),
+        }
+    }
+
+    fn origin_of(&self, chunk: u64) -> Option<u64> {
+        match self {
+            EqualOrListedAxis::Equal(axis) => axis.origin_of(chunk),
+            EqualOrListedAxis::Listed(axis) => axis.origin_of(chunk),
+        }
+    }
+
+    fn edge_of(&self, chunk: u64) -> Option<NonZeroU64> {
+        match self {
+            EqualOrListedAxis::Equal(axis) => axis.edge_of(chunk),
+            EqualOrListedAxis::Listed(axis) => axis.edge_of(chunk),
+        }
+    }
+
+    fn clone(&self) -> Result<EqualOrListedAxis, AllocError> {
+        Ok(match self {
+            EqualOrListedAxis::Equal(axis) => EqualOrListedAxis::Equal(axis.clone()?),
+            EqualOrListedAxis::Listed(axis) => EqualOrListedAxis::Listed(axis.clone()?),
+        })
+    }
+}
+
+/// A dimension of a `rectangular` grid.
+impl AxisFrom<RectangularChunkGridDimensionConfiguration> for EqualOrListedAxis {
+    ghost use Rattle.zarrs_chunk_base.specs.EdgeLengths.{edges_of};
+    ghost use Rattle.zarrs_chunks.specs.Rectangular.{HasEdges, IsExact};
+    ghost use Rattle.zarrs_chunks.specs.RectangularSizes.{size_of_edges};
+
+    ghost accepted = { λ size configuration. IsExact size (edges_of configuration) };
+
+    ghost made = { λ d size configuration. HasEdges d size (edges_of configuration) };
+
+    ghost sized = { λ d size configuration has. size_of_edges d size (edges_of configuration) has };
+
+    fn accepts(
+        array_size: u64,
+        configuration: &RectangularChunkGridDimensionConfiguration,
+    ) -> bool {
+        match configuration {
+            RectangularChunkGridDimensionConfiguration::Fixed(_) => true,
+            RectangularChunkGridDimensionConfiguration::Varying(edges) => {
+                !edges.is_empty() && total(edges) == Some(array_size)
+            }
+        }
+    }
+
+    fn new(
+        alloc: Global,
+        array_size: u64,
+        configuration: &RectangularChunkGridDimensionConfiguration,
+    ) -> Result<EqualOrListedAxis, AllocError> {
+        Ok(match configuration {
+            RectangularChunkGridDimensionConfiguration::Fixed(edge) => {
+                EqualOrListedAxis::Equal(EqualAxis::new(alloc, array_size, edge)?)
+            }
+            RectangularChunkGridDimensionConfiguration::Varying(edges) => {
+                EqualOrListedAxis::Listed(ListedAxis::new(alloc, array_size, edges)?)
+            }
+        })
+    }
+}
+
+/// The sum of the edges, where it is at most the greatest `u64`.
+fn total(edges: &[NonZeroU64]) -> Option<u64>
+    ensures { SomeIff result (sum (map non_zero_u64_get edges.now) ≤ greatest) (sum (map non_zero_u64_get edges.now)) }
+{
+    let mut total = 0u64;
+    for edge in edges {
+        total = total.checked_add(edge.get())?;
+    }
+    Some(total)
+}
