@@ -7,10 +7,10 @@ use Rattle.zarrs_chunk_base.specs.declared.array_subset_error.ArraySubsetError.{
 use Rattle.zarrs_chunk_base.specs.declared.array_subset_error.ArraySubsetError.TheVariants.{Lengths, End}
 
 -- the dimension is the first whose end is past the greatest number
-pub record IsFirstPast (ends : List ℕ) (dimension : ℕ) : Type 0 where
-  pub counted : dimension < length ends
-  pub past : greatest < slice_index ends dimension
-  pub before : (k : ℕ) → k < dimension → slice_index ends k ≤ greatest
+pub record IsFirstPast (numbers : List ℕ) (dimension : ℕ) : Type 0 where
+  pub counted : dimension < length numbers
+  pub past : greatest < slice_index numbers dimension
+  pub before : (k : ℕ) → k < dimension → slice_index numbers k ≤ greatest
 
 -- unequal lengths come before an end that is past the greatest number
 abbrev pub IsBoxFault : List ℕ → List ℕ → ArraySubsetError → Type 0

@@ -29,7 +29,8 @@ pub record HasEdge (d : Dimension) (c s : ℕ) : Type 0 where
   pub chunk : IsTrue (d.has_chunk c)
   pub edge : d.start c + s ≡ d.end c
 
--- chunks lie end to end from 0, each holds something, and those that are counted reach over the array
+-- The chunks follow one another without a gap, the first from 0 on. None is empty. All that are counted are
+-- there, and the array lies within them.
 pub record IsChain (d : Dimension) : Type 0 where
   pub from_zero : IsTrue (d.has_chunk 0) → d.start 0 ≡ 0
   pub not_empty : (c : ℕ) → IsTrue (d.has_chunk c) → d.start c < d.end c

@@ -7,4 +7,5 @@ pub mod EdgeLengths
 pub mod Greatest
 pub mod Listed
 pub mod Refusal
+pub mod RunLength
 pub mod StoreKey

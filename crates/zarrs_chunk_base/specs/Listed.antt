@@ -9,5 +9,5 @@ pub record IsListed (d : Dimension) (size : ℕ) (edges : List ℕ) : Type 0 whe
   pub array_size : d.array_size ≡ size
   pub grid_size : d.grid_size ≡ length edges
   pub chunks : (c : ℕ) → IsTrue (d.has_chunk c) ↔ c < length edges
-  pub start : (c : ℕ) → d.start c ≡ sum (take c edges)
-  pub end : (c : ℕ) → d.end c ≡ sum (take (c + 1) edges)
+  pub start : (c : ℕ) → IsTrue (d.has_chunk c) → d.start c ≡ sum (take c edges)
+  pub end : (c : ℕ) → IsTrue (d.has_chunk c) → d.end c ≡ sum (take (c + 1) edges)

@@ -9,10 +9,17 @@ abbrev pub IfRefused : {E : Type 0} → Refusal E → (E → Type 0) → Type 0
 IfRefused (Refused e) P = P e
 IfRefused (Memory _) P = Unit {0}
 
--- the error tells these lengths, the one given and the one expected
+-- the length that an error tells as given, and the one that it tells as expected
+abbrev pub given_length : IncompatibleDimensionalityError → ℕ
+given_length e = e.given
+
+abbrev pub expected_length : IncompatibleDimensionalityError → ℕ
+expected_length e = e.expected
+
+-- the error tells that m was given and n expected
 pub record TellsLengths (m n : ℕ) (e : IncompatibleDimensionalityError) : Type 0 where
-  pub given : e.given ≡ m
-  pub expected : e.expected ≡ n
+  pub given : given_length e ≡ m
+  pub expected : expected_length e ≡ n
 
 -- a list of another length is refused, and nothing else
 abbrev pub RefusesLength : ℕ → ℕ → Refusal IncompatibleDimensionalityError → Type 0

@@ -48,8 +48,8 @@ impl ArraySubset {
         })
     }
 
-    /// The box of these ranges, one a dimension. A range that ends before its start counts as
-    /// empty at its start.
+    /// The box of these ranges, one a dimension. A backwards range holds nothing and keeps its
+    /// start.
     ///
     /// # Errors
     /// There was no memory.

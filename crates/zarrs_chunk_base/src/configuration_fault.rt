@@ -8,17 +8,21 @@ pub enum ConfigurationFault {
     /// A member that the configuration doesn't have; of several the first by name.
     #[error("unknown field `{field}`, expected {expected}")]
     UnknownField {
+        /// The member's name.
         field: String,
+        /// The names that are known, as `` `chunk_shape` ``.
         expected: &'static str,
     },
     /// A member that has to be there; of several the first by name.
     #[error("missing field `{field}`")]
     MissingField {
+        /// The member's name.
         field: &'static str,
     },
     /// A member whose value isn't of its form; of several the first by name.
     #[error("wrong value in field `{field}`")]
     WrongValue {
+        /// The member's name.
         field: &'static str,
     },
 }

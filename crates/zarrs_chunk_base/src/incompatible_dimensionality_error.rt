@@ -1,6 +1,6 @@
 //! Lists of numbers for the dimensions of a grid, of another length.
 ghost use Rattle.std.specs.Prelude.{◌≡◌};
-ghost use Rattle.zarrs_chunk_base.specs.Refusal.{TellsLengths};
+ghost use Rattle.zarrs_chunk_base.specs.Refusal.{expected_length, given_length, TellsLengths};
 
 use thiserror::Error;
 
@@ -22,14 +22,14 @@ impl IncompatibleDimensionalityError {
 
     /// The length of the list.
     pub fn given(&self) -> usize
-        ensures { result ≡ self.now.given }
+        ensures { result ≡ given_length self.now }
     {
         self.given
     }
 
     /// The number of dimensions.
     pub fn expected(&self) -> usize
-        ensures { result ≡ self.now.expected }
+        ensures { result ≡ expected_length self.now }
     {
         self.expected
     }

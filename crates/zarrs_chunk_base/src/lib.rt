@@ -1,7 +1,7 @@
 //! What every layer of chunk grids and chunk keys speaks of: boxes of indices, keys in a store, and why
 //! calls are refused.
 //!
-//! Every call that takes memory is passed the allocator and can answer that there is none. A box of
+//! Every call that takes memory, save `clone`, is passed the allocator; each can answer that there is none. A box of
 //! indices is made of ranges or of a start and a shape, and never ends past the greatest `u64`:
 //!
 //! ```text
@@ -18,7 +18,8 @@
 //! | `chunk_key_separator` | what stands between the parts of a chunk key |
 //! | `refusal` | a call's own refusal, or want of memory |
 //! | `incompatible_dimensionality_error` | a list of another length than there are dimensions |
-//! | `rectangular_chunk_grid_dimension_configuration` | the chunk edges of one dimension |
+//! | `rectangular_chunk_grid_dimension_configuration`, `chunk_edge_lengths`, `run_length_element` | the chunk edges of one dimension |
+//! | `in_brackets` | a list as a text |
 //! | `plugin_create_error`, `configuration_fault`, `metadata_error` | why an extension isn't made of its metadata |
 #![tactic(auto)]
 
@@ -28,13 +29,16 @@ use std::num::NonZeroU64;
 mod array_subset;
 mod array_subset_error;
 mod box_end_error;
+mod chunk_edge_lengths;
 mod chunk_key_separator;
 mod configuration_fault;
+mod in_brackets;
 mod incompatible_dimensionality_error;
 mod metadata_error;
 mod plugin_create_error;
 mod rectangular_chunk_grid_dimension_configuration;
 mod refusal;
+mod run_length_element;
 mod store_key;
 mod store_key_error;
 #[cfg(test)]
@@ -43,13 +47,16 @@ mod tests;
 pub use array_subset::ArraySubset;
 pub use array_subset_error::ArraySubsetError;
 pub use box_end_error::BoxEndError;
+pub use chunk_edge_lengths::ChunkEdgeLengths;
 pub use chunk_key_separator::ChunkKeySeparator;
 pub use configuration_fault::ConfigurationFault;
+pub use in_brackets::InBrackets;
 pub use incompatible_dimensionality_error::IncompatibleDimensionalityError;
 pub use metadata_error::MetadataError;
 pub use plugin_create_error::PluginCreateError;
 pub use rectangular_chunk_grid_dimension_configuration::RectangularChunkGridDimensionConfiguration;
 pub use refusal::Refusal;
+pub use run_length_element::RunLengthElement;
 pub use store_key::StoreKey;
 pub use store_key_error::StoreKeyError;
 

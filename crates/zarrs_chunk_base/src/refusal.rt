@@ -10,7 +10,9 @@ use std::fmt::{Debug, Display};
 /// A call's own refusal, or want of memory.
 #[derive(Debug, Drop)]
 pub enum Refusal<E> {
+    /// The call's own refusal.
     Refused(E),
+    /// There was no memory.
     Memory(AllocError),
 }
 

@@ -1,8 +1,9 @@
 //! What no contract says: the texts of the errors, and that each call answers with ample memory.
 use crate::{
-    ArraySubset, ArraySubsetError, BoxEndError, ChunkKeySeparator, ConfigurationFault,
-    IncompatibleDimensionalityError, MetadataError, PluginCreateError,
-    RectangularChunkGridDimensionConfiguration, Refusal, StoreKey, StoreKeyError,
+    ArraySubset, ArraySubsetError, BoxEndError, ChunkEdgeLengths, ChunkKeySeparator,
+    ConfigurationFault, InBrackets, IncompatibleDimensionalityError, MetadataError,
+    PluginCreateError, RectangularChunkGridDimensionConfiguration, Refusal, RunLengthElement,
+    StoreKey, StoreKeyError,
 };
 use std::alloc::{AllocError, Global};
 use std::cmp::Ordering;
@@ -113,6 +114,27 @@ fn edges_have_their_texts(rt: HostRuntime) -> Result<(), Fail> {
     for (configuration, text) in [(fixed, "5"), (varying, "[5, 1]"), (none, "[]")] {
         check_text(&rt, &configuration, text)?;
         check_text(&rt, &configuration.clone()?, text)?;
+    }
+    Ok(())
+}
+
+#[test]
+fn elements_have_their_texts(rt: HostRuntime) -> Result<(), Fail> {
+    let five = NonZeroU64::new(5).ok_or("an edge of 0")?;
+    let three = NonZeroU64::new(3).ok_or("a count of 0")?;
+    let mut elements = Vec::new(rt.alloc());
+    elements.push(RunLengthElement::Repeated([five, three]))?;
+    elements.push(RunLengthElement::Single(five))?;
+    check_text(&rt, &InBrackets(&elements), "[[5, 3], 5]")?;
+    let varying = ChunkEdgeLengths::Varying(elements);
+    let none = ChunkEdgeLengths::Varying(Vec::new(rt.alloc()));
+    for (lengths, text) in [
+        (ChunkEdgeLengths::Scalar(five), "5"),
+        (varying, "[[5, 3], 5]"),
+        (none, "[]"),
+    ] {
+        check_text(&rt, &lengths, text)?;
+        check_text(&rt, &lengths.clone()?, text)?;
     }
     Ok(())
 }

@@ -1,7 +1,7 @@
 -- A bounded dimension is that of its clipped edges.
-use Rattle.std.proofs.Common.{◌≡◌, ℕ, zero, suc, ◌+◌, ◌*◌, ◌<◌, ◌≤◌, min, IsTrue, List, [], ◌∷◌, ◌++◌, length, take, replicate, add-one, sym, ◌∙◌, ⊎_elim, arith}
+use Rattle.std.proofs.Common.{◌≡◌, ℕ, zero, suc, ◌+◌, ◌-◌, ◌*◌, ◌/◌, ◌%◌, ◌<◌, ◌≤◌, min, IsTrue, List, [], ◌∷◌, ◌++◌, length, take, replicate, add-one, refl, sym, ◌∙◌, ⊎_elim, arith}
 use Rattle.std.proofs.lemmas.Bool.{cases_lt}
-use Rattle.std.proofs.Math.Nat.{min-eq_left, min-eq_right, mul-le-mul_right, lt_of_mul-lt-mul_right}
+use Rattle.std.proofs.Math.Nat.{div-add-mod', min-eq_left, min-eq_right, mul-le-mul_right, lt_of_mul-lt-mul_right}
 use Rattle.std.specs.List.{sum}
 use Rattle.zarrs_chunk_base.specs.Dimension.{Dimension}
 use Rattle.zarrs_chunk_base.specs.Listed.{IsListed}
@@ -76,13 +76,24 @@ bounded_is_listed bounded listed size edge edges clipped is_bounded is_listed =
     let whole = clipped.whole in
     let count : length edges ≡ whole + 1 = rw clipped.edges_are (length_clipped whole edge clipped.rest) in
     let in_both : (c : ℕ) → IsTrue (bounded.has_chunk c) → c < whole + 1 = λ c has. counted size edge edges clipped c ((is_bounded.chunks c).0 has) in
+    let listed_has : (c : ℕ) → IsTrue (bounded.has_chunk c) → IsTrue (listed.has_chunk c) = λ c has.
+    (is_listed.chunks c).1 (let before = in_both c has in omega arith) in
     record {
       array_size = is_bounded.array_size ∙ sym is_listed.array_size;
       grid_size = counts_alike bounded size edge edges clipped is_bounded ∙ sym (is_listed.grid_size ∙ count);
       chunks = λ c. (
-        λ has. (is_listed.chunks c).1 (let before = in_both c has in omega arith),
+        listed_has c,
         λ has. (is_bounded.chunks c).1 (starts_within size edge edges clipped c (let before = (is_listed.chunks c).0 has in omega arith)),
       );
-      start = λ c has. is_bounded.start c ∙ starts_alike size edge edges clipped c (in_both c has) ∙ sym (is_listed.start c);
-      end = λ c has. is_bounded.end c ∙ ends_alike size edge edges clipped c (in_both c has) ∙ sym (is_listed.end c);
+      start = λ c has. is_bounded.start c has ∙ starts_alike size edge edges clipped c (in_both c has) ∙ sym (is_listed.start c (listed_has c has));
+      end = λ c has. is_bounded.end c has ∙ ends_alike size edge edges clipped c (in_both c has) ∙ sym (is_listed.end c (listed_has c has));
     }
+
+-- there is such a list for every size and edge that aren't 0
+pub has_clipped : (size edge : ℕ) → 0 < size → 0 < edge → (edges : List ℕ) × AreClipped size edge edges
+has_clipped size edge some positive =
+    let whole = (size - 1) / edge in
+    let rest = (size - 1) % edge + 1 in
+    let divided : (size - 1) / edge * edge + (size - 1) % edge ≡ size - 1 = div-add-mod' (size - 1) edge in
+    let small : (size - 1) % edge < edge = omega arith in
+    (replicate whole edge ++ rest ∷ [], record { whole = whole; rest = rest; some = omega arith; at_most = omega arith; size_is = omega arith; edges_are = refl })

@@ -4,5 +4,6 @@ pub mod ClippedEdges
 pub mod EachAxis
 pub mod EachSoFar
 pub mod EqualAxes
+pub mod Expansions
 pub mod ListedAxes
 pub mod MadeSoFar

@@ -8,8 +8,8 @@ use Rattle.zarrs_chunk_base.specs.Dimension.{Dimension, InEach}
 pub record IsBounded (d : Dimension) (size edge : ℕ) : Type 0 where
   pub array_size : d.array_size ≡ size
   pub chunks : (c : ℕ) → IsTrue (d.has_chunk c) ↔ c * edge < size
-  pub start : (c : ℕ) → d.start c ≡ c * edge
-  pub end : (c : ℕ) → d.end c ≡ min ((c + 1) * edge) size
+  pub start : (c : ℕ) → IsTrue (d.has_chunk c) → d.start c ≡ c * edge
+  pub end : (c : ℕ) → IsTrue (d.has_chunk c) → d.end c ≡ min ((c + 1) * edge) size
   pub covers : size ≤ d.grid_size * edge
   pub least : (n : ℕ) → size ≤ n * edge → d.grid_size ≤ n
 

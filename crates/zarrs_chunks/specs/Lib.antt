@@ -12,6 +12,8 @@ pub mod Multiples
 pub mod Rectangular
 pub mod RectangularChunkGrid
 pub mod RectangularSizes
+pub mod Rectilinear
+pub mod RectilinearChunkGrid
 pub mod RegularBoundedChunkGrid
 pub mod RegularChunkGrid
 pub mod Running

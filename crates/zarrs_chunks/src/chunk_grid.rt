@@ -2,16 +2,18 @@
 mod axis;
 mod axis_grid;
 mod bounded_axis;
-mod brackets;
 mod edges;
 mod equal_axis;
 mod equal_or_listed_axis;
 mod listed_axis;
 pub(crate) mod rectangular;
 pub(crate) mod rectangular_create_error;
+pub(crate) mod rectilinear;
+pub(crate) mod rectilinear_create_error;
 pub(crate) mod regular;
 pub(crate) mod regular_bounded;
 pub(crate) mod regular_create_error;
+mod run_lengths;
 
 ghost use Rattle.std.specs.Prelude.{◌≡◌, ℕ, ◌-◌, ◌<◌, List, length, map, slice_index_or};
 ghost use Rattle.std.specs.List.{AllByRecursion};
@@ -36,7 +38,7 @@ use zarrs_chunk_base::{
 ///
 /// Source: Zarr V3 core, chunk grids; ZEP 3, variable chunks.
 pub trait ChunkGridTraits {
-    /// The grid's dimensions, as the value is now.
+    /// What the grid's value means: its dimensions.
     ghost dimensions: { Self → List Dimension };
 
     /// The number of dimensions.

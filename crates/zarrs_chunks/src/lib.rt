@@ -1,8 +1,8 @@
 //! Chunk grids: in which chunk of a large array an element lies, and at which place there.
 //!
-//! A grid is a list of dimensions, and a dimension is a chain of intervals. [`ChunkGridTraits`] says what
+//! Each dimension of a grid is cut into intervals that follow one another, one a chunk. [`ChunkGridTraits`] says what
 //! every grid answers, over its dimensions; [`laws`] says what follows for all grids, also for those of
-//! other crates. Every call that takes memory is passed the allocator and can answer that there is none.
+//! other crates. Every call that takes memory, save `clone`, is passed the allocator; each can answer that there is none.
 //!
 //! ```text
 //! let grid = RegularChunkGrid::new(alloc, array_shape, chunk_shape)?;   // [5, 7, 52], chunks of [1, 2, 3]
@@ -15,9 +15,10 @@
 //! | Module | What it holds |
 //! |---|---|
 //! | `chunk_grid` | the trait of all chunk grids |
-//! | `chunk_grid::regular`, `regular_bounded`, `rectangular` | the grids |
+//! | `chunk_grid::regular`, `regular_bounded`, `rectangular`, `rectilinear` | the grids |
 //! | `chunk_grid::axis`, `axis_grid` | one dimension with its look-ups on single numbers; a list of them, with every loop over dimensions |
 //! | `chunk_grid::equal_axis`, `bounded_axis`, `listed_axis`, `equal_or_listed_axis` | the kinds of dimension |
+//! | `chunk_grid::run_lengths` | run-length elements: their sum, and their edges one by one |
 //! | `laws` | what holds of every chunk grid |
 #![tactic(auto)]
 
@@ -29,6 +30,8 @@ mod tests;
 pub use chunk_grid::ChunkGridTraits;
 pub use chunk_grid::rectangular::RectangularChunkGrid;
 pub use chunk_grid::rectangular_create_error::RectangularChunkGridCreateError;
+pub use chunk_grid::rectilinear::RectilinearChunkGrid;
+pub use chunk_grid::rectilinear_create_error::RectilinearChunkGridCreateError;
 pub use chunk_grid::regular::RegularChunkGrid;
 pub use chunk_grid::regular_bounded::RegularBoundedChunkGrid;
 pub use chunk_grid::regular_create_error::RegularChunkGridCreateError;

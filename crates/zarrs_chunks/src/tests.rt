@@ -1,18 +1,19 @@
 //! What no contract says: that calls succeed with ample memory, texts, and vectors from outside.
 mod stairs;
 
-use crate::laws::{
-    a_bounded_dimension_is_that_of_its_edges, chunk_indices_names_the_home, chunks_share_no_index,
+use crate::laws::{chunk_indices_names_the_home, chunks_share_no_index};
+use crate::{
+    ChunkGridTraits, RectangularChunkGrid, RectilinearChunkGrid, RegularBoundedChunkGrid,
+    RegularChunkGrid,
 };
-use crate::{ChunkGridTraits, RectangularChunkGrid, RegularBoundedChunkGrid, RegularChunkGrid};
 use stairs::Stairs;
 use std::alloc::{AllocError, Global};
 use std::num::NonZeroU64;
 use std::process::Abort;
 use std::test::Fail;
 use zarrs_chunk_base::{
-    ChunkShape, IncompatibleDimensionalityError, RectangularChunkGridDimensionConfiguration,
-    Refusal,
+    ChunkEdgeLengths, ChunkShape, IncompatibleDimensionalityError,
+    RectangularChunkGridDimensionConfiguration, Refusal, RunLengthElement,
 };
 
 const MAX: u64 = u64::MAX;
@@ -73,6 +74,31 @@ fn rectangular(
 ) -> Result<RectangularChunkGrid, Fail> {
     let chunk_shape = configurations(alloc, dimensions)?;
     Ok(RectangularChunkGrid::new(alloc, array_shape.to_vec(alloc)?, &chunk_shape)?)
+}
+
+/// Single edges.
+fn singles(alloc: Global, numbers: &[u64]) -> Result<ChunkEdgeLengths, Fail> {
+    let mut elements = Vec::new(alloc);
+    for number in numbers {
+        let edge = NonZeroU64::new(*number).ok_or("an edge of 0")?;
+        elements.push(RunLengthElement::Single(edge))?;
+    }
+    Ok(ChunkEdgeLengths::Varying(elements))
+}
+
+/// Edges with their counts.
+fn runs(alloc: Global, pairs: &[[u64; 2]]) -> Result<ChunkEdgeLengths, Fail> {
+    let mut elements = Vec::new(alloc);
+    for [edge, count] in pairs {
+        let edge = NonZeroU64::new(*edge).ok_or("an edge of 0")?;
+        let count = NonZeroU64::new(*count).ok_or("a count of 0")?;
+        elements.push(RunLengthElement::Repeated([edge, count]))?;
+    }
+    Ok(ChunkEdgeLengths::Varying(elements))
+}
+
+fn scalar(number: u64) -> Result<ChunkEdgeLengths, Fail> {
+    Ok(ChunkEdgeLengths::Scalar(NonZeroU64::new(number).ok_or("an edge of 0")?))
 }
 
 /// The element lies in this chunk, at this place there.
@@ -188,7 +214,13 @@ fn regular_grids_are_looked_up(rt: HostRuntime) -> Result<(), Fail> {
         copy.chunk_shape_u64(rt.alloc())?.as_slice(),
         [1, 2, 3].as_slice()
     );
-    assert_eq!(rt; copy.chunk_shape().len(), 3);
+    let own = copy.chunk_shape();
+    assert_eq!(rt; own.len(), 3);
+    assert!(rt;
+        own.iter()
+            .zip(&[1, 2, 3])
+            .all(|(edge, size)| edge.get() == *size)
+    );
 
     let unlimited = regular(rt.alloc(), &[5, 7, 0], &[1, 2, 3])?;
     assert_eq!(rt; unlimited.grid_shape(), [5, 4, 0].as_slice());
@@ -258,7 +290,8 @@ fn shapes_of_unequal_lengths_make_no_regular_grid(rt: HostRuntime) -> Result<(),
     let chunk_shape = edges(rt.alloc(), &[1, 2, 3])?;
     let error = match RegularChunkGrid::new(rt.alloc(), array_shape, chunk_shape) {
         Err(Refusal::Refused(error)) => error,
-        _ => return Err("the shapes were accepted".into()),
+        Err(Refusal::Memory(error)) => return Err(error.into()),
+        Ok(_) => return Err("the shapes were accepted".into()),
     };
     let text = "regular chunk shape: [1, 2, 3] not compatible with array shape [0]";
     assert_eq!(rt; error.to_string(rt.alloc())?.as_str(), text);
@@ -281,6 +314,7 @@ fn bounded_grids_are_looked_up(rt: HostRuntime) -> Result<(), Fail> {
     check_chunk(&rt, &grid, &[1, 1, 1], Some(&[1, 2, 3]), Some(&[1, 2, 3]))?;
     check_chunk(&rt, &grid, &[0, 3, 17], Some(&[0, 6, 51]), Some(&[1, 1, 1]))?;
     check_chunk(&rt, &grid, &[5, 0, 0], None, None)?;
+    check_chunk(&rt, &grid, &[0, 0, 0], Some(&[0, 0, 0]), Some(&[1, 2, 3]))?;
     check_home(
         &rt,
         &grid.clone()?,
@@ -350,7 +384,8 @@ fn check_no_rectangular_grid(
     let array_shape = array_shape.to_vec(rt.alloc())?;
     let error = match RectangularChunkGrid::new(rt.alloc(), array_shape, &chunk_shape) {
         Err(Refusal::Refused(error)) => error,
-        _ => return Err("the edges were accepted".into()),
+        Err(Refusal::Memory(error)) => return Err(error.into()),
+        Ok(_) => return Err("the edges were accepted".into()),
     };
     assert_eq!(rt; error.to_string(rt.alloc())?.as_str(), text);
     assert_eq!(rt; error.clone()?.to_string(rt.alloc())?.as_str(), text);
@@ -403,14 +438,156 @@ fn shapes_of_unequal_lengths_make_no_bounded_grid(rt: HostRuntime) -> Result<(),
             assert_eq!(rt; error.expected(), 1);
             Ok(())
         }
-        _ => Err("the shapes were accepted".into()),
+        Err(Refusal::Memory(error)) => Err(error.into()),
+        Ok(_) => Err("the shapes were accepted".into()),
     }
 }
 
 #[test]
+fn rectilinear_grids_are_looked_up(rt: HostRuntime) -> Result<(), Fail> {
+    let alloc = rt.alloc();
+    let past = vec![in alloc; singles(alloc, &[4, 4, 4])?, singles(alloc, &[3, 3, 3])?]?;
+    let grid = RectilinearChunkGrid::new(alloc, [6, 6].to_vec(alloc)?, &past)?;
+    assert_eq!(rt; grid.dimensionality(), 2);
+    assert_eq!(rt; grid.array_shape(), [6, 6].as_slice());
+    assert_eq!(rt; grid.grid_shape(), [3, 3].as_slice());
+    check_home(&rt, &grid, &[5, 5], Some((&[1, 1], &[1, 2])))?;
+    check_home(&rt, &grid, &[11, 0], Some((&[2, 0], &[3, 0])))?;
+    check_home(&rt, &grid, &[12, 0], None)?;
+    check_home(&rt, &grid.clone()?, &[5, 5], Some((&[1, 1], &[1, 2])))?;
+    let exact = vec![in alloc; singles(alloc, &[3, 3])?, singles(alloc, &[3, 3])?]?;
+    let grid = RectilinearChunkGrid::new(alloc, [6, 6].to_vec(alloc)?, &exact)?;
+    assert_eq!(rt; grid.grid_shape(), [2, 2].as_slice());
+    let unlimited = vec![in alloc; singles(alloc, &[4])?]?;
+    let grid = RectilinearChunkGrid::new(alloc, [0].to_vec(alloc)?, &unlimited)?;
+    assert_eq!(rt; grid.grid_shape(), [1].as_slice());
+
+    let scalars = vec![in alloc; scalar(10)?, scalar(20)?]?;
+    let grid = RectilinearChunkGrid::new(alloc, [100, 100].to_vec(alloc)?, &scalars)?;
+    check_home(&rt, &grid, &[25, 45], Some((&[2, 2], &[5, 5])))?;
+    check_chunk(&rt, &grid, &[9, 4], Some(&[90, 80]), Some(&[10, 20]))?;
+    let listed = singles(alloc, &[5, 5, 5, 15, 15, 20, 35])?;
+    let mixed = vec![in alloc; scalar(10)?, listed]?;
+    let grid = RectilinearChunkGrid::new(alloc, [100, 100].to_vec(alloc)?, &mixed)?;
+    check_chunk(&rt, &grid, &[2, 3], Some(&[20, 15]), Some(&[10, 15]))?;
+
+    let first = singles(alloc, &[10, 20, 30, 40])?;
+    let edges = vec![in alloc; first, scalar(25)?, singles(alloc, &[5, 15, 30])?]?;
+    let grid = RectilinearChunkGrid::new(alloc, [100, 100, 50].to_vec(alloc)?, &edges)?;
+    assert_eq!(rt; grid.grid_shape(), [4, 4, 3].as_slice());
+    check_chunk(
+        &rt,
+        &grid,
+        &[3, 3, 2],
+        Some(&[60, 75, 20]),
+        Some(&[40, 25, 30]),
+    )?;
+    check_chunk(&rt, &grid, &[4, 0, 0], None, None)?;
+    check_home(&rt, &grid, &[150, 150, 150], None)?;
+    check_refused(&rt, grid.chunk_indices(alloc, &[0, 0]), 2, 3);
+    check_refused(&rt, grid.chunk_origin(alloc, &[0, 0, 0, 0]), 4, 3);
+    Ok(())
+}
+
+#[test]
+fn runs_of_edges_are_looked_up(rt: HostRuntime) -> Result<(), Fail> {
+    let alloc = rt.alloc();
+    let listed = runs(alloc, &[[5, 3], [15, 2], [20, 1], [35, 1]])?;
+    let edges = vec![in alloc; listed, scalar(10)?]?;
+    let grid = RectilinearChunkGrid::new(alloc, [100, 100].to_vec(alloc)?, &edges)?;
+    assert_eq!(rt; grid.grid_shape(), [7, 10].as_slice());
+    check_chunk(&rt, &grid, &[4, 0], Some(&[30, 0]), Some(&[15, 10]))?;
+    check_chunk(&rt, &grid, &[6, 0], Some(&[65, 0]), Some(&[35, 10]))?;
+    check_home(&rt, &grid, &[17, 17], Some((&[3, 1], &[2, 7])))?;
+    let grid = RectilinearChunkGrid::new(alloc, [100, 0].to_vec(alloc)?, &edges)?;
+    assert_eq!(rt; grid.grid_shape(), [7, 0].as_slice());
+    check_chunk(&rt, &grid, &[6, 123], Some(&[65, 1230]), Some(&[35, 10]))?;
+    check_chunk(&rt, &grid, &[6, 100], Some(&[65, 1000]), Some(&[35, 10]))?;
+
+    let tens = runs(alloc, &[[10, 10]])?;
+    let edges = vec![in alloc; singles(alloc, &[5, 5, 5, 15, 15, 20, 35])?, tens]?;
+    let grid = RectilinearChunkGrid::new(alloc, [100, 100].to_vec(alloc)?, &edges)?;
+    check_home(&rt, &grid, &[99, 99], Some((&[6, 9], &[34, 9])))?;
+
+    let two = vec![in alloc; singles(alloc, &[5, 3])?]?;
+    let grid = RectilinearChunkGrid::new(alloc, [8].to_vec(alloc)?, &two)?;
+    assert_eq!(rt; grid.grid_shape(), [2].as_slice());
+    let three = vec![in alloc; runs(alloc, &[[5, 3]])?]?;
+    let grid = RectilinearChunkGrid::new(alloc, [8].to_vec(alloc)?, &three)?;
+    assert_eq!(rt; grid.grid_shape(), [3].as_slice());
+
+    let count = vec![in alloc; runs(alloc, &[[1, MAX]])?]?;
+    match RectilinearChunkGrid::new(alloc, [MAX].to_vec(alloc)?, &count) {
+        Err(Refusal::Memory(_)) => Ok(()),
+        _ => Err("so many edges found room".into()),
+    }
+}
+
+/// There is no rectilinear grid of this shape and these edges, and the error and its copy say so.
+fn check_no_rectilinear_grid(
+    rt: &(impl Abort + AllocGlobal),
+    array_shape: &[u64],
+    edges: &[ChunkEdgeLengths],
+    text: &str,
+) -> Result<(), Fail> {
+    let array_shape = array_shape.to_vec(rt.alloc())?;
+    let error = match RectilinearChunkGrid::new(rt.alloc(), array_shape, edges) {
+        Err(Refusal::Refused(error)) => error,
+        Err(Refusal::Memory(error)) => return Err(error.into()),
+        Ok(_) => return Err("the edges were accepted".into()),
+    };
+    assert_eq!(rt; error.to_string(rt.alloc())?.as_str(), text);
+    assert_eq!(rt; error.clone()?.to_string(rt.alloc())?.as_str(), text);
+    Ok(())
+}
+
+#[test]
+fn edges_short_of_the_array_or_past_every_number_make_no_rectilinear_grid(
+    rt: HostRuntime,
+) -> Result<(), Fail> {
+    let alloc = rt.alloc();
+    let mut elements = Vec::new(alloc);
+    let five = NonZeroU64::new(5).ok_or("an edge of 0")?;
+    let three = NonZeroU64::new(3).ok_or("a count of 0")?;
+    let twenty = NonZeroU64::new(20).ok_or("an edge of 0")?;
+    elements.push(RunLengthElement::Repeated([five, three]))?;
+    elements.push(RunLengthElement::Single(twenty))?;
+    check_no_rectilinear_grid(
+        &rt,
+        &[123, 100],
+        &vec![in alloc; ChunkEdgeLengths::Varying(elements), scalar(10)?]?,
+        "rectilinear chunk grid configuration: [[[5, 3], 20], 10] not compatible with array shape [123, 100]",
+    )?;
+    check_no_rectilinear_grid(
+        &rt,
+        &[6, 6],
+        &vec![in alloc; singles(alloc, &[2, 2])?, singles(alloc, &[3, 3])?]?,
+        "rectilinear chunk grid configuration: [[2, 2], [3, 3]] not compatible with array shape [6, 6]",
+    )?;
+    check_no_rectilinear_grid(
+        &rt,
+        &[1],
+        &vec![in alloc; singles(alloc, &[])?]?,
+        "rectilinear chunk grid configuration: [[]] not compatible with array shape [1]",
+    )?;
+    check_no_rectilinear_grid(
+        &rt,
+        &[1],
+        &vec![in alloc; runs(alloc, &[[2, 9223372036854775808]])?]?,
+        "rectilinear chunk grid configuration: [[[2, 9223372036854775808]]] not compatible with array shape [1]",
+    )?;
+    check_no_rectilinear_grid(
+        &rt,
+        &[1],
+        &vec![in alloc; runs(alloc, &[[MAX, MAX], [MAX, MAX]])?]?,
+        "rectilinear chunk grid configuration: [[[18446744073709551615, 18446744073709551615], [18446744073709551615, 18446744073709551615]]] not compatible with array shape [1]",
+    )
+}
+
+#[test]
 fn a_grid_from_outside_is_looked_up(rt: HostRuntime) -> Result<(), Fail> {
+    // The law holds of this grid too: the call compiles, and there is nothing to compare.
     chunks_share_no_index(&Stairs);
-    a_bounded_dimension_is_that_of_its_edges();
     assert_eq!(rt; Stairs.dimensionality(), 1);
     assert_eq!(rt; Stairs.array_shape(), [6].as_slice());
     assert_eq!(rt; Stairs.grid_shape(), [3].as_slice());

@@ -1,4 +1,4 @@
-//! Any number of dimensions of one kind: every loop over dimensions is here.
+//! The dimensions of a grid, and the loops over them that all grids share.
 ghost use Rattle.std.specs.Prelude.{◌≡◌, ◌↔◌, IfOk, IsOk, IsTrue, List, MatchOption, length, map};
 ghost use Rattle.std.specs.List.{AllZip};
 ghost use Rattle.zarrs_chunk_base.specs.Dimension.{InEach};

@@ -7,9 +7,10 @@ ghost use Rattle.zarrs_chunk_base.specs.Greatest.{greatest};
 use super::axis::{Axis, AxisFrom};
 use super::equal_axis::EqualAxis;
 use super::listed_axis::ListedAxis;
+use super::run_lengths;
 use std::alloc::{AllocError, Global};
 use std::num::NonZeroU64;
-use zarrs_chunk_base::RectangularChunkGridDimensionConfiguration;
+use zarrs_chunk_base::{ChunkEdgeLengths, RectangularChunkGridDimensionConfiguration};
 
 /// One dimension of an array, cut into chunks of one edge or with the edges of a list.
 #[derive(Debug, Drop)]
@@ -102,6 +103,46 @@ impl AxisFrom<RectangularChunkGridDimensionConfiguration> for EqualOrListedAxis 
                 EqualOrListedAxis::Equal(EqualAxis::new(alloc, array_size, edge)?)
             }
             RectangularChunkGridDimensionConfiguration::Varying(edges) => {
+                EqualOrListedAxis::Listed(ListedAxis::new(alloc, array_size, edges.to_vec(alloc)?)?)
+            }
+        })
+    }
+}
+
+/// A dimension of a `rectilinear` grid.
+impl AxisFrom<ChunkEdgeLengths> for EqualOrListedAxis {
+    ghost use Rattle.zarrs_chunk_base.specs.RunLength.{expanded};
+    ghost use Rattle.zarrs_chunks.specs.Rectangular.{HasEdges};
+    ghost use Rattle.zarrs_chunks.specs.RectangularSizes.{size_of_edges};
+    ghost use Rattle.zarrs_chunks.specs.Rectilinear.{IsReaching};
+
+    ghost accepted = { IsReaching };
+
+    ghost made = { λ d size lengths. HasEdges d size (expanded lengths) };
+
+    ghost sized = { λ d size lengths has. size_of_edges d size (expanded lengths) has };
+
+    fn accepts(array_size: u64, lengths: &ChunkEdgeLengths) -> bool {
+        match lengths {
+            ChunkEdgeLengths::Scalar(_) => true,
+            ChunkEdgeLengths::Varying(elements) => match run_lengths::total(elements) {
+                Some(sum) => !elements.is_empty() && array_size <= sum,
+                None => false,
+            },
+        }
+    }
+
+    fn new(
+        alloc: Global,
+        array_size: u64,
+        lengths: &ChunkEdgeLengths,
+    ) -> Result<EqualOrListedAxis, AllocError> {
+        Ok(match lengths {
+            ChunkEdgeLengths::Scalar(edge) => {
+                EqualOrListedAxis::Equal(EqualAxis::new(alloc, array_size, edge)?)
+            }
+            ChunkEdgeLengths::Varying(elements) => {
+                let edges = run_lengths::expand(alloc, elements)?;
                 EqualOrListedAxis::Listed(ListedAxis::new(alloc, array_size, edges)?)
             }
         })

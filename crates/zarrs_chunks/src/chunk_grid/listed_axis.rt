@@ -31,16 +31,16 @@ impl ListedAxis {
     pub(crate) fn new(
         alloc: Global,
         array_size: u64,
-        edges: &[NonZeroU64],
+        edges: Vec<NonZeroU64>,
     ) -> Result<ListedAxis, AllocError>
-        requires covers { array_size ≤ sum (map non_zero_u64_get edges.now) }
-        requires fits { sum (map non_zero_u64_get edges.now) ≤ greatest }
-        ensures { IfOk result (λ axis. IsListed (listed_of axis) array_size (map non_zero_u64_get edges.now)) }
+        requires covers { array_size ≤ sum (map non_zero_u64_get edges.items) }
+        requires fits { sum (map non_zero_u64_get edges.items) ≤ greatest }
+        ensures { IfOk result (λ axis. IsListed (listed_of axis) array_size (map non_zero_u64_get edges.items)) }
     {
-        let starts = starts_of(alloc, edges)?;
+        let starts = starts_of(alloc, &edges)?;
         Ok(ListedAxis {
             array_size,
-            edges: edges.to_vec(alloc)?,
+            edges,
             starts,
         })
     }

@@ -2,11 +2,10 @@
 ghost use Rattle.std.specs.Prelude.{◌≡◌, IfOk, map};
 ghost use Rattle.zarrs_chunk_base.specs.EdgeLengths.{edges_of};
 
-use super::brackets::write_in_brackets;
 use std::alloc::{AllocError, Global};
 use std::error::Error;
 use std::fmt;
-use zarrs_chunk_base::{ArrayShape, RectangularChunkGridDimensionConfiguration};
+use zarrs_chunk_base::{ArrayShape, InBrackets, RectangularChunkGridDimensionConfiguration};
 
 /// An array shape and edges of which there is no rectangular grid, handed back.
 #[derive(Debug, Drop)]
@@ -44,9 +43,12 @@ impl RectangularChunkGridCreateError {
 
 impl fmt::Display for RectangularChunkGridCreateError {
     fn fmt<W: fmt::Write>(&self, f: &mut fmt::Formatter<W>) -> fmt::Result {
-        f.write_str("rectangular chunk grid configuration: ")?;
-        write_in_brackets(f, &self.1)?;
-        write!(f, " not compatible with array shape {:?}", self.0)
+        let edges = InBrackets(&self.1);
+        let array_shape = &self.0;
+        write!(
+            f,
+            "rectangular chunk grid configuration: {edges} not compatible with array shape {array_shape:?}"
+        )
     }
 }
 

@@ -27,7 +27,7 @@ pub struct RegularChunkGrid {
 
 impl RegularChunkGrid {
     ghost use Rattle.std.specs.Prelude.{◌≡◌, ◌≢◌, IfOk, MatchResult, length, map};
-    ghost use Rattle.zarrs_chunk_base.specs.Refusal.{IfRefused};
+    ghost use Rattle.zarrs_chunk_base.specs.Refusal.{HasMemory, IfRefused};
     ghost use Rattle.zarrs_chunks.specs.EqualEdges.{AreEqualEdges, HaveEdges};
     ghost use Rattle.zarrs_chunks.specs.RegularChunkGrid.{dimensions_of};
 
@@ -41,9 +41,10 @@ impl RegularChunkGrid {
         array_shape: ArrayShape,
         chunk_shape: ChunkShape,
     ) -> Result<RegularChunkGrid, Refusal<RegularChunkGridCreateError>>
-        ensures { MatchResult result
+        ensures made { MatchResult result
             (λ grid. AreEqualEdges (dimensions_of grid) array_shape.items (map non_zero_u64_get chunk_shape.items))
             (λ refusal. IfRefused refusal (λ e. (length chunk_shape.items ≢ length array_shape.items) × (e.0 ≡ array_shape) × (e.1 ≡ chunk_shape))) }
+        ensures refused_first { length chunk_shape.items ≢ length array_shape.items → HasMemory result }
     {
         if chunk_shape.len() != array_shape.len() {
             return Err(Refusal::Refused(RegularChunkGridCreateError(array_shape, chunk_shape)));

@@ -19,7 +19,7 @@ pub struct RegularBoundedChunkGrid {
 impl RegularBoundedChunkGrid {
     ghost use Rattle.std.specs.Prelude.{◌≡◌, ◌≢◌, IfOk, MatchResult, length, map};
     ghost use Rattle.std.specs.Int.NonZero.{non_zero_u64_get};
-    ghost use Rattle.zarrs_chunk_base.specs.Refusal.{IfRefused, TellsLengths};
+    ghost use Rattle.zarrs_chunk_base.specs.Refusal.{HasMemory, IfRefused, TellsLengths};
     ghost use Rattle.zarrs_chunks.specs.Bounded.{AreBounded};
     ghost use Rattle.zarrs_chunks.specs.RegularBoundedChunkGrid.{dimensions_of};
 
@@ -34,10 +34,11 @@ impl RegularBoundedChunkGrid {
         array_shape: ArrayShape,
         chunk_shape: ChunkShape,
     ) -> Result<RegularBoundedChunkGrid, Refusal<IncompatibleDimensionalityError>>
-        ensures { MatchResult result
+        ensures made { MatchResult result
             (λ grid. AreBounded (dimensions_of grid) array_shape.items (map non_zero_u64_get chunk_shape.items))
             (λ refusal. IfRefused refusal (λ e. (length chunk_shape.items ≢ length array_shape.items)
             × TellsLengths (length chunk_shape.items) (length array_shape.items) e)) }
+        ensures refused_first { length chunk_shape.items ≢ length array_shape.items → HasMemory result }
     {
         if chunk_shape.len() != array_shape.len() {
             return Err(Refusal::Refused(IncompatibleDimensionalityError::new(

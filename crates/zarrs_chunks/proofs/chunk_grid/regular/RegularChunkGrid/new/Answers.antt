@@ -14,7 +14,7 @@ invariant_of-result c =
     let made = rw c.deref.ensures.value at c.in_ok-new.ensures in
     record { edges = edges_are _ _ _ (of_mapped non_zero_u64_get IsEqualEdges _ _ _ made) }
 
-pub returns : goal.returns
-returns c =
+pub returns-clause-made : goal.returns-clause-made
+returns-clause-made c =
     let made = rw c.deref.ensures.value at c.in_ok-new.ensures in
     of_mapped non_zero_u64_get IsEqualEdges _ _ _ made

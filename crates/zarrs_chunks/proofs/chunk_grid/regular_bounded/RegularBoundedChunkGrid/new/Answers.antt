@@ -8,7 +8,7 @@ use Rattle.zarrs_chunks.proofs.chunk_grid.regular_bounded.RegularBoundedChunkGri
 pub new-requires-2 : goal.new-requires-2
 new-requires-2 c = rw c.deref.ensures.value (any_accepted c.args.array_shape.items c.args.chunk_shape.items (omega arith))
 
-pub returns : goal.returns
-returns c =
+pub returns-clause-made : goal.returns-clause-made
+returns-clause-made c =
     let made = rw c.deref.ensures.value at c.in_ok-new.ensures in
     of_mapped non_zero_u64_get IsBounded _ _ _ made

@@ -1,0 +1,30 @@
+-- The chunk edges of one dimension as run-length elements.
+-- Source: the `rectilinear` extension of zarr-extensions.
+use Rattle.std.specs.Prelude.{◌≡◌, ℕ, List, [], ◌∷◌, ◌++◌, map, replicate, slice_index}
+use Rattle.std.specs.Int.NonZero.{non_zero_u64_get}
+use Rattle.zarrs_chunk_base.specs.EdgeLengths.{EdgeLengths, one, each}
+use Rattle.zarrs_chunk_base.specs.declared.run_length_element.RunLengthElement.{RunLengthElement}
+use Rattle.zarrs_chunk_base.specs.declared.run_length_element.RunLengthElement.TheVariants.{Single, Repeated}
+use Rattle.zarrs_chunk_base.specs.declared.chunk_edge_lengths.ChunkEdgeLengths.{ChunkEdgeLengths}
+use Rattle.zarrs_chunk_base.specs.declared.chunk_edge_lengths.ChunkEdgeLengths.TheVariants.{Scalar, Varying}
+
+-- the edges that an element stands for: one, or so many equal ones (the value comes first, then the count)
+abbrev pub element_edges : RunLengthElement → List ℕ
+element_edges (Single edge) = non_zero_u64_get edge ∷ []
+element_edges (Repeated pair) = let numbers = map non_zero_u64_get pair in replicate (slice_index numbers 1) (slice_index numbers 0)
+
+-- the edges that elements stand for, joined in order
+abbrev pub expansion : List RunLengthElement → List ℕ
+expansion [] = []
+expansion (element ∷ elements) = element_edges element ++ expansion elements
+
+-- the edges of a dimension of a `rectilinear` grid
+abbrev pub expanded : ChunkEdgeLengths → EdgeLengths
+expanded (Scalar edge) = one (non_zero_u64_get edge)
+expanded (Varying elements) = each (expansion elements.items)
+
+-- the same edge, or the same elements
+abbrev pub IsSameLengths : ChunkEdgeLengths → ChunkEdgeLengths → Type 0
+IsSameLengths (Scalar edge) (Scalar other) = edge ≡ other
+IsSameLengths (Varying elements) (Varying others) = elements.items ≡ others.items
+IsSameLengths _ _ = ⊥

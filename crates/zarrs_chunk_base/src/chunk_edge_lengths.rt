@@ -1,0 +1,45 @@
+//! The chunk edges of one dimension of a `rectilinear` grid.
+ghost use Rattle.std.specs.Prelude.{IfOk};
+ghost use Rattle.zarrs_chunk_base.specs.RunLength.{IsSameLengths};
+
+use crate::in_brackets::InBrackets;
+use crate::run_length_element::RunLengthElement;
+use std::alloc::AllocError;
+use std::fmt;
+use std::num::NonZeroU64;
+
+/// The chunk edges of one dimension, in elements.
+///
+/// Source: the `rectilinear` extension of zarr-extensions.
+#[derive(Debug, Drop)]
+pub enum ChunkEdgeLengths {
+    /// One edge for all chunks.
+    Scalar(NonZeroU64),
+    /// The edges of the chunks, in order.
+    Varying(Vec<RunLengthElement>),
+}
+
+impl ChunkEdgeLengths {
+    /// Edge lengths of the same elements.
+    ///
+    /// # Errors
+    /// There was no memory.
+    pub fn clone(&self) -> Result<ChunkEdgeLengths, AllocError>
+        ensures { IfOk result (λ copy. IsSameLengths copy self.now) }
+    {
+        Ok(match self {
+            ChunkEdgeLengths::Scalar(edge) => ChunkEdgeLengths::Scalar(*edge),
+            ChunkEdgeLengths::Varying(elements) => ChunkEdgeLengths::Varying(elements.clone()?),
+        })
+    }
+}
+
+/// An edge as its number, elements as `[[5, 3], 20]`.
+impl fmt::Display for ChunkEdgeLengths {
+    fn fmt<W: fmt::Write>(&self, f: &mut fmt::Formatter<W>) -> fmt::Result {
+        match self {
+            ChunkEdgeLengths::Scalar(edge) => write!(f, "{edge}"),
+            ChunkEdgeLengths::Varying(elements) => write!(f, "{}", InBrackets(elements)),
+        }
+    }
+}

@@ -1,0 +1,53 @@
+//! Why there is no rectilinear grid.
+ghost use Rattle.std.specs.Prelude.{◌≡◌, IfOk};
+ghost use Rattle.std.specs.List.{AllZip};
+ghost use Rattle.zarrs_chunk_base.specs.RunLength.{IsSameLengths};
+
+use std::alloc::{AllocError, Global};
+use std::error::Error;
+use std::fmt;
+use zarrs_chunk_base::{ArrayShape, ChunkEdgeLengths, InBrackets};
+
+/// An array shape and edges of which there is no rectilinear grid, handed back.
+#[derive(Debug, Drop)]
+pub struct RectilinearChunkGridCreateError(pub ArrayShape, pub Vec<ChunkEdgeLengths>);
+
+impl RectilinearChunkGridCreateError {
+    /// The error about an array shape and a copy of the edges.
+    pub(crate) fn new(
+        alloc: Global,
+        array_shape: ArrayShape,
+        chunk_shapes: &[ChunkEdgeLengths],
+    ) -> Result<RectilinearChunkGridCreateError, AllocError>
+        ensures { IfOk result (λ e. (e.0 ≡ array_shape) × AllZip IsSameLengths e.1.items chunk_shapes.now) }
+    {
+        let mut copies = Vec::with_capacity(alloc, chunk_shapes.len())?;
+        for lengths in chunk_shapes {
+            copies.push(lengths.clone()?)?;
+        }
+        Ok(RectilinearChunkGridCreateError(array_shape, copies))
+    }
+
+    /// A copy.
+    ///
+    /// # Errors
+    /// There was no memory.
+    pub fn clone(&self) -> Result<RectilinearChunkGridCreateError, AllocError>
+        ensures { IfOk result (λ e. (e.0.items ≡ (self.now).0.items) × AllZip IsSameLengths e.1.items (self.now).1.items) }
+    {
+        RectilinearChunkGridCreateError::new(*self.1.allocator(), self.0.clone()?, &self.1)
+    }
+}
+
+impl fmt::Display for RectilinearChunkGridCreateError {
+    fn fmt<W: fmt::Write>(&self, f: &mut fmt::Formatter<W>) -> fmt::Result {
+        let edges = InBrackets(&self.1);
+        let array_shape = &self.0;
+        write!(
+            f,
+            "rectilinear chunk grid configuration: {edges} not compatible with array shape {array_shape:?}"
+        )
+    }
+}
+
+impl Error for RectilinearChunkGridCreateError {}
