@@ -44,7 +44,7 @@ IsChunk [] [] = Unit {0}
 IsChunk (d ∷ ds) (c ∷ chunk) = IsTrue (d.has_chunk c) × IsChunk ds chunk
 IsChunk _ _ = ⊥
 
--- what a chunk number and a value are to each other holds in each dimension
+-- what a dimension, a number and a value are to each other holds in each dimension
 abbrev pub InEach : {X : Type 0} → (Dimension → ℕ → X → Type 0) → List Dimension → List ℕ → List X → Type 0
 InEach R [] [] [] = Unit {0}
 InEach R (d ∷ ds) (c ∷ chunk) (x ∷ xs) = R d c x × InEach R ds chunk xs

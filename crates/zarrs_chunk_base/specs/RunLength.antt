@@ -8,10 +8,14 @@ use Rattle.zarrs_chunk_base.specs.declared.run_length_element.RunLengthElement.T
 use Rattle.zarrs_chunk_base.specs.declared.chunk_edge_lengths.ChunkEdgeLengths.{ChunkEdgeLengths}
 use Rattle.zarrs_chunk_base.specs.declared.chunk_edge_lengths.ChunkEdgeLengths.TheVariants.{Scalar, Varying}
 
--- the edges that an element stands for: one, or so many equal ones (the value comes first, then the count)
+-- the edges that an element stands for: one, or so many equal ones (of a pair the edge comes first, then the count)
 abbrev pub element_edges : RunLengthElement → List ℕ
 element_edges (Single edge) = non_zero_u64_get edge ∷ []
-element_edges (Repeated pair) = let numbers = map non_zero_u64_get pair in replicate (slice_index numbers 1) (slice_index numbers 0)
+element_edges (Repeated pair) =
+    let numbers = map non_zero_u64_get pair in
+    let edge = slice_index numbers 0 in
+    let count = slice_index numbers 1 in
+    replicate count edge
 
 -- the edges that elements stand for, joined in order
 abbrev pub expansion : List RunLengthElement → List ℕ
@@ -24,7 +28,7 @@ expanded (Scalar edge) = one (non_zero_u64_get edge)
 expanded (Varying elements) = each (expansion elements.items)
 
 -- the same edge, or the same elements
-abbrev pub IsSameLengths : ChunkEdgeLengths → ChunkEdgeLengths → Type 0
-IsSameLengths (Scalar edge) (Scalar other) = edge ≡ other
-IsSameLengths (Varying elements) (Varying others) = elements.items ≡ others.items
-IsSameLengths _ _ = ⊥
+abbrev pub IsSameEdgeLengths : ChunkEdgeLengths → ChunkEdgeLengths → Type 0
+IsSameEdgeLengths (Scalar edge) (Scalar other) = edge ≡ other
+IsSameEdgeLengths (Varying elements) (Varying others) = elements.items ≡ others.items
+IsSameEdgeLengths _ _ = ⊥

@@ -1,6 +1,6 @@
 //! The chunk edges of one dimension of a `rectilinear` grid.
 ghost use Rattle.std.specs.Prelude.{IfOk};
-ghost use Rattle.zarrs_chunk_base.specs.RunLength.{IsSameLengths};
+ghost use Rattle.zarrs_chunk_base.specs.RunLength.{IsSameEdgeLengths};
 
 use crate::in_brackets::InBrackets;
 use crate::run_length_element::RunLengthElement;
@@ -8,14 +8,15 @@ use std::alloc::AllocError;
 use std::fmt;
 use std::num::NonZeroU64;
 
-/// The chunk edges of one dimension, in elements.
+/// The chunk edges of one dimension, in elements of the array.
 ///
 /// Source: the `rectilinear` extension of zarr-extensions.
 #[derive(Debug, Drop)]
 pub enum ChunkEdgeLengths {
     /// One edge for all chunks.
     Scalar(NonZeroU64),
-    /// The edges of the chunks, in order.
+    /// The edges of the chunks in order, those of each run-length element after those of the one before. An empty list
+    /// makes no grid.
     Varying(Vec<RunLengthElement>),
 }
 
@@ -25,7 +26,7 @@ impl ChunkEdgeLengths {
     /// # Errors
     /// There was no memory.
     pub fn clone(&self) -> Result<ChunkEdgeLengths, AllocError>
-        ensures { IfOk result (λ copy. IsSameLengths copy self.now) }
+        ensures { IfOk result (λ copy. IsSameEdgeLengths copy self.now) }
     {
         Ok(match self {
             ChunkEdgeLengths::Scalar(edge) => ChunkEdgeLengths::Scalar(*edge),

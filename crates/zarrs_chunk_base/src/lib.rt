@@ -1,5 +1,5 @@
-//! What every layer of chunk grids and chunk keys speaks of: boxes of indices, keys in a store, and why
-//! calls are refused.
+//! What every layer of chunk grids and chunk keys speaks of: boxes of indices, keys in a store, the edges of
+//! chunks, and why calls are refused.
 //!
 //! Every call that takes memory, save `clone`, is passed the allocator; each can answer that there is none. A box of
 //! indices is made of ranges or of a start and a shape, and never ends past the greatest `u64`:

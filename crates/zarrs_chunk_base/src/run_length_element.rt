@@ -1,15 +1,16 @@
-//! Edges of chunks in a row.
+//! The edge of one chunk, or of several in a row.
 use std::fmt;
 use std::num::NonZeroU64;
 
-/// One edge of a chunk, or an edge of so many chunks in a row; both in elements.
+/// The edge of one chunk, or one edge that so many chunks in a row have. Edges count elements of the array, from 1 to
+/// 18446744073709551615.
 ///
 /// Source: the `rectilinear` extension of zarr-extensions.
 #[derive(Clone, Copy, Debug, PartialEq, Eq)]
 pub enum RunLengthElement {
     /// The edge of one chunk.
     Single(NonZeroU64),
-    /// An edge, and how many chunks have it.
+    /// An edge, and after it how many chunks have it: `[edge, count]`.
     Repeated([NonZeroU64; 2]),
 }
 

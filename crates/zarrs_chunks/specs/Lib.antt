@@ -4,14 +4,15 @@ pub mod BoundedAxis
 pub mod Clipped
 pub mod EqualAxis
 pub mod EqualEdges
+pub mod EqualOrListed
 pub mod EqualOrListedAxis
+pub mod EqualOrListedSizes
 pub mod ListedAxis
 pub mod LookUp
 pub mod LookUpEach
 pub mod Multiples
 pub mod Rectangular
 pub mod RectangularChunkGrid
-pub mod RectangularSizes
 pub mod Rectilinear
 pub mod RectilinearChunkGrid
 pub mod RegularBoundedChunkGrid

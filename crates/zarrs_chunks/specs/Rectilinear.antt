@@ -7,7 +7,7 @@ use Rattle.zarrs_chunk_base.specs.RunLength.{expansion}
 use Rattle.zarrs_chunk_base.specs.declared.chunk_edge_lengths.ChunkEdgeLengths.{ChunkEdgeLengths}
 use Rattle.zarrs_chunk_base.specs.declared.chunk_edge_lengths.ChunkEdgeLengths.TheVariants.{Scalar, Varying}
 
--- elements aren't none, and the sum of their edges reaches over the array but not past the greatest number
+-- the list of elements isn't empty, and the sum of their edges reaches over the array but not past the greatest number
 abbrev pub IsReaching : ℕ → ChunkEdgeLengths → Type 0
 IsReaching size (Scalar edge) = Unit {0}
 IsReaching size (Varying elements) = (elements.items ≢ []) × (size ≤ sum (expansion elements.items)) × (sum (expansion elements.items) ≤ greatest)

@@ -10,6 +10,11 @@
 //! grid.chunk_indices(alloc, &[3, 5, 50])?               // Some([3, 2, 16])
 //! grid.chunk_element_indices(alloc, &[3, 5, 50])?       // Some([0, 1, 2])
 //! grid.chunk_origin(alloc, &[3, 2, 16])?                // Some([3, 4, 48])
+//!
+//! let elements = vec![in alloc; RunLengthElement::Repeated([five, three]), RunLengthElement::Single(twenty)]?;
+//! let edges = vec![in alloc; ChunkEdgeLengths::Varying(elements), ChunkEdgeLengths::Scalar(ten)]?;
+//! let grid = RectilinearChunkGrid::new(alloc, array_shape, &edges)?;    // [35, 100], chunks of 5, 5, 5, 20 and of 10
+//! grid.grid_shape()                                     // [4, 10]
 //! ```
 //!
 //! | Module | What it holds |

@@ -80,25 +80,37 @@ fn rectangular(
 fn singles(alloc: Global, numbers: &[u64]) -> Result<ChunkEdgeLengths, Fail> {
     let mut elements = Vec::new(alloc);
     for number in numbers {
-        let edge = NonZeroU64::new(*number).ok_or("an edge of 0")?;
-        elements.push(RunLengthElement::Single(edge))?;
+        elements.push(once(*number)?)?;
     }
     Ok(ChunkEdgeLengths::Varying(elements))
 }
 
-/// Edges with their counts.
-fn runs(alloc: Global, pairs: &[[u64; 2]]) -> Result<ChunkEdgeLengths, Fail> {
-    let mut elements = Vec::new(alloc);
-    for [edge, count] in pairs {
-        let edge = NonZeroU64::new(*edge).ok_or("an edge of 0")?;
-        let count = NonZeroU64::new(*count).ok_or("a count of 0")?;
-        elements.push(RunLengthElement::Repeated([edge, count]))?;
-    }
-    Ok(ChunkEdgeLengths::Varying(elements))
+/// An edge and its count.
+fn times(edge: u64, count: u64) -> Result<RunLengthElement, Fail> {
+    let edge = NonZeroU64::new(edge).ok_or("an edge of 0")?;
+    Ok(RunLengthElement::Repeated([edge, NonZeroU64::new(count).ok_or("a count of 0")?]))
 }
 
-fn scalar(number: u64) -> Result<ChunkEdgeLengths, Fail> {
-    Ok(ChunkEdgeLengths::Scalar(NonZeroU64::new(number).ok_or("an edge of 0")?))
+/// A single edge.
+fn once(edge: u64) -> Result<RunLengthElement, Fail> {
+    Ok(RunLengthElement::Single(NonZeroU64::new(edge).ok_or("an edge of 0")?))
+}
+
+/// One edge for all chunks.
+fn scalar(edge: u64) -> Result<ChunkEdgeLengths, Fail> {
+    Ok(ChunkEdgeLengths::Scalar(NonZeroU64::new(edge).ok_or("an edge of 0")?))
+}
+
+fn varying(alloc: Global, elements: &[RunLengthElement]) -> Result<ChunkEdgeLengths, Fail> {
+    Ok(ChunkEdgeLengths::Varying(elements.to_vec(alloc)?))
+}
+
+fn rectilinear(
+    alloc: Global,
+    array_shape: &[u64],
+    edges: &[ChunkEdgeLengths],
+) -> Result<RectilinearChunkGrid, Fail> {
+    Ok(RectilinearChunkGrid::new(alloc, array_shape.to_vec(alloc)?, edges)?)
 }
 
 /// The element lies in this chunk, at this place there.
@@ -196,6 +208,23 @@ fn check_refused<T: Drop>(
     }
 }
 
+/// Each look-up is refused, with the length that was given and the one that was expected.
+fn check_length<G: ChunkGridTraits>(
+    rt: &(impl Abort + AllocGlobal),
+    grid: &G,
+    numbers: &[u64],
+    given: usize,
+    expected: usize,
+) {
+    check_refused(rt, grid.chunk_indices(rt.alloc(), numbers), given, expected);
+    let place = grid.chunk_element_indices(rt.alloc(), numbers);
+    check_refused(rt, place, given, expected);
+    check_refused(rt, grid.chunk_origin(rt.alloc(), numbers), given, expected);
+    check_refused(rt, grid.chunk_shape(rt.alloc(), numbers), given, expected);
+    let shape = grid.chunk_shape_u64(rt.alloc(), numbers);
+    check_refused(rt, shape, given, expected);
+}
+
 #[test]
 fn regular_grids_are_looked_up(rt: HostRuntime) -> Result<(), Fail> {
     let grid = regular(rt.alloc(), &[5, 7, 52], &[1, 2, 3])?;
@@ -263,24 +292,11 @@ fn regular_grids_reach_to_the_greatest_index(rt: HostRuntime) -> Result<(), Fail
 #[test]
 fn wrong_lengths_are_refused(rt: HostRuntime) -> Result<(), Fail> {
     let grid = regular(rt.alloc(), &[5, 7, 52], &[1, 2, 3])?;
-    check_refused(&rt, grid.chunk_indices(rt.alloc(), &[5, 5]), 2, 3);
-    check_refused(&rt, grid.chunk_element_indices(rt.alloc(), &[5, 5]), 2, 3);
-    check_refused(&rt, grid.chunk_origin(rt.alloc(), &[1, 1, 1, 1]), 4, 3);
-    check_refused(
-        &rt,
-        ChunkGridTraits::chunk_shape(&grid, rt.alloc(), &[]),
-        0,
-        3,
-    );
-    check_refused(
-        &rt,
-        ChunkGridTraits::chunk_shape_u64(&grid, rt.alloc(), &[1]),
-        1,
-        3,
-    );
-    let scalar = regular(rt.alloc(), &[], &[])?;
-    check_refused(&rt, scalar.chunk_indices(rt.alloc(), &[0]), 1, 0);
-    check_refused(&rt, Stairs.chunk_indices(rt.alloc(), &[]), 0, 1);
+    check_length(&rt, &grid, &[5, 5], 2, 3);
+    check_length(&rt, &grid, &[1, 1, 1, 1], 4, 3);
+    check_length(&rt, &grid, &[], 0, 3);
+    check_length(&rt, &regular(rt.alloc(), &[], &[])?, &[0], 1, 0);
+    check_length(&rt, &Stairs, &[], 0, 1);
     Ok(())
 }
 
@@ -416,6 +432,12 @@ fn edges_of_another_sum_make_no_rectangular_grid(rt: HostRuntime) -> Result<(), 
     )?;
     check_no_rectangular_grid(
         &rt,
+        &[0],
+        &[Dimension::Varying(&[])],
+        "rectangular chunk grid configuration: [[]] not compatible with array shape [0]",
+    )?;
+    check_no_rectangular_grid(
+        &rt,
         &[MAX],
         &[Dimension::Varying(&[MAX, 1])],
         "rectangular chunk grid configuration: [[18446744073709551615, 1]] not compatible with array shape [18446744073709551615]",
@@ -446,34 +468,36 @@ fn shapes_of_unequal_lengths_make_no_bounded_grid(rt: HostRuntime) -> Result<(),
 #[test]
 fn rectilinear_grids_are_looked_up(rt: HostRuntime) -> Result<(), Fail> {
     let alloc = rt.alloc();
-    let past = vec![in alloc; singles(alloc, &[4, 4, 4])?, singles(alloc, &[3, 3, 3])?]?;
-    let grid = RectilinearChunkGrid::new(alloc, [6, 6].to_vec(alloc)?, &past)?;
-    assert_eq!(rt; grid.dimensionality(), 2);
-    assert_eq!(rt; grid.array_shape(), [6, 6].as_slice());
-    assert_eq!(rt; grid.grid_shape(), [3, 3].as_slice());
-    check_home(&rt, &grid, &[5, 5], Some((&[1, 1], &[1, 2])))?;
-    check_home(&rt, &grid, &[11, 0], Some((&[2, 0], &[3, 0])))?;
-    check_home(&rt, &grid, &[12, 0], None)?;
-    check_home(&rt, &grid.clone()?, &[5, 5], Some((&[1, 1], &[1, 2])))?;
-    let exact = vec![in alloc; singles(alloc, &[3, 3])?, singles(alloc, &[3, 3])?]?;
-    let grid = RectilinearChunkGrid::new(alloc, [6, 6].to_vec(alloc)?, &exact)?;
-    assert_eq!(rt; grid.grid_shape(), [2, 2].as_slice());
-    let unlimited = vec![in alloc; singles(alloc, &[4])?]?;
-    let grid = RectilinearChunkGrid::new(alloc, [0].to_vec(alloc)?, &unlimited)?;
-    assert_eq!(rt; grid.grid_shape(), [1].as_slice());
+    let edges = vec![in alloc; singles(alloc, &[4, 4, 4])?, singles(alloc, &[3, 3, 3])?]?;
+    let past = rectilinear(alloc, &[6, 6], &edges)?;
+    assert_eq!(rt; past.dimensionality(), 2);
+    assert_eq!(rt; past.array_shape(), [6, 6].as_slice());
+    assert_eq!(rt; past.grid_shape(), [3, 3].as_slice());
+    check_home(&rt, &past, &[5, 5], Some((&[1, 1], &[1, 2])))?;
+    check_home(&rt, &past, &[11, 0], Some((&[2, 0], &[3, 0])))?;
+    check_home(&rt, &past, &[12, 0], None)?;
+    check_home(&rt, &past.clone()?, &[5, 5], Some((&[1, 1], &[1, 2])))?;
+    let edges = vec![in alloc; singles(alloc, &[3, 3])?, singles(alloc, &[3, 3])?]?;
+    let exact = rectilinear(alloc, &[6, 6], &edges)?;
+    assert_eq!(rt; exact.grid_shape(), [2, 2].as_slice());
+    let unlimited = rectilinear(alloc, &[0], &vec![in alloc; singles(alloc, &[4])?]?)?;
+    assert_eq!(rt; unlimited.grid_shape(), [1].as_slice());
 
-    let scalars = vec![in alloc; scalar(10)?, scalar(20)?]?;
-    let grid = RectilinearChunkGrid::new(alloc, [100, 100].to_vec(alloc)?, &scalars)?;
-    check_home(&rt, &grid, &[25, 45], Some((&[2, 2], &[5, 5])))?;
-    check_chunk(&rt, &grid, &[9, 4], Some(&[90, 80]), Some(&[10, 20]))?;
+    let edges = vec![in alloc; scalar(10)?, scalar(20)?]?;
+    let scalars = rectilinear(alloc, &[100, 100], &edges)?;
+    check_home(&rt, &scalars, &[25, 45], Some((&[2, 2], &[5, 5])))?;
+    check_chunk(&rt, &scalars, &[9, 4], Some(&[90, 80]), Some(&[10, 20]))?;
     let listed = singles(alloc, &[5, 5, 5, 15, 15, 20, 35])?;
-    let mixed = vec![in alloc; scalar(10)?, listed]?;
-    let grid = RectilinearChunkGrid::new(alloc, [100, 100].to_vec(alloc)?, &mixed)?;
-    check_chunk(&rt, &grid, &[2, 3], Some(&[20, 15]), Some(&[10, 15]))?;
+    let mixed = rectilinear(alloc, &[100, 100], &vec![in alloc; scalar(10)?, listed]?)?;
+    check_chunk(&rt, &mixed, &[2, 3], Some(&[20, 15]), Some(&[10, 15]))
+}
 
+#[test]
+fn rectilinear_grids_of_three_dimensions_are_looked_up(rt: HostRuntime) -> Result<(), Fail> {
+    let alloc = rt.alloc();
     let first = singles(alloc, &[10, 20, 30, 40])?;
     let edges = vec![in alloc; first, scalar(25)?, singles(alloc, &[5, 15, 30])?]?;
-    let grid = RectilinearChunkGrid::new(alloc, [100, 100, 50].to_vec(alloc)?, &edges)?;
+    let grid = rectilinear(alloc, &[100, 100, 50], &edges)?;
     assert_eq!(rt; grid.grid_shape(), [4, 4, 3].as_slice());
     check_chunk(
         &rt,
@@ -484,40 +508,59 @@ fn rectilinear_grids_are_looked_up(rt: HostRuntime) -> Result<(), Fail> {
     )?;
     check_chunk(&rt, &grid, &[4, 0, 0], None, None)?;
     check_home(&rt, &grid, &[150, 150, 150], None)?;
-    check_refused(&rt, grid.chunk_indices(alloc, &[0, 0]), 2, 3);
-    check_refused(&rt, grid.chunk_origin(alloc, &[0, 0, 0, 0]), 4, 3);
+    check_length(&rt, &grid, &[0, 0], 2, 3);
+    check_length(&rt, &grid, &[0, 0, 0, 0], 4, 3);
     Ok(())
 }
 
 #[test]
 fn runs_of_edges_are_looked_up(rt: HostRuntime) -> Result<(), Fail> {
     let alloc = rt.alloc();
-    let listed = runs(alloc, &[[5, 3], [15, 2], [20, 1], [35, 1]])?;
+    let listed = varying(alloc, &[times(5, 3)?, times(15, 2)?, once(20)?, once(35)?])?;
     let edges = vec![in alloc; listed, scalar(10)?]?;
-    let grid = RectilinearChunkGrid::new(alloc, [100, 100].to_vec(alloc)?, &edges)?;
+    let grid = rectilinear(alloc, &[100, 100], &edges)?;
     assert_eq!(rt; grid.grid_shape(), [7, 10].as_slice());
     check_chunk(&rt, &grid, &[4, 0], Some(&[30, 0]), Some(&[15, 10]))?;
     check_chunk(&rt, &grid, &[6, 0], Some(&[65, 0]), Some(&[35, 10]))?;
     check_home(&rt, &grid, &[17, 17], Some((&[3, 1], &[2, 7])))?;
-    let grid = RectilinearChunkGrid::new(alloc, [100, 0].to_vec(alloc)?, &edges)?;
-    assert_eq!(rt; grid.grid_shape(), [7, 0].as_slice());
-    check_chunk(&rt, &grid, &[6, 123], Some(&[65, 1230]), Some(&[35, 10]))?;
-    check_chunk(&rt, &grid, &[6, 100], Some(&[65, 1000]), Some(&[35, 10]))?;
+    let unlimited = rectilinear(alloc, &[100, 0], &edges)?;
+    assert_eq!(rt; unlimited.grid_shape(), [7, 0].as_slice());
+    check_chunk(
+        &rt,
+        &unlimited,
+        &[6, 123],
+        Some(&[65, 1230]),
+        Some(&[35, 10]),
+    )?;
+    check_chunk(
+        &rt,
+        &unlimited,
+        &[6, 100],
+        Some(&[65, 1000]),
+        Some(&[35, 10]),
+    )?;
 
-    let tens = runs(alloc, &[[10, 10]])?;
+    let tens = varying(alloc, &[times(10, 10)?])?;
     let edges = vec![in alloc; singles(alloc, &[5, 5, 5, 15, 15, 20, 35])?, tens]?;
-    let grid = RectilinearChunkGrid::new(alloc, [100, 100].to_vec(alloc)?, &edges)?;
-    check_home(&rt, &grid, &[99, 99], Some((&[6, 9], &[34, 9])))?;
+    let listed = rectilinear(alloc, &[100, 100], &edges)?;
+    check_home(&rt, &listed, &[99, 99], Some((&[6, 9], &[34, 9])))?;
 
-    let two = vec![in alloc; singles(alloc, &[5, 3])?]?;
-    let grid = RectilinearChunkGrid::new(alloc, [8].to_vec(alloc)?, &two)?;
-    assert_eq!(rt; grid.grid_shape(), [2].as_slice());
-    let three = vec![in alloc; runs(alloc, &[[5, 3]])?]?;
-    let grid = RectilinearChunkGrid::new(alloc, [8].to_vec(alloc)?, &three)?;
-    assert_eq!(rt; grid.grid_shape(), [3].as_slice());
+    let two = rectilinear(alloc, &[8], &vec![in alloc; singles(alloc, &[5, 3])?]?)?;
+    assert_eq!(rt; two.grid_shape(), [2].as_slice());
+    let three = rectilinear(
+        alloc,
+        &[8],
+        &vec![in alloc; varying(alloc, &[times(5, 3)?])?]?,
+    )?;
+    assert_eq!(rt; three.grid_shape(), [3].as_slice());
+    Ok(())
+}
 
-    let count = vec![in alloc; runs(alloc, &[[1, MAX]])?]?;
-    match RectilinearChunkGrid::new(alloc, [MAX].to_vec(alloc)?, &count) {
+#[test]
+fn more_edges_than_fit_into_memory_find_no_room(rt: HostRuntime) -> Result<(), Fail> {
+    let alloc = rt.alloc();
+    let edges = vec![in alloc; varying(alloc, &[times(1, MAX)?])?]?;
+    match RectilinearChunkGrid::new(alloc, [MAX].to_vec(alloc)?, &edges) {
         Err(Refusal::Memory(_)) => Ok(()),
         _ => Err("so many edges found room".into()),
     }
@@ -542,20 +585,13 @@ fn check_no_rectilinear_grid(
 }
 
 #[test]
-fn edges_short_of_the_array_or_past_every_number_make_no_rectilinear_grid(
-    rt: HostRuntime,
-) -> Result<(), Fail> {
+fn edges_of_another_reach_make_no_rectilinear_grid(rt: HostRuntime) -> Result<(), Fail> {
     let alloc = rt.alloc();
-    let mut elements = Vec::new(alloc);
-    let five = NonZeroU64::new(5).ok_or("an edge of 0")?;
-    let three = NonZeroU64::new(3).ok_or("a count of 0")?;
-    let twenty = NonZeroU64::new(20).ok_or("an edge of 0")?;
-    elements.push(RunLengthElement::Repeated([five, three]))?;
-    elements.push(RunLengthElement::Single(twenty))?;
+    let listed = varying(alloc, &[times(5, 3)?, once(20)?])?;
     check_no_rectilinear_grid(
         &rt,
         &[123, 100],
-        &vec![in alloc; ChunkEdgeLengths::Varying(elements), scalar(10)?]?,
+        &vec![in alloc; listed, scalar(10)?]?,
         "rectilinear chunk grid configuration: [[[5, 3], 20], 10] not compatible with array shape [123, 100]",
     )?;
     check_no_rectilinear_grid(
@@ -566,20 +602,38 @@ fn edges_short_of_the_array_or_past_every_number_make_no_rectilinear_grid(
     )?;
     check_no_rectilinear_grid(
         &rt,
+        &[6],
+        &vec![in alloc; scalar(2)?, scalar(3)?]?,
+        "rectilinear chunk grid configuration: [2, 3] not compatible with array shape [6]",
+    )?;
+    let none = vec![in alloc; singles(alloc, &[])?]?;
+    check_no_rectilinear_grid(
+        &rt,
         &[1],
-        &vec![in alloc; singles(alloc, &[])?]?,
+        &none,
         "rectilinear chunk grid configuration: [[]] not compatible with array shape [1]",
     )?;
     check_no_rectilinear_grid(
         &rt,
+        &[0],
+        &none,
+        "rectilinear chunk grid configuration: [[]] not compatible with array shape [0]",
+    )
+}
+
+#[test]
+fn edges_past_the_greatest_sum_make_no_rectilinear_grid(rt: HostRuntime) -> Result<(), Fail> {
+    let alloc = rt.alloc();
+    check_no_rectilinear_grid(
+        &rt,
         &[1],
-        &vec![in alloc; runs(alloc, &[[2, 9223372036854775808]])?]?,
+        &vec![in alloc; varying(alloc, &[times(2, 9223372036854775808)?])?]?,
         "rectilinear chunk grid configuration: [[[2, 9223372036854775808]]] not compatible with array shape [1]",
     )?;
     check_no_rectilinear_grid(
         &rt,
         &[1],
-        &vec![in alloc; runs(alloc, &[[MAX, MAX], [MAX, MAX]])?]?,
+        &vec![in alloc; varying(alloc, &[times(MAX, MAX)?, times(MAX, MAX)?])?]?,
         "rectilinear chunk grid configuration: [[[18446744073709551615, 18446744073709551615], [18446744073709551615, 18446744073709551615]]] not compatible with array shape [1]",
     )
 }

@@ -72,12 +72,13 @@ impl Axis for EqualOrListedAxis {
 /// A dimension of a `rectangular` grid.
 impl AxisFrom<RectangularChunkGridDimensionConfiguration> for EqualOrListedAxis {
     ghost use Rattle.zarrs_chunk_base.specs.EdgeLengths.{edges_of};
-    ghost use Rattle.zarrs_chunks.specs.Rectangular.{HasEdges, IsExact};
-    ghost use Rattle.zarrs_chunks.specs.RectangularSizes.{size_of_edges};
+    ghost use Rattle.zarrs_chunks.specs.EqualOrListed.{HasEdgeLengths};
+    ghost use Rattle.zarrs_chunks.specs.EqualOrListedSizes.{size_of_edges};
+    ghost use Rattle.zarrs_chunks.specs.Rectangular.{IsExact};
 
     ghost accepted = { λ size configuration. IsExact size (edges_of configuration) };
 
-    ghost made = { λ d size configuration. HasEdges d size (edges_of configuration) };
+    ghost made = { λ d size configuration. HasEdgeLengths d size (edges_of configuration) };
 
     ghost sized = { λ d size configuration has. size_of_edges d size (edges_of configuration) has };
 
@@ -112,13 +113,13 @@ impl AxisFrom<RectangularChunkGridDimensionConfiguration> for EqualOrListedAxis 
 /// A dimension of a `rectilinear` grid.
 impl AxisFrom<ChunkEdgeLengths> for EqualOrListedAxis {
     ghost use Rattle.zarrs_chunk_base.specs.RunLength.{expanded};
-    ghost use Rattle.zarrs_chunks.specs.Rectangular.{HasEdges};
-    ghost use Rattle.zarrs_chunks.specs.RectangularSizes.{size_of_edges};
+    ghost use Rattle.zarrs_chunks.specs.EqualOrListed.{HasEdgeLengths};
+    ghost use Rattle.zarrs_chunks.specs.EqualOrListedSizes.{size_of_edges};
     ghost use Rattle.zarrs_chunks.specs.Rectilinear.{IsReaching};
 
     ghost accepted = { IsReaching };
 
-    ghost made = { λ d size lengths. HasEdges d size (expanded lengths) };
+    ghost made = { λ d size lengths. HasEdgeLengths d size (expanded lengths) };
 
     ghost sized = { λ d size lengths has. size_of_edges d size (expanded lengths) has };
 

@@ -22,7 +22,8 @@ impl RectangularChunkGrid {
     ghost use Rattle.std.specs.Prelude.{◌≡◌, IfOk, MatchResult, map};
     ghost use Rattle.zarrs_chunk_base.specs.EdgeLengths.{edges_of};
     ghost use Rattle.zarrs_chunk_base.specs.Refusal.{IfRefused};
-    ghost use Rattle.zarrs_chunks.specs.Rectangular.{AreExact, HaveEdgeLengths};
+    ghost use Rattle.zarrs_chunks.specs.EqualOrListed.{HaveEdgeLengths};
+    ghost use Rattle.zarrs_chunks.specs.Rectangular.{AreExact};
     ghost use Rattle.zarrs_chunks.specs.RectangularChunkGrid.{dimensions_of};
 
     /// The grid of an array with these sizes, in elements, and with these edges, one configuration a

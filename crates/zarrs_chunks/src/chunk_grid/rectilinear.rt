@@ -10,8 +10,8 @@ use zarrs_chunk_base::{
 };
 
 /// A grid whose chunks have one edge or listed edges in each dimension, where a list may say that so many chunks
-/// in a row have one edge. Listed edges reach over the array and may reach past it; there are no others in their
-/// dimension.
+/// in a row have one edge. Listed edges reach over the array and may reach past it; there are no other chunks in that
+/// dimension. Each listed edge takes 16 bytes, also where an element stands for many.
 ///
 /// Source: the `rectilinear` extension of zarr-extensions.
 #[derive(Debug, Drop)]
@@ -23,16 +23,17 @@ impl RectilinearChunkGrid {
     ghost use Rattle.std.specs.Prelude.{◌≡◌, IfOk, MatchResult, map};
     ghost use Rattle.std.specs.List.{AllZip};
     ghost use Rattle.zarrs_chunk_base.specs.Refusal.{IfRefused};
-    ghost use Rattle.zarrs_chunk_base.specs.RunLength.{expanded, IsSameLengths};
-    ghost use Rattle.zarrs_chunks.specs.Rectangular.{HaveEdgeLengths};
+    ghost use Rattle.zarrs_chunk_base.specs.RunLength.{expanded, IsSameEdgeLengths};
+    ghost use Rattle.zarrs_chunks.specs.EqualOrListed.{HaveEdgeLengths};
     ghost use Rattle.zarrs_chunks.specs.Rectilinear.{AreReaching};
     ghost use Rattle.zarrs_chunks.specs.RectilinearChunkGrid.{dimensions_of};
 
     /// The grid of an array with these sizes, in elements, and with these edges, one item a dimension.
     ///
     /// # Errors
-    /// The two lists have different lengths, or the elements of a dimension are none, or the sum of their edges is
-    /// below the array size or past 18446744073709551615; both lists are handed back. Or there was no memory.
+    /// The two lists have different lengths, or the run-length elements of a dimension are an empty list, or the sum of
+    /// their edges is below the array size or past 18446744073709551615; both lists are handed back. Or there was no
+    /// memory.
     pub fn new(
         alloc: Global,
         array_shape: ArrayShape,
@@ -42,7 +43,7 @@ impl RectilinearChunkGrid {
             (λ grid. AreReaching array_shape.items chunk_shapes.now
             × HaveEdgeLengths (dimensions_of grid) array_shape.items (map expanded chunk_shapes.now))
             (λ refusal. IfRefused refusal (λ e. (¬ AreReaching array_shape.items chunk_shapes.now)
-            × (e.0 ≡ array_shape) × AllZip IsSameLengths e.1.items chunk_shapes.now)) }
+            × (e.0 ≡ array_shape) × AllZip IsSameEdgeLengths e.1.items chunk_shapes.now)) }
     {
         if !AxisGrid::<EqualOrListedAxis>::accepts(&array_shape, chunk_shapes) {
             let error = RectilinearChunkGridCreateError::new(alloc, array_shape, chunk_shapes)?;

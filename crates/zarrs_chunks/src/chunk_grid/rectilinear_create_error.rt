@@ -1,7 +1,7 @@
 //! Why there is no rectilinear grid.
 ghost use Rattle.std.specs.Prelude.{◌≡◌, IfOk};
 ghost use Rattle.std.specs.List.{AllZip};
-ghost use Rattle.zarrs_chunk_base.specs.RunLength.{IsSameLengths};
+ghost use Rattle.zarrs_chunk_base.specs.RunLength.{IsSameEdgeLengths};
 
 use std::alloc::{AllocError, Global};
 use std::error::Error;
@@ -19,7 +19,7 @@ impl RectilinearChunkGridCreateError {
         array_shape: ArrayShape,
         chunk_shapes: &[ChunkEdgeLengths],
     ) -> Result<RectilinearChunkGridCreateError, AllocError>
-        ensures { IfOk result (λ e. (e.0 ≡ array_shape) × AllZip IsSameLengths e.1.items chunk_shapes.now) }
+        ensures { IfOk result (λ e. (e.0 ≡ array_shape) × AllZip IsSameEdgeLengths e.1.items chunk_shapes.now) }
     {
         let mut copies = Vec::with_capacity(alloc, chunk_shapes.len())?;
         for lengths in chunk_shapes {
@@ -33,7 +33,7 @@ impl RectilinearChunkGridCreateError {
     /// # Errors
     /// There was no memory.
     pub fn clone(&self) -> Result<RectilinearChunkGridCreateError, AllocError>
-        ensures { IfOk result (λ e. (e.0.items ≡ (self.now).0.items) × AllZip IsSameLengths e.1.items (self.now).1.items) }
+        ensures { IfOk result (λ e. (e.0.items ≡ (self.now).0.items) × AllZip IsSameEdgeLengths e.1.items (self.now).1.items) }
     {
         RectilinearChunkGridCreateError::new(*self.1.allocator(), self.0.clone()?, &self.1)
     }

@@ -1,6 +1,7 @@
 use Rattle.std.proofs.Common.{refl, sym, true≢false}
 use Rattle.zarrs_chunk_base.specs.EdgeLengths.{edges_of}
-use Rattle.zarrs_chunks.specs.Rectangular.{HasEdges, IsExact}
+use Rattle.zarrs_chunks.specs.EqualOrListed.{HasEdgeLengths}
+use Rattle.zarrs_chunks.specs.Rectangular.{IsExact}
 use Rattle.zarrs_chunks.proofs.EachAxis.{of_mapped}
 use Rattle.zarrs_chunks.proofs.MadeSoFar.{mapped_accepted, accepted_mapped}
 use Rattle.zarrs_chunks.proofs.chunk_grid.rectangular.RectangularChunkGrid.new.Goals as goal
@@ -14,4 +15,4 @@ returns-then-not-accepts c =
 pub returns : goal.returns
 returns c =
     let told = rw c.deref.ensures.value at c.if-not-accepts.ensures in
-    (mapped_accepted edges_of IsExact _ _ (told.0 refl), of_mapped edges_of HasEdges _ _ _ c.in_ok-new.ensures)
+    (mapped_accepted edges_of IsExact _ _ (told.0 refl), of_mapped edges_of HasEdgeLengths _ _ _ c.in_ok-new.ensures)

@@ -1,6 +1,6 @@
 use Rattle.std.proofs.Common.{refl, sym, true≢false}
 use Rattle.zarrs_chunk_base.specs.RunLength.{expanded}
-use Rattle.zarrs_chunks.specs.Rectangular.{HasEdges}
+use Rattle.zarrs_chunks.specs.EqualOrListed.{HasEdgeLengths}
 use Rattle.zarrs_chunks.proofs.EachAxis.{of_mapped}
 use Rattle.zarrs_chunks.proofs.chunk_grid.rectilinear.RectilinearChunkGrid.new.Goals as goal
 
@@ -13,4 +13,4 @@ returns-then-not-accepts c =
 pub returns : goal.returns
 returns c =
     let told = rw c.deref.ensures.value at c.if-not-accepts.ensures in
-    (told.0 refl, of_mapped expanded HasEdges _ _ _ c.in_ok-new.ensures)
+    (told.0 refl, of_mapped expanded HasEdgeLengths _ _ _ c.in_ok-new.ensures)

@@ -1,7 +1,7 @@
 use Rattle.std.proofs.Common.{◌<◌, length, arith}
 use Rattle.std.proofs.lemmas.List.{take_more}
 use Rattle.std.proofs.lemmas.List.Elements.{AllZip-push}
-use Rattle.zarrs_chunk_base.specs.RunLength.{IsSameLengths}
+use Rattle.zarrs_chunk_base.specs.RunLength.{IsSameEdgeLengths}
 use Rattle.zarrs_chunks.proofs.chunk_grid.rectilinear_create_error.RectilinearChunkGridCreateError.new.Goals as goal
 
 pub loop-lengths-preserved : goal.loop-lengths-preserved
@@ -10,4 +10,4 @@ loop-lengths-preserved c =
     let k = c.loop-lengths.lengths-index in
     let within : k < length all = omega arith in
     rw (c.in_ok-push.ensures.items, take_more all k c.lengths-item.result within, ← c.lengths-item.is)
-    (AllZip-push IsSameLengths _ _ _ _ c.loop-lengths.invariant c.in_ok-clone.ensures)
+    (AllZip-push IsSameEdgeLengths _ _ _ _ c.loop-lengths.invariant c.in_ok-clone.ensures)
