@@ -24,6 +24,11 @@ pub record StartsAt (d : Dimension) (c o : ℕ) : Type 0 where
   pub chunk : IsTrue (d.has_chunk c)
   pub start : d.start c ≡ o
 
+-- chunk c ends at e
+pub record EndsAt (d : Dimension) (c e : ℕ) : Type 0 where
+  pub chunk : IsTrue (d.has_chunk c)
+  pub end : d.end c ≡ e
+
 -- chunk c is s elements long
 pub record HasEdge (d : Dimension) (c s : ℕ) : Type 0 where
   pub chunk : IsTrue (d.has_chunk c)
@@ -57,6 +62,10 @@ InBox = InEach Holds
 -- the chunk's origin: in each dimension where its chunk starts
 abbrev pub IsOrigin : List Dimension → List ℕ → List ℕ → Type 0
 IsOrigin = InEach StartsAt
+
+-- the chunk's end: in each dimension where its chunk ends
+abbrev pub IsEnd : List Dimension → List ℕ → List ℕ → Type 0
+IsEnd = InEach EndsAt
 
 -- the chunk's shape: in each dimension how long its chunk is
 abbrev pub IsShape : List Dimension → List ℕ → List ℕ → Type 0

@@ -22,6 +22,43 @@ ends_before d chain c (suc m) below has =
     (λ (after : suc m ≤ c). let same : c ≡ suc m = omega arith in subst (λ k. d.end k ≤ d.start (suc m + 1)) (sym same) (omega (arith, gap.1)))
     (cases_lt c (suc m))
 
+-- what comes before a chunk is a chunk
+pub earlier_has : (d : Dimension) → IsChain d → (c m : ℕ) → c ≤ m → IsTrue (d.has_chunk m) → IsTrue (d.has_chunk c)
+earlier_has d chain c zero below has = let first : c ≡ zero = omega arith in subst (λ k. IsTrue (d.has_chunk k)) (sym first) has
+earlier_has d chain c (suc m) below has =
+    ⊎_elim
+    (λ (before : c < suc m). earlier_has d chain c m (omega arith) (chain.no_gap m (rw add-one has)).0)
+    (λ (after : suc m ≤ c). let same : c ≡ suc m = omega arith in subst (λ k. IsTrue (d.has_chunk k)) (sym same) has)
+    (cases_lt c (suc m))
+
+-- a chunk ends before a later one starts
+pub apart : (d : Dimension) → IsChain d → (c m : ℕ) → c < m → IsTrue (d.has_chunk m) → d.end c ≤ d.start m
+apart d chain c zero before has = absurd (omega arith)
+apart d chain c (suc m) before has =
+    let same : d.start (m + 1) ≡ d.start (suc m) = ap d.start (add-one m) in
+    let ended : d.end c ≤ d.start (m + 1) = ends_before d chain c m (omega arith) (rw add-one has) in
+    omega arith
+
+-- a chunk starts before a later one ends
+pub starts_before_end : (d : Dimension) → IsChain d → (c m : ℕ) → c ≤ m → IsTrue (d.has_chunk m) → d.start c < d.end m
+starts_before_end d chain c m below has =
+    let first : d.start c < d.end c = chain.not_empty c (earlier_has d chain c m below has) in
+    let last : d.start m < d.end m = chain.not_empty m has in
+    ⊎_elim
+    (λ (before : c < m). let ended : d.end c ≤ d.start m = apart d chain c m before has in omega arith)
+    (λ (after : m ≤ c). let same : c ≡ m = omega arith in subst (λ k. d.start k < d.end m) (sym same) last)
+    (cases_lt c m)
+
+-- a chunk's number is at most the index at which it starts
+pub at_most_start : (d : Dimension) → IsChain d → (c : ℕ) → IsTrue (d.has_chunk c) → c ≤ d.start c
+at_most_start d chain zero has = omega arith
+at_most_start d chain (suc c) has =
+    let gap = chain.no_gap c (rw add-one has) in
+    let same : d.start (c + 1) ≡ d.start (suc c) = ap d.start (add-one c) in
+    let rest : c ≤ d.start c = at_most_start d chain c gap.0 in
+    let some : d.start c < d.end c = chain.not_empty c gap.0 in
+    omega (arith, gap.1)
+
 -- no index lies in a chunk and in a later one
 not_later : (d : Dimension) → IsChain d → (c e i : ℕ) → Holds d c i → Holds d e i → c < e → ⊥
 not_later d chain c zero i first second before = absurd (omega arith)

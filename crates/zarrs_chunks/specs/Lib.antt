@@ -7,6 +7,7 @@ pub mod EqualEdges
 pub mod EqualOrListed
 pub mod EqualOrListedAxis
 pub mod EqualOrListedSizes
+pub mod InBounds
 pub mod ListedAxis
 pub mod LookUp
 pub mod LookUpEach
@@ -19,3 +20,4 @@ pub mod RegularBoundedChunkGrid
 pub mod RegularChunkGrid
 pub mod Running
 pub mod Stairs
+pub mod Subsets

@@ -2,9 +2,11 @@
 mod axis;
 mod axis_grid;
 mod bounded_axis;
+mod boxes;
 mod edges;
 mod equal_axis;
 mod equal_or_listed_axis;
+mod in_bounds;
 mod listed_axis;
 pub(crate) mod rectangular;
 pub(crate) mod rectangular_create_error;
@@ -15,16 +17,21 @@ pub(crate) mod regular_bounded;
 pub(crate) mod regular_create_error;
 mod run_lengths;
 
-ghost use Rattle.std.specs.Prelude.{◌≡◌, ℕ, ◌-◌, ◌<◌, List, length, map, slice_index_or};
+ghost use Rattle.std.specs.Prelude.{◌≡◌, ◌≢◌, ◌↔◌, ◌⊎◌, ℕ, ◌-◌, ◌<◌, IsTrue, List, length, map, slice_index_or};
 ghost use Rattle.std.specs.List.{AllByRecursion};
+ghost use Rattle.zarrs_chunk_base.specs.ArraySubset.{IsEmptyBox};
 ghost use Rattle.zarrs_chunk_base.specs.Dimension.{Dimension, IsChain};
 ghost use Rattle.zarrs_chunk_base.specs.Refusal.{HasMemory};
+ghost use Rattle.zarrs_chunks.specs.InBounds.{AreBelow, AreInBounds};
 ghost use Rattle.zarrs_chunks.specs.LookUp.{AnswersShape, AnswersShapeNumbers, AnswersOrigin, AnswersChunk, AnswersPlace};
+ghost use Rattle.zarrs_chunks.specs.Subsets.{AnswersSubset, AnswersChunksSubset, AnswersCover, AnswersEmptyCover};
 
+use boxes::{after, from_to};
 use edges::plain;
+use in_bounds::are_in_bounds;
 use std::alloc::Global;
 use zarrs_chunk_base::{
-    ArrayIndices, ArrayShape, ChunkShape, IncompatibleDimensionalityError, Refusal,
+    ArrayIndices, ArrayShape, ArraySubset, ChunkShape, IncompatibleDimensionalityError, Refusal,
 };
 
 /// A chunk grid: the chunks into which an array is cut.
@@ -128,6 +135,114 @@ pub trait ChunkGridTraits {
             return Ok(None);
         };
         Ok(Some(behind(origin, array_indices)))
+    }
+
+    /// The box of a chunk, in element indices; `None` where there is no such chunk, or it ends past
+    /// 18446744073709551615.
+    ///
+    /// # Errors
+    /// The list has another length than the grid has dimensions, or there was no memory.
+    fn subset(
+        &self,
+        alloc: Global,
+        chunk_indices: &[u64],
+    ) -> Result<Option<ArraySubset>, Refusal<IncompatibleDimensionalityError>>
+        ensures answers { AnswersSubset (dimensions self.now) chunk_indices.now result }
+        ensures stores_nothing { length (dimensions self.now) ≡ 0 → HasMemory result }
+    {
+        let Some(origin) = self.chunk_origin(alloc, chunk_indices)? else {
+            return Ok(None);
+        };
+        let Some(shape) = self.chunk_shape_u64(alloc, chunk_indices)? else {
+            return Ok(None);
+        };
+        Ok(ArraySubset::new_with_start_shape(origin, shape).ok())
+    }
+
+    /// The box of the elements of the chunks in a box of chunk numbers: from where the first of them starts to where the
+    /// last one ends. An empty box has the empty box that begins at 0. `None` where the first or the last chunk has no
+    /// [`subset`](ChunkGridTraits::subset).
+    ///
+    /// # Errors
+    /// The box has another number of dimensions than the grid, or there was no memory.
+    fn chunks_subset(
+        &self,
+        alloc: Global,
+        chunks: &ArraySubset,
+    ) -> Result<Option<ArraySubset>, Refusal<IncompatibleDimensionalityError>>
+        ensures { AnswersChunksSubset (dimensions self.now) chunks.now result }
+    {
+        if chunks.dimensionality() != self.dimensionality() {
+            return Err(Refusal::Refused(IncompatibleDimensionalityError::new(
+                chunks.dimensionality(),
+                self.dimensionality(),
+            )));
+        }
+        let Some(last) = chunks.end_inc(alloc)? else {
+            return Ok(Some(ArraySubset::new_empty(alloc, self.dimensionality())?));
+        };
+        let Some(first) = self.subset(alloc, chunks.start())? else {
+            return Ok(None);
+        };
+        let Some(last) = self.subset(alloc, &last)? else {
+            return Ok(None);
+        };
+        Ok(Some(from_to(alloc, first.start(), &last.end_exc(alloc)?)?))
+    }
+
+    /// The cover of a box of elements: the box of the numbers of all chunks that hold some of them. An empty box has the
+    /// empty cover that begins at 0, whatever its number of dimensions, save in a grid without dimensions. `None` where
+    /// the first or the last element lies in no chunk.
+    ///
+    /// # Errors
+    /// The box isn't empty, or the grid has no dimensions, and the two have different numbers of dimensions; or there
+    /// was no memory.
+    fn chunks_in_array_subset(
+        &self,
+        alloc: Global,
+        array_subset: &ArraySubset,
+    ) -> Result<Option<ArraySubset>, Refusal<IncompatibleDimensionalityError>>
+        ensures empty { IsEmptyBox array_subset.now → length (dimensions self.now) ≢ 0 → AnswersEmptyCover (dimensions self.now) result }
+        ensures answers { (¬ IsEmptyBox array_subset.now) ⊎ (length (dimensions self.now) ≡ 0) → AnswersCover (dimensions self.now) array_subset.now result }
+    {
+        if array_subset.is_empty() && self.dimensionality() > 0 {
+            return Ok(Some(ArraySubset::new_empty(alloc, self.dimensionality())?));
+        }
+        if array_subset.dimensionality() != self.dimensionality() {
+            return Err(Refusal::Refused(IncompatibleDimensionalityError::new(
+                array_subset.dimensionality(),
+                self.dimensionality(),
+            )));
+        }
+        let start = array_subset.start();
+        let Some(last_element) = array_subset.end_inc(alloc)? else {
+            // Never: a box that isn't empty has a last element.
+            return Ok(None);
+        };
+        let Some(first) = self.chunk_indices(alloc, start)? else {
+            return Ok(None);
+        };
+        let Some(last) = self.chunk_indices(alloc, &last_element)? else {
+            return Ok(None);
+        };
+        Ok(Some(from_to(alloc, &first, &after(alloc, &last)?)?))
+    }
+
+    /// Whether each chunk number is below the number of chunks that are counted along its dimension, or none are
+    /// counted there; `false` for a list of another length.
+    fn chunk_indices_inbounds(&self, chunk_indices: &[u64]) -> bool
+        ensures { IsTrue result ↔ AreInBounds (map (λ d. d.grid_size) (dimensions self.now)) chunk_indices.now }
+    {
+        are_in_bounds(self.grid_shape(), chunk_indices)
+    }
+
+    /// Whether each index is below its array size; `false` for a list of another length. Where an array size is 0, a grid
+    /// may have bounds of its own, or none.
+    fn array_indices_inbounds(&self, array_indices: &[u64]) -> bool
+        ensures within { AreBelow (map (λ d. d.array_size) (dimensions self.now)) array_indices.now → IsTrue result }
+        ensures only { IsTrue result → AreInBounds (map (λ d. d.array_size) (dimensions self.now)) array_indices.now }
+    {
+        are_in_bounds(self.array_shape(), array_indices)
     }
 
     /// Each dimension is a chain: its chunks lie end to end from 0 and reach over the array.

@@ -1,15 +1,17 @@
 //! What holds of every chunk grid, whoever wrote it: it follows from the contracts of
 //! [`ChunkGridTraits`] and from its law that each dimension is a chain.
-ghost use Rattle.std.specs.Prelude.{◌≡◌, ◌↔◌, ℕ, ◌<◌, IfOk, List, Some, option_map};
+ghost use Rattle.std.specs.Prelude.{◌≡◌, ◌≢◌, ◌↔◌, ◌⊎◌, ℕ, ◌<◌, IfOk, IfSome, List, Some, length, option_map};
+ghost use Rattle.zarrs_chunk_base.specs.ArraySubset.{IsEmptyBox, IsInside};
 ghost use Rattle.zarrs_chunk_base.specs.Dimension.{Dimension, InBox};
 ghost use Rattle.zarrs_chunk_base.specs.Listed.{IsListed};
 ghost use Rattle.zarrs_chunks.specs.Bounded.{IsBounded};
 ghost use Rattle.zarrs_chunks.specs.Clipped.{AreAlike, AreClipped};
 ghost use Rattle.zarrs_chunks.specs.LookUp.{AnswersChunk};
+ghost use Rattle.zarrs_chunks.specs.Subsets.{AnswersChunksSubset, AnswersCover, AnswersEmptyCover};
 
 use crate::ChunkGridTraits;
 use std::alloc::Global;
-use zarrs_chunk_base::{ArrayIndices, IncompatibleDimensionalityError, Refusal};
+use zarrs_chunk_base::{ArrayIndices, ArraySubset, IncompatibleDimensionalityError, Refusal};
 
 /// `chunk_indices` names a chunk just where that chunk's box holds the index.
 ///
@@ -31,6 +33,43 @@ pub fn chunk_indices_names_the_home<G: ChunkGridTraits>(
 pub fn chunks_share_no_index<G: ChunkGridTraits>(grid: &G)
     ensures { (chunk other index : List ℕ) → InBox (G.dimensions grid.now) chunk index → InBox (G.dimensions grid.now) other index → chunk ≡ other }
 {}
+
+/// The cover of a box that isn't empty names a chunk just where that chunk holds some element of the box.
+///
+/// # Errors
+/// As `chunks_in_array_subset`, which this calls.
+pub fn the_cover_names_the_chunks_that_meet_a_box<G: ChunkGridTraits>(
+    alloc: Global,
+    grid: &G,
+    array_subset: &ArraySubset,
+) -> Result<Option<ArraySubset>, Refusal<IncompatibleDimensionalityError>>
+    ensures empty { IsEmptyBox array_subset.now → length (G.dimensions grid.now) ≢ 0 → AnswersEmptyCover (G.dimensions grid.now) result }
+    ensures answers { (¬ IsEmptyBox array_subset.now) ⊎ (length (G.dimensions grid.now) ≡ 0) → AnswersCover (G.dimensions grid.now) array_subset.now result }
+    ensures cover { (¬ IsEmptyBox array_subset.now) → IfOk result (λ found. IfSome found (λ cover. (chunk : List ℕ)
+        → IsInside cover chunk ↔ ((index : List ℕ) × InBox (G.dimensions grid.now) chunk index × IsInside array_subset.now index))) }
+{
+    // The law is about a box, and its start tells that it is one.
+    let _start = array_subset.start();
+    grid.chunks_in_array_subset(alloc, array_subset)
+}
+
+/// The box of a box of chunks that isn't empty holds an element just where one of the chunks does.
+///
+/// # Errors
+/// As `chunks_subset`, which this calls.
+pub fn the_box_of_chunks_is_the_union_of_their_boxes<G: ChunkGridTraits>(
+    alloc: Global,
+    grid: &G,
+    chunks: &ArraySubset,
+) -> Result<Option<ArraySubset>, Refusal<IncompatibleDimensionalityError>>
+    ensures answers { AnswersChunksSubset (G.dimensions grid.now) chunks.now result }
+    ensures union { (¬ IsEmptyBox chunks.now) → IfOk result (λ found. IfSome found (λ b. (index : List ℕ)
+        → IsInside b index ↔ ((chunk : List ℕ) × IsInside chunks.now chunk × InBox (G.dimensions grid.now) chunk index))) }
+{
+    // As above.
+    let _start = chunks.start();
+    grid.chunks_subset(alloc, chunks)
+}
 
 /// An array size and an edge that aren't 0 have a list of clipped edges, and its dimension has the same chunks as
 /// the bounded one, from and to the same indices.

@@ -10,6 +10,7 @@
 //! grid.chunk_indices(alloc, &[3, 5, 50])?               // Some([3, 2, 16])
 //! grid.chunk_element_indices(alloc, &[3, 5, 50])?       // Some([0, 1, 2])
 //! grid.chunk_origin(alloc, &[3, 2, 16])?                // Some([3, 4, 48])
+//! grid.chunks_in_array_subset(alloc, &array_subset)?    // Some([0..2, 0..2, 1..3]), of [0..2, 1..3, 5..9]
 //!
 //! let elements = vec![in alloc; RunLengthElement::Repeated([five, three]), RunLengthElement::Single(twenty)]?;
 //! let edges = vec![in alloc; ChunkEdgeLengths::Varying(elements), ChunkEdgeLengths::Scalar(ten)]?;
@@ -24,6 +25,7 @@
 //! | `chunk_grid::axis`, `axis_grid` | one dimension with its look-ups on single numbers; a list of them, with every loop over dimensions |
 //! | `chunk_grid::equal_axis`, `bounded_axis`, `listed_axis`, `equal_or_listed_axis` | the kinds of dimension |
 //! | `chunk_grid::run_lengths` | run-length elements: their sum, and their edges one by one |
+//! | `chunk_grid::boxes`, `in_bounds` | boxes that are made of starts and ends; numbers in bounds of sizes |
 //! | `laws` | what holds of every chunk grid |
 #![tactic(auto)]
 

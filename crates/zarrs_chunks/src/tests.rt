@@ -1,7 +1,10 @@
 //! What no contract says: that calls succeed with ample memory, texts, and vectors from outside.
 mod stairs;
 
-use crate::laws::{chunk_indices_names_the_home, chunks_share_no_index};
+use crate::laws::{
+    chunk_indices_names_the_home, chunks_share_no_index,
+    the_box_of_chunks_is_the_union_of_their_boxes, the_cover_names_the_chunks_that_meet_a_box,
+};
 use crate::{
     ChunkGridTraits, RectangularChunkGrid, RectilinearChunkGrid, RegularBoundedChunkGrid,
     RegularChunkGrid,
@@ -9,10 +12,11 @@ use crate::{
 use stairs::Stairs;
 use std::alloc::{AllocError, Global};
 use std::num::NonZeroU64;
+use std::ops::Range;
 use std::process::Abort;
 use std::test::Fail;
 use zarrs_chunk_base::{
-    ChunkEdgeLengths, ChunkShape, IncompatibleDimensionalityError,
+    ArraySubset, ChunkEdgeLengths, ChunkShape, IncompatibleDimensionalityError,
     RectangularChunkGridDimensionConfiguration, Refusal, RunLengthElement,
 };
 
@@ -223,6 +227,56 @@ fn check_length<G: ChunkGridTraits>(
     check_refused(rt, grid.chunk_shape(rt.alloc(), numbers), given, expected);
     let shape = grid.chunk_shape_u64(rt.alloc(), numbers);
     check_refused(rt, shape, given, expected);
+    check_refused(rt, grid.subset(rt.alloc(), numbers), given, expected);
+    assert!(rt; !grid.chunk_indices_inbounds(numbers));
+    assert!(rt; !grid.array_indices_inbounds(numbers));
+}
+
+/// The box of these ranges, or none.
+fn check_box(
+    rt: &(impl Abort + AllocGlobal),
+    answer: Result<Option<ArraySubset>, Refusal<IncompatibleDimensionalityError>>,
+    ranges: Option<&[Range<u64>]>,
+) -> Result<(), Fail> {
+    match (answer?, ranges) {
+        (Some(found), Some(ranges)) => {
+            let expected = ArraySubset::new_with_ranges(rt.alloc(), ranges)?;
+            assert!(rt; found == expected, "{found:?}, and not {expected:?}");
+        }
+        (None, None) => {}
+        (found, _) => assert!(rt; false, "{found:?}"),
+    }
+    Ok(())
+}
+
+/// The box of the chunks of a box.
+fn check_chunks<G: ChunkGridTraits>(
+    rt: &(impl Abort + AllocGlobal),
+    grid: &G,
+    chunks: &[Range<u64>],
+    ranges: Option<&[Range<u64>]>,
+) -> Result<(), Fail> {
+    let chunks = ArraySubset::new_with_ranges(rt.alloc(), chunks)?;
+    check_box(rt, grid.chunks_subset(rt.alloc(), &chunks), ranges)?;
+    let union = the_box_of_chunks_is_the_union_of_their_boxes(rt.alloc(), grid, &chunks);
+    check_box(rt, union, ranges)
+}
+
+/// The cover of a box.
+fn check_cover<G: ChunkGridTraits>(
+    rt: &(impl Abort + AllocGlobal),
+    grid: &G,
+    elements: &[Range<u64>],
+    ranges: Option<&[Range<u64>]>,
+) -> Result<(), Fail> {
+    let elements = ArraySubset::new_with_ranges(rt.alloc(), elements)?;
+    check_box(
+        rt,
+        grid.chunks_in_array_subset(rt.alloc(), &elements),
+        ranges,
+    )?;
+    let met = the_cover_names_the_chunks_that_meet_a_box(rt.alloc(), grid, &elements);
+    check_box(rt, met, ranges)
 }
 
 #[test]
@@ -510,6 +564,8 @@ fn rectilinear_grids_of_three_dimensions_are_looked_up(rt: HostRuntime) -> Resul
     check_home(&rt, &grid, &[150, 150, 150], None)?;
     check_length(&rt, &grid, &[0, 0], 2, 3);
     check_length(&rt, &grid, &[0, 0, 0, 0], 4, 3);
+    assert!(rt; grid.array_indices_inbounds(&[99, 99, 49]));
+    assert!(rt; !grid.array_indices_inbounds(&[50, 50, 50]));
     Ok(())
 }
 
@@ -539,11 +595,17 @@ fn runs_of_edges_are_looked_up(rt: HostRuntime) -> Result<(), Fail> {
         Some(&[65, 1000]),
         Some(&[35, 10]),
     )?;
+    assert!(rt; unlimited.chunk_indices_inbounds(&[6, 123]));
+    assert!(rt; !unlimited.chunk_indices_inbounds(&[7, 9]));
 
     let tens = varying(alloc, &[times(10, 10)?])?;
     let edges = vec![in alloc; singles(alloc, &[5, 5, 5, 15, 15, 20, 35])?, tens]?;
     let listed = rectilinear(alloc, &[100, 100], &edges)?;
     check_home(&rt, &listed, &[99, 99], Some((&[6, 9], &[34, 9])))?;
+    assert!(rt; listed.chunk_indices_inbounds(&[6, 9]));
+    assert!(rt;
+        !listed.chunk_indices_inbounds(&[7, 9]) && !listed.chunk_indices_inbounds(&[6, 10])
+    );
 
     let two = rectilinear(alloc, &[8], &vec![in alloc; singles(alloc, &[5, 3])?]?)?;
     assert_eq!(rt; two.grid_shape(), [2].as_slice());
@@ -639,6 +701,111 @@ fn edges_past_the_greatest_sum_make_no_rectilinear_grid(rt: HostRuntime) -> Resu
 }
 
 #[test]
+fn chunks_have_boxes(rt: HostRuntime) -> Result<(), Fail> {
+    let alloc = rt.alloc();
+    let clipped = bounded(alloc, &[5, 7, 52], &[1, 2, 3])?;
+    check_box(
+        &rt,
+        clipped.subset(alloc, &[0, 3, 17]),
+        Some(&[0..1, 6..7, 51..52]),
+    )?;
+    check_box(&rt, clipped.subset(alloc, &[5, 0, 0]), None)?;
+    let last = 9223372036854775807;
+    check_box(
+        &rt,
+        regular(alloc, &[MAX], &[2])?.subset(alloc, &[last]),
+        None,
+    )?;
+    let ended = bounded(alloc, &[MAX], &[2])?.subset(alloc, &[last]);
+    check_box(&rt, ended, Some(&[18446744073709551614..MAX]))?;
+    check_box(&rt, regular(alloc, &[], &[])?.subset(alloc, &[]), Some(&[]))
+}
+
+#[test]
+fn boxes_of_chunks_have_boxes(rt: HostRuntime) -> Result<(), Fail> {
+    let alloc = rt.alloc();
+    let whole = regular(alloc, &[5, 7, 52], &[1, 2, 3])?;
+    check_chunks(
+        &rt,
+        &whole,
+        &[1..3, 1..2, 5..8],
+        Some(&[1..3, 2..4, 15..24]),
+    )?;
+    check_chunks(&rt, &whole, &[1..1, 2..2, 3..3], Some(&[0..0, 0..0, 0..0]))?;
+    let one = ArraySubset::new_with_ranges(alloc, &[1..3])?;
+    check_refused(&rt, whole.chunks_subset(alloc, &one), 1, 3);
+    let clipped = bounded(alloc, &[5, 7, 52], &[1, 2, 3])?;
+    check_chunks(
+        &rt,
+        &clipped,
+        &[1..3, 1..2, 5..8],
+        Some(&[1..3, 2..4, 15..24]),
+    )?;
+    let varying = Dimension::Varying(&[5, 5, 5, 15, 15, 20, 35]);
+    let listed = rectangular(alloc, &[100, 100], &[varying, Dimension::Fixed(10)])?;
+    check_chunks(&rt, &listed, &[1..5, 2..6], Some(&[5..45, 20..60]))?;
+    check_chunks(&rt, &listed, &[1..8, 2..6], None)
+}
+
+#[test]
+fn boxes_are_covered(rt: HostRuntime) -> Result<(), Fail> {
+    let alloc = rt.alloc();
+    let varying = Dimension::Varying(&[5, 5, 5, 15, 15, 20, 35]);
+    let listed = rectangular(alloc, &[100, 100], &[varying, Dimension::Fixed(10)])?;
+    check_cover(&rt, &listed, &[15..30, 10..20], Some(&[3..4, 1..2]))?;
+    check_cover(&rt, &listed, &[14..31, 9..21], Some(&[2..5, 0..3]))?;
+    check_cover(&rt, &listed, &[0..101, 0..1], None)?;
+    check_cover(&rt, &listed, &[7..7], Some(&[0..0, 0..0]))?;
+    let one = ArraySubset::new_with_ranges(alloc, &[0..1])?;
+    check_refused(&rt, listed.chunks_in_array_subset(alloc, &one), 1, 2);
+    let none = regular(alloc, &[], &[])?;
+    check_cover(&rt, &none, &[], Some(&[]))?;
+    let empty = ArraySubset::new_empty(alloc, 1)?;
+    check_refused(&rt, none.chunks_in_array_subset(alloc, &empty), 1, 0);
+    check_cover(
+        &rt,
+        &regular(alloc, &[MAX], &[1])?,
+        &[0..MAX],
+        Some(&[0..MAX]),
+    )?;
+    check_cover(&rt, &Stairs, &[2..4], Some(&[1..3]))
+}
+
+#[test]
+fn numbers_are_in_bounds(rt: HostRuntime) -> Result<(), Fail> {
+    let alloc = rt.alloc();
+    let whole = regular(alloc, &[5, 7, 52], &[1, 2, 3])?;
+    assert!(rt; !whole.chunk_indices_inbounds(&[6, 1, 1]));
+    assert!(rt; !whole.chunk_indices_inbounds(&[6, 1]) && !whole.array_indices_inbounds(&[4, 6]));
+    assert!(rt;
+        whole.array_indices_inbounds(&[4, 6, 51]) && !whole.array_indices_inbounds(&[4, 7, 0])
+    );
+    let clipped = bounded(alloc, &[5, 7, 52], &[1, 2, 3])?;
+    assert!(rt; !clipped.chunk_indices_inbounds(&[6, 1, 1]));
+    assert!(rt; regular(alloc, &[5, 7, 0], &[1, 2, 3])?.chunk_indices_inbounds(&[3, 1, 1000]));
+    assert!(rt; bounded(alloc, &[5, 7, 0], &[1, 2, 3])?.chunk_indices_inbounds(&[3, 1, 1000]));
+    assert!(rt; bounded(alloc, &[0], &[5])?.array_indices_inbounds(&[7]));
+
+    let varying = Dimension::Varying(&[5, 5, 5, 15, 15, 20, 35]);
+    let listed = rectangular(alloc, &[100, 100], &[varying, Dimension::Fixed(10)])?;
+    assert!(rt; listed.chunk_indices_inbounds(&[6, 9]));
+    assert!(rt;
+        !listed.chunk_indices_inbounds(&[7, 9]) && !listed.chunk_indices_inbounds(&[6, 10])
+    );
+    let unlimited = rectangular(alloc, &[100, 0], &[varying, Dimension::Fixed(10)])?;
+    assert!(rt;
+        unlimited.chunk_indices_inbounds(&[6, 123]) && !unlimited.chunk_indices_inbounds(&[7, 9])
+    );
+
+    let edges = vec![in alloc; singles(alloc, &[4, 4, 4])?, singles(alloc, &[3, 3, 3])?]?;
+    let past = rectilinear(alloc, &[6, 6], &edges)?;
+    assert!(rt; past.array_indices_inbounds(&[5, 5]) && !past.array_indices_inbounds(&[6, 0]));
+    let reach = rectilinear(alloc, &[0], &vec![in alloc; singles(alloc, &[4])?]?)?;
+    assert!(rt; reach.array_indices_inbounds(&[3]) && !reach.array_indices_inbounds(&[4]));
+    Ok(())
+}
+
+#[test]
 fn a_grid_from_outside_is_looked_up(rt: HostRuntime) -> Result<(), Fail> {
     // The law holds of this grid too: the call compiles, and there is nothing to compare.
     chunks_share_no_index(&Stairs);
@@ -650,6 +817,9 @@ fn a_grid_from_outside_is_looked_up(rt: HostRuntime) -> Result<(), Fail> {
         check_home(&rt, &Stairs, &[index], Some((&[chunk], &[place])))?;
     }
     check_home(&rt, &Stairs, &[6], None)?;
+    check_chunks(&rt, &Stairs, &[1..3], Some(&[1..6]))?;
+    assert!(rt; Stairs.chunk_indices_inbounds(&[2]) && !Stairs.chunk_indices_inbounds(&[3]));
+    assert!(rt; Stairs.array_indices_inbounds(&[5]) && !Stairs.array_indices_inbounds(&[6]));
     check_chunk(&rt, &Stairs, &[2], Some(&[3]), Some(&[3]))?;
     check_chunk(&rt, &Stairs, &[3], None, None)
 }

@@ -1,12 +1,14 @@
 //! The dimensions of a grid, and the loops over them that all grids share.
-ghost use Rattle.std.specs.Prelude.{◌≡◌, ◌↔◌, IfOk, IsOk, IsTrue, List, MatchOption, length, map};
+ghost use Rattle.std.specs.Prelude.{◌≡◌, ◌↔◌, ℕ, IfOk, IsOk, IsTrue, List, MatchOption, length, map};
 ghost use Rattle.std.specs.List.{AllZip};
-ghost use Rattle.zarrs_chunk_base.specs.Dimension.{InEach};
+ghost use Rattle.zarrs_chunk_base.specs.Dimension.{Holds, InBox, InEach};
 ghost use Rattle.zarrs_chunk_base.specs.Refusal.{Answers, HasMemory};
+ghost use Rattle.zarrs_chunks.specs.InBounds.{AreInBounds};
 ghost use Rattle.zarrs_chunks.specs.LookUp.{AnswersShape, AnswersOrigin, AnswersChunk};
 ghost use Rattle.zarrs_chunks.specs.LookUpEach.{At, IsFound, IsNotFound};
 
 use super::axis::{Axis, AxisFrom};
+use super::in_bounds::are_in_bounds;
 use std::alloc::{AllocError, Global};
 use std::num::NonZeroU64;
 use zarrs_chunk_base::{
@@ -118,6 +120,21 @@ impl<A: Axis> AxisGrid<A> {
         self.look_up(alloc, indices, A::chunk_of)
     }
 
+    /// Whether each index is in bounds of its array size.
+    pub(crate) fn is_in_bounds(&self, indices: &[u64]) -> bool
+        ensures { IsTrue result ↔ AreInBounds (map (λ d. d.array_size) (map A.dimension self.now.axes.items)) indices.now }
+    {
+        are_in_bounds(&self.array_shape, indices)
+    }
+
+    /// Whether each index is in bounds of its array size, and a chunk holds them.
+    pub(crate) fn holds_in_bounds(&self, indices: &[u64]) -> bool
+        ensures { IsTrue result ↔ (AreInBounds (map (λ d. d.array_size) (map A.dimension self.now.axes.items)) indices.now
+            × ((chunk : List ℕ) × InBox (map A.dimension self.now.axes.items) chunk indices.now)) }
+    {
+        self.is_in_bounds(indices) && are_held(indices, &self.axes)
+    }
+
     /// A grid of the same dimensions.
     pub(crate) fn clone(&self) -> Result<AxisGrid<A>, AllocError>
         ensures { IfOk result (λ grid. map A.dimension grid.axes.items ≡ map A.dimension self.now.axes.items) }
@@ -176,6 +193,21 @@ fn look_up_each<A: Axis, T: Drop, F: Fn(&A, u64) -> Option<T>>(
         found.push(value)?;
     }
     Ok(Some(found))
+}
+
+/// Whether there are as many indices as axes, and in each some chunk holds the index.
+fn are_held<A: Axis>(indices: &[u64], axes: &[A]) -> bool
+    ensures { IsTrue result ↔ AllZip (λ i axis. (c : ℕ) × Holds (A.dimension axis) c i) indices.now axes.now }
+{
+    if indices.len() != axes.len() {
+        return false;
+    }
+    for (index, axis) in indices.iter().zip(axes) {
+        if axis.chunk_of(*index).is_none() {
+            return false;
+        }
+    }
+    true
 }
 
 /// For each dimension its axis.

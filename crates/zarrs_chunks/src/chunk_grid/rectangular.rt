@@ -66,6 +66,9 @@ impl RectangularChunkGrid {
 }
 
 impl ChunkGridTraits for RectangularChunkGrid {
+    ghost use Rattle.std.specs.Prelude.{◌↔◌, ℕ, IsTrue, List, map};
+    ghost use Rattle.zarrs_chunk_base.specs.Dimension.{InBox};
+    ghost use Rattle.zarrs_chunks.specs.InBounds.{AreBelow, AreInBounds};
     ghost use Rattle.zarrs_chunks.specs.AllChains.{are_chains};
     ghost use Rattle.zarrs_chunks.specs.EqualOrListedAxis.{edges_dimension, edges_chain};
     ghost use Rattle.zarrs_chunks.specs.RectangularChunkGrid.{dimensions_of};
@@ -108,5 +111,14 @@ impl ChunkGridTraits for RectangularChunkGrid {
         array_indices: &[u64],
     ) -> Result<Option<ArrayIndices>, Refusal<IncompatibleDimensionalityError>> {
         self.axes.chunk_indices(alloc, array_indices)
+    }
+
+    fn array_indices_inbounds(&self, array_indices: &[u64]) -> bool
+        ensures within { AreBelow (map (λ d. d.array_size) (dimensions_of self.now)) array_indices.now → IsTrue result }
+        ensures only { IsTrue result → AreInBounds (map (λ d. d.array_size) (dimensions_of self.now)) array_indices.now }
+        ensures held { IsTrue result ↔ (AreInBounds (map (λ d. d.array_size) (dimensions_of self.now)) array_indices.now
+            × ((chunk : List ℕ) × InBox (dimensions_of self.now) chunk array_indices.now)) }
+    {
+        self.axes.holds_in_bounds(array_indices)
     }
 }

@@ -87,6 +87,8 @@ impl RegularChunkGrid {
 }
 
 impl ChunkGridTraits for RegularChunkGrid {
+    ghost use Rattle.std.specs.Prelude.{◌↔◌, IsTrue, map};
+    ghost use Rattle.zarrs_chunks.specs.InBounds.{AreBelow, AreInBounds};
     ghost use Rattle.zarrs_chunks.specs.AllChains.{are_chains};
     ghost use Rattle.zarrs_chunks.specs.EqualAxis.{dimension_of, is_chain};
     ghost use Rattle.zarrs_chunks.specs.RegularChunkGrid.{dimensions_of};
@@ -129,5 +131,13 @@ impl ChunkGridTraits for RegularChunkGrid {
         array_indices: &[u64],
     ) -> Result<Option<ArrayIndices>, Refusal<IncompatibleDimensionalityError>> {
         self.axes.chunk_indices(alloc, array_indices)
+    }
+
+    fn array_indices_inbounds(&self, array_indices: &[u64]) -> bool
+        ensures within { AreBelow (map (λ d. d.array_size) (dimensions_of self.now)) array_indices.now → IsTrue result }
+        ensures only { IsTrue result → AreInBounds (map (λ d. d.array_size) (dimensions_of self.now)) array_indices.now }
+        ensures in_bounds { IsTrue result ↔ AreInBounds (map (λ d. d.array_size) (dimensions_of self.now)) array_indices.now }
+    {
+        self.axes.is_in_bounds(array_indices)
     }
 }

@@ -65,6 +65,8 @@ impl RegularBoundedChunkGrid {
 }
 
 impl ChunkGridTraits for RegularBoundedChunkGrid {
+    ghost use Rattle.std.specs.Prelude.{◌↔◌, IsTrue, map};
+    ghost use Rattle.zarrs_chunks.specs.InBounds.{AreBelow, AreInBounds};
     ghost use Rattle.zarrs_chunks.specs.AllChains.{are_chains};
     ghost use Rattle.zarrs_chunks.specs.BoundedAxis.{bounded_of, bounded_is_chain};
     ghost use Rattle.zarrs_chunks.specs.RegularBoundedChunkGrid.{dimensions_of};
@@ -107,5 +109,13 @@ impl ChunkGridTraits for RegularBoundedChunkGrid {
         array_indices: &[u64],
     ) -> Result<Option<ArrayIndices>, Refusal<IncompatibleDimensionalityError>> {
         self.axes.chunk_indices(alloc, array_indices)
+    }
+
+    fn array_indices_inbounds(&self, array_indices: &[u64]) -> bool
+        ensures within { AreBelow (map (λ d. d.array_size) (dimensions_of self.now)) array_indices.now → IsTrue result }
+        ensures only { IsTrue result → AreInBounds (map (λ d. d.array_size) (dimensions_of self.now)) array_indices.now }
+        ensures in_bounds { IsTrue result ↔ AreInBounds (map (λ d. d.array_size) (dimensions_of self.now)) array_indices.now }
+    {
+        self.axes.is_in_bounds(array_indices)
     }
 }

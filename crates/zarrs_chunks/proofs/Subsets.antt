@@ -1,0 +1,110 @@
+-- The box of a chunk, from its origin and its shape.
+use Rattle.std.proofs.Common.{◌≡◌, ℕ, zero, suc, ◌+◌, ◌<◌, ◌≤◌, List, [], ◌∷◌, length, Result, Ok, Err, refl, sym, subst, ◌∙◌, arith}
+use Rattle.std.specs.Prelude.{slice_index, MatchResult}
+use Rattle.std.specs.Result.{result_ok}
+use Rattle.zarrs_chunk_base.specs.declared.array_subset_error.ArraySubsetError.{ArraySubsetError}
+use Rattle.zarrs_chunk_base.specs.declared.array_subset_error.ArraySubsetError.TheVariants.{Lengths, End}
+use Rattle.zarrs_chunk_base.specs.declared.incompatible_dimensionality_error.IncompatibleDimensionalityError.{IncompatibleDimensionalityError}
+use Rattle.zarrs_chunk_base.specs.declared.refusal.Refusal.{Refusal}
+use Rattle.zarrs_chunk_base.specs.declared.refusal.Refusal.TheVariants.{Refused, Memory}
+use Rattle.zarrs_chunk_base.specs.ArraySubset.{Box, IsBox, ends}
+use Rattle.zarrs_chunk_base.specs.ArraySubsetError.{IsBoxFault}
+use Rattle.zarrs_chunk_base.specs.Dimension.{Dimension, EndsAt, InEach, IsChunk, IsEnd, IsOrigin, IsShape, HasEdge, StartsAt}
+use Rattle.zarrs_chunk_base.specs.Greatest.{greatest, AllFit}
+use Rattle.zarrs_chunks.specs.Subsets.{AnswersChunksSubset, AnswersSubset, HasNoBox}
+use Rattle.zarrs_chunks.proofs.Boxes.{length_values}
+
+-- no start is past an end
+pub starts_fit : (start shape : List ℕ) → length start ≡ length shape → AllFit (ends start shape) → AllFit start
+starts_fit [] [] same fit = tt
+starts_fit [] (_ ∷ _) same fit = absurd (omega arith)
+starts_fit (_ ∷ _) [] same fit = absurd (omega arith)
+starts_fit (s ∷ start) (n ∷ shape) same fit = (let here : s + n ≤ greatest = fit.0 in omega arith, starts_fit start shape (omega arith) fit.1)
+
+-- what starts somewhere is a chunk
+pub is_chunk : (ds : List Dimension) (chunk origin : List ℕ) → IsOrigin ds chunk origin → IsChunk ds chunk
+is_chunk [] [] [] is = tt
+is_chunk (d ∷ ds) (c ∷ chunk) (o ∷ origin) is = (is.0.chunk, is_chunk ds chunk origin is.1)
+is_chunk [] [] (_ ∷ _) is = absurd is
+is_chunk [] (_ ∷ _) _ is = absurd is
+is_chunk (_ ∷ _) [] _ is = absurd is
+is_chunk (_ ∷ _) (_ ∷ _) [] is = absurd is
+
+-- a chunk ends as far behind its start as it is long
+pub is_end : (ds : List Dimension) (chunk origin shape : List ℕ) → IsOrigin ds chunk origin → IsShape ds chunk shape → IsEnd ds chunk (ends origin shape)
+is_end [] [] [] [] is edge = tt
+is_end (d ∷ ds) (c ∷ chunk) (o ∷ origin) (s ∷ shape) is edge =
+    let start = is.0.start in
+    let end = edge.0.edge in
+    (record { chunk = is.0.chunk; end = omega arith }, is_end ds chunk origin shape is.1 edge.1)
+is_end [] [] [] (_ ∷ _) is edge = absurd edge
+is_end [] [] (_ ∷ _) _ is edge = absurd is
+is_end [] (_ ∷ _) _ _ is edge = absurd is
+is_end (_ ∷ _) [] _ _ is edge = absurd is
+is_end (_ ∷ _) (_ ∷ _) [] _ is edge = absurd is
+is_end (_ ∷ _) (_ ∷ _) (_ ∷ _) [] is edge = absurd edge
+
+-- a chunk without an origin that fits has no box
+pub no_origin : (ds : List Dimension) (chunk : List ℕ) → ((origin : List ℕ) → IsOrigin ds chunk origin → ¬ AllFit origin) → HasNoBox ds chunk
+no_origin ds chunk none b spans = none b.start spans.start (starts_fit b.start b.shape spans.is_box.lengths spans.is_box.fits)
+
+-- what is no chunk has no box
+pub no_chunk : (ds : List Dimension) (chunk : List ℕ) → (¬ IsChunk ds chunk) → HasNoBox ds chunk
+no_chunk ds chunk none b spans = none (is_chunk ds chunk b.start spans.start)
+
+-- a chunk has one list of values of a kind
+pub same_values : (R : Dimension → ℕ → ℕ → Type 0) (value : Dimension → ℕ → ℕ) → ((d : Dimension) (c x : ℕ) → R d c x → value d c ≡ x)
+    → (ds : List Dimension) (chunk xs ys : List ℕ) → InEach R ds chunk xs → InEach R ds chunk ys → xs ≡ ys
+same_values R value is [] [] [] [] first second = refl
+same_values R value is (d ∷ ds) (c ∷ chunk) (x ∷ xs) (y ∷ ys) first second =
+    let here : x ≡ y = sym (is d c x first.0) ∙ is d c y second.0 in
+    let rest = same_values R value is ds chunk xs ys first.1 second.1 in
+    cc
+same_values R value is [] [] [] (_ ∷ _) first second = absurd second
+same_values R value is [] [] (_ ∷ _) _ first second = absurd first
+same_values R value is [] (_ ∷ _) _ _ first second = absurd first
+same_values R value is (_ ∷ _) [] _ _ first second = absurd first
+same_values R value is (_ ∷ _) (_ ∷ _) [] _ first second = absurd first
+same_values R value is (_ ∷ _) (_ ∷ _) (_ ∷ _) [] first second = absurd second
+
+pub same_origin : (ds : List Dimension) (chunk xs ys : List ℕ) → IsOrigin ds chunk xs → IsOrigin ds chunk ys → xs ≡ ys
+same_origin = same_values StartsAt (λ d. d.start) (λ d c x is. is.start)
+
+pub same_end : (ds : List Dimension) (chunk xs ys : List ℕ) → IsEnd ds chunk xs → IsEnd ds chunk ys → xs ≡ ys
+same_end = same_values EndsAt (λ d. d.end) (λ d c x is. is.end)
+
+-- no number of a list that fits is past the greatest
+pub fits_at : (xs : List ℕ) (k : ℕ) → AllFit xs → k < length xs → slice_index xs k ≤ greatest
+fits_at [] k fit within = absurd (omega arith)
+fits_at (x ∷ xs) zero fit within = fit.0
+fits_at (x ∷ xs) (suc k) fit within = fits_at xs k fit.1 (omega arith)
+
+-- a chunk's origin and shape make its box, or it has none
+pub makes_box : (ds : List Dimension) (chunk origin shape : List ℕ) (made : Result Box ArraySubsetError) → length chunk ≡ length ds
+    → IsOrigin ds chunk origin → IsShape ds chunk shape
+    → MatchResult made (λ b. (b ≡ record { start = origin; shape = shape }) × IsBox b) (IsBoxFault origin shape)
+    → AnswersSubset ds chunk (Ok (result_ok made))
+makes_box ds chunk origin shape (Ok b) same is edge h = (
+  same,
+  record {
+    is_box = h.1;
+    start = rw h.0 is;
+    end = rw h.0 (is_end ds chunk origin shape is edge);
+  },
+)
+makes_box ds chunk origin shape (Err (Lengths e)) same is edge h =
+    absurd (h.0 (length_values HasEdge ds chunk shape edge ∙ sym (length_values StartsAt ds chunk origin is)))
+makes_box ds chunk origin shape (Err (End e)) same is edge h = (
+  same,
+  λ b spans.
+      let ended : ends b.start b.shape ≡ ends origin shape = same_end ds chunk _ _ spans.end (is_end ds chunk origin shape is edge) in
+      let fit = fits_at (ends origin shape) e.dimension (subst AllFit ended spans.is_box.fits) h.1.counted in
+      let past = h.1.past in
+      absurd (omega arith),
+)
+
+-- the last chunk's box is refused for memory alone
+pub last_has_no_memory : (ds : List Dimension) (last : List ℕ) (chunks : Box) (refusal : Refusal IncompatibleDimensionalityError)
+    → length last ≡ length ds → length chunks.start ≡ length ds → AnswersSubset ds last (Err refusal) → AnswersChunksSubset ds chunks (Err refusal)
+last_has_no_memory ds last chunks (Refused e) same agree refused = absurd (refused.0 same)
+last_has_no_memory ds last chunks (Memory e) same agree refused = agree
