@@ -13,13 +13,13 @@ abbrev pub lists_of : List (Vec ℕ Global) → List (List ℕ)
 lists_of vs = map (λ v. v.items) vs
 
 -- what is left from a vector's place on begins with its numbers
-pub begins_with : (vs : List (Vec ℕ Global)) (i : ℕ) (v : Vec ℕ Global) → i < length vs → v ≡ get_or vs i v
+pub rest_begins_with : (vs : List (Vec ℕ Global)) (i : ℕ) (v : Vec ℕ Global) → i < length vs → v ≡ get_or vs i v
     → drop i (lists_of vs) ≡ v.items ∷ drop (i + 1) (lists_of vs)
-begins_with vs i v within is = rw (add-one) (at vs i within is) where
-  at : (ws : List (Vec ℕ Global)) (k : ℕ) → k < length ws → v ≡ get_or ws k v → drop k (lists_of ws) ≡ v.items ∷ drop (suc k) (lists_of ws)
-  at [] k within is = absurd (omega arith)
-  at (w ∷ ws) zero within is = ap (λ (u : Vec ℕ Global). u.items ∷ lists_of ws) (sym is)
-  at (w ∷ ws) (suc k) within is = at ws k (omega arith) is
+rest_begins_with vs i v within is = rw (add-one) (from_place vs i within is) where
+  from_place : (ws : List (Vec ℕ Global)) (k : ℕ) → k < length ws → v ≡ get_or ws k v → drop k (lists_of ws) ≡ v.items ∷ drop (suc k) (lists_of ws)
+  from_place [] k within is = absurd (omega arith)
+  from_place (w ∷ ws) zero within is = ap (λ (u : Vec ℕ Global). u.items ∷ lists_of ws) (sym is)
+  from_place (w ∷ ws) (suc k) within is = from_place ws k (omega arith) is
 
 pub nothing_left : (vs : List (Vec ℕ Global)) (i : ℕ) → length vs ≤ i → drop i (lists_of vs) ≡ []
 nothing_left [] zero h = refl
@@ -35,17 +35,17 @@ pub record IsSoFar (ds : List Dimension) (encoding : Encoding) (all rest : List 
   pub wrong : (n : ℕ) (e : IncompatibleDimensionalityError) → IsFirstWrongLength ds rest n e → IsFirstWrongLength ds all (position + n) e
 
 module _ (ds : List Dimension) (encoding : Encoding) (all : List (List ℕ)) where
-  pub at_start : (text : List ℕ) → text ≡ [] → IsSoFar ds encoding all all 0 text
-  at_start text empty = record {
+  pub so_far_at_start : (text : List ℕ) → text ≡ [] → IsSoFar ds encoding all all 0 text
+  so_far_at_start text empty = record {
     lengths = λ h. h;
     output = λ more h. rw empty h;
     wrong = λ n e h. let same : 0 + n ≡ n = omega arith in rw same h;
   }
 
-  pub one_more : (rest : List (List ℕ)) (position : ℕ) (text : List ℕ) (index line : List ℕ) (rest_after : List (List ℕ)) (text_after : List ℕ)
+  pub so_far_with_line : (rest : List (List ℕ)) (position : ℕ) (text : List ℕ) (index line : List ℕ) (rest_after : List (List ℕ)) (text_after : List ℕ)
       → IsSoFar ds encoding all rest position text → rest ≡ index ∷ rest_after → HasLengthOf ds index → IsLine ds encoding index line
       → text_after ≡ text ++ line → IsSoFar ds encoding all rest_after (position + 1) text_after
-  one_more rest position text index line rest_after text_after so_far first has_length is_line longer = record {
+  so_far_with_line rest position text index line rest_after text_after so_far first has_length is_line longer = record {
     lengths = λ h. so_far.lengths (subst (AllByRecursion (HasLengthOf ds)) (sym first) (has_length, h));
     output = λ more h.
         let said = so_far.output (line ++ more) (subst (λ r. IsOutput ds encoding r (line ++ more)) (sym first) (line, more, is_line, h, refl)) in
@@ -56,17 +56,17 @@ module _ (ds : List Dimension) (encoding : Encoding) (all : List (List ℕ)) whe
         subst (λ p. IsFirstWrongLength ds all p e) same said;
   }
 
-  pub at_wrong : (rest : List (List ℕ)) (position : ℕ) (text : List ℕ) (index : List ℕ) (rest_after : List (List ℕ)) (e : IncompatibleDimensionalityError)
+  pub wrong_length_is_first : (rest : List (List ℕ)) (position : ℕ) (text : List ℕ) (index : List ℕ) (rest_after : List (List ℕ)) (e : IncompatibleDimensionalityError)
       → IsSoFar ds encoding all rest position text → rest ≡ index ∷ rest_after → length index ≢ length ds → TellsLengths (length index) (length ds) e
       → IsFirstWrongLength ds all position e
-  at_wrong rest position text index rest_after e so_far first unequal tells =
+  wrong_length_is_first rest position text index rest_after e so_far first unequal tells =
       let said = so_far.wrong 0 e (subst (λ r. IsFirstWrongLength ds r 0 e) (sym first) (unequal, tells)) in
       let same : position + 0 ≡ position = omega arith in
       subst (λ p. IsFirstWrongLength ds all p e) same said
 
-  pub at_end : (rest : List (List ℕ)) (position : ℕ) (text : List ℕ) → IsSoFar ds encoding all rest position text → rest ≡ []
+  pub so_far_at_end : (rest : List (List ℕ)) (position : ℕ) (text : List ℕ) → IsSoFar ds encoding all rest position text → rest ≡ []
       → AllByRecursion (HasLengthOf ds) all × IsOutput ds encoding all text
-  at_end rest position text so_far empty = (
+  so_far_at_end rest position text so_far empty = (
     so_far.lengths (subst (AllByRecursion (HasLengthOf ds)) (sym empty) tt),
     subst (IsOutput ds encoding all) (append-nil text) (so_far.output [] (subst (λ r. IsOutput ds encoding r []) (sym empty) refl)),
   )

@@ -73,17 +73,17 @@ after_first k (e ∷ es) name above h =
 -- ---- none is unknown
 
 find_none : (test : String Global → Bool) (k : String Global) (rest : Option (String Global)) → cond (test k) (Some k) rest ≡ None → (test k ≡ false) × (rest ≡ None)
-find_none test k rest h = at (test k) refl h where
-  at : (b : Bool) → test k ≡ b → cond b (Some k) rest ≡ None → (test k ≡ false) × (rest ≡ None)
-  at true e h = cc
-  at false e h = (e, h)
+find_none test k rest h = by_test (test k) refl h where
+  by_test : (b : Bool) → test k ≡ b → cond b (Some k) rest ≡ None → (test k ≡ false) × (rest ≡ None)
+  by_test true e h = cc
+  by_test false e h = (e, h)
 
 find_some : (test : String Global → Bool) (k : String Global) (rest : Option (String Global)) (found : String Global) → cond (test k) (Some k) rest ≡ Some found
     → ((test k ≡ true) × (k ≡ found)) ⊎ ((test k ≡ false) × (rest ≡ Some found))
-find_some test k rest found h = at (test k) refl h where
-  at : (b : Bool) → test k ≡ b → cond b (Some k) rest ≡ Some found → ((test k ≡ true) × (k ≡ found)) ⊎ ((test k ≡ false) × (rest ≡ Some found))
-  at true e h = inl (e, cc)
-  at false e h = inr (e, h)
+find_some test k rest found h = by_test (test k) refl h where
+  by_test : (b : Bool) → test k ≡ b → cond b (Some k) rest ≡ Some found → ((test k ≡ true) × (k ≡ found)) ⊎ ((test k ≡ false) × (rest ≡ Some found))
+  by_test true e h = inl (e, cc)
+  by_test false e h = inr (e, h)
 
 pub none_unknown : (known : List (Bor (List ℕ))) (es : List Entry) → find (is_unknown_key known) (keys_of es) ≡ None → HasNoUnknown (texts known) (members_view es)
 none_unknown known [] none name unknown = true≢false (sym unknown.0)

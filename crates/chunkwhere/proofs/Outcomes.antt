@@ -1,9 +1,9 @@
 -- The outcomes of a run, put together from its steps.
-use Rattle.std.proofs.Common.{◌≡◌, ℕ, Bool, true, false, List, [], ◌++◌, Option, None, Some, Result, Ok, Err, IfSome, IfErr, OnOk, OnErr, refl, sym, ◌∙◌, subst, ⊎_elim}
+use Rattle.std.proofs.Common.{◌≡◌, ℕ, Bool, true, false, List, [], ◌++◌, Option, None, Some, Result, Ok, Err, IfSome, IfErr, MatchResult, OnOk, OnErr, refl, sym, ◌∙◌, subst, ⊎_elim}
 use Rattle.chunkwhere.specs.declared.run_fault.RunFault.{RunFault}
 use Rattle.chunkwhere.specs.declared.run_fault.RunFault.TheVariants.{Read, NotJson, NotObject, Missing, WrongValue, Metadata, Grid, Encoding, Index, Write, Memory}
 use Rattle.chunkwhere.specs.Document.{not_json, not_of_form}
-use Rattle.chunkwhere.specs.Run.{IsFirstFault, no_document, no_answer, IsTextFor, IsWritten, IsReadToEnd, RunLeaves, Streams}
+use Rattle.chunkwhere.specs.Run.{IsFirstFault, no_document, no_answer, IsTextFor, IsWritten, IsReadToEnd, RunEndsWith, RunLeaves, Streams}
 use Rattle.chunkwhere.specs.RunFault.{OrMemory}
 
 -- ---- a fault of an input is none of reading, memory or writing
@@ -48,7 +48,7 @@ after_fault (Some input) left_after None read_before read_after write bytes faul
 after_fault (Some input) left_after (Some held) read_before read_after write bytes fault read same why = λ not_read not_written.
     let s : Streams = record { left = left_after; read_failed = read_after; holds = Some held; write_failed = write } in
     ⊎_elim
-    (λ wanting. subst (λ f. RunLeaves input held (Err f) s) (sym wanting) (same ∙ not_read, (refl, not_written)))
+    (λ is_memory. subst (λ f. RunLeaves input held (Err f) s) (sym is_memory) (same ∙ not_read, (refl, not_written)))
     (λ first. leaves_first input held fault s (subst (λ b. IsFirstFault b fault) read.0 first) (read.1, same ∙ not_read) (refl, not_written))
     why
 
@@ -72,3 +72,13 @@ after_writing (Some input) left_after (Some held) holds_after read_before read_a
     let (written, rest, whole, is_held) = err in
     subst (λ f. RunLeaves input held (Err f) s) (sym failed.0)
     ((read.1, same ∙ not_read), text, written, rest, subst (λ b. IsTextFor b text) read.0 is_text, whole, is_held, failed.1)
+
+-- ---- the status
+
+pub with_status : (left holds : Option (List ℕ)) (read_failed write_failed : Bool) (outcome : Result (Unit {0}) RunFault) (status : ℕ) (s : Streams)
+    → IfSome left (λ input. IfSome holds (λ held. read_failed ≡ false → write_failed ≡ false → RunLeaves input held outcome s))
+    → MatchResult outcome (λ _. status ≡ 0) (λ _. status ≡ 1)
+    → IfSome left (λ input. IfSome holds (λ held. read_failed ≡ false → write_failed ≡ false → RunEndsWith input held status s))
+with_status None holds read_failed write_failed outcome status s leaves is = tt
+with_status (Some input) None read_failed write_failed outcome status s leaves is = tt
+with_status (Some input) (Some held) read_failed write_failed outcome status s leaves is = λ not_read not_written. (outcome, leaves not_read not_written, is)

@@ -3,7 +3,6 @@ pub mod ChunkGrid
 pub mod ChunkKey
 pub mod ChunkKeyEncoding
 pub mod Configuration
-pub mod DefaultChunkKeyEncoding
 pub mod Document
 pub mod Json
 pub mod Metadata
@@ -12,3 +11,4 @@ pub mod Output
 pub mod Run
 pub mod RunFault
 pub mod Watched
+pub mod seen

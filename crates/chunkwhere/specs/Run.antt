@@ -1,5 +1,5 @@
 -- What a run of the program leaves.
-use Rattle.std.specs.Prelude.{◌≡◌, ℕ, Bool, true, false, List, [], ◌++◌, Option, Some, Result, Ok, Err}
+use Rattle.std.specs.Prelude.{◌≡◌, ℕ, Bool, true, false, List, [], ◌++◌, Option, Some, Result, Ok, Err, MatchResult}
 use Rattle.chunkwhere.specs.declared.run_fault.RunFault.{RunFault}
 use Rattle.chunkwhere.specs.declared.run_fault.RunFault.TheVariants.{Read, Write, Memory}
 use Rattle.chunkwhere.specs.Answer.{IsAnswer, IsAnswerFault}
@@ -45,3 +45,8 @@ RunLeaves input held (Err Write) s =
     IsReadToEnd s × (text : List ℕ) × (written : List ℕ) × (rest : List ℕ) × IsTextFor input text × (text ≡ written ++ rest)
     × (s.holds ≡ Some (held ++ written)) × (s.write_failed ≡ true)
 RunLeaves input held (Err fault) s = IsReadToEnd s × IsFirstFault input fault × IsWritten held s
+
+-- A run ends with the status 0 where it succeeded, and with 1 after a fault.
+abbrev pub RunEndsWith : (input held : List ℕ) → (status : ℕ) → Streams → Type 0
+RunEndsWith input held status s =
+    (outcome : Result (Unit {0}) RunFault) × RunLeaves input held outcome s × MatchResult outcome (λ _. status ≡ 0) (λ _. status ≡ 1)

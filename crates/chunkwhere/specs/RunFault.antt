@@ -2,7 +2,14 @@
 use Rattle.std.specs.Prelude.{◌≡◌, ◌⊎◌}
 use Rattle.chunkwhere.specs.declared.run_fault.RunFault.{RunFault}
 use Rattle.chunkwhere.specs.declared.run_fault.RunFault.TheVariants.{Memory}
+use Rattle.zarrs_chunk_base.specs.declared.refusal.Refusal.{Refusal}
+use Rattle.zarrs_chunk_base.specs.declared.refusal.Refusal.TheVariants.{Refused, Memory as OutOfMemory}
 
--- memory was wanting, or P holds of the fault
+-- what a refusal by a fault tells
+abbrev pub fault_of : Refusal RunFault → RunFault
+fault_of (Refused fault) = fault
+fault_of (OutOfMemory _) = Memory
+
+-- there was no memory, or P holds of the fault
 abbrev pub OrMemory : (RunFault → Type 0) → RunFault → Type 0
 OrMemory P fault = (fault ≡ Memory) ⊎ P fault

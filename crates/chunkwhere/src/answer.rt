@@ -3,7 +3,7 @@ ghost use Rattle.std.specs.Prelude.{◌≡◌, ◌≢◌, ℕ, List, ◌++◌, c
 ghost use Rattle.std.specs.List.{AllByRecursion};
 ghost use Rattle.chunkwhere.specs.Answer.{HasLengthOf, IsAnswer, IsAnswerFault, IsIndexFault};
 ghost use Rattle.chunkwhere.specs.ChunkKey.{IsKey};
-ghost use Rattle.chunkwhere.specs.DefaultChunkKeyEncoding.{encoding_of};
+ghost use Rattle.chunkwhere.specs.seen.DefaultChunkKeyEncoding.{encoding_of};
 ghost use Rattle.chunkwhere.specs.Document.{document_of};
 ghost use Rattle.chunkwhere.specs.Numeral.{IsNumerals};
 ghost use Rattle.chunkwhere.specs.Output.{IsLine, IsOutput};
@@ -24,16 +24,10 @@ pub(crate) fn answer(alloc: Global, document: &Document) -> Result<String, RunFa
     ensures { MatchResult result (λ text. IsAnswer (document_of document.now) (string_bytes text))
         (OrMemory (IsAnswerFault (document_of document.now))) }
 {
-    let grid = match chunk_grid::from_metadata(alloc, &document.chunk_grid, &document.shape) {
-        Ok(grid) => grid,
-        Err(Refusal::Refused(error)) => return Err(RunFault::Grid(error)),
-        Err(Refusal::Memory(_)) => return Err(RunFault::Memory),
-    };
-    let encoding = match chunk_key_encoding::from_metadata(alloc, &document.chunk_key_encoding) {
-        Ok(encoding) => encoding,
-        Err(Refusal::Refused(error)) => return Err(RunFault::Encoding(error)),
-        Err(Refusal::Memory(_)) => return Err(RunFault::Memory),
-    };
+    let grid = chunk_grid::from_metadata(alloc, &document.chunk_grid, &document.shape);
+    let grid = grid.map_err(|refusal| refusal.map(RunFault::Grid))?;
+    let encoding = chunk_key_encoding::from_metadata(alloc, &document.chunk_key_encoding);
+    let encoding = encoding.map_err(|refusal| refusal.map(RunFault::Encoding))?;
     lines(alloc, &grid, &encoding, &document.indices)
 }
 
@@ -45,17 +39,16 @@ fn lines<G: ChunkGridTraits>(
     indices: &[Vec<u64>],
 ) -> Result<String, RunFault>
     ensures { MatchResult result
-        (λ text. AllByRecursion (HasLengthOf (G.dimensions grid.now)) (map (λ index. index.items) indices.now)
-        × IsOutput (G.dimensions grid.now) (encoding_of encoding.now) (map (λ index. index.items) indices.now) (string_bytes text))
+        (λ text. AllByRecursion (HasLengthOf (G.dimensions grid.now)) (map
+        (λ index. index.items) indices.now)
+        × IsOutput (G.dimensions grid.now) (encoding_of encoding.now) (map
+        (λ index. index.items) indices.now) (string_bytes text))
         (OrMemory (IsIndexFault (G.dimensions grid.now) (map (λ index. index.items) indices.now))) }
 {
     let mut text = String::new(alloc);
     for (position, index) in indices.iter().enumerate() {
-        match append_line(alloc, &mut text, grid, encoding, index) {
-            Ok(()) => {}
-            Err(Refusal::Refused(error)) => return Err(RunFault::Index(position, error)),
-            Err(Refusal::Memory(_)) => return Err(RunFault::Memory),
-        }
+        let appended = append_line(alloc, &mut text, grid, encoding, index);
+        appended.map_err(|refusal| refusal.map(|error| RunFault::Index(position, error)))?;
     }
     Ok(text)
 }
@@ -82,20 +75,22 @@ fn append_line<G: ChunkGridTraits>(
         text.push_str("-\n")?;
         return Ok(());
     };
-    append_found(alloc, text, encoding, &chunk, &place)?;
+    append_key_and_place(alloc, text, encoding, &chunk, &place)?;
     Ok(())
 }
 
 /// Appends the key of a chunk and a place in it.
-fn append_found(
+fn append_key_and_place(
     alloc: Global,
     text: &mut String,
     encoding: &DefaultChunkKeyEncoding,
     chunk: &[u64],
     place: &[u64],
 ) -> Result<(), AllocError>
-    ensures { OnOk result ((key : List ℕ) × (numbers : List ℕ) × IsKey (encoding_of encoding.now) chunk.now key
-        × IsNumerals 32 place.now numbers × (string_bytes text.new ≡ string_bytes text.old ++ (key ++ numbers ++ codes "\n"))) }
+    ensures { OnOk result ((key : List ℕ) × (numbers : List ℕ)
+        × IsKey (encoding_of encoding.now) chunk.now key
+        × IsNumerals 32 place.now numbers × (string_bytes text.new
+        ≡ string_bytes text.old ++ (key ++ numbers ++ codes "\n"))) }
 {
     text.push_str(encoding.encode(alloc, chunk)?.as_str())?;
     append_numerals(text, ' ', place)?;

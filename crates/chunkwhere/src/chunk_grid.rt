@@ -5,12 +5,11 @@ ghost use Rattle.std.specs.Prelude.{MatchResult};
 ghost use Rattle.chunkwhere.specs.ChunkGrid.{IsGrid, IsGridFault};
 ghost use Rattle.chunkwhere.specs.Metadata.{extension_of};
 ghost use Rattle.zarrs_chunk_base.specs.Refusal.{IfRefused};
-ghost use Rattle.zarrs_chunks.specs.RegularChunkGrid.{dimensions_of};
 
 use crate::metadata::MetadataV3;
 use std::alloc::Global;
 use zarrs_chunk_base::{PluginCreateError, Refusal};
-use zarrs_chunks::RegularChunkGrid;
+use zarrs_chunks::{ChunkGridTraits, RegularChunkGrid};
 
 /// The chunk grid that an array's metadata stands for.
 ///
@@ -22,7 +21,8 @@ pub(crate) fn from_metadata(
     metadata: &MetadataV3,
     array_shape: &[u64],
 ) -> Result<RegularChunkGrid, Refusal<PluginCreateError>>
-    ensures { MatchResult result (λ grid. IsGrid (extension_of metadata.now) array_shape.now (dimensions_of grid))
+    ensures { MatchResult result (λ grid. IsGrid (extension_of metadata.now) array_shape.now
+        (⟦<RegularChunkGrid as ChunkGridTraits>⟧.dimensions grid))
         (λ refusal. IfRefused refusal (IsGridFault (extension_of metadata.now) array_shape.now)) }
 {
     match metadata.name() {

@@ -3,7 +3,7 @@ pub(crate) mod default;
 
 ghost use Rattle.std.specs.Prelude.{MatchResult};
 ghost use Rattle.chunkwhere.specs.ChunkKeyEncoding.{IsEncoding, IsEncodingFault};
-ghost use Rattle.chunkwhere.specs.DefaultChunkKeyEncoding.{encoding_of};
+ghost use Rattle.chunkwhere.specs.seen.DefaultChunkKeyEncoding.{encoding_of};
 ghost use Rattle.chunkwhere.specs.Metadata.{extension_of};
 ghost use Rattle.zarrs_chunk_base.specs.Refusal.{IfRefused};
 
@@ -21,7 +21,8 @@ pub(crate) fn from_metadata(
     alloc: Global,
     metadata: &MetadataV3,
 ) -> Result<DefaultChunkKeyEncoding, Refusal<PluginCreateError>>
-    ensures { MatchResult result (λ encoding. IsEncoding (extension_of metadata.now) (encoding_of encoding))
+    ensures { MatchResult result (λ encoding. IsEncoding (extension_of metadata.now)
+        (encoding_of encoding))
         (λ refusal. IfRefused refusal (IsEncodingFault (extension_of metadata.now))) }
 {
     match metadata.name() {

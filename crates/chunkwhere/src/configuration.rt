@@ -13,7 +13,8 @@ use zarrs_chunk_base::{Configuration, ConfigurationFault, Refusal};
 
 /// The member of a name.
 pub(crate) fn member<'m>(members: &'m Configuration, name: &str) -> Option<&'m Value>
-    ensures { option_map (λ v. view v.now) result ≡ get_member name.now (members_view members.now.entries) }
+    ensures { option_map (λ v. view v.now) result
+        ≡ get_member name.now (members_view members.now.entries) }
 {
     members.get(name)
 }
@@ -25,8 +26,10 @@ pub(crate) fn refuse_unknown(
     known: &[&str],
     expected: &'static str,
 ) -> Result<(), Refusal<ConfigurationFault>>
-    ensures { MatchResult result (λ _. HasNoUnknown (map (λ name. name.now) known.now) (members_view members.now.entries))
-        (λ refusal. IfRefused refusal (IsUnknownFault (map (λ name. name.now) known.now) expected.now (members_view members.now.entries))) }
+    ensures { MatchResult result (λ _. HasNoUnknown (map
+        (λ name. name.now) known.now) (members_view members.now.entries))
+        (λ refusal. IfRefused refusal (IsUnknownFault (map
+        (λ name. name.now) known.now) expected.now (members_view members.now.entries))) }
 {
     let Some(name) = first_unknown(members, known) else {
         return Ok(());
@@ -39,7 +42,9 @@ pub(crate) fn refuse_unknown(
 
 /// The first member's name that isn't known.
 fn first_unknown<'m>(members: &'m Configuration, known: &[&str]) -> Option<&'m String>
-    ensures first { option_map (λ k. k.now) result ≡ find (λ k. not (list_any (λ other. bytes_eq other.now (string_bytes k)) known.now)) (keys members.now) }
+    ensures first { option_map (λ k. k.now) result ≡ find
+        (λ k. not (list_any (λ other. bytes_eq other.now (string_bytes k)) known.now))
+        (keys members.now) }
     ensures ordered { IsOrdered string_cmp members.now }
 {
     members.keys().find(|name| !is_known(known, name.as_str()))

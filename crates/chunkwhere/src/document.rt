@@ -12,7 +12,6 @@ use crate::metadata::MetadataV3;
 use crate::run_fault::RunFault;
 use serde_json::Value;
 use std::alloc::Global;
-use zarrs_chunk_base::Refusal;
 
 /// An array's metadata, and the indices of the elements to look up.
 #[derive(Drop)]
@@ -26,7 +25,8 @@ pub(crate) struct Document {
 /// The document that an input is the text of, or the first fault.
 pub(crate) fn parse(alloc: Global, input: &[u8]) -> Result<Document, RunFault>
     ensures { MatchResult result
-        (λ document. (tree : Data) × IsTreeOf input.now tree × IsDocument tree (document_of document))
+        (λ document. (tree : Data) × IsTreeOf input.now tree
+        × IsDocument tree (document_of document))
         (OrMemory (IsInputFault input.now)) }
 {
     match Value::from_slice(alloc, input) {
@@ -44,15 +44,15 @@ fn document_from(alloc: Global, tree: &Value) -> Result<Document, RunFault>
     if !tree.is_object() {
         return Err(RunFault::NotObject);
     }
-    let shape = required(tree, "shape")?;
-    let chunk_grid = required(tree, "chunk_grid")?;
-    let chunk_key_encoding = required(tree, "chunk_key_encoding")?;
-    let indices = required(tree, "indices")?;
+    let shape = required_member(tree, "shape")?;
+    let chunk_grid = required_member(tree, "chunk_grid")?;
+    let chunk_key_encoding = required_member(tree, "chunk_key_encoding")?;
+    let indices = required_member(tree, "indices")?;
     let Some(shape) = Vec::from_tree(alloc, shape)? else {
         return Err(RunFault::WrongValue("shape"));
     };
-    let chunk_grid = metadata(alloc, chunk_grid, "chunk_grid")?;
-    let chunk_key_encoding = metadata(alloc, chunk_key_encoding, "chunk_key_encoding")?;
+    let chunk_grid = member_metadata(alloc, chunk_grid, "chunk_grid")?;
+    let chunk_key_encoding = member_metadata(alloc, chunk_key_encoding, "chunk_key_encoding")?;
     let Some(indices) = Vec::from_tree(alloc, indices)? else {
         return Err(RunFault::WrongValue("indices"));
     };
@@ -65,7 +65,7 @@ fn document_from(alloc: Global, tree: &Value) -> Result<Document, RunFault>
 }
 
 /// A member that has to be there.
-fn required<'t>(tree: &'t Value, field: &'static str) -> Result<&'t Value, RunFault>
+fn required_member<'t>(tree: &'t Value, field: &'static str) -> Result<&'t Value, RunFault>
     ensures { MatchResult result (λ value. get field.now (view tree.now) ≡ Some (view value.now))
         (IsMissingFault (view tree.now) field.now) }
 {
@@ -73,13 +73,10 @@ fn required<'t>(tree: &'t Value, field: &'static str) -> Result<&'t Value, RunFa
 }
 
 /// A member's value as an extension's metadata.
-fn metadata(alloc: Global, tree: &Value, field: &'static str) -> Result<MetadataV3, RunFault>
+fn member_metadata(alloc: Global, tree: &Value, field: &'static str) -> Result<MetadataV3, RunFault>
     ensures { MatchResult result (λ metadata. IsExtension (view tree.now) (extension_of metadata))
         (OrMemory (IsExtensionFault (view tree.now) field.now)) }
 {
-    match MetadataV3::from_tree(alloc, tree) {
-        Ok(metadata) => Ok(metadata),
-        Err(Refusal::Refused(error)) => Err(RunFault::Metadata(field, error)),
-        Err(Refusal::Memory(_)) => Err(RunFault::Memory),
-    }
+    let metadata = MetadataV3::from_tree(alloc, tree);
+    Ok(metadata.map_err(|refusal| refusal.map(|error| RunFault::Metadata(field, error)))?)
 }

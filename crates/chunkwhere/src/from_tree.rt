@@ -59,12 +59,12 @@ impl<T: FromTree> FromTree for Vec<T> {
     ghost form = { list_of T.form };
 
     fn from_tree(alloc: Global, tree: &Value) -> Result<Option<Vec<T>>, AllocError> {
-        let Some(items) = tree.as_array() else {
+        let Some(elements) = tree.as_array() else {
             return Ok(None);
         };
-        let mut values = Vec::with_capacity(alloc, items.len())?;
-        for item in items {
-            let Some(value) = T::from_tree(alloc, item)? else {
+        let mut values = Vec::with_capacity(alloc, elements.len())?;
+        for element in elements {
+            let Some(value) = T::from_tree(alloc, element)? else {
                 return Ok(None);
             };
             values.push(value)?;

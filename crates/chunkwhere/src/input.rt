@@ -8,9 +8,9 @@ use std::alloc::Global;
 use std::io::Read;
 
 /// How many bytes are asked for at once.
-const PIECE_LEN: usize = 16384;
+const BUFFER_LEN: usize = 16384;
 
-/// All that a reader has left. A reader that never ends is answered with want of memory.
+/// All that a reader has left. A reader that never ends is answered with `Memory`.
 pub(crate) fn read_to_end<R: Read>(
     alloc: Global,
     reader: &mut Watched<R>,
@@ -20,15 +20,15 @@ pub(crate) fn read_to_end<R: Read>(
     ensures failed { MatchResult result (λ _. has_failed reader.new ≡ has_failed reader.old)
         (λ fault. IsReadFault fault (has_failed reader.old) (has_failed reader.new)) }
 {
-    let mut piece = [0; PIECE_LEN];
+    let mut buffer = [0; BUFFER_LEN];
     let mut bytes = Vec::new(alloc);
     loop {
-        let Ok(count) = reader.read(&mut piece) else {
+        let Ok(count) = reader.read(&mut buffer) else {
             return Err(RunFault::Read);
         };
         if count == 0 {
             return Ok(bytes);
         }
-        bytes.extend_from_slice(&piece[..count])?;
+        bytes.extend_from_slice(&buffer[..count])?;
     }
 }

@@ -6,15 +6,15 @@
 //!
 //! | Module | What it holds |
 //! |---|---|
-//! | `program` | `run`, the whole program over any reader and writer, and `finish` |
+//! | `program` | `run_to_status`, the whole program over any reader and writers: `run`, and then `finish` |
 //! | `watched` | a reader or writer that remembers whether one of its calls failed |
 //! | `input`, `document`, `answer`, `output` | the four steps: read, understand, answer, write |
 //! | `run_fault` | why a run stops |
 //! | `from_tree` | sizes, edges and lists of them in a JSON tree |
-//! | `metadata`, `configuration`, `plugin_create_error` | extensions: their metadata, their configurations, and why none is made |
+//! | `metadata`, `configuration` | extensions: their metadata, and their configurations |
 //! | `chunk_grid` | the `regular` grid |
-//! | `chunk_key_encoding`, `chunk_key_separator` | the `default` keys |
-//! | `refusal`, `incompatible_dimensionality_error` | why a call is refused |
+//! | `chunk_key_encoding` | the `default` keys |
+//! | `numerals` | numbers as decimal text |
 #![tactic(auto)]
 
 mod answer;
@@ -33,13 +33,12 @@ mod run_fault;
 mod tests;
 mod watched;
 
-use program::{finish, run};
+use program::run_to_status;
 use std::process::ExitCode;
 use watched::Watched;
 
 fn main(rt: HostRuntime) -> ExitCode {
     let mut reader = Watched::new(rt.stdin());
     let mut writer = Watched::new(rt.stdout());
-    let result = run(rt.alloc(), &mut reader, &mut writer);
-    ExitCode::from(finish(&result, &mut rt.stderr()))
+    ExitCode::from(run_to_status(rt.alloc(), &mut reader, &mut writer, &mut rt.stderr()))
 }

@@ -27,7 +27,7 @@ impl MetadataV3 {
     /// isn't kept; other members are ignored.
     ///
     /// # Errors
-    /// The first fault of the tree, or want of memory.
+    /// The first fault of the tree, or there was no memory.
     pub fn from_tree(alloc: Global, tree: &Value) -> Result<MetadataV3, Refusal<MetadataError>>
         ensures { MatchResult result (λ m. IsExtension (view tree.now) (extension_of m))
             (λ refusal. IfRefused refusal (IsMetadataFault (view tree.now))) }
@@ -64,7 +64,8 @@ impl MetadataV3 {
 
     /// The extension's configuration, where there is one.
     pub fn configuration(&self) -> Option<&Configuration>
-        ensures { option_map (λ c. members_view c.now.entries) result ≡ (extension_of self.now).configuration }
+        ensures { option_map (λ c. members_view c.now.entries) result
+            ≡ (extension_of self.now).configuration }
     {
         self.configuration.as_ref()
     }
@@ -73,7 +74,8 @@ impl MetadataV3 {
 /// A copy of the member `configuration`, where there is one.
 fn configuration_of(tree: &Value) -> Result<Option<Configuration>, Refusal<MetadataError>>
     ensures { MatchResult result
-        (λ c. IsOptional as_object (get (codes "configuration") (view tree.now)) (option_map (λ c. members_view c.entries) c))
+        (λ c. IsOptional as_object (get (codes "configuration") (view tree.now)) (option_map
+        (λ c. members_view c.entries) c))
         (λ refusal. IfRefused refusal (λ error. (error ≡ MetadataError.ConfigurationNotObject)
         × IsMisformed as_object (get (codes "configuration") (view tree.now)))) }
 {
@@ -89,7 +91,8 @@ fn configuration_of(tree: &Value) -> Result<Option<Configuration>, Refusal<Metad
 /// Refuses a member `must_understand` that is no truth value.
 fn check_must_understand(tree: &Value) -> Result<(), Refusal<MetadataError>>
     ensures { MatchResult result
-        (λ _. (b : Option Bool) × IsOptional as_bool (get (codes "must_understand") (view tree.now)) b)
+        (λ _. (b : Option Bool) × IsOptional as_bool
+        (get (codes "must_understand") (view tree.now)) b)
         (λ refusal. IfRefused refusal (λ error. (error ≡ MetadataError.MustUnderstandNotBool)
         × IsMisformed as_bool (get (codes "must_understand") (view tree.now)))) }
 {

@@ -11,9 +11,12 @@ pub(crate) fn write_all<W: Write>(writer: &mut Watched<W>, bytes: &[u8]) -> Resu
     ensures ok { OnOk result (IfSome (W.contents (watched writer.old)) (λ held.
         W.contents (watched writer.new) ≡ Some (held ++ bytes.now))) }
     ensures unfailed { OnOk result (has_failed writer.new ≡ has_failed writer.old) }
-    ensures err { OnErr result (IfSome (W.contents (watched writer.old)) (λ held. (written : List ℕ) × (rest : List ℕ)
-        × (bytes.now ≡ written ++ rest) × (W.contents (watched writer.new) ≡ Some (held ++ written)))) }
-    ensures failed { IfErr result (λ fault. (fault ≡ RunFault.Write) × (has_failed writer.new ≡ true)) }
+    ensures err { OnErr result (IfSome (W.contents (watched writer.old)) (λ held. (written : List ℕ)
+        × (rest : List ℕ)
+        × (bytes.now ≡ written ++ rest) × (W.contents (watched writer.new)
+        ≡ Some (held ++ written)))) }
+    ensures failed { IfErr result (λ fault. (fault ≡ RunFault.Write)
+        × (has_failed writer.new ≡ true)) }
 {
     let mut rest = bytes;
     while !rest.is_empty() {

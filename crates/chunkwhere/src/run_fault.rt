@@ -4,7 +4,9 @@ ghost use Rattle.chunkwhere.specs.declared.run_fault.RunFault.TheVariants.{Memor
 
 use std::alloc::{AllocError, AllocFailed};
 use thiserror::Error;
-use zarrs_chunk_base::{IncompatibleDimensionalityError, MetadataError, PluginCreateError};
+use zarrs_chunk_base::{
+    IncompatibleDimensionalityError, MetadataError, PluginCreateError, Refusal,
+};
 
 /// Why a run stops. Nothing has been written, save on `Write`.
 #[derive(Debug, Drop, Error)]
@@ -57,5 +59,18 @@ impl<T: Drop> From<AllocFailed<T>> for RunFault {
 
     fn from(_failed: AllocFailed<T>) -> RunFault {
         RunFault::Memory
+    }
+}
+
+impl From<Refusal<RunFault>> for RunFault {
+    ghost use Rattle.chunkwhere.specs.RunFault.{fault_of};
+
+    ghost from_gives = { λ refusal fault. fault ≡ fault_of refusal };
+
+    fn from(refusal: Refusal<RunFault>) -> RunFault {
+        match refusal {
+            Refusal::Refused(fault) => fault,
+            Refusal::Memory(_) => RunFault::Memory,
+        }
     }
 }

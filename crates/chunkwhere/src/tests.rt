@@ -1,6 +1,6 @@
 //! What no contract says: that the program answers with ample memory, its texts, and readers and
 //! writers that fail.
-use crate::program::{finish, run};
+use crate::program::{finish, run, run_to_status};
 use crate::run_fault::RunFault;
 use crate::watched::Watched;
 use std::alloc::{AllocError, Global};
@@ -40,9 +40,8 @@ fn check(
 ) -> Result<(), AllocError> {
     let mut reader = Watched::new(input);
     let mut writer = Watched::new(Vec::new(rt.alloc()));
-    let result = run(rt.alloc(), &mut reader, &mut writer);
     let mut errors = Vec::new(rt.alloc());
-    let status = finish(&result, &mut errors);
+    let status = run_to_status(rt.alloc(), &mut reader, &mut writer, &mut errors);
     assert_eq!(rt;
         writer.inner().as_slice(),
         output.as_bytes(),
@@ -117,7 +116,7 @@ fn an_arrays_metadata_is_a_document(rt: HostRuntime) -> Result<(), Fail> {
 #[test]
 fn inputs_are_refused(rt: HostRuntime) -> Result<(), Fail> {
     let not_json = "chunkwhere: document is not JSON\n";
-    let rows: [(&[u8], &str); 7] = [
+    let rows: [(&[u8], &str); 8] = [
         (br#"{"shape":[5]"#, not_json),
         (b"", not_json),
         (b"\xff", not_json),
@@ -130,6 +129,10 @@ fn inputs_are_refused(rt: HostRuntime) -> Result<(), Fail> {
         (
             br#"{"indices":[],"shape":[],"chunk_key_encoding":"default"}"#,
             "chunkwhere: missing field `chunk_grid`\n",
+        ),
+        (
+            br#"{"shape":[],"chunk_grid":"regular","chunk_key_encoding":"default"}"#,
+            "chunkwhere: missing field `indices`\n",
         ),
     ];
     for (input, line) in rows {
@@ -359,6 +362,87 @@ fn a_failed_write_is_told(rt: HostRuntime) -> Result<(), Fail> {
                 "after {writes} writes"
             );
         }
+    }
+    Ok(())
+}
+
+#[test]
+fn an_empty_text_is_flushed(rt: HostRuntime) -> Result<(), Fail> {
+    let input = document(rt.alloc(), SHAPE, REGULAR, DEFAULT, "[]")?;
+    for flush_fails in [false, true] {
+        let mut reader = Watched::new(input.as_bytes());
+        let mut writer = Watched::new(FailingWriter {
+            taken: Vec::new(rt.alloc()),
+            writes: 0,
+            fault: Some(ErrorKind::Other),
+            flush_fails,
+        });
+        let result = run(rt.alloc(), &mut reader, &mut writer);
+        assert_eq!(rt; matches!(&result, Err(RunFault::Write)), flush_fails);
+        assert_eq!(rt; result.is_ok(), !flush_fails);
+    }
+    Ok(())
+}
+
+/// A reader and writer that keeps its calls, each with the length of its piece, and the bytes that were
+/// to be written, and answers each call with an error of one kind.
+#[derive(Drop)]
+struct RefusingRecorder {
+    calls: Vec<(&'static str, usize)>,
+    bytes: Vec<u8>,
+    kind: ErrorKind,
+}
+
+impl Read for RefusingRecorder {
+    fn read(&mut self, buf: &mut [u8]) -> io::Result<usize> {
+        self.calls.push(("read", buf.len()))?;
+        Err(io::Error::from(self.kind))
+    }
+}
+
+impl Write for RefusingRecorder {
+    fn write(&mut self, buf: &[u8]) -> io::Result<usize> {
+        self.calls.push(("write", buf.len()))?;
+        self.bytes.extend_from_slice(buf)?;
+        Err(io::Error::from(self.kind))
+    }
+
+    fn flush(&mut self) -> io::Result<()> {
+        self.calls.push(("flush", 0))?;
+        Err(io::Error::from(self.kind))
+    }
+}
+
+#[test]
+fn watched_calls_are_handed_on(rt: HostRuntime) -> Result<(), Fail> {
+    for kind in [
+        ErrorKind::Interrupted,
+        ErrorKind::UnexpectedEof,
+        ErrorKind::Other,
+    ] {
+        let mut watched = Watched::new(RefusingRecorder {
+            calls: Vec::new(rt.alloc()),
+            bytes: Vec::new(rt.alloc()),
+            kind,
+        });
+        for _ in 0..2 {
+            let read = watched.read(&mut [0; 5]);
+            assert!(rt; matches!(read, Err(error) if error.kind() == kind));
+            let written = watched.write(b"abc");
+            assert!(rt; matches!(written, Err(error) if error.kind() == kind));
+            let flushed = watched.flush();
+            assert!(rt; matches!(flushed, Err(error) if error.kind() == kind));
+        }
+        let calls = [
+            ("read", 5),
+            ("write", 3),
+            ("flush", 0),
+            ("read", 5),
+            ("write", 3),
+            ("flush", 0),
+        ];
+        assert_eq!(rt; watched.inner().calls.as_slice(), calls.as_slice());
+        assert_eq!(rt; watched.inner().bytes.as_slice(), b"abcabc".as_slice());
     }
     Ok(())
 }

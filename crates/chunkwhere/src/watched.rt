@@ -3,7 +3,7 @@ use std::io;
 use std::io::{Read, Write};
 
 /// A reader or writer, and whether a call through it failed.
-#[derive(Drop)]
+#[derive(Debug, Drop)]
 pub struct Watched<T> {
     inner: T,
     failed: bool,
@@ -51,7 +51,8 @@ impl<R: Read> Watched<R> {
     /// The reader's own, which is remembered.
     pub fn read(&mut self, buf: &mut [u8]) -> io::Result<usize>
         ensures bound { ReadsAtMost result buf.new }
-        ensures bytes { ReadConsumes (R.remaining (watched self.old)) (R.remaining (watched self.new))
+        ensures bytes { ReadConsumes (R.remaining (watched self.old))
+            (R.remaining (watched self.new))
             result buf.new }
         ensures failed { has_failed self.new ≡ (has_failed self.old || is_err result) }
     {
@@ -75,7 +76,8 @@ impl<W: Write> Watched<W> {
         ensures bound { WritesAtMost result buf.now }
         ensures bytes { WriteAppends (W.contents (watched self.old)) (W.contents (watched self.new))
             result buf.now }
-        ensures failed { has_failed self.new ≡ (has_failed self.old || is_failed_write result buf.now) }
+        ensures failed { has_failed self.new ≡
+            (has_failed self.old || is_failed_write result buf.now) }
     {
         let result = self.inner.write(buf);
         self.failed |= match result {

@@ -1,19 +1,15 @@
 -- What lists of starts and sizes have to do with their ends and with an index, dimension by dimension.
 use Rattle.std.proofs.Common.{◌≡◌, ℕ, zero, suc, ◌+◌, ◌-◌, ◌^◌, ◌<◌, ◌≤◌, min, Bool, true, false, IsTrue, ◌↔◌, Option, Some, None, MatchOption, List, [], ◌∷◌, ◌++◌, length, map, zip, replicate, refl, sym, ap, arith, true≢false}
 use Rattle.std.specs.Bool.{MatchBool}
-use Rattle.std.specs.List.{AllByRecursion, AllWithin, HoldsAt}
+use Rattle.std.specs.List.{AllWithin, HoldsAt}
 use Rattle.std.specs.Prelude.{slice_index}
 use Rattle.zarrs_chunk_base.specs.ArraySubset.{IsBox, AreWithin, ends, lasts, zero_box}
 use Rattle.zarrs_chunk_base.specs.ArraySubsetError.{IsFirstPast}
-use Rattle.zarrs_chunk_base.specs.Greatest.{greatest}
-
--- no number is past the greatest one
-abbrev pub Fits : List ℕ → Type 0
-Fits all = AllByRecursion (λ end. end ≤ greatest) all
+use Rattle.zarrs_chunk_base.specs.Greatest.{greatest, AllFit}
 
 -- ---- boxes that are made
 
-zeros_fit : (n : ℕ) → Fits (ends (replicate n 0) (replicate n 0))
+zeros_fit : (n : ℕ) → AllFit (ends (replicate n 0) (replicate n 0))
 zeros_fit zero = tt
 zeros_fit (suc n) = (omega arith, zeros_fit n)
 
@@ -21,7 +17,7 @@ pub zero_is_box : (n : ℕ) → IsBox (zero_box n)
 zero_is_box n = record { lengths = refl; fits = zeros_fit n }
 
 pub fits_push : (start shape : List ℕ) (first size : ℕ) → length start ≡ length shape → first + size ≤ greatest
-    → Fits (ends start shape) → Fits (ends (start ++ first ∷ []) (shape ++ size ∷ []))
+    → AllFit (ends start shape) → AllFit (ends (start ++ first ∷ []) (shape ++ size ∷ []))
 fits_push [] [] first size e h f = (h, tt)
 fits_push [] (n ∷ shape) first size e h f = absurd (omega arith)
 fits_push (s ∷ start) [] first size e h f = absurd (omega arith)
@@ -29,7 +25,7 @@ fits_push (s ∷ start) (n ∷ shape) first size e h f = (f.0, fits_push start s
 
 -- ---- ends
 
-pub ends_saturated : (start shape : List ℕ) → Fits (ends start shape)
+pub ends_saturated : (start shape : List ℕ) → AllFit (ends start shape)
     → map (λ p. min (p.0 + p.1) (2 ^ 64 - 1)) (zip start shape) ≡ ends start shape
 ends_saturated [] shape f = refl
 ends_saturated (s ∷ start) [] f = refl
@@ -39,7 +35,7 @@ ends_saturated (s ∷ start) (n ∷ shape) f =
     let tail = ends_saturated start shape f.1 in
     cc
 
-pub lasts_saturated : (start shape : List ℕ) → Fits (ends start shape)
+pub lasts_saturated : (start shape : List ℕ) → AllFit (ends start shape)
     → map (λ p. min (p.0 + (p.1 - 1)) (2 ^ 64 - 1)) (zip start shape) ≡ lasts start shape
 lasts_saturated [] shape f = refl
 lasts_saturated (s ∷ start) [] f = refl
@@ -52,7 +48,7 @@ lasts_saturated (s ∷ start) (n ∷ shape) f =
 -- ---- the first end that is past the greatest number
 
 none_past : (start shape : List ℕ) → AllWithin (λ p. p.0 + p.1 ≤ greatest) (zip start shape) 0 (length (zip start shape))
-    → Fits (ends start shape)
+    → AllFit (ends start shape)
 none_past [] shape w = tt
 none_past (s ∷ start) [] w = tt
 none_past (s ∷ start) (n ∷ shape) w =
@@ -82,7 +78,7 @@ pub tells_first_past : (o : Option ℕ) (start shape : List ℕ)
     → MatchOption o (AllWithin (λ p. p.0 + p.1 ≤ greatest) (zip start shape) 0 (length (zip start shape)))
     (λ i. (i < length (zip start shape)) × HoldsAt (λ p. greatest < p.0 + p.1) (zip start shape) i
     × AllWithin (λ p. p.0 + p.1 ≤ greatest) (zip start shape) 0 i)
-    → MatchOption o (Fits (ends start shape)) (IsFirstPast (ends start shape))
+    → MatchOption o (AllFit (ends start shape)) (IsFirstPast (ends start shape))
 tells_first_past None start shape m = none_past start shape m
 tells_first_past (Some i) start shape m = first_past start shape i m.0 m.1 m.2
 

@@ -1,1 +1,3 @@
 pub mod Boxes
+pub mod InEach
+pub mod Refusals

@@ -6,15 +6,15 @@ use Rattle.zarrs_chunk_base.specs.declared.plugin_create_error.PluginCreateError
 use Rattle.zarrs_chunk_base.specs.declared.plugin_create_error.PluginCreateError.TheVariants.{NameUnsupported, ConfigurationUnsupported, Other}
 
 -- the same fault, of equal texts
-abbrev pub IsSameFault : ConfigurationFault → ConfigurationFault → Type 0
-IsSameFault (UnknownField f e) (UnknownField g d) = (string_bytes f ≡ string_bytes g) × (e.now ≡ d.now)
-IsSameFault (MissingField f) (MissingField g) = f.now ≡ g.now
-IsSameFault (WrongValue f) (WrongValue g) = f.now ≡ g.now
-IsSameFault _ _ = ⊥
+abbrev pub IsSameConfigurationFault : ConfigurationFault → ConfigurationFault → Type 0
+IsSameConfigurationFault (UnknownField f e) (UnknownField g d) = (string_bytes f ≡ string_bytes g) × (e.now ≡ d.now)
+IsSameConfigurationFault (MissingField f) (MissingField g) = f.now ≡ g.now
+IsSameConfigurationFault (WrongValue f) (WrongValue g) = f.now ≡ g.now
+IsSameConfigurationFault _ _ = ⊥
 
 -- the same refusal, of equal texts
-abbrev pub IsSameRefusal : PluginCreateError → PluginCreateError → Type 0
-IsSameRefusal (NameUnsupported s) (NameUnsupported t) = string_bytes s ≡ string_bytes t
-IsSameRefusal (ConfigurationUnsupported f) (ConfigurationUnsupported g) = IsSameFault f g
-IsSameRefusal (Other s) (Other t) = string_bytes s ≡ string_bytes t
-IsSameRefusal _ _ = ⊥
+abbrev pub IsSamePluginCreateError : PluginCreateError → PluginCreateError → Type 0
+IsSamePluginCreateError (NameUnsupported s) (NameUnsupported t) = string_bytes s ≡ string_bytes t
+IsSamePluginCreateError (ConfigurationUnsupported f) (ConfigurationUnsupported g) = IsSameConfigurationFault f g
+IsSamePluginCreateError (Other s) (Other t) = string_bytes s ≡ string_bytes t
+IsSamePluginCreateError _ _ = ⊥

@@ -3,9 +3,8 @@ pub mod ArraySubsetError
 pub mod ChunkKeySeparator
 pub mod Copies
 pub mod Dimension
-pub mod EdgeLengths
+pub mod DimensionEdges
 pub mod Greatest
-pub mod Listed
 pub mod Refusal
 pub mod RunLength
 pub mod StoreKey

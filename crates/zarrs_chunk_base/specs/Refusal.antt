@@ -1,13 +1,23 @@
 -- Why calls are refused, and what look-ups answer.
 use Rattle.std.specs.Prelude.{◌≡◌, ◌≢◌, ℕ, Option, Some, None, Result, Ok, Err}
+use Rattle.std.specs.declared.alloc.AllocError.{AllocError}
 use Rattle.zarrs_chunk_base.specs.declared.incompatible_dimensionality_error.IncompatibleDimensionalityError.{IncompatibleDimensionalityError}
 use Rattle.zarrs_chunk_base.specs.declared.refusal.Refusal.{Refusal}
 use Rattle.zarrs_chunk_base.specs.declared.refusal.Refusal.TheVariants.{Refused, Memory}
 
--- what holds of a call's own refusal; nothing is said where memory was wanting
+-- what holds of a call's own refusal; nothing is said of out of memory
 abbrev pub IfRefused : {E : Type 0} → Refusal E → (E → Type 0) → Type 0
 IfRefused (Refused e) P = P e
 IfRefused (Memory _) P = Unit {0}
+
+-- what holds of a call's own refusal, and what where there was no memory
+abbrev pub MatchRefusal : {E : Type 0} → Refusal E → (E → Type 0) → (AllocError → Type 0) → Type 0
+MatchRefusal (Refused e) P Q = P e
+MatchRefusal (Memory error) P Q = Q error
+
+-- a call's own refusal, of which P holds
+abbrev pub IsRefusedAnd : {E : Type 0} → Refusal E → (E → Type 0) → Type 0
+IsRefusedAnd refusal P = MatchRefusal refusal P (λ _. ⊥)
 
 -- the length that an error tells as given, and the one that it tells as expected
 abbrev pub given_length : IncompatibleDimensionalityError → ℕ
@@ -33,7 +43,12 @@ Answers given expected Found Absent (Ok None) = (given ≡ expected) × Absent
 Answers given expected Found Absent (Err (Refused e)) = (given ≢ expected) × TellsLengths given expected e
 Answers given expected Found Absent (Err (Memory _)) = given ≡ expected
 
--- memory wasn't wanting
+-- the call's own refusal, and not out of memory
+abbrev pub IsOwn : {E : Type 0} → Refusal E → Type 0
+IsOwn (Refused _) = Unit {0}
+IsOwn (Memory _) = ⊥
+
+-- the answer isn't out of memory
 abbrev pub HasMemory : {X E : Type 0} → Result X (Refusal E) → Type 0
-HasMemory (Err (Memory _)) = ⊥
-HasMemory _ = Unit {0}
+HasMemory (Ok _) = Unit {0}
+HasMemory (Err refusal) = IsOwn refusal

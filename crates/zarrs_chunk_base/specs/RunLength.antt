@@ -2,7 +2,7 @@
 -- Source: the `rectilinear` extension of zarr-extensions.
 use Rattle.std.specs.Prelude.{◌≡◌, ℕ, List, [], ◌∷◌, ◌++◌, map, replicate, slice_index}
 use Rattle.std.specs.Int.NonZero.{non_zero_u64_get}
-use Rattle.zarrs_chunk_base.specs.EdgeLengths.{EdgeLengths, one, each}
+use Rattle.zarrs_chunk_base.specs.DimensionEdges.{DimensionEdges, equal, listed}
 use Rattle.zarrs_chunk_base.specs.declared.run_length_element.RunLengthElement.{RunLengthElement}
 use Rattle.zarrs_chunk_base.specs.declared.run_length_element.RunLengthElement.TheVariants.{Single, Repeated}
 use Rattle.zarrs_chunk_base.specs.declared.chunk_edge_lengths.ChunkEdgeLengths.{ChunkEdgeLengths}
@@ -23,12 +23,12 @@ expansion [] = []
 expansion (element ∷ elements) = element_edges element ++ expansion elements
 
 -- the edges of a dimension of a `rectilinear` grid
-abbrev pub expanded : ChunkEdgeLengths → EdgeLengths
-expanded (Scalar edge) = one (non_zero_u64_get edge)
-expanded (Varying elements) = each (expansion elements.items)
+abbrev pub rectilinear_edges : ChunkEdgeLengths → DimensionEdges
+rectilinear_edges (Scalar edge) = equal (non_zero_u64_get edge)
+rectilinear_edges (Varying elements) = listed (expansion elements.items)
 
 -- the same edge, or the same elements
-abbrev pub IsSameEdgeLengths : ChunkEdgeLengths → ChunkEdgeLengths → Type 0
-IsSameEdgeLengths (Scalar edge) (Scalar other) = edge ≡ other
-IsSameEdgeLengths (Varying elements) (Varying others) = elements.items ≡ others.items
-IsSameEdgeLengths _ _ = ⊥
+abbrev pub IsSameChunkEdgeLengths : ChunkEdgeLengths → ChunkEdgeLengths → Type 0
+IsSameChunkEdgeLengths (Scalar edge) (Scalar other) = edge ≡ other
+IsSameChunkEdgeLengths (Varying elements) (Varying others) = elements.items ≡ others.items
+IsSameChunkEdgeLengths _ _ = ⊥

@@ -55,7 +55,8 @@ impl ArraySubset {
     /// There was no memory.
     pub fn new_with_ranges(alloc: Global, ranges: &[Range<u64>]) -> Result<Self, AllocError>
         ensures { IfOk result (λ subset. subset
-            ≡ record { start = map (λ r. r.start) ranges.now; shape = map (λ r. r.end - r.start) ranges.now }) }
+            ≡ record { start = map (λ r. r.start) ranges.now; shape = map
+            (λ r. r.end - r.start) ranges.now }) }
     {
         let mut start = Vec::with_capacity(alloc, ranges.len())?;
         let mut shape = Vec::with_capacity(alloc, ranges.len())?;
@@ -74,7 +75,8 @@ impl ArraySubset {
         start: ArrayIndices,
         shape: ArrayShape,
     ) -> Result<Self, ArraySubsetError>
-        ensures { MatchResult result (λ subset. (subset ≡ record { start = start.items; shape = shape.items }) × IsBox subset)
+        ensures { MatchResult result (λ subset. (subset
+            ≡ record { start = start.items; shape = shape.items }) × IsBox subset)
             (IsBoxFault start.items shape.items) }
     {
         if shape.len() != start.len() {
@@ -181,7 +183,8 @@ impl ArraySubset {
 }
 
 impl PartialEq for ArraySubset {
-    ghost eq = { eq_of_both (on (λ b. b.start) (pointwise ◌==◌)) (on (λ b. b.shape) (pointwise ◌==◌)) };
+    ghost eq = { eq_of_both (on (λ b. b.start) (pointwise ◌==◌)) (on
+        (λ b. b.shape) (pointwise ◌==◌)) };
 
     ghost laws = { Prim.search (comparing, rules) };
 

@@ -1,6 +1,6 @@
 //! The chunk edges of one dimension of a `rectilinear` grid.
 ghost use Rattle.std.specs.Prelude.{IfOk};
-ghost use Rattle.zarrs_chunk_base.specs.RunLength.{IsSameEdgeLengths};
+ghost use Rattle.zarrs_chunk_base.specs.RunLength.{IsSameChunkEdgeLengths};
 
 use crate::in_brackets::InBrackets;
 use crate::run_length_element::RunLengthElement;
@@ -26,7 +26,7 @@ impl ChunkEdgeLengths {
     /// # Errors
     /// There was no memory.
     pub fn clone(&self) -> Result<ChunkEdgeLengths, AllocError>
-        ensures { IfOk result (λ copy. IsSameEdgeLengths copy self.now) }
+        ensures { IfOk result (λ copy. IsSameChunkEdgeLengths copy self.now) }
     {
         Ok(match self {
             ChunkEdgeLengths::Scalar(edge) => ChunkEdgeLengths::Scalar(*edge),

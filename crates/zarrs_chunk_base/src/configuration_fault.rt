@@ -29,14 +29,14 @@ pub enum ConfigurationFault {
 
 impl ConfigurationFault {
     ghost use Rattle.std.specs.Prelude.{IfOk};
-    ghost use Rattle.zarrs_chunk_base.specs.Copies.{IsSameFault};
+    ghost use Rattle.zarrs_chunk_base.specs.Copies.{IsSameConfigurationFault};
 
     /// The same fault, of equal texts.
     ///
     /// # Errors
     /// There was no memory.
     pub fn clone(&self) -> Result<ConfigurationFault, AllocError>
-        ensures { IfOk result (λ fault. IsSameFault fault self.now) }
+        ensures { IfOk result (λ fault. IsSameConfigurationFault fault self.now) }
     {
         Ok(match self {
             ConfigurationFault::UnknownField { field, expected } => {

@@ -2,7 +2,8 @@
 use std::fmt;
 use std::fmt::Display;
 
-/// A list, printed as `[1, 2]`, and an empty one as `[]`.
+/// A list whose items print themselves, printed as `[1, 2]`, and an empty one as `[]`. The texts of refusals print
+/// lists of edges so, for which `Debug` would show the types.
 #[derive(Clone, Copy, Debug)]
 pub struct InBrackets<'a, T>(pub &'a [T]);
 

@@ -16,10 +16,10 @@
 //! | `array_subset`, `array_subset_error`, `box_end_error` | a box of indices, and why there is none |
 //! | `store_key`, `store_key_error` | the key of a value in a store, and a text that is none |
 //! | `chunk_key_separator` | what stands between the parts of a chunk key |
-//! | `refusal` | a call's own refusal, or want of memory |
+//! | `refusal` | a call's own refusal, or that there was no memory |
 //! | `incompatible_dimensionality_error` | a list of another length than there are dimensions |
 //! | `rectangular_chunk_grid_dimension_configuration`, `chunk_edge_lengths`, `run_length_element` | the chunk edges of one dimension |
-//! | `in_brackets` | a list as a text |
+//! | `in_brackets` | a list as a text, for those that refuse one |
 //! | `plugin_create_error`, `configuration_fault`, `metadata_error` | why an extension isn't made of its metadata |
 #![tactic(auto)]
 

@@ -19,14 +19,14 @@ pub enum PluginCreateError {
 
 impl PluginCreateError {
     ghost use Rattle.std.specs.Prelude.{IfOk};
-    ghost use Rattle.zarrs_chunk_base.specs.Copies.{IsSameRefusal};
+    ghost use Rattle.zarrs_chunk_base.specs.Copies.{IsSamePluginCreateError};
 
     /// The same refusal, of equal texts.
     ///
     /// # Errors
     /// There was no memory.
     pub fn clone(&self) -> Result<PluginCreateError, AllocError>
-        ensures { IfOk result (λ error. IsSameRefusal error self.now) }
+        ensures { IfOk result (λ error. IsSamePluginCreateError error self.now) }
     {
         Ok(match self {
             PluginCreateError::NameUnsupported(name) => {

@@ -1,7 +1,7 @@
 //! The chunk edges of one dimension of a `rectangular` grid.
 ghost use Rattle.std.specs.Prelude.{◌≡◌, IfOk};
 ghost use Rattle.std.specs.declared.num.NonZeroU64.{NonZeroU64};
-ghost use Rattle.zarrs_chunk_base.specs.EdgeLengths.{edges_of};
+ghost use Rattle.zarrs_chunk_base.specs.DimensionEdges.{rectangular_edges};
 ghost use Rattle.zarrs_chunk_base.specs.declared.rectangular_chunk_grid_dimension_configuration.RectangularChunkGridDimensionConfiguration.TheVariants.{Fixed, Varying};
 
 use std::alloc::AllocError;
@@ -25,7 +25,7 @@ impl RectangularChunkGridDimensionConfiguration {
     /// # Errors
     /// There was no memory.
     pub fn clone(&self) -> Result<RectangularChunkGridDimensionConfiguration, AllocError>
-        ensures { IfOk result (λ copy. edges_of copy ≡ edges_of self.now) }
+        ensures { IfOk result (λ copy. rectangular_edges copy ≡ rectangular_edges self.now) }
     {
         Ok(match self {
             RectangularChunkGridDimensionConfiguration::Fixed(edge) => {

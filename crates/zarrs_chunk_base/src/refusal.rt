@@ -7,13 +7,32 @@ use std::error::Error;
 use std::fmt;
 use std::fmt::{Debug, Display};
 
-/// A call's own refusal, or want of memory.
+/// A call's own refusal, or that there was no memory.
 #[derive(Debug, Drop)]
 pub enum Refusal<E> {
     /// The call's own refusal.
     Refused(E),
     /// There was no memory.
     Memory(AllocError),
+}
+
+impl<E> Refusal<E> {
+    ghost use Rattle.std.specs.Prelude.{◌≡◌};
+    ghost use Rattle.zarrs_chunk_base.specs.Refusal.{IfRefused, IsRefusedAnd, MatchRefusal};
+    ghost use Rattle.zarrs_chunk_base.specs.declared.refusal.Refusal.TheVariants.{Memory};
+
+    /// The refusal that `op` makes of the call's own; that there was no memory stays.
+    pub fn map<F, O: FnOnce(E) -> F>(self, op: O) -> Refusal<F>
+        requires { IfRefused self (O.pre op) }
+        ensures { MatchRefusal self
+            (λ error. IsRefusedAnd result (O.post op error))
+            (λ error. result ≡ Memory error) }
+    {
+        match self {
+            Refusal::Refused(error) => Refusal::Refused(op(error)),
+            Refusal::Memory(error) => Refusal::Memory(error),
+        }
+    }
 }
 
 impl<E> From<AllocError> for Refusal<E> {

@@ -37,7 +37,8 @@ impl StoreKey {
     /// # Errors
     /// The text ends in a slash; it is handed back.
     pub fn new(text: String) -> Result<StoreKey, StoreKeyError>
-        ensures { MatchResult result (λ key. (¬ EndsInSlash (string_bytes text)) × (key ≡ string_bytes text))
+        ensures { MatchResult result (λ key. (¬ EndsInSlash (string_bytes text))
+            × (key ≡ string_bytes text))
             (λ error. EndsInSlash (string_bytes text) × (error.0 ≡ text)) }
     {
         if text.as_str().ends_with('/') {

@@ -3,7 +3,8 @@ use Rattle.std.proofs.Common.{◌≡◌, ◌↔◌, IfOk, Ok, Err, Some, None, V
 use Rattle.std.proofs.lemmas.Bool.{cases_lt}
 use Rattle.std.specs.List.{AllByRecursion}
 use Rattle.zarrs_chunk_base.specs.Dimension.{Dimension, Holds, IsChain, InBox}
-use Rattle.zarrs_chunks.specs.LookUp.{Looked, AnswersChunk}
+use Rattle.zarrs_chunk_base.proofs.InEach.{by_dimension_twice, turned}
+use Rattle.zarrs_chunk_axes.specs.LookUp.{Looked, AnswersChunk}
 
 -- a chunk ends before a later one starts
 ends_before : (d : Dimension) → IsChain d → (c m : ℕ) → c ≤ m → IsTrue (d.has_chunk (m + 1)) → d.end c ≤ d.start (m + 1)
@@ -78,17 +79,13 @@ same_chunk d chain c e i first second =
 
 -- an index lies in the box of one chunk at most
 pub same_box : (ds : List Dimension) (chunk other index : List ℕ) → AllByRecursion IsChain ds → InBox ds chunk index → InBox ds other index → chunk ≡ other
-same_box [] [] [] [] chains first second = refl
-same_box (d ∷ ds) (c ∷ chunk) (e ∷ other) (i ∷ index) chains first second =
-    let here = same_chunk d chains.0 c e i first.0 second.0 in
-    let rest = same_box ds chunk other index chains.1 first.1 second.1 in
-    cc
-same_box [] [] [] (_ ∷ _) chains first second = absurd first
-same_box [] [] (_ ∷ _) _ chains first second = absurd second
-same_box [] (_ ∷ _) _ _ chains first second = absurd first
-same_box (_ ∷ _) [] _ _ chains first second = absurd first
-same_box (_ ∷ _) (_ ∷ _) [] _ chains first second = absurd second
-same_box (_ ∷ _) (_ ∷ _) (_ ∷ _) [] chains first second = absurd first
+same_box ds chunk other index chains first second =
+    by_dimension_twice (λ d i c. Holds d c i) (λ d i c. Holds d c i) (λ ds index chunk other. AllByRecursion IsChain ds → chunk ≡ other) (λ chains. refl)
+    (λ d i c e ds index chunk other first second rest chains.
+    let here = same_chunk d chains.0 c e i first second in
+    let others = rest chains.1 in
+    cc)
+    ds index chunk other (turned Holds ds chunk index first) (turned Holds ds other index second) chains
 
 -- what `chunk_indices` names is the chunk whose box holds the index
 pub names_the_home : (ds : List Dimension) (index : List ℕ) → AllByRecursion IsChain ds → (r : Looked ℕ) → AnswersChunk ds index r

@@ -4,11 +4,11 @@ use Rattle.std.proofs.lemmas.Bool.{cases_lt}
 use Rattle.std.proofs.Math.Nat.{div-add-mod', min-eq_left, min-eq_right, mul-le-mul_right, lt_of_mul-lt-mul_right}
 use Rattle.std.specs.List.{sum}
 use Rattle.zarrs_chunk_base.specs.Dimension.{Dimension}
-use Rattle.zarrs_chunk_base.specs.Listed.{IsListed}
-use Rattle.zarrs_chunks.specs.Bounded.{IsBounded}
+use Rattle.zarrs_chunk_axes.specs.Listed.{IsListed}
+use Rattle.zarrs_chunk_axes.specs.Bounded.{IsBounded}
 use Rattle.zarrs_chunks.specs.Clipped.{AreClipped, AreAlike}
-use Rattle.zarrs_chunks.specs.Multiples.{next_multiple}
-use Rattle.zarrs_chunks.specs.Running.{take_next}
+use Rattle.zarrs_chunk_axes.specs.lemmas.Multiples.{next_multiple}
+use Rattle.zarrs_chunk_axes.specs.lemmas.Running.{take_next}
 
 length_clipped : (n edge rest : ℕ) → length (replicate n edge ++ rest ∷ []) ≡ n + 1
 length_clipped zero edge rest = omega arith

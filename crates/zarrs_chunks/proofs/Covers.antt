@@ -6,9 +6,10 @@ use Rattle.zarrs_chunk_base.specs.declared.incompatible_dimensionality_error.Inc
 use Rattle.zarrs_chunk_base.specs.declared.refusal.Refusal.{Refusal}
 use Rattle.zarrs_chunk_base.specs.declared.refusal.Refusal.TheVariants.{Refused, Memory}
 use Rattle.zarrs_chunk_base.specs.ArraySubset.{Box, IsBox, IsEmptyBox, ends, lasts}
-use Rattle.zarrs_chunk_base.specs.Dimension.{Dimension, IsChain, InBox, IsEnd, IsOrigin}
+use Rattle.zarrs_chunk_base.specs.Dimension.{Dimension, EndsAt, Holds, IsChain, InBox, IsEnd, IsOrigin, StartsAt}
+use Rattle.zarrs_chunk_base.proofs.InEach.{along, by_dimension, by_dimension_twice, turned}
 use Rattle.zarrs_chunk_base.specs.Greatest.{greatest, AllFit}
-use Rattle.zarrs_chunks.specs.LookUp.{AnswersChunk}
+use Rattle.zarrs_chunk_axes.specs.LookUp.{AnswersChunk}
 use Rattle.zarrs_chunks.specs.Subsets.{AnswersCover, IsCover}
 use Rattle.zarrs_chunks.proofs.Chains.{apart, at_most_start, starts_before_end}
 
@@ -22,44 +23,30 @@ firsts_before_lasts (_ ∷ _) [] same = absurd (omega arith)
 -- chunks start before later ones end
 pub starts_before_ends : (ds : List Dimension) (first last origin end : List ℕ) → AllByRecursion IsChain ds → AllZip ◌≤◌ first last
     → IsOrigin ds first origin → IsEnd ds last end → AllZip ◌≤◌ origin end
-starts_before_ends [] [] [] [] [] chains order starts stops = tt
-starts_before_ends (d ∷ ds) (f ∷ first) (l ∷ last) (o ∷ origin) (e ∷ end) chains order starts stops =
-    let before : d.start f < d.end l = starts_before_end d chains.0 f l order.0 stops.0.chunk in
-    let start = starts.0.start in
-    let stop = stops.0.end in
-    (omega arith, starts_before_ends ds first last origin end chains.1 order.1 starts.1 stops.1)
-starts_before_ends [] [] [] [] (_ ∷ _) chains order starts stops = absurd stops
-starts_before_ends [] [] [] (_ ∷ _) _ chains order starts stops = absurd starts
-starts_before_ends [] [] (_ ∷ _) _ _ chains order starts stops = absurd order
-starts_before_ends [] (_ ∷ _) _ _ _ chains order starts stops = absurd starts
-starts_before_ends (_ ∷ _) [] _ _ _ chains order starts stops = absurd starts
-starts_before_ends (_ ∷ _) (_ ∷ _) [] _ _ chains order starts stops = absurd order
-starts_before_ends (_ ∷ _) (_ ∷ _) (_ ∷ _) [] _ chains order starts stops = absurd starts
-starts_before_ends (_ ∷ _) (_ ∷ _) (_ ∷ _) (_ ∷ _) [] chains order starts stops = absurd stops
+starts_before_ends ds first last origin end chains order starts stops =
+    by_dimension_twice (λ d l o. (f : ℕ) × (f ≤ l) × StartsAt d f o) EndsAt (λ ds last origin end. AllByRecursion IsChain ds → AllZip ◌≤◌ origin end) (λ chains. tt)
+    (λ d l o e ds last origin end (f, order, starts) stops rest chains.
+    let before : d.start f < d.end l = starts_before_end d chains.0 f l order stops.chunk in
+    let start = starts.start in
+    let stop = stops.end in
+    (omega arith, rest chains.1))
+    ds last origin end (along StartsAt ◌≤◌ ds first origin starts last order) stops chains
 
 -- a later index lies in no earlier chunk
 pub in_order : (ds : List Dimension) (first last low high : List ℕ) → AllByRecursion IsChain ds → AllZip ◌≤◌ low high
     → InBox ds first low → InBox ds last high → AllZip ◌≤◌ first last
-in_order [] [] [] [] [] chains order f l = tt
-in_order (d ∷ ds) (a ∷ first) (b ∷ last) (i ∷ low) (j ∷ high) chains order f l =
-    (later, in_order ds first last low high chains.1 order.1 f.1 l.1) where
-      later : a ≤ b
-      later = ⊎_elim
+in_order ds first last low high chains order f l =
+    by_dimension_twice (λ d j a. (i : ℕ) × (i ≤ j) × Holds d a i) (λ d j b. Holds d b j) (λ ds high first last. AllByRecursion IsChain ds → AllZip ◌≤◌ first last) (λ chains. tt)
+    (λ d j a b ds indices first last (i, order, low) high rest chains. (no_later d chains.0 a b i j order low high, rest chains.1))
+    ds high first last (along (λ d i c. Holds d c i) ◌≤◌ ds low first (turned Holds ds first low f) high order) (turned Holds ds last high l) chains where
+      no_later : (d : Dimension) → IsChain d → (a b i j : ℕ) → i ≤ j → Holds d a i → Holds d b j → a ≤ b
+      no_later d chain a b i j between low high = ⊎_elim
           (λ (before : b < a).
-          let low_in = f.0.from in
-          let high_in = l.0.below in
-          let between : i ≤ j = order.0 in
-          absurd (omega (arith, apart d chains.0 b a before f.0.chunk)))
+          let low_in = low.from in
+          let high_in = high.below in
+          absurd (omega (arith, apart d chain b a before low.chunk)))
           (λ (le : a ≤ b). le)
           (cases_lt b a)
-in_order [] [] [] [] (_ ∷ _) chains order f l = absurd order
-in_order [] [] [] (_ ∷ _) _ chains order f l = absurd f
-in_order [] [] (_ ∷ _) _ _ chains order f l = absurd l
-in_order [] (_ ∷ _) _ _ _ chains order f l = absurd f
-in_order (_ ∷ _) [] _ _ _ chains order f l = absurd f
-in_order (_ ∷ _) (_ ∷ _) [] _ _ chains order f l = absurd l
-in_order (_ ∷ _) (_ ∷ _) (_ ∷ _) [] _ chains order f l = absurd f
-in_order (_ ∷ _) (_ ∷ _) (_ ∷ _) (_ ∷ _) [] chains order f l = absurd order
 
 pub length_lasts : (start shape : List ℕ) → length start ≡ length shape → length (lasts start shape) ≡ length start
 length_lasts [] [] same = refl
@@ -84,16 +71,14 @@ lasts_small (_ ∷ _) [] same fit some = absurd (omega arith)
 -- a chunk that holds an index below the greatest number has a smaller number still
 pub chunks_small : (ds : List Dimension) (chunk index : List ℕ) → AllByRecursion IsChain ds → InBox ds chunk index
     → AllByRecursion (λ n. n < greatest) index → AllByRecursion (λ n. n < greatest) chunk
-chunks_small [] [] [] chains box small = tt
-chunks_small (d ∷ ds) (c ∷ chunk) (i ∷ index) chains box small =
-    let low : c ≤ d.start c = at_most_start d chains.0 c box.0.chunk in
-    let from = box.0.from in
+chunks_small ds chunk index chains box small =
+    by_dimension Holds (λ ds chunk index. AllByRecursion IsChain ds → AllByRecursion (λ n. n < greatest) index → AllByRecursion (λ n. n < greatest) chunk) (λ chains small. tt)
+    (λ d c i ds chunk index here rest chains small.
+    let low : c ≤ d.start c = at_most_start d chains.0 c here.chunk in
+    let from = here.from in
     let below : i < greatest = small.0 in
-    (omega arith, chunks_small ds chunk index chains.1 box.1 small.1)
-chunks_small [] [] (_ ∷ _) chains box small = absurd box
-chunks_small [] (_ ∷ _) _ chains box small = absurd box
-chunks_small (_ ∷ _) [] _ chains box small = absurd box
-chunks_small (_ ∷ _) (_ ∷ _) [] chains box small = absurd box
+    (omega arith, rest chains.1 small.1))
+    ds chunk index box chains small
 
 -- numbers and the numbers after others that are no smaller
 pub below_after : (first last : List ℕ) → AllZip ◌≤◌ first last → AllZip ◌≤◌ first (map (λ n. n + 1) last)

@@ -1,14 +1,7 @@
-pub mod Bounds
 pub mod Boxes
 pub mod Chains
 pub mod ClippedEdges
 pub mod Covers
-pub mod EachAxis
-pub mod EachSoFar
-pub mod EqualAxes
-pub mod Expansions
-pub mod ListedAxes
-pub mod MadeSoFar
 pub mod Meeting
 pub mod Ranges
 pub mod Subsets

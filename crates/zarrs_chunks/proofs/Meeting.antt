@@ -1,12 +1,33 @@
 -- The chunks that meet a box are those of its cover, and a box of chunks is the union of their boxes.
-use Rattle.std.proofs.Common.{◌≡◌, ◌↔◌, ℕ, zero, suc, ◌+◌, ◌-◌, ◌<◌, ◌≤◌, IsTrue, List, [], ◌∷◌, length, Ok, Err, Some, None, IfOk, sym, ap, subst, ⊎_elim, arith}
+use Rattle.std.proofs.Common.{◌≡◌, ◌↔◌, ℕ, zero, suc, ◌+◌, ◌-◌, ◌<◌, ◌≤◌, IsTrue, List, [], ◌∷◌, length, Ok, Err, Some, None, IfOk, sym, ap, subst, ◌∙◌, ⊎_elim, arith}
 use Rattle.std.specs.Prelude.{IfSome}
 use Rattle.std.proofs.lemmas.Bool.{cases_lt}
 use Rattle.std.specs.List.{AllByRecursion, Contains}
 use Rattle.zarrs_chunk_base.specs.ArraySubset.{AreWithin, Box, IsBox, IsEmptyBox, IsInside, ends, lasts}
-use Rattle.zarrs_chunk_base.specs.Dimension.{Dimension, Holds, IsChain, InBox, IsEnd, IsOrigin}
+use Rattle.zarrs_chunk_base.specs.Dimension.{Dimension, Holds, IsChain, InBox, IsEnd, IsOrigin, StartsAt}
+use Rattle.zarrs_chunk_base.proofs.InEach.{length_numbers, length_values}
 use Rattle.zarrs_chunks.specs.Subsets.{AnswersCover, AnswersChunksSubset, IsCover, LookedBox, Spans}
 use Rattle.zarrs_chunks.proofs.Chains.{apart, earlier_has}
+
+-- what holds without dimensions, and of one more wherever it holds, holds of a range of chunks and a range of indices in each dimension
+by_ranges : (P : List Dimension → List ℕ → List ℕ → List ℕ → List ℕ → Type 0) → P [] [] [] [] []
+    → ((d : Dimension) (a n i m : ℕ) (ds : List Dimension) (first sizes low counts : List ℕ) → P ds first sizes low counts
+    → P (d ∷ ds) (a ∷ first) (n ∷ sizes) (i ∷ low) (m ∷ counts))
+    → (ds : List Dimension) (first sizes low counts : List ℕ) → length first ≡ length ds → length first ≡ length sizes → length low ≡ length ds
+    → length low ≡ length counts → P ds first sizes low counts
+by_ranges P none more [] [] [] [] [] e f g h = none
+by_ranges P none more (d ∷ ds) (a ∷ first) (n ∷ sizes) (i ∷ low) (m ∷ counts) e f g h =
+    more d a n i m ds first sizes low counts (by_ranges P none more ds first sizes low counts (omega arith) (omega arith) (omega arith) (omega arith))
+by_ranges P none more [] [] [] [] (_ ∷ _) e f g h = absurd (omega arith)
+by_ranges P none more [] [] [] (_ ∷ _) _ e f g h = absurd (omega arith)
+by_ranges P none more [] [] (_ ∷ _) _ _ e f g h = absurd (omega arith)
+by_ranges P none more [] (_ ∷ _) _ _ _ e f g h = absurd (omega arith)
+by_ranges P none more (_ ∷ _) [] _ _ _ e f g h = absurd (omega arith)
+by_ranges P none more (_ ∷ _) (_ ∷ _) [] _ _ e f g h = absurd (omega arith)
+by_ranges P none more (_ ∷ _) (_ ∷ _) (_ ∷ _) [] _ e f g h = absurd (omega arith)
+by_ranges P none more (_ ∷ _) (_ ∷ _) (_ ∷ _) (_ ∷ _) [] e f g h = absurd (omega arith)
+
+-- ---- the cover
 
 -- a list without a 0 begins with none
 head_some : (n : ℕ) (shape : List ℕ) → (¬ Contains (n ∷ shape) 0) → 0 < n
@@ -64,61 +85,49 @@ is_between d chain first size low count c i some any f l here from below = (not_
       (λ (le : c ≤ first + (size - 1)). omega arith)
       (cases_lt (first + (size - 1)) c)
 
--- each chunk between that of a box's first and that of its last element holds some of the box
-between_meets : (ds : List Dimension) (first low sizes counts chunk : List ℕ) → AllByRecursion IsChain ds → (¬ Contains sizes 0) → (¬ Contains counts 0)
-    → length first ≡ length sizes → length low ≡ length counts
-    → InBox ds first low → InBox ds (lasts first sizes) (lasts low counts) → AreWithin first sizes chunk
-    → (index : List ℕ) × InBox ds chunk index × AreWithin low counts index
-between_meets [] [] [] [] [] [] chains some any same alike f l within = ([], tt, tt)
-between_meets (d ∷ ds) (a ∷ first) (i ∷ low) (n ∷ sizes) (m ∷ counts) (c ∷ chunk) chains some any same alike f l within =
-    let (index, box, inside) = between_meets ds first low sizes counts chunk chains.1 (tail_some n sizes some) (tail_some m counts any) (omega arith) (omega arith) f.1 l.1 within.2 in
-    let (j, here, from, below) = meets d chains.0 a n i m c (head_some n sizes some) (head_some m counts any) f.0 l.0 within.0 within.1 in
-    (j ∷ index, (here, box), (from, below, inside))
-between_meets [] [] [] [] [] (_ ∷ _) chains some any same alike f l within = absurd within
-between_meets [] [] [] [] (_ ∷ _) _ chains some any same alike f l within = absurd (omega arith)
-between_meets [] [] [] (_ ∷ _) _ _ chains some any same alike f l within = absurd (omega arith)
-between_meets [] [] (_ ∷ _) _ _ _ chains some any same alike f l within = absurd f
-between_meets [] (_ ∷ _) _ _ _ _ chains some any same alike f l within = absurd f
-between_meets (_ ∷ _) [] _ _ _ _ chains some any same alike f l within = absurd f
-between_meets (_ ∷ _) (_ ∷ _) [] _ _ _ chains some any same alike f l within = absurd f
-between_meets (_ ∷ _) (_ ∷ _) (_ ∷ _) [] _ _ chains some any same alike f l within = absurd (omega arith)
-between_meets (_ ∷ _) (_ ∷ _) (_ ∷ _) (_ ∷ _) [] _ chains some any same alike f l within = absurd (omega arith)
-between_meets (_ ∷ _) (_ ∷ _) (_ ∷ _) (_ ∷ _) (_ ∷ _) [] chains some any same alike f l within = absurd within
+-- the chunks from that of a box's first element to that of its last are those that hold some of the box
+abbrev AreThoseThatMeet : List Dimension → List ℕ → List ℕ → List ℕ → List ℕ → Type 0
+AreThoseThatMeet ds first sizes low counts = AllByRecursion IsChain ds → (¬ Contains sizes 0) → (¬ Contains counts 0)
+    → InBox ds first low → InBox ds (lasts first sizes) (lasts low counts)
+    → (chunk : List ℕ) → AreWithin first sizes chunk ↔ ((index : List ℕ) × InBox ds chunk index × AreWithin low counts index)
 
--- and no other chunk does
-meeting_is_between : (ds : List Dimension) (first low sizes counts chunk index : List ℕ) → AllByRecursion IsChain ds → (¬ Contains sizes 0) → (¬ Contains counts 0)
-    → length first ≡ length sizes → length low ≡ length counts
-    → InBox ds first low → InBox ds (lasts first sizes) (lasts low counts) → InBox ds chunk index → AreWithin low counts index → AreWithin first sizes chunk
-meeting_is_between [] [] [] [] [] [] [] chains some any same alike f l box within = tt
-meeting_is_between (d ∷ ds) (a ∷ first) (i ∷ low) (n ∷ sizes) (m ∷ counts) (c ∷ chunk) (j ∷ index) chains some any same alike f l box within =
-    let (from, below) = is_between d chains.0 a n i m c j (head_some n sizes some) (head_some m counts any) f.0 l.0 box.0 within.0 within.1 in
-    (from, below, meeting_is_between ds first low sizes counts chunk index chains.1 (tail_some n sizes some) (tail_some m counts any) (omega arith) (omega arith) f.1 l.1 box.1 within.2)
-meeting_is_between [] [] [] [] [] [] (_ ∷ _) chains some any same alike f l box within = absurd box
-meeting_is_between [] [] [] [] [] (_ ∷ _) _ chains some any same alike f l box within = absurd box
-meeting_is_between [] [] [] [] (_ ∷ _) _ _ chains some any same alike f l box within = absurd (omega arith)
-meeting_is_between [] [] [] (_ ∷ _) _ _ _ chains some any same alike f l box within = absurd (omega arith)
-meeting_is_between [] [] (_ ∷ _) _ _ _ _ chains some any same alike f l box within = absurd f
-meeting_is_between [] (_ ∷ _) _ _ _ _ _ chains some any same alike f l box within = absurd f
-meeting_is_between (_ ∷ _) [] _ _ _ _ _ chains some any same alike f l box within = absurd f
-meeting_is_between (_ ∷ _) (_ ∷ _) [] _ _ _ _ chains some any same alike f l box within = absurd f
-meeting_is_between (_ ∷ _) (_ ∷ _) (_ ∷ _) [] _ _ _ chains some any same alike f l box within = absurd (omega arith)
-meeting_is_between (_ ∷ _) (_ ∷ _) (_ ∷ _) (_ ∷ _) [] _ _ chains some any same alike f l box within = absurd (omega arith)
-meeting_is_between (_ ∷ _) (_ ∷ _) (_ ∷ _) (_ ∷ _) (_ ∷ _) [] _ chains some any same alike f l box within = absurd box
-meeting_is_between (_ ∷ _) (_ ∷ _) (_ ∷ _) (_ ∷ _) (_ ∷ _) (_ ∷ _) [] chains some any same alike f l box within = absurd box
+none_meet : AreThoseThatMeet [] [] [] [] []
+none_meet chains some any f l [] = (λ _. ([], tt, tt), λ _. tt)
+none_meet chains some any f l (_ ∷ _) = (λ within. absurd within, λ (_, box, _). absurd box)
+
+one_more_meets : (d : Dimension) (a n i m : ℕ) (ds : List Dimension) (first sizes low counts : List ℕ) → AreThoseThatMeet ds first sizes low counts
+    → AreThoseThatMeet (d ∷ ds) (a ∷ first) (n ∷ sizes) (i ∷ low) (m ∷ counts)
+one_more_meets d a n i m ds first sizes low counts rest chains some any f l [] = (λ within. absurd within, λ (_, box, _). absurd box)
+one_more_meets d a n i m ds first sizes low counts rest chains some any f l (c ∷ chunk) = (meet, λ (index, box, within). lie index box within) where
+  others : AreWithin first sizes chunk ↔ ((index : List ℕ) × InBox ds chunk index × AreWithin low counts index)
+  others = rest chains.1 (tail_some n sizes some) (tail_some m counts any) f.1 l.1 chunk
+
+  meet : AreWithin (a ∷ first) (n ∷ sizes) (c ∷ chunk) → (index : List ℕ) × InBox (d ∷ ds) (c ∷ chunk) index × AreWithin (i ∷ low) (m ∷ counts) index
+  meet within =
+      let (index, box, inside) = others.0 within.2 in
+      let (j, here, from, below) = meets d chains.0 a n i m c (head_some n sizes some) (head_some m counts any) f.0 l.0 within.0 within.1 in
+      (j ∷ index, (here, box), (from, below, inside))
+
+  lie : (index : List ℕ) → InBox (d ∷ ds) (c ∷ chunk) index → AreWithin (i ∷ low) (m ∷ counts) index → AreWithin (a ∷ first) (n ∷ sizes) (c ∷ chunk)
+  lie [] box within = absurd box
+  lie (j ∷ index) box within =
+      let (from, below) = is_between d chains.0 a n i m c j (head_some n sizes some) (head_some m counts any) f.0 l.0 box.0 within.0 within.1 in
+      (from, below, others.1 (index, box.1, within.2))
 
 -- so the cover of a box that isn't empty has exactly the chunks that hold some of it
 pub cover_meets : (ds : List Dimension) (b cover : Box) → AllByRecursion IsChain ds → IsBox b → (¬ IsEmptyBox b) → IsCover ds b cover
     → (chunk : List ℕ) → IsInside cover chunk ↔ ((index : List ℕ) × InBox ds chunk index × IsInside b index)
-cover_meets ds b cover chains is_box some is chunk = (
-  λ within. between_meets ds cover.start b.start cover.shape b.shape chunk chains is.some some is.is_box.lengths is_box.lengths is.first is.last within,
-  λ (index, box, within). meeting_is_between ds cover.start b.start cover.shape b.shape chunk index chains is.some some is.is_box.lengths is_box.lengths is.first is.last box within,
-)
+cover_meets ds b cover chains is_box some is =
+    by_ranges AreThoseThatMeet none_meet one_more_meets ds cover.start cover.shape b.start b.shape (length_numbers Holds ds cover.start b.start is.first)
+    is.is_box.lengths (length_values Holds ds cover.start b.start is.first) is_box.lengths chains is.some some is.first is.last
 
 pub answered_cover_meets : (ds : List Dimension) (b : Box) → AllByRecursion IsChain ds → IsBox b → (¬ IsEmptyBox b) → (r : LookedBox) → AnswersCover ds b r
     → IfOk r (λ found. IfSome found (λ cover. (chunk : List ℕ) → IsInside cover chunk ↔ ((index : List ℕ) × InBox ds chunk index × IsInside b index)))
 answered_cover_meets ds b chains is_box some (Ok (Some cover)) h = cover_meets ds b cover chains is_box some h.1
 answered_cover_meets ds b chains is_box some (Ok None) h = tt
 answered_cover_meets ds b chains is_box some (Err e) h = tt
+
+-- ---- the box of a box of chunks
 
 -- an index from where one chunk starts to where a later one ends lies in a chunk from the one to the other
 lies_between : (d : Dimension) → IsChain d → (first k i : ℕ) → IsTrue (d.has_chunk (first + k)) → d.start first ≤ i → i < d.end (first + k)
@@ -162,63 +171,55 @@ lies_within d chain first last c i has low high here = (from, below) where
       (λ (not_earlier : last ≤ c). let same : c ≡ last = omega arith in subst (λ k. i < d.end k) same here.below)
       (cases_lt c last)
 
--- each index of the box of a box of chunks lies in one of them
-within_lies : (ds : List Dimension) (first sizes low counts index : List ℕ) → AllByRecursion IsChain ds → (¬ Contains sizes 0) → length first ≡ length sizes
-    → length low ≡ length counts → IsOrigin ds first low → IsEnd ds (lasts first sizes) (ends low counts) → AreWithin low counts index
-    → (chunk : List ℕ) × AreWithin first sizes chunk × InBox ds chunk index
-within_lies [] [] [] [] [] [] chains some same alike f l within = ([], tt, tt)
-within_lies (d ∷ ds) (a ∷ first) (n ∷ sizes) (i ∷ low) (m ∷ counts) (j ∷ index) chains some same alike f l within =
-    let (chunk, between, box) = within_lies ds first sizes low counts index chains.1 (tail_some n sizes some) (omega arith) (omega arith) f.1 l.1 within.2 in
-    let start = f.0.start in
-    let end = l.0.end in
-    let from : i ≤ j = within.0 in
-    let below : j < i + m = within.1 in
-    let any : 0 < n = head_some n sizes some in
-    let (c, low_c, high_c, here) = lies_between d chains.0 a (n - 1) j l.0.chunk (omega arith) (omega arith) in
-    (c ∷ chunk, (low_c, omega arith, between), (here, box))
-within_lies [] [] [] [] [] (_ ∷ _) chains some same alike f l within = absurd within
-within_lies [] [] [] [] (_ ∷ _) _ chains some same alike f l within = absurd (omega arith)
-within_lies [] [] [] (_ ∷ _) _ _ chains some same alike f l within = absurd f
-within_lies [] [] (_ ∷ _) _ _ _ chains some same alike f l within = absurd (omega arith)
-within_lies [] (_ ∷ _) _ _ _ _ chains some same alike f l within = absurd f
-within_lies (_ ∷ _) [] _ _ _ _ chains some same alike f l within = absurd f
-within_lies (_ ∷ _) (_ ∷ _) [] _ _ _ chains some same alike f l within = absurd (omega arith)
-within_lies (_ ∷ _) (_ ∷ _) (_ ∷ _) [] _ _ chains some same alike f l within = absurd f
-within_lies (_ ∷ _) (_ ∷ _) (_ ∷ _) (_ ∷ _) [] _ chains some same alike f l within = absurd (omega arith)
-within_lies (_ ∷ _) (_ ∷ _) (_ ∷ _) (_ ∷ _) (_ ∷ _) [] chains some same alike f l within = absurd within
+-- the indices from where a box's first chunk starts to where its last one ends are those of its chunks
+abbrev AreThoseOfChunks : List Dimension → List ℕ → List ℕ → List ℕ → List ℕ → Type 0
+AreThoseOfChunks ds first sizes low counts = AllByRecursion IsChain ds → (¬ Contains sizes 0) → IsOrigin ds first low → IsEnd ds (lasts first sizes) (ends low counts)
+    → (index : List ℕ) → AreWithin low counts index ↔ ((chunk : List ℕ) × AreWithin first sizes chunk × InBox ds chunk index)
 
--- and each index of one of them lies in that box
-lies_in_box : (ds : List Dimension) (first sizes low counts chunk index : List ℕ) → AllByRecursion IsChain ds → (¬ Contains sizes 0) → length first ≡ length sizes
-    → length low ≡ length counts → IsOrigin ds first low → IsEnd ds (lasts first sizes) (ends low counts) → AreWithin first sizes chunk → InBox ds chunk index
-    → AreWithin low counts index
-lies_in_box [] [] [] [] [] [] [] chains some same alike f l between box = tt
-lies_in_box (d ∷ ds) (a ∷ first) (n ∷ sizes) (i ∷ low) (m ∷ counts) (c ∷ chunk) (j ∷ index) chains some same alike f l between box =
-    let start = f.0.start in
-    let end = l.0.end in
-    let low_c : a ≤ c = between.0 in
-    let high_c : c < a + n = between.1 in
-    let (from, below) = lies_within d chains.0 a (a + (n - 1)) c j l.0.chunk low_c (omega arith) box.0 in
-    (omega arith, omega arith, lies_in_box ds first sizes low counts chunk index chains.1 (tail_some n sizes some) (omega arith) (omega arith) f.1 l.1 between.2 box.1)
-lies_in_box [] [] [] [] [] [] (_ ∷ _) chains some same alike f l between box = absurd box
-lies_in_box [] [] [] [] [] (_ ∷ _) _ chains some same alike f l between box = absurd between
-lies_in_box [] [] [] [] (_ ∷ _) _ _ chains some same alike f l between box = absurd (omega arith)
-lies_in_box [] [] [] (_ ∷ _) _ _ _ chains some same alike f l between box = absurd f
-lies_in_box [] [] (_ ∷ _) _ _ _ _ chains some same alike f l between box = absurd (omega arith)
-lies_in_box [] (_ ∷ _) _ _ _ _ _ chains some same alike f l between box = absurd f
-lies_in_box (_ ∷ _) [] _ _ _ _ _ chains some same alike f l between box = absurd f
-lies_in_box (_ ∷ _) (_ ∷ _) [] _ _ _ _ chains some same alike f l between box = absurd (omega arith)
-lies_in_box (_ ∷ _) (_ ∷ _) (_ ∷ _) [] _ _ _ chains some same alike f l between box = absurd f
-lies_in_box (_ ∷ _) (_ ∷ _) (_ ∷ _) (_ ∷ _) [] _ _ chains some same alike f l between box = absurd (omega arith)
-lies_in_box (_ ∷ _) (_ ∷ _) (_ ∷ _) (_ ∷ _) (_ ∷ _) [] _ chains some same alike f l between box = absurd between
-lies_in_box (_ ∷ _) (_ ∷ _) (_ ∷ _) (_ ∷ _) (_ ∷ _) (_ ∷ _) [] chains some same alike f l between box = absurd box
+no_chunks : AreThoseOfChunks [] [] [] [] []
+no_chunks chains some f l [] = (λ _. ([], tt, tt), λ _. tt)
+no_chunks chains some f l (_ ∷ _) = (λ within. absurd within, λ (chunk, between, box). absurd (none chunk _ _ box)) where
+  none : (chunk : List ℕ) (j : ℕ) (index : List ℕ) → InBox [] chunk (j ∷ index) → ⊥
+  none [] j index box = box
+  none (_ ∷ _) j index box = box
+
+one_more_of_chunks : (d : Dimension) (a n i m : ℕ) (ds : List Dimension) (first sizes low counts : List ℕ) → AreThoseOfChunks ds first sizes low counts
+    → AreThoseOfChunks (d ∷ ds) (a ∷ first) (n ∷ sizes) (i ∷ low) (m ∷ counts)
+one_more_of_chunks d a n i m ds first sizes low counts rest chains some f l [] = (λ within. absurd within, λ (chunk, between, box). absurd (none chunk box)) where
+  none : (chunk : List ℕ) → InBox (d ∷ ds) chunk [] → ⊥
+  none [] box = box
+  none (_ ∷ _) box = box
+one_more_of_chunks d a n i m ds first sizes low counts rest chains some f l (j ∷ index) = (find, λ (chunk, between, box). lie chunk between box) where
+  others : AreWithin low counts index ↔ ((chunk : List ℕ) × AreWithin first sizes chunk × InBox ds chunk index)
+  others = rest chains.1 (tail_some n sizes some) f.1 l.1 index
+
+  find : AreWithin (i ∷ low) (m ∷ counts) (j ∷ index) → (chunk : List ℕ) × AreWithin (a ∷ first) (n ∷ sizes) chunk × InBox (d ∷ ds) chunk (j ∷ index)
+  find within =
+      let (chunk, between, box) = others.0 within.2 in
+      let start = f.0.start in
+      let end = l.0.end in
+      let from : i ≤ j = within.0 in
+      let below : j < i + m = within.1 in
+      let any : 0 < n = head_some n sizes some in
+      let (c, low_c, high_c, here) = lies_between d chains.0 a (n - 1) j l.0.chunk (omega arith) (omega arith) in
+      (c ∷ chunk, (low_c, omega arith, between), (here, box))
+
+  lie : (chunk : List ℕ) → AreWithin (a ∷ first) (n ∷ sizes) chunk → InBox (d ∷ ds) chunk (j ∷ index) → AreWithin (i ∷ low) (m ∷ counts) (j ∷ index)
+  lie [] between box = absurd between
+  lie (c ∷ chunk) between box =
+      let start = f.0.start in
+      let end = l.0.end in
+      let low_c : a ≤ c = between.0 in
+      let high_c : c < a + n = between.1 in
+      let (from, below) = lies_within d chains.0 a (a + (n - 1)) c j l.0.chunk low_c (omega arith) box.0 in
+      (omega arith, omega arith, others.1 (chunk, between.2, box.1))
 
 -- so the box of a box of chunks that isn't empty is the union of their boxes
 pub is_union : (ds : List Dimension) (chunks b : Box) → AllByRecursion IsChain ds → IsBox chunks → (¬ IsEmptyBox chunks) → Spans ds chunks.start (lasts chunks.start chunks.shape) b
     → (index : List ℕ) → IsInside b index ↔ ((chunk : List ℕ) × IsInside chunks chunk × InBox ds chunk index)
-is_union ds chunks b chains is_box some spans index = (
-  λ within. within_lies ds chunks.start chunks.shape b.start b.shape index chains some is_box.lengths spans.is_box.lengths spans.start spans.end within,
-  λ (chunk, between, box). lies_in_box ds chunks.start chunks.shape b.start b.shape chunk index chains some is_box.lengths spans.is_box.lengths spans.start spans.end between box,
-)
+is_union ds chunks b chains is_box some spans =
+    by_ranges AreThoseOfChunks no_chunks one_more_of_chunks ds chunks.start chunks.shape b.start b.shape (length_numbers StartsAt ds chunks.start b.start spans.start)
+    is_box.lengths (length_values StartsAt ds chunks.start b.start spans.start) spans.is_box.lengths chains some spans.start spans.end
 
 pub answered_union : (ds : List Dimension) (chunks : Box) → AllByRecursion IsChain ds → IsBox chunks → (¬ IsEmptyBox chunks) → (r : LookedBox) → AnswersChunksSubset ds chunks r
     → IfOk r (λ found. IfSome found (λ b. (index : List ℕ) → IsInside b index ↔ ((chunk : List ℕ) × IsInside chunks chunk × InBox ds chunk index)))

@@ -9,10 +9,10 @@ use Rattle.zarrs_chunk_base.specs.declared.refusal.Refusal.{Refusal}
 use Rattle.zarrs_chunk_base.specs.declared.refusal.Refusal.TheVariants.{Refused, Memory}
 use Rattle.zarrs_chunk_base.specs.ArraySubset.{Box, IsBox, ends}
 use Rattle.zarrs_chunk_base.specs.ArraySubsetError.{IsBoxFault}
-use Rattle.zarrs_chunk_base.specs.Dimension.{Dimension, EndsAt, InEach, IsChunk, IsEnd, IsOrigin, IsShape, HasEdge, StartsAt}
+use Rattle.zarrs_chunk_base.specs.Dimension.{Dimension, EndsAt, IsChunk, IsEnd, IsOrigin, IsShape, HasEdge, StartsAt}
 use Rattle.zarrs_chunk_base.specs.Greatest.{greatest, AllFit}
 use Rattle.zarrs_chunks.specs.Subsets.{AnswersChunksSubset, AnswersSubset, HasNoBox}
-use Rattle.zarrs_chunks.proofs.Boxes.{length_values}
+use Rattle.zarrs_chunk_base.proofs.InEach.{by_dimension, by_dimension_twice, length_values, same_values}
 
 -- no start is past an end
 pub starts_fit : (start shape : List ℕ) → length start ≡ length shape → AllFit (ends start shape) → AllFit start
@@ -23,26 +23,16 @@ starts_fit (s ∷ start) (n ∷ shape) same fit = (let here : s + n ≤ greatest
 
 -- what starts somewhere is a chunk
 pub is_chunk : (ds : List Dimension) (chunk origin : List ℕ) → IsOrigin ds chunk origin → IsChunk ds chunk
-is_chunk [] [] [] is = tt
-is_chunk (d ∷ ds) (c ∷ chunk) (o ∷ origin) is = (is.0.chunk, is_chunk ds chunk origin is.1)
-is_chunk [] [] (_ ∷ _) is = absurd is
-is_chunk [] (_ ∷ _) _ is = absurd is
-is_chunk (_ ∷ _) [] _ is = absurd is
-is_chunk (_ ∷ _) (_ ∷ _) [] is = absurd is
+is_chunk = by_dimension StartsAt (λ ds chunk origin. IsChunk ds chunk) tt (λ d c o ds chunk origin here rest. (here.chunk, rest))
 
 -- a chunk ends as far behind its start as it is long
 pub is_end : (ds : List Dimension) (chunk origin shape : List ℕ) → IsOrigin ds chunk origin → IsShape ds chunk shape → IsEnd ds chunk (ends origin shape)
-is_end [] [] [] [] is edge = tt
-is_end (d ∷ ds) (c ∷ chunk) (o ∷ origin) (s ∷ shape) is edge =
-    let start = is.0.start in
-    let end = edge.0.edge in
-    (record { chunk = is.0.chunk; end = omega arith }, is_end ds chunk origin shape is.1 edge.1)
-is_end [] [] [] (_ ∷ _) is edge = absurd edge
-is_end [] [] (_ ∷ _) _ is edge = absurd is
-is_end [] (_ ∷ _) _ _ is edge = absurd is
-is_end (_ ∷ _) [] _ _ is edge = absurd is
-is_end (_ ∷ _) (_ ∷ _) [] _ is edge = absurd is
-is_end (_ ∷ _) (_ ∷ _) (_ ∷ _) [] is edge = absurd edge
+is_end =
+    by_dimension_twice StartsAt HasEdge (λ ds chunk origin shape. IsEnd ds chunk (ends origin shape)) tt
+    (λ d c o s ds chunk origin shape starts long rest.
+    let start = starts.start in
+    let end = long.edge in
+    (record { chunk = starts.chunk; end = omega arith }, rest))
 
 -- a chunk without an origin that fits has no box
 pub no_origin : (ds : List Dimension) (chunk : List ℕ) → ((origin : List ℕ) → IsOrigin ds chunk origin → ¬ AllFit origin) → HasNoBox ds chunk
@@ -52,26 +42,9 @@ no_origin ds chunk none b spans = none b.start spans.start (starts_fit b.start b
 pub no_chunk : (ds : List Dimension) (chunk : List ℕ) → (¬ IsChunk ds chunk) → HasNoBox ds chunk
 no_chunk ds chunk none b spans = none (is_chunk ds chunk b.start spans.start)
 
--- a chunk has one list of values of a kind
-pub same_values : (R : Dimension → ℕ → ℕ → Type 0) (value : Dimension → ℕ → ℕ) → ((d : Dimension) (c x : ℕ) → R d c x → value d c ≡ x)
-    → (ds : List Dimension) (chunk xs ys : List ℕ) → InEach R ds chunk xs → InEach R ds chunk ys → xs ≡ ys
-same_values R value is [] [] [] [] first second = refl
-same_values R value is (d ∷ ds) (c ∷ chunk) (x ∷ xs) (y ∷ ys) first second =
-    let here : x ≡ y = sym (is d c x first.0) ∙ is d c y second.0 in
-    let rest = same_values R value is ds chunk xs ys first.1 second.1 in
-    cc
-same_values R value is [] [] [] (_ ∷ _) first second = absurd second
-same_values R value is [] [] (_ ∷ _) _ first second = absurd first
-same_values R value is [] (_ ∷ _) _ _ first second = absurd first
-same_values R value is (_ ∷ _) [] _ _ first second = absurd first
-same_values R value is (_ ∷ _) (_ ∷ _) [] _ first second = absurd first
-same_values R value is (_ ∷ _) (_ ∷ _) (_ ∷ _) [] first second = absurd second
-
-pub same_origin : (ds : List Dimension) (chunk xs ys : List ℕ) → IsOrigin ds chunk xs → IsOrigin ds chunk ys → xs ≡ ys
-same_origin = same_values StartsAt (λ d. d.start) (λ d c x is. is.start)
-
+-- a chunk has one end
 pub same_end : (ds : List Dimension) (chunk xs ys : List ℕ) → IsEnd ds chunk xs → IsEnd ds chunk ys → xs ≡ ys
-same_end = same_values EndsAt (λ d. d.end) (λ d c x is. is.end)
+same_end = same_values EndsAt (λ d c x y first second. sym first.end ∙ second.end)
 
 -- no number of a list that fits is past the greatest
 pub fits_at : (xs : List ℕ) (k : ℕ) → AllFit xs → k < length xs → slice_index xs k ≤ greatest

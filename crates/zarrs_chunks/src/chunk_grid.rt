@@ -1,13 +1,8 @@
 //! What every chunk grid answers.
-mod axis;
-mod axis_grid;
-mod bounded_axis;
 mod boxes;
 mod edges;
-mod equal_axis;
-mod equal_or_listed_axis;
-mod in_bounds;
-mod listed_axis;
+mod handed_back;
+mod over_axes;
 pub(crate) mod rectangular;
 pub(crate) mod rectangular_create_error;
 pub(crate) mod rectilinear;
@@ -15,21 +10,20 @@ pub(crate) mod rectilinear_create_error;
 pub(crate) mod regular;
 pub(crate) mod regular_bounded;
 pub(crate) mod regular_create_error;
-mod run_lengths;
 
 ghost use Rattle.std.specs.Prelude.{◌≡◌, ◌≢◌, ◌↔◌, ◌⊎◌, ℕ, ◌-◌, ◌<◌, IsTrue, List, length, map, slice_index_or};
 ghost use Rattle.std.specs.List.{AllByRecursion};
 ghost use Rattle.zarrs_chunk_base.specs.ArraySubset.{IsEmptyBox};
 ghost use Rattle.zarrs_chunk_base.specs.Dimension.{Dimension, IsChain};
 ghost use Rattle.zarrs_chunk_base.specs.Refusal.{HasMemory};
-ghost use Rattle.zarrs_chunks.specs.InBounds.{AreBelow, AreInBounds};
-ghost use Rattle.zarrs_chunks.specs.LookUp.{AnswersShape, AnswersShapeNumbers, AnswersOrigin, AnswersChunk, AnswersPlace};
+ghost use Rattle.zarrs_chunk_axes.specs.InBounds.{AreBelow, AreInBounds};
+ghost use Rattle.zarrs_chunk_axes.specs.LookUp.{AnswersShape, AnswersShapeNumbers, AnswersOrigin, AnswersChunk, AnswersPlace};
 ghost use Rattle.zarrs_chunks.specs.Subsets.{AnswersSubset, AnswersChunksSubset, AnswersCover, AnswersEmptyCover};
 
-use boxes::{after, from_to};
-use edges::plain;
-use in_bounds::are_in_bounds;
+use boxes::{box_between, next_numbers};
+use edges::edge_numbers;
 use std::alloc::Global;
+use zarrs_chunk_axes::are_in_bounds;
 use zarrs_chunk_base::{
     ArrayIndices, ArrayShape, ArraySubset, ChunkShape, IncompatibleDimensionalityError, Refusal,
 };
@@ -110,7 +104,7 @@ pub trait ChunkGridTraits {
         ensures stores_nothing { length (dimensions self.now) ≡ 0 → HasMemory result }
     {
         match self.chunk_shape(alloc, chunk_indices)? {
-            Some(shape) => Ok(Some(plain(alloc, &shape)?)),
+            Some(shape) => Ok(Some(edge_numbers(alloc, &shape)?)),
             None => Ok(None),
         }
     }
@@ -134,7 +128,7 @@ pub trait ChunkGridTraits {
         let Some(origin) = self.chunk_origin(alloc, &chunk)? else {
             return Ok(None);
         };
-        Ok(Some(behind(origin, array_indices)))
+        Ok(Some(place_from(origin, array_indices)))
     }
 
     /// The box of a chunk, in element indices; `None` where there is no such chunk, or it ends past
@@ -187,7 +181,7 @@ pub trait ChunkGridTraits {
         let Some(last) = self.subset(alloc, &last)? else {
             return Ok(None);
         };
-        Ok(Some(from_to(alloc, first.start(), &last.end_exc(alloc)?)?))
+        Ok(Some(box_between(alloc, first.start(), &last.end_exc(alloc)?)?))
     }
 
     /// The cover of a box of elements: the box of the numbers of all chunks that hold some of them. An empty box has the
@@ -202,8 +196,10 @@ pub trait ChunkGridTraits {
         alloc: Global,
         array_subset: &ArraySubset,
     ) -> Result<Option<ArraySubset>, Refusal<IncompatibleDimensionalityError>>
-        ensures empty { IsEmptyBox array_subset.now → length (dimensions self.now) ≢ 0 → AnswersEmptyCover (dimensions self.now) result }
-        ensures answers { (¬ IsEmptyBox array_subset.now) ⊎ (length (dimensions self.now) ≡ 0) → AnswersCover (dimensions self.now) array_subset.now result }
+        ensures empty { IsEmptyBox array_subset.now → length (dimensions self.now) ≢ 0
+            → AnswersEmptyCover (dimensions self.now) result }
+        ensures answers { (¬ IsEmptyBox array_subset.now) ⊎ (length (dimensions self.now) ≡ 0)
+            → AnswersCover (dimensions self.now) array_subset.now result }
     {
         if array_subset.is_empty() && self.dimensionality() > 0 {
             return Ok(Some(ArraySubset::new_empty(alloc, self.dimensionality())?));
@@ -225,13 +221,14 @@ pub trait ChunkGridTraits {
         let Some(last) = self.chunk_indices(alloc, &last_element)? else {
             return Ok(None);
         };
-        Ok(Some(from_to(alloc, &first, &after(alloc, &last)?)?))
+        Ok(Some(box_between(alloc, &first, &next_numbers(alloc, &last)?)?))
     }
 
     /// Whether each chunk number is below the number of chunks that are counted along its dimension, or none are
     /// counted there; `false` for a list of another length.
     fn chunk_indices_inbounds(&self, chunk_indices: &[u64]) -> bool
-        ensures { IsTrue result ↔ AreInBounds (map (λ d. d.grid_size) (dimensions self.now)) chunk_indices.now }
+        ensures { IsTrue result ↔ AreInBounds (map
+            (λ d. d.grid_size) (dimensions self.now)) chunk_indices.now }
     {
         are_in_bounds(self.grid_shape(), chunk_indices)
     }
@@ -239,8 +236,10 @@ pub trait ChunkGridTraits {
     /// Whether each index is below its array size; `false` for a list of another length. Where an array size is 0, a grid
     /// may have bounds of its own, or none.
     fn array_indices_inbounds(&self, array_indices: &[u64]) -> bool
-        ensures within { AreBelow (map (λ d. d.array_size) (dimensions self.now)) array_indices.now → IsTrue result }
-        ensures only { IsTrue result → AreInBounds (map (λ d. d.array_size) (dimensions self.now)) array_indices.now }
+        ensures within { AreBelow (map (λ d. d.array_size) (dimensions self.now)) array_indices.now
+            → IsTrue result }
+        ensures only { IsTrue result → AreInBounds (map
+            (λ d. d.array_size) (dimensions self.now)) array_indices.now }
     {
         are_in_bounds(self.array_shape(), array_indices)
     }
@@ -250,10 +249,12 @@ pub trait ChunkGridTraits {
 }
 
 /// For each dimension how far behind the origin the index lies, in the origin's own memory.
-fn behind(mut origin: ArrayIndices, indices: &[u64]) -> ArrayIndices
+fn place_from(mut origin: ArrayIndices, indices: &[u64]) -> ArrayIndices
     requires { length origin.items ≡ length indices.now }
     ensures length { length result.items ≡ length origin.items }
-    ensures difference { (k : ℕ) → k < length result.items → slice_index_or result.items k 0 ≡ slice_index_or indices.now k 0 - slice_index_or origin.items k 0 }
+    ensures difference { (k : ℕ) → k < length result.items
+        → slice_index_or result.items k 0
+        ≡ slice_index_or indices.now k 0 - slice_index_or origin.items k 0 }
 {
     for (dimension, index) in indices.iter().enumerate() {
         origin[dimension] = index.saturating_sub(origin[dimension]);

@@ -3,10 +3,10 @@
 ghost use Rattle.std.specs.Prelude.{◌≡◌, ◌≢◌, ◌↔◌, ◌⊎◌, ℕ, ◌<◌, IfOk, IfSome, List, Some, length, option_map};
 ghost use Rattle.zarrs_chunk_base.specs.ArraySubset.{IsEmptyBox, IsInside};
 ghost use Rattle.zarrs_chunk_base.specs.Dimension.{Dimension, InBox};
-ghost use Rattle.zarrs_chunk_base.specs.Listed.{IsListed};
-ghost use Rattle.zarrs_chunks.specs.Bounded.{IsBounded};
+ghost use Rattle.zarrs_chunk_axes.specs.Listed.{IsListed};
+ghost use Rattle.zarrs_chunk_axes.specs.Bounded.{IsBounded};
 ghost use Rattle.zarrs_chunks.specs.Clipped.{AreAlike, AreClipped};
-ghost use Rattle.zarrs_chunks.specs.LookUp.{AnswersChunk};
+ghost use Rattle.zarrs_chunk_axes.specs.LookUp.{AnswersChunk};
 ghost use Rattle.zarrs_chunks.specs.Subsets.{AnswersChunksSubset, AnswersCover, AnswersEmptyCover};
 
 use crate::ChunkGridTraits;
@@ -24,14 +24,16 @@ pub fn chunk_indices_names_the_home<G: ChunkGridTraits>(
 ) -> Result<Option<ArrayIndices>, Refusal<IncompatibleDimensionalityError>>
     ensures answers { AnswersChunk (G.dimensions grid.now) array_indices.now result }
     ensures home { IfOk result (λ named. (chunk : List ℕ)
-        → InBox (G.dimensions grid.now) chunk array_indices.now ↔ (option_map (λ v. v.items) named ≡ Some chunk)) }
+        → InBox (G.dimensions grid.now) chunk array_indices.now
+        ↔ (option_map (λ v. v.items) named ≡ Some chunk)) }
 {
     grid.chunk_indices(alloc, array_indices)
 }
 
 /// An index that two chunks hold makes them one.
 pub fn chunks_share_no_index<G: ChunkGridTraits>(grid: &G)
-    ensures { (chunk other index : List ℕ) → InBox (G.dimensions grid.now) chunk index → InBox (G.dimensions grid.now) other index → chunk ≡ other }
+    ensures { (chunk other index : List ℕ) → InBox (G.dimensions grid.now) chunk index
+        → InBox (G.dimensions grid.now) other index → chunk ≡ other }
 {}
 
 /// The cover of a box that isn't empty names a chunk just where that chunk holds some element of the box.
@@ -43,10 +45,14 @@ pub fn the_cover_names_the_chunks_that_meet_a_box<G: ChunkGridTraits>(
     grid: &G,
     array_subset: &ArraySubset,
 ) -> Result<Option<ArraySubset>, Refusal<IncompatibleDimensionalityError>>
-    ensures empty { IsEmptyBox array_subset.now → length (G.dimensions grid.now) ≢ 0 → AnswersEmptyCover (G.dimensions grid.now) result }
-    ensures answers { (¬ IsEmptyBox array_subset.now) ⊎ (length (G.dimensions grid.now) ≡ 0) → AnswersCover (G.dimensions grid.now) array_subset.now result }
-    ensures cover { (¬ IsEmptyBox array_subset.now) → IfOk result (λ found. IfSome found (λ cover. (chunk : List ℕ)
-        → IsInside cover chunk ↔ ((index : List ℕ) × InBox (G.dimensions grid.now) chunk index × IsInside array_subset.now index))) }
+    ensures empty { IsEmptyBox array_subset.now → length (G.dimensions grid.now) ≢ 0
+        → AnswersEmptyCover (G.dimensions grid.now) result }
+    ensures answers { (¬ IsEmptyBox array_subset.now) ⊎ (length (G.dimensions grid.now) ≡ 0)
+        → AnswersCover (G.dimensions grid.now) array_subset.now result }
+    ensures cover { (¬ IsEmptyBox array_subset.now)
+        → IfOk result (λ found. IfSome found (λ cover. (chunk : List ℕ)
+        → IsInside cover chunk ↔ ((index : List ℕ) × InBox (G.dimensions grid.now) chunk index
+        × IsInside array_subset.now index))) }
 {
     // The law is about a box, and its start tells that it is one.
     let _start = array_subset.start();
@@ -63,8 +69,10 @@ pub fn the_box_of_chunks_is_the_union_of_their_boxes<G: ChunkGridTraits>(
     chunks: &ArraySubset,
 ) -> Result<Option<ArraySubset>, Refusal<IncompatibleDimensionalityError>>
     ensures answers { AnswersChunksSubset (G.dimensions grid.now) chunks.now result }
-    ensures union { (¬ IsEmptyBox chunks.now) → IfOk result (λ found. IfSome found (λ b. (index : List ℕ)
-        → IsInside b index ↔ ((chunk : List ℕ) × IsInside chunks.now chunk × InBox (G.dimensions grid.now) chunk index))) }
+    ensures union { (¬ IsEmptyBox chunks.now) → IfOk result
+        (λ found. IfSome found (λ b. (index : List ℕ)
+        → IsInside b index ↔ ((chunk : List ℕ) × IsInside chunks.now chunk
+        × InBox (G.dimensions grid.now) chunk index))) }
 {
     // As above.
     let _start = chunks.start();
@@ -74,7 +82,9 @@ pub fn the_box_of_chunks_is_the_union_of_their_boxes<G: ChunkGridTraits>(
 /// An array size and an edge that aren't 0 have a list of clipped edges, and its dimension has the same chunks as
 /// the bounded one, from and to the same indices.
 pub fn a_bounded_dimension_is_that_of_its_edges()
-    ensures has_edges { (size edge : ℕ) → 0 < size → 0 < edge → (edges : List ℕ) × AreClipped size edge edges }
-    ensures alike { (bounded listed : Dimension) (size edge : ℕ) (edges : List ℕ) → AreClipped size edge edges
+    ensures has_edges { (size edge : ℕ) → 0 < size → 0 < edge → (edges : List ℕ)
+        × AreClipped size edge edges }
+    ensures alike { (bounded listed : Dimension) (size edge : ℕ) (edges : List ℕ)
+        → AreClipped size edge edges
         → IsBounded bounded size edge → IsListed listed size edges → AreAlike bounded listed }
 {}

@@ -22,11 +22,13 @@
 //! |---|---|
 //! | `chunk_grid` | the trait of all chunk grids |
 //! | `chunk_grid::regular`, `regular_bounded`, `rectangular`, `rectilinear` | the grids |
-//! | `chunk_grid::axis`, `axis_grid` | one dimension with its look-ups on single numbers; a list of them, with every loop over dimensions |
-//! | `chunk_grid::equal_axis`, `bounded_axis`, `listed_axis`, `equal_or_listed_axis` | the kinds of dimension |
-//! | `chunk_grid::run_lengths` | run-length elements: their sum, and their edges one by one |
-//! | `chunk_grid::boxes`, `in_bounds` | boxes that are made of starts and ends; numbers in bounds of sizes |
+//! | `chunk_grid::regular_create_error`, `rectangular_create_error`, `rectilinear_create_error` | why there is no such grid |
 //! | `laws` | what holds of every chunk grid |
+//! | `chunk_grid::over_axes` | the calls of the four grids, over their lists of axes |
+//! | `chunk_grid::boxes`, `edges` | boxes that are made of starts and ends; edges as plain numbers |
+//! | `chunk_grid::handed_back` | what refusals of listed edges hand back and print |
+//!
+//! One dimension, its kinds and the loops over dimensions stand in the crate `zarrs_chunk_axes`.
 #![tactic(auto)]
 
 mod chunk_grid;

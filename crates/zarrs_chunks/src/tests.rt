@@ -80,41 +80,47 @@ fn rectangular(
     Ok(RectangularChunkGrid::new(alloc, array_shape.to_vec(alloc)?, &chunk_shape)?)
 }
 
-/// Single edges.
-fn singles(alloc: Global, numbers: &[u64]) -> Result<ChunkEdgeLengths, Fail> {
-    let mut elements = Vec::new(alloc);
-    for number in numbers {
-        elements.push(once(*number)?)?;
+/// Run-length elements, or one edge.
+#[derive(Clone, Copy)]
+enum Lengths<'a> {
+    Scalar(u64),
+    /// Edges and their counts; a count of 0 stands for a single edge.
+    Varying(&'a [(u64, u64)]),
+}
+
+/// What a rectilinear grid is made of.
+fn edge_lengths(alloc: Global, dimensions: &[Lengths]) -> Result<Vec<ChunkEdgeLengths>, Fail> {
+    let mut all = Vec::new(alloc);
+    for dimension in dimensions {
+        all.push(match dimension {
+            Lengths::Scalar(edge) => {
+                ChunkEdgeLengths::Scalar(NonZeroU64::new(*edge).ok_or("an edge of 0")?)
+            }
+            Lengths::Varying(runs) => ChunkEdgeLengths::Varying(elements(alloc, runs)?),
+        })?;
     }
-    Ok(ChunkEdgeLengths::Varying(elements))
+    Ok(all)
 }
 
-/// An edge and its count.
-fn times(edge: u64, count: u64) -> Result<RunLengthElement, Fail> {
-    let edge = NonZeroU64::new(edge).ok_or("an edge of 0")?;
-    Ok(RunLengthElement::Repeated([edge, NonZeroU64::new(count).ok_or("a count of 0")?]))
-}
-
-/// A single edge.
-fn once(edge: u64) -> Result<RunLengthElement, Fail> {
-    Ok(RunLengthElement::Single(NonZeroU64::new(edge).ok_or("an edge of 0")?))
-}
-
-/// One edge for all chunks.
-fn scalar(edge: u64) -> Result<ChunkEdgeLengths, Fail> {
-    Ok(ChunkEdgeLengths::Scalar(NonZeroU64::new(edge).ok_or("an edge of 0")?))
-}
-
-fn varying(alloc: Global, elements: &[RunLengthElement]) -> Result<ChunkEdgeLengths, Fail> {
-    Ok(ChunkEdgeLengths::Varying(elements.to_vec(alloc)?))
+fn elements(alloc: Global, runs: &[(u64, u64)]) -> Result<Vec<RunLengthElement>, Fail> {
+    let mut elements = Vec::new(alloc);
+    for (edge, count) in runs {
+        let edge = NonZeroU64::new(*edge).ok_or("an edge of 0")?;
+        elements.push(match NonZeroU64::new(*count) {
+            Some(count) => RunLengthElement::Repeated([edge, count]),
+            None => RunLengthElement::Single(edge),
+        })?;
+    }
+    Ok(elements)
 }
 
 fn rectilinear(
     alloc: Global,
     array_shape: &[u64],
-    edges: &[ChunkEdgeLengths],
+    dimensions: &[Lengths],
 ) -> Result<RectilinearChunkGrid, Fail> {
-    Ok(RectilinearChunkGrid::new(alloc, array_shape.to_vec(alloc)?, edges)?)
+    let edges = edge_lengths(alloc, dimensions)?;
+    Ok(RectilinearChunkGrid::new(alloc, array_shape.to_vec(alloc)?, &edges)?)
 }
 
 /// The element lies in this chunk, at this place there.
@@ -279,68 +285,117 @@ fn check_cover<G: ChunkGridTraits>(
     check_box(rt, met, ranges)
 }
 
+/// An index, and the chunk and the place where it lies.
+type Home<'a> = (&'a [u64], Option<(&'a [u64], &'a [u64])>);
+
+/// A chunk, its origin and its shape.
+type Chunk<'a> = (&'a [u64], Option<&'a [u64]>, Option<&'a [u64]>);
+
+/// The grid has this shape, these elements lie there, and these chunks start there and are so large.
+fn check_grid<G: ChunkGridTraits>(
+    rt: &(impl Abort + AllocGlobal),
+    grid: &G,
+    grid_shape: &[u64],
+    homes: &[Home],
+    chunks: &[Chunk],
+) -> Result<(), Fail> {
+    assert_eq!(rt; grid.dimensionality(), grid_shape.len());
+    assert_eq!(rt; grid.grid_shape(), grid_shape);
+    for (index, home) in homes {
+        check_home(rt, grid, index, *home)?;
+    }
+    for (chunk, origin, shape) in chunks {
+        check_chunk(rt, grid, chunk, *origin, *shape)?;
+    }
+    Ok(())
+}
+
+/// Chunk numbers and indices with whether they are in bounds.
+fn check_bounds<G: ChunkGridTraits>(
+    rt: &impl Abort,
+    grid: &G,
+    chunks: &[(&[u64], bool)],
+    indices: &[(&[u64], bool)],
+) {
+    for (chunk, inside) in chunks {
+        assert_eq!(rt; grid.chunk_indices_inbounds(chunk), *inside, "{chunk:?}");
+    }
+    for (index, inside) in indices {
+        assert_eq!(rt; grid.array_indices_inbounds(index), *inside, "{index:?}");
+    }
+}
+
+/// The edges of the documentation of variable chunks.
+const LISTED: &[u64] = &[5, 5, 5, 15, 15, 20, 35];
+
+/// The same edges as run-length elements, and one by one.
+const RUNS: Lengths = Lengths::Varying(&[(5, 3), (15, 2), (20, 0), (35, 0)]);
+
+const SINGLE: Lengths = Lengths::Varying(&[
+    (5, 0),
+    (5, 0),
+    (5, 0),
+    (15, 0),
+    (15, 0),
+    (20, 0),
+    (35, 0),
+]);
+
+const MIDDLE: u64 = 9223372036854775807;
+
 #[test]
 fn regular_grids_are_looked_up(rt: HostRuntime) -> Result<(), Fail> {
-    let grid = regular(rt.alloc(), &[5, 7, 52], &[1, 2, 3])?;
-    assert_eq!(rt; grid.dimensionality(), 3);
+    let alloc = rt.alloc();
+    let grid = regular(alloc, &[5, 7, 52], &[1, 2, 3])?;
     assert_eq!(rt; grid.array_shape(), [5, 7, 52].as_slice());
-    assert_eq!(rt; grid.grid_shape(), [5, 4, 18].as_slice());
-    check_home(&rt, &grid, &[3, 5, 50], Some((&[3, 2, 16], &[0, 1, 2])))?;
-    check_home(&rt, &grid, &[3, 5, 53], Some((&[3, 2, 17], &[0, 1, 2])))?;
-    check_chunk(&rt, &grid, &[6, 1, 1], Some(&[6, 2, 3]), Some(&[1, 2, 3]))?;
-    check_chunk(&rt, &grid, &[1, 1, 1], Some(&[1, 2, 3]), Some(&[1, 2, 3]))?;
-    check_chunk(&rt, &grid, &[0, 0, 0], Some(&[0, 0, 0]), Some(&[1, 2, 3]))?;
+    let homes: [Home; 2] = [
+        (&[3, 5, 50], Some((&[3, 2, 16], &[0, 1, 2]))),
+        (&[3, 5, 53], Some((&[3, 2, 17], &[0, 1, 2]))),
+    ];
+    let chunks: [Chunk; 3] = [
+        (&[6, 1, 1], Some(&[6, 2, 3]), Some(&[1, 2, 3])),
+        (&[1, 1, 1], Some(&[1, 2, 3]), Some(&[1, 2, 3])),
+        (&[0, 0, 0], Some(&[0, 0, 0]), Some(&[1, 2, 3])),
+    ];
+    check_grid(&rt, &grid, &[5, 4, 18], &homes, &chunks)?;
     let copy = grid.clone()?;
-    assert_eq!(rt; copy.grid_shape(), [5, 4, 18].as_slice());
-    check_home(&rt, &copy, &[3, 5, 50], Some((&[3, 2, 16], &[0, 1, 2])))?;
+    check_grid(&rt, &copy, &[5, 4, 18], &homes, &chunks)?;
     assert_eq!(rt;
-        copy.chunk_shape_u64(rt.alloc())?.as_slice(),
+        copy.chunk_shape_u64(alloc)?.as_slice(),
         [1, 2, 3].as_slice()
     );
-    let own = copy.chunk_shape();
-    assert_eq!(rt; own.len(), 3);
-    assert!(rt;
-        own.iter()
-            .zip(&[1, 2, 3])
-            .all(|(edge, size)| edge.get() == *size)
-    );
-
-    let unlimited = regular(rt.alloc(), &[5, 7, 0], &[1, 2, 3])?;
-    assert_eq!(rt; unlimited.grid_shape(), [5, 4, 0].as_slice());
-    check_home(
+    let edges = copy.chunk_shape().iter().map(|edge| edge.get());
+    assert!(rt; edges.eq([1, 2, 3]));
+    let unlimited = regular(alloc, &[5, 7, 0], &[1, 2, 3])?;
+    let home: Home = (&[3, 5, 1000], Some((&[3, 2, 333], &[0, 1, 1])));
+    check_grid(&rt, &unlimited, &[5, 4, 0], &[home], &[])?;
+    let none = regular(alloc, &[], &[])?;
+    check_grid(
         &rt,
-        &unlimited,
-        &[3, 5, 1000],
-        Some((&[3, 2, 333], &[0, 1, 1])),
-    )?;
-
-    let scalar = regular(rt.alloc(), &[], &[])?;
-    assert_eq!(rt; scalar.grid_shape().len(), 0);
-    check_home(&rt, &scalar, &[], Some((&[], &[])))?;
-    check_chunk(&rt, &scalar, &[], Some(&[]), Some(&[]))
+        &none,
+        &[],
+        &[(&[], Some((&[], &[])))],
+        &[(&[], Some(&[]), Some(&[]))],
+    )
 }
 
 #[test]
 fn regular_grids_reach_to_the_greatest_index(rt: HostRuntime) -> Result<(), Fail> {
+    let chunks: [Chunk; 2] = [
+        (&[MIDDLE], Some(&[18446744073709551614]), Some(&[2])),
+        (&[9223372036854775808], None, Some(&[2])),
+    ];
     let pairs = regular(rt.alloc(), &[MAX], &[2])?;
-    assert_eq!(rt; pairs.grid_shape(), [9223372036854775808].as_slice());
-    check_home(&rt, &pairs, &[MAX], Some((&[9223372036854775807], &[1])))?;
-    check_chunk(
-        &rt,
-        &pairs,
-        &[9223372036854775807],
-        Some(&[18446744073709551614]),
-        Some(&[2]),
-    )?;
-    check_chunk(&rt, &pairs, &[9223372036854775808], None, Some(&[2]))?;
-
+    let home: Home = (&[MAX], Some((&[MIDDLE], &[1])));
+    check_grid(&rt, &pairs, &[9223372036854775808], &[home], &chunks)?;
     let whole = regular(rt.alloc(), &[MAX], &[MAX])?;
-    check_home(&rt, &whole, &[MAX], Some((&[1], &[0])))?;
-    check_chunk(&rt, &whole, &[1], Some(&[MAX]), Some(&[MAX]))?;
-    check_chunk(&rt, &whole, &[2], None, Some(&[MAX]))?;
-
+    let chunks: [Chunk; 2] = [
+        (&[1], Some(&[MAX]), Some(&[MAX])),
+        (&[2], None, Some(&[MAX])),
+    ];
+    check_grid(&rt, &whole, &[1], &[(&[MAX], Some((&[1], &[0])))], &chunks)?;
     let unlimited = regular(rt.alloc(), &[0], &[5])?;
-    check_home(&rt, &unlimited, &[7], Some((&[1], &[2])))
+    check_grid(&rt, &unlimited, &[0], &[(&[7], Some((&[1], &[2])))], &[])
 }
 
 #[test]
@@ -351,6 +406,10 @@ fn wrong_lengths_are_refused(rt: HostRuntime) -> Result<(), Fail> {
     check_length(&rt, &grid, &[], 0, 3);
     check_length(&rt, &regular(rt.alloc(), &[], &[])?, &[0], 1, 0);
     check_length(&rt, &Stairs, &[], 0, 1);
+    let fixed = [Lengths::Scalar(1), Lengths::Scalar(2), Lengths::Scalar(3)];
+    let grid = rectilinear(rt.alloc(), &[5, 7, 52], &fixed)?;
+    check_length(&rt, &grid, &[0, 0], 2, 3);
+    check_length(&rt, &grid, &[0, 0, 0, 0], 4, 3);
     Ok(())
 }
 
@@ -373,74 +432,101 @@ fn shapes_of_unequal_lengths_make_no_regular_grid(rt: HostRuntime) -> Result<(),
 }
 
 #[test]
+fn shapes_of_unequal_lengths_make_no_bounded_grid(rt: HostRuntime) -> Result<(), Fail> {
+    let array_shape = [0].to_vec(rt.alloc())?;
+    let chunk_shape = edges(rt.alloc(), &[1, 2, 3])?;
+    match RegularBoundedChunkGrid::new(rt.alloc(), array_shape, chunk_shape) {
+        Err(Refusal::Refused(error)) => {
+            assert_eq!(rt; error.given(), 3);
+            assert_eq!(rt; error.expected(), 1);
+            Ok(())
+        }
+        Err(Refusal::Memory(error)) => Err(error.into()),
+        Ok(_) => Err("the shapes were accepted".into()),
+    }
+}
+
+#[test]
 fn bounded_grids_are_looked_up(rt: HostRuntime) -> Result<(), Fail> {
-    let grid = bounded(rt.alloc(), &[5, 7, 52], &[1, 2, 3])?;
-    assert_eq!(rt; grid.dimensionality(), 3);
+    let alloc = rt.alloc();
+    let grid = bounded(alloc, &[5, 7, 52], &[1, 2, 3])?;
     assert_eq!(rt; grid.array_shape(), [5, 7, 52].as_slice());
-    assert_eq!(rt; grid.grid_shape(), [5, 4, 18].as_slice());
-    check_home(&rt, &grid, &[3, 5, 50], Some((&[3, 2, 16], &[0, 1, 2])))?;
-    check_home(&rt, &grid, &[3, 5, 53], None)?;
-    check_chunk(&rt, &grid, &[6, 1, 1], None, None)?;
-    check_chunk(&rt, &grid, &[1, 1, 1], Some(&[1, 2, 3]), Some(&[1, 2, 3]))?;
-    check_chunk(&rt, &grid, &[0, 3, 17], Some(&[0, 6, 51]), Some(&[1, 1, 1]))?;
-    check_chunk(&rt, &grid, &[5, 0, 0], None, None)?;
-    check_chunk(&rt, &grid, &[0, 0, 0], Some(&[0, 0, 0]), Some(&[1, 2, 3]))?;
-    check_home(
+    let homes: [Home; 2] = [
+        (&[3, 5, 50], Some((&[3, 2, 16], &[0, 1, 2]))),
+        (&[3, 5, 53], None),
+    ];
+    let chunks: [Chunk; 5] = [
+        (&[6, 1, 1], None, None),
+        (&[1, 1, 1], Some(&[1, 2, 3]), Some(&[1, 2, 3])),
+        (&[0, 3, 17], Some(&[0, 6, 51]), Some(&[1, 1, 1])),
+        (&[5, 0, 0], None, None),
+        (&[0, 0, 0], Some(&[0, 0, 0]), Some(&[1, 2, 3])),
+    ];
+    check_grid(&rt, &grid, &[5, 4, 18], &homes, &chunks)?;
+    check_grid(&rt, &grid.clone()?, &[5, 4, 18], &homes, &chunks)?;
+    let unlimited = bounded(alloc, &[5, 7, 0], &[1, 2, 3])?;
+    let chunk: Chunk = (&[3, 1, 1000], None, None);
+    check_grid(
         &rt,
-        &grid.clone()?,
-        &[3, 5, 50],
-        Some((&[3, 2, 16], &[0, 1, 2])),
+        &unlimited,
+        &[5, 4, 0],
+        &[(&[3, 5, 1000], None)],
+        &[chunk],
     )?;
-
-    let unlimited = bounded(rt.alloc(), &[5, 7, 0], &[1, 2, 3])?;
-    assert_eq!(rt; unlimited.grid_shape(), [5, 4, 0].as_slice());
-    check_home(&rt, &unlimited, &[3, 5, 1000], None)?;
-    check_chunk(&rt, &unlimited, &[3, 1, 1000], None, None)?;
-    check_home(&rt, &bounded(rt.alloc(), &[0], &[5])?, &[0], None)?;
-
-    let pairs = bounded(rt.alloc(), &[MAX], &[2])?;
-    let last = 9223372036854775807;
-    assert_eq!(rt; pairs.grid_shape(), [9223372036854775808].as_slice());
-    check_chunk(
+    check_grid(
+        &rt,
+        &bounded(alloc, &[0], &[5])?,
+        &[0],
+        &[(&[0], None)],
+        &[],
+    )?;
+    let chunks: [Chunk; 2] = [
+        (&[MIDDLE], Some(&[18446744073709551614]), Some(&[1])),
+        (&[9223372036854775808], None, None),
+    ];
+    let pairs = bounded(alloc, &[MAX], &[2])?;
+    check_grid(
         &rt,
         &pairs,
-        &[last],
-        Some(&[18446744073709551614]),
-        Some(&[1]),
+        &[9223372036854775808],
+        &[(&[MAX], None)],
+        &chunks,
     )?;
-    check_chunk(&rt, &pairs, &[9223372036854775808], None, None)?;
-    check_home(&rt, &pairs, &[MAX], None)?;
-
-    let two = bounded(rt.alloc(), &[MAX], &[18446744073709551614])?;
-    assert_eq!(rt; two.grid_shape(), [2].as_slice());
-    check_chunk(&rt, &two, &[1], Some(&[18446744073709551614]), Some(&[1]))?;
-    check_chunk(&rt, &two, &[2], None, None)
+    let two = bounded(alloc, &[MAX], &[18446744073709551614])?;
+    let chunks: [Chunk; 2] = [
+        (&[1], Some(&[18446744073709551614]), Some(&[1])),
+        (&[2], None, None),
+    ];
+    check_grid(&rt, &two, &[2], &[], &chunks)
 }
 
 #[test]
 fn rectangular_grids_are_looked_up(rt: HostRuntime) -> Result<(), Fail> {
-    let varying = Dimension::Varying(&[5, 5, 5, 15, 15, 20, 35]);
-    let grid = rectangular(rt.alloc(), &[100, 100], &[varying, Dimension::Fixed(10)])?;
-    assert_eq!(rt; grid.dimensionality(), 2);
+    let alloc = rt.alloc();
+    let dimensions = [Dimension::Varying(LISTED), Dimension::Fixed(10)];
+    let grid = rectangular(alloc, &[100, 100], &dimensions)?;
     assert_eq!(rt; grid.array_shape(), [100, 100].as_slice());
-    assert_eq!(rt; grid.grid_shape(), [7, 10].as_slice());
-    check_home(&rt, &grid, &[17, 17], Some((&[3, 1], &[2, 7])))?;
-    check_home(&rt, &grid, &[15, 0], Some((&[3, 0], &[0, 0])))?;
-    check_home(&rt, &grid, &[99, 99], Some((&[6, 9], &[34, 9])))?;
-    check_home(&rt, &grid, &[100, 100], None)?;
-    check_chunk(&rt, &grid, &[6, 9], Some(&[65, 90]), Some(&[35, 10]))?;
-    check_chunk(&rt, &grid, &[7, 9], None, None)?;
-    check_home(&rt, &grid.clone()?, &[17, 17], Some((&[3, 1], &[2, 7])))?;
-
-    let unlimited = rectangular(rt.alloc(), &[100, 0], &[varying, Dimension::Fixed(10)])?;
-    assert_eq!(rt; unlimited.grid_shape(), [7, 0].as_slice());
-    check_home(&rt, &unlimited, &[101, 150], None)?;
-
+    let homes: [Home; 4] = [
+        (&[17, 17], Some((&[3, 1], &[2, 7]))),
+        (&[15, 0], Some((&[3, 0], &[0, 0]))),
+        (&[99, 99], Some((&[6, 9], &[34, 9]))),
+        (&[100, 100], None),
+    ];
+    let chunks: [Chunk; 2] = [
+        (&[6, 9], Some(&[65, 90]), Some(&[35, 10])),
+        (&[7, 9], None, None),
+    ];
+    check_grid(&rt, &grid, &[7, 10], &homes, &chunks)?;
+    check_grid(&rt, &grid.clone()?, &[7, 10], &homes, &chunks)?;
+    let unlimited = rectangular(alloc, &[100, 0], &dimensions)?;
+    check_grid(&rt, &unlimited, &[7, 0], &[(&[101, 150], None)], &[])?;
     let greatest = Dimension::Varying(&[18446744073709551614, 1]);
-    let two = rectangular(rt.alloc(), &[MAX], &[greatest])?;
-    assert_eq!(rt; two.grid_shape(), [2].as_slice());
-    check_home(&rt, &two, &[18446744073709551614], Some((&[1], &[0])))?;
-    check_home(&rt, &two, &[MAX], None)
+    let two = rectangular(alloc, &[MAX], &[greatest])?;
+    let homes: [Home; 2] = [
+        (&[18446744073709551614], Some((&[1], &[0]))),
+        (&[MAX], None),
+    ];
+    check_grid(&rt, &two, &[2], &homes, &[])
 }
 
 /// There is no rectangular grid of this shape and these edges, and the error and its copy say so.
@@ -464,164 +550,136 @@ fn check_no_rectangular_grid(
 
 #[test]
 fn edges_of_another_sum_make_no_rectangular_grid(rt: HostRuntime) -> Result<(), Fail> {
-    let varying = Dimension::Varying(&[5, 5, 5, 15, 15, 20, 35]);
+    let varying = Dimension::Varying(LISTED);
     let fixed = Dimension::Fixed(10);
-    check_no_rectangular_grid(
-        &rt,
-        &[123, 100],
-        &[varying, fixed],
-        "rectangular chunk grid configuration: [[5, 5, 5, 15, 15, 20, 35], 10] not compatible with array shape [123, 100]",
-    )?;
-    check_no_rectangular_grid(
-        &rt,
-        &[100, 100, 100],
-        &[varying, fixed],
-        "rectangular chunk grid configuration: [[5, 5, 5, 15, 15, 20, 35], 10] not compatible with array shape [100, 100, 100]",
-    )?;
-    check_no_rectangular_grid(
-        &rt,
-        &[1],
-        &[Dimension::Varying(&[])],
-        "rectangular chunk grid configuration: [[]] not compatible with array shape [1]",
-    )?;
-    check_no_rectangular_grid(
-        &rt,
-        &[0],
-        &[Dimension::Varying(&[])],
-        "rectangular chunk grid configuration: [[]] not compatible with array shape [0]",
-    )?;
-    check_no_rectangular_grid(
-        &rt,
-        &[MAX],
-        &[Dimension::Varying(&[MAX, 1])],
-        "rectangular chunk grid configuration: [[18446744073709551615, 1]] not compatible with array shape [18446744073709551615]",
-    )?;
-    check_no_rectangular_grid(
-        &rt,
-        &[],
-        &[fixed],
-        "rectangular chunk grid configuration: [10] not compatible with array shape []",
-    )
-}
-
-#[test]
-fn shapes_of_unequal_lengths_make_no_bounded_grid(rt: HostRuntime) -> Result<(), Fail> {
-    let array_shape = [0].to_vec(rt.alloc())?;
-    let chunk_shape = edges(rt.alloc(), &[1, 2, 3])?;
-    match RegularBoundedChunkGrid::new(rt.alloc(), array_shape, chunk_shape) {
-        Err(Refusal::Refused(error)) => {
-            assert_eq!(rt; error.given(), 3);
-            assert_eq!(rt; error.expected(), 1);
-            Ok(())
-        }
-        Err(Refusal::Memory(error)) => Err(error.into()),
-        Ok(_) => Err("the shapes were accepted".into()),
+    let rows: [(&[u64], &[Dimension], &str); 6] = [
+        (
+            &[123, 100],
+            &[varying, fixed],
+            "rectangular chunk grid configuration: [[5, 5, 5, 15, 15, 20, 35], 10] not compatible with array shape [123, 100]",
+        ),
+        (
+            &[100, 100, 100],
+            &[varying, fixed],
+            "rectangular chunk grid configuration: [[5, 5, 5, 15, 15, 20, 35], 10] not compatible with array shape [100, 100, 100]",
+        ),
+        (
+            &[1],
+            &[Dimension::Varying(&[])],
+            "rectangular chunk grid configuration: [[]] not compatible with array shape [1]",
+        ),
+        (
+            &[0],
+            &[Dimension::Varying(&[])],
+            "rectangular chunk grid configuration: [[]] not compatible with array shape [0]",
+        ),
+        (
+            &[MAX],
+            &[Dimension::Varying(&[MAX, 1])],
+            "rectangular chunk grid configuration: [[18446744073709551615, 1]] not compatible with array shape [18446744073709551615]",
+        ),
+        (
+            &[],
+            &[fixed],
+            "rectangular chunk grid configuration: [10] not compatible with array shape []",
+        ),
+    ];
+    for (array_shape, dimensions, text) in rows {
+        check_no_rectangular_grid(&rt, array_shape, dimensions, text)?;
     }
+    Ok(())
 }
 
 #[test]
 fn rectilinear_grids_are_looked_up(rt: HostRuntime) -> Result<(), Fail> {
     let alloc = rt.alloc();
-    let edges = vec![in alloc; singles(alloc, &[4, 4, 4])?, singles(alloc, &[3, 3, 3])?]?;
-    let past = rectilinear(alloc, &[6, 6], &edges)?;
-    assert_eq!(rt; past.dimensionality(), 2);
+    let fours = Lengths::Varying(&[(4, 0), (4, 0), (4, 0)]);
+    let threes = Lengths::Varying(&[(3, 0), (3, 0), (3, 0)]);
+    let past = rectilinear(alloc, &[6, 6], &[fours, threes])?;
     assert_eq!(rt; past.array_shape(), [6, 6].as_slice());
-    assert_eq!(rt; past.grid_shape(), [3, 3].as_slice());
-    check_home(&rt, &past, &[5, 5], Some((&[1, 1], &[1, 2])))?;
-    check_home(&rt, &past, &[11, 0], Some((&[2, 0], &[3, 0])))?;
-    check_home(&rt, &past, &[12, 0], None)?;
-    check_home(&rt, &past.clone()?, &[5, 5], Some((&[1, 1], &[1, 2])))?;
-    let edges = vec![in alloc; singles(alloc, &[3, 3])?, singles(alloc, &[3, 3])?]?;
-    let exact = rectilinear(alloc, &[6, 6], &edges)?;
-    assert_eq!(rt; exact.grid_shape(), [2, 2].as_slice());
-    let unlimited = rectilinear(alloc, &[0], &vec![in alloc; singles(alloc, &[4])?]?)?;
-    assert_eq!(rt; unlimited.grid_shape(), [1].as_slice());
-
-    let edges = vec![in alloc; scalar(10)?, scalar(20)?]?;
-    let scalars = rectilinear(alloc, &[100, 100], &edges)?;
-    check_home(&rt, &scalars, &[25, 45], Some((&[2, 2], &[5, 5])))?;
-    check_chunk(&rt, &scalars, &[9, 4], Some(&[90, 80]), Some(&[10, 20]))?;
-    let listed = singles(alloc, &[5, 5, 5, 15, 15, 20, 35])?;
-    let mixed = rectilinear(alloc, &[100, 100], &vec![in alloc; scalar(10)?, listed]?)?;
-    check_chunk(&rt, &mixed, &[2, 3], Some(&[20, 15]), Some(&[10, 15]))
-}
-
-#[test]
-fn rectilinear_grids_of_three_dimensions_are_looked_up(rt: HostRuntime) -> Result<(), Fail> {
-    let alloc = rt.alloc();
-    let first = singles(alloc, &[10, 20, 30, 40])?;
-    let edges = vec![in alloc; first, scalar(25)?, singles(alloc, &[5, 15, 30])?]?;
-    let grid = rectilinear(alloc, &[100, 100, 50], &edges)?;
-    assert_eq!(rt; grid.grid_shape(), [4, 4, 3].as_slice());
-    check_chunk(
+    let homes: [Home; 3] = [
+        (&[5, 5], Some((&[1, 1], &[1, 2]))),
+        (&[11, 0], Some((&[2, 0], &[3, 0]))),
+        (&[12, 0], None),
+    ];
+    check_grid(&rt, &past, &[3, 3], &homes, &[])?;
+    check_grid(&rt, &past.clone()?, &[3, 3], &homes, &[])?;
+    let pair = Lengths::Varying(&[(3, 0), (3, 0)]);
+    check_grid(
+        &rt,
+        &rectilinear(alloc, &[6, 6], &[pair, pair])?,
+        &[2, 2],
+        &[],
+        &[],
+    )?;
+    let four = Lengths::Varying(&[(4, 0)]);
+    check_grid(&rt, &rectilinear(alloc, &[0], &[four])?, &[1], &[], &[])?;
+    let scalars = [Lengths::Scalar(10), Lengths::Scalar(20)];
+    let scalars = rectilinear(alloc, &[100, 100], &scalars)?;
+    let home: Home = (&[25, 45], Some((&[2, 2], &[5, 5])));
+    let chunk: Chunk = (&[9, 4], Some(&[90, 80]), Some(&[10, 20]));
+    check_grid(&rt, &scalars, &[10, 5], &[home], &[chunk])?;
+    let mixed = rectilinear(alloc, &[100, 100], &[Lengths::Scalar(10), SINGLE])?;
+    let chunk: Chunk = (&[2, 3], Some(&[20, 15]), Some(&[10, 15]));
+    check_grid(&rt, &mixed, &[10, 7], &[], &[chunk])?;
+    let first = Lengths::Varying(&[(10, 0), (20, 0), (30, 0), (40, 0)]);
+    let last = Lengths::Varying(&[(5, 0), (15, 0), (30, 0)]);
+    let grid = rectilinear(alloc, &[100, 100, 50], &[first, Lengths::Scalar(25), last])?;
+    let chunks: [Chunk; 2] = [
+        (&[3, 3, 2], Some(&[60, 75, 20]), Some(&[40, 25, 30])),
+        (&[4, 0, 0], None, None),
+    ];
+    check_grid(&rt, &grid, &[4, 4, 3], &[(&[150, 150, 150], None)], &chunks)?;
+    check_bounds(
         &rt,
         &grid,
-        &[3, 3, 2],
-        Some(&[60, 75, 20]),
-        Some(&[40, 25, 30]),
-    )?;
-    check_chunk(&rt, &grid, &[4, 0, 0], None, None)?;
-    check_home(&rt, &grid, &[150, 150, 150], None)?;
-    check_length(&rt, &grid, &[0, 0], 2, 3);
-    check_length(&rt, &grid, &[0, 0, 0, 0], 4, 3);
-    assert!(rt; grid.array_indices_inbounds(&[99, 99, 49]));
-    assert!(rt; !grid.array_indices_inbounds(&[50, 50, 50]));
+        &[],
+        &[(&[99, 99, 49], true), (&[50, 50, 50], false)],
+    );
     Ok(())
 }
 
 #[test]
 fn runs_of_edges_are_looked_up(rt: HostRuntime) -> Result<(), Fail> {
     let alloc = rt.alloc();
-    let listed = varying(alloc, &[times(5, 3)?, times(15, 2)?, once(20)?, once(35)?])?;
-    let edges = vec![in alloc; listed, scalar(10)?]?;
-    let grid = rectilinear(alloc, &[100, 100], &edges)?;
-    assert_eq!(rt; grid.grid_shape(), [7, 10].as_slice());
-    check_chunk(&rt, &grid, &[4, 0], Some(&[30, 0]), Some(&[15, 10]))?;
-    check_chunk(&rt, &grid, &[6, 0], Some(&[65, 0]), Some(&[35, 10]))?;
-    check_home(&rt, &grid, &[17, 17], Some((&[3, 1], &[2, 7])))?;
-    let unlimited = rectilinear(alloc, &[100, 0], &edges)?;
-    assert_eq!(rt; unlimited.grid_shape(), [7, 0].as_slice());
-    check_chunk(
+    let grid = rectilinear(alloc, &[100, 100], &[RUNS, Lengths::Scalar(10)])?;
+    let chunks: [Chunk; 2] = [
+        (&[4, 0], Some(&[30, 0]), Some(&[15, 10])),
+        (&[6, 0], Some(&[65, 0]), Some(&[35, 10])),
+    ];
+    let home: Home = (&[17, 17], Some((&[3, 1], &[2, 7])));
+    check_grid(&rt, &grid, &[7, 10], &[home], &chunks)?;
+    let unlimited = rectilinear(alloc, &[100, 0], &[RUNS, Lengths::Scalar(10)])?;
+    let chunks: [Chunk; 2] = [
+        (&[6, 123], Some(&[65, 1230]), Some(&[35, 10])),
+        (&[6, 100], Some(&[65, 1000]), Some(&[35, 10])),
+    ];
+    check_grid(&rt, &unlimited, &[7, 0], &[], &chunks)?;
+    check_bounds(&rt, &unlimited, &[(&[6, 123], true), (&[7, 9], false)], &[]);
+    let listed = rectilinear(alloc, &[100, 100], &[SINGLE, Lengths::Varying(&[(10, 10)])])?;
+    check_grid(
         &rt,
-        &unlimited,
-        &[6, 123],
-        Some(&[65, 1230]),
-        Some(&[35, 10]),
+        &listed,
+        &[7, 10],
+        &[(&[99, 99], Some((&[6, 9], &[34, 9])))],
+        &[],
     )?;
-    check_chunk(
+    check_bounds(
         &rt,
-        &unlimited,
-        &[6, 100],
-        Some(&[65, 1000]),
-        Some(&[35, 10]),
-    )?;
-    assert!(rt; unlimited.chunk_indices_inbounds(&[6, 123]));
-    assert!(rt; !unlimited.chunk_indices_inbounds(&[7, 9]));
-
-    let tens = varying(alloc, &[times(10, 10)?])?;
-    let edges = vec![in alloc; singles(alloc, &[5, 5, 5, 15, 15, 20, 35])?, tens]?;
-    let listed = rectilinear(alloc, &[100, 100], &edges)?;
-    check_home(&rt, &listed, &[99, 99], Some((&[6, 9], &[34, 9])))?;
-    assert!(rt; listed.chunk_indices_inbounds(&[6, 9]));
-    assert!(rt;
-        !listed.chunk_indices_inbounds(&[7, 9]) && !listed.chunk_indices_inbounds(&[6, 10])
+        &listed,
+        &[(&[6, 9], true), (&[7, 9], false), (&[6, 10], false)],
+        &[],
     );
-
-    let two = rectilinear(alloc, &[8], &vec![in alloc; singles(alloc, &[5, 3])?]?)?;
-    assert_eq!(rt; two.grid_shape(), [2].as_slice());
-    let three = rectilinear(
-        alloc,
-        &[8],
-        &vec![in alloc; varying(alloc, &[times(5, 3)?])?]?,
-    )?;
-    assert_eq!(rt; three.grid_shape(), [3].as_slice());
-    Ok(())
+    let two = rectilinear(alloc, &[8], &[Lengths::Varying(&[(5, 0), (3, 0)])])?;
+    check_grid(&rt, &two, &[2], &[], &[])?;
+    let three = rectilinear(alloc, &[8], &[Lengths::Varying(&[(5, 3)])])?;
+    check_grid(&rt, &three, &[3], &[], &[])
 }
 
 #[test]
 fn more_edges_than_fit_into_memory_find_no_room(rt: HostRuntime) -> Result<(), Fail> {
     let alloc = rt.alloc();
-    let edges = vec![in alloc; varying(alloc, &[times(1, MAX)?])?]?;
+    let edges = edge_lengths(alloc, &[Lengths::Varying(&[(1, MAX)])])?;
     match RectilinearChunkGrid::new(alloc, [MAX].to_vec(alloc)?, &edges) {
         Err(Refusal::Memory(_)) => Ok(()),
         _ => Err("so many edges found room".into()),
@@ -632,11 +690,12 @@ fn more_edges_than_fit_into_memory_find_no_room(rt: HostRuntime) -> Result<(), F
 fn check_no_rectilinear_grid(
     rt: &(impl Abort + AllocGlobal),
     array_shape: &[u64],
-    edges: &[ChunkEdgeLengths],
+    dimensions: &[Lengths],
     text: &str,
 ) -> Result<(), Fail> {
+    let edges = edge_lengths(rt.alloc(), dimensions)?;
     let array_shape = array_shape.to_vec(rt.alloc())?;
-    let error = match RectilinearChunkGrid::new(rt.alloc(), array_shape, edges) {
+    let error = match RectilinearChunkGrid::new(rt.alloc(), array_shape, &edges) {
         Err(Refusal::Refused(error)) => error,
         Err(Refusal::Memory(error)) => return Err(error.into()),
         Ok(_) => return Err("the edges were accepted".into()),
@@ -648,75 +707,65 @@ fn check_no_rectilinear_grid(
 
 #[test]
 fn edges_of_another_reach_make_no_rectilinear_grid(rt: HostRuntime) -> Result<(), Fail> {
-    let alloc = rt.alloc();
-    let listed = varying(alloc, &[times(5, 3)?, once(20)?])?;
-    check_no_rectilinear_grid(
-        &rt,
-        &[123, 100],
-        &vec![in alloc; listed, scalar(10)?]?,
-        "rectilinear chunk grid configuration: [[[5, 3], 20], 10] not compatible with array shape [123, 100]",
-    )?;
-    check_no_rectilinear_grid(
-        &rt,
-        &[6, 6],
-        &vec![in alloc; singles(alloc, &[2, 2])?, singles(alloc, &[3, 3])?]?,
-        "rectilinear chunk grid configuration: [[2, 2], [3, 3]] not compatible with array shape [6, 6]",
-    )?;
-    check_no_rectilinear_grid(
-        &rt,
-        &[6],
-        &vec![in alloc; scalar(2)?, scalar(3)?]?,
-        "rectilinear chunk grid configuration: [2, 3] not compatible with array shape [6]",
-    )?;
-    let none = vec![in alloc; singles(alloc, &[])?]?;
-    check_no_rectilinear_grid(
-        &rt,
-        &[1],
-        &none,
-        "rectilinear chunk grid configuration: [[]] not compatible with array shape [1]",
-    )?;
-    check_no_rectilinear_grid(
-        &rt,
-        &[0],
-        &none,
-        "rectilinear chunk grid configuration: [[]] not compatible with array shape [0]",
-    )
-}
-
-#[test]
-fn edges_past_the_greatest_sum_make_no_rectilinear_grid(rt: HostRuntime) -> Result<(), Fail> {
-    let alloc = rt.alloc();
-    check_no_rectilinear_grid(
-        &rt,
-        &[1],
-        &vec![in alloc; varying(alloc, &[times(2, 9223372036854775808)?])?]?,
-        "rectilinear chunk grid configuration: [[[2, 9223372036854775808]]] not compatible with array shape [1]",
-    )?;
-    check_no_rectilinear_grid(
-        &rt,
-        &[1],
-        &vec![in alloc; varying(alloc, &[times(MAX, MAX)?, times(MAX, MAX)?])?]?,
-        "rectilinear chunk grid configuration: [[[18446744073709551615, 18446744073709551615], [18446744073709551615, 18446744073709551615]]] not compatible with array shape [1]",
-    )
+    let rows: [(&[u64], &[Lengths], &str); 7] = [
+        (
+            &[123, 100],
+            &[Lengths::Varying(&[(5, 3), (20, 0)]), Lengths::Scalar(10)],
+            "rectilinear chunk grid configuration: [[[5, 3], 20], 10] not compatible with array shape [123, 100]",
+        ),
+        (
+            &[6, 6],
+            &[
+                Lengths::Varying(&[(2, 0), (2, 0)]),
+                Lengths::Varying(&[(3, 0), (3, 0)]),
+            ],
+            "rectilinear chunk grid configuration: [[2, 2], [3, 3]] not compatible with array shape [6, 6]",
+        ),
+        (
+            &[6],
+            &[Lengths::Scalar(2), Lengths::Scalar(3)],
+            "rectilinear chunk grid configuration: [2, 3] not compatible with array shape [6]",
+        ),
+        (
+            &[1],
+            &[Lengths::Varying(&[])],
+            "rectilinear chunk grid configuration: [[]] not compatible with array shape [1]",
+        ),
+        (
+            &[0],
+            &[Lengths::Varying(&[])],
+            "rectilinear chunk grid configuration: [[]] not compatible with array shape [0]",
+        ),
+        (
+            &[1],
+            &[Lengths::Varying(&[(2, 9223372036854775808)])],
+            "rectilinear chunk grid configuration: [[[2, 9223372036854775808]]] not compatible with array shape [1]",
+        ),
+        (
+            &[1],
+            &[Lengths::Varying(&[(MAX, MAX), (MAX, MAX)])],
+            "rectilinear chunk grid configuration: [[[18446744073709551615, 18446744073709551615], [18446744073709551615, 18446744073709551615]]] not compatible with array shape [1]",
+        ),
+    ];
+    for (array_shape, dimensions, text) in rows {
+        check_no_rectilinear_grid(&rt, array_shape, dimensions, text)?;
+    }
+    Ok(())
 }
 
 #[test]
 fn chunks_have_boxes(rt: HostRuntime) -> Result<(), Fail> {
     let alloc = rt.alloc();
     let clipped = bounded(alloc, &[5, 7, 52], &[1, 2, 3])?;
-    check_box(
-        &rt,
-        clipped.subset(alloc, &[0, 3, 17]),
-        Some(&[0..1, 6..7, 51..52]),
-    )?;
+    let corner = clipped.subset(alloc, &[0, 3, 17]);
+    check_box(&rt, corner, Some(&[0..1, 6..7, 51..52]))?;
     check_box(&rt, clipped.subset(alloc, &[5, 0, 0]), None)?;
-    let last = 9223372036854775807;
     check_box(
         &rt,
-        regular(alloc, &[MAX], &[2])?.subset(alloc, &[last]),
+        regular(alloc, &[MAX], &[2])?.subset(alloc, &[MIDDLE]),
         None,
     )?;
-    let ended = bounded(alloc, &[MAX], &[2])?.subset(alloc, &[last]);
+    let ended = bounded(alloc, &[MAX], &[2])?.subset(alloc, &[MIDDLE]);
     check_box(&rt, ended, Some(&[18446744073709551614..MAX]))?;
     check_box(&rt, regular(alloc, &[], &[])?.subset(alloc, &[]), Some(&[]))
 }
@@ -725,24 +774,16 @@ fn chunks_have_boxes(rt: HostRuntime) -> Result<(), Fail> {
 fn boxes_of_chunks_have_boxes(rt: HostRuntime) -> Result<(), Fail> {
     let alloc = rt.alloc();
     let whole = regular(alloc, &[5, 7, 52], &[1, 2, 3])?;
-    check_chunks(
-        &rt,
-        &whole,
-        &[1..3, 1..2, 5..8],
-        Some(&[1..3, 2..4, 15..24]),
-    )?;
+    let chunks = [1..3, 1..2, 5..8];
+    let elements = [1..3, 2..4, 15..24];
+    check_chunks(&rt, &whole, &chunks, Some(&elements))?;
+    let clipped = bounded(alloc, &[5, 7, 52], &[1, 2, 3])?;
+    check_chunks(&rt, &clipped, &chunks, Some(&elements))?;
     check_chunks(&rt, &whole, &[1..1, 2..2, 3..3], Some(&[0..0, 0..0, 0..0]))?;
     let one = ArraySubset::new_with_ranges(alloc, &[1..3])?;
     check_refused(&rt, whole.chunks_subset(alloc, &one), 1, 3);
-    let clipped = bounded(alloc, &[5, 7, 52], &[1, 2, 3])?;
-    check_chunks(
-        &rt,
-        &clipped,
-        &[1..3, 1..2, 5..8],
-        Some(&[1..3, 2..4, 15..24]),
-    )?;
-    let varying = Dimension::Varying(&[5, 5, 5, 15, 15, 20, 35]);
-    let listed = rectangular(alloc, &[100, 100], &[varying, Dimension::Fixed(10)])?;
+    let dimensions = [Dimension::Varying(LISTED), Dimension::Fixed(10)];
+    let listed = rectangular(alloc, &[100, 100], &dimensions)?;
     check_chunks(&rt, &listed, &[1..5, 2..6], Some(&[5..45, 20..60]))?;
     check_chunks(&rt, &listed, &[1..8, 2..6], None)
 }
@@ -750,58 +791,72 @@ fn boxes_of_chunks_have_boxes(rt: HostRuntime) -> Result<(), Fail> {
 #[test]
 fn boxes_are_covered(rt: HostRuntime) -> Result<(), Fail> {
     let alloc = rt.alloc();
-    let varying = Dimension::Varying(&[5, 5, 5, 15, 15, 20, 35]);
-    let listed = rectangular(alloc, &[100, 100], &[varying, Dimension::Fixed(10)])?;
-    check_cover(&rt, &listed, &[15..30, 10..20], Some(&[3..4, 1..2]))?;
-    check_cover(&rt, &listed, &[14..31, 9..21], Some(&[2..5, 0..3]))?;
-    check_cover(&rt, &listed, &[0..101, 0..1], None)?;
-    check_cover(&rt, &listed, &[7..7], Some(&[0..0, 0..0]))?;
+    let dimensions = [Dimension::Varying(LISTED), Dimension::Fixed(10)];
+    let listed = rectangular(alloc, &[100, 100], &dimensions)?;
+    let rows: [(&[Range<u64>], Option<&[Range<u64>]>); 4] = [
+        (&[15..30, 10..20], Some(&[3..4, 1..2])),
+        (&[14..31, 9..21], Some(&[2..5, 0..3])),
+        (&[0..101, 0..1], None),
+        (&[7..7], Some(&[0..0, 0..0])),
+    ];
+    for (elements, cover) in rows {
+        check_cover(&rt, &listed, elements, cover)?;
+    }
     let one = ArraySubset::new_with_ranges(alloc, &[0..1])?;
     check_refused(&rt, listed.chunks_in_array_subset(alloc, &one), 1, 2);
     let none = regular(alloc, &[], &[])?;
     check_cover(&rt, &none, &[], Some(&[]))?;
     let empty = ArraySubset::new_empty(alloc, 1)?;
     check_refused(&rt, none.chunks_in_array_subset(alloc, &empty), 1, 0);
-    check_cover(
-        &rt,
-        &regular(alloc, &[MAX], &[1])?,
-        &[0..MAX],
-        Some(&[0..MAX]),
-    )?;
+    let ones = regular(alloc, &[MAX], &[1])?;
+    check_cover(&rt, &ones, &[0..MAX], Some(&[0..MAX]))?;
     check_cover(&rt, &Stairs, &[2..4], Some(&[1..3]))
 }
 
 #[test]
 fn numbers_are_in_bounds(rt: HostRuntime) -> Result<(), Fail> {
     let alloc = rt.alloc();
-    let whole = regular(alloc, &[5, 7, 52], &[1, 2, 3])?;
-    assert!(rt; !whole.chunk_indices_inbounds(&[6, 1, 1]));
-    assert!(rt; !whole.chunk_indices_inbounds(&[6, 1]) && !whole.array_indices_inbounds(&[4, 6]));
-    assert!(rt;
-        whole.array_indices_inbounds(&[4, 6, 51]) && !whole.array_indices_inbounds(&[4, 7, 0])
+    let chunks: [(&[u64], bool); 2] = [(&[6, 1, 1], false), (&[6, 1], false)];
+    let indices: [(&[u64], bool); 3] = [(&[4, 6, 51], true), (&[4, 7, 0], false), (&[4, 6], false)];
+    check_bounds(
+        &rt,
+        &regular(alloc, &[5, 7, 52], &[1, 2, 3])?,
+        &chunks,
+        &indices,
     );
-    let clipped = bounded(alloc, &[5, 7, 52], &[1, 2, 3])?;
-    assert!(rt; !clipped.chunk_indices_inbounds(&[6, 1, 1]));
-    assert!(rt; regular(alloc, &[5, 7, 0], &[1, 2, 3])?.chunk_indices_inbounds(&[3, 1, 1000]));
-    assert!(rt; bounded(alloc, &[5, 7, 0], &[1, 2, 3])?.chunk_indices_inbounds(&[3, 1, 1000]));
-    assert!(rt; bounded(alloc, &[0], &[5])?.array_indices_inbounds(&[7]));
+    check_bounds(
+        &rt,
+        &bounded(alloc, &[5, 7, 52], &[1, 2, 3])?,
+        &chunks,
+        &indices,
+    );
+    let far: [(&[u64], bool); 1] = [(&[3, 1, 1000], true)];
+    check_bounds(&rt, &regular(alloc, &[5, 7, 0], &[1, 2, 3])?, &far, &[]);
+    check_bounds(&rt, &bounded(alloc, &[5, 7, 0], &[1, 2, 3])?, &far, &[]);
+    check_bounds(
+        &rt,
+        &bounded(alloc, &[0], &[5])?,
+        &[(&[0], true)],
+        &[(&[7], true)],
+    );
 
-    let varying = Dimension::Varying(&[5, 5, 5, 15, 15, 20, 35]);
-    let listed = rectangular(alloc, &[100, 100], &[varying, Dimension::Fixed(10)])?;
-    assert!(rt; listed.chunk_indices_inbounds(&[6, 9]));
-    assert!(rt;
-        !listed.chunk_indices_inbounds(&[7, 9]) && !listed.chunk_indices_inbounds(&[6, 10])
+    let dimensions = [Dimension::Varying(LISTED), Dimension::Fixed(10)];
+    let listed = rectangular(alloc, &[100, 100], &dimensions)?;
+    check_bounds(
+        &rt,
+        &listed,
+        &[(&[6, 9], true), (&[7, 9], false), (&[6, 10], false)],
+        &[],
     );
-    let unlimited = rectangular(alloc, &[100, 0], &[varying, Dimension::Fixed(10)])?;
-    assert!(rt;
-        unlimited.chunk_indices_inbounds(&[6, 123]) && !unlimited.chunk_indices_inbounds(&[7, 9])
-    );
+    let unlimited = rectangular(alloc, &[100, 0], &dimensions)?;
+    check_bounds(&rt, &unlimited, &[(&[6, 123], true), (&[7, 9], false)], &[]);
 
-    let edges = vec![in alloc; singles(alloc, &[4, 4, 4])?, singles(alloc, &[3, 3, 3])?]?;
-    let past = rectilinear(alloc, &[6, 6], &edges)?;
-    assert!(rt; past.array_indices_inbounds(&[5, 5]) && !past.array_indices_inbounds(&[6, 0]));
-    let reach = rectilinear(alloc, &[0], &vec![in alloc; singles(alloc, &[4])?]?)?;
-    assert!(rt; reach.array_indices_inbounds(&[3]) && !reach.array_indices_inbounds(&[4]));
+    let fours = Lengths::Varying(&[(4, 0), (4, 0), (4, 0)]);
+    let threes = Lengths::Varying(&[(3, 0), (3, 0), (3, 0)]);
+    let past = rectilinear(alloc, &[6, 6], &[fours, threes])?;
+    check_bounds(&rt, &past, &[], &[(&[5, 5], true), (&[6, 0], false)]);
+    let reach = rectilinear(alloc, &[0], &[Lengths::Varying(&[(4, 0)])])?;
+    check_bounds(&rt, &reach, &[], &[(&[3], true), (&[4], false)]);
     Ok(())
 }
 
@@ -809,17 +864,22 @@ fn numbers_are_in_bounds(rt: HostRuntime) -> Result<(), Fail> {
 fn a_grid_from_outside_is_looked_up(rt: HostRuntime) -> Result<(), Fail> {
     // The law holds of this grid too: the call compiles, and there is nothing to compare.
     chunks_share_no_index(&Stairs);
-    assert_eq!(rt; Stairs.dimensionality(), 1);
     assert_eq!(rt; Stairs.array_shape(), [6].as_slice());
-    assert_eq!(rt; Stairs.grid_shape(), [3].as_slice());
-    let homes = [(0, 0, 0), (1, 1, 0), (2, 1, 1), (3, 2, 0), (5, 2, 2)];
-    for (index, chunk, place) in homes {
-        check_home(&rt, &Stairs, &[index], Some((&[chunk], &[place])))?;
-    }
-    check_home(&rt, &Stairs, &[6], None)?;
-    check_chunks(&rt, &Stairs, &[1..3], Some(&[1..6]))?;
-    assert!(rt; Stairs.chunk_indices_inbounds(&[2]) && !Stairs.chunk_indices_inbounds(&[3]));
-    assert!(rt; Stairs.array_indices_inbounds(&[5]) && !Stairs.array_indices_inbounds(&[6]));
-    check_chunk(&rt, &Stairs, &[2], Some(&[3]), Some(&[3]))?;
-    check_chunk(&rt, &Stairs, &[3], None, None)
+    let homes: [Home; 6] = [
+        (&[0], Some((&[0], &[0]))),
+        (&[1], Some((&[1], &[0]))),
+        (&[2], Some((&[1], &[1]))),
+        (&[3], Some((&[2], &[0]))),
+        (&[5], Some((&[2], &[2]))),
+        (&[6], None),
+    ];
+    let chunks: [Chunk; 2] = [(&[2], Some(&[3]), Some(&[3])), (&[3], None, None)];
+    check_grid(&rt, &Stairs, &[3], &homes, &chunks)?;
+    check_bounds(
+        &rt,
+        &Stairs,
+        &[(&[2], true), (&[3], false)],
+        &[(&[5], true), (&[6], false)],
+    );
+    check_chunks(&rt, &Stairs, &[1..3], Some(&[1..6]))
 }

@@ -1,7 +1,6 @@
 //! The `regular` grid: in each dimension all chunks have one edge.
 ghost use Rattle.std.specs.Prelude.{MatchResult};
 ghost use Rattle.zarrs_chunk_base.specs.Refusal.{IfRefused};
-ghost use Rattle.zarrs_chunks.specs.RegularChunkGrid.{dimensions_of};
 ghost use Rattle.chunkwhere.specs.ChunkGrid.{IsRegularGrid, IsRegularGridFault};
 ghost use Rattle.chunkwhere.specs.Metadata.{extension_of};
 
@@ -11,7 +10,7 @@ use crate::metadata::MetadataV3;
 use serde_json::Map;
 use std::alloc::Global;
 use zarrs_chunk_base::{ChunkShape, Configuration, ConfigurationFault, PluginCreateError, Refusal};
-use zarrs_chunks::RegularChunkGrid;
+use zarrs_chunks::{ChunkGridTraits, RegularChunkGrid};
 
 /// The configuration of the `regular` grid.
 #[derive(Debug, Drop)]
@@ -30,13 +29,14 @@ impl RegularChunkGridConfiguration {
     /// The configuration that members stand for: `chunk_shape`, a list of edges.
     ///
     /// # Errors
-    /// The first fault of the members, or want of memory.
+    /// The first fault of the members, or there was no memory.
     pub fn from_tree(
         alloc: Global,
         members: &Configuration,
     ) -> Result<RegularChunkGridConfiguration, Refusal<ConfigurationFault>>
         ensures { MatchResult result
-            (λ c. IsRegularConfiguration (members_view members.now.entries) (map non_zero_u64_get c.chunk_shape.items))
+            (λ c. IsRegularConfiguration (members_view members.now.entries)
+            (map non_zero_u64_get c.chunk_shape.items))
             (λ refusal. IfRefused refusal (IsRegularFault (members_view members.now.entries))) }
     {
         let field = "chunk_shape";
@@ -62,27 +62,22 @@ pub(crate) fn create(
     metadata: &MetadataV3,
     array_shape: &[u64],
 ) -> Result<RegularChunkGrid, Refusal<PluginCreateError>>
-    ensures { MatchResult result (λ grid. IsRegularGrid (extension_of metadata.now) array_shape.now (dimensions_of grid))
-        (λ refusal. IfRefused refusal (IsRegularGridFault (extension_of metadata.now) array_shape.now)) }
+    ensures { MatchResult result (λ grid. IsRegularGrid (extension_of metadata.now) array_shape.now
+        (⟦<RegularChunkGrid as ChunkGridTraits>⟧.dimensions grid))
+        (λ refusal. IfRefused refusal (IsRegularGridFault
+        (extension_of metadata.now) array_shape.now)) }
 {
-    let none = Map::new(alloc);
-    let configuration = metadata.configuration().unwrap_or(&none);
-    let configuration = RegularChunkGridConfiguration::from_tree(alloc, configuration);
-    let chunk_shape = match configuration {
-        Ok(configuration) => configuration.chunk_shape,
-        Err(Refusal::Refused(fault)) => {
-            return Err(Refusal::Refused(PluginCreateError::ConfigurationUnsupported(fault)));
-        }
-        Err(Refusal::Memory(error)) => return Err(Refusal::Memory(error)),
-    };
-    match RegularChunkGrid::new(alloc, array_shape.to_vec(alloc)?, chunk_shape) {
-        Ok(grid) => Ok(grid),
-        Err(Refusal::Refused(_)) => Err(Refusal::Refused(PluginCreateError::Other(String::from_str(
-            alloc,
-            INCONSISTENT,
-        )?))),
-        Err(Refusal::Memory(error)) => Err(Refusal::Memory(error)),
-    }
+    let empty = Map::new(alloc);
+    let members = metadata.configuration().unwrap_or(&empty);
+    let configuration = RegularChunkGridConfiguration::from_tree(alloc, members).map_err(
+        |refusal| refusal.map(PluginCreateError::ConfigurationUnsupported),
+    )?;
+    let array_shape = array_shape.to_vec(alloc)?;
+    RegularChunkGrid::new(alloc, array_shape, configuration.chunk_shape).try_map_err(|refusal| {
+        let text = String::from_str(alloc, INCONSISTENT_DIMENSIONALITY)?;
+        Ok(refusal.map(|_| PluginCreateError::Other(text)))
+    })
 }
 
-const INCONSISTENT: &str = "regular chunk shape and array shape have inconsistent dimensionality";
+const INCONSISTENT_DIMENSIONALITY: &str =
+    "regular chunk shape and array shape have inconsistent dimensionality";

@@ -29,12 +29,13 @@ impl DefaultChunkKeyEncodingConfiguration {
     /// there is none.
     ///
     /// # Errors
-    /// The first fault of the members, or want of memory.
+    /// The first fault of the members, or there was no memory.
     pub fn from_tree(
         alloc: Global,
         members: &Configuration,
     ) -> Result<DefaultChunkKeyEncodingConfiguration, Refusal<ConfigurationFault>>
-        ensures { MatchResult result (λ c. IsDefaultConfiguration (members_view members.now.entries) c.separator)
+        ensures { MatchResult result (λ c. IsDefaultConfiguration
+            (members_view members.now.entries) c.separator)
             (λ refusal. IfRefused refusal (IsDefaultFault (members_view members.now.entries))) }
     {
         let field = "separator";
@@ -53,7 +54,8 @@ impl DefaultChunkKeyEncodingConfiguration {
 
 /// The separator that a tree names.
 fn separator_of(tree: &Value) -> Option<ChunkKeySeparator>
-    ensures { MatchOption result ((separator : ChunkKeySeparator) → ¬ IsSeparator (view tree.now) separator) (IsSeparator (view tree.now)) }
+    ensures { MatchOption result ((separator : ChunkKeySeparator)
+        → ¬ IsSeparator (view tree.now) separator) (IsSeparator (view tree.now)) }
 {
     match tree.as_str() {
         Some("/") => Some(ChunkKeySeparator::Slash),
@@ -72,7 +74,7 @@ impl DefaultChunkKeyEncoding {
     ghost use Rattle.std.specs.Prelude.{◌≡◌, IfOk, MatchResult};
     ghost use Rattle.chunkwhere.specs.ChunkKey.{IsKey, default_keys};
     ghost use Rattle.chunkwhere.specs.ChunkKeyEncoding.{IsDefaultEncoding, IsDefaultEncodingFault};
-    ghost use Rattle.chunkwhere.specs.DefaultChunkKeyEncoding.{encoding_of};
+    ghost use Rattle.chunkwhere.specs.seen.DefaultChunkKeyEncoding.{encoding_of};
     ghost use Rattle.chunkwhere.specs.Metadata.{extension_of};
     ghost use Rattle.zarrs_chunk_base.specs.Refusal.{IfRefused};
 
@@ -92,18 +94,16 @@ impl DefaultChunkKeyEncoding {
         alloc: Global,
         metadata: &MetadataV3,
     ) -> Result<DefaultChunkKeyEncoding, Refusal<PluginCreateError>>
-        ensures { MatchResult result (λ encoding. IsDefaultEncoding (extension_of metadata.now) (encoding_of encoding))
+        ensures { MatchResult result (λ encoding. IsDefaultEncoding (extension_of metadata.now)
+            (encoding_of encoding))
             (λ refusal. IfRefused refusal (IsDefaultEncodingFault (extension_of metadata.now))) }
     {
-        let none = Map::new(alloc);
-        let configuration = metadata.configuration().unwrap_or(&none);
-        match DefaultChunkKeyEncodingConfiguration::from_tree(alloc, configuration) {
-            Ok(configuration) => Ok(DefaultChunkKeyEncoding::new(configuration.separator)),
-            Err(Refusal::Refused(fault)) => {
-                Err(Refusal::Refused(PluginCreateError::ConfigurationUnsupported(fault)))
-            }
-            Err(Refusal::Memory(error)) => Err(Refusal::Memory(error)),
-        }
+        let empty = Map::new(alloc);
+        let members = metadata.configuration().unwrap_or(&empty);
+        let configuration = DefaultChunkKeyEncodingConfiguration::from_tree(alloc, members).map_err(
+            |refusal| refusal.map(PluginCreateError::ConfigurationUnsupported),
+        )?;
+        Ok(DefaultChunkKeyEncoding::new(configuration.separator))
     }
 
     /// The key of a chunk.

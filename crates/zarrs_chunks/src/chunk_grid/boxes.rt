@@ -8,9 +8,14 @@ use std::alloc::{AllocError, Global};
 use zarrs_chunk_base::ArraySubset;
 
 /// The box from these starts to these ends.
-pub(super) fn from_to(alloc: Global, start: &[u64], end: &[u64]) -> Result<ArraySubset, AllocError>
+pub(super) fn box_between(
+    alloc: Global,
+    start: &[u64],
+    end: &[u64],
+) -> Result<ArraySubset, AllocError>
     requires { AllZip ◌≤◌ start.now end.now }
-    ensures { IfOk result (λ b. IsBox b × (b.start ≡ start.now) × (ends b.start b.shape ≡ end.now)) }
+    ensures { IfOk result (λ b. IsBox b × (b.start ≡ start.now)
+        × (ends b.start b.shape ≡ end.now)) }
 {
     let mut ranges = Vec::with_capacity(alloc, start.len())?;
     ranges.extend(start.iter().zip(end).map(|(start, end)| *start..*end))?;
@@ -18,7 +23,7 @@ pub(super) fn from_to(alloc: Global, start: &[u64], end: &[u64]) -> Result<Array
 }
 
 /// The number after each.
-pub(super) fn after(alloc: Global, numbers: &[u64]) -> Result<Vec<u64>, AllocError>
+pub(super) fn next_numbers(alloc: Global, numbers: &[u64]) -> Result<Vec<u64>, AllocError>
     requires { AllByRecursion (λ n. n < greatest) numbers.now }
     ensures { IfOk result (λ v. v.items ≡ map (λ n. n + 1) numbers.now) }
 {

@@ -7,7 +7,7 @@ use std::num::NonZeroU64;
 use zarrs_chunk_base::ArrayShape;
 
 /// Edges as plain numbers.
-pub(super) fn plain(alloc: Global, edges: &[NonZeroU64]) -> Result<ArrayShape, AllocError>
+pub(super) fn edge_numbers(alloc: Global, edges: &[NonZeroU64]) -> Result<ArrayShape, AllocError>
     ensures items { IfOk result (λ v. v.items ≡ map non_zero_u64_get edges.now) }
     ensures stores_nothing { length edges.now ≡ 0 → IsOk result }
 {

@@ -1,13 +1,10 @@
 //! The `rectilinear` grid: in each dimension chunks of one edge, or with the edges of run-length elements.
-use super::axis_grid::AxisGrid;
-use super::equal_or_listed_axis::EqualOrListedAxis;
+use super::over_axes::OverAxes;
 use super::rectilinear_create_error::RectilinearChunkGridCreateError;
 use crate::ChunkGridTraits;
 use std::alloc::{AllocError, Global};
-use zarrs_chunk_base::{
-    ArrayIndices, ArrayShape, ChunkEdgeLengths, ChunkShape, IncompatibleDimensionalityError,
-    Refusal,
-};
+use zarrs_chunk_axes::{AxisGrid, EqualOrListedAxis};
+use zarrs_chunk_base::{ArrayShape, ChunkEdgeLengths, Refusal};
 
 /// A grid whose chunks have one edge or listed edges in each dimension, where a list may say that so many chunks
 /// in a row have one edge. Listed edges reach over the array and may reach past it; there are no other chunks in that
@@ -20,13 +17,12 @@ pub struct RectilinearChunkGrid {
 }
 
 impl RectilinearChunkGrid {
-    ghost use Rattle.std.specs.Prelude.{◌≡◌, IfOk, MatchResult, map};
+    ghost use Rattle.std.specs.Prelude.{◌≡◌, IfOk, IfErr, map};
     ghost use Rattle.std.specs.List.{AllZip};
     ghost use Rattle.zarrs_chunk_base.specs.Refusal.{IfRefused};
-    ghost use Rattle.zarrs_chunk_base.specs.RunLength.{expanded, IsSameEdgeLengths};
-    ghost use Rattle.zarrs_chunks.specs.EqualOrListed.{HaveEdgeLengths};
-    ghost use Rattle.zarrs_chunks.specs.Rectilinear.{AreReaching};
-    ghost use Rattle.zarrs_chunks.specs.RectilinearChunkGrid.{dimensions_of};
+    ghost use Rattle.zarrs_chunk_base.specs.RunLength.{rectilinear_edges, IsSameChunkEdgeLengths};
+    ghost use Rattle.zarrs_chunk_axes.specs.EqualOrListed.{AreEqualOrListed};
+    ghost use Rattle.zarrs_chunk_axes.specs.Rectilinear.{AreRectilinear};
 
     /// The grid of an array with these sizes, in elements, and with these edges, one item a dimension.
     ///
@@ -39,19 +35,27 @@ impl RectilinearChunkGrid {
         array_shape: ArrayShape,
         chunk_shapes: &[ChunkEdgeLengths],
     ) -> Result<RectilinearChunkGrid, Refusal<RectilinearChunkGridCreateError>>
-        ensures { MatchResult result
-            (λ grid. AreReaching array_shape.items chunk_shapes.now
-            × HaveEdgeLengths (dimensions_of grid) array_shape.items (map expanded chunk_shapes.now))
-            (λ refusal. IfRefused refusal (λ e. (¬ AreReaching array_shape.items chunk_shapes.now)
-            × (e.0 ≡ array_shape) × AllZip IsSameEdgeLengths e.1.items chunk_shapes.now)) }
+        ensures accepted { IfOk result (λ _. AreRectilinear array_shape.items
+            (map rectilinear_edges chunk_shapes.now)) }
+        ensures made { IfOk result (λ grid. AreEqualOrListed
+            (⟦<RectilinearChunkGrid as ChunkGridTraits>⟧.dimensions grid)
+            array_shape.items (map rectilinear_edges chunk_shapes.now)) }
+        ensures refused { IfErr result (λ refusal. IfRefused refusal
+            (λ _. ¬ AreRectilinear array_shape.items (map rectilinear_edges chunk_shapes.now))) }
+        ensures shape_handed_back { IfErr result
+            (λ refusal. IfRefused refusal (λ e. e.0 ≡ array_shape)) }
+        ensures edges_handed_back { IfErr result
+            (λ refusal. IfRefused refusal
+            (λ e. AllZip IsSameChunkEdgeLengths e.1.items chunk_shapes.now)) }
     {
-        if !AxisGrid::<EqualOrListedAxis>::accepts(&array_shape, chunk_shapes) {
-            let error = RectilinearChunkGridCreateError::new(alloc, array_shape, chunk_shapes)?;
-            return Err(Refusal::Refused(error));
+        match AxisGrid::new(alloc, array_shape, chunk_shapes) {
+            Ok(axes) => Ok(RectilinearChunkGrid { axes }),
+            Err(Refusal::Refused(array_shape)) => {
+                let error = RectilinearChunkGridCreateError::new(alloc, array_shape, chunk_shapes)?;
+                Err(Refusal::Refused(error))
+            }
+            Err(Refusal::Memory(error)) => Err(Refusal::Memory(error)),
         }
-        Ok(RectilinearChunkGrid {
-            axes: AxisGrid::new(alloc, array_shape, chunk_shapes)?,
-        })
     }
 
     /// A copy.
@@ -59,7 +63,8 @@ impl RectilinearChunkGrid {
     /// # Errors
     /// There was no memory.
     pub fn clone(&self) -> Result<RectilinearChunkGrid, AllocError>
-        ensures { IfOk result (λ grid. dimensions_of grid ≡ dimensions_of self.now) }
+        ensures { IfOk result (λ grid. ⟦<RectilinearChunkGrid as ChunkGridTraits>⟧.dimensions grid
+            ≡ ⟦<RectilinearChunkGrid as ChunkGridTraits>⟧.dimensions self.now) }
     {
         Ok(RectilinearChunkGrid {
             axes: self.axes.clone()?,
@@ -67,60 +72,28 @@ impl RectilinearChunkGrid {
     }
 }
 
-impl ChunkGridTraits for RectilinearChunkGrid {
-    ghost use Rattle.std.specs.Prelude.{◌↔◌, ℕ, IsTrue, List, map};
+impl OverAxes for RectilinearChunkGrid {
+    type Kind = EqualOrListedAxis;
+
+    ghost use Rattle.std.specs.Prelude.{ℕ, List, map};
     ghost use Rattle.zarrs_chunk_base.specs.Dimension.{InBox};
-    ghost use Rattle.zarrs_chunks.specs.InBounds.{AreBelow, AreInBounds};
-    ghost use Rattle.zarrs_chunks.specs.AllChains.{are_chains};
-    ghost use Rattle.zarrs_chunks.specs.EqualOrListedAxis.{edges_dimension, edges_chain};
-    ghost use Rattle.zarrs_chunks.specs.RectilinearChunkGrid.{dimensions_of};
+    ghost use Rattle.zarrs_chunk_axes.specs.InBounds.{AreInBounds};
+    ghost use Rattle.zarrs_chunk_axes.specs.seen.AxisGrid.{chains_of, dimensions_of};
+    ghost use Rattle.zarrs_chunk_axes.specs.seen.EqualOrListedAxis.{equal_or_listed_is_chain};
 
-    ghost dimensions = { dimensions_of };
+    ghost axis_dimensions = { λ grid. dimensions_of grid.axes };
 
-    ghost chained = { λ grid. are_chains edges_dimension edges_chain grid.axes.axes.items };
+    ghost in_bounds = { λ grid indices. AreInBounds (map
+        (λ d. d.array_size) (dimensions_of grid.axes)) indices
+        × ((chunk : List ℕ) × InBox (dimensions_of grid.axes) chunk indices) };
 
-    fn dimensionality(&self) -> usize {
-        self.axes.dimensionality()
+    ghost axes_chained = { λ grid. chains_of equal_or_listed_is_chain grid.axes };
+
+    fn axes(&self) -> &AxisGrid<EqualOrListedAxis> {
+        &self.axes
     }
 
-    fn array_shape(&self) -> &[u64] {
-        self.axes.array_shape()
-    }
-
-    fn grid_shape(&self) -> &[u64] {
-        self.axes.grid_shape()
-    }
-
-    fn chunk_shape(
-        &self,
-        alloc: Global,
-        chunk_indices: &[u64],
-    ) -> Result<Option<ChunkShape>, Refusal<IncompatibleDimensionalityError>> {
-        self.axes.chunk_shape(alloc, chunk_indices)
-    }
-
-    fn chunk_origin(
-        &self,
-        alloc: Global,
-        chunk_indices: &[u64],
-    ) -> Result<Option<ArrayIndices>, Refusal<IncompatibleDimensionalityError>> {
-        self.axes.chunk_origin(alloc, chunk_indices)
-    }
-
-    fn chunk_indices(
-        &self,
-        alloc: Global,
-        array_indices: &[u64],
-    ) -> Result<Option<ArrayIndices>, Refusal<IncompatibleDimensionalityError>> {
-        self.axes.chunk_indices(alloc, array_indices)
-    }
-
-    fn array_indices_inbounds(&self, array_indices: &[u64]) -> bool
-        ensures within { AreBelow (map (λ d. d.array_size) (dimensions_of self.now)) array_indices.now → IsTrue result }
-        ensures only { IsTrue result → AreInBounds (map (λ d. d.array_size) (dimensions_of self.now)) array_indices.now }
-        ensures held { IsTrue result ↔ (AreInBounds (map (λ d. d.array_size) (dimensions_of self.now)) array_indices.now
-            × ((chunk : List ℕ) × InBox (dimensions_of self.now) chunk array_indices.now)) }
-    {
+    fn is_in_bounds(&self, array_indices: &[u64]) -> bool {
         self.axes.holds_in_bounds(array_indices)
     }
 }

@@ -1,12 +1,13 @@
 //! Why there is no rectilinear grid.
 ghost use Rattle.std.specs.Prelude.{◌≡◌, IfOk};
 ghost use Rattle.std.specs.List.{AllZip};
-ghost use Rattle.zarrs_chunk_base.specs.RunLength.{IsSameEdgeLengths};
+ghost use Rattle.zarrs_chunk_base.specs.RunLength.{IsSameChunkEdgeLengths};
 
+use super::handed_back::{copies, write_incompatible};
 use std::alloc::{AllocError, Global};
 use std::error::Error;
 use std::fmt;
-use zarrs_chunk_base::{ArrayShape, ChunkEdgeLengths, InBrackets};
+use zarrs_chunk_base::{ArrayShape, ChunkEdgeLengths};
 
 /// An array shape and edges of which there is no rectilinear grid, handed back.
 #[derive(Debug, Drop)]
@@ -19,13 +20,10 @@ impl RectilinearChunkGridCreateError {
         array_shape: ArrayShape,
         chunk_shapes: &[ChunkEdgeLengths],
     ) -> Result<RectilinearChunkGridCreateError, AllocError>
-        ensures { IfOk result (λ e. (e.0 ≡ array_shape) × AllZip IsSameEdgeLengths e.1.items chunk_shapes.now) }
+        ensures { IfOk result (λ e. (e.0 ≡ array_shape)
+            × AllZip IsSameChunkEdgeLengths e.1.items chunk_shapes.now) }
     {
-        let mut copies = Vec::with_capacity(alloc, chunk_shapes.len())?;
-        for lengths in chunk_shapes {
-            copies.push(lengths.clone()?)?;
-        }
-        Ok(RectilinearChunkGridCreateError(array_shape, copies))
+        Ok(RectilinearChunkGridCreateError(array_shape, copies(alloc, chunk_shapes)?))
     }
 
     /// A copy.
@@ -33,7 +31,8 @@ impl RectilinearChunkGridCreateError {
     /// # Errors
     /// There was no memory.
     pub fn clone(&self) -> Result<RectilinearChunkGridCreateError, AllocError>
-        ensures { IfOk result (λ e. (e.0.items ≡ (self.now).0.items) × AllZip IsSameEdgeLengths e.1.items (self.now).1.items) }
+        ensures { IfOk result (λ e. (e.0.items ≡ (self.now).0.items)
+            × AllZip IsSameChunkEdgeLengths e.1.items (self.now).1.items) }
     {
         RectilinearChunkGridCreateError::new(*self.1.allocator(), self.0.clone()?, &self.1)
     }
@@ -41,12 +40,7 @@ impl RectilinearChunkGridCreateError {
 
 impl fmt::Display for RectilinearChunkGridCreateError {
     fn fmt<W: fmt::Write>(&self, f: &mut fmt::Formatter<W>) -> fmt::Result {
-        let edges = InBrackets(&self.1);
-        let array_shape = &self.0;
-        write!(
-            f,
-            "rectilinear chunk grid configuration: {edges} not compatible with array shape {array_shape:?}"
-        )
+        write_incompatible(f, "rectilinear", &self.1, &self.0)
     }
 }
 

@@ -1,11 +1,9 @@
 //! The `regular_bounded` grid: chunks that all have one shape, save at the array's end.
-use super::axis_grid::AxisGrid;
-use super::bounded_axis::BoundedAxis;
+use super::over_axes::OverAxes;
 use crate::ChunkGridTraits;
 use std::alloc::{AllocError, Global};
-use zarrs_chunk_base::{
-    ArrayIndices, ArrayShape, ChunkShape, IncompatibleDimensionalityError, Refusal,
-};
+use zarrs_chunk_axes::{AxisGrid, BoundedAxis};
+use zarrs_chunk_base::{ArrayShape, ChunkShape, IncompatibleDimensionalityError, Refusal};
 
 /// A grid whose chunks all have one shape, save that none reaches past the array. There are no chunks past
 /// the array, and none along a dimension of size 0.
@@ -17,11 +15,10 @@ pub struct RegularBoundedChunkGrid {
 }
 
 impl RegularBoundedChunkGrid {
-    ghost use Rattle.std.specs.Prelude.{◌≡◌, ◌≢◌, IfOk, MatchResult, length, map};
+    ghost use Rattle.std.specs.Prelude.{◌≡◌, ◌≢◌, IfOk, IfErr, length, map};
     ghost use Rattle.std.specs.Int.NonZero.{non_zero_u64_get};
     ghost use Rattle.zarrs_chunk_base.specs.Refusal.{HasMemory, IfRefused, TellsLengths};
-    ghost use Rattle.zarrs_chunks.specs.Bounded.{AreBounded};
-    ghost use Rattle.zarrs_chunks.specs.RegularBoundedChunkGrid.{dimensions_of};
+    ghost use Rattle.zarrs_chunk_axes.specs.Bounded.{AreBounded};
 
     /// The grid of an array with these sizes, cut into chunks with these edges, both in elements,
     /// one number a dimension.
@@ -34,21 +31,22 @@ impl RegularBoundedChunkGrid {
         array_shape: ArrayShape,
         chunk_shape: ChunkShape,
     ) -> Result<RegularBoundedChunkGrid, Refusal<IncompatibleDimensionalityError>>
-        ensures made { MatchResult result
-            (λ grid. AreBounded (dimensions_of grid) array_shape.items (map non_zero_u64_get chunk_shape.items))
-            (λ refusal. IfRefused refusal (λ e. (length chunk_shape.items ≢ length array_shape.items)
-            × TellsLengths (length chunk_shape.items) (length array_shape.items) e)) }
-        ensures refused_first { length chunk_shape.items ≢ length array_shape.items → HasMemory result }
+        ensures made { IfOk result (λ grid. AreBounded
+            (⟦<RegularBoundedChunkGrid as ChunkGridTraits>⟧.dimensions grid)
+            array_shape.items (map non_zero_u64_get chunk_shape.items)) }
+        ensures refused { IfErr result (λ refusal. IfRefused refusal
+            (λ _. length chunk_shape.items ≢ length array_shape.items)) }
+        ensures told { IfErr result (λ refusal. IfRefused refusal
+            (TellsLengths (length chunk_shape.items) (length array_shape.items))) }
+        ensures refused_first { length chunk_shape.items ≢ length array_shape.items
+            → HasMemory result }
     {
-        if chunk_shape.len() != array_shape.len() {
-            return Err(Refusal::Refused(IncompatibleDimensionalityError::new(
-                chunk_shape.len(),
-                array_shape.len(),
-            )));
+        match AxisGrid::new(alloc, array_shape, &chunk_shape) {
+            Ok(axes) => Ok(RegularBoundedChunkGrid { axes }),
+            Err(refusal) => Err(refusal.map(|array_shape: ArrayShape| {
+                IncompatibleDimensionalityError::new(chunk_shape.len(), array_shape.len())
+            })),
         }
-        Ok(RegularBoundedChunkGrid {
-            axes: AxisGrid::new(alloc, array_shape, &chunk_shape)?,
-        })
     }
 
     /// A copy.
@@ -56,7 +54,9 @@ impl RegularBoundedChunkGrid {
     /// # Errors
     /// There was no memory.
     pub fn clone(&self) -> Result<RegularBoundedChunkGrid, AllocError>
-        ensures { IfOk result (λ grid. dimensions_of grid ≡ dimensions_of self.now) }
+        ensures { IfOk result
+            (λ grid. ⟦<RegularBoundedChunkGrid as ChunkGridTraits>⟧.dimensions grid
+            ≡ ⟦<RegularBoundedChunkGrid as ChunkGridTraits>⟧.dimensions self.now) }
     {
         Ok(RegularBoundedChunkGrid {
             axes: self.axes.clone()?,
@@ -64,58 +64,26 @@ impl RegularBoundedChunkGrid {
     }
 }
 
-impl ChunkGridTraits for RegularBoundedChunkGrid {
-    ghost use Rattle.std.specs.Prelude.{◌↔◌, IsTrue, map};
-    ghost use Rattle.zarrs_chunks.specs.InBounds.{AreBelow, AreInBounds};
-    ghost use Rattle.zarrs_chunks.specs.AllChains.{are_chains};
-    ghost use Rattle.zarrs_chunks.specs.BoundedAxis.{bounded_of, bounded_is_chain};
-    ghost use Rattle.zarrs_chunks.specs.RegularBoundedChunkGrid.{dimensions_of};
+impl OverAxes for RegularBoundedChunkGrid {
+    type Kind = BoundedAxis;
 
-    ghost dimensions = { dimensions_of };
+    ghost use Rattle.std.specs.Prelude.{map};
+    ghost use Rattle.zarrs_chunk_axes.specs.InBounds.{AreInBounds};
+    ghost use Rattle.zarrs_chunk_axes.specs.seen.AxisGrid.{chains_of, dimensions_of};
+    ghost use Rattle.zarrs_chunk_axes.specs.seen.BoundedAxis.{bounded_is_chain};
 
-    ghost chained = { λ grid. are_chains bounded_of bounded_is_chain grid.axes.axes.items };
+    ghost axis_dimensions = { λ grid. dimensions_of grid.axes };
 
-    fn dimensionality(&self) -> usize {
-        self.axes.dimensionality()
+    ghost in_bounds = { λ grid indices. AreInBounds (map
+        (λ d. d.array_size) (dimensions_of grid.axes)) indices };
+
+    ghost axes_chained = { λ grid. chains_of bounded_is_chain grid.axes };
+
+    fn axes(&self) -> &AxisGrid<BoundedAxis> {
+        &self.axes
     }
 
-    fn array_shape(&self) -> &[u64] {
-        self.axes.array_shape()
-    }
-
-    fn grid_shape(&self) -> &[u64] {
-        self.axes.grid_shape()
-    }
-
-    fn chunk_shape(
-        &self,
-        alloc: Global,
-        chunk_indices: &[u64],
-    ) -> Result<Option<ChunkShape>, Refusal<IncompatibleDimensionalityError>> {
-        self.axes.chunk_shape(alloc, chunk_indices)
-    }
-
-    fn chunk_origin(
-        &self,
-        alloc: Global,
-        chunk_indices: &[u64],
-    ) -> Result<Option<ArrayIndices>, Refusal<IncompatibleDimensionalityError>> {
-        self.axes.chunk_origin(alloc, chunk_indices)
-    }
-
-    fn chunk_indices(
-        &self,
-        alloc: Global,
-        array_indices: &[u64],
-    ) -> Result<Option<ArrayIndices>, Refusal<IncompatibleDimensionalityError>> {
-        self.axes.chunk_indices(alloc, array_indices)
-    }
-
-    fn array_indices_inbounds(&self, array_indices: &[u64]) -> bool
-        ensures within { AreBelow (map (λ d. d.array_size) (dimensions_of self.now)) array_indices.now → IsTrue result }
-        ensures only { IsTrue result → AreInBounds (map (λ d. d.array_size) (dimensions_of self.now)) array_indices.now }
-        ensures in_bounds { IsTrue result ↔ AreInBounds (map (λ d. d.array_size) (dimensions_of self.now)) array_indices.now }
-    {
+    fn is_in_bounds(&self, array_indices: &[u64]) -> bool {
         self.axes.is_in_bounds(array_indices)
     }
 }

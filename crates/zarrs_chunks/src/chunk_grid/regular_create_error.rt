@@ -16,7 +16,8 @@ impl RegularChunkGridCreateError {
     /// # Errors
     /// There was no memory.
     pub fn clone(&self) -> Result<RegularChunkGridCreateError, AllocError>
-        ensures { IfOk result (λ e. (e.0.items ≡ (self.now).0.items) × (e.1.items ≡ (self.now).1.items)) }
+        ensures { IfOk result (λ e. (e.0.items ≡ (self.now).0.items)
+            × (e.1.items ≡ (self.now).1.items)) }
     {
         Ok(RegularChunkGridCreateError(self.0.clone()?, self.1.clone()?))
     }

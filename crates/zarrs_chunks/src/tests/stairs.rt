@@ -13,11 +13,11 @@ pub(super) struct Stairs;
 
 impl ChunkGridTraits for Stairs {
     ghost use Rattle.std.specs.Prelude.{◌∷◌, []};
-    ghost use Rattle.zarrs_chunks.specs.Stairs.{stairs, is_chain};
+    ghost use Rattle.zarrs_chunks.specs.tests.Stairs.{stairs, stairs_is_chain};
 
     ghost dimensions = { λ _. stairs ∷ [] };
 
-    ghost chained = { λ _. (is_chain, tt) };
+    ghost chained = { λ _. (stairs_is_chain, tt) };
 
     fn dimensionality(&self) -> usize {
         1
@@ -76,7 +76,8 @@ impl ChunkGridTraits for Stairs {
 
 /// The number of a list of one.
 fn only(numbers: &[u64]) -> Result<u64, Refusal<IncompatibleDimensionalityError>>
-    ensures { MatchResult result (λ n. numbers.now ≡ n ∷ []) (RefusesLength (length numbers.now) 1) }
+    ensures { MatchResult result (λ n. numbers.now ≡ n ∷ [])
+        (RefusesLength (length numbers.now) 1) }
 {
     match numbers {
         [number] => Ok(*number),

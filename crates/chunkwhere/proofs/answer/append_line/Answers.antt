@@ -9,7 +9,7 @@ pub returns : goal.returns
 returns g c =
     let (same_length, box) = rw c.in-Some-Some.is-0 at c.in_ok-chunk.ensures.answers in
     let (_, (other, other_box, place)) = rw c.in-Some-Some.is-1 at c.in_ok-place.ensures.answers in
-    let (key, numbers, is_key, are_numerals, text) = rw (c.deref.ensures.value, c.deref-2.ensures.value) at c.in_ok-append_found.ensures in
+    let (key, numbers, is_key, are_numerals, text) = rw (c.deref.ensures.value, c.deref-2.ensures.value) at c.in_ok-append_key_and_place.ensures in
     let dimensions = g.G.ChunkGridTraits.dimensions c.args.grid.now in
     let chunk = c.in-Some-Some.chunk.items in
     let same = same_box dimensions other chunk c.args.index.now (g.met.G.ChunkGridTraits.chained c.args.grid.now) other_box box in (

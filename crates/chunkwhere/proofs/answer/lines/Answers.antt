@@ -1,31 +1,44 @@
-use Rattle.std.proofs.Common.{◌<◌, ◌≤◌, ◌+◌, drop, length, string_bytes, inr, arith}
-use Rattle.chunkwhere.specs.DefaultChunkKeyEncoding.{encoding_of}
-use Rattle.chunkwhere.proofs.Lines.{lists_of, begins_with, nothing_left, at_start, one_more, at_wrong, at_end}
+use Rattle.std.proofs.Common.{◌≢◌, ◌<◌, ◌≤◌, ◌+◌, drop, length, string_bytes, arith}
+use Rattle.std.proofs.lemmas.Result.{err_from_is_err_and}
+use Rattle.chunkwhere.specs.seen.DefaultChunkKeyEncoding.{encoding_of}
+use Rattle.zarrs_chunk_base.specs.Refusal.{TellsLengths}
+use Rattle.zarrs_chunk_base.specs.declared.incompatible_dimensionality_error.IncompatibleDimensionalityError.{IncompatibleDimensionalityError}
+use Rattle.chunkwhere.specs.Answer.{IsFirstWrongLength}
+use Rattle.chunkwhere.proofs.Lines.{lists_of, rest_begins_with, nothing_left, so_far_at_start, so_far_with_line, wrong_length_is_first, so_far_at_end}
+use Rattle.chunkwhere.proofs.MappedErrors.{value_is_kept}
 use Rattle.chunkwhere.proofs.answer.lines.Goals as goal
 
 pub loop-position-init : goal.loop-position-init
-loop-position-init g c = at_start _ _ _ _ c.new-text.ensures.bytes
+loop-position-init g c = so_far_at_start _ _ _ _ c.new-text.ensures.bytes
 
-pub returns-in-Err-Refused : goal.returns-in-Err-Refused
-returns-in-Err-Refused g c =
-    let position = c.loop-position.position in
+pub returns-in_err-map_err : goal.returns-in_err-map_err
+returns-in_err-map_err g c =
+    let position = c.loop-position.position-counter in
     let within : position < length c.args.indices.now = omega arith in
     let index = c.index-indices-position.result in
-    let first = begins_with c.args.indices.now position index within c.index-indices-position.is in
-    let refused = rw (c.in-Err-Refused.field-0-is, c.deref.ensures.value) at c.in-Err-Refused.ensures in
-    rw c.in-Err-Refused.error-is (inr (at_wrong _ _ _ _ position _ index.items _ c.in-Err-Refused.error c.loop-position.invariant first refused.0 refused.1))
+    let first = rest_begins_with c.args.indices.now position index within c.index-indices-position.is in
+    let dimensions = g.G.ChunkGridTraits.dimensions c.args.grid.now in
+    let all = lists_of c.args.indices.now in
+    let wrong : (e : IncompatibleDimensionalityError) → (length c.deref.result.now ≢ length dimensions) → TellsLengths (length c.deref.result.now) (length dimensions) e
+    → IsFirstWrongLength dimensions all position e =
+    λ e unequal tells.
+    wrong_length_is_first dimensions (encoding_of c.args.encoding.now) all _ position (string_bytes c.loop-position.text) index.items (drop (position + 1) all) e c.loop-position.invariant first
+    (rw c.deref.ensures.value at unequal) (rw c.deref.ensures.value at tells) in
+    let p = err_from_is_err_and c.from_residual.result c.from_residual.ensures.1 in
+    rw (p.1, p.2) (grind (arith, wrong))
 
 pub loop-position-preserved : goal.loop-position-preserved
 loop-position-preserved g c =
-    let position = c.loop-position.position in
+    let position = c.loop-position.position-counter in
     let within : position < length c.args.indices.now = omega arith in
     let index = c.index-indices-position.result in
-    let first = begins_with c.args.indices.now position index within c.index-indices-position.is in
-    let (has_length, line, is_line, text) = rw c.deref.ensures.value at c.in-Ok.ensures in
-    one_more (g.G.ChunkGridTraits.dimensions c.args.grid.now) (encoding_of c.args.encoding.now) (lists_of c.args.indices.now) _ position (string_bytes c.loop-position.text) index.items line
-    (drop (position + 1) (lists_of c.args.indices.now)) (string_bytes c.append_line.new.text) c.loop-position.invariant first has_length is_line text
+    let first = rest_begins_with c.args.indices.now position index within c.index-indices-position.is in
+    let (has_length, line, is_line, text) =
+    rw c.deref.ensures.value at (value_is_kept _ _ _ _ _ _ c.append_line-appended.ensures c.map_err.ensures.cases c.map_err.ensures.variant c.in_ok-map_err.was) in
+    so_far_with_line (g.G.ChunkGridTraits.dimensions c.args.grid.now) (encoding_of c.args.encoding.now) (lists_of c.args.indices.now) _ position (string_bytes c.loop-position.text) index.items line
+    (drop (position + 1) (lists_of c.args.indices.now)) (string_bytes c.append_line-appended.new.text) c.loop-position.invariant first has_length is_line text
 
 pub returns : goal.returns
 returns g c =
-    let past : length c.args.indices.now ≤ c.loop-position.position = omega arith in
-    at_end _ _ _ _ _ _ c.loop-position.invariant (nothing_left c.args.indices.now c.loop-position.position past)
+    let past : length c.args.indices.now ≤ c.loop-position.position-counter = omega arith in
+    so_far_at_end _ _ _ _ _ _ c.loop-position.invariant (nothing_left c.args.indices.now c.loop-position.position-counter past)

@@ -1,4 +1,4 @@
-use Rattle.zarrs_chunks.proofs.Bounds.{in_bounds_below}
+use Rattle.zarrs_chunk_axes.proofs.Bounds.{in_bounds_below}
 use Rattle.zarrs_chunks.proofs.chunk_grid.ChunkGridTraits.array_indices_inbounds.Goals as goal
 
 pub returns-clause-within : goal.returns-clause-within

@@ -15,8 +15,8 @@ returns-in_err-last-2 g c =
     let told = err_from_is_err_and c.from_residual-in_err-last-2.result c.from_residual-in_err-last-2.ensures.1 in
     rw (told.1, told.2) (last_has_no_memory ds c.in-Some.last.items c.args.chunks.now _ same agree refused)
 
-pub from_to-requires : goal.from_to-requires
-from_to-requires g c =
+pub box_between-requires : goal.box_between-requires
+box_between-requires g c =
     let (_, first) = rw (c.in-Some-2.is, c.start.ensures.value) at c.in_ok-first.ensures.answers in
     let (_, last) = rw (c.in-Some-3.is, c.deref.ensures.value) at c.in_ok-last-2.ensures.answers in
     let (_, lasts_are) = rw c.in-Some.is at c.in_ok-last.ensures in

@@ -1,4 +1,4 @@
-use Rattle.zarrs_chunks.proofs.EqualAxes.{have_edges}
+use Rattle.zarrs_chunk_axes.proofs.EqualAxes.{have_edges}
 use Rattle.zarrs_chunks.proofs.chunk_grid.regular.RegularChunkGrid.chunk_shape.Goals as goal
 
 pub returns : goal.returns

@@ -1,20 +1,19 @@
-use Rattle.std.proofs.Common.{arith}
 use Rattle.std.specs.Int.NonZero.{non_zero_u64_get}
-use Rattle.zarrs_chunks.specs.EqualEdges.{IsEqualEdges}
-use Rattle.zarrs_chunks.proofs.EachAxis.{of_mapped}
-use Rattle.zarrs_chunks.proofs.EqualAxes.{edges_are}
-use Rattle.zarrs_chunks.proofs.MadeSoFar.{any_accepted}
+use Rattle.zarrs_chunk_base.proofs.Refusals.{own_through}
+use Rattle.zarrs_chunk_axes.proofs.EqualAxes.{edges_are}
+use Rattle.zarrs_chunk_axes.proofs.MadeSoFar.{any_accepted, unequal_lengths}
 use Rattle.zarrs_chunks.proofs.chunk_grid.regular.RegularChunkGrid.new.Goals as goal
 
-pub new-requires : goal.new-requires
-new-requires c = rw c.deref.ensures.value (any_accepted c.args.array_shape.items c.args.chunk_shape.items (omega arith))
-
 pub invariant_of-result : goal.invariant_of-result
-invariant_of-result c =
-    let made = rw c.deref.ensures.value at c.in_ok-new.ensures in
-    record { edges = edges_are _ _ _ (of_mapped non_zero_u64_get IsEqualEdges _ _ _ made) }
+invariant_of-result c = record { edges = edges_are _ _ _ (rw c.deref.ensures.value at c.in-Ok.ensures.made) }
 
-pub returns-clause-made : goal.returns-clause-made
-returns-clause-made c =
-    let made = rw c.deref.ensures.value at c.in_ok-new.ensures in
-    of_mapped non_zero_u64_get IsEqualEdges _ _ _ made
+pub returns-in-Ok-clause-made : goal.returns-in-Ok-clause-made
+returns-in-Ok-clause-made c = rw c.deref.ensures.value at c.in-Ok.ensures.made
+
+pub returns-in-Err-clause-refused : goal.returns-in-Err-clause-refused
+returns-in-Err-clause-refused c =
+    unequal_lengths non_zero_u64_get _ _ _ _ _ c.map.ensures (rw c.deref.ensures.value at c.in-Err.ensures.refused)
+
+pub returns-in-Err-clause-refused_first : goal.returns-in-Err-clause-refused_first
+returns-in-Err-clause-refused_first c = λ unequal.
+    own_through _ _ _ c.map.ensures (c.in-Err.ensures.refused_first (rw c.deref.ensures.value (λ all. unequal ((any_accepted _ _ _).0 all))))

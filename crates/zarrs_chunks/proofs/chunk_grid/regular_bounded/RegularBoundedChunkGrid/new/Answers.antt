@@ -1,14 +1,15 @@
-use Rattle.std.proofs.Common.{arith}
 use Rattle.std.specs.Int.NonZero.{non_zero_u64_get}
-use Rattle.zarrs_chunks.specs.Bounded.{IsBounded}
-use Rattle.zarrs_chunks.proofs.EachAxis.{of_mapped}
-use Rattle.zarrs_chunks.proofs.MadeSoFar.{any_accepted}
+use Rattle.zarrs_chunk_base.proofs.Refusals.{own_through}
+use Rattle.zarrs_chunk_axes.proofs.MadeSoFar.{any_accepted, unequal_lengths}
 use Rattle.zarrs_chunks.proofs.chunk_grid.regular_bounded.RegularBoundedChunkGrid.new.Goals as goal
 
-pub new-requires-2 : goal.new-requires-2
-new-requires-2 c = rw c.deref.ensures.value (any_accepted c.args.array_shape.items c.args.chunk_shape.items (omega arith))
+pub returns-in-Ok-clause-made : goal.returns-in-Ok-clause-made
+returns-in-Ok-clause-made c = rw c.deref.ensures.value at c.in-Ok.ensures.made
 
-pub returns-clause-made : goal.returns-clause-made
-returns-clause-made c =
-    let made = rw c.deref.ensures.value at c.in_ok-new.ensures in
-    of_mapped non_zero_u64_get IsBounded _ _ _ made
+pub returns-clause-refused : goal.returns-clause-refused
+returns-clause-refused c =
+    unequal_lengths non_zero_u64_get _ _ _ _ _ c.map.ensures (rw c.deref.ensures.value at c.in-Err.ensures.refused)
+
+pub returns-clause-refused_first : goal.returns-clause-refused_first
+returns-clause-refused_first c = λ unequal.
+    own_through _ _ _ c.map.ensures (c.in-Err.ensures.refused_first (rw c.deref.ensures.value (λ all. unequal ((any_accepted _ _ _).0 all))))

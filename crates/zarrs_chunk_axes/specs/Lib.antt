@@ -1,0 +1,10 @@
+pub mod Bounded
+pub mod EqualEdges
+pub mod EqualOrListed
+pub mod InBounds
+pub mod Listed
+pub mod LookUp
+pub mod Rectangular
+pub mod Rectilinear
+pub mod lemmas
+pub mod seen

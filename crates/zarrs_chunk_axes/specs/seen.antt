@@ -1,0 +1,5 @@
+pub mod AxisGrid
+pub mod BoundedAxis
+pub mod EqualAxis
+pub mod EqualOrListedAxis
+pub mod ListedAxis

@@ -1,0 +1,72 @@
+//! One dimension of a chunk grid, and what it is made of.
+ghost use Rattle.std.specs.Prelude.{◌≡◌, ◌↔◌, ℕ, ◌<◌, IfOk, IsTrue, MatchOption};
+ghost use Rattle.std.specs.Int.NonZero.{non_zero_u64_get};
+ghost use Rattle.zarrs_chunk_base.specs.Dimension.{Dimension, Holds, HasEdge, IsChain, StartsAt};
+ghost use Rattle.zarrs_chunk_base.specs.Greatest.{greatest};
+
+use std::alloc::{AllocError, Global};
+use std::num::NonZeroU64;
+
+/// One dimension of a chunk grid, with its look-ups on single numbers.
+pub trait Axis: Sized + Drop {
+    /// The dimension, as the value is now.
+    ghost dimension: { Self → Dimension };
+
+    /// How many elements the array has.
+    fn array_size(&self) -> u64
+        ensures { result ≡ (dimension self.now).array_size };
+
+    /// How many chunks are counted.
+    fn grid_size(&self) -> u64
+        ensures { result ≡ (dimension self.now).grid_size };
+
+    /// The chunk that an index lies in.
+    fn chunk_of(&self, index: u64) -> Option<u64>
+        ensures { MatchOption result ((c : ℕ) → ¬ Holds (dimension self.now) c index)
+            (λ c. Holds (dimension self.now) c index) };
+
+    /// Where a chunk starts; `None` where there is no such chunk, or it starts past the greatest `u64`.
+    fn origin_of(&self, chunk: u64) -> Option<u64>
+        ensures { MatchOption result ((o : ℕ) → StartsAt (dimension self.now) chunk o
+            → greatest < o) (StartsAt (dimension self.now) chunk) };
+
+    /// How many elements long a chunk is.
+    fn edge_of(&self, chunk: u64) -> Option<NonZeroU64>
+        ensures { MatchOption result (¬ IsTrue ((dimension self.now).has_chunk chunk))
+            (λ s. HasEdge (dimension self.now) chunk (non_zero_u64_get s)) };
+
+    /// An axis of the same dimension.
+    fn clone(&self) -> Result<Self, AllocError>
+        ensures { IfOk result (λ axis. dimension axis ≡ dimension self.now) };
+
+    /// The dimension is a chain.
+    ghost chained: { (axis : Self) → IsChain (dimension axis) };
+}
+
+/// An axis that is made of an array size and what a configuration says of its dimension.
+pub trait AxisFrom<C>: Axis {
+    /// What a configuration says, without where it lies in memory.
+    ghost Edges: { Type 0 };
+
+    ghost edges_of: { C → Edges };
+
+    /// There is a dimension of this array size and these edges.
+    ghost accepted: { ℕ → Edges → Type 0 };
+
+    /// The dimension is that of an array size and edges.
+    ghost is_made_of: { Dimension → ℕ → Edges → Type 0 };
+
+    /// Whether there is such a dimension.
+    fn accepts(array_size: u64, configuration: &C) -> bool
+        ensures { IsTrue result ↔ accepted array_size (edges_of configuration.now) };
+
+    /// The axis of such a dimension.
+    fn new(alloc: Global, array_size: u64, configuration: &C) -> Result<Self, AllocError>
+        requires { accepted array_size (edges_of configuration.now) }
+        ensures { IfOk result (λ axis. is_made_of (Self.dimension axis) array_size
+            (edges_of configuration.now)) };
+
+    /// The array size is the dimension's.
+    ghost sized: { (d : Dimension) (size : ℕ) (edges : Edges) → is_made_of d size edges
+        → d.array_size ≡ size };
+}

@@ -1,0 +1,283 @@
+//! The dimensions of a grid, and the loops over them that all grids share.
+ghost use Rattle.std.specs.Prelude.{◌≡◌, ◌↔◌, ℕ, IfErr, IfOk, IsOk, IsTrue, List, MatchOption, length, map};
+ghost use Rattle.std.specs.List.{AllZip};
+ghost use Rattle.zarrs_chunk_base.specs.Dimension.{Holds, InBox, InEach};
+ghost use Rattle.zarrs_chunk_base.specs.Refusal.{Answers, HasMemory, IfRefused};
+ghost use Rattle.zarrs_chunk_axes.specs.InBounds.{AreBelow, AreInBounds};
+ghost use Rattle.zarrs_chunk_axes.specs.LookUp.{AnswersShape, AnswersOrigin, AnswersChunk};
+ghost use Rattle.zarrs_chunk_axes.specs.lemmas.LookUpEach.{ByReference, IsFound, IsNotFound};
+
+use crate::axis::{Axis, AxisFrom};
+use crate::in_bounds::are_in_bounds;
+use std::alloc::{AllocError, Global};
+use std::num::NonZeroU64;
+use zarrs_chunk_base::{
+    ArrayIndices, ArrayShape, ChunkShape, IncompatibleDimensionalityError, Refusal,
+};
+
+/// A list of dimensions of one kind.
+#[derive(Debug, Drop)]
+pub struct AxisGrid<A: Axis> {
+    axes: Vec<A>,
+    array_shape: ArrayShape,
+    grid_shape: ArrayShape,
+    ghost array_sizes: { array_shape.items ≡ map (λ d. d.array_size) (map A.dimension axes.items) },
+    ghost grid_sizes: { grid_shape.items ≡ map (λ d. d.grid_size) (map A.dimension axes.items) },
+}
+
+impl<A: Axis> AxisGrid<A> {
+    ghost use Rattle.zarrs_chunk_axes.specs.seen.AxisGrid.{dimensions_of};
+
+    /// The dimensions of these array sizes and configurations, one of each a dimension.
+    ///
+    /// # Errors
+    /// The two lists have different lengths, or there is no such dimension somewhere, and the array sizes are handed
+    /// back; or there was no memory.
+    pub fn new<C>(
+        alloc: Global,
+        array_shape: ArrayShape,
+        configurations: &[C],
+    ) -> Result<AxisGrid<A>, Refusal<ArrayShape>>
+    where
+        A: AxisFrom<C>,
+        ensures accepted { IfOk result (λ _. AllZip A.accepted array_shape.items
+            (map A.edges_of configurations.now)) }
+        ensures made { IfOk result (λ grid. InEach A.is_made_of
+            (dimensions_of grid) array_shape.items (map A.edges_of configurations.now)) }
+        ensures refused { IfErr result (λ refusal. IfRefused refusal
+            (λ _. ¬ AllZip A.accepted array_shape.items (map A.edges_of configurations.now))) }
+        ensures handed_back { IfErr result (λ refusal. IfRefused refusal
+            (λ shape. shape ≡ array_shape)) }
+        ensures refused_first { (¬ AllZip A.accepted array_shape.items
+            (map A.edges_of configurations.now)) → HasMemory result }
+    {
+        if !are_accepted::<A, C>(&array_shape, configurations) {
+            return Err(Refusal::Refused(array_shape));
+        }
+        let axes = axes_of(alloc, &array_shape, configurations)?;
+        let grid_shape = grid_sizes(alloc, &axes)?;
+        Ok(AxisGrid {
+            axes,
+            array_shape,
+            grid_shape,
+        })
+    }
+
+    /// The number of dimensions.
+    pub fn dimensionality(&self) -> usize
+        ensures { result ≡ length (dimensions_of self.now) }
+    {
+        self.axes.len()
+    }
+
+    /// For each dimension how many elements the array has.
+    pub fn array_shape(&self) -> &[u64]
+        ensures { result.now ≡ map (λ d. d.array_size) (dimensions_of self.now) }
+    {
+        &self.array_shape
+    }
+
+    /// For each dimension how many chunks are counted.
+    pub fn grid_shape(&self) -> &[u64]
+        ensures { result.now ≡ map (λ d. d.grid_size) (dimensions_of self.now) }
+    {
+        &self.grid_shape
+    }
+
+    /// For each dimension how many elements long the chunk is.
+    ///
+    /// # Errors
+    /// The list has another length than there are dimensions, or there was no memory.
+    pub fn chunk_shape(
+        &self,
+        alloc: Global,
+        chunk: &[u64],
+    ) -> Result<Option<ChunkShape>, Refusal<IncompatibleDimensionalityError>>
+        ensures answers { AnswersShape (dimensions_of self.now) chunk.now result }
+        ensures stores_nothing { length (dimensions_of self.now) ≡ 0 → HasMemory result }
+    {
+        self.look_up(alloc, chunk, A::edge_of)
+    }
+
+    /// For each dimension where the chunk starts.
+    ///
+    /// # Errors
+    /// The list has another length than there are dimensions, or there was no memory.
+    pub fn chunk_origin(
+        &self,
+        alloc: Global,
+        chunk: &[u64],
+    ) -> Result<Option<ArrayIndices>, Refusal<IncompatibleDimensionalityError>>
+        ensures answers { AnswersOrigin (dimensions_of self.now) chunk.now result }
+        ensures stores_nothing { length (dimensions_of self.now) ≡ 0 → HasMemory result }
+    {
+        self.look_up(alloc, chunk, A::origin_of)
+    }
+
+    /// For each dimension the chunk that the index lies in.
+    ///
+    /// # Errors
+    /// The list has another length than there are dimensions, or there was no memory.
+    pub fn chunk_indices(
+        &self,
+        alloc: Global,
+        indices: &[u64],
+    ) -> Result<Option<ArrayIndices>, Refusal<IncompatibleDimensionalityError>>
+        ensures answers { AnswersChunk (dimensions_of self.now) indices.now result }
+        ensures stores_nothing { length (dimensions_of self.now) ≡ 0 → HasMemory result }
+    {
+        self.look_up(alloc, indices, A::chunk_of)
+    }
+
+    /// Whether each index is in bounds of its array size.
+    pub fn is_in_bounds(&self, indices: &[u64]) -> bool
+        ensures within { AreBelow (map (λ d. d.array_size) (dimensions_of self.now)) indices.now
+            → IsTrue result }
+        ensures exact { IsTrue result ↔ AreInBounds (map
+            (λ d. d.array_size) (dimensions_of self.now)) indices.now }
+    {
+        are_in_bounds(&self.array_shape, indices)
+    }
+
+    /// Whether each index is in bounds of its array size, and a chunk holds them.
+    pub fn holds_in_bounds(&self, indices: &[u64]) -> bool
+        ensures within { AreBelow (map (λ d. d.array_size) (dimensions_of self.now)) indices.now
+            → IsTrue result }
+        ensures exact { IsTrue result ↔ (AreInBounds (map
+            (λ d. d.array_size) (dimensions_of self.now)) indices.now
+            × ((chunk : List ℕ) × InBox (dimensions_of self.now) chunk indices.now)) }
+    {
+        self.is_in_bounds(indices) && are_held(indices, &self.axes)
+    }
+
+    /// A list of the same dimensions.
+    ///
+    /// # Errors
+    /// There was no memory.
+    pub fn clone(&self) -> Result<AxisGrid<A>, AllocError>
+        ensures { IfOk result (λ grid. dimensions_of grid ≡ dimensions_of self.now) }
+    {
+        Ok(AxisGrid {
+            axes: clone_each(*self.axes.allocator(), &self.axes)?,
+            array_shape: self.array_shape.clone()?,
+            grid_shape: self.grid_shape.clone()?,
+        })
+    }
+
+    /// Looks each number up in its dimension; `None` where one of the look-ups finds nothing.
+    fn look_up<T: Drop, F: Fn(&A, u64) -> Option<T>>(
+        &self,
+        alloc: Global,
+        numbers: &[u64],
+        look_up: F,
+    ) -> Result<Option<Vec<T>>, Refusal<IncompatibleDimensionalityError>>
+        requires { F.IsAlwaysCallable look_up }
+        ensures answers { Answers (length numbers.now) (length self.now.axes.items)
+            (λ v. IsFound (ByReference (F.post look_up)) self.now.axes.items numbers.now v.items)
+            (IsNotFound (ByReference (F.post look_up)) self.now.axes.items numbers.now) result }
+        ensures stores_nothing { length self.now.axes.items ≡ 0 → HasMemory result }
+    {
+        if numbers.len() != self.axes.len() {
+            return Err(Refusal::Refused(IncompatibleDimensionalityError::new(
+                numbers.len(),
+                self.axes.len(),
+            )));
+        }
+        Ok(look_up_each(alloc, &self.axes, numbers, look_up)?)
+    }
+}
+
+/// Whether there are as many array sizes as configurations, and in each dimension there is one of them.
+fn are_accepted<A: AxisFrom<C>, C>(array_shape: &[u64], configurations: &[C]) -> bool
+    ensures { IsTrue result ↔ AllZip A.accepted array_shape.now
+        (map A.edges_of configurations.now) }
+{
+    if array_shape.len() != configurations.len() {
+        return false;
+    }
+    for (array_size, configuration) in array_shape.iter().zip(configurations) {
+        if !A::accepts(*array_size, configuration) {
+            return false;
+        }
+    }
+    true
+}
+
+/// Looks each number up in its dimension; `None` where one of the look-ups finds nothing.
+fn look_up_each<A: Axis, T: Drop, F: Fn(&A, u64) -> Option<T>>(
+    alloc: Global,
+    axes: &[A],
+    numbers: &[u64],
+    look_up: F,
+) -> Result<Option<Vec<T>>, AllocError>
+    requires callable { F.IsAlwaysCallable look_up }
+    requires lengths { length axes.now ≡ length numbers.now }
+    ensures found { IfOk result (λ o. MatchOption o
+        (IsNotFound (ByReference (F.post look_up)) axes.now numbers.now)
+        (λ v. IsFound (ByReference (F.post look_up)) axes.now numbers.now v.items)) }
+    ensures stores_nothing { length axes.now ≡ 0 → IsOk result }
+{
+    let mut found = Vec::with_capacity(alloc, axes.len())?;
+    for (axis, number) in axes.iter().zip(numbers) {
+        let Some(value) = look_up(axis, *number) else {
+            return Ok(None);
+        };
+        found.push(value)?;
+    }
+    Ok(Some(found))
+}
+
+/// Whether there are as many indices as axes, and in each some chunk holds the index.
+fn are_held<A: Axis>(indices: &[u64], axes: &[A]) -> bool
+    ensures { IsTrue result ↔ AllZip (λ i axis. (c : ℕ)
+        × Holds (A.dimension axis) c i) indices.now axes.now }
+{
+    if indices.len() != axes.len() {
+        return false;
+    }
+    for (index, axis) in indices.iter().zip(axes) {
+        if axis.chunk_of(*index).is_none() {
+            return false;
+        }
+    }
+    true
+}
+
+/// For each dimension its axis.
+fn axes_of<C, A: AxisFrom<C>>(
+    alloc: Global,
+    array_shape: &[u64],
+    configurations: &[C],
+) -> Result<Vec<A>, AllocError>
+    requires { AllZip A.accepted array_shape.now (map A.edges_of configurations.now) }
+    ensures { IfOk result (λ axes. InEach A.is_made_of (map A.dimension axes.items) array_shape.now
+        (map A.edges_of configurations.now)) }
+{
+    let mut axes = Vec::with_capacity(alloc, array_shape.len())?;
+    for (array_size, configuration) in array_shape.iter().zip(configurations) {
+        axes.push(A::new(alloc, *array_size, configuration)?)?;
+    }
+    Ok(axes)
+}
+
+/// For each dimension how many chunks are counted.
+fn grid_sizes<A: Axis>(alloc: Global, axes: &[A]) -> Result<ArrayShape, AllocError>
+    ensures { IfOk result (λ v. v.items ≡ map (λ d. d.grid_size) (map A.dimension axes.now)) }
+{
+    let mut sizes = Vec::with_capacity(alloc, axes.len())?;
+    for axis in axes {
+        sizes.push(axis.grid_size())?;
+    }
+    Ok(sizes)
+}
+
+/// A copy of each dimension.
+fn clone_each<A: Axis>(alloc: Global, axes: &[A]) -> Result<Vec<A>, AllocError>
+    ensures { IfOk result (λ v. map A.dimension v.items ≡ map A.dimension axes.now) }
+{
+    let mut copies = Vec::with_capacity(alloc, axes.len())?;
+    for axis in axes {
+        copies.push(axis.clone()?)?;
+    }
+    Ok(copies)
+}

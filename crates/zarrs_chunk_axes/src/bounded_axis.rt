@@ -1,0 +1,92 @@
+//! One dimension of an array that is cut into chunks of one edge, none of which reaches past the array.
+use crate::axis::{Axis, AxisFrom};
+use std::alloc::{AllocError, Global};
+use std::num::NonZeroU64;
+
+/// One dimension of an array, cut into chunks of one edge that end with the array at the latest.
+#[derive(Debug, Drop)]
+pub struct BoundedAxis {
+    /// How many elements the array has.
+    array_size: u64,
+    /// How many elements a chunk has that ends within the array.
+    edge: NonZeroU64,
+}
+
+impl Axis for BoundedAxis {
+    ghost use Rattle.zarrs_chunk_axes.specs.seen.BoundedAxis.{bounded_of, bounded_is_chain};
+
+    ghost dimension = { bounded_of };
+
+    ghost chained = { bounded_is_chain };
+
+    fn array_size(&self) -> u64 {
+        self.array_size
+    }
+
+    fn grid_size(&self) -> u64 {
+        self.array_size.div_ceil(self.edge.get())
+    }
+
+    fn chunk_of(&self, index: u64) -> Option<u64> {
+        if index < self.array_size {
+            Some(index / self.edge.get())
+        } else {
+            None
+        }
+    }
+
+    fn origin_of(&self, chunk: u64) -> Option<u64> {
+        let start = chunk.checked_mul(self.edge.get())?;
+        if start < self.array_size {
+            Some(start)
+        } else {
+            None
+        }
+    }
+
+    fn edge_of(&self, chunk: u64) -> Option<NonZeroU64> {
+        let array_size = self.array_size;
+        let start = chunk.checked_mul(self.edge.get())?;
+        let rest = NonZeroU64::new(array_size.saturating_sub(start))?;
+        if rest < self.edge {
+            Some(rest)
+        } else {
+            Some(self.edge)
+        }
+    }
+
+    fn clone(&self) -> Result<BoundedAxis, AllocError> {
+        Ok(BoundedAxis {
+            array_size: self.array_size,
+            edge: self.edge,
+        })
+    }
+}
+
+/// Every array size and edge make a dimension.
+impl AxisFrom<NonZeroU64> for BoundedAxis {
+    ghost use Rattle.std.specs.Int.NonZero.{non_zero_u64_get};
+    ghost use Rattle.std.specs.Prelude.{ℕ};
+    ghost use Rattle.zarrs_chunk_axes.specs.Bounded.{IsBounded};
+
+    ghost Edges = { ℕ };
+
+    ghost edges_of = { non_zero_u64_get };
+
+    ghost accepted = { λ _ _. Unit {0} };
+
+    ghost is_made_of = { IsBounded };
+
+    ghost sized = { λ d size edge is. is.array_size };
+
+    fn accepts(_array_size: u64, _edge: &NonZeroU64) -> bool {
+        true
+    }
+
+    fn new(_alloc: Global, array_size: u64, edge: &NonZeroU64) -> Result<BoundedAxis, AllocError> {
+        Ok(BoundedAxis {
+            array_size,
+            edge: *edge,
+        })
+    }
+}

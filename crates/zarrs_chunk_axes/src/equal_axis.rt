@@ -1,0 +1,77 @@
+//! One dimension of an array that is cut into chunks of one edge.
+use crate::axis::{Axis, AxisFrom};
+use std::alloc::{AllocError, Global};
+use std::num::NonZeroU64;
+
+/// One dimension of an array, cut into chunks of one edge.
+#[derive(Debug, Drop)]
+pub struct EqualAxis {
+    /// How many elements the array has.
+    array_size: u64,
+    /// How many elements a chunk has.
+    edge: NonZeroU64,
+}
+
+impl Axis for EqualAxis {
+    ghost use Rattle.zarrs_chunk_axes.specs.seen.EqualAxis.{equal_of, equal_is_chain};
+
+    ghost dimension = { equal_of };
+
+    ghost chained = { equal_is_chain };
+
+    fn array_size(&self) -> u64 {
+        self.array_size
+    }
+
+    fn grid_size(&self) -> u64 {
+        self.array_size.div_ceil(self.edge.get())
+    }
+
+    fn chunk_of(&self, index: u64) -> Option<u64> {
+        Some(index / self.edge.get())
+    }
+
+    fn origin_of(&self, chunk: u64) -> Option<u64> {
+        chunk.checked_mul(self.edge.get())
+    }
+
+    fn edge_of(&self, _chunk: u64) -> Option<NonZeroU64> {
+        Some(self.edge)
+    }
+
+    fn clone(&self) -> Result<EqualAxis, AllocError> {
+        Ok(EqualAxis {
+            array_size: self.array_size,
+            edge: self.edge,
+        })
+    }
+}
+
+/// Every array size and edge make a dimension.
+impl AxisFrom<NonZeroU64> for EqualAxis {
+    ghost use Rattle.std.specs.Int.NonZero.{non_zero_u64_get};
+    ghost use Rattle.std.specs.Prelude.{ℕ};
+    ghost use Rattle.zarrs_chunk_axes.specs.EqualEdges.{IsEqualEdges};
+
+    ghost Edges = { ℕ };
+
+    ghost edges_of = { non_zero_u64_get };
+
+    ghost accepted = { λ _ _. Unit {0} };
+
+    ghost is_made_of = { IsEqualEdges };
+
+    ghost sized = { λ d size edge is. is.array_size };
+
+    fn accepts(_array_size: u64, _edge: &NonZeroU64) -> bool {
+        true
+    }
+
+    #[tactic(auto, using(crate::proofs::EqualAxes::equal_edges))]
+    fn new(_alloc: Global, array_size: u64, edge: &NonZeroU64) -> Result<EqualAxis, AllocError> {
+        Ok(EqualAxis {
+            array_size,
+            edge: *edge,
+        })
+    }
+}

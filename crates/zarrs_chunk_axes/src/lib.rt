@@ -1,0 +1,38 @@
+//! One dimension of a chunk grid, its kinds, and the list of dimensions with every loop over them.
+//!
+//! A dimension is a value with look-ups on single numbers: which chunk holds an index, where a chunk starts, how long it
+//! is. [`Axis`] says what they answer, [`AxisFrom`] what a dimension is made of; each kind has a file. [`AxisGrid`] is any
+//! number of dimensions of one kind, and goes over the lists of numbers that a grid is asked about. The grids of the
+//! crate above hold one each, and add their names, configurations and refusals.
+//!
+//! ```text
+//! let axes = AxisGrid::<EqualAxis>::new(alloc, array_shape, &chunk_shape)?;   // [5, 7, 52], edges 1, 2 and 3
+//! axes.grid_shape()                                // [5, 4, 18]
+//! axes.chunk_indices(alloc, &[3, 5, 50])?          // Some([3, 2, 16])
+//! ```
+//!
+//! | Module | What it holds |
+//! |---|---|
+//! | `axis` | one dimension, and what it is made of |
+//! | `equal_axis`, `bounded_axis`, `listed_axis`, `equal_or_listed_axis` | the kinds of dimension |
+//! | `axis_grid` | the list of dimensions |
+//! | `in_bounds` | numbers in bounds of sizes |
+//! | `run_lengths` | run-length elements: their sum, and their edges one by one |
+#![tactic(auto)]
+
+mod axis;
+mod axis_grid;
+mod bounded_axis;
+mod equal_axis;
+mod equal_or_listed_axis;
+mod in_bounds;
+mod listed_axis;
+mod run_lengths;
+
+pub use axis::{Axis, AxisFrom};
+pub use axis_grid::AxisGrid;
+pub use bounded_axis::BoundedAxis;
+pub use equal_axis::EqualAxis;
+pub use equal_or_listed_axis::EqualOrListedAxis;
+pub use in_bounds::are_in_bounds;
+pub use listed_axis::ListedAxis;

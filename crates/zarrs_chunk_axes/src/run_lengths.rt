@@ -1,0 +1,84 @@
+//! Run-length elements: their sum, and the edges that they stand for.
+ghost use Rattle.std.specs.Prelude.{◌≡◌, ◌++◌, ◌≤◌, IfOk, OnOk, SomeIff, length, map, min};
+ghost use Rattle.std.specs.List.{sum};
+ghost use Rattle.std.specs.Int.NonZero.{non_zero_u64_get};
+ghost use Rattle.zarrs_chunk_base.specs.Greatest.{greatest};
+ghost use Rattle.zarrs_chunk_base.specs.RunLength.{element_edges, expansion};
+
+use std::alloc::{AllocError, Global};
+use std::num::NonZeroU64;
+use zarrs_chunk_base::RunLengthElement;
+
+/// The sum of the edges that the elements stand for, where it is at most the greatest `u64`.
+pub(crate) fn total(elements: &[RunLengthElement]) -> Option<u64>
+    ensures { SomeIff result (sum (expansion elements.now) ≤ greatest)
+        (sum (expansion elements.now)) }
+{
+    let mut total = 0u64;
+    for element in elements {
+        total = total.checked_add(element_sum(element)?)?;
+    }
+    Some(total)
+}
+
+/// The sum of the edges that an element stands for, where it is at most the greatest `u64`.
+fn element_sum(element: &RunLengthElement) -> Option<u64>
+    ensures { SomeIff result (sum (element_edges element.now) ≤ greatest)
+        (sum (element_edges element.now)) }
+{
+    match element {
+        RunLengthElement::Single(edge) => Some(edge.get()),
+        RunLengthElement::Repeated([edge, count]) => edge.get().checked_mul(count.get()),
+    }
+}
+
+/// The edges that the elements stand for.
+pub(crate) fn expand(
+    alloc: Global,
+    elements: &[RunLengthElement],
+) -> Result<Vec<NonZeroU64>, AllocError>
+    ensures { IfOk result (λ edges. map non_zero_u64_get edges.items ≡ expansion elements.now) }
+{
+    let mut edges = Vec::with_capacity(alloc, count(elements))?;
+    for element in elements {
+        push_edges(&mut edges, element)?;
+    }
+    Ok(edges)
+}
+
+/// How many edges the elements stand for, or the greatest `usize` where they are more.
+fn count(elements: &[RunLengthElement]) -> usize
+    ensures { result ≡ min (length (expansion elements.now)) greatest }
+{
+    let mut count = 0usize;
+    for element in elements {
+        count = count.saturating_add(element_count(element));
+    }
+    count
+}
+
+/// How many edges an element stands for.
+fn element_count(element: &RunLengthElement) -> usize
+    ensures { result ≡ length (element_edges element.now) }
+{
+    match element {
+        RunLengthElement::Single(_) => 1,
+        RunLengthElement::Repeated([_, count]) => count.get() as usize,
+    }
+}
+
+/// Appends the edges that an element stands for.
+fn push_edges(edges: &mut Vec<NonZeroU64>, element: &RunLengthElement) -> Result<(), AllocError>
+    ensures { OnOk result (map non_zero_u64_get edges.new.items
+        ≡ map non_zero_u64_get edges.old.items ++ element_edges element.now) }
+{
+    match element {
+        RunLengthElement::Single(edge) => edges.push(*edge)?,
+        RunLengthElement::Repeated([edge, count]) => {
+            for _ in 0..count.get() {
+                edges.push(*edge)?;
+            }
+        }
+    }
+    Ok(())
+}

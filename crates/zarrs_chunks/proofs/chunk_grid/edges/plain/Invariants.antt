@@ -1,7 +1,0 @@
-use Rattle.std.proofs.Common.{◌≡◌, map, take}
-use Rattle.std.specs.Int.NonZero.{non_zero_u64_get}
-use Rattle.zarrs_chunks.proofs.chunk_grid.edges.plain.Given as goal
-
--- the numbers so far are those of the edges so far
-abbrev pub invariant-loop-edge : goal.invariant-loop-edge
-invariant-loop-edge l = l.numbers.items ≡ map non_zero_u64_get (take l.edge-index l.edges)
