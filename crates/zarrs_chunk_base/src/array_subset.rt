@@ -55,8 +55,11 @@ impl ArraySubset {
     /// There was no memory.
     pub fn new_with_ranges(alloc: Global, ranges: &[Range<u64>]) -> Result<Self, AllocError>
         ensures { IfOk result (λ subset. subset
-            ≡ record { start = map (λ r. r.start) ranges.now; shape = map
-            (λ r. r.end - r.start) ranges.now }) }
+            ≡ record {
+              start = map (λ r. r.start) ranges.now;
+              shape = map
+                  (λ r. r.end - r.start) ranges.now;
+            }) }
     {
         let mut start = Vec::with_capacity(alloc, ranges.len())?;
         let mut shape = Vec::with_capacity(alloc, ranges.len())?;

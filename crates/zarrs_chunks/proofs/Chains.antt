@@ -1,5 +1,5 @@
 -- In a chain an index lies in one chunk at most, and so its box and its place are the only ones.
-use Rattle.std.proofs.Common.{◌≡◌, ◌↔◌, IfOk, Ok, Err, Some, None, Vec, Global, option_map, ℕ, zero, suc, ◌+◌, ◌<◌, ◌≤◌, IsTrue, List, [], ◌∷◌, refl, sym, ap, subst, ⊎_elim, add-one, arith}
+use Rattle.std.proofs.Common.{◌≡◌, ◌↔◌, IfOk, Ok, Err, Some, None, Vec, Global, option_map, ℕ, zero, suc, ◌+◌, ◌<◌, ◌≤◌, IsTrue, List, refl, sym, ap, subst, ⊎_elim, add-one, arith}
 use Rattle.std.proofs.lemmas.Bool.{cases_lt}
 use Rattle.std.specs.List.{AllByRecursion}
 use Rattle.zarrs_chunk_base.specs.Dimension.{Dimension, Holds, IsChain, InBox}

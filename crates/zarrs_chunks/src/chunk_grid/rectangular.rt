@@ -1,4 +1,5 @@
 //! The `rectangular` grid: in each dimension chunks of one edge, or with the edges of a list.
+use super::handed_back::copies;
 use super::over_axes::OverAxes;
 use super::rectangular_create_error::RectangularChunkGridCreateError;
 use crate::ChunkGridTraits;
@@ -28,6 +29,7 @@ impl RectangularChunkGrid {
     /// # Errors
     /// The two lists have different lengths, or a list of edges is empty or has another sum than the array
     /// size; both are handed back. Or there was no memory.
+    #[tactic(auto, using(crate::proofs::Copies::same_edges))]
     pub fn new(
         alloc: Global,
         array_shape: ArrayShape,
@@ -46,14 +48,11 @@ impl RectangularChunkGrid {
             (λ refusal. IfRefused refusal (λ e. map rectangular_edges e.1.items
             ≡ map rectangular_edges chunk_shape.now)) }
     {
-        match AxisGrid::new(alloc, array_shape, chunk_shape) {
-            Ok(axes) => Ok(RectangularChunkGrid { axes }),
-            Err(Refusal::Refused(array_shape)) => {
-                let error = RectangularChunkGridCreateError::new(alloc, array_shape, chunk_shape)?;
-                Err(Refusal::Refused(error))
-            }
-            Err(Refusal::Memory(error)) => Err(Refusal::Memory(error)),
-        }
+        let axes = AxisGrid::new(alloc, array_shape, chunk_shape).try_map_err(|refusal| {
+            let edges = copies(alloc, chunk_shape)?;
+            Ok(refusal.map(|array_shape| RectangularChunkGridCreateError(array_shape, edges)))
+        })?;
+        Ok(RectangularChunkGrid { axes })
     }
 
     /// A copy.

@@ -1,4 +1,5 @@
 //! The `rectilinear` grid: in each dimension chunks of one edge, or with the edges of run-length elements.
+use super::handed_back::copies;
 use super::over_axes::OverAxes;
 use super::rectilinear_create_error::RectilinearChunkGridCreateError;
 use crate::ChunkGridTraits;
@@ -48,14 +49,11 @@ impl RectilinearChunkGrid {
             (λ refusal. IfRefused refusal
             (λ e. AllZip IsSameChunkEdgeLengths e.1.items chunk_shapes.now)) }
     {
-        match AxisGrid::new(alloc, array_shape, chunk_shapes) {
-            Ok(axes) => Ok(RectilinearChunkGrid { axes }),
-            Err(Refusal::Refused(array_shape)) => {
-                let error = RectilinearChunkGridCreateError::new(alloc, array_shape, chunk_shapes)?;
-                Err(Refusal::Refused(error))
-            }
-            Err(Refusal::Memory(error)) => Err(Refusal::Memory(error)),
-        }
+        let axes = AxisGrid::new(alloc, array_shape, chunk_shapes).try_map_err(|refusal| {
+            let edges = copies(alloc, chunk_shapes)?;
+            Ok(refusal.map(|array_shape| RectilinearChunkGridCreateError(array_shape, edges)))
+        })?;
+        Ok(RectilinearChunkGrid { axes })
     }
 
     /// A copy.
