@@ -5,7 +5,8 @@ use Rattle.std.specs.List.{sum, AllZip}
 use Rattle.zarrs_chunk_base.specs.DimensionEdges.{DimensionEdges, equal, listed}
 use Rattle.zarrs_chunk_base.specs.Greatest.{greatest}
 
--- a list of edges isn't empty, and its sum reaches over the array but not past the greatest number
+-- A list of edges isn't empty, and its sum reaches over the array but not past the greatest number. Each run-length
+-- element stands for at least one edge, so the list is empty just where there are no elements.
 abbrev pub IsRectilinear : ℕ → DimensionEdges → Type 0
 IsRectilinear size (equal edge) = Unit {0}
 IsRectilinear size (listed edges) = (edges ≢ []) × (size ≤ sum edges) × (sum edges ≤ greatest)

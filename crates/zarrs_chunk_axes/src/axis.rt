@@ -45,9 +45,10 @@ pub trait Axis: Sized + Drop {
 
 /// An axis that is made of an array size and what a configuration says of its dimension.
 pub trait AxisFrom<C>: Axis {
-    /// What a configuration says, without where it lies in memory.
+    /// The edges that a configuration stands for, as whole numbers.
     ghost Edges: { Type 0 };
 
+    /// The edges of a configuration.
     ghost edges_of: { C → Edges };
 
     /// There is a dimension of this array size and these edges.

@@ -1,9 +1,9 @@
 //! The dimensions of a grid, and the loops over them that all grids share.
-ghost use Rattle.std.specs.Prelude.{◌≡◌, ◌↔◌, ℕ, IfErr, IfOk, IsOk, IsTrue, List, MatchOption, length, map};
+ghost use Rattle.std.specs.Prelude.{◌≡◌, ◌↔◌, ℕ, IfErr, IfOk, IsOk, IsTrue, MatchOption, length, map};
 ghost use Rattle.std.specs.List.{AllZip};
-ghost use Rattle.zarrs_chunk_base.specs.Dimension.{Holds, InBox, InEach};
+ghost use Rattle.zarrs_chunk_base.specs.Dimension.{Holds, InEach};
 ghost use Rattle.zarrs_chunk_base.specs.Refusal.{Answers, HasMemory, IfRefused};
-ghost use Rattle.zarrs_chunk_axes.specs.InBounds.{AreBelow, AreInBounds};
+ghost use Rattle.zarrs_chunk_axes.specs.InBounds.{AreBelow, AreHeldInBounds, AreIndicesInBounds};
 ghost use Rattle.zarrs_chunk_axes.specs.LookUp.{AnswersShape, AnswersOrigin, AnswersChunk};
 ghost use Rattle.zarrs_chunk_axes.specs.lemmas.LookUpEach.{ByReference, IsFound, IsNotFound};
 
@@ -133,8 +133,7 @@ impl<A: Axis> AxisGrid<A> {
     pub fn is_in_bounds(&self, indices: &[u64]) -> bool
         ensures within { AreBelow (map (λ d. d.array_size) (dimensions_of self.now)) indices.now
             → IsTrue result }
-        ensures exact { IsTrue result ↔ AreInBounds (map
-            (λ d. d.array_size) (dimensions_of self.now)) indices.now }
+        ensures exact { IsTrue result ↔ AreIndicesInBounds (dimensions_of self.now) indices.now }
     {
         are_in_bounds(&self.array_shape, indices)
     }
@@ -143,9 +142,7 @@ impl<A: Axis> AxisGrid<A> {
     pub fn holds_in_bounds(&self, indices: &[u64]) -> bool
         ensures within { AreBelow (map (λ d. d.array_size) (dimensions_of self.now)) indices.now
             → IsTrue result }
-        ensures exact { IsTrue result ↔ (AreInBounds (map
-            (λ d. d.array_size) (dimensions_of self.now)) indices.now
-            × ((chunk : List ℕ) × InBox (dimensions_of self.now) chunk indices.now)) }
+        ensures exact { IsTrue result ↔ AreHeldInBounds (dimensions_of self.now) indices.now }
     {
         self.is_in_bounds(indices) && are_held(indices, &self.axes)
     }

@@ -15,7 +15,9 @@ use zarrs_chunk_base::{ChunkEdgeLengths, RectangularChunkGridDimensionConfigurat
 /// One dimension of an array, cut into chunks of one edge or with the edges of a list.
 #[derive(Debug, Drop)]
 pub enum EqualOrListedAxis {
+    /// One edge for all chunks.
     Equal(EqualAxis),
+    /// An edge for each chunk.
     Listed(ListedAxis),
 }
 

@@ -1,9 +1,9 @@
-//! One dimension of a chunk grid, its kinds, and the list of dimensions with every loop over them.
+//! One dimension of a chunk grid, its kinds, and the list of dimensions with the loops over it.
 //!
 //! A dimension is a value with look-ups on single numbers: which chunk holds an index, where a chunk starts, how long it
 //! is. [`Axis`] says what they answer, [`AxisFrom`] what a dimension is made of; each kind has a file. [`AxisGrid`] is any
 //! number of dimensions of one kind, and goes over the lists of numbers that a grid is asked about. The grids of the
-//! crate above hold one each, and add their names, configurations and refusals.
+//! crate above hold one list each, and add their names and refusals.
 //!
 //! ```text
 //! let axes = AxisGrid::<EqualAxis>::new(alloc, array_shape, &chunk_shape)?;   // [5, 7, 52], edges 1, 2 and 3
@@ -28,6 +28,8 @@ mod equal_or_listed_axis;
 mod in_bounds;
 mod listed_axis;
 mod run_lengths;
+#[cfg(test)]
+mod tests;
 
 pub use axis::{Axis, AxisFrom};
 pub use axis_grid::AxisGrid;

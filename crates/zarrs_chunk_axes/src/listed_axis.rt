@@ -47,7 +47,7 @@ impl ListedAxis {
     }
 
     /// How many chunks start at the index or before it.
-    fn starting_before(&self, index: u64) -> usize
+    fn starting_up_to(&self, index: u64) -> usize
         ensures { IsAfter (map non_zero_u64_get self.now.edges.items) index result }
     {
         self.starts.partition_point(|start| *start <= index)
@@ -70,7 +70,7 @@ impl Axis for ListedAxis {
     }
 
     fn chunk_of(&self, index: u64) -> Option<u64> {
-        let chunk = self.starting_before(index).checked_sub(1)?;
+        let chunk = self.starting_up_to(index).checked_sub(1)?;
         if index - self.starts[chunk] < self.edges[chunk].get() {
             Some(chunk as u64)
         } else {

@@ -1,5 +1,5 @@
--- The chunk edges of one dimension, as a configuration gives them.
--- Source: ZEP 3, variable chunks.
+-- The chunk edges of one dimension: one for all chunks, or one for each.
+-- Sources: ZEP 3, variable chunks; the `rectilinear` extension of zarr-extensions.
 use Rattle.std.specs.Prelude.{ℕ, List, map}
 use Rattle.std.specs.Int.NonZero.{non_zero_u64_get}
 use Rattle.zarrs_chunk_base.specs.declared.rectangular_chunk_grid_dimension_configuration.RectangularChunkGridDimensionConfiguration.{RectangularChunkGridDimensionConfiguration}

@@ -17,7 +17,7 @@ pub enum Refusal<E> {
 }
 
 impl<E> Refusal<E> {
-    ghost use Rattle.std.specs.Prelude.{◌≡◌};
+    ghost use Rattle.std.specs.Prelude.{◌≡◌, Err, Ok};
     ghost use Rattle.zarrs_chunk_base.specs.Refusal.{IfRefused, IsRefusedAnd, MatchRefusal};
     ghost use Rattle.zarrs_chunk_base.specs.declared.refusal.Refusal.TheVariants.{Memory};
 
@@ -30,6 +30,23 @@ impl<E> Refusal<E> {
     {
         match self {
             Refusal::Refused(error) => Refusal::Refused(op(error)),
+            Refusal::Memory(error) => Refusal::Memory(error),
+        }
+    }
+
+    /// The same where `op` takes memory; where it finds none, that there was none.
+    pub fn try_map<F, O: FnOnce(E) -> Result<F, AllocError>>(self, op: O) -> Refusal<F>
+        requires { IfRefused self (O.pre op) }
+        ensures { MatchRefusal self
+            (λ error. MatchRefusal result (λ made. O.post op error (Ok made))
+            (λ memory. O.post op error (Err memory)))
+            (λ error. result ≡ Memory error) }
+    {
+        match self {
+            Refusal::Refused(error) => match op(error) {
+                Ok(made) => Refusal::Refused(made),
+                Err(memory) => Refusal::Memory(memory),
+            },
             Refusal::Memory(error) => Refusal::Memory(error),
         }
     }

@@ -1,7 +1,7 @@
 //! What every chunk grid answers.
 mod boxes;
 mod edges;
-mod handed_back;
+mod lent_edges;
 mod over_axes;
 pub(crate) mod rectangular;
 pub(crate) mod rectangular_create_error;
@@ -35,7 +35,7 @@ use zarrs_chunk_base::{
 /// dimension.
 ///
 /// A look-up refuses a list of another length than the grid has dimensions, and otherwise can answer
-/// that there was no memory; a grid without dimensions needs none.
+/// that there was no memory; a grid without dimensions needs none, save for the box of a box of chunks and the cover.
 ///
 /// Source: Zarr V3 core, chunk grids; ZEP 3, variable chunks.
 pub trait ChunkGridTraits {

@@ -1,5 +1,5 @@
 //! What holds of every chunk grid, whoever wrote it: it follows from the contracts of
-//! [`ChunkGridTraits`] and from its law that each dimension is a chain.
+//! [`ChunkGridTraits`] and from its law that each dimension is a chain. And what two kinds of dimension have in common.
 ghost use Rattle.std.specs.Prelude.{◌≡◌, ◌≢◌, ◌↔◌, ◌⊎◌, ℕ, ◌<◌, IfOk, IfSome, List, Some, length, option_map};
 ghost use Rattle.zarrs_chunk_base.specs.ArraySubset.{IsEmptyBox, IsInside};
 ghost use Rattle.zarrs_chunk_base.specs.Dimension.{Dimension, InBox};

@@ -26,7 +26,7 @@
 //! | `laws` | what holds of every chunk grid |
 //! | `chunk_grid::over_axes` | the calls of the four grids, over their lists of axes |
 //! | `chunk_grid::boxes`, `edges` | boxes that are made of starts and ends; edges as plain numbers |
-//! | `chunk_grid::handed_back` | what refusals of listed edges hand back and print |
+//! | `chunk_grid::lent_edges` | how a refusal copies and prints the edges that `new` was lent |
 //!
 //! One dimension, its kinds and the loops over dimensions stand in the crate `zarrs_chunk_axes`.
 #![tactic(auto)]

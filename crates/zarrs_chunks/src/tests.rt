@@ -9,6 +9,7 @@ use crate::{
     ChunkGridTraits, RectangularChunkGrid, RectilinearChunkGrid, RegularBoundedChunkGrid,
     RegularChunkGrid,
 };
+use Element::{Repeated, Single};
 use stairs::Stairs;
 use std::alloc::{AllocError, Global};
 use std::num::NonZeroU64;
@@ -22,11 +23,15 @@ use zarrs_chunk_base::{
 
 const MAX: u64 = u64::MAX;
 
+fn non_zero(edge: u64) -> Result<NonZeroU64, Fail> {
+    Ok(NonZeroU64::new(edge).ok_or("an edge of 0")?)
+}
+
 /// Edges, none of which is 0.
 fn edges(alloc: Global, numbers: &[u64]) -> Result<ChunkShape, Fail> {
     let mut edges = Vec::new(alloc);
     for number in numbers {
-        edges.push(NonZeroU64::new(*number).ok_or("an edge of 0")?)?;
+        edges.push(non_zero(*number)?)?;
     }
     Ok(edges)
 }
@@ -57,7 +62,7 @@ fn configurations(
     let mut configurations = Vec::new(alloc);
     for dimension in dimensions {
         configurations.push(match dimension {
-            Dimension::Fixed(edge) => NonZeroU64::new(*edge).ok_or("an edge of 0")?.into(),
+            Dimension::Fixed(edge) => non_zero(*edge)?.into(),
             Dimension::Varying(numbers) => edges(alloc, numbers)?.into(),
         })?;
     }
@@ -80,12 +85,18 @@ fn rectangular(
     Ok(RectangularChunkGrid::new(alloc, array_shape.to_vec(alloc)?, &chunk_shape)?)
 }
 
-/// Run-length elements, or one edge.
+/// One edge, or run-length elements.
 #[derive(Clone, Copy)]
 enum Lengths<'a> {
     Scalar(u64),
-    /// Edges and their counts; a count of 0 stands for a single edge.
-    Varying(&'a [(u64, u64)]),
+    Varying(&'a [Element]),
+}
+
+/// A run-length element: an edge, or an edge and its count.
+#[derive(Clone, Copy)]
+enum Element {
+    Single(u64),
+    Repeated(u64, u64),
 }
 
 /// What a rectilinear grid is made of.
@@ -93,22 +104,21 @@ fn edge_lengths(alloc: Global, dimensions: &[Lengths]) -> Result<Vec<ChunkEdgeLe
     let mut all = Vec::new(alloc);
     for dimension in dimensions {
         all.push(match dimension {
-            Lengths::Scalar(edge) => {
-                ChunkEdgeLengths::Scalar(NonZeroU64::new(*edge).ok_or("an edge of 0")?)
-            }
-            Lengths::Varying(runs) => ChunkEdgeLengths::Varying(elements(alloc, runs)?),
+            Lengths::Scalar(edge) => ChunkEdgeLengths::Scalar(non_zero(*edge)?),
+            Lengths::Varying(lengths) => ChunkEdgeLengths::Varying(elements(alloc, lengths)?),
         })?;
     }
     Ok(all)
 }
 
-fn elements(alloc: Global, runs: &[(u64, u64)]) -> Result<Vec<RunLengthElement>, Fail> {
+fn elements(alloc: Global, lengths: &[Element]) -> Result<Vec<RunLengthElement>, Fail> {
     let mut elements = Vec::new(alloc);
-    for (edge, count) in runs {
-        let edge = NonZeroU64::new(*edge).ok_or("an edge of 0")?;
-        elements.push(match NonZeroU64::new(*count) {
-            Some(count) => RunLengthElement::Repeated([edge, count]),
-            None => RunLengthElement::Single(edge),
+    for element in lengths {
+        elements.push(match element {
+            Single(edge) => RunLengthElement::Single(non_zero(*edge)?),
+            Repeated(edge, count) => {
+                RunLengthElement::Repeated([non_zero(*edge)?, non_zero(*count)?])
+            }
         })?;
     }
     Ok(elements)
@@ -329,16 +339,16 @@ fn check_bounds<G: ChunkGridTraits>(
 const LISTED: &[u64] = &[5, 5, 5, 15, 15, 20, 35];
 
 /// The same edges as run-length elements, and one by one.
-const RUNS: Lengths = Lengths::Varying(&[(5, 3), (15, 2), (20, 0), (35, 0)]);
+const RUNS: Lengths = Lengths::Varying(&[Repeated(5, 3), Repeated(15, 2), Single(20), Single(35)]);
 
 const SINGLE: Lengths = Lengths::Varying(&[
-    (5, 0),
-    (5, 0),
-    (5, 0),
-    (15, 0),
-    (15, 0),
-    (20, 0),
-    (35, 0),
+    Single(5),
+    Single(5),
+    Single(5),
+    Single(15),
+    Single(15),
+    Single(20),
+    Single(35),
 ]);
 
 const MIDDLE: u64 = 9223372036854775807;
@@ -406,10 +416,6 @@ fn wrong_lengths_are_refused(rt: HostRuntime) -> Result<(), Fail> {
     check_length(&rt, &grid, &[], 0, 3);
     check_length(&rt, &regular(rt.alloc(), &[], &[])?, &[0], 1, 0);
     check_length(&rt, &Stairs, &[], 0, 1);
-    let fixed = [Lengths::Scalar(1), Lengths::Scalar(2), Lengths::Scalar(3)];
-    let grid = rectilinear(rt.alloc(), &[5, 7, 52], &fixed)?;
-    check_length(&rt, &grid, &[0, 0], 2, 3);
-    check_length(&rt, &grid, &[0, 0, 0, 0], 4, 3);
     Ok(())
 }
 
@@ -593,8 +599,8 @@ fn edges_of_another_sum_make_no_rectangular_grid(rt: HostRuntime) -> Result<(), 
 #[test]
 fn rectilinear_grids_are_looked_up(rt: HostRuntime) -> Result<(), Fail> {
     let alloc = rt.alloc();
-    let fours = Lengths::Varying(&[(4, 0), (4, 0), (4, 0)]);
-    let threes = Lengths::Varying(&[(3, 0), (3, 0), (3, 0)]);
+    let fours = Lengths::Varying(&[Single(4), Single(4), Single(4)]);
+    let threes = Lengths::Varying(&[Single(3), Single(3), Single(3)]);
     let past = rectilinear(alloc, &[6, 6], &[fours, threes])?;
     assert_eq!(rt; past.array_shape(), [6, 6].as_slice());
     let homes: [Home; 3] = [
@@ -604,7 +610,7 @@ fn rectilinear_grids_are_looked_up(rt: HostRuntime) -> Result<(), Fail> {
     ];
     check_grid(&rt, &past, &[3, 3], &homes, &[])?;
     check_grid(&rt, &past.clone()?, &[3, 3], &homes, &[])?;
-    let pair = Lengths::Varying(&[(3, 0), (3, 0)]);
+    let pair = Lengths::Varying(&[Single(3), Single(3)]);
     check_grid(
         &rt,
         &rectilinear(alloc, &[6, 6], &[pair, pair])?,
@@ -612,7 +618,7 @@ fn rectilinear_grids_are_looked_up(rt: HostRuntime) -> Result<(), Fail> {
         &[],
         &[],
     )?;
-    let four = Lengths::Varying(&[(4, 0)]);
+    let four = Lengths::Varying(&[Single(4)]);
     check_grid(&rt, &rectilinear(alloc, &[0], &[four])?, &[1], &[], &[])?;
     let scalars = [Lengths::Scalar(10), Lengths::Scalar(20)];
     let scalars = rectilinear(alloc, &[100, 100], &scalars)?;
@@ -622,8 +628,8 @@ fn rectilinear_grids_are_looked_up(rt: HostRuntime) -> Result<(), Fail> {
     let mixed = rectilinear(alloc, &[100, 100], &[Lengths::Scalar(10), SINGLE])?;
     let chunk: Chunk = (&[2, 3], Some(&[20, 15]), Some(&[10, 15]));
     check_grid(&rt, &mixed, &[10, 7], &[], &[chunk])?;
-    let first = Lengths::Varying(&[(10, 0), (20, 0), (30, 0), (40, 0)]);
-    let last = Lengths::Varying(&[(5, 0), (15, 0), (30, 0)]);
+    let first = Lengths::Varying(&[Single(10), Single(20), Single(30), Single(40)]);
+    let last = Lengths::Varying(&[Single(5), Single(15), Single(30)]);
     let grid = rectilinear(alloc, &[100, 100, 50], &[first, Lengths::Scalar(25), last])?;
     let chunks: [Chunk; 2] = [
         (&[3, 3, 2], Some(&[60, 75, 20]), Some(&[40, 25, 30])),
@@ -636,6 +642,8 @@ fn rectilinear_grids_are_looked_up(rt: HostRuntime) -> Result<(), Fail> {
         &[],
         &[(&[99, 99, 49], true), (&[50, 50, 50], false)],
     );
+    check_length(&rt, &grid, &[0, 0], 2, 3);
+    check_length(&rt, &grid, &[0, 0, 0, 0], 4, 3);
     Ok(())
 }
 
@@ -656,7 +664,11 @@ fn runs_of_edges_are_looked_up(rt: HostRuntime) -> Result<(), Fail> {
     ];
     check_grid(&rt, &unlimited, &[7, 0], &[], &chunks)?;
     check_bounds(&rt, &unlimited, &[(&[6, 123], true), (&[7, 9], false)], &[]);
-    let listed = rectilinear(alloc, &[100, 100], &[SINGLE, Lengths::Varying(&[(10, 10)])])?;
+    let listed = rectilinear(
+        alloc,
+        &[100, 100],
+        &[SINGLE, Lengths::Varying(&[Repeated(10, 10)])],
+    )?;
     check_grid(
         &rt,
         &listed,
@@ -670,16 +682,16 @@ fn runs_of_edges_are_looked_up(rt: HostRuntime) -> Result<(), Fail> {
         &[(&[6, 9], true), (&[7, 9], false), (&[6, 10], false)],
         &[],
     );
-    let two = rectilinear(alloc, &[8], &[Lengths::Varying(&[(5, 0), (3, 0)])])?;
+    let two = rectilinear(alloc, &[8], &[Lengths::Varying(&[Single(5), Single(3)])])?;
     check_grid(&rt, &two, &[2], &[], &[])?;
-    let three = rectilinear(alloc, &[8], &[Lengths::Varying(&[(5, 3)])])?;
+    let three = rectilinear(alloc, &[8], &[Lengths::Varying(&[Repeated(5, 3)])])?;
     check_grid(&rt, &three, &[3], &[], &[])
 }
 
 #[test]
 fn more_edges_than_fit_into_memory_find_no_room(rt: HostRuntime) -> Result<(), Fail> {
     let alloc = rt.alloc();
-    let edges = edge_lengths(alloc, &[Lengths::Varying(&[(1, MAX)])])?;
+    let edges = edge_lengths(alloc, &[Lengths::Varying(&[Repeated(1, MAX)])])?;
     match RectilinearChunkGrid::new(alloc, [MAX].to_vec(alloc)?, &edges) {
         Err(Refusal::Memory(_)) => Ok(()),
         _ => Err("so many edges found room".into()),
@@ -710,14 +722,17 @@ fn edges_of_another_reach_make_no_rectilinear_grid(rt: HostRuntime) -> Result<()
     let rows: [(&[u64], &[Lengths], &str); 7] = [
         (
             &[123, 100],
-            &[Lengths::Varying(&[(5, 3), (20, 0)]), Lengths::Scalar(10)],
+            &[
+                Lengths::Varying(&[Repeated(5, 3), Single(20)]),
+                Lengths::Scalar(10),
+            ],
             "rectilinear chunk grid configuration: [[[5, 3], 20], 10] not compatible with array shape [123, 100]",
         ),
         (
             &[6, 6],
             &[
-                Lengths::Varying(&[(2, 0), (2, 0)]),
-                Lengths::Varying(&[(3, 0), (3, 0)]),
+                Lengths::Varying(&[Single(2), Single(2)]),
+                Lengths::Varying(&[Single(3), Single(3)]),
             ],
             "rectilinear chunk grid configuration: [[2, 2], [3, 3]] not compatible with array shape [6, 6]",
         ),
@@ -738,12 +753,12 @@ fn edges_of_another_reach_make_no_rectilinear_grid(rt: HostRuntime) -> Result<()
         ),
         (
             &[1],
-            &[Lengths::Varying(&[(2, 9223372036854775808)])],
+            &[Lengths::Varying(&[Repeated(2, 9223372036854775808)])],
             "rectilinear chunk grid configuration: [[[2, 9223372036854775808]]] not compatible with array shape [1]",
         ),
         (
             &[1],
-            &[Lengths::Varying(&[(MAX, MAX), (MAX, MAX)])],
+            &[Lengths::Varying(&[Repeated(MAX, MAX), Repeated(MAX, MAX)])],
             "rectilinear chunk grid configuration: [[[18446744073709551615, 18446744073709551615], [18446744073709551615, 18446744073709551615]]] not compatible with array shape [1]",
         ),
     ];
@@ -851,11 +866,11 @@ fn numbers_are_in_bounds(rt: HostRuntime) -> Result<(), Fail> {
     let unlimited = rectangular(alloc, &[100, 0], &dimensions)?;
     check_bounds(&rt, &unlimited, &[(&[6, 123], true), (&[7, 9], false)], &[]);
 
-    let fours = Lengths::Varying(&[(4, 0), (4, 0), (4, 0)]);
-    let threes = Lengths::Varying(&[(3, 0), (3, 0), (3, 0)]);
+    let fours = Lengths::Varying(&[Single(4), Single(4), Single(4)]);
+    let threes = Lengths::Varying(&[Single(3), Single(3), Single(3)]);
     let past = rectilinear(alloc, &[6, 6], &[fours, threes])?;
     check_bounds(&rt, &past, &[], &[(&[5, 5], true), (&[6, 0], false)]);
-    let reach = rectilinear(alloc, &[0], &[Lengths::Varying(&[(4, 0)])])?;
+    let reach = rectilinear(alloc, &[0], &[Lengths::Varying(&[Single(4)])])?;
     check_bounds(&rt, &reach, &[], &[(&[3], true), (&[4], false)]);
     Ok(())
 }

@@ -73,9 +73,11 @@ pub(crate) fn create(
         |refusal| refusal.map(PluginCreateError::ConfigurationUnsupported),
     )?;
     let array_shape = array_shape.to_vec(alloc)?;
-    RegularChunkGrid::new(alloc, array_shape, configuration.chunk_shape).try_map_err(|refusal| {
-        let text = String::from_str(alloc, INCONSISTENT_DIMENSIONALITY)?;
-        Ok(refusal.map(|_| PluginCreateError::Other(text)))
+    RegularChunkGrid::new(alloc, array_shape, configuration.chunk_shape).map_err(|refusal| {
+        refusal.try_map(|_| {
+            let text = String::from_str(alloc, INCONSISTENT_DIMENSIONALITY)?;
+            Ok(PluginCreateError::Other(text))
+        })
     })
 }
 

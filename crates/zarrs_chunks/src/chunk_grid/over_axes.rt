@@ -18,8 +18,8 @@ pub(crate) trait OverAxes {
     /// The dimensions of its axes.
     ghost axis_dimensions: { Self → List Dimension };
 
-    /// The indices that are in its bounds.
-    ghost in_bounds: { Self → List ℕ → Type 0 };
+    /// The indices that are in bounds of its dimensions.
+    ghost in_bounds: { List Dimension → List ℕ → Type 0 };
 
     /// Its axes.
     fn axes(&self) -> &AxisGrid<Self::Kind>
@@ -31,7 +31,7 @@ pub(crate) trait OverAxes {
             (axis_dimensions self.now)) array_indices.now → IsTrue result }
         ensures only { IsTrue result → AreInBounds (map
             (λ d. d.array_size) (axis_dimensions self.now)) array_indices.now }
-        ensures exact { IsTrue result ↔ in_bounds self.now array_indices.now };
+        ensures exact { IsTrue result ↔ in_bounds (axis_dimensions self.now) array_indices.now };
 
     /// Each of its dimensions is a chain.
     ghost axes_chained: { (grid : Self) → AllByRecursion IsChain (axis_dimensions grid) };
@@ -83,7 +83,8 @@ impl<G: OverAxes> ChunkGridTraits for G {
             (G.axis_dimensions self.now)) array_indices.now → IsTrue result }
         ensures only { IsTrue result → AreInBounds (map
             (λ d. d.array_size) (G.axis_dimensions self.now)) array_indices.now }
-        ensures exact { IsTrue result ↔ G.in_bounds self.now array_indices.now }
+        ensures exact { IsTrue result ↔ G.in_bounds
+            (G.axis_dimensions self.now) array_indices.now }
     {
         self.is_in_bounds(array_indices)
     }

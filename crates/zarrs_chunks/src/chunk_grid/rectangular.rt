@@ -1,5 +1,4 @@
 //! The `rectangular` grid: in each dimension chunks of one edge, or with the edges of a list.
-use super::handed_back::copies;
 use super::over_axes::OverAxes;
 use super::rectangular_create_error::RectangularChunkGridCreateError;
 use crate::ChunkGridTraits;
@@ -29,7 +28,6 @@ impl RectangularChunkGrid {
     /// # Errors
     /// The two lists have different lengths, or a list of edges is empty or has another sum than the array
     /// size; both are handed back. Or there was no memory.
-    #[tactic(auto, using(crate::proofs::Copies::same_edges))]
     pub fn new(
         alloc: Global,
         array_shape: ArrayShape,
@@ -48,11 +46,12 @@ impl RectangularChunkGrid {
             (λ refusal. IfRefused refusal (λ e. map rectangular_edges e.1.items
             ≡ map rectangular_edges chunk_shape.now)) }
     {
-        let axes = AxisGrid::new(alloc, array_shape, chunk_shape).try_map_err(|refusal| {
-            let edges = copies(alloc, chunk_shape)?;
-            Ok(refusal.map(|array_shape| RectangularChunkGridCreateError(array_shape, edges)))
-        })?;
-        Ok(RectangularChunkGrid { axes })
+        match AxisGrid::new(alloc, array_shape, chunk_shape) {
+            Ok(axes) => Ok(RectangularChunkGrid { axes }),
+            Err(refusal) => Err(refusal.try_map(|array_shape| {
+                RectangularChunkGridCreateError::new(alloc, array_shape, chunk_shape)
+            })),
+        }
     }
 
     /// A copy.
@@ -72,17 +71,13 @@ impl RectangularChunkGrid {
 impl OverAxes for RectangularChunkGrid {
     type Kind = EqualOrListedAxis;
 
-    ghost use Rattle.std.specs.Prelude.{ℕ, List, map};
-    ghost use Rattle.zarrs_chunk_base.specs.Dimension.{InBox};
-    ghost use Rattle.zarrs_chunk_axes.specs.InBounds.{AreInBounds};
+    ghost use Rattle.zarrs_chunk_axes.specs.InBounds.{AreHeldInBounds};
     ghost use Rattle.zarrs_chunk_axes.specs.seen.AxisGrid.{chains_of, dimensions_of};
     ghost use Rattle.zarrs_chunk_axes.specs.seen.EqualOrListedAxis.{equal_or_listed_is_chain};
 
     ghost axis_dimensions = { λ grid. dimensions_of grid.axes };
 
-    ghost in_bounds = { λ grid indices. AreInBounds (map
-        (λ d. d.array_size) (dimensions_of grid.axes)) indices
-        × ((chunk : List ℕ) × InBox (dimensions_of grid.axes) chunk indices) };
+    ghost in_bounds = { AreHeldInBounds };
 
     ghost axes_chained = { λ grid. chains_of equal_or_listed_is_chain grid.axes };
 

@@ -2,7 +2,7 @@
 ghost use Rattle.std.specs.Prelude.{◌≡◌, IfOk, map};
 ghost use Rattle.zarrs_chunk_base.specs.DimensionEdges.{rectangular_edges};
 
-use super::handed_back::{copies, write_incompatible};
+use super::lent_edges::{copies, write_incompatible};
 use std::alloc::{AllocError, Global};
 use std::error::Error;
 use std::fmt;

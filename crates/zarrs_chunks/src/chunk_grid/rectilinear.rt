@@ -1,5 +1,4 @@
 //! The `rectilinear` grid: in each dimension chunks of one edge, or with the edges of run-length elements.
-use super::handed_back::copies;
 use super::over_axes::OverAxes;
 use super::rectilinear_create_error::RectilinearChunkGridCreateError;
 use crate::ChunkGridTraits;
@@ -49,11 +48,12 @@ impl RectilinearChunkGrid {
             (λ refusal. IfRefused refusal
             (λ e. AllZip IsSameChunkEdgeLengths e.1.items chunk_shapes.now)) }
     {
-        let axes = AxisGrid::new(alloc, array_shape, chunk_shapes).try_map_err(|refusal| {
-            let edges = copies(alloc, chunk_shapes)?;
-            Ok(refusal.map(|array_shape| RectilinearChunkGridCreateError(array_shape, edges)))
-        })?;
-        Ok(RectilinearChunkGrid { axes })
+        match AxisGrid::new(alloc, array_shape, chunk_shapes) {
+            Ok(axes) => Ok(RectilinearChunkGrid { axes }),
+            Err(refusal) => Err(refusal.try_map(|array_shape| {
+                RectilinearChunkGridCreateError::new(alloc, array_shape, chunk_shapes)
+            })),
+        }
     }
 
     /// A copy.
@@ -73,17 +73,13 @@ impl RectilinearChunkGrid {
 impl OverAxes for RectilinearChunkGrid {
     type Kind = EqualOrListedAxis;
 
-    ghost use Rattle.std.specs.Prelude.{ℕ, List, map};
-    ghost use Rattle.zarrs_chunk_base.specs.Dimension.{InBox};
-    ghost use Rattle.zarrs_chunk_axes.specs.InBounds.{AreInBounds};
+    ghost use Rattle.zarrs_chunk_axes.specs.InBounds.{AreHeldInBounds};
     ghost use Rattle.zarrs_chunk_axes.specs.seen.AxisGrid.{chains_of, dimensions_of};
     ghost use Rattle.zarrs_chunk_axes.specs.seen.EqualOrListedAxis.{equal_or_listed_is_chain};
 
     ghost axis_dimensions = { λ grid. dimensions_of grid.axes };
 
-    ghost in_bounds = { λ grid indices. AreInBounds (map
-        (λ d. d.array_size) (dimensions_of grid.axes)) indices
-        × ((chunk : List ℕ) × InBox (dimensions_of grid.axes) chunk indices) };
+    ghost in_bounds = { AreHeldInBounds };
 
     ghost axes_chained = { λ grid. chains_of equal_or_listed_is_chain grid.axes };
 

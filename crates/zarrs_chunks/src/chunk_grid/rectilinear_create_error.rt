@@ -3,7 +3,7 @@ ghost use Rattle.std.specs.Prelude.{◌≡◌, IfOk};
 ghost use Rattle.std.specs.List.{AllZip};
 ghost use Rattle.zarrs_chunk_base.specs.RunLength.{IsSameChunkEdgeLengths};
 
-use super::handed_back::{copies, write_incompatible};
+use super::lent_edges::{copies, write_incompatible};
 use std::alloc::{AllocError, Global};
 use std::error::Error;
 use std::fmt;

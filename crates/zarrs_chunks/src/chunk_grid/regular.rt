@@ -97,15 +97,13 @@ impl RegularChunkGrid {
 impl OverAxes for RegularChunkGrid {
     type Kind = EqualAxis;
 
-    ghost use Rattle.std.specs.Prelude.{map};
-    ghost use Rattle.zarrs_chunk_axes.specs.InBounds.{AreInBounds};
+    ghost use Rattle.zarrs_chunk_axes.specs.InBounds.{AreIndicesInBounds};
     ghost use Rattle.zarrs_chunk_axes.specs.seen.AxisGrid.{chains_of};
     ghost use Rattle.zarrs_chunk_axes.specs.seen.EqualAxis.{equal_is_chain};
 
     ghost axis_dimensions = { λ grid. dimensions_of grid.axes };
 
-    ghost in_bounds = { λ grid indices. AreInBounds (map
-        (λ d. d.array_size) (dimensions_of grid.axes)) indices };
+    ghost in_bounds = { AreIndicesInBounds };
 
     ghost axes_chained = { λ grid. chains_of equal_is_chain grid.axes };
 

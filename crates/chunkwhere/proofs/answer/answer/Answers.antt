@@ -1,7 +1,6 @@
 use Rattle.std.proofs.Common.{List, ⊎_elim, inl, inr, arith}
 use Rattle.std.proofs.lemmas.Result.{err_from_is_err_and}
 use Rattle.zarrs_chunk_base.specs.Dimension.{Dimension}
-use Rattle.zarrs_chunks.specs.AxisGrid.{dimensions_of}
 use Rattle.chunkwhere.specs.Answer.{IsAnswerFault}
 use Rattle.chunkwhere.specs.ChunkGrid.{IsGrid}
 use Rattle.chunkwhere.specs.ChunkKeyEncoding.{IsEncodingFault}
@@ -29,4 +28,4 @@ returns-in_err-encoding c =
     let document = document_of c.args.document.now in
     let grid = rw c.deref.ensures.value at (value_is_kept _ _ _ _ _ _ c.from_metadata-grid.ensures c.map_err.ensures.cases c.map_err.ensures.variant c.in_ok-grid.was) in
     let blames : OrMemory (BlamesEncoding document) (fault_of c.in_err-encoding.field-0.0) = grind arith in
-    rw (p.1, p.2) (⊎_elim inl (λ blames. inr (first_fault document (dimensions_of c.in_ok-grid.grid.axes) _ grid blames)) blames)
+    rw (p.1, p.2) (⊎_elim inl (λ blames. inr (first_fault document _ _ grid blames)) blames)

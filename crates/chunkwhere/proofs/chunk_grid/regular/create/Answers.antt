@@ -23,6 +23,6 @@ returns c =
     answer_is_mapped {E = Refusal RegularChunkGridCreateError} _ _
     (λ (grid : RegularChunkGrid). AreEqualEdges (dimensions_of grid.axes) c.in_ok-array_shape.array_shape.items edges)
     (λ refusal. IfRefused refusal (λ _. length c.in_ok-configuration.configuration.chunk_shape.items ≢ length c.in_ok-array_shape.array_shape.items))
-    _ _ _ (said_of_both c.new.result _ _ c.new.ensures.made c.new.ensures.refused) c.try_map_err.ensures.cases
+    _ _ _ (said_of_both c.new.result _ _ c.new.ensures.made c.new.ensures.refused) c.map_err-2.ensures.cases
     (λ grid equal. (edges, search rules, search rules))
     (λ e refusal refused made. grind (arith, unequal))

@@ -1,4 +1,4 @@
-//! What the refusals of listed edges have in common: they hand a copy of the edges back, and print them.
+//! The edges that a grid's `new` is lent, which its refusal hands back as a copy and prints.
 ghost use Rattle.std.specs.Prelude.{IfOk};
 ghost use Rattle.std.specs.List.{AllZip};
 
@@ -9,8 +9,8 @@ use zarrs_chunk_base::{
     ArrayShape, ChunkEdgeLengths, InBrackets, RectangularChunkGridDimensionConfiguration,
 };
 
-/// The edges of one dimension, which were lent to a grid's `new`.
-pub(super) trait HandedBack: Sized + Drop + Display {
+/// The edges of one dimension, as a grid's `new` is lent them.
+pub(super) trait LentEdges: Sized + Drop + Display {
     /// What a copy has in common with them.
     ghost same: { Self → Self → Type 0 };
 
@@ -19,7 +19,7 @@ pub(super) trait HandedBack: Sized + Drop + Display {
         ensures { IfOk result (λ copy. same copy self.now) };
 }
 
-impl HandedBack for RectangularChunkGridDimensionConfiguration {
+impl LentEdges for RectangularChunkGridDimensionConfiguration {
     ghost use Rattle.std.specs.Prelude.{◌≡◌};
     ghost use Rattle.zarrs_chunk_base.specs.DimensionEdges.{rectangular_edges};
 
@@ -30,7 +30,7 @@ impl HandedBack for RectangularChunkGridDimensionConfiguration {
     }
 }
 
-impl HandedBack for ChunkEdgeLengths {
+impl LentEdges for ChunkEdgeLengths {
     ghost use Rattle.zarrs_chunk_base.specs.RunLength.{IsSameChunkEdgeLengths};
 
     ghost same = { IsSameChunkEdgeLengths };
@@ -41,7 +41,7 @@ impl HandedBack for ChunkEdgeLengths {
 }
 
 /// A copy of each.
-pub(super) fn copies<C: HandedBack>(alloc: Global, edges: &[C]) -> Result<Vec<C>, AllocError>
+pub(super) fn copies<C: LentEdges>(alloc: Global, edges: &[C]) -> Result<Vec<C>, AllocError>
     ensures { IfOk result (λ copies. AllZip C.same copies.items edges.now) }
 {
     let mut copies = Vec::with_capacity(alloc, edges.len())?;
@@ -52,7 +52,7 @@ pub(super) fn copies<C: HandedBack>(alloc: Global, edges: &[C]) -> Result<Vec<C>
 }
 
 /// Prints why there is no grid of this kind with these edges.
-pub(super) fn write_incompatible<W: fmt::Write, C: HandedBack>(
+pub(super) fn write_incompatible<W: fmt::Write, C: LentEdges>(
     f: &mut fmt::Formatter<W>,
     kind: &str,
     edges: &[C],

@@ -3,7 +3,7 @@ use Rattle.std.proofs.lemmas.List.Sorted.{IsPartitionedBy-leb, IsPartitionPoint-
 use Rattle.std.specs.Int.NonZero.{non_zero_u64_get}
 use Rattle.zarrs_chunk_axes.proofs.ListedAxes.{starts_rise, is_after}
 use Rattle.zarrs_chunk_axes.specs.lemmas.Running.{starts_from}
-use Rattle.zarrs_chunk_axes.proofs.listed_axis.ListedAxis.starting_before.Goals as goal
+use Rattle.zarrs_chunk_axes.proofs.listed_axis.ListedAxis.starting_up_to.Goals as goal
 
 pub returns : goal.returns
 returns c =

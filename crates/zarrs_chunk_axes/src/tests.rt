@@ -1,0 +1,25 @@
+//! What no contract says: that calls succeed with ample memory.
+use crate::{AxisGrid, EqualAxis};
+use std::num::NonZeroU64;
+use std::process::Abort;
+use std::test::Fail;
+
+#[test]
+fn lists_of_axes_are_looked_up(rt: HostRuntime) -> Result<(), Fail> {
+    let alloc = rt.alloc();
+    let mut chunk_shape = Vec::new(alloc);
+    for edge in [1, 2, 3] {
+        chunk_shape.push(NonZeroU64::new(edge).ok_or("an edge of 0")?)?;
+    }
+    let array_shape = [5, 7, 52].to_vec(alloc)?;
+    let made = AxisGrid::<EqualAxis>::new(alloc, array_shape, &chunk_shape).ok();
+    let axes = made.ok_or("no axes")?.clone()?;
+    assert_eq!(rt; axes.grid_shape(), [5, 4, 18].as_slice());
+    let chunk = axes.chunk_indices(alloc, &[3, 5, 50])?.ok_or("no chunk")?;
+    assert_eq!(rt; chunk.as_slice(), [3, 2, 16].as_slice());
+    let origin = axes.chunk_origin(alloc, &chunk)?.ok_or("no origin")?;
+    assert_eq!(rt; origin.as_slice(), [3, 4, 48].as_slice());
+    let shape = axes.chunk_shape(alloc, &chunk)?.ok_or("no shape")?;
+    assert_eq!(rt; shape.as_slice(), chunk_shape.as_slice());
+    Ok(())
+}
