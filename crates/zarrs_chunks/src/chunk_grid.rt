@@ -1,4 +1,5 @@
 //! What every chunk grid answers.
+mod axis_bounds;
 mod boxes;
 mod edges;
 mod lent_edges;

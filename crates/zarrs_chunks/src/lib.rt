@@ -25,6 +25,7 @@
 //! | `chunk_grid::regular_create_error`, `rectangular_create_error`, `rectilinear_create_error` | why there is no such grid |
 //! | `laws` | what holds of every chunk grid |
 //! | `chunk_grid::over_axes` | the calls of the four grids, over their lists of axes |
+//! | `chunk_grid::axis_bounds` | which indices are in bounds of a list of axes |
 //! | `chunk_grid::boxes`, `edges` | boxes that are made of starts and ends; edges as plain numbers |
 //! | `chunk_grid::lent_edges` | how a refusal copies and prints the edges that `new` was lent |
 //!

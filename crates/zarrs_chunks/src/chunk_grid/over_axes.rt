@@ -1,37 +1,27 @@
 //! The grids that are lists of axes, and what all of them answer.
-ghost use Rattle.std.specs.Prelude.{◌≡◌, ◌↔◌, ℕ, IsTrue, List, map};
+ghost use Rattle.std.specs.Prelude.{◌≡◌, ◌↔◌, IsTrue, List, map};
 ghost use Rattle.std.specs.List.{AllByRecursion};
 ghost use Rattle.zarrs_chunk_base.specs.Dimension.{Dimension, IsChain};
 ghost use Rattle.zarrs_chunk_axes.specs.InBounds.{AreBelow, AreInBounds};
 ghost use Rattle.zarrs_chunk_axes.specs.seen.AxisGrid.{dimensions_of};
 
+use super::axis_bounds::AxisBounds;
 use crate::ChunkGridTraits;
 use std::alloc::Global;
-use zarrs_chunk_axes::{Axis, AxisGrid};
+use zarrs_chunk_axes::AxisGrid;
 use zarrs_chunk_base::{ArrayIndices, ChunkShape, IncompatibleDimensionalityError, Refusal};
 
 /// A grid that is a list of axes.
 pub(crate) trait OverAxes {
     /// The kind of its dimensions.
-    type Kind: Axis;
+    type Kind: AxisBounds;
 
     /// The dimensions of its axes.
     ghost axis_dimensions: { Self → List Dimension };
 
-    /// The indices that are in bounds of its dimensions.
-    ghost in_bounds: { List Dimension → List ℕ → Type 0 };
-
     /// Its axes.
     fn axes(&self) -> &AxisGrid<Self::Kind>
         ensures { dimensions_of result.now ≡ axis_dimensions self.now };
-
-    /// Whether indices are in its bounds.
-    fn is_in_bounds(&self, array_indices: &[u64]) -> bool
-        ensures within { AreBelow (map (λ d. d.array_size)
-            (axis_dimensions self.now)) array_indices.now → IsTrue result }
-        ensures only { IsTrue result → AreInBounds (map
-            (λ d. d.array_size) (axis_dimensions self.now)) array_indices.now }
-        ensures exact { IsTrue result ↔ in_bounds (axis_dimensions self.now) array_indices.now };
 
     /// Each of its dimensions is a chain.
     ghost axes_chained: { (grid : Self) → AllByRecursion IsChain (axis_dimensions grid) };
@@ -83,9 +73,9 @@ impl<G: OverAxes> ChunkGridTraits for G {
             (G.axis_dimensions self.now)) array_indices.now → IsTrue result }
         ensures only { IsTrue result → AreInBounds (map
             (λ d. d.array_size) (G.axis_dimensions self.now)) array_indices.now }
-        ensures exact { IsTrue result ↔ G.in_bounds
+        ensures exact { IsTrue result ↔ G.Kind.in_bounds
             (G.axis_dimensions self.now) array_indices.now }
     {
-        self.is_in_bounds(array_indices)
+        G::Kind::are_in_bounds(self.axes(), array_indices)
     }
 }

@@ -71,21 +71,14 @@ impl RectangularChunkGrid {
 impl OverAxes for RectangularChunkGrid {
     type Kind = EqualOrListedAxis;
 
-    ghost use Rattle.zarrs_chunk_axes.specs.InBounds.{AreHeldInBounds};
     ghost use Rattle.zarrs_chunk_axes.specs.seen.AxisGrid.{chains_of, dimensions_of};
     ghost use Rattle.zarrs_chunk_axes.specs.seen.EqualOrListedAxis.{equal_or_listed_is_chain};
 
     ghost axis_dimensions = { λ grid. dimensions_of grid.axes };
 
-    ghost in_bounds = { AreHeldInBounds };
-
     ghost axes_chained = { λ grid. chains_of equal_or_listed_is_chain grid.axes };
 
     fn axes(&self) -> &AxisGrid<EqualOrListedAxis> {
         &self.axes
-    }
-
-    fn is_in_bounds(&self, array_indices: &[u64]) -> bool {
-        self.axes.holds_in_bounds(array_indices)
     }
 }

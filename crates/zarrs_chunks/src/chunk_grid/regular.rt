@@ -97,21 +97,14 @@ impl RegularChunkGrid {
 impl OverAxes for RegularChunkGrid {
     type Kind = EqualAxis;
 
-    ghost use Rattle.zarrs_chunk_axes.specs.InBounds.{AreIndicesInBounds};
     ghost use Rattle.zarrs_chunk_axes.specs.seen.AxisGrid.{chains_of};
     ghost use Rattle.zarrs_chunk_axes.specs.seen.EqualAxis.{equal_is_chain};
 
     ghost axis_dimensions = { λ grid. dimensions_of grid.axes };
 
-    ghost in_bounds = { AreIndicesInBounds };
-
     ghost axes_chained = { λ grid. chains_of equal_is_chain grid.axes };
 
     fn axes(&self) -> &AxisGrid<EqualAxis> {
         &self.axes
-    }
-
-    fn is_in_bounds(&self, array_indices: &[u64]) -> bool {
-        self.axes.is_in_bounds(array_indices)
     }
 }

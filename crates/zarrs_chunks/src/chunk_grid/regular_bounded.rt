@@ -67,21 +67,14 @@ impl RegularBoundedChunkGrid {
 impl OverAxes for RegularBoundedChunkGrid {
     type Kind = BoundedAxis;
 
-    ghost use Rattle.zarrs_chunk_axes.specs.InBounds.{AreIndicesInBounds};
     ghost use Rattle.zarrs_chunk_axes.specs.seen.AxisGrid.{chains_of, dimensions_of};
     ghost use Rattle.zarrs_chunk_axes.specs.seen.BoundedAxis.{bounded_is_chain};
 
     ghost axis_dimensions = { λ grid. dimensions_of grid.axes };
 
-    ghost in_bounds = { AreIndicesInBounds };
-
     ghost axes_chained = { λ grid. chains_of bounded_is_chain grid.axes };
 
     fn axes(&self) -> &AxisGrid<BoundedAxis> {
         &self.axes
-    }
-
-    fn is_in_bounds(&self, array_indices: &[u64]) -> bool {
-        self.axes.is_in_bounds(array_indices)
     }
 }
