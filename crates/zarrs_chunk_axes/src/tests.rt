@@ -3,6 +3,7 @@ use crate::{AxisGrid, EqualAxis};
 use std::num::NonZeroU64;
 use std::process::Abort;
 use std::test::Fail;
+use zarrs_chunk_base::Refusal;
 
 #[test]
 fn lists_of_axes_are_looked_up(rt: HostRuntime) -> Result<(), Fail> {
@@ -12,8 +13,11 @@ fn lists_of_axes_are_looked_up(rt: HostRuntime) -> Result<(), Fail> {
         chunk_shape.push(NonZeroU64::new(edge).ok_or("an edge of 0")?)?;
     }
     let array_shape = [5, 7, 52].to_vec(alloc)?;
-    let made = AxisGrid::<EqualAxis>::new(alloc, array_shape, &chunk_shape).ok();
-    let axes = made.ok_or("no axes")?.clone()?;
+    let axes = match AxisGrid::<EqualAxis>::new(alloc, array_shape, &chunk_shape) {
+        Ok(axes) => axes.clone()?,
+        Err(Refusal::Memory(error)) => return Err(error.into()),
+        Err(Refusal::Refused(_)) => return Err("no axes".into()),
+    };
     assert_eq!(rt; axes.grid_shape(), [5, 4, 18].as_slice());
     let chunk = axes.chunk_indices(alloc, &[3, 5, 50])?.ok_or("no chunk")?;
     assert_eq!(rt; chunk.as_slice(), [3, 2, 16].as_slice());
