@@ -1,5 +1,5 @@
 -- Dimensions of one edge or of listed edges: the `rectangular` and the `rectilinear` grid.
--- Source: ZEP 3, variable chunks; the `rectilinear` extension of zarr-extensions.
+-- Sources: ZEP 3, variable chunks; the `rectilinear` extension of zarr-extensions.
 use Rattle.std.specs.Prelude.{ℕ, List}
 use Rattle.zarrs_chunk_base.specs.Dimension.{Dimension, InEach}
 use Rattle.zarrs_chunk_base.specs.DimensionEdges.{DimensionEdges, equal, listed}
