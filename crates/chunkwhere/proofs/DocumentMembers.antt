@@ -6,7 +6,7 @@ use Rattle.serde_json.specs.Find.{get}
 use Rattle.chunkwhere.specs.declared.run_fault.RunFault.{RunFault}
 use Rattle.chunkwhere.specs.declared.run_fault.RunFault.TheVariants.{Metadata}
 use Rattle.chunkwhere.specs.Document.{HasMembers, HasSomeExtension, IsExtensionFault, IsFormFault, shape_of, indices_of}
-use Rattle.chunkwhere.specs.Json.{list_of, size_of}
+use Rattle.zarrs_chunk_base.specs.Json.{list_of, size_of}
 use Rattle.chunkwhere.specs.RunFault.{OrMemory}
 
 -- ---- what was read of a member is what the document has there

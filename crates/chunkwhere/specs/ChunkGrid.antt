@@ -1,29 +1,16 @@
 -- The grid that an extension's metadata and an array shape stand for.
 -- Source: Zarr V3 core, chunk grids.
-use Rattle.std.specs.Prelude.{◌≡◌, ◌≢◌, ℕ, List, [], ◌∷◌, length, Contains, String, string_bytes, codes}
+use Rattle.std.specs.Prelude.{◌≡◌, ℕ, List, [], ◌∷◌, Contains, String, string_bytes, codes}
 use Rattle.std.specs.declared.alloc.Global.{Global}
 use Rattle.zarrs_chunk_base.specs.declared.plugin_create_error.PluginCreateError.{PluginCreateError}
-use Rattle.zarrs_chunk_base.specs.declared.plugin_create_error.PluginCreateError.TheVariants.{NameUnsupported, ConfigurationUnsupported, Other}
-use Rattle.chunkwhere.specs.Configuration.{IsRegularConfiguration, IsRegularFault}
+use Rattle.zarrs_chunk_base.specs.declared.plugin_create_error.PluginCreateError.TheVariants.{NameUnsupported}
 use Rattle.zarrs_chunk_base.specs.Dimension.{Dimension}
-use Rattle.zarrs_chunks.specs.EqualEdges.{AreEqualEdges}
-use Rattle.chunkwhere.specs.Metadata.{Extension, configuration_of}
+use Rattle.zarrs_chunk_base.specs.Metadata.{Extension}
+use Rattle.zarrs_chunks.specs.GridKinds.{IsRegularGrid, IsRegularGridFault}
 
 -- the extension names of chunk grids
 abbrev pub grid_names : List (List ℕ)
 grid_names = codes "regular" ∷ []
-
--- the dimensions of a regular grid
-abbrev pub IsRegularGrid : Extension → List ℕ → List Dimension → Type 0
-IsRegularGrid e shape dimensions = (edges : List ℕ) × IsRegularConfiguration (configuration_of e) edges × AreEqualEdges dimensions shape edges
-
--- why there is no regular grid: the configuration isn't of its form, or the chunk shape has another length than the array shape
-abbrev pub IsRegularGridFault : Extension → List ℕ → PluginCreateError → Type 0
-IsRegularGridFault e shape (NameUnsupported name) = ⊥
-IsRegularGridFault e shape (ConfigurationUnsupported fault) = IsRegularFault (configuration_of e) fault
-IsRegularGridFault e shape (Other text) =
-    (string_bytes text ≡ codes "regular chunk shape and array shape have inconsistent dimensionality")
-    × (edges : List ℕ) × IsRegularConfiguration (configuration_of e) edges × (length edges ≢ length shape)
 
 -- the dimensions of the grid of this name
 pub data IsGrid (e : Extension) (shape : List ℕ) (dimensions : List Dimension) : Type 0 where

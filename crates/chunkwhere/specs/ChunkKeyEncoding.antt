@@ -6,8 +6,8 @@ use Rattle.zarrs_chunk_base.specs.declared.chunk_key_separator.ChunkKeySeparator
 use Rattle.zarrs_chunk_base.specs.declared.plugin_create_error.PluginCreateError.{PluginCreateError}
 use Rattle.zarrs_chunk_base.specs.declared.plugin_create_error.PluginCreateError.TheVariants.{NameUnsupported, ConfigurationUnsupported, Other}
 use Rattle.chunkwhere.specs.ChunkKey.{Encoding, default_keys}
-use Rattle.chunkwhere.specs.Configuration.{IsDefaultConfiguration, IsDefaultFault}
-use Rattle.chunkwhere.specs.Metadata.{Extension, configuration_of}
+use Rattle.zarrs_chunk_base.specs.KeyConfigurations.{IsDefaultConfiguration, IsDefaultFault}
+use Rattle.zarrs_chunk_base.specs.Metadata.{Extension, configuration_of}
 
 -- the extension names of chunk key encodings
 abbrev pub encoding_names : List (List ℕ)

@@ -8,8 +8,9 @@ use Rattle.chunkwhere.specs.declared.document.Document.{Document as DocumentValu
 use Rattle.zarrs_chunk_base.specs.declared.metadata_error.MetadataError.{MetadataError}
 use Rattle.chunkwhere.specs.declared.run_fault.RunFault.{RunFault}
 use Rattle.chunkwhere.specs.declared.run_fault.RunFault.TheVariants.{NotJson, NotObject, Missing, WrongValue, Metadata}
-use Rattle.chunkwhere.specs.Json.{size_of, list_of}
-use Rattle.chunkwhere.specs.Metadata.{Extension, extension_of, IsExtension, IsMetadataFault}
+use Rattle.zarrs_chunk_base.specs.First.{IsFirst}
+use Rattle.zarrs_chunk_base.specs.Json.{size_of, list_of}
+use Rattle.zarrs_chunk_base.specs.Metadata.{Extension, extension_of, IsExtension, IsMetadataFault}
 
 -- the tree that bytes are the text of
 abbrev pub IsTreeOf : List ℕ → Data → Type 0
@@ -60,11 +61,6 @@ pub record IsDocument (d : Data) (document : Document) : Type 0 where
 -- the members that have to be there, in the order in which they are missed
 abbrev pub document_members : List (List ℕ)
 document_members = codes "shape" ∷ codes "chunk_grid" ∷ codes "chunk_key_encoding" ∷ codes "indices" ∷ []
-
--- x is the first of the list for which P holds
-abbrev pub IsFirst : {X : Type 0} → (X → Type 0) → List X → X → Type 0
-IsFirst P [] x = ⊥
-IsFirst P (y ∷ ys) x = (P y × (x ≡ y)) ⊎ (¬ P y × IsFirst P ys x)
 
 -- each member that has to be there is
 abbrev pub HasMembers : Data → Type 0

@@ -2,10 +2,7 @@ pub mod Answer
 pub mod ChunkGrid
 pub mod ChunkKey
 pub mod ChunkKeyEncoding
-pub mod Configuration
 pub mod Document
-pub mod Json
-pub mod Metadata
 pub mod Numeral
 pub mod Output
 pub mod Run

@@ -1,14 +1,11 @@
 //! Chunk grids: in which chunk an element lies, and at which place.
-pub(crate) mod regular;
-
 ghost use Rattle.std.specs.Prelude.{MatchResult};
 ghost use Rattle.chunkwhere.specs.ChunkGrid.{IsGrid, IsGridFault};
-ghost use Rattle.chunkwhere.specs.Metadata.{extension_of};
+ghost use Rattle.zarrs_chunk_base.specs.Metadata.{extension_of};
 ghost use Rattle.zarrs_chunk_base.specs.Refusal.{IfRefused};
 
-use crate::metadata::MetadataV3;
 use std::alloc::Global;
-use zarrs_chunk_base::{PluginCreateError, Refusal};
+use zarrs_chunk_base::{MetadataV3, PluginCreateError, Refusal};
 use zarrs_chunks::{ChunkGridTraits, RegularChunkGrid};
 
 /// The chunk grid that an array's metadata stands for.
@@ -26,7 +23,7 @@ pub(crate) fn from_metadata(
         (λ refusal. IfRefused refusal (IsGridFault (extension_of metadata.now) array_shape.now)) }
 {
     match metadata.name() {
-        "regular" => regular::create(alloc, metadata, array_shape),
+        "regular" => RegularChunkGrid::create(alloc, metadata, array_shape),
         name => Err(Refusal::Refused(PluginCreateError::NameUnsupported(String::from_str(
             alloc, name,
         )?))),

@@ -4,13 +4,12 @@ pub(crate) mod default;
 ghost use Rattle.std.specs.Prelude.{MatchResult};
 ghost use Rattle.chunkwhere.specs.ChunkKeyEncoding.{IsEncoding, IsEncodingFault};
 ghost use Rattle.chunkwhere.specs.seen.DefaultChunkKeyEncoding.{encoding_of};
-ghost use Rattle.chunkwhere.specs.Metadata.{extension_of};
+ghost use Rattle.zarrs_chunk_base.specs.Metadata.{extension_of};
 ghost use Rattle.zarrs_chunk_base.specs.Refusal.{IfRefused};
 
-use crate::metadata::MetadataV3;
 use default::DefaultChunkKeyEncoding;
 use std::alloc::Global;
-use zarrs_chunk_base::{PluginCreateError, Refusal};
+use zarrs_chunk_base::{MetadataV3, PluginCreateError, Refusal};
 
 /// The chunk key encoding that an array's metadata stands for.
 ///

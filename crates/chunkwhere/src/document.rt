@@ -4,14 +4,13 @@ ghost use Rattle.serde_json.specs.Data.{Data};
 ghost use Rattle.serde_json.specs.Find.{get};
 ghost use Rattle.serde_json.specs.View.{view};
 ghost use Rattle.chunkwhere.specs.Document.{document_of, IsTreeOf, IsDocument, IsMissingFault, IsExtensionFault, IsFormFault, IsInputFault};
-ghost use Rattle.chunkwhere.specs.Metadata.{extension_of, IsExtension};
+ghost use Rattle.zarrs_chunk_base.specs.Metadata.{extension_of, IsExtension};
 ghost use Rattle.chunkwhere.specs.RunFault.{OrMemory};
 
-use crate::from_tree::FromTree;
-use crate::metadata::MetadataV3;
 use crate::run_fault::RunFault;
 use serde_json::Value;
 use std::alloc::Global;
+use zarrs_chunk_base::{MetadataV3, TreeForm};
 
 /// An array's metadata, and the indices of the elements to look up.
 #[derive(Drop)]

@@ -10,8 +10,6 @@
 //! | `watched` | a reader or writer that remembers whether one of its calls failed |
 //! | `input`, `document`, `answer`, `output` | the four steps: read, understand, answer, write |
 //! | `run_fault` | why a run stops |
-//! | `from_tree` | sizes, edges and lists of them in a JSON tree |
-//! | `metadata`, `configuration` | extensions: their metadata, and their configurations |
 //! | `chunk_grid` | the `regular` grid |
 //! | `chunk_key_encoding` | the `default` keys |
 //! | `numerals` | numbers as decimal text |
@@ -20,11 +18,8 @@
 mod answer;
 mod chunk_grid;
 mod chunk_key_encoding;
-mod configuration;
 mod document;
-mod from_tree;
 mod input;
-mod metadata;
 mod numerals;
 mod output;
 mod program;

@@ -5,3 +5,4 @@ pub mod EqualAxes
 pub mod Expansions
 pub mod ListedAxes
 pub mod MadeSoFar
+pub mod RunLengthForms

@@ -5,6 +5,7 @@ use Rattle.zarrs_chunk_base.specs.Refusal.{IfRefused}
 use Rattle.zarrs_chunk_base.specs.declared.refusal.Refusal.{Refusal}
 use Rattle.zarrs_chunk_base.proofs.Refusals.{IsMadeOf, refused_through}
 use Rattle.zarrs_chunk_base.specs.Dimension.{Dimension, InEach}
+use Rattle.zarrs_chunk_base.specs.DimensionEdges.{DimensionEdges}
 
 module _ {C : Type 0} (accepted : ℕ → C → Type 0) where
   -- what was accepted so far leaves the rests to decide
@@ -31,22 +32,25 @@ module _ {C : Type 0} (accepted : ℕ → C → Type 0) where
   all_accepted shape configurations [] (c ∷ left) so_far none = absurd (omega (arith, so_far.lengths))
   all_accepted shape configurations (a ∷ shape_left) left so_far none = absurd (omega arith)
 
-module _ {C A : Type 0} (accepted : ℕ → C → Type 0) (dimension : A → Dimension) (made : Dimension → ℕ → C → Type 0) where
+module _ {C A : Type 0} (accepted : ℕ → C → Type 0) (dimension : A → Dimension) (made : Dimension → ℕ → C → Type 0) (edges : A → DimensionEdges) (tells : C → DimensionEdges) where
   -- what is left is accepted, and what is made of it makes all
   pub record MadeSoFar (shape : List ℕ) (configurations : List C) (shape_left : List ℕ) (left : List C) (axes : List A) : Type 0 where
     pub accepted_left : AllZip accepted shape_left left
     pub all : (more : List A) → InEach made (map dimension more) shape_left left → InEach made (map dimension (axes ++ more)) shape configurations
+    pub told : (more : List A) → map edges more ≡ map tells left → map edges (axes ++ more) ≡ map tells configurations
 
   pub none_made : (shape : List ℕ) (configurations : List C) → AllZip accepted shape configurations → MadeSoFar shape configurations shape configurations []
-  none_made shape configurations all = record { accepted_left = all; all = λ more h. h }
+  none_made shape configurations all = record { accepted_left = all; all = λ more h. h; told = λ more h. h }
 
   pub one_made : (shape : List ℕ) (configurations : List C) (a : ℕ) (c : C) (shape_left : List ℕ) (left : List C) (axes : List A) (axis : A)
-      → MadeSoFar shape configurations (a ∷ shape_left) (c ∷ left) axes → made (dimension axis) a c
+      → MadeSoFar shape configurations (a ∷ shape_left) (c ∷ left) axes → made (dimension axis) a c → edges axis ≡ tells c
       → MadeSoFar shape configurations shape_left left (axes ++ axis ∷ [])
-  one_made shape configurations a c shape_left left axes axis so_far is = record {
+  one_made shape configurations a c shape_left left axes axis so_far is same = record {
     accepted_left = so_far.accepted_left.1;
     all = λ more h.
         subst (λ (v : List A). InEach made (map dimension v) shape configurations) (sym (append_assoc axes (axis ∷ []) more)) (so_far.all (axis ∷ more) (is, h));
+    told = λ more h.
+        subst (λ (v : List A). map edges v ≡ map tells configurations) (sym (append_assoc axes (axis ∷ []) more)) (so_far.told (axis ∷ more) (rw (same, h) refl));
   }
 
   pub all_made : (shape : List ℕ) (configurations : List C) (shape_left : List ℕ) (left : List C) (axes : List A)
@@ -55,6 +59,13 @@ module _ {C A : Type 0} (accepted : ℕ → C → Type 0) (dimension : A → Dim
       subst (λ (v : List A). InEach made (map dimension v) shape configurations) (append-nil axes) (so_far.all [] tt)
   all_made shape configurations [] (c ∷ left) axes so_far none = absurd so_far.accepted_left
   all_made shape configurations (a ∷ shape_left) left axes so_far none = absurd (omega arith)
+
+  pub all_told : (shape : List ℕ) (configurations : List C) (shape_left : List ℕ) (left : List C) (axes : List A)
+      → MadeSoFar shape configurations shape_left left axes → length shape_left ≡ 0 → map edges axes ≡ map tells configurations
+  all_told shape configurations [] [] axes so_far none =
+      subst (λ (v : List A). map edges v ≡ map tells configurations) (append-nil axes) (so_far.told [] refl)
+  all_told shape configurations [] (c ∷ left) axes so_far none = absurd so_far.accepted_left
+  all_told shape configurations (a ∷ shape_left) left axes so_far none = absurd (omega arith)
 
 -- where any size and edges are accepted, lists of one length are, and no others
 pub any_accepted : {C E : Type 0} (f : C → E) (shape : List ℕ) (configurations : List C)

@@ -1,4 +1,6 @@
+pub mod AcceptedOnce
 pub mod AllChains
+pub mod AllDetermined
 pub mod EqualOrListedSizes
 pub mod LookUpEach
 pub mod Multiples

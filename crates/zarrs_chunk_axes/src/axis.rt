@@ -2,6 +2,7 @@
 ghost use Rattle.std.specs.Prelude.{◌≡◌, ◌↔◌, ℕ, ◌<◌, IfOk, IsTrue, MatchOption};
 ghost use Rattle.std.specs.Int.NonZero.{non_zero_u64_get};
 ghost use Rattle.zarrs_chunk_base.specs.Dimension.{Dimension, Holds, HasEdge, IsChain, StartsAt};
+ghost use Rattle.zarrs_chunk_base.specs.DimensionEdges.{DimensionEdges};
 ghost use Rattle.zarrs_chunk_base.specs.Greatest.{greatest};
 
 use std::alloc::{AllocError, Global};
@@ -11,6 +12,9 @@ use std::num::NonZeroU64;
 pub trait Axis: Sized + Drop {
     /// The dimension, as the value is now.
     ghost dimension: { Self → Dimension };
+
+    /// The edges that it was made with.
+    ghost edges: { Self → DimensionEdges };
 
     /// How many elements the array has.
     fn array_size(&self) -> u64
@@ -35,9 +39,15 @@ pub trait Axis: Sized + Drop {
         ensures { MatchOption result (¬ IsTrue ((dimension self.now).has_chunk chunk))
             (λ s. HasEdge (dimension self.now) chunk (non_zero_u64_get s)) };
 
-    /// An axis of the same dimension.
+    /// An axis of the same dimension, made with the same edges.
     fn clone(&self) -> Result<Self, AllocError>
-        ensures { IfOk result (λ axis. dimension axis ≡ dimension self.now) };
+        ensures dimension { IfOk result (λ axis. dimension axis ≡ dimension self.now) }
+        ensures edges { IfOk result (λ axis. edges axis ≡ edges self.now) };
+
+    /// An axis of the same array size and edges has the same dimension.
+    ghost determined: { (axis other : Self)
+        → (dimension axis).array_size ≡ (dimension other).array_size → edges axis ≡ edges other
+        → dimension axis ≡ dimension other };
 
     /// The dimension is a chain.
     ghost chained: { (axis : Self) → IsChain (dimension axis) };
@@ -50,6 +60,12 @@ pub trait AxisFrom<C>: Axis {
 
     /// The edges of a configuration.
     ghost edges_of: { C → Edges };
+
+    /// The edges that a configuration tells.
+    ghost tells: { C → DimensionEdges };
+
+    /// The configuration is in the form in which it is written.
+    ghost is_written: { C → Type 0 };
 
     /// There is a dimension of this array size and these edges.
     ghost accepted: { ℕ → Edges → Type 0 };
@@ -64,8 +80,14 @@ pub trait AxisFrom<C>: Axis {
     /// The axis of such a dimension.
     fn new(alloc: Global, array_size: u64, configuration: &C) -> Result<Self, AllocError>
         requires { accepted array_size (edges_of configuration.now) }
-        ensures { IfOk result (λ axis. is_made_of (Self.dimension axis) array_size
-            (edges_of configuration.now)) };
+        ensures made { IfOk result (λ axis. is_made_of (Self.dimension axis) array_size
+            (edges_of configuration.now)) }
+        ensures edges { IfOk result (λ axis. Self.edges axis ≡ tells configuration.now) };
+
+    /// The configuration that the axis was made of, as it is written.
+    fn configuration(&self, alloc: Global) -> Result<C, AllocError>
+        ensures edges { IfOk result (λ c. tells c ≡ Self.edges self.now) }
+        ensures written { IfOk result is_written };
 
     /// The array size is the dimension's.
     ghost sized: { (d : Dimension) (size : ℕ) (edges : Edges) → is_made_of d size edges

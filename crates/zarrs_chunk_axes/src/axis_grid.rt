@@ -1,6 +1,6 @@
 //! The dimensions of a grid, and the loops over them that all grids share.
 ghost use Rattle.std.specs.Prelude.{◌≡◌, ◌↔◌, ℕ, IfErr, IfOk, IsOk, IsTrue, MatchOption, length, map};
-ghost use Rattle.std.specs.List.{AllZip};
+ghost use Rattle.std.specs.List.{AllByRecursion, AllZip};
 ghost use Rattle.zarrs_chunk_base.specs.Dimension.{Holds, InEach};
 ghost use Rattle.zarrs_chunk_base.specs.Refusal.{Answers, HasMemory, IfRefused};
 ghost use Rattle.zarrs_chunk_axes.specs.InBounds.{AreBelow, AreHeldInBounds, AreIndicesInBounds};
@@ -26,7 +26,7 @@ pub struct AxisGrid<A: Axis> {
 }
 
 impl<A: Axis> AxisGrid<A> {
-    ghost use Rattle.zarrs_chunk_axes.specs.seen.AxisGrid.{dimensions_of};
+    ghost use Rattle.zarrs_chunk_axes.specs.seen.AxisGrid.{dimensions_of, edges_of};
 
     /// The dimensions of these array sizes and configurations, one of each a dimension.
     ///
@@ -44,6 +44,9 @@ impl<A: Axis> AxisGrid<A> {
             (map A.edges_of configurations.now)) }
         ensures made { IfOk result (λ grid. InEach A.is_made_of
             (dimensions_of grid) array_shape.items (map A.edges_of configurations.now)) }
+        ensures edges { IfOk result (λ grid. edges_of grid ≡ map A.tells configurations.now) }
+        ensures sizes { IfOk result (λ grid. map (λ d. d.array_size) (dimensions_of grid)
+            ≡ array_shape.items) }
         ensures refused { IfErr result (λ refusal. IfRefused refusal
             (λ _. ¬ AllZip A.accepted array_shape.items (map A.edges_of configurations.now))) }
         ensures handed_back { IfErr result (λ refusal. IfRefused refusal
@@ -147,12 +150,27 @@ impl<A: Axis> AxisGrid<A> {
         self.is_in_bounds(indices) && are_held(indices, &self.axes)
     }
 
-    /// A list of the same dimensions.
+    /// The configurations that the dimensions were made of, as they are written.
+    ///
+    /// # Errors
+    /// There was no memory.
+    pub fn configurations<C>(&self, alloc: Global) -> Result<Vec<C>, AllocError>
+    where
+        A: AxisFrom<C>,
+        C: Drop,
+        ensures edges { IfOk result (λ cs. map A.tells cs.items ≡ edges_of self.now) }
+        ensures written { IfOk result (λ cs. AllByRecursion A.is_written cs.items) }
+    {
+        configurations_of(alloc, &self.axes)
+    }
+
+    /// A list of the same dimensions, made with the same edges.
     ///
     /// # Errors
     /// There was no memory.
     pub fn clone(&self) -> Result<AxisGrid<A>, AllocError>
-        ensures { IfOk result (λ grid. dimensions_of grid ≡ dimensions_of self.now) }
+        ensures dimensions { IfOk result (λ grid. dimensions_of grid ≡ dimensions_of self.now) }
+        ensures edges { IfOk result (λ grid. edges_of grid ≡ edges_of self.now) }
     {
         Ok(AxisGrid {
             axes: clone_each(*self.axes.allocator(), &self.axes)?,
@@ -247,8 +265,10 @@ fn axes_of<C, A: AxisFrom<C>>(
     configurations: &[C],
 ) -> Result<Vec<A>, AllocError>
     requires { AllZip A.accepted array_shape.now (map A.edges_of configurations.now) }
-    ensures { IfOk result (λ axes. InEach A.is_made_of (map A.dimension axes.items) array_shape.now
-        (map A.edges_of configurations.now)) }
+    ensures made { IfOk result (λ axes. InEach A.is_made_of (map A.dimension axes.items)
+        array_shape.now (map A.edges_of configurations.now)) }
+    ensures edges { IfOk result (λ axes. map A.edges axes.items
+        ≡ map A.tells configurations.now) }
 {
     let mut axes = Vec::with_capacity(alloc, array_shape.len())?;
     for (array_size, configuration) in array_shape.iter().zip(configurations) {
@@ -270,11 +290,27 @@ fn grid_sizes<A: Axis>(alloc: Global, axes: &[A]) -> Result<ArrayShape, AllocErr
 
 /// A copy of each dimension.
 fn clone_each<A: Axis>(alloc: Global, axes: &[A]) -> Result<Vec<A>, AllocError>
-    ensures { IfOk result (λ v. map A.dimension v.items ≡ map A.dimension axes.now) }
+    ensures dimensions { IfOk result (λ v. map A.dimension v.items ≡ map A.dimension axes.now) }
+    ensures edges { IfOk result (λ v. map A.edges v.items ≡ map A.edges axes.now) }
 {
     let mut copies = Vec::with_capacity(alloc, axes.len())?;
     for axis in axes {
         copies.push(axis.clone()?)?;
     }
     Ok(copies)
+}
+
+/// For each dimension the configuration that it was made of, as it is written.
+fn configurations_of<C: Drop, A: AxisFrom<C>>(
+    alloc: Global,
+    axes: &[A],
+) -> Result<Vec<C>, AllocError>
+    ensures edges { IfOk result (λ cs. map A.tells cs.items ≡ map A.edges axes.now) }
+    ensures written { IfOk result (λ cs. AllByRecursion A.is_written cs.items) }
+{
+    let mut configurations = Vec::with_capacity(alloc, axes.len())?;
+    for axis in axes {
+        configurations.push(axis.configuration(alloc)?)?;
+    }
+    Ok(configurations)
 }

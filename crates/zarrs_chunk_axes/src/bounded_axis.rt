@@ -13,11 +13,17 @@ pub struct BoundedAxis {
 }
 
 impl Axis for BoundedAxis {
-    ghost use Rattle.zarrs_chunk_axes.specs.seen.BoundedAxis.{bounded_of, bounded_is_chain};
+    ghost use Rattle.std.specs.Int.NonZero.{non_zero_u64_get};
+    ghost use Rattle.zarrs_chunk_base.specs.DimensionEdges.{equal};
+    ghost use Rattle.zarrs_chunk_axes.specs.seen.BoundedAxis.{bounded_of, bounded_is_chain, bounded_determined};
 
     ghost dimension = { bounded_of };
 
+    ghost edges = { λ axis. equal (non_zero_u64_get axis.edge) };
+
     ghost chained = { bounded_is_chain };
+
+    ghost determined = { bounded_determined };
 
     fn array_size(&self) -> u64 {
         self.array_size
@@ -66,12 +72,17 @@ impl Axis for BoundedAxis {
 /// Every array size and edge make a dimension.
 impl AxisFrom<NonZeroU64> for BoundedAxis {
     ghost use Rattle.std.specs.Int.NonZero.{non_zero_u64_get};
+    ghost use Rattle.zarrs_chunk_base.specs.DimensionEdges.{equal};
     ghost use Rattle.std.specs.Prelude.{ℕ};
     ghost use Rattle.zarrs_chunk_axes.specs.Bounded.{IsBounded};
 
     ghost Edges = { ℕ };
 
     ghost edges_of = { non_zero_u64_get };
+
+    ghost tells = { λ edge. equal (non_zero_u64_get edge) };
+
+    ghost is_written = { λ _. Unit {0} };
 
     ghost accepted = { λ _ _. Unit {0} };
 
@@ -88,5 +99,9 @@ impl AxisFrom<NonZeroU64> for BoundedAxis {
             array_size,
             edge: *edge,
         })
+    }
+
+    fn configuration(&self, _alloc: Global) -> Result<NonZeroU64, AllocError> {
+        Ok(self.edge)
     }
 }

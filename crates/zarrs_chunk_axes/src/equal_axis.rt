@@ -13,11 +13,17 @@ pub struct EqualAxis {
 }
 
 impl Axis for EqualAxis {
-    ghost use Rattle.zarrs_chunk_axes.specs.seen.EqualAxis.{equal_of, equal_is_chain};
+    ghost use Rattle.std.specs.Int.NonZero.{non_zero_u64_get};
+    ghost use Rattle.zarrs_chunk_base.specs.DimensionEdges.{equal};
+    ghost use Rattle.zarrs_chunk_axes.specs.seen.EqualAxis.{equal_of, equal_is_chain, equal_determined};
 
     ghost dimension = { equal_of };
 
+    ghost edges = { λ axis. equal (non_zero_u64_get axis.edge) };
+
     ghost chained = { equal_is_chain };
+
+    ghost determined = { equal_determined };
 
     fn array_size(&self) -> u64 {
         self.array_size
@@ -50,12 +56,17 @@ impl Axis for EqualAxis {
 /// Every array size and edge make a dimension.
 impl AxisFrom<NonZeroU64> for EqualAxis {
     ghost use Rattle.std.specs.Int.NonZero.{non_zero_u64_get};
+    ghost use Rattle.zarrs_chunk_base.specs.DimensionEdges.{equal};
     ghost use Rattle.std.specs.Prelude.{ℕ};
     ghost use Rattle.zarrs_chunk_axes.specs.EqualEdges.{IsEqualEdges};
 
     ghost Edges = { ℕ };
 
     ghost edges_of = { non_zero_u64_get };
+
+    ghost tells = { λ edge. equal (non_zero_u64_get edge) };
+
+    ghost is_written = { λ _. Unit {0} };
 
     ghost accepted = { λ _ _. Unit {0} };
 
@@ -73,5 +84,9 @@ impl AxisFrom<NonZeroU64> for EqualAxis {
             array_size,
             edge: *edge,
         })
+    }
+
+    fn configuration(&self, _alloc: Global) -> Result<NonZeroU64, AllocError> {
+        Ok(self.edge)
     }
 }

@@ -22,11 +22,15 @@ pub enum EqualOrListedAxis {
 }
 
 impl Axis for EqualOrListedAxis {
-    ghost use Rattle.zarrs_chunk_axes.specs.seen.EqualOrListedAxis.{equal_or_listed_of, equal_or_listed_is_chain};
+    ghost use Rattle.zarrs_chunk_axes.specs.seen.EqualOrListedAxis.{equal_or_listed_edges, equal_or_listed_of, equal_or_listed_is_chain, equal_or_listed_determined};
 
     ghost dimension = { equal_or_listed_of };
 
+    ghost edges = { equal_or_listed_edges };
+
     ghost chained = { equal_or_listed_is_chain };
+
+    ghost determined = { equal_or_listed_determined };
 
     fn array_size(&self) -> u64 {
         match self {
@@ -82,6 +86,10 @@ impl AxisFrom<RectangularChunkGridDimensionConfiguration> for EqualOrListedAxis 
 
     ghost edges_of = { rectangular_edges };
 
+    ghost tells = { rectangular_edges };
+
+    ghost is_written = { λ _. Unit {0} };
+
     ghost accepted = { IsRectangular };
 
     ghost is_made_of = { IsEqualOrListed };
@@ -114,12 +122,26 @@ impl AxisFrom<RectangularChunkGridDimensionConfiguration> for EqualOrListedAxis 
             }
         })
     }
+
+    fn configuration(
+        &self,
+        alloc: Global,
+    ) -> Result<RectangularChunkGridDimensionConfiguration, AllocError> {
+        Ok(match self {
+            EqualOrListedAxis::Equal(axis) => {
+                RectangularChunkGridDimensionConfiguration::Fixed(axis.configuration(alloc)?)
+            }
+            EqualOrListedAxis::Listed(axis) => {
+                RectangularChunkGridDimensionConfiguration::Varying(axis.edges().to_vec(alloc)?)
+            }
+        })
+    }
 }
 
 /// A dimension of a `rectilinear` grid.
 impl AxisFrom<ChunkEdgeLengths> for EqualOrListedAxis {
     ghost use Rattle.zarrs_chunk_base.specs.DimensionEdges.{DimensionEdges};
-    ghost use Rattle.zarrs_chunk_base.specs.RunLength.{rectilinear_edges};
+    ghost use Rattle.zarrs_chunk_base.specs.RunLength.{rectilinear_edges, lengths_of, IsWrittenLengths};
     ghost use Rattle.zarrs_chunk_axes.specs.EqualOrListed.{IsEqualOrListed};
     ghost use Rattle.zarrs_chunk_axes.specs.lemmas.EqualOrListedSizes.{equal_or_listed_size};
     ghost use Rattle.zarrs_chunk_axes.specs.Rectilinear.{IsRectilinear};
@@ -127,6 +149,10 @@ impl AxisFrom<ChunkEdgeLengths> for EqualOrListedAxis {
     ghost Edges = { DimensionEdges };
 
     ghost edges_of = { rectilinear_edges };
+
+    ghost tells = { rectilinear_edges };
+
+    ghost is_written = { λ lengths. IsWrittenLengths (lengths_of lengths) };
 
     ghost accepted = { IsRectilinear };
 
@@ -158,6 +184,15 @@ impl AxisFrom<ChunkEdgeLengths> for EqualOrListedAxis {
             ChunkEdgeLengths::Varying(elements) => {
                 let edges = run_lengths::expand(alloc, elements)?;
                 EqualOrListedAxis::Listed(ListedAxis::new(alloc, array_size, edges)?)
+            }
+        })
+    }
+
+    fn configuration(&self, alloc: Global) -> Result<ChunkEdgeLengths, AllocError> {
+        Ok(match self {
+            EqualOrListedAxis::Equal(axis) => ChunkEdgeLengths::Scalar(axis.configuration(alloc)?),
+            EqualOrListedAxis::Listed(axis) => {
+                ChunkEdgeLengths::Varying(run_lengths::run_length_form(alloc, axis.edges())?)
             }
         })
     }

@@ -24,7 +24,7 @@ pub struct ListedAxis {
 
 impl ListedAxis {
     ghost use Rattle.zarrs_chunk_axes.specs.Listed.{IsListed};
-    ghost use Rattle.zarrs_chunk_axes.specs.seen.ListedAxis.{listed_of};
+    ghost use Rattle.zarrs_chunk_axes.specs.seen.ListedAxis.{edges_in, listed_of};
     ghost use Rattle.zarrs_chunk_axes.specs.lemmas.Running.{IsAfter};
 
     /// The dimension of an array size and the edges of its chunks.
@@ -35,8 +35,9 @@ impl ListedAxis {
     ) -> Result<ListedAxis, AllocError>
         requires covers { array_size ≤ sum (map non_zero_u64_get edges.items) }
         requires fits { sum (map non_zero_u64_get edges.items) ≤ greatest }
-        ensures { IfOk result (λ axis. IsListed (listed_of axis) array_size
+        ensures made { IfOk result (λ axis. IsListed (listed_of axis) array_size
             (map non_zero_u64_get edges.items)) }
+        ensures edges { IfOk result (λ axis. edges_in axis ≡ map non_zero_u64_get edges.items) }
     {
         let starts = starts_of(alloc, &edges)?;
         Ok(ListedAxis {
@@ -44,6 +45,13 @@ impl ListedAxis {
             edges,
             starts,
         })
+    }
+
+    /// How many elements each chunk has.
+    pub(crate) fn edges(&self) -> &[NonZeroU64]
+        ensures { map non_zero_u64_get result.now ≡ edges_in self.now }
+    {
+        &self.edges
     }
 
     /// How many chunks start at the index or before it.
@@ -55,11 +63,16 @@ impl ListedAxis {
 }
 
 impl Axis for ListedAxis {
-    ghost use Rattle.zarrs_chunk_axes.specs.seen.ListedAxis.{listed_of, listed_is_chain};
+    ghost use Rattle.zarrs_chunk_base.specs.DimensionEdges.{listed};
+    ghost use Rattle.zarrs_chunk_axes.specs.seen.ListedAxis.{edges_in, listed_of, listed_is_chain, listed_determined};
 
     ghost dimension = { listed_of };
 
+    ghost edges = { λ axis. listed (edges_in axis) };
+
     ghost chained = { listed_is_chain };
+
+    ghost determined = { listed_determined };
 
     fn array_size(&self) -> u64 {
         self.array_size

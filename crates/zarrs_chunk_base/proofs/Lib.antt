@@ -1,3 +1,9 @@
 pub mod Boxes
+pub mod Copies
+pub mod Extensions
+pub mod FirstMembers
 pub mod InEach
+pub mod KnownNames
+pub mod MappedErrors
 pub mod Refusals
+pub mod Trees

@@ -21,3 +21,8 @@ module _ {E F : Type 0} (R : E → F → Type 0) where
   own_through (Refused e) (Refused f) is h = tt
   own_through (Refused e) (Memory b) is h = absurd is
   own_through (Memory a) s is h = absurd h
+
+-- what follows from what holds of the call's own refusal holds of it too
+pub refused_weaker : {E : Type 0} (r : Refusal E) (P Q : E → Type 0) → IfRefused r P → ((e : E) → P e → Q e) → IfRefused r Q
+refused_weaker (Refused e) P Q h follows = follows e h
+refused_weaker (Memory a) P Q h follows = tt

@@ -11,7 +11,7 @@ use std::num::NonZeroU64;
 /// The chunk edges of one dimension, in elements of the array.
 ///
 /// Source: the `rectilinear` extension of zarr-extensions.
-#[derive(Debug, Drop)]
+#[derive(Debug, Drop, PartialEq, Eq)]
 pub enum ChunkEdgeLengths {
     /// One edge for all chunks.
     Scalar(NonZeroU64),
@@ -32,6 +32,15 @@ impl ChunkEdgeLengths {
             ChunkEdgeLengths::Scalar(edge) => ChunkEdgeLengths::Scalar(*edge),
             ChunkEdgeLengths::Varying(elements) => ChunkEdgeLengths::Varying(elements.clone()?),
         })
+    }
+}
+
+/// For lists of them.
+impl Clone for ChunkEdgeLengths {
+    ghost is_clone = { λ lengths copy. IsSameChunkEdgeLengths copy lengths };
+
+    fn clone(&self) -> Result<ChunkEdgeLengths, AllocError> {
+        ChunkEdgeLengths::clone(self)
     }
 }
 

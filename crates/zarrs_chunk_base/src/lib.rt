@@ -34,6 +34,7 @@ mod chunk_key_separator;
 mod configuration_fault;
 mod in_brackets;
 mod incompatible_dimensionality_error;
+mod json;
 mod metadata_error;
 mod plugin_create_error;
 mod rectangular_chunk_grid_dimension_configuration;
@@ -52,6 +53,15 @@ pub use chunk_key_separator::ChunkKeySeparator;
 pub use configuration_fault::ConfigurationFault;
 pub use in_brackets::InBrackets;
 pub use incompatible_dimensionality_error::IncompatibleDimensionalityError;
+pub use json::configuration_form::{ConfigurationForm, MemberNames};
+pub use json::default_chunk_key_encoding_configuration::DefaultChunkKeyEncodingConfiguration;
+pub use json::metadata_v3::MetadataV3;
+pub use json::rectangular_chunk_grid_configuration::RectangularChunkGridConfiguration;
+pub use json::rectilinear_chunk_grid_configuration::RectilinearChunkGridConfiguration;
+pub use json::regular_chunk_grid_configuration::{
+    RegularBoundedChunkGridConfiguration, RegularChunkGridConfiguration,
+};
+pub use json::tree_form::TreeForm;
 pub use metadata_error::MetadataError;
 pub use plugin_create_error::PluginCreateError;
 pub use rectangular_chunk_grid_dimension_configuration::RectangularChunkGridDimensionConfiguration;

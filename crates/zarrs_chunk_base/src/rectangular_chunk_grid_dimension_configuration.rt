@@ -11,7 +11,7 @@ use std::num::NonZeroU64;
 /// The chunk edges of one dimension, in elements.
 ///
 /// Source: ZEP 3, variable chunks.
-#[derive(Debug, Drop)]
+#[derive(Debug, Drop, PartialEq, Eq)]
 pub enum RectangularChunkGridDimensionConfiguration {
     /// One edge for all chunks.
     Fixed(NonZeroU64),
@@ -35,6 +35,15 @@ impl RectangularChunkGridDimensionConfiguration {
                 RectangularChunkGridDimensionConfiguration::Varying(edges.clone()?)
             }
         })
+    }
+}
+
+/// For lists of them.
+impl Clone for RectangularChunkGridDimensionConfiguration {
+    ghost is_clone = { λ configuration copy. rectangular_edges copy ≡ rectangular_edges configuration };
+
+    fn clone(&self) -> Result<RectangularChunkGridDimensionConfiguration, AllocError> {
+        RectangularChunkGridDimensionConfiguration::clone(self)
     }
 }
 

@@ -1,4 +1,5 @@
 //! The edge of one chunk, or of several in a row.
+use std::alloc::AllocError;
 use std::fmt;
 use std::num::NonZeroU64;
 
@@ -12,6 +13,20 @@ pub enum RunLengthElement {
     Single(NonZeroU64),
     /// An edge, and after it how many chunks have it: `[edge, count]`.
     Repeated([NonZeroU64; 2]),
+}
+
+impl RunLengthElement {
+    ghost use Rattle.std.specs.Prelude.{◌≡◌, IfOk};
+
+    /// The same element.
+    ///
+    /// # Errors
+    /// None comes: the answer is that of every part's `clone`.
+    pub fn clone(&self) -> Result<RunLengthElement, AllocError>
+        ensures { IfOk result (λ copy. copy ≡ self.now) }
+    {
+        Ok(*self)
+    }
 }
 
 /// An edge as its number, a repeated one as `[5, 3]`.

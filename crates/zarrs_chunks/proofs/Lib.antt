@@ -1,8 +1,9 @@
 pub mod Boxes
 pub mod Chains
 pub mod ClippedEdges
-pub mod Copies
+pub mod Configured
 pub mod Covers
+pub mod GridNames
 pub mod Meeting
 pub mod Ranges
 pub mod Subsets

@@ -3,6 +3,7 @@ mod axis_bounds;
 mod boxes;
 mod edges;
 mod lent_edges;
+pub(crate) mod named;
 mod over_axes;
 pub(crate) mod rectangular;
 pub(crate) mod rectangular_create_error;
@@ -12,7 +13,7 @@ pub(crate) mod regular;
 pub(crate) mod regular_bounded;
 pub(crate) mod regular_create_error;
 
-ghost use Rattle.std.specs.Prelude.{◌≡◌, ◌≢◌, ◌↔◌, ◌⊎◌, ℕ, ◌-◌, ◌<◌, IsTrue, List, length, map, slice_index_or};
+ghost use Rattle.std.specs.Prelude.{◌≡◌, ◌≢◌, ◌↔◌, ◌⊎◌, ℕ, ◌-◌, ◌<◌, IfOk, IsTrue, List, length, map, slice_index_or};
 ghost use Rattle.std.specs.List.{AllByRecursion};
 ghost use Rattle.zarrs_chunk_base.specs.ArraySubset.{IsEmptyBox};
 ghost use Rattle.zarrs_chunk_base.specs.Dimension.{Dimension, IsChain};
@@ -23,10 +24,11 @@ ghost use Rattle.zarrs_chunks.specs.Subsets.{AnswersSubset, AnswersChunksSubset,
 
 use boxes::{box_between, next_numbers};
 use edges::edge_numbers;
-use std::alloc::Global;
+use std::alloc::{AllocError, Global};
 use zarrs_chunk_axes::are_in_bounds;
 use zarrs_chunk_base::{
-    ArrayIndices, ArrayShape, ArraySubset, ChunkShape, IncompatibleDimensionalityError, Refusal,
+    ArrayIndices, ArrayShape, ArraySubset, ChunkShape, Configuration,
+    IncompatibleDimensionalityError, MetadataV3, PluginCreateError, Refusal,
 };
 
 /// A chunk grid: the chunks into which an array is cut.
@@ -39,9 +41,29 @@ use zarrs_chunk_base::{
 /// that there was no memory; a grid without dimensions needs none, save for the box of a box of chunks and the cover.
 ///
 /// Source: Zarr V3 core, chunk grids; ZEP 3, variable chunks.
-pub trait ChunkGridTraits {
+pub trait ChunkGridTraits: Sized + Drop {
     /// What the grid's value means: its dimensions.
     ghost dimensions: { Self → List Dimension };
+
+    /// The grid of an array with these sizes, as the configuration in an extension's metadata says. An absent
+    /// configuration counts as one without members. A kind of grid doesn't look at the name.
+    ///
+    /// # Errors
+    /// The configuration isn't of the form of this kind of grid, or the grid doesn't accept it for this array shape; or
+    /// there was no memory.
+    fn create(
+        alloc: Global,
+        metadata: &MetadataV3,
+        array_shape: &[u64],
+    ) -> Result<Self, Refusal<PluginCreateError>>
+        ensures { IfOk result (λ grid. map (λ d. d.array_size) (dimensions grid)
+            ≡ array_shape.now) };
+
+    /// The configuration of the grid, as metadata has it.
+    ///
+    /// # Errors
+    /// There was no memory.
+    fn configuration(&self, alloc: Global) -> Result<Configuration, AllocError>;
 
     /// The number of dimensions.
     fn dimensionality(&self) -> usize

@@ -1,17 +1,21 @@
 //! What holds of every chunk grid, whoever wrote it: it follows from the contracts of
 //! [`ChunkGridTraits`] and from its law that each dimension is a chain. And what two kinds of dimension have in common.
-ghost use Rattle.std.specs.Prelude.{◌≡◌, ◌≢◌, ◌↔◌, ◌⊎◌, ℕ, ◌<◌, IfOk, IfSome, List, Some, length, option_map};
+ghost use Rattle.std.specs.Prelude.{◌≡◌, ◌≢◌, ◌↔◌, ◌⊎◌, ℕ, ◌<◌, IfErr, IfOk, IfSome, List, Some, length, option_map};
 ghost use Rattle.zarrs_chunk_base.specs.ArraySubset.{IsEmptyBox, IsInside};
 ghost use Rattle.zarrs_chunk_base.specs.Dimension.{Dimension, InBox};
 ghost use Rattle.zarrs_chunk_axes.specs.Listed.{IsListed};
 ghost use Rattle.zarrs_chunk_axes.specs.Bounded.{IsBounded};
+ghost use Rattle.zarrs_chunk_base.specs.Refusal.{IfRefused};
+ghost use Rattle.zarrs_chunks.specs.seen.ChunkGrid.{dimensions_in, edges_in, name_in};
 ghost use Rattle.zarrs_chunks.specs.Clipped.{AreAlike, AreClipped};
 ghost use Rattle.zarrs_chunk_axes.specs.LookUp.{AnswersChunk};
 ghost use Rattle.zarrs_chunks.specs.Subsets.{AnswersChunksSubset, AnswersCover, AnswersEmptyCover};
 
-use crate::ChunkGridTraits;
+use crate::{ChunkGrid, ChunkGridTraits};
 use std::alloc::Global;
-use zarrs_chunk_base::{ArrayIndices, ArraySubset, IncompatibleDimensionalityError, Refusal};
+use zarrs_chunk_base::{
+    ArrayIndices, ArraySubset, IncompatibleDimensionalityError, PluginCreateError, Refusal,
+};
 
 /// `chunk_indices` names a chunk just where that chunk's box holds the index.
 ///
@@ -88,3 +92,20 @@ pub fn a_bounded_dimension_is_that_of_its_edges()
         → AreClipped size edge edges
         → IsBounded bounded size edge → IsListed listed size edges → AreAlike bounded listed }
 {}
+
+/// A grid is made again of its metadata and its array shape: one of the same kind, with the same dimensions and edges.
+///
+/// # Errors
+/// There was no memory.
+pub fn a_grid_is_made_again_of_its_metadata(
+    alloc: Global,
+    grid: &ChunkGrid,
+) -> Result<ChunkGrid, Refusal<PluginCreateError>>
+    ensures accepted { IfErr result (λ refusal. IfRefused refusal (λ _. ⊥)) }
+    ensures name { IfOk result (λ again. name_in again ≡ name_in grid.now) }
+    ensures dimensions { IfOk result (λ again. dimensions_in again ≡ dimensions_in grid.now) }
+    ensures edges { IfOk result (λ again. edges_in again ≡ edges_in grid.now) }
+{
+    let metadata = grid.metadata(alloc)?;
+    ChunkGrid::from_metadata(alloc, &metadata, grid.array_shape())
+}

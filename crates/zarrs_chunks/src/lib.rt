@@ -38,6 +38,7 @@ pub mod laws;
 mod tests;
 
 pub use chunk_grid::ChunkGridTraits;
+pub use chunk_grid::named::ChunkGrid;
 pub use chunk_grid::rectangular::RectangularChunkGrid;
 pub use chunk_grid::rectangular_create_error::RectangularChunkGridCreateError;
 pub use chunk_grid::rectilinear::RectilinearChunkGrid;

@@ -1,68 +1,11 @@
 //! The `default` encoding: `c`, and for each chunk number the separator and the number.
-ghost use Rattle.std.specs.Prelude.{MatchOption};
-ghost use Rattle.serde_json.specs.View.{view};
-ghost use Rattle.zarrs_chunk_base.specs.declared.chunk_key_separator.ChunkKeySeparator.{ChunkKeySeparator};
-ghost use Rattle.chunkwhere.specs.Configuration.{IsSeparator};
-
-use crate::configuration::{member, refuse_unknown};
-use crate::metadata::MetadataV3;
 use crate::numerals::append_numerals;
-use serde_json::{Map, Value};
+use serde_json::Map;
 use std::alloc::{AllocError, Global};
 use zarrs_chunk_base::{
-    ChunkKeySeparator, Configuration, ConfigurationFault, PluginCreateError, Refusal, StoreKey,
+    ChunkKeySeparator, ConfigurationForm, DefaultChunkKeyEncodingConfiguration, MetadataV3,
+    PluginCreateError, Refusal, StoreKey,
 };
-
-/// The configuration of the `default` encoding.
-#[derive(Clone, Copy, Debug, PartialEq, Eq)]
-pub struct DefaultChunkKeyEncodingConfiguration {
-    pub separator: ChunkKeySeparator,
-}
-
-impl DefaultChunkKeyEncodingConfiguration {
-    ghost use Rattle.std.specs.Prelude.{MatchResult};
-    ghost use Rattle.serde_json.specs.View.{members_view};
-    ghost use Rattle.chunkwhere.specs.Configuration.{IsDefaultConfiguration, IsDefaultFault};
-    ghost use Rattle.zarrs_chunk_base.specs.Refusal.{IfRefused};
-
-    /// The configuration that members stand for: `separator`, the text `/` or `.`, and `/` where
-    /// there is none.
-    ///
-    /// # Errors
-    /// The first fault of the members, or there was no memory.
-    pub fn from_tree(
-        alloc: Global,
-        members: &Configuration,
-    ) -> Result<DefaultChunkKeyEncodingConfiguration, Refusal<ConfigurationFault>>
-        ensures { MatchResult result (λ c. IsDefaultConfiguration
-            (members_view members.now.entries) c.separator)
-            (λ refusal. IfRefused refusal (IsDefaultFault (members_view members.now.entries))) }
-    {
-        let field = "separator";
-        refuse_unknown(alloc, members, &[field], "`separator`")?;
-        let Some(tree) = member(members, field) else {
-            return Ok(DefaultChunkKeyEncodingConfiguration {
-                separator: ChunkKeySeparator::Slash,
-            });
-        };
-        match separator_of(tree) {
-            Some(separator) => Ok(DefaultChunkKeyEncodingConfiguration { separator }),
-            None => Err(Refusal::Refused(ConfigurationFault::WrongValue { field })),
-        }
-    }
-}
-
-/// The separator that a tree names.
-fn separator_of(tree: &Value) -> Option<ChunkKeySeparator>
-    ensures { MatchOption result ((separator : ChunkKeySeparator)
-        → ¬ IsSeparator (view tree.now) separator) (IsSeparator (view tree.now)) }
-{
-    match tree.as_str() {
-        Some("/") => Some(ChunkKeySeparator::Slash),
-        Some(".") => Some(ChunkKeySeparator::Dot),
-        _ => None,
-    }
-}
 
 /// The `default` encoding with a separator.
 #[derive(Clone, Copy, Debug)]
@@ -75,7 +18,7 @@ impl DefaultChunkKeyEncoding {
     ghost use Rattle.chunkwhere.specs.ChunkKey.{IsKey, default_keys};
     ghost use Rattle.chunkwhere.specs.ChunkKeyEncoding.{IsDefaultEncoding, IsDefaultEncodingFault};
     ghost use Rattle.chunkwhere.specs.seen.DefaultChunkKeyEncoding.{encoding_of};
-    ghost use Rattle.chunkwhere.specs.Metadata.{extension_of};
+    ghost use Rattle.zarrs_chunk_base.specs.Metadata.{extension_of};
     ghost use Rattle.zarrs_chunk_base.specs.Refusal.{IfRefused};
 
     /// The encoding with this separator.

@@ -8,6 +8,7 @@ use Rattle.std.specs.Int.NonZero.{non_zero_u64_get}
 use Rattle.zarrs_chunk_axes.specs.lemmas.Multiples.{next_multiple, below_next, quotient_counted, ceil_least}
 use Rattle.zarrs_chunk_axes.specs.declared.bounded_axis.BoundedAxis.{BoundedAxis}
 use Rattle.zarrs_chunk_base.specs.Dimension.{Dimension, Holds, IsChain}
+use Rattle.zarrs_chunk_base.specs.DimensionEdges.{equal}
 
 -- the dimension of an array size and an edge
 abbrev pub bounded_from : ℕ → ℕ → Dimension
@@ -55,3 +56,8 @@ bounded_is_chain axis =
       counted = λ c below. lt-ltb (c * edge) size (counted size edge c positive below);
       reaches = λ i within. (i / edge, quotient_counted size edge i positive within, quotient_within size edge i positive within);
     }
+
+-- an axis of the same array size and edge has the same dimension
+pub bounded_determined : (axis other : BoundedAxis) → axis.array_size ≡ other.array_size → equal (non_zero_u64_get axis.edge) ≡ equal (non_zero_u64_get other.edge)
+    → bounded_of axis ≡ bounded_of other
+bounded_determined axis other size edge = cc

@@ -1,5 +1,5 @@
 -- How an axis of one edge is seen as a dimension, and that it is a chain.
-use Rattle.std.specs.Prelude.{ℕ, ◌+◌, ◌*◌, ◌/◌, ◌<◌, true, refl}
+use Rattle.std.specs.Prelude.{◌≡◌, ℕ, ◌+◌, ◌*◌, ◌/◌, ◌<◌, true, refl}
 use Rattle.std.proofs.Common.{arith}
 use Rattle.std.proofs.Math.Nat.{div-mul-le_self}
 use Rattle.std.specs.Int.{div_ceil}
@@ -7,6 +7,7 @@ use Rattle.std.specs.Int.NonZero.{non_zero_u64_get}
 use Rattle.zarrs_chunk_axes.specs.lemmas.Multiples.{next_multiple, below_next, quotient_counted}
 use Rattle.zarrs_chunk_axes.specs.declared.equal_axis.EqualAxis.{EqualAxis}
 use Rattle.zarrs_chunk_base.specs.Dimension.{Dimension, Holds, IsChain}
+use Rattle.zarrs_chunk_base.specs.DimensionEdges.{equal}
 
 -- the dimension of an array size and an edge
 abbrev pub equal_from : ℕ → ℕ → Dimension
@@ -32,3 +33,8 @@ equal_is_chain axis =
       counted = λ c _. refl;
       reaches = λ i within. (i / edge, quotient_counted axis.array_size edge i positive within, quotient_holds axis.array_size edge i positive);
     }
+
+-- an axis of the same array size and edge has the same dimension
+pub equal_determined : (axis other : EqualAxis) → axis.array_size ≡ other.array_size → equal (non_zero_u64_get axis.edge) ≡ equal (non_zero_u64_get other.edge)
+    → equal_of axis ≡ equal_of other
+equal_determined axis other size edge = cc

@@ -9,6 +9,7 @@ use Rattle.std.specs.declared.num.NonZeroU64.{NonZeroU64}
 use Rattle.zarrs_chunk_axes.specs.lemmas.Running.{sum_next, take_next}
 use Rattle.zarrs_chunk_axes.specs.declared.listed_axis.ListedAxis.{ListedAxis}
 use Rattle.zarrs_chunk_base.specs.Dimension.{Dimension, Holds, IsChain}
+use Rattle.zarrs_chunk_base.specs.DimensionEdges.{listed}
 
 -- the dimension of an array size and a list of edges
 abbrev pub listed_from : ℕ → List ℕ → Dimension
@@ -20,9 +21,13 @@ listed_from size edges = record {
   end = λ c. sum (take (c + 1) edges);
 }
 
+-- how many elements each chunk has
+abbrev pub edges_in : ListedAxis → List ℕ
+edges_in axis = map non_zero_u64_get axis.edges.items
+
 -- an axis as a dimension
 abbrev pub listed_of : ListedAxis → Dimension
-listed_of axis = listed_from axis.array_size (map non_zero_u64_get axis.edges.items)
+listed_of axis = listed_from axis.array_size (edges_in axis)
 
 -- a chunk is as long as its edge
 pub end_is : (edges : List ℕ) (c : ℕ) → c < length edges → sum (take (c + 1) edges) ≡ sum (take c edges) + get_or edges c 0
@@ -65,3 +70,7 @@ listed_is_chain axis =
       counted = λ c below. lt-ltb c (length edges) below;
       reaches = λ i within. reached axis.array_size edges i (let covers = axis.covers in omega arith);
     }
+
+-- an axis of the same array size and edges has the same dimension
+pub listed_determined : (axis other : ListedAxis) → axis.array_size ≡ other.array_size → listed (edges_in axis) ≡ listed (edges_in other) → listed_of axis ≡ listed_of other
+listed_determined axis other size edges = cc

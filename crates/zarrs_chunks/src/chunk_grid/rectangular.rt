@@ -1,10 +1,18 @@
 //! The `rectangular` grid: in each dimension chunks of one edge, or with the edges of a list.
-use super::over_axes::OverAxes;
+ghost use Rattle.std.specs.Prelude.{map};
+ghost use Rattle.zarrs_chunk_axes.specs.Rectangular.{AreRectangular};
+ghost use Rattle.zarrs_chunk_axes.specs.lemmas.AcceptedOnce.{are_rectangular_once};
+ghost use Rattle.zarrs_chunk_axes.specs.seen.AxisGrid.{dimensions_of, edges_of};
+
+use super::over_axes::{OverAxes, other};
 use super::rectangular_create_error::RectangularChunkGridCreateError;
 use crate::ChunkGridTraits;
 use std::alloc::{AllocError, Global};
 use zarrs_chunk_axes::{AxisGrid, EqualOrListedAxis};
-use zarrs_chunk_base::{ArrayShape, RectangularChunkGridDimensionConfiguration, Refusal};
+use zarrs_chunk_base::{
+    ArrayShape, Configuration, ConfigurationForm, MetadataV3, PluginCreateError,
+    RectangularChunkGridConfiguration, RectangularChunkGridDimensionConfiguration, Refusal,
+};
 
 /// A grid whose chunks have one edge or listed edges in each dimension. Listed edges are those of the whole
 /// array, so there are no chunks past it in their dimension.
@@ -13,6 +21,7 @@ use zarrs_chunk_base::{ArrayShape, RectangularChunkGridDimensionConfiguration, R
 #[derive(Debug, Drop)]
 pub struct RectangularChunkGrid {
     axes: AxisGrid<EqualOrListedAxis>,
+    ghost accepted: { AreRectangular (map (λ d. d.array_size) (dimensions_of axes)) (edges_of axes) } by { are_rectangular_once _ _ },
 }
 
 impl RectangularChunkGrid {
@@ -21,6 +30,7 @@ impl RectangularChunkGrid {
     ghost use Rattle.zarrs_chunk_base.specs.Refusal.{IfRefused};
     ghost use Rattle.zarrs_chunk_axes.specs.EqualOrListed.{AreEqualOrListed};
     ghost use Rattle.zarrs_chunk_axes.specs.Rectangular.{AreRectangular};
+    ghost use Rattle.zarrs_chunk_axes.specs.seen.AxisGrid.{edges_of};
 
     /// The grid of an array with these sizes, in elements, and with these edges, one configuration a
     /// dimension.
@@ -38,6 +48,8 @@ impl RectangularChunkGrid {
         ensures made { IfOk result (λ grid. AreEqualOrListed
             (⟦<RectangularChunkGrid as ChunkGridTraits>⟧.dimensions grid)
             array_shape.items (map rectangular_edges chunk_shape.now)) }
+        ensures edges { IfOk result (λ grid. edges_of grid.axes
+            ≡ map rectangular_edges chunk_shape.now) }
         ensures refused { IfErr result (λ refusal. IfRefused refusal
             (λ _. ¬ AreRectangular array_shape.items (map rectangular_edges chunk_shape.now))) }
         ensures shape_handed_back { IfErr result
@@ -59,8 +71,10 @@ impl RectangularChunkGrid {
     /// # Errors
     /// There was no memory.
     pub fn clone(&self) -> Result<RectangularChunkGrid, AllocError>
-        ensures { IfOk result (λ grid. ⟦<RectangularChunkGrid as ChunkGridTraits>⟧.dimensions grid
+        ensures dimensions { IfOk result
+            (λ grid. ⟦<RectangularChunkGrid as ChunkGridTraits>⟧.dimensions grid
             ≡ ⟦<RectangularChunkGrid as ChunkGridTraits>⟧.dimensions self.now) }
+        ensures edges { IfOk result (λ grid. edges_of grid.axes ≡ edges_of self.now.axes) }
     {
         Ok(RectangularChunkGrid {
             axes: self.axes.clone()?,
@@ -71,14 +85,45 @@ impl RectangularChunkGrid {
 impl OverAxes for RectangularChunkGrid {
     type Kind = EqualOrListedAxis;
 
-    ghost use Rattle.zarrs_chunk_axes.specs.seen.AxisGrid.{chains_of, dimensions_of};
-    ghost use Rattle.zarrs_chunk_axes.specs.seen.EqualOrListedAxis.{equal_or_listed_is_chain};
+    ghost use Rattle.std.specs.Prelude.{List};
+    ghost use Rattle.zarrs_chunk_base.specs.DimensionEdges.{DimensionEdges};
+    ghost use Rattle.zarrs_chunks.specs.GridKinds.{rectangular};
+    ghost use Rattle.zarrs_chunk_axes.specs.seen.AxisGrid.{chains_of, determined_by, dimensions_of, edges_of};
+    ghost use Rattle.zarrs_chunk_axes.specs.seen.EqualOrListedAxis.{equal_or_listed_determined, equal_or_listed_is_chain};
+
+    ghost Said = { List DimensionEdges };
+
+    ghost grid_kind = { rectangular };
 
     ghost axis_dimensions = { λ grid. dimensions_of grid.axes };
 
+    ghost axis_edges = { λ grid. edges_of grid.axes };
+
     ghost axes_chained = { λ grid. chains_of equal_or_listed_is_chain grid.axes };
+
+    ghost determined = { λ grid other. determined_by equal_or_listed_determined grid.axes other.axes };
 
     fn axes(&self) -> &AxisGrid<EqualOrListedAxis> {
         &self.axes
+    }
+
+    fn of_metadata(
+        alloc: Global,
+        metadata: &MetadataV3,
+        array_shape: &[u64],
+    ) -> Result<RectangularChunkGrid, Refusal<PluginCreateError>> {
+        let configuration = RectangularChunkGridConfiguration::from_metadata(alloc, metadata)?;
+        let array_shape = array_shape.to_vec(alloc)?;
+        match RectangularChunkGrid::new(alloc, array_shape, &configuration.chunk_shape) {
+            Ok(grid) => Ok(grid),
+            Err(refusal) => Err(refusal.try_map(|error| other(alloc, &error.to_string(alloc)?))),
+        }
+    }
+
+    fn to_configuration(&self, alloc: Global) -> Result<Configuration, AllocError> {
+        let configuration = RectangularChunkGridConfiguration {
+            chunk_shape: self.axes.configurations(alloc)?,
+        };
+        configuration.to_tree(alloc)
     }
 }

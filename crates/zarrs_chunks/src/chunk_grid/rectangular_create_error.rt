@@ -2,7 +2,7 @@
 ghost use Rattle.std.specs.Prelude.{◌≡◌, IfOk, map};
 ghost use Rattle.zarrs_chunk_base.specs.DimensionEdges.{rectangular_edges};
 
-use super::lent_edges::{copies, write_incompatible};
+use super::lent_edges::write_incompatible;
 use std::alloc::{AllocError, Global};
 use std::error::Error;
 use std::fmt;
@@ -25,7 +25,7 @@ impl RectangularChunkGridCreateError {
         ensures { IfOk result (λ e. (e.0 ≡ array_shape)
             × (map rectangular_edges e.1.items ≡ map rectangular_edges chunk_shape.now)) }
     {
-        Ok(RectangularChunkGridCreateError(array_shape, copies(alloc, chunk_shape)?))
+        Ok(RectangularChunkGridCreateError(array_shape, chunk_shape.to_vec(alloc)?))
     }
 
     /// A copy.

@@ -1,10 +1,20 @@
 //! The `rectilinear` grid: in each dimension chunks of one edge, or with the edges of run-length elements.
-use super::over_axes::OverAxes;
+ghost use Rattle.std.specs.Prelude.{◌≡◌, map};
+ghost use Rattle.zarrs_chunk_base.specs.RunLength.{edges_of_lengths, rectilinear_edges};
+ghost use Rattle.zarrs_chunk_base.specs.seen.Configurations.{rectilinear_lengths};
+ghost use Rattle.zarrs_chunk_axes.specs.Rectilinear.{AreRectilinear};
+ghost use Rattle.zarrs_chunk_axes.specs.lemmas.AcceptedOnce.{are_rectilinear_once};
+ghost use Rattle.zarrs_chunk_axes.specs.seen.AxisGrid.{dimensions_of, edges_of};
+
+use super::over_axes::{OverAxes, other};
 use super::rectilinear_create_error::RectilinearChunkGridCreateError;
 use crate::ChunkGridTraits;
 use std::alloc::{AllocError, Global};
 use zarrs_chunk_axes::{AxisGrid, EqualOrListedAxis};
-use zarrs_chunk_base::{ArrayShape, ChunkEdgeLengths, Refusal};
+use zarrs_chunk_base::{
+    ArrayShape, ChunkEdgeLengths, Configuration, ConfigurationForm, MetadataV3, PluginCreateError,
+    RectilinearChunkGridConfiguration, Refusal,
+};
 
 /// A grid whose chunks have one edge or listed edges in each dimension, where a list may say that so many chunks
 /// in a row have one edge. Listed edges reach over the array and may reach past it; there are no other chunks in that
@@ -14,6 +24,7 @@ use zarrs_chunk_base::{ArrayShape, ChunkEdgeLengths, Refusal};
 #[derive(Debug, Drop)]
 pub struct RectilinearChunkGrid {
     axes: AxisGrid<EqualOrListedAxis>,
+    ghost accepted: { AreRectilinear (map (λ d. d.array_size) (dimensions_of axes)) (edges_of axes) } by { are_rectilinear_once _ _ },
 }
 
 impl RectilinearChunkGrid {
@@ -23,6 +34,7 @@ impl RectilinearChunkGrid {
     ghost use Rattle.zarrs_chunk_base.specs.RunLength.{rectilinear_edges, IsSameChunkEdgeLengths};
     ghost use Rattle.zarrs_chunk_axes.specs.EqualOrListed.{AreEqualOrListed};
     ghost use Rattle.zarrs_chunk_axes.specs.Rectilinear.{AreRectilinear};
+    ghost use Rattle.zarrs_chunk_axes.specs.seen.AxisGrid.{edges_of};
 
     /// The grid of an array with these sizes, in elements, and with these edges, one item a dimension.
     ///
@@ -40,6 +52,8 @@ impl RectilinearChunkGrid {
         ensures made { IfOk result (λ grid. AreEqualOrListed
             (⟦<RectilinearChunkGrid as ChunkGridTraits>⟧.dimensions grid)
             array_shape.items (map rectilinear_edges chunk_shapes.now)) }
+        ensures edges { IfOk result (λ grid. edges_of grid.axes
+            ≡ map rectilinear_edges chunk_shapes.now) }
         ensures refused { IfErr result (λ refusal. IfRefused refusal
             (λ _. ¬ AreRectilinear array_shape.items (map rectilinear_edges chunk_shapes.now))) }
         ensures shape_handed_back { IfErr result
@@ -61,8 +75,10 @@ impl RectilinearChunkGrid {
     /// # Errors
     /// There was no memory.
     pub fn clone(&self) -> Result<RectilinearChunkGrid, AllocError>
-        ensures { IfOk result (λ grid. ⟦<RectilinearChunkGrid as ChunkGridTraits>⟧.dimensions grid
+        ensures dimensions { IfOk result
+            (λ grid. ⟦<RectilinearChunkGrid as ChunkGridTraits>⟧.dimensions grid
             ≡ ⟦<RectilinearChunkGrid as ChunkGridTraits>⟧.dimensions self.now) }
+        ensures edges { IfOk result (λ grid. edges_of grid.axes ≡ edges_of self.now.axes) }
     {
         Ok(RectilinearChunkGrid {
             axes: self.axes.clone()?,
@@ -73,14 +89,55 @@ impl RectilinearChunkGrid {
 impl OverAxes for RectilinearChunkGrid {
     type Kind = EqualOrListedAxis;
 
-    ghost use Rattle.zarrs_chunk_axes.specs.seen.AxisGrid.{chains_of, dimensions_of};
-    ghost use Rattle.zarrs_chunk_axes.specs.seen.EqualOrListedAxis.{equal_or_listed_is_chain};
+    ghost use Rattle.std.specs.Prelude.{List};
+    ghost use Rattle.zarrs_chunk_base.specs.RunLength.{EdgeLengths};
+    ghost use Rattle.zarrs_chunks.specs.GridKinds.{rectilinear};
+    ghost use Rattle.zarrs_chunk_axes.specs.seen.AxisGrid.{chains_of, determined_by, dimensions_of, edges_of};
+    ghost use Rattle.zarrs_chunk_axes.specs.seen.EqualOrListedAxis.{equal_or_listed_determined, equal_or_listed_is_chain};
+
+    ghost Said = { List EdgeLengths };
+
+    ghost grid_kind = { rectilinear };
 
     ghost axis_dimensions = { λ grid. dimensions_of grid.axes };
 
+    ghost axis_edges = { λ grid. edges_of grid.axes };
+
     ghost axes_chained = { λ grid. chains_of equal_or_listed_is_chain grid.axes };
+
+    ghost determined = { λ grid other. determined_by equal_or_listed_determined grid.axes other.axes };
 
     fn axes(&self) -> &AxisGrid<EqualOrListedAxis> {
         &self.axes
+    }
+
+    fn of_metadata(
+        alloc: Global,
+        metadata: &MetadataV3,
+        array_shape: &[u64],
+    ) -> Result<RectilinearChunkGrid, Refusal<PluginCreateError>> {
+        let configuration = RectilinearChunkGridConfiguration::from_metadata(alloc, metadata)?;
+        let array_shape = array_shape.to_vec(alloc)?;
+        match RectilinearChunkGrid::new(alloc, array_shape, chunk_shapes_in(&configuration)) {
+            Ok(grid) => Ok(grid),
+            Err(refusal) => Err(refusal.try_map(|error| other(alloc, &error.to_string(alloc)?))),
+        }
+    }
+
+    fn to_configuration(&self, alloc: Global) -> Result<Configuration, AllocError> {
+        let configuration = RectilinearChunkGridConfiguration::Inline {
+            chunk_shapes: self.axes.configurations(alloc)?,
+        };
+        configuration.to_tree(alloc)
+    }
+}
+
+/// The edges in each dimension.
+fn chunk_shapes_in(configuration: &RectilinearChunkGridConfiguration) -> &[ChunkEdgeLengths]
+    ensures { map rectilinear_edges result.now
+        ≡ map edges_of_lengths (rectilinear_lengths configuration.now) }
+{
+    match configuration {
+        RectilinearChunkGridConfiguration::Inline { chunk_shapes } => chunk_shapes,
     }
 }

@@ -3,7 +3,7 @@ ghost use Rattle.std.specs.Prelude.{◌≡◌, IfOk};
 ghost use Rattle.std.specs.List.{AllZip};
 ghost use Rattle.zarrs_chunk_base.specs.RunLength.{IsSameChunkEdgeLengths};
 
-use super::lent_edges::{copies, write_incompatible};
+use super::lent_edges::write_incompatible;
 use std::alloc::{AllocError, Global};
 use std::error::Error;
 use std::fmt;
@@ -23,7 +23,7 @@ impl RectilinearChunkGridCreateError {
         ensures { IfOk result (λ e. (e.0 ≡ array_shape)
             × AllZip IsSameChunkEdgeLengths e.1.items chunk_shapes.now) }
     {
-        Ok(RectilinearChunkGridCreateError(array_shape, copies(alloc, chunk_shapes)?))
+        Ok(RectilinearChunkGridCreateError(array_shape, chunk_shapes.to_vec(alloc)?))
     }
 
     /// A copy.

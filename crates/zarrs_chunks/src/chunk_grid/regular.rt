@@ -4,13 +4,16 @@ ghost use Rattle.std.specs.Int.NonZero.{non_zero_u64_get};
 ghost use Rattle.zarrs_chunk_axes.specs.seen.AxisGrid.{dimensions_of};
 
 use super::edges::edge_numbers;
-use super::over_axes::OverAxes;
+use super::over_axes::{OverAxes, other};
 use super::regular_create_error::RegularChunkGridCreateError;
 use crate::ChunkGridTraits;
 use std::alloc::{AllocError, Global};
 use std::num::NonZeroU64;
 use zarrs_chunk_axes::{AxisGrid, EqualAxis};
-use zarrs_chunk_base::{ArrayShape, ChunkShape, Refusal};
+use zarrs_chunk_base::{
+    ArrayShape, ChunkShape, Configuration, ConfigurationForm, MetadataV3, PluginCreateError,
+    Refusal, RegularChunkGridConfiguration,
+};
 
 /// A grid whose chunks all have one shape. Chunk numbers and indices past the array have their
 /// chunks and places too.
@@ -27,7 +30,9 @@ pub struct RegularChunkGrid {
 impl RegularChunkGrid {
     ghost use Rattle.std.specs.Prelude.{◌≡◌, ◌≢◌, IfErr, IfOk, length, map};
     ghost use Rattle.zarrs_chunk_base.specs.Refusal.{HasMemory, IfRefused};
+    ghost use Rattle.zarrs_chunk_base.specs.DimensionEdges.{equal};
     ghost use Rattle.zarrs_chunk_axes.specs.EqualEdges.{AreEqualEdges, HaveEqualEdges};
+    ghost use Rattle.zarrs_chunk_axes.specs.seen.AxisGrid.{edges_of};
 
     /// The grid of an array with these sizes, cut into chunks with these edges, both in elements,
     /// one number a dimension.
@@ -42,6 +47,8 @@ impl RegularChunkGrid {
         ensures made { IfOk result (λ grid. AreEqualEdges
             (⟦<RegularChunkGrid as ChunkGridTraits>⟧.dimensions grid)
             array_shape.items (map non_zero_u64_get chunk_shape.items)) }
+        ensures edges { IfOk result (λ grid. edges_of grid.axes ≡ map equal
+            (map non_zero_u64_get chunk_shape.items)) }
         ensures refused { IfErr result (λ refusal. IfRefused refusal
             (λ _. length chunk_shape.items ≢ length array_shape.items)) }
         ensures handed_back { IfErr result (λ refusal. IfRefused refusal (λ e. (e.0 ≡ array_shape)
@@ -84,8 +91,10 @@ impl RegularChunkGrid {
     /// # Errors
     /// There was no memory.
     pub fn clone(&self) -> Result<RegularChunkGrid, AllocError>
-        ensures { IfOk result (λ grid. ⟦<RegularChunkGrid as ChunkGridTraits>⟧.dimensions grid
+        ensures dimensions { IfOk result
+            (λ grid. ⟦<RegularChunkGrid as ChunkGridTraits>⟧.dimensions grid
             ≡ ⟦<RegularChunkGrid as ChunkGridTraits>⟧.dimensions self.now) }
+        ensures edges { IfOk result (λ grid. edges_of grid.axes ≡ edges_of self.now.axes) }
     {
         Ok(RegularChunkGrid {
             axes: self.axes.clone()?,
@@ -97,14 +106,47 @@ impl RegularChunkGrid {
 impl OverAxes for RegularChunkGrid {
     type Kind = EqualAxis;
 
-    ghost use Rattle.zarrs_chunk_axes.specs.seen.AxisGrid.{chains_of};
-    ghost use Rattle.zarrs_chunk_axes.specs.seen.EqualAxis.{equal_is_chain};
+    ghost use Rattle.std.specs.Prelude.{ℕ, List};
+    ghost use Rattle.zarrs_chunks.specs.GridKinds.{regular};
+    ghost use Rattle.zarrs_chunk_axes.specs.seen.AxisGrid.{chains_of, determined_by, edges_of};
+    ghost use Rattle.zarrs_chunk_axes.specs.seen.EqualAxis.{equal_determined, equal_is_chain};
+
+    ghost Said = { List ℕ };
+
+    ghost grid_kind = { regular };
 
     ghost axis_dimensions = { λ grid. dimensions_of grid.axes };
 
+    ghost axis_edges = { λ grid. edges_of grid.axes };
+
     ghost axes_chained = { λ grid. chains_of equal_is_chain grid.axes };
+
+    ghost determined = { λ grid other. determined_by equal_determined grid.axes other.axes };
 
     fn axes(&self) -> &AxisGrid<EqualAxis> {
         &self.axes
     }
+
+    fn of_metadata(
+        alloc: Global,
+        metadata: &MetadataV3,
+        array_shape: &[u64],
+    ) -> Result<RegularChunkGrid, Refusal<PluginCreateError>> {
+        let configuration = RegularChunkGridConfiguration::from_metadata(alloc, metadata)?;
+        let array_shape = array_shape.to_vec(alloc)?;
+        match RegularChunkGrid::new(alloc, array_shape, configuration.chunk_shape) {
+            Ok(grid) => Ok(grid),
+            Err(refusal) => Err(refusal.try_map(|_| other(alloc, INCONSISTENT_DIMENSIONALITY))),
+        }
+    }
+
+    fn to_configuration(&self, alloc: Global) -> Result<Configuration, AllocError> {
+        let configuration = RegularChunkGridConfiguration {
+            chunk_shape: self.axes.configurations(alloc)?,
+        };
+        configuration.to_tree(alloc)
+    }
 }
+
+const INCONSISTENT_DIMENSIONALITY: &str =
+    "regular chunk shape and array shape have inconsistent dimensionality";

@@ -1,9 +1,12 @@
 //! The `regular_bounded` grid: chunks that all have one shape, save at the array's end.
-use super::over_axes::OverAxes;
+use super::over_axes::{OverAxes, other};
 use crate::ChunkGridTraits;
 use std::alloc::{AllocError, Global};
 use zarrs_chunk_axes::{AxisGrid, BoundedAxis};
-use zarrs_chunk_base::{ArrayShape, ChunkShape, IncompatibleDimensionalityError, Refusal};
+use zarrs_chunk_base::{
+    ArrayShape, ChunkShape, Configuration, ConfigurationForm, IncompatibleDimensionalityError,
+    MetadataV3, PluginCreateError, Refusal, RegularBoundedChunkGridConfiguration,
+};
 
 /// A grid whose chunks all have one shape, save that none reaches past the array. There are no chunks past
 /// the array, and none along a dimension of size 0.
@@ -18,7 +21,9 @@ impl RegularBoundedChunkGrid {
     ghost use Rattle.std.specs.Prelude.{◌≡◌, ◌≢◌, IfOk, IfErr, length, map};
     ghost use Rattle.std.specs.Int.NonZero.{non_zero_u64_get};
     ghost use Rattle.zarrs_chunk_base.specs.Refusal.{HasMemory, IfRefused, TellsLengths};
+    ghost use Rattle.zarrs_chunk_base.specs.DimensionEdges.{equal};
     ghost use Rattle.zarrs_chunk_axes.specs.Bounded.{AreBounded};
+    ghost use Rattle.zarrs_chunk_axes.specs.seen.AxisGrid.{edges_of};
 
     /// The grid of an array with these sizes, cut into chunks with these edges, both in elements,
     /// one number a dimension.
@@ -34,6 +39,8 @@ impl RegularBoundedChunkGrid {
         ensures made { IfOk result (λ grid. AreBounded
             (⟦<RegularBoundedChunkGrid as ChunkGridTraits>⟧.dimensions grid)
             array_shape.items (map non_zero_u64_get chunk_shape.items)) }
+        ensures edges { IfOk result (λ grid. edges_of grid.axes ≡ map equal
+            (map non_zero_u64_get chunk_shape.items)) }
         ensures refused { IfErr result (λ refusal. IfRefused refusal
             (λ _. length chunk_shape.items ≢ length array_shape.items)) }
         ensures told { IfErr result (λ refusal. IfRefused refusal
@@ -54,9 +61,10 @@ impl RegularBoundedChunkGrid {
     /// # Errors
     /// There was no memory.
     pub fn clone(&self) -> Result<RegularBoundedChunkGrid, AllocError>
-        ensures { IfOk result
+        ensures dimensions { IfOk result
             (λ grid. ⟦<RegularBoundedChunkGrid as ChunkGridTraits>⟧.dimensions grid
             ≡ ⟦<RegularBoundedChunkGrid as ChunkGridTraits>⟧.dimensions self.now) }
+        ensures edges { IfOk result (λ grid. edges_of grid.axes ≡ edges_of self.now.axes) }
     {
         Ok(RegularBoundedChunkGrid {
             axes: self.axes.clone()?,
@@ -67,14 +75,47 @@ impl RegularBoundedChunkGrid {
 impl OverAxes for RegularBoundedChunkGrid {
     type Kind = BoundedAxis;
 
-    ghost use Rattle.zarrs_chunk_axes.specs.seen.AxisGrid.{chains_of, dimensions_of};
-    ghost use Rattle.zarrs_chunk_axes.specs.seen.BoundedAxis.{bounded_is_chain};
+    ghost use Rattle.std.specs.Prelude.{ℕ, List};
+    ghost use Rattle.zarrs_chunks.specs.GridKinds.{regular_bounded};
+    ghost use Rattle.zarrs_chunk_axes.specs.seen.AxisGrid.{chains_of, determined_by, dimensions_of, edges_of};
+    ghost use Rattle.zarrs_chunk_axes.specs.seen.BoundedAxis.{bounded_determined, bounded_is_chain};
+
+    ghost Said = { List ℕ };
+
+    ghost grid_kind = { regular_bounded };
 
     ghost axis_dimensions = { λ grid. dimensions_of grid.axes };
 
+    ghost axis_edges = { λ grid. edges_of grid.axes };
+
     ghost axes_chained = { λ grid. chains_of bounded_is_chain grid.axes };
+
+    ghost determined = { λ grid other. determined_by bounded_determined grid.axes other.axes };
 
     fn axes(&self) -> &AxisGrid<BoundedAxis> {
         &self.axes
     }
+
+    fn of_metadata(
+        alloc: Global,
+        metadata: &MetadataV3,
+        array_shape: &[u64],
+    ) -> Result<RegularBoundedChunkGrid, Refusal<PluginCreateError>> {
+        let configuration = RegularBoundedChunkGridConfiguration::from_metadata(alloc, metadata)?;
+        let array_shape = array_shape.to_vec(alloc)?;
+        match RegularBoundedChunkGrid::new(alloc, array_shape, configuration.chunk_shape) {
+            Ok(grid) => Ok(grid),
+            Err(refusal) => Err(refusal.try_map(|_| other(alloc, INCONSISTENT_DIMENSIONALITY))),
+        }
+    }
+
+    fn to_configuration(&self, alloc: Global) -> Result<Configuration, AllocError> {
+        let configuration = RegularBoundedChunkGridConfiguration {
+            chunk_shape: self.axes.configurations(alloc)?,
+        };
+        configuration.to_tree(alloc)
+    }
 }
+
+const INCONSISTENT_DIMENSIONALITY: &str =
+    "`regular_bounded` chunk shape and array shape have inconsistent dimensionality";

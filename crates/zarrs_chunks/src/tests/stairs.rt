@@ -3,9 +3,12 @@ ghost use Rattle.std.specs.Prelude.{◌≡◌, ◌∷◌, [], MatchResult, lengt
 ghost use Rattle.zarrs_chunk_base.specs.Refusal.{RefusesLength};
 
 use crate::ChunkGridTraits;
-use std::alloc::Global;
+use std::alloc::{AllocError, Global};
 use std::num::NonZeroU64;
-use zarrs_chunk_base::{ArrayIndices, ChunkShape, IncompatibleDimensionalityError, Refusal};
+use zarrs_chunk_base::{
+    ArrayIndices, ChunkShape, Configuration, IncompatibleDimensionalityError, MetadataV3,
+    PluginCreateError, Refusal,
+};
 
 /// One dimension of six elements, in chunks of the edges 1, 2 and 3.
 #[derive(Debug, Drop)]
@@ -18,6 +21,24 @@ impl ChunkGridTraits for Stairs {
     ghost dimensions = { λ _. stairs ∷ [] };
 
     ghost chained = { λ _. (stairs_is_chain, tt) };
+
+    fn create(
+        alloc: Global,
+        _metadata: &MetadataV3,
+        array_shape: &[u64],
+    ) -> Result<Stairs, Refusal<PluginCreateError>> {
+        match array_shape {
+            [6] => Ok(Stairs),
+            _ => {
+                let text = String::from_str(alloc, "stairs have one dimension of six elements")?;
+                Err(Refusal::Refused(PluginCreateError::Other(text)))
+            }
+        }
+    }
+
+    fn configuration(&self, alloc: Global) -> Result<Configuration, AllocError> {
+        Ok(Configuration::new(alloc))
+    }
 
     fn dimensionality(&self) -> usize {
         1

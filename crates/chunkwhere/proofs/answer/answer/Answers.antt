@@ -8,7 +8,7 @@ use Rattle.chunkwhere.specs.Document.{Document, document_of}
 use Rattle.chunkwhere.specs.RunFault.{OrMemory, fault_of}
 use Rattle.chunkwhere.specs.declared.run_fault.RunFault.{RunFault}
 use Rattle.chunkwhere.specs.declared.run_fault.RunFault.TheVariants.{Encoding}
-use Rattle.chunkwhere.proofs.MappedErrors.{value_is_kept}
+use Rattle.zarrs_chunk_base.proofs.MappedErrors.{value_is_kept}
 use Rattle.chunkwhere.proofs.answer.answer.Goals as goal
 
 -- the fault is that of the document's encoding

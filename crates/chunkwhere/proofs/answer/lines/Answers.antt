@@ -5,7 +5,7 @@ use Rattle.zarrs_chunk_base.specs.Refusal.{TellsLengths}
 use Rattle.zarrs_chunk_base.specs.declared.incompatible_dimensionality_error.IncompatibleDimensionalityError.{IncompatibleDimensionalityError}
 use Rattle.chunkwhere.specs.Answer.{IsFirstWrongLength}
 use Rattle.chunkwhere.proofs.Lines.{lists_of, rest_begins_with, nothing_left, so_far_at_start, so_far_with_line, wrong_length_is_first, so_far_at_end}
-use Rattle.chunkwhere.proofs.MappedErrors.{value_is_kept}
+use Rattle.zarrs_chunk_base.proofs.MappedErrors.{value_is_kept}
 use Rattle.chunkwhere.proofs.answer.lines.Goals as goal
 
 pub loop-position-init : goal.loop-position-init

@@ -1,6 +1,6 @@
 use Rattle.std.proofs.Common.{refl, ◌∙◌}
 use Rattle.chunkwhere.specs.ChunkKeyEncoding.{name_unsupported}
-use Rattle.chunkwhere.proofs.MemberNames.{only_one}
+use Rattle.chunkwhere.proofs.OneName.{only_one}
 use Rattle.chunkwhere.proofs.chunk_key_encoding.from_metadata.Goals as goal
 
 -- a name that isn't the one of the list isn't in it

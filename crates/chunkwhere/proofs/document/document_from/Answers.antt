@@ -2,7 +2,7 @@ use Rattle.std.proofs.Common.{◌≡◌, None, Some, is_some, option_map, refl, 
 use Rattle.std.proofs.lemmas.Result.{err_from_is_err_and}
 use Rattle.serde_json.specs.View.{view}
 use Rattle.chunkwhere.specs.Document.{shape_of, indices_of}
-use Rattle.chunkwhere.specs.Metadata.{extension_of}
+use Rattle.zarrs_chunk_base.specs.Metadata.{extension_of}
 use Rattle.chunkwhere.proofs.DocumentMembers.{numbers, lists, shape_is, indices_is, has_members, encoding_fault}
 use Rattle.chunkwhere.proofs.document.document_from.Goals as goal
 

@@ -1,4 +1,4 @@
-use Rattle.chunkwhere.proofs.MappedErrors.{value_is_kept}
+use Rattle.zarrs_chunk_base.proofs.MappedErrors.{value_is_kept}
 use Rattle.chunkwhere.proofs.document.member_metadata.Goals as goal
 
 pub returns : goal.returns

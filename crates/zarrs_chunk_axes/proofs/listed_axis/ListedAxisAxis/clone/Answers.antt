@@ -8,7 +8,12 @@ invariant_of-result c =
     let starts : c.in_ok-clone-2.field-0.items ≡ c.args.self.now.starts.items = each_same _ _ c.in_ok-clone-2.ensures.cases.0 in
     record { covers = rw edges c.args.self.now.covers; running = rw (starts, edges) c.args.self.now.running }
 
-pub returns : goal.returns
-returns c =
+pub returns-clause-dimension : goal.returns-clause-dimension
+returns-clause-dimension c =
+    let edges : c.in_ok-clone.field-0.items ≡ c.args.self.now.edges.items = each_same _ _ c.in_ok-clone.ensures.cases.0 in
+    rw edges
+
+pub returns-clause-edges : goal.returns-clause-edges
+returns-clause-edges c =
     let edges : c.in_ok-clone.field-0.items ≡ c.args.self.now.edges.items = each_same _ _ c.in_ok-clone.ensures.cases.0 in
     rw edges

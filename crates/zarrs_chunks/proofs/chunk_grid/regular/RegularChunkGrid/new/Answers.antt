@@ -1,3 +1,6 @@
+use Rattle.std.proofs.Common.{◌∙◌, sym}
+use Rattle.std.proofs.lemmas.Simd.{map-map}
+use Rattle.zarrs_chunk_base.specs.DimensionEdges.{equal}
 use Rattle.std.specs.Int.NonZero.{non_zero_u64_get}
 use Rattle.zarrs_chunk_base.proofs.Refusals.{own_through}
 use Rattle.zarrs_chunk_axes.proofs.EqualAxes.{edges_are}
@@ -17,3 +20,6 @@ returns-in-Err-clause-refused c =
 pub returns-in-Err-clause-refused_first : goal.returns-in-Err-clause-refused_first
 returns-in-Err-clause-refused_first c = λ unequal.
     own_through _ _ _ c.map.ensures (c.in-Err.ensures.refused_first (rw c.deref.ensures.value (λ all. unequal ((any_accepted _ _ _).0 all))))
+
+pub returns-in-Ok-clause-edges : goal.returns-in-Ok-clause-edges
+returns-in-Ok-clause-edges c = rw c.deref.ensures.value at c.in-Ok.ensures.edges ∙ sym (map-map equal non_zero_u64_get _)

@@ -1,8 +1,0 @@
-use Rattle.std.proofs.Common.{rules}
-use Rattle.chunkwhere.specs.Metadata.{object}
-use Rattle.chunkwhere.proofs.metadata.MetadataV3.from_tree.Goals as goal
-
-pub returns : goal.returns
-returns c =
-    let must_understand = c.in_ok-check_must_understand.ensures in
-    object must_understand.0 (search rules) c.in_ok-configuration.ensures must_understand.1

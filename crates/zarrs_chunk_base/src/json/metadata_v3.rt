@@ -1,0 +1,170 @@
+//! The metadata of an extension: a name, and for some a configuration.
+ghost use Rattle.std.specs.Prelude.{◌≡◌, Bool, IfOk, MatchResult, Option, codes, option_map};
+ghost use Rattle.serde_json.specs.Find.{get, as_bool, as_object};
+ghost use Rattle.serde_json.specs.View.{view, members_view};
+ghost use Rattle.zarrs_chunk_base.specs.Metadata.{IsMisformed, IsOptional};
+ghost use Rattle.zarrs_chunk_base.specs.Refusal.{IfRefused};
+
+use crate::{Configuration, MetadataError, Refusal};
+use serde_json::{Map, Value};
+use std::alloc::{AllocError, Global};
+
+/// The metadata of an extension of Zarr V3: its name, and for some a configuration.
+///
+/// ```json
+/// {"name": "regular", "configuration": {"chunk_shape": [1, 2, 3]}}
+/// ```
+///
+/// Source: Zarr V3 core, extension definition.
+#[derive(Debug, Drop, PartialEq)]
+pub struct MetadataV3 {
+    name: String,
+    configuration: Option<Configuration>,
+}
+
+impl MetadataV3 {
+    ghost use Rattle.std.specs.Prelude.{◌≡◌, IfOk, MatchResult, option_map, string_bytes};
+    ghost use Rattle.serde_json.specs.View.{view, members_view};
+    ghost use Rattle.zarrs_chunk_base.specs.Metadata.{extension_of, extension_tree, IsExtension, IsMetadataFault};
+    ghost use Rattle.zarrs_chunk_base.specs.Refusal.{IfRefused};
+
+    /// The metadata of a name and, where there is one, a configuration.
+    pub fn new(name: String, configuration: Option<Configuration>) -> MetadataV3
+        ensures name { (extension_of result).name ≡ string_bytes name }
+        ensures configuration { (extension_of result).configuration
+            ≡ option_map (λ c. members_view c.entries) configuration }
+    {
+        MetadataV3 {
+            name,
+            configuration,
+        }
+    }
+
+    /// The metadata that a tree stands for: a text, which is the name alone, or an object with a
+    /// `name` and an optional `configuration`. Its `must_understand` has to be a truth value and
+    /// isn't kept; other members are ignored.
+    ///
+    /// # Errors
+    /// The first fault of the tree, or there was no memory.
+    pub fn from_tree(alloc: Global, tree: &Value) -> Result<MetadataV3, Refusal<MetadataError>>
+        ensures { MatchResult result (λ m. IsExtension (view tree.now) (extension_of m))
+            (λ refusal. IfRefused refusal (IsMetadataFault (view tree.now))) }
+    {
+        if let Some(name) = tree.as_str() {
+            return Ok(MetadataV3 {
+                name: String::from_str(alloc, name)?,
+                configuration: None,
+            });
+        }
+        if !tree.is_object() {
+            return Err(Refusal::Refused(MetadataError::NotAnExtension));
+        }
+        let Some(name) = tree.get("name") else {
+            return Err(Refusal::Refused(MetadataError::NameMissing));
+        };
+        let Some(name) = name.as_str() else {
+            return Err(Refusal::Refused(MetadataError::NameNotText));
+        };
+        let configuration = configuration_of(tree)?;
+        check_must_understand(tree)?;
+        Ok(MetadataV3 {
+            name: String::from_str(alloc, name)?,
+            configuration,
+        })
+    }
+
+    /// The extension's name.
+    pub fn name(&self) -> &str
+        ensures { result.now ≡ (extension_of self.now).name }
+    {
+        self.name.as_str()
+    }
+
+    /// The extension's configuration, where there is one.
+    pub fn configuration(&self) -> Option<&Configuration>
+        ensures { option_map (λ c. members_view c.now.entries) result
+            ≡ (extension_of self.now).configuration }
+    {
+        self.configuration.as_ref()
+    }
+
+    /// The tree of the metadata: the name alone, as a text, where there is no configuration; else an object with
+    /// `name` and `configuration`.
+    ///
+    /// # Errors
+    /// There was no memory.
+    pub fn to_tree(&self, alloc: Global) -> Result<Value, AllocError>
+        ensures tree { IfOk result (λ tree. view tree ≡ extension_tree (extension_of self.now)) }
+        ensures reads_back { IfOk result (λ tree. IsExtension (view tree) (extension_of self.now)) }
+    {
+        let name = Value::try_from_str(alloc, self.name.as_str())?;
+        let Some(configuration) = &self.configuration else {
+            return Ok(name);
+        };
+        let mut members = Map::new(alloc);
+        let configuration = Value::Object(copy_of(configuration)?);
+        serde_json::put(&mut members, alloc, "configuration", configuration)?;
+        serde_json::put(&mut members, alloc, "name", name)?;
+        Ok(Value::Object(members))
+    }
+
+    /// Metadata of an equal name and an equal configuration.
+    ///
+    /// # Errors
+    /// There was no memory.
+    pub fn clone(&self) -> Result<MetadataV3, AllocError>
+        ensures { IfOk result (λ copy. extension_of copy ≡ extension_of self.now) }
+    {
+        Ok(MetadataV3 {
+            name: self.name.clone()?,
+            configuration: match &self.configuration {
+                Some(configuration) => Some(copy_of(configuration)?),
+                None => None,
+            },
+        })
+    }
+}
+
+/// A copy of a configuration.
+fn copy_of(configuration: &Configuration) -> Result<Configuration, AllocError>
+    ensures { IfOk result (λ copy. members_view copy.entries
+        ≡ members_view configuration.now.entries) }
+{
+    let copy = configuration.clone()?;
+    Ok(copy)
+}
+
+/// A copy of the member `configuration`, where there is one.
+fn configuration_of(tree: &Value) -> Result<Option<Configuration>, Refusal<MetadataError>>
+    ensures { MatchResult result
+        (λ c. IsOptional as_object (get (codes "configuration") (view tree.now)) (option_map
+        (λ c. members_view c.entries) c))
+        (λ refusal. IfRefused refusal (λ error. (error ≡ MetadataError.ConfigurationNotObject)
+        × IsMisformed as_object (get (codes "configuration") (view tree.now)))) }
+{
+    match tree.get("configuration") {
+        None => Ok(None),
+        Some(configuration) => match configuration.clone()? {
+            Value::Object(members) => Ok(Some(members)),
+            _ => Err(Refusal::Refused(MetadataError::ConfigurationNotObject)),
+        },
+    }
+}
+
+/// Refuses a member `must_understand` that is no truth value.
+fn check_must_understand(tree: &Value) -> Result<(), Refusal<MetadataError>>
+    ensures { MatchResult result
+        (λ _. (b : Option Bool) × IsOptional as_bool
+        (get (codes "must_understand") (view tree.now)) b)
+        (λ refusal. IfRefused refusal (λ error. (error ≡ MetadataError.MustUnderstandNotBool)
+        × IsMisformed as_bool (get (codes "must_understand") (view tree.now)))) }
+{
+    let Some(must_understand) = tree.get("must_understand") else {
+        return Ok(());
+    };
+    if must_understand.is_boolean() {
+        Ok(())
+    } else {
+        Err(Refusal::Refused(MetadataError::MustUnderstandNotBool))
+    }
+}

@@ -1,0 +1,172 @@
+//! Values that a JSON tree may stand for: sizes, edges, texts, and lists of them.
+ghost use Rattle.std.specs.Prelude.{◌≡◌, IfOk, List, Option, Some, [], ◌∷◌, map, option_map, slice_index, string_bytes, ℕ};
+ghost use Rattle.std.specs.Int.NonZero.{non_zero_u64_get};
+ghost use Rattle.serde_json.specs.Data.{Data, string};
+ghost use Rattle.serde_json.specs.Find.{as_str};
+ghost use Rattle.serde_json.specs.View.{view};
+ghost use Rattle.zarrs_chunk_base.specs.Json.{size_of, edge_of, list_of, pair_of, size_tree, list_tree};
+
+use serde_json::Value;
+use std::alloc::{AllocError, Global};
+use std::num::NonZeroU64;
+
+/// A value that a JSON tree may stand for.
+pub trait TreeForm: Sized + Drop {
+    /// What a value is, without where it lies in memory.
+    ghost Seen: { Type 0 };
+
+    ghost seen: { Self → Seen };
+
+    /// What a tree stands for, if it is of the form.
+    ghost form: { Data → Option Seen };
+
+    /// The tree that a value is written as.
+    ghost written: { Seen → Data };
+
+    /// The value that a tree stands for, or `None` where the tree isn't of the form.
+    ///
+    /// # Errors
+    /// There was no memory.
+    fn from_tree(alloc: Global, tree: &Value) -> Result<Option<Self>, AllocError>
+        ensures { IfOk result (λ o. option_map seen o ≡ form (view tree.now)) };
+
+    /// The tree of the value, which stands for it.
+    ///
+    /// # Errors
+    /// There was no memory.
+    fn to_tree(&self, alloc: Global) -> Result<Value, AllocError>
+        ensures tree { IfOk result (λ value. view value ≡ written (seen self.now)) }
+        ensures reads_back { IfOk result (λ value. form (view value) ≡ Some (seen self.now)) };
+}
+
+/// A size: a whole number from 0 to the greatest `u64`.
+impl TreeForm for u64 {
+    ghost Seen = { ℕ };
+
+    ghost seen = { λ n. n };
+
+    ghost form = { size_of };
+
+    ghost written = { size_tree };
+
+    fn from_tree(_alloc: Global, tree: &Value) -> Result<Option<u64>, AllocError> {
+        Ok(tree.as_u64())
+    }
+
+    fn to_tree(&self, _alloc: Global) -> Result<Value, AllocError> {
+        Ok(Value::from(*self))
+    }
+}
+
+/// An edge: a size that isn't 0.
+impl TreeForm for NonZeroU64 {
+    ghost Seen = { ℕ };
+
+    ghost seen = { non_zero_u64_get };
+
+    ghost form = { edge_of };
+
+    ghost written = { size_tree };
+
+    fn from_tree(_alloc: Global, tree: &Value) -> Result<Option<NonZeroU64>, AllocError> {
+        Ok(tree.as_u64().and_then(NonZeroU64::new))
+    }
+
+    fn to_tree(&self, _alloc: Global) -> Result<Value, AllocError> {
+        Ok(Value::from(self.get()))
+    }
+}
+
+/// A text.
+impl TreeForm for String {
+    ghost Seen = { List ℕ };
+
+    ghost seen = { string_bytes };
+
+    ghost form = { as_str };
+
+    ghost written = { string };
+
+    fn from_tree(alloc: Global, tree: &Value) -> Result<Option<String>, AllocError> {
+        match tree.as_str() {
+            Some(text) => Ok(Some(String::from_str(alloc, text)?)),
+            None => Ok(None),
+        }
+    }
+
+    fn to_tree(&self, alloc: Global) -> Result<Value, AllocError> {
+        Value::try_from_str(alloc, self.as_str())
+    }
+}
+
+/// A list of values of one form.
+impl<T: TreeForm> TreeForm for Vec<T> {
+    ghost Seen = { List T.Seen };
+
+    ghost seen = { λ v. map T.seen v.items };
+
+    ghost form = { list_of T.form };
+
+    ghost written = { list_tree T.written };
+
+    fn from_tree(alloc: Global, tree: &Value) -> Result<Option<Vec<T>>, AllocError> {
+        let Some(elements) = tree.as_array() else {
+            return Ok(None);
+        };
+        let mut values = Vec::with_capacity(alloc, elements.len())?;
+        for element in elements {
+            let Some(value) = T::from_tree(alloc, element)? else {
+                return Ok(None);
+            };
+            values.push(value)?;
+        }
+        Ok(Some(values))
+    }
+
+    fn to_tree(&self, alloc: Global) -> Result<Value, AllocError> {
+        let mut trees = Vec::with_capacity(alloc, self.len())?;
+        for value in self {
+            trees.push(value.to_tree(alloc)?)?;
+        }
+        Ok(Value::Array(trees))
+    }
+}
+
+/// Two edges, one after the other.
+impl TreeForm for [NonZeroU64; 2] {
+    ghost Seen = { ℕ × ℕ };
+
+    ghost seen = { λ pair. (
+      slice_index (map non_zero_u64_get pair) 0,
+      slice_index
+          (map non_zero_u64_get pair) 1,
+    ) };
+
+    ghost form = { pair_of edge_of };
+
+    ghost written = { λ pair. list_tree size_tree (pair.0 ∷ pair.1 ∷ []) };
+
+    fn from_tree(alloc: Global, tree: &Value) -> Result<Option<[NonZeroU64; 2]>, AllocError> {
+        let Some(elements) = tree.as_array() else {
+            return Ok(None);
+        };
+        let [first, second] = elements.as_slice() else {
+            return Ok(None);
+        };
+        match (
+            NonZeroU64::from_tree(alloc, first)?,
+            NonZeroU64::from_tree(alloc, second)?,
+        ) {
+            (Some(first), Some(second)) => Ok(Some([first, second])),
+            _ => Ok(None),
+        }
+    }
+
+    fn to_tree(&self, alloc: Global) -> Result<Value, AllocError> {
+        let [first, second] = self;
+        let mut trees = Vec::with_capacity(alloc, 2)?;
+        trees.push(first.to_tree(alloc)?)?;
+        trees.push(second.to_tree(alloc)?)?;
+        Ok(Value::Array(trees))
+    }
+}

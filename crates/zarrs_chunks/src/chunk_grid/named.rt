@@ -1,0 +1,249 @@
+//! A chunk grid of any of the kinds, chosen by its extension's name.
+ghost use Rattle.std.specs.Prelude.{◌≡◌, ◌↔◌, IfOk, IsTrue, MatchResult, map};
+ghost use Rattle.serde_json.specs.View.{members_view};
+ghost use Rattle.zarrs_chunk_base.specs.Metadata.{extension_of};
+ghost use Rattle.zarrs_chunk_base.specs.Refusal.{IfRefused};
+ghost use Rattle.zarrs_chunk_axes.specs.InBounds.{AreBelow, AreInBounds};
+ghost use Rattle.zarrs_chunks.specs.GridNames.{HasItsEdges, IsGrid, IsGridFault, IsItsConfiguration, IsMetadata, shape_in};
+ghost use Rattle.zarrs_chunks.specs.declared.chunk_grid.named.ChunkGrid.TheVariants.{Rectangular, Rectilinear, Regular, RegularBounded};
+ghost use Rattle.zarrs_chunks.specs.seen.ChunkGrid.{HasInBounds, chains_in, dimensions_in, edges_in, name_in};
+
+use super::rectangular::RectangularChunkGrid;
+use super::rectilinear::RectilinearChunkGrid;
+use super::regular::RegularChunkGrid;
+use super::regular_bounded::RegularBoundedChunkGrid;
+use crate::ChunkGridTraits;
+use std::alloc::{AllocError, Global};
+use zarrs_chunk_base::{
+    ArrayIndices, ChunkShape, Configuration, IncompatibleDimensionalityError, MetadataV3,
+    PluginCreateError, Refusal,
+};
+
+const REGULAR: &str = "regular";
+
+const REGULAR_BOUNDED: &str = "zarrs.regular_bounded";
+
+const RECTANGULAR: &str = "rectangular";
+
+const RECTILINEAR: &str = "rectilinear";
+
+/// A chunk grid of any of the library's kinds. It answers every call as the grid inside it.
+///
+/// Sources: Zarr V3 core, chunk grids; ZEP 3, variable chunks; zarr-extensions.
+#[derive(Debug, Drop)]
+pub enum ChunkGrid {
+    /// The extension `regular`.
+    Regular(RegularChunkGrid),
+    /// The extension `zarrs.regular_bounded`.
+    RegularBounded(RegularBoundedChunkGrid),
+    /// The extension `rectangular`.
+    Rectangular(RectangularChunkGrid),
+    /// The extension `rectilinear`.
+    Rectilinear(RectilinearChunkGrid),
+}
+
+/// What the grid inside answers.
+macro_rules! inside {
+    ($any:expr, $grid:ident => $answer:expr) => {
+        match $any {
+            ChunkGrid::Regular($grid) => $answer,
+            ChunkGrid::RegularBounded($grid) => $answer,
+            ChunkGrid::Rectangular($grid) => $answer,
+            ChunkGrid::Rectilinear($grid) => $answer,
+        }
+    };
+}
+
+impl ChunkGrid {
+    /// The grid that an extension's metadata stands for, of an array with these sizes. An absent configuration counts as
+    /// one without members.
+    ///
+    /// # Errors
+    /// The first that applies: the name is none of a chunk grid; the configuration isn't of the form of its kind; the
+    /// grid doesn't accept it for this array shape. Or there was no memory.
+    pub fn from_metadata(
+        alloc: Global,
+        metadata: &MetadataV3,
+        array_shape: &[u64],
+    ) -> Result<ChunkGrid, Refusal<PluginCreateError>>
+        ensures shape { IfOk result (λ grid. shape_in grid ≡ array_shape.now) }
+        ensures made { MatchResult result
+            (IsGrid (extension_of metadata.now) array_shape.now)
+            (λ refusal. IfRefused refusal
+            (IsGridFault (extension_of metadata.now) array_shape.now)) }
+        ensures edges { IfOk result (HasItsEdges (extension_of metadata.now)) }
+    {
+        match metadata.name() {
+            REGULAR => Ok(ChunkGrid::Regular(RegularChunkGrid::create(
+                alloc,
+                metadata,
+                array_shape,
+            )?)),
+            REGULAR_BOUNDED => Ok(ChunkGrid::RegularBounded(RegularBoundedChunkGrid::create(
+                alloc,
+                metadata,
+                array_shape,
+            )?)),
+            RECTANGULAR => Ok(ChunkGrid::Rectangular(RectangularChunkGrid::create(
+                alloc,
+                metadata,
+                array_shape,
+            )?)),
+            RECTILINEAR => Ok(ChunkGrid::Rectilinear(RectilinearChunkGrid::create(
+                alloc,
+                metadata,
+                array_shape,
+            )?)),
+            name => Err(Refusal::Refused(PluginCreateError::NameUnsupported(String::from_str(
+                alloc, name,
+            )?))),
+        }
+    }
+
+    /// The metadata of the grid: its extension's name, and its configuration.
+    ///
+    /// # Errors
+    /// There was no memory.
+    pub fn metadata(&self, alloc: Global) -> Result<MetadataV3, AllocError>
+        ensures { IfOk result (λ metadata. IsMetadata self.now (extension_of metadata)) }
+    {
+        let name = String::from_str(alloc, self.name())?;
+        let configuration = self.configuration(alloc)?;
+        Ok(MetadataV3::new(name, Some(configuration)))
+    }
+
+    /// A copy.
+    ///
+    /// # Errors
+    /// There was no memory.
+    pub fn clone(&self) -> Result<ChunkGrid, AllocError>
+        ensures name { IfOk result (λ grid. name_in grid ≡ name_in self.now) }
+        ensures dimensions { IfOk result (λ grid. dimensions_in grid ≡ dimensions_in self.now) }
+        ensures edges { IfOk result (λ grid. edges_in grid ≡ edges_in self.now) }
+    {
+        Ok(match self {
+            ChunkGrid::Regular(grid) => ChunkGrid::Regular(grid.clone()?),
+            ChunkGrid::RegularBounded(grid) => ChunkGrid::RegularBounded(grid.clone()?),
+            ChunkGrid::Rectangular(grid) => ChunkGrid::Rectangular(grid.clone()?),
+            ChunkGrid::Rectilinear(grid) => ChunkGrid::Rectilinear(grid.clone()?),
+        })
+    }
+
+    /// The extension's name.
+    fn name(&self) -> &'static str
+        ensures { result.now ≡ name_in self.now }
+    {
+        match self {
+            ChunkGrid::Regular(_) => REGULAR,
+            ChunkGrid::RegularBounded(_) => REGULAR_BOUNDED,
+            ChunkGrid::Rectangular(_) => RECTANGULAR,
+            ChunkGrid::Rectilinear(_) => RECTILINEAR,
+        }
+    }
+}
+
+impl ChunkGridTraits for ChunkGrid {
+    ghost dimensions = { dimensions_in };
+
+    ghost chained = { chains_in };
+
+    fn create(
+        alloc: Global,
+        metadata: &MetadataV3,
+        array_shape: &[u64],
+    ) -> Result<ChunkGrid, Refusal<PluginCreateError>>
+        ensures shape { IfOk result (λ grid. map (λ d. d.array_size) (dimensions_in grid)
+            ≡ array_shape.now) }
+        ensures made { MatchResult result
+            (IsGrid (extension_of metadata.now) array_shape.now)
+            (λ refusal. IfRefused refusal
+            (IsGridFault (extension_of metadata.now) array_shape.now)) }
+        ensures edges { IfOk result (HasItsEdges (extension_of metadata.now)) }
+    {
+        ChunkGrid::from_metadata(alloc, metadata, array_shape)
+    }
+
+    fn configuration(&self, alloc: Global) -> Result<Configuration, AllocError>
+        ensures { IfOk result (λ c. IsItsConfiguration self.now (members_view c.entries)) }
+    {
+        inside!(self, grid => grid.configuration(alloc))
+    }
+
+    fn dimensionality(&self) -> usize {
+        inside!(self, grid => grid.dimensionality())
+    }
+
+    fn array_shape(&self) -> &[u64] {
+        inside!(self, grid => grid.array_shape())
+    }
+
+    fn grid_shape(&self) -> &[u64] {
+        inside!(self, grid => grid.grid_shape())
+    }
+
+    fn chunk_shape(
+        &self,
+        alloc: Global,
+        chunk_indices: &[u64],
+    ) -> Result<Option<ChunkShape>, Refusal<IncompatibleDimensionalityError>> {
+        inside!(self, grid => ChunkGridTraits::chunk_shape(grid, alloc, chunk_indices))
+    }
+
+    fn chunk_origin(
+        &self,
+        alloc: Global,
+        chunk_indices: &[u64],
+    ) -> Result<Option<ArrayIndices>, Refusal<IncompatibleDimensionalityError>> {
+        inside!(self, grid => grid.chunk_origin(alloc, chunk_indices))
+    }
+
+    fn chunk_indices(
+        &self,
+        alloc: Global,
+        array_indices: &[u64],
+    ) -> Result<Option<ArrayIndices>, Refusal<IncompatibleDimensionalityError>> {
+        inside!(self, grid => grid.chunk_indices(alloc, array_indices))
+    }
+
+    fn array_indices_inbounds(&self, array_indices: &[u64]) -> bool
+        ensures within { AreBelow (map (λ d. d.array_size)
+            (dimensions_in self.now)) array_indices.now → IsTrue result }
+        ensures only { IsTrue result → AreInBounds (map
+            (λ d. d.array_size) (dimensions_in self.now)) array_indices.now }
+        ensures exact { IsTrue result ↔ HasInBounds self.now array_indices.now }
+    {
+        inside!(self, grid => grid.array_indices_inbounds(array_indices))
+    }
+}
+
+impl From<RegularChunkGrid> for ChunkGrid {
+    ghost from_gives = { λ grid any. any ≡ Regular grid };
+
+    fn from(grid: RegularChunkGrid) -> ChunkGrid {
+        ChunkGrid::Regular(grid)
+    }
+}
+
+impl From<RegularBoundedChunkGrid> for ChunkGrid {
+    ghost from_gives = { λ grid any. any ≡ RegularBounded grid };
+
+    fn from(grid: RegularBoundedChunkGrid) -> ChunkGrid {
+        ChunkGrid::RegularBounded(grid)
+    }
+}
+
+impl From<RectangularChunkGrid> for ChunkGrid {
+    ghost from_gives = { λ grid any. any ≡ Rectangular grid };
+
+    fn from(grid: RectangularChunkGrid) -> ChunkGrid {
+        ChunkGrid::Rectangular(grid)
+    }
+}
+
+impl From<RectilinearChunkGrid> for ChunkGrid {
+    ghost from_gives = { λ grid any. any ≡ Rectilinear grid };
+
+    fn from(grid: RectilinearChunkGrid) -> ChunkGrid {
+        ChunkGrid::Rectilinear(grid)
+    }
+}
