@@ -160,22 +160,6 @@ fn members_are_refused(rt: HostRuntime) -> Result<(), Fail> {
         ),
         (grid("5"), "field `chunk_grid`: not an extension"),
         (
-            grid(r#"{"name":5}"#),
-            "field `chunk_grid`: name is not a text",
-        ),
-        (
-            grid(r#"{"name":"regular","configuration":[]}"#),
-            "field `chunk_grid`: configuration is not an object",
-        ),
-        (
-            grid(r#"{"name":"regular","configuration":null}"#),
-            "field `chunk_grid`: configuration is not an object",
-        ),
-        (
-            grid(r#"{"name":"regular","must_understand":1}"#),
-            "field `chunk_grid`: must_understand is not a truth value",
-        ),
-        (
             encoding(r#"{"configuration":{}}"#),
             "field `chunk_key_encoding`: name is missing",
         ),
@@ -184,49 +168,18 @@ fn members_are_refused(rt: HostRuntime) -> Result<(), Fail> {
             "name `hexagonal` is not supported",
         ),
         (encoding(r#""v2""#), "name `v2` is not supported"),
+        (
+            grid(r#""regular""#),
+            "configuration is unsupported: missing field `chunk_shape`",
+        ),
+        (
+            encoding(r#"{"name":"default","configuration":{"suffix":""}}"#),
+            "configuration is unsupported: unknown field `suffix`, expected `separator`",
+        ),
     ];
     for ((shape, grid, encoding, indices), text) in rows {
         let input = document(rt.alloc(), shape, grid, encoding, indices)?;
         let line = format!(in rt.alloc(); "chunkwhere: {text}\n")?;
-        check(&rt, input.as_bytes(), "", line.as_str())?;
-    }
-    Ok(())
-}
-
-#[test]
-fn configurations_are_refused(rt: HostRuntime) -> Result<(), Fail> {
-    let grid = |text| (text, DEFAULT);
-    let encoding = |text| (REGULAR, text);
-    let rows = [
-        (
-            grid(r#"{"name":"regular","configuration":{"invalid":[1,2,3]}}"#),
-            "unknown field `invalid`, expected `chunk_shape`",
-        ),
-        (
-            grid(r#"{"name":"regular","configuration":{"chunk_shape":0,"b":1,"a":2}}"#),
-            "unknown field `a`, expected `chunk_shape`",
-        ),
-        (grid(r#""regular""#), "missing field `chunk_shape`"),
-        (
-            grid(r#"{"name":"regular","configuration":{"chunk_shape":[1,0,3]}}"#),
-            "wrong value in field `chunk_shape`",
-        ),
-        (
-            grid(r#"{"name":"regular","configuration":{"chunk_shape":[1,2,3.0]}}"#),
-            "wrong value in field `chunk_shape`",
-        ),
-        (
-            encoding(r#"{"name":"default","configuration":{"separator":"-"}}"#),
-            "wrong value in field `separator`",
-        ),
-        (
-            encoding(r#"{"name":"default","configuration":{"suffix":""}}"#),
-            "unknown field `suffix`, expected `separator`",
-        ),
-    ];
-    for ((grid, encoding), text) in rows {
-        let input = document(rt.alloc(), SHAPE, grid, encoding, INDICES)?;
-        let line = format!(in rt.alloc(); "chunkwhere: configuration is unsupported: {text}\n")?;
         check(&rt, input.as_bytes(), "", line.as_str())?;
     }
     Ok(())

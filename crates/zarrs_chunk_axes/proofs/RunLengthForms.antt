@@ -1,5 +1,5 @@
 -- The run-length form of a list of edges, run by run.
-use Rattle.std.proofs.Common.{◌≡◌, ◌≢◌, ℕ, zero, suc, ◌+◌, List, [], ◌∷◌, ◌++◌, length, replicate, append_assoc, append-nil, add-one, refl, sym, ap, ◌∙◌, subst, arith}
+use Rattle.std.proofs.Common.{◌≡◌, ◌≢◌, ℕ, zero, suc, ◌+◌, List, [], ◌∷◌, ◌++◌, replicate, append_assoc, append-nil, add-one, refl, sym, ap, ◌∙◌}
 use Rattle.std.specs.List.{AllByRecursion}
 use Rattle.zarrs_chunk_base.specs.RunLength.{AreApart, Element, IsNoPairOfOne, IsRunLengthForm, edge_in, edges_of_element, joined}
 

@@ -58,10 +58,10 @@ pub trait AxisFrom<C>: Axis {
     /// The edges that a configuration stands for, as whole numbers.
     ghost Edges: { Type 0 };
 
-    /// The edges of a configuration.
+    /// The edges that a configuration stands for.
     ghost edges_of: { C → Edges };
 
-    /// The edges that a configuration tells.
+    /// The same edges, as an axis of any kind tells them.
     ghost tells: { C → DimensionEdges };
 
     /// The configuration is in the form in which it is written.
@@ -84,7 +84,10 @@ pub trait AxisFrom<C>: Axis {
             (edges_of configuration.now)) }
         ensures edges { IfOk result (λ axis. Self.edges axis ≡ tells configuration.now) };
 
-    /// The configuration that the axis was made of, as it is written.
+    /// A configuration that tells the edges of the axis, in the form in which one is written.
+    ///
+    /// # Errors
+    /// There was no memory.
     fn configuration(&self, alloc: Global) -> Result<C, AllocError>
         ensures edges { IfOk result (λ c. tells c ≡ Self.edges self.now) }
         ensures written { IfOk result is_written };

@@ -150,7 +150,7 @@ impl<A: Axis> AxisGrid<A> {
         self.is_in_bounds(indices) && are_held(indices, &self.axes)
     }
 
-    /// The configurations that the dimensions were made of, as they are written.
+    /// Configurations that tell the edges of the dimensions, in the form in which they are written.
     ///
     /// # Errors
     /// There was no memory.
@@ -300,7 +300,7 @@ fn clone_each<A: Axis>(alloc: Global, axes: &[A]) -> Result<Vec<A>, AllocError>
     Ok(copies)
 }
 
-/// For each dimension the configuration that it was made of, as it is written.
+/// For each dimension a configuration that tells its edges, in the form in which one is written.
 fn configurations_of<C: Drop, A: AxisFrom<C>>(
     alloc: Global,
     axes: &[A],

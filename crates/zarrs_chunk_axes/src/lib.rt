@@ -17,7 +17,7 @@
 //! | `equal_axis`, `bounded_axis`, `listed_axis`, `equal_or_listed_axis` | the kinds of dimension |
 //! | `axis_grid` | the list of dimensions |
 //! | `in_bounds` | numbers in bounds of sizes |
-//! | `run_lengths` | run-length elements: their sum, and their edges one by one |
+//! | `run_lengths` | run-length elements: their sum, their edges one by one, and the run-length form of edges |
 #![tactic(auto)]
 
 mod axis;

@@ -1,5 +1,5 @@
 -- What metadata is written as stands for it.
-use Rattle.std.proofs.Common.{◌≡◌, ℕ, List, Option, None, Some, refl}
+use Rattle.std.proofs.Common.{ℕ, List, Option, None, Some, refl}
 use Rattle.serde_json.specs.Data.{Members}
 use Rattle.zarrs_chunk_base.specs.Metadata.{Extension, IsExtension, extension_tree, name_alone, object}
 

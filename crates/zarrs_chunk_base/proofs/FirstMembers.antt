@@ -1,15 +1,15 @@
 -- The first of a list in the order of names has the least name.
-use Rattle.std.proofs.Common.{◌≡◌, ◌≢◌, ℕ, zero, suc, Bool, true, false, if◌then◌else◌, List, [], ◌∷◌, length, slice_index_or, Option, None, Some, option_and_then, MatchOption, IsSome, is_some, Ordering, Less, Equal, Greater, nat_cmp, Contains, refl, sym, ap, ◌∙◌, subst, inl, inr, ◌⊎◌, ⊎_elim, true≢false, arith}
+use Rattle.std.proofs.Common.{◌≡◌, ◌≢◌, ℕ, zero, suc, Bool, true, false, if◌then◌else◌, List, [], ◌∷◌, Option, None, Some, option_and_then, MatchOption, IsSome, is_some, Ordering, Less, Equal, Greater, nat_cmp, Contains, refl, sym, ap, ◌∙◌, subst, inl, inr, ◌⊎◌, ⊎_elim, true≢false, arith}
 use Rattle.std.proofs.lemmas.Cmp.{nat_list_cmp_total, tied_itself}
 use Rattle.std.specs.Cmp.Lexicographic.{slice_cmp}
 use Rattle.std.specs.List.{AllByRecursion}
 use Rattle.serde_json.specs.Data.{Data, Members}
 use Rattle.serde_json.specs.Find.{get_member}
-use Rattle.zarrs_chunk_base.specs.Configuration.{AreInOrder, HasNoUnknown, IsConfigurationFault, IsFitting, IsLeastName, IsMisformed, IsMissing, IsWrong, Member, Table, names_of, required_names_of, value_of}
+use Rattle.zarrs_chunk_base.specs.Configuration.{AreInOrder, HasNoUnknown, HasRequired, IsFirstWrong, IsConfigurationFault, IsFitting, IsLeastName, HasWrongValue, IsMissing, IsWrong, Member, Table, names_of, required_names_of, value_of}
 use Rattle.zarrs_chunk_base.specs.First.{IsFirst}
 use Rattle.zarrs_chunk_base.specs.declared.configuration_fault.ConfigurationFault.{ConfigurationFault}
 use Rattle.zarrs_chunk_base.specs.declared.configuration_fault.ConfigurationFault.TheVariants.{UnknownField, MissingField, WrongValue}
-use Rattle.zarrs_chunk_base.specs.lemmas.Members.{HasRequired, IsFirstMissing, IsFirstWrong, IsValueFault}
+use Rattle.zarrs_chunk_base.specs.lemmas.Members.{IsFirstMissing, IsValueFault}
 
 Less≢Greater : (o : Ordering) → o ≡ Less → o ≢ Greater
 Less≢Greater o e h = cc
@@ -101,10 +101,10 @@ table_in_order [] order = tt
 table_in_order (m ∷ table) order = (order.0, table_in_order table order.1)
 
 -- the first that isn't of its form has the least name
-pub least_wrong : (table : List Member) (members : Members) (m : Member) → AreInOrder table → IsFirst (IsMisformed members) table m
+pub least_wrong : (table : List Member) (members : Members) (m : Member) → AreInOrder table → IsFirst (HasWrongValue members) table m
     → IsLeastName (IsWrong table members) m.name
 least_wrong table members m order first =
-    let least = first_is_least (λ (x : Member). x.name) (IsMisformed members) table m (table_in_order table order) first in
+    let least = first_is_least (λ (x : Member). x.name) (HasWrongValue members) table m (table_in_order table order) first in
     record {
       holds = (m, least.in_list, refl, least.holds);
       least = λ other (x, within, named, wrong). subst (λ n. slice_cmp nat_cmp m.name n ≢ Greater) named (least.least x within wrong);
@@ -148,7 +148,7 @@ module _ {X : Type 0} (form : Data → Option X) (m : Member) (rest : List Membe
   later_wrong x is (UnknownField field listed) wrong = absurd wrong
   later_wrong x is (MissingField field) wrong = absurd wrong
   later_wrong x is (WrongValue field) (other, named, first) = (other, named, inr (not_here, first)) where
-    not_here : ¬ IsMisformed members m
+    not_here : ¬ HasWrongValue members m
     not_here (d, there, wrong) =
         true≢false (sym (of_form d ∙ ap is_some (ap (option_and_then form) (sym there) ∙ is)) ∙ wrong)
 
@@ -169,7 +169,7 @@ fitting_has_required given (m ∷ table) fits =
     required_if (λ n. IsSome (get_member n given)) m.required m.name (required_names_of table)
     (there_if (get_member m.name given) m.required m.of_form fits.0) (fitting_has_required given table fits.1)
 
-fitting_is_formed : (given : Members) (m : Member) → IsFitting given m → ¬ IsMisformed given m
+fitting_is_formed : (given : Members) (m : Member) → IsFitting given m → ¬ HasWrongValue given m
 fitting_is_formed given m fits (d, at, wrong) =
     true≢false (sym (subst (λ found. MatchOption found (m.required ≡ false) (λ e. m.of_form e ≡ true)) at fits) ∙ wrong)
 

@@ -1,5 +1,5 @@
 -- The first member that isn't known has the least name, since members are kept in the order of their names.
-use Rattle.std.proofs.Common.{◌≡◌, ◌≢◌, ℕ, zero, suc, Bool, true, false, cond, not, List, [], ◌∷◌, map, Option, None, Some, String, Global, Ordering, Less, Equal, Greater, string_bytes, string_cmp, nat_cmp, Contains, IsSome, is_some, find, bytes_eq, Bor, refl, sym, ap, ◌∙◌, subst, inl, inr, ◌⊎◌, ⊎_elim, true≢false, arith}
+use Rattle.std.proofs.Common.{◌≡◌, ◌≢◌, ℕ, suc, Bool, true, false, cond, not, List, [], ◌∷◌, map, Option, None, Some, String, Global, Ordering, Less, Equal, Greater, string_bytes, string_cmp, nat_cmp, Contains, IsSome, find, bytes_eq, Bor, refl, sym, ap, ◌∙◌, subst, inl, inr, ◌⊎◌, ⊎_elim, true≢false, arith}
 use Rattle.std.proofs.lemmas.Bool.{not-true, not-false, both_ways}
 use Rattle.std.proofs.lemmas.Cmp.{nat_list_cmp_total, tied_itself}
 use Rattle.std.proofs.lemmas.List.Folds.{list_any_at}

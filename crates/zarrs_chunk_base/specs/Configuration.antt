@@ -8,6 +8,7 @@ use Rattle.std.specs.Cmp.Lexicographic.{slice_cmp}
 use Rattle.std.specs.declared.cmp.Ordering.TheVariants.{Less, Greater}
 use Rattle.serde_json.specs.Data.{Data, Members}
 use Rattle.serde_json.specs.Find.{get_member}
+use Rattle.zarrs_chunk_base.specs.First.{IsFirst}
 use Rattle.zarrs_chunk_base.specs.declared.configuration_fault.ConfigurationFault.{ConfigurationFault}
 use Rattle.zarrs_chunk_base.specs.declared.configuration_fault.ConfigurationFault.TheVariants.{UnknownField, MissingField, WrongValue}
 use Rattle.zarrs_chunk_base.specs.declared.plugin_create_error.PluginCreateError.{PluginCreateError}
@@ -63,17 +64,17 @@ HasNoUnknown known members = (name : List ℕ) → ¬ IsUnknown known members na
 abbrev pub IsConfiguration : {X : Type 0} → Table → (Members → Option X) → Members → X → Type 0
 IsConfiguration table value members x = HasNoUnknown (names_of table.members) members × (value members ≡ Some x)
 
--- the table has a member of the name
-abbrev pub IsMember : List Member → List ℕ → Member → Type 0
-IsMember table name m = Contains table m × (m.name ≡ name)
-
 -- a name that has to be there isn't
 abbrev pub IsMissing : List (List ℕ) → Members → List ℕ → Type 0
 IsMissing required members name = Contains required name × (get_member name members ≡ None)
 
--- the member is there, and isn't of its form
-abbrev pub IsMisformed : Members → Member → Type 0
-IsMisformed members m = (d : Data) × (get_member m.name members ≡ Some d) × (m.of_form d ≡ false)
+-- each member that has to be there is
+abbrev pub HasRequired : List Member → Members → Type 0
+HasRequired table members = AllByRecursion (λ name. IsSome (get_member name members)) (required_names_of table)
+
+-- the member is there, and its value isn't of its form
+abbrev pub HasWrongValue : Members → Member → Type 0
+HasWrongValue members m = (d : Data) × (get_member m.name members ≡ Some d) × (m.of_form d ≡ false)
 
 -- the member is there if it has to be, and is of its form where it is there
 abbrev pub IsFitting : Members → Member → Type 0
@@ -81,7 +82,12 @@ IsFitting members m = MatchOption (get_member m.name members) (m.required ≡ fa
 
 -- the value of the member of this name isn't of its form
 abbrev pub IsWrong : List Member → Members → List ℕ → Type 0
-IsWrong table members name = (m : Member) × Contains table m × (m.name ≡ name) × IsMisformed members m
+IsWrong table members name = (m : Member) × Contains table m × (m.name ≡ name) × HasWrongValue members m
+
+-- the fault names the first member of the table whose value isn't of its form
+abbrev pub IsFirstWrong : List Member → Members → ConfigurationFault → Type 0
+IsFirstWrong table members (WrongValue field) = (m : Member) × (field.now ≡ m.name) × IsFirst (HasWrongValue members) table m
+IsFirstWrong _ _ _ = ⊥
 
 -- the fault names the first unknown member, and lists what was expected
 abbrev pub IsUnknownFault : List (List ℕ) → List ℕ → Members → ConfigurationFault → Type 0

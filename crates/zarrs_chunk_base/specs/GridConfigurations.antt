@@ -1,15 +1,16 @@
 -- The configurations of chunk grids.
 -- Sources: Zarr V3 core, regular grid; ZEP 3, variable chunks; the `rectilinear` extension of zarr-extensions.
-use Rattle.std.specs.Prelude.{◌≡◌, ℕ, ⊤, ◌&&◌, if◌then◌else◌, List, [], ◌∷◌, map, bytes_eq, Option, Some, None, option_and_then, option_map, codes}
+use Rattle.std.specs.Prelude.{ℕ, ⊤, if◌then◌else◌, List, [], ◌∷◌, map, bytes_eq, Option, Some, None, option_and_then, option_map, codes}
 use Rattle.serde_json.specs.Data.{Data, string, Members, no_members, member}
 use Rattle.serde_json.specs.Find.{as_str}
-use Rattle.zarrs_chunk_base.specs.Configuration.{IsConfiguration, IsConfigurationFault, Table, required, value_of}
-use Rattle.zarrs_chunk_base.specs.declared.configuration_fault.ConfigurationFault.{ConfigurationFault}
+use Rattle.zarrs_chunk_base.specs.Configuration.{Table, required, value_of}
+use Rattle.zarrs_chunk_base.specs.declared.json.rectilinear_chunk_grid_configuration.RectilinearChunkGridConfiguration.{RectilinearChunkGridConfiguration}
+use Rattle.zarrs_chunk_base.specs.declared.json.rectilinear_chunk_grid_configuration.RectilinearChunkGridConfiguration.TheVariants.{Inline}
 use Rattle.zarrs_chunk_base.specs.DimensionEdges.{DimensionEdges, equal, listed}
 use Rattle.zarrs_chunk_base.specs.Json.{edge_of, edge_or, list_of, list_tree, pair_of, size_tree}
-use Rattle.zarrs_chunk_base.specs.RunLength.{EdgeLengths, Element, repeated, scalar, single, varying}
+use Rattle.zarrs_chunk_base.specs.RunLength.{EdgeLengths, Element, lengths_of, repeated, scalar, single, varying}
 
--- ---- `regular` and `regular_bounded`: `chunk_shape`, a list of edges
+-- ---- `regular` and `zarrs.regular_bounded`: `chunk_shape`, a list of edges
 
 abbrev pub regular_table : Table
 regular_table = record { members = required (codes "chunk_shape") (list_of edge_of) ∷ []; expected = codes "`chunk_shape`" }
@@ -21,14 +22,6 @@ regular_value = value_of (codes "chunk_shape") (list_of edge_of)
 -- the members that edges are written as
 abbrev pub regular_members : List ℕ → Members
 regular_members edges = member (codes "chunk_shape") (list_tree size_tree edges) no_members
-
--- the members stand for these edges
-abbrev pub IsRegularConfiguration : Members → List ℕ → Type 0
-IsRegularConfiguration = IsConfiguration regular_table regular_value
-
--- the first fault of members that stand for none
-abbrev pub IsRegularFault : Members → ConfigurationFault → Type 0
-IsRegularFault = IsConfigurationFault regular_table
 
 -- ---- `rectangular`: `chunk_shape`, a list of edges and of lists of edges
 
@@ -51,14 +44,6 @@ rectangular_value = value_of (codes "chunk_shape") (list_of dimension_edges_of)
 -- the members that the edges of each dimension are written as
 abbrev pub rectangular_members : List DimensionEdges → Members
 rectangular_members edges = member (codes "chunk_shape") (list_tree dimension_edges_tree edges) no_members
-
--- the members stand for these edges
-abbrev pub IsRectangularConfiguration : Members → List DimensionEdges → Type 0
-IsRectangularConfiguration = IsConfiguration rectangular_table rectangular_value
-
--- the first fault of members that stand for none
-abbrev pub IsRectangularFault : Members → ConfigurationFault → Type 0
-IsRectangularFault = IsConfigurationFault rectangular_table
 
 -- ---- `rectilinear`: `kind`, the text `inline`, and `chunk_shapes`, a list of edges and of lists of run-length elements
 
@@ -99,10 +84,6 @@ rectilinear_value members =
 abbrev pub rectilinear_members : List EdgeLengths → Members
 rectilinear_members lengths = member (codes "chunk_shapes") (list_tree lengths_tree lengths) (member (codes "kind") (string (codes "inline")) no_members)
 
--- the members stand for these edges
-abbrev pub IsRectilinearConfiguration : Members → List EdgeLengths → Type 0
-IsRectilinearConfiguration = IsConfiguration rectilinear_table rectilinear_value
-
--- the first fault of members that stand for none
-abbrev pub IsRectilinearFault : Members → ConfigurationFault → Type 0
-IsRectilinearFault = IsConfigurationFault rectilinear_table
+-- the edges of each dimension that a value of the program holds
+abbrev pub rectilinear_lengths : RectilinearChunkGridConfiguration → List EdgeLengths
+rectilinear_lengths (Inline chunk_shapes) = map lengths_of chunk_shapes.items

@@ -15,4 +15,3 @@ pub mod Refusal
 pub mod RunLength
 pub mod StoreKey
 pub mod lemmas
-pub mod seen

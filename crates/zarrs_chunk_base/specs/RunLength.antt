@@ -1,6 +1,6 @@
 -- The chunk edges of one dimension as run-length elements.
 -- Source: the `rectilinear` extension of zarr-extensions.
-use Rattle.std.specs.Prelude.{◌≡◌, ◌≢◌, ℕ, List, [], ◌∷◌, ◌++◌, map, replicate, slice_index}
+use Rattle.std.specs.Prelude.{◌≡◌, ◌≢◌, ◌<◌, ℕ, List, [], ◌∷◌, ◌++◌, map, replicate, slice_index}
 use Rattle.std.specs.List.{AllByRecursion}
 use Rattle.std.specs.Int.NonZero.{non_zero_u64_get}
 use Rattle.zarrs_chunk_base.specs.DimensionEdges.{DimensionEdges, equal, listed}
@@ -67,10 +67,10 @@ abbrev pub edge_in : Element → ℕ
 edge_in (single edge) = edge
 edge_in (repeated edge count) = edge
 
--- the element isn't a pair that counts one chunk
+-- a pair counts more than one chunk
 abbrev pub IsNoPairOfOne : Element → Type 0
 IsNoPairOfOne (single edge) = Unit {0}
-IsNoPairOfOne (repeated edge count) = count ≢ 1
+IsNoPairOfOne (repeated edge count) = 1 < count
 
 -- no two elements that stand side by side have one edge
 abbrev pub AreApart : List Element → Type 0

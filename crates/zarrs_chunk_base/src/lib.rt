@@ -1,5 +1,5 @@
 //! What every layer of chunk grids and chunk keys speaks of: boxes of indices, keys in a store, the edges of
-//! chunks, and why calls are refused.
+//! chunks, what extensions look like in JSON, and why calls are refused.
 //!
 //! Every call that takes memory, save `clone`, is passed the allocator; each can answer that there is none. A box of
 //! indices is made of ranges or of a start and a shape, and never ends past the greatest `u64`:
@@ -9,6 +9,11 @@
 //! subset.contains(&[4, 8])     // true
 //! subset.contains(&[5, 8])     // false: a range ends before its end
 //! StoreKey::new(text)?         // refused where the text ends in a slash
+//!
+//! let metadata = MetadataV3::from_tree(alloc, &tree)?;   // {"name": "regular", "configuration": {"chunk_shape": [1, 2, 3]}}
+//! let configuration = RegularChunkGridConfiguration::from_metadata(alloc, &metadata)?;
+//! configuration.chunk_shape    // [1, 2, 3]
+//! configuration.to_tree(alloc)?                          // {"chunk_shape": [1, 2, 3]}
 //! ```
 //!
 //! | Module | What it holds |
@@ -20,6 +25,11 @@
 //! | `incompatible_dimensionality_error` | a list of another length than there are dimensions |
 //! | `rectangular_chunk_grid_dimension_configuration`, `chunk_edge_lengths`, `run_length_element` | the chunk edges of one dimension |
 //! | `in_brackets` | a list as a text, for those that refuse one |
+//! | `json` | what extensions look like in JSON |
+//! | `json::metadata_v3` | the metadata of an extension: its name and its configuration |
+//! | `json::configuration_form`, `members` | a configuration as a table of members, and how members are read |
+//! | `json::regular_chunk_grid_configuration`, `rectangular_..`, `rectilinear_..`, `default_chunk_key_encoding_configuration` | the configurations |
+//! | `json::tree_form` | sizes, edges, texts and lists of them in a tree |
 //! | `plugin_create_error`, `configuration_fault`, `metadata_error` | why an extension isn't made of its metadata |
 #![tactic(auto)]
 

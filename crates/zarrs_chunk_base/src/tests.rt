@@ -1,10 +1,14 @@
 //! What no contract says: the texts of the errors, and that each call answers with ample memory.
 use crate::{
-    ArraySubset, ArraySubsetError, BoxEndError, ChunkEdgeLengths, ChunkKeySeparator,
-    ConfigurationFault, InBrackets, IncompatibleDimensionalityError, MetadataError,
-    PluginCreateError, RectangularChunkGridDimensionConfiguration, Refusal, RunLengthElement,
-    StoreKey, StoreKeyError,
+    ArraySubset, ArraySubsetError, BoxEndError, ChunkEdgeLengths, ChunkKeySeparator, Configuration,
+    ConfigurationFault, ConfigurationForm, DefaultChunkKeyEncodingConfiguration, InBrackets,
+    IncompatibleDimensionalityError, MetadataError, MetadataV3, PluginCreateError,
+    RectangularChunkGridConfiguration,
+    RectangularChunkGridDimensionConfiguration as DimensionEdges,
+    RectilinearChunkGridConfiguration, Refusal, RegularBoundedChunkGridConfiguration,
+    RegularChunkGridConfiguration, RunLengthElement, StoreKey, StoreKeyError, TreeForm,
 };
+use serde_json::Value;
 use std::alloc::{AllocError, Global};
 use std::cmp::Ordering;
 use std::fmt::Display;
@@ -105,12 +109,12 @@ fn refused_extensions_have_their_texts(rt: HostRuntime) -> Result<(), Fail> {
 #[test]
 fn edges_have_their_texts(rt: HostRuntime) -> Result<(), Fail> {
     let five = NonZeroU64::new(5).ok_or("an edge of 0")?;
-    let fixed = RectangularChunkGridDimensionConfiguration::from(five);
+    let fixed = DimensionEdges::from(five);
     let mut edges = Vec::new(rt.alloc());
     edges.push(five)?;
     edges.push(NonZeroU64::MIN)?;
-    let varying = RectangularChunkGridDimensionConfiguration::from(edges);
-    let none = RectangularChunkGridDimensionConfiguration::from(Vec::new(rt.alloc()));
+    let varying = DimensionEdges::from(edges);
+    let none = DimensionEdges::from(Vec::new(rt.alloc()));
     for (configuration, text) in [(fixed, "5"), (varying, "[5, 1]"), (none, "[]")] {
         check_text(&rt, &configuration, text)?;
         check_text(&rt, &configuration.clone()?, text)?;
@@ -126,6 +130,7 @@ fn elements_have_their_texts(rt: HostRuntime) -> Result<(), Fail> {
     elements.push(RunLengthElement::Repeated([five, three]))?;
     elements.push(RunLengthElement::Single(five))?;
     check_text(&rt, &InBrackets(&elements), "[[5, 3], 5]")?;
+    check_text(&rt, &RunLengthElement::clone(&elements[0])?, "[5, 3]")?;
     let varying = ChunkEdgeLengths::Varying(elements);
     let none = ChunkEdgeLengths::Varying(Vec::new(rt.alloc()));
     for (lengths, text) in [
@@ -364,5 +369,279 @@ fn store_keys_are_compared(rt: HostRuntime) -> Result<(), Fail> {
         assert_eq!(rt; a.partial_cmp(&b), Some(order), "{one:?} {other:?}");
         assert_eq!(rt; a == b, order == Ordering::Equal, "{one:?} {other:?}");
     }
+    Ok(())
+}
+
+/// The members of an object.
+fn members(alloc: Global, text: &str) -> Result<Configuration, Fail> {
+    match Value::from_slice(alloc, text.as_bytes())? {
+        Value::Object(members) => Ok(members),
+        _ => Err("not an object".into()),
+    }
+}
+
+/// The configuration that a text stands for is written as the other text; or that says why it is none.
+fn check_configuration<C: ConfigurationForm>(
+    rt: &(impl Abort + AllocGlobal),
+    text: &str,
+    outcome: &str,
+) -> Result<(), Fail> {
+    let alloc = rt.alloc();
+    let written = match C::from_tree(alloc, &members(alloc, text)?) {
+        Ok(configuration) => Value::Object(configuration.to_tree(alloc)?).to_string(alloc)?,
+        Err(refusal) => refusal.to_string(alloc)?,
+    };
+    assert_eq!(rt; written.as_str(), outcome, "{text}");
+    Ok(())
+}
+
+#[test]
+fn configurations_are_read(rt: HostRuntime) -> Result<(), Fail> {
+    let regular = [
+        (r#"{"chunk_shape":[1,2,3]}"#, r#"{"chunk_shape":[1,2,3]}"#),
+        (r#"{"chunk_shape":[]}"#, r#"{"chunk_shape":[]}"#),
+        (
+            r#"{"chunk_shape":[18446744073709551615]}"#,
+            r#"{"chunk_shape":[18446744073709551615]}"#,
+        ),
+        (
+            r#"{"chunk_shape":[1.5],"b":1,"a":2}"#,
+            "unknown field `a`, expected `chunk_shape`",
+        ),
+        ("{}", "missing field `chunk_shape`"),
+        (
+            r#"{"chunk_shape":[10.0]}"#,
+            "wrong value in field `chunk_shape`",
+        ),
+        (
+            r#"{"chunk_shape":[1e2]}"#,
+            "wrong value in field `chunk_shape`",
+        ),
+        (
+            r#"{"chunk_shape":[0]}"#,
+            "wrong value in field `chunk_shape`",
+        ),
+        (
+            r#"{"chunk_shape":[-1]}"#,
+            "wrong value in field `chunk_shape`",
+        ),
+        (
+            r#"{"chunk_shape":["1"]}"#,
+            "wrong value in field `chunk_shape`",
+        ),
+        (r#"{"chunk_shape":1}"#, "wrong value in field `chunk_shape`"),
+        (
+            r#"{"chunk_shape":null}"#,
+            "wrong value in field `chunk_shape`",
+        ),
+        (
+            r#"{"chunk_shape":[18446744073709551616]}"#,
+            "wrong value in field `chunk_shape`",
+        ),
+    ];
+    for (text, outcome) in regular {
+        check_configuration::<RegularChunkGridConfiguration>(&rt, text, outcome)?;
+    }
+
+    let rectangular = [
+        (
+            r#"{"chunk_shape":[[5,5],10]}"#,
+            r#"{"chunk_shape":[[5,5],10]}"#,
+        ),
+        (r#"{"chunk_shape":[[]]}"#, r#"{"chunk_shape":[[]]}"#),
+        (
+            r#"{"chunk_shapes":[],"chunk_shape":[]}"#,
+            "unknown field `chunk_shapes`, expected `chunk_shape`",
+        ),
+        ("{}", "missing field `chunk_shape`"),
+        (
+            r#"{"chunk_shape":[[5,[5]]]}"#,
+            "wrong value in field `chunk_shape`",
+        ),
+        (
+            r#"{"chunk_shape":[[5,0]]}"#,
+            "wrong value in field `chunk_shape`",
+        ),
+        (
+            r#"{"chunk_shape":[0]}"#,
+            "wrong value in field `chunk_shape`",
+        ),
+    ];
+    for (text, outcome) in rectangular {
+        check_configuration::<RectangularChunkGridConfiguration>(&rt, text, outcome)?;
+    }
+
+    let unknown = "unknown field `B`, expected `chunk_shapes` or `kind`";
+    let wrong = "wrong value in field `chunk_shapes`";
+    let rectilinear = [
+        (
+            r#"{"kind":"inline","chunk_shapes":[[[5,3],20],10]}"#,
+            r#"{"chunk_shapes":[[[5,3],20],10],"kind":"inline"}"#,
+        ),
+        (
+            r#"{"chunk_shapes":[[]],"kind":"inline"}"#,
+            r#"{"chunk_shapes":[[]],"kind":"inline"}"#,
+        ),
+        (r#"{"B":2,"a":1,"kind":"inline"}"#, unknown),
+        ("{}", "missing field `chunk_shapes`"),
+        (r#"{"chunk_shapes":[1.5]}"#, "missing field `kind`"),
+        (
+            r#"{"chunk_shapes":[1],"kind":"other"}"#,
+            "wrong value in field `kind`",
+        ),
+        (
+            r#"{"chunk_shapes":[1],"kind":0}"#,
+            "wrong value in field `kind`",
+        ),
+        (r#"{"chunk_shapes":[1.5],"kind":"other"}"#, wrong),
+        (r#"{"chunk_shapes":[[[5,3,1]]],"kind":"inline"}"#, wrong),
+        (r#"{"chunk_shapes":[[[5]]],"kind":"inline"}"#, wrong),
+        (r#"{"chunk_shapes":[[[5,0]]],"kind":"inline"}"#, wrong),
+        (r#"{"chunk_shapes":[[[[5]]]],"kind":"inline"}"#, wrong),
+    ];
+    for (text, outcome) in rectilinear {
+        check_configuration::<RectilinearChunkGridConfiguration>(&rt, text, outcome)?;
+    }
+
+    let default = [
+        (r#"{"separator":"/"}"#, r#"{"separator":"/"}"#),
+        (r#"{"separator":"."}"#, r#"{"separator":"."}"#),
+        ("{}", r#"{"separator":"/"}"#),
+        (
+            r#"{"suffix":""}"#,
+            "unknown field `suffix`, expected `separator`",
+        ),
+        (r#"{"separator":"-"}"#, "wrong value in field `separator`"),
+        (r#"{"separator":null}"#, "wrong value in field `separator`"),
+    ];
+    for (text, outcome) in default {
+        check_configuration::<DefaultChunkKeyEncodingConfiguration>(&rt, text, outcome)?;
+    }
+    Ok(())
+}
+
+/// The configuration that a text stands for prints so, and is equal to its copy and not to that of another text.
+macro_rules! check_printed {
+    ($rt:expr, $configuration:ident, $text:expr, $other:expr, $kind:expr) => {{
+        let alloc = $rt.alloc();
+        let configuration = $configuration::from_tree(alloc, &members(alloc, $text)?)?;
+        let other = $configuration::from_tree(alloc, &members(alloc, $other)?)?;
+        let printed = format!(in alloc; "{}{}", $kind, $text)?;
+        check_text($rt, &configuration, printed.as_str())?;
+        assert!($rt; $configuration::clone(&configuration)? == configuration);
+        assert!($rt; other != configuration);
+    }};
+}
+
+#[test]
+fn configurations_are_copied_and_printed(rt: HostRuntime) -> Result<(), Fail> {
+    check_printed!(
+        &rt,
+        RegularBoundedChunkGridConfiguration,
+        r#"{"chunk_shape":[1,2,3]}"#,
+        r#"{"chunk_shape":[1,2]}"#,
+        "regular chunk grid "
+    );
+    check_printed!(
+        &rt,
+        RectangularChunkGridConfiguration,
+        r#"{"chunk_shape":[[5,5],10]}"#,
+        r#"{"chunk_shape":[[5,5],[10]]}"#,
+        "rectangular chunk grid "
+    );
+    check_printed!(
+        &rt,
+        RectilinearChunkGridConfiguration,
+        r#"{"chunk_shapes":[[[5,3],20],10],"kind":"inline"}"#,
+        r#"{"chunk_shapes":[[5,5,5,20],10],"kind":"inline"}"#,
+        "rectilinear chunk grid "
+    );
+    check_printed!(
+        &rt,
+        DefaultChunkKeyEncodingConfiguration,
+        r#"{"separator":"."}"#,
+        "{}",
+        ""
+    );
+    Ok(())
+}
+
+#[test]
+fn texts_are_read_and_written(rt: HostRuntime) -> Result<(), Fail> {
+    let alloc = rt.alloc();
+    let tree = Value::from_slice(alloc, br#""a/b""#)?;
+    let text = String::from_tree(alloc, &tree)?.ok_or("no text")?;
+    assert_eq!(rt; text.as_str(), "a/b");
+    assert_eq!(rt; text.to_tree(alloc)?.to_string(alloc)?.as_str(), r#""a/b""#);
+    assert!(rt; String::from_tree(alloc, &Value::Null)?.is_none());
+    Ok(())
+}
+
+#[test]
+fn metadata_is_read(rt: HostRuntime) -> Result<(), Fail> {
+    let alloc = rt.alloc();
+    let full = r#"{"configuration":{"chunk_shape":[1]},"name":"regular"}"#;
+    let rows = [
+        (r#""regular""#, r#""regular""#),
+        (r#"{"name":"regular"}"#, r#""regular""#),
+        (full, full),
+        (
+            r#"{"name":"x","configuration":{},"must_understand":false,"other":1}"#,
+            r#"{"configuration":{},"name":"x"}"#,
+        ),
+        (r#"{"name":""}"#, r#""""#),
+        ("[]", "not an extension"),
+        ("null", "not an extension"),
+        (r#"{"configuration":1}"#, "name is missing"),
+        (r#"{"name":1,"configuration":1}"#, "name is not a text"),
+        (
+            r#"{"name":"x","configuration":[],"must_understand":1}"#,
+            "configuration is not an object",
+        ),
+        (
+            r#"{"name":"x","configuration":null}"#,
+            "configuration is not an object",
+        ),
+        (
+            r#"{"name":"x","must_understand":"true"}"#,
+            "must_understand is not a truth value",
+        ),
+    ];
+    for (text, outcome) in rows {
+        let tree = Value::from_slice(alloc, text.as_bytes())?;
+        let written = match MetadataV3::from_tree(alloc, &tree) {
+            Ok(metadata) => {
+                let copy = metadata.clone()?;
+                assert!(rt; copy == metadata, "{text}");
+                copy.to_tree(alloc)?.to_string(alloc)?
+            }
+            Err(refusal) => refusal.to_string(alloc)?,
+        };
+        assert_eq!(rt; written.as_str(), outcome, "{text}");
+    }
+    let name = String::from_str(alloc, "regular")?;
+    let metadata = MetadataV3::new(name, Some(members(alloc, r#"{"chunk_shape":[1]}"#)?));
+    assert_eq!(rt; metadata.name(), "regular");
+    assert!(rt; metadata.configuration().is_some());
+    assert_eq!(rt; metadata.to_tree(alloc)?.to_string(alloc)?.as_str(), full);
+    Ok(())
+}
+
+#[test]
+fn metadata_has_a_configuration(rt: HostRuntime) -> Result<(), Fail> {
+    let alloc = rt.alloc();
+    let name = || String::from_str(alloc, "anything");
+    let absent = MetadataV3::new(name()?, None);
+    let refusal = match RegularChunkGridConfiguration::from_metadata(alloc, &absent) {
+        Ok(_) => return Err("no members were enough".into()),
+        Err(refusal) => refusal,
+    };
+    let text = "configuration is unsupported: missing field `chunk_shape`";
+    check_text(&rt, &refusal, text)?;
+    let default = DefaultChunkKeyEncodingConfiguration::from_metadata(alloc, &absent)?;
+    assert!(rt; default.separator == ChunkKeySeparator::Slash);
+    let present = MetadataV3::new(name()?, Some(members(alloc, r#"{"chunk_shape":[7]}"#)?));
+    let regular = RegularChunkGridConfiguration::from_metadata(alloc, &present)?;
+    check_text(&rt, &regular, r#"regular chunk grid {"chunk_shape":[7]}"#)?;
     Ok(())
 }

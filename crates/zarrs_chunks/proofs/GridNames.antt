@@ -19,8 +19,7 @@ use Rattle.zarrs_chunk_axes.specs.seen.BoundedAxis.{bounded_determined}
 use Rattle.zarrs_chunk_axes.specs.seen.EqualAxis.{equal_determined}
 use Rattle.zarrs_chunk_axes.specs.seen.EqualOrListedAxis.{equal_or_listed_determined}
 use Rattle.zarrs_chunks.specs.GridKinds.{GridKind, HasEdgesOf, IsConfigurationOf, IsGridFaultOf, rectangular, rectilinear, regular, regular_bounded}
-use Rattle.zarrs_chunks.specs.GridNames.{HasItsEdges, IsGrid, IsGridFault, IsItsConfiguration, IsMetadata, grid_names, name_unsupported, of_rectangular, of_rectilinear, of_regular, of_regular_bounded, shape_in}
-use Rattle.zarrs_chunks.specs.seen.ChunkGrid.{dimensions_in, edges_in, name_in}
+use Rattle.zarrs_chunks.specs.GridNames.{HasItsEdges, IsGrid, IsGridFault, IsItsConfiguration, IsMetadata, dimensions_in, edges_in, grid_names, name_in, name_unsupported, of_rectangular, of_rectilinear, of_regular, of_regular_bounded, shape_in}
 use Rattle.zarrs_chunks.specs.declared.chunk_grid.named.ChunkGrid.{ChunkGrid}
 use Rattle.zarrs_chunks.specs.declared.chunk_grid.named.ChunkGrid.TheVariants.{Rectangular, Rectilinear, Regular, RegularBounded}
 

@@ -1,5 +1,5 @@
 -- The kinds of chunk grids: which configurations each accepts for an array shape, and what grids it makes of them.
--- Sources: Zarr V3 core, regular grid; the extension `regular_bounded` of zarrs; ZEP 3, variable chunks; the `rectilinear`
+-- Sources: Zarr V3 core, regular grid; the extension `zarrs.regular_bounded`; ZEP 3, variable chunks; the `rectilinear`
 -- extension of zarr-extensions.
 use Rattle.std.specs.Prelude.{◌≡◌, ℕ, ⊤, List, length, map, Option, codes, string_bytes}
 use Rattle.std.specs.List.{AllByRecursion}
@@ -67,7 +67,7 @@ regular_bounded = record {
   refuses = λ text. text ≡ codes "`regular_bounded` chunk shape and array shape have inconsistent dimensionality";
 }
 
--- its refusal tells the array shape and the edges
+-- nothing is said here of the text of its refusal
 abbrev pub rectangular : GridKind (List DimensionEdges)
 rectangular = record {
   name = codes "rectangular";
@@ -81,7 +81,7 @@ rectangular = record {
   refuses = λ _. Unit {0};
 }
 
--- its refusal tells the array shape and the elements; listed edges are written in run-length form
+-- listed edges are written in run-length form; nothing is said here of the text of its refusal
 abbrev pub rectilinear : GridKind (List EdgeLengths)
 rectilinear = record {
   name = codes "rectilinear";
@@ -118,28 +118,10 @@ module _ {X : Type 0} (kind : GridKind X) where
   IsConfigurationOf shape edges members =
       (x : X) × (kind.edges x ≡ edges) × kind.is_written x × kind.accepts shape x × (members ≡ kind.written x) × IsConfiguration kind.table kind.value members x
 
--- ---- the grids of each kind
+-- ---- the regular grid
 
 abbrev pub IsRegularGrid : Extension → List ℕ → List Dimension → Type 0
 IsRegularGrid = IsGridOf regular
 
 abbrev pub IsRegularGridFault : Extension → List ℕ → PluginCreateError → Type 0
 IsRegularGridFault = IsGridFaultOf regular
-
-abbrev pub IsRegularBoundedGrid : Extension → List ℕ → List Dimension → Type 0
-IsRegularBoundedGrid = IsGridOf regular_bounded
-
-abbrev pub IsRegularBoundedGridFault : Extension → List ℕ → PluginCreateError → Type 0
-IsRegularBoundedGridFault = IsGridFaultOf regular_bounded
-
-abbrev pub IsRectangularGrid : Extension → List ℕ → List Dimension → Type 0
-IsRectangularGrid = IsGridOf rectangular
-
-abbrev pub IsRectangularGridFault : Extension → List ℕ → PluginCreateError → Type 0
-IsRectangularGridFault = IsGridFaultOf rectangular
-
-abbrev pub IsRectilinearGrid : Extension → List ℕ → List Dimension → Type 0
-IsRectilinearGrid = IsGridOf rectilinear
-
-abbrev pub IsRectilinearGridFault : Extension → List ℕ → PluginCreateError → Type 0
-IsRectilinearGridFault = IsGridFaultOf rectilinear

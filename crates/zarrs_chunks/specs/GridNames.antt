@@ -5,11 +5,50 @@ use Rattle.std.specs.declared.alloc.Global.{Global}
 use Rattle.serde_json.specs.Data.{Members}
 use Rattle.zarrs_chunk_base.specs.declared.plugin_create_error.PluginCreateError.{PluginCreateError}
 use Rattle.zarrs_chunk_base.specs.declared.plugin_create_error.PluginCreateError.TheVariants.{NameUnsupported}
+use Rattle.zarrs_chunk_base.specs.Dimension.{Dimension}
+use Rattle.zarrs_chunk_base.specs.DimensionEdges.{DimensionEdges}
 use Rattle.zarrs_chunk_base.specs.Metadata.{Extension}
+use Rattle.zarrs_chunk_axes.specs.InBounds.{AreHeldInBounds, AreIndicesInBounds}
+use Rattle.zarrs_chunk_axes.specs.seen.AxisGrid.{dimensions_of, edges_of}
 use Rattle.zarrs_chunks.specs.GridKinds.{HasEdgesOf, IsConfigurationOf, IsGridFaultOf, IsGridOf, rectangular, rectilinear, regular, regular_bounded}
 use Rattle.zarrs_chunks.specs.declared.chunk_grid.named.ChunkGrid.{ChunkGrid}
 use Rattle.zarrs_chunks.specs.declared.chunk_grid.named.ChunkGrid.TheVariants.{Rectangular, Rectilinear, Regular, RegularBounded}
-use Rattle.zarrs_chunks.specs.seen.ChunkGrid.{dimensions_in, edges_in, name_in}
+
+-- ---- the grid inside a `ChunkGrid`
+
+-- the extension's name
+abbrev pub name_in : ChunkGrid → List ℕ
+name_in (Regular grid) = regular.name
+name_in (RegularBounded grid) = regular_bounded.name
+name_in (Rectangular grid) = rectangular.name
+name_in (Rectilinear grid) = rectilinear.name
+
+-- its dimensions
+abbrev pub dimensions_in : ChunkGrid → List Dimension
+dimensions_in (Regular grid) = dimensions_of grid.axes
+dimensions_in (RegularBounded grid) = dimensions_of grid.axes
+dimensions_in (Rectangular grid) = dimensions_of grid.axes
+dimensions_in (Rectilinear grid) = dimensions_of grid.axes
+
+-- the edges that it was made with
+abbrev pub edges_in : ChunkGrid → List DimensionEdges
+edges_in (Regular grid) = edges_of grid.axes
+edges_in (RegularBounded grid) = edges_of grid.axes
+edges_in (Rectangular grid) = edges_of grid.axes
+edges_in (Rectilinear grid) = edges_of grid.axes
+
+-- the indices are in bounds
+abbrev pub HasInBounds : ChunkGrid → List ℕ → Type 0
+HasInBounds (Regular grid) = AreIndicesInBounds (dimensions_of grid.axes)
+HasInBounds (RegularBounded grid) = AreIndicesInBounds (dimensions_of grid.axes)
+HasInBounds (Rectangular grid) = AreHeldInBounds (dimensions_of grid.axes)
+HasInBounds (Rectilinear grid) = AreHeldInBounds (dimensions_of grid.axes)
+
+-- the array shape
+abbrev pub shape_in : ChunkGrid → List ℕ
+shape_in grid = map (λ d. d.array_size) (dimensions_in grid)
+
+-- ---- by name
 
 -- the extension names of chunk grids
 abbrev pub grid_names : List (List ℕ)
@@ -42,10 +81,6 @@ HasItsEdges e (Regular grid) = HasEdgesOf regular e (edges_in (Regular grid))
 HasItsEdges e (RegularBounded grid) = HasEdgesOf regular_bounded e (edges_in (RegularBounded grid))
 HasItsEdges e (Rectangular grid) = HasEdgesOf rectangular e (edges_in (Rectangular grid))
 HasItsEdges e (Rectilinear grid) = HasEdgesOf rectilinear e (edges_in (Rectilinear grid))
-
--- the array shape
-abbrev pub shape_in : ChunkGrid → List ℕ
-shape_in grid = map (λ d. d.array_size) (dimensions_in grid)
 
 -- the members are the configuration of the grid
 abbrev pub IsItsConfiguration : ChunkGrid → Members → Type 0

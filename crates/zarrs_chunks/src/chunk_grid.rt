@@ -46,11 +46,12 @@ pub trait ChunkGridTraits: Sized + Drop {
     ghost dimensions: { Self → List Dimension };
 
     /// The grid of an array with these sizes, as the configuration in an extension's metadata says. An absent
-    /// configuration counts as one without members. A kind of grid doesn't look at the name.
+    /// configuration counts as one without members. A grid of one kind doesn't look at the extension's name.
     ///
     /// # Errors
-    /// The configuration isn't of the form of this kind of grid, or the grid doesn't accept it for this array shape; or
-    /// there was no memory.
+    /// The first that applies: a grid of several kinds knows no such name (`NameUnsupported`); the configuration isn't of
+    /// its form (`ConfigurationUnsupported`); the grid doesn't accept it for this array shape (`Other`). Or there was no
+    /// memory.
     fn create(
         alloc: Global,
         metadata: &MetadataV3,
@@ -59,7 +60,7 @@ pub trait ChunkGridTraits: Sized + Drop {
         ensures { IfOk result (λ grid. map (λ d. d.array_size) (dimensions grid)
             ≡ array_shape.now) };
 
-    /// The configuration of the grid, as metadata has it.
+    /// The configuration of the grid: what the member `configuration` of its metadata is.
     ///
     /// # Errors
     /// There was no memory.

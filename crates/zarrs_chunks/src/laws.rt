@@ -1,12 +1,13 @@
 //! What holds of every chunk grid, whoever wrote it: it follows from the contracts of
-//! [`ChunkGridTraits`] and from its law that each dimension is a chain. And what two kinds of dimension have in common.
+//! [`ChunkGridTraits`] and from its law that each dimension is a chain. Besides, that a [`ChunkGrid`] is made again of its
+//! metadata, and what two kinds of dimension have in common.
 ghost use Rattle.std.specs.Prelude.{◌≡◌, ◌≢◌, ◌↔◌, ◌⊎◌, ℕ, ◌<◌, IfErr, IfOk, IfSome, List, Some, length, option_map};
 ghost use Rattle.zarrs_chunk_base.specs.ArraySubset.{IsEmptyBox, IsInside};
 ghost use Rattle.zarrs_chunk_base.specs.Dimension.{Dimension, InBox};
 ghost use Rattle.zarrs_chunk_axes.specs.Listed.{IsListed};
 ghost use Rattle.zarrs_chunk_axes.specs.Bounded.{IsBounded};
 ghost use Rattle.zarrs_chunk_base.specs.Refusal.{IfRefused};
-ghost use Rattle.zarrs_chunks.specs.seen.ChunkGrid.{dimensions_in, edges_in, name_in};
+ghost use Rattle.zarrs_chunks.specs.GridNames.{dimensions_in, edges_in, name_in};
 ghost use Rattle.zarrs_chunks.specs.Clipped.{AreAlike, AreClipped};
 ghost use Rattle.zarrs_chunk_axes.specs.LookUp.{AnswersChunk};
 ghost use Rattle.zarrs_chunks.specs.Subsets.{AnswersChunksSubset, AnswersCover, AnswersEmptyCover};

@@ -16,18 +16,22 @@
 //! let edges = vec![in alloc; ChunkEdgeLengths::Varying(elements), ChunkEdgeLengths::Scalar(ten)]?;
 //! let grid = RectilinearChunkGrid::new(alloc, array_shape, &edges)?;    // [35, 100], chunks of 5, 5, 5, 20 and of 10
 //! grid.grid_shape()                                     // [4, 10]
+//! grid.configuration(alloc)?                            // {"chunk_shapes": [[[5, 3], 20], 10], "kind": "inline"}
+//!
+//! let grid = ChunkGrid::from_metadata(alloc, &metadata, &array_shape)?;   // by the extension's name
 //! ```
 //!
 //! | Module | What it holds |
 //! |---|---|
 //! | `chunk_grid` | the trait of all chunk grids |
 //! | `chunk_grid::regular`, `regular_bounded`, `rectangular`, `rectilinear` | the grids |
+//! | `chunk_grid::named` | a grid of any of these kinds, by its extension's name |
 //! | `chunk_grid::regular_create_error`, `rectangular_create_error`, `rectilinear_create_error` | why there is no such grid |
 //! | `laws` | what holds of every chunk grid |
 //! | `chunk_grid::over_axes` | the calls of the four grids, over their lists of axes |
 //! | `chunk_grid::axis_bounds` | which indices are in bounds of a list of axes |
 //! | `chunk_grid::boxes`, `edges` | boxes that are made of starts and ends; edges as plain numbers |
-//! | `chunk_grid::lent_edges` | how a refusal copies and prints the edges that `new` was lent |
+//! | `chunk_grid::lent_edges` | how a refusal prints the edges that `new` was lent |
 //!
 //! One dimension, its kinds and the loops over dimensions stand in the crate `zarrs_chunk_axes`.
 #![tactic(auto)]

@@ -1,5 +1,5 @@
 -- Where members stand for a value, each of them fits the table.
-use Rattle.std.specs.Prelude.{◌≡◌, ℕ, true, false, List, IsSome, is_some, MatchOption, Option, Some, None, option_and_then, option_map, codes, refl}
+use Rattle.std.specs.Prelude.{◌≡◌, ℕ, true, false, List, is_some, MatchOption, Option, Some, None, option_and_then, option_map, codes, refl}
 use Rattle.std.specs.Option.{option_map_or}
 use Rattle.std.proofs.Common.{sym, ap, true≢false}
 use Rattle.serde_json.specs.Data.{Data, Members}

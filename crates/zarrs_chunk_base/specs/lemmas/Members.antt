@@ -1,11 +1,9 @@
 -- What is known of the members of a configuration on the way to its first fault.
-use Rattle.std.specs.Prelude.{◌≡◌, ℕ, List, IsSome, Option, Some, None}
-use Rattle.std.specs.List.{AllByRecursion}
+use Rattle.std.specs.Prelude.{◌≡◌, ℕ, List, Option, Some, None}
 use Rattle.serde_json.specs.Data.{Data, Members}
 use Rattle.serde_json.specs.Find.{get_member}
 use Rattle.zarrs_chunk_base.specs.declared.configuration_fault.ConfigurationFault.{ConfigurationFault}
-use Rattle.zarrs_chunk_base.specs.declared.configuration_fault.ConfigurationFault.TheVariants.{UnknownField, MissingField, WrongValue}
-use Rattle.zarrs_chunk_base.specs.Configuration.{IsMisformed, Member, required_names_of}
+use Rattle.zarrs_chunk_base.specs.declared.configuration_fault.ConfigurationFault.TheVariants.{MissingField, WrongValue}
 use Rattle.zarrs_chunk_base.specs.First.{IsFirst}
 
 -- the fault names the first of the names that no member has
@@ -18,12 +16,3 @@ abbrev pub IsValueFault : {X : Type 0} → List ℕ → (Data → Option X) → 
 IsValueFault name form members (WrongValue field) =
     (field.now ≡ name) × (d : Data) × (get_member name members ≡ Some d) × (form d ≡ None)
 IsValueFault _ _ _ _ = ⊥
-
--- the fault names the first member of the table whose value isn't of its form
-abbrev pub IsFirstWrong : List Member → Members → ConfigurationFault → Type 0
-IsFirstWrong table members (WrongValue field) = (m : Member) × (field.now ≡ m.name) × IsFirst (IsMisformed members) table m
-IsFirstWrong _ _ _ = ⊥
-
--- each member that has to be there is
-abbrev pub HasRequired : List Member → Members → Type 0
-HasRequired table members = AllByRecursion (λ name. IsSome (get_member name members)) (required_names_of table)

@@ -2,10 +2,9 @@
 ghost use Rattle.std.specs.Prelude.{◌≡◌, IfOk, MatchResult, Option, Some, map};
 ghost use Rattle.serde_json.specs.Data.{Members};
 ghost use Rattle.serde_json.specs.View.{members_view};
-ghost use Rattle.zarrs_chunk_base.specs.Configuration.{Table, AreInOrder, IsConfiguration, IsConfigurationFault, IsFitting, IsUnsupported, names_of, required_names_of};
+ghost use Rattle.zarrs_chunk_base.specs.Configuration.{Table, AreInOrder, HasRequired, IsConfiguration, IsConfigurationFault, IsFirstWrong, IsFitting, IsUnsupported, names_of, required_names_of};
 ghost use Rattle.std.specs.List.{AllByRecursion};
 ghost use Rattle.zarrs_chunk_base.specs.Metadata.{configuration_of, extension_of};
-ghost use Rattle.zarrs_chunk_base.specs.lemmas.Members.{HasRequired, IsFirstWrong};
 ghost use Rattle.zarrs_chunk_base.specs.Refusal.{IfRefused};
 
 use crate::json::members::{refuse_missing, refuse_unknown};
@@ -30,6 +29,7 @@ pub trait ConfigurationForm: Sized + Drop {
     /// What a configuration is, without where it lies in memory.
     ghost Seen: { Type 0 };
 
+    /// What a value is seen as.
     ghost seen: { Self → Seen };
 
     /// The members that there may be.
@@ -49,6 +49,9 @@ pub trait ConfigurationForm: Sized + Drop {
         ensures expected { result.expected.now ≡ table.expected };
 
     /// What members stand for of which all are known and none is missing.
+    ///
+    /// # Errors
+    /// The first value, by the names of the members, that isn't of its form; or there was no memory.
     fn from_members(
         alloc: Global,
         members: &Configuration,
@@ -103,9 +106,9 @@ pub trait ConfigurationForm: Sized + Drop {
     {
         let empty = Map::new(alloc);
         let members = metadata.configuration().unwrap_or(&empty);
-        Self::from_tree(alloc, members).map_err(
-            |refusal| refusal.map(PluginCreateError::ConfigurationUnsupported),
-        )
+        Self::from_tree(alloc, members).map_err(|refusal| refusal.map(
+            PluginCreateError::ConfigurationUnsupported,
+        ))
     }
 
     /// Where members stand for a configuration, each of them fits the table.

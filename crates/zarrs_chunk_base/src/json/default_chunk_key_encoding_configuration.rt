@@ -12,6 +12,8 @@ use serde_json::{Map, Value};
 use std::alloc::{AllocError, Global};
 use std::fmt;
 
+const SEPARATOR: &str = "separator";
+
 /// The configuration of the `default` chunk key encoding: `separator`, the text `/` or `.`, and `/` where it is absent.
 ///
 /// ```json
@@ -56,7 +58,7 @@ impl ConfigurationForm for DefaultChunkKeyEncodingConfiguration {
 
     fn names() -> MemberNames {
         MemberNames {
-            known: &["separator"],
+            known: &[SEPARATOR],
             required: &[],
             expected: "`separator`",
         }
@@ -66,7 +68,7 @@ impl ConfigurationForm for DefaultChunkKeyEncodingConfiguration {
         alloc: Global,
         members: &Configuration,
     ) -> Result<DefaultChunkKeyEncodingConfiguration, Refusal<ConfigurationFault>> {
-        let separator = optional_value(alloc, members, "separator")?;
+        let separator = optional_value(alloc, members, SEPARATOR)?;
         Ok(DefaultChunkKeyEncodingConfiguration {
             separator: separator.unwrap_or(ChunkKeySeparator::Slash),
         })
@@ -77,7 +79,7 @@ impl ConfigurationForm for DefaultChunkKeyEncodingConfiguration {
         serde_json::put(
             &mut members,
             alloc,
-            "separator",
+            SEPARATOR,
             self.separator.to_tree(alloc)?,
         )?;
         Ok(members)

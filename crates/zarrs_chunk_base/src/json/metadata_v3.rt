@@ -144,9 +144,9 @@ fn configuration_of(tree: &Value) -> Result<Option<Configuration>, Refusal<Metad
 {
     match tree.get("configuration") {
         None => Ok(None),
-        Some(configuration) => match configuration.clone()? {
-            Value::Object(members) => Ok(Some(members)),
-            _ => Err(Refusal::Refused(MetadataError::ConfigurationNotObject)),
+        Some(configuration) => match configuration.as_object() {
+            Some(members) => Ok(Some(copy_of(members)?)),
+            None => Err(Refusal::Refused(MetadataError::ConfigurationNotObject)),
         },
     }
 }

@@ -15,6 +15,8 @@ use std::alloc::{AllocError, Global};
 use std::fmt;
 use std::num::NonZeroU64;
 
+const CHUNK_SHAPE: &str = "chunk_shape";
+
 /// The configuration of the `rectangular` grid: `chunk_shape`, a list with one item a dimension, an edge for all of its
 /// chunks or a list of their edges.
 ///
@@ -71,8 +73,8 @@ impl ConfigurationForm for RectangularChunkGridConfiguration {
 
     fn names() -> MemberNames {
         MemberNames {
-            known: &["chunk_shape"],
-            required: &["chunk_shape"],
+            known: &[CHUNK_SHAPE],
+            required: &[CHUNK_SHAPE],
             expected: "`chunk_shape`",
         }
     }
@@ -82,7 +84,7 @@ impl ConfigurationForm for RectangularChunkGridConfiguration {
         members: &Configuration,
     ) -> Result<RectangularChunkGridConfiguration, Refusal<ConfigurationFault>> {
         Ok(RectangularChunkGridConfiguration {
-            chunk_shape: required_value(alloc, members, "chunk_shape")?,
+            chunk_shape: required_value(alloc, members, CHUNK_SHAPE)?,
         })
     }
 
@@ -91,7 +93,7 @@ impl ConfigurationForm for RectangularChunkGridConfiguration {
         serde_json::put(
             &mut members,
             alloc,
-            "chunk_shape",
+            CHUNK_SHAPE,
             self.chunk_shape.to_tree(alloc)?,
         )?;
         Ok(members)

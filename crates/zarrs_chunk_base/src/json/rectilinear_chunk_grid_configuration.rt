@@ -14,6 +14,10 @@ use std::alloc::{AllocError, Global};
 use std::fmt;
 use std::num::NonZeroU64;
 
+const CHUNK_SHAPES: &str = "chunk_shapes";
+
+const KIND: &str = "kind";
+
 /// The configuration of the `rectilinear` grid: `kind`, the text `inline`, and `chunk_shapes`, a list with one item a
 /// dimension, an edge for all of its chunks or a list of run-length elements. An element is the edge of one chunk, or a
 /// list of an edge and how many chunks in a row have it.
@@ -35,7 +39,7 @@ pub enum RectilinearChunkGridConfiguration {
 impl RectilinearChunkGridConfiguration {
     ghost use Rattle.std.specs.Prelude.{◌≡◌, IfOk, map};
     ghost use Rattle.zarrs_chunk_base.specs.RunLength.{lengths_of};
-    ghost use Rattle.zarrs_chunk_base.specs.seen.Configurations.{rectilinear_lengths};
+    ghost use Rattle.zarrs_chunk_base.specs.GridConfigurations.{rectilinear_lengths};
 
     /// A configuration with the same edges.
     ///
@@ -63,7 +67,7 @@ impl fmt::Display for RectilinearChunkGridConfiguration {
 }
 
 impl ConfigurationForm for RectilinearChunkGridConfiguration {
-    ghost use Rattle.zarrs_chunk_base.specs.seen.Configurations.{rectilinear_lengths};
+    ghost use Rattle.zarrs_chunk_base.specs.GridConfigurations.{rectilinear_lengths};
 
     ghost Seen = { List EdgeLengths };
 
@@ -81,8 +85,8 @@ impl ConfigurationForm for RectilinearChunkGridConfiguration {
 
     fn names() -> MemberNames {
         MemberNames {
-            known: &["chunk_shapes", "kind"],
-            required: &["chunk_shapes", "kind"],
+            known: &[CHUNK_SHAPES, KIND],
+            required: &[CHUNK_SHAPES, KIND],
             expected: "`chunk_shapes` or `kind`",
         }
     }
@@ -91,8 +95,8 @@ impl ConfigurationForm for RectilinearChunkGridConfiguration {
         alloc: Global,
         members: &Configuration,
     ) -> Result<RectilinearChunkGridConfiguration, Refusal<ConfigurationFault>> {
-        let chunk_shapes = required_value(alloc, members, "chunk_shapes")?;
-        let Inline = required_value(alloc, members, "kind")?;
+        let chunk_shapes = required_value(alloc, members, CHUNK_SHAPES)?;
+        let Inline = required_value(alloc, members, KIND)?;
         Ok(RectilinearChunkGridConfiguration::Inline { chunk_shapes })
     }
 
@@ -102,10 +106,10 @@ impl ConfigurationForm for RectilinearChunkGridConfiguration {
         serde_json::put(
             &mut members,
             alloc,
-            "chunk_shapes",
+            CHUNK_SHAPES,
             chunk_shapes.to_tree(alloc)?,
         )?;
-        serde_json::put(&mut members, alloc, "kind", Inline.to_tree(alloc)?)?;
+        serde_json::put(&mut members, alloc, KIND, Inline.to_tree(alloc)?)?;
         Ok(members)
     }
 }

@@ -1,4 +1,4 @@
-//! The configuration of the `regular` grid, and of the `regular_bounded` one.
+//! The configuration of the `regular` grid, and of the `zarrs.regular_bounded` one.
 ghost use Rattle.std.specs.Prelude.{◌≡◌, ℕ, List, map};
 ghost use Rattle.std.specs.Int.NonZero.{non_zero_u64_get};
 ghost use Rattle.zarrs_chunk_base.specs.lemmas.Fitting.{regular_fits};
@@ -12,7 +12,9 @@ use serde_json::Map;
 use std::alloc::{AllocError, Global};
 use std::fmt;
 
-/// The configuration of the `regular` grid, and of the `regular_bounded` one: `chunk_shape`, a list of edges.
+const CHUNK_SHAPE: &str = "chunk_shape";
+
+/// The configuration of the `regular` grid, and of the `zarrs.regular_bounded` one: `chunk_shape`, a list of edges.
 ///
 /// ```json
 /// {"chunk_shape": [1, 2, 3]}
@@ -25,7 +27,7 @@ pub struct RegularChunkGridConfiguration {
     pub chunk_shape: ChunkShape,
 }
 
-/// The configuration of the `regular_bounded` grid, which has the members of the `regular` one.
+/// The configuration of the `zarrs.regular_bounded` grid, which has the members of the `regular` one.
 pub type RegularBoundedChunkGridConfiguration = RegularChunkGridConfiguration;
 
 impl RegularChunkGridConfiguration {
@@ -68,8 +70,8 @@ impl ConfigurationForm for RegularChunkGridConfiguration {
 
     fn names() -> MemberNames {
         MemberNames {
-            known: &["chunk_shape"],
-            required: &["chunk_shape"],
+            known: &[CHUNK_SHAPE],
+            required: &[CHUNK_SHAPE],
             expected: "`chunk_shape`",
         }
     }
@@ -79,7 +81,7 @@ impl ConfigurationForm for RegularChunkGridConfiguration {
         members: &Configuration,
     ) -> Result<RegularChunkGridConfiguration, Refusal<ConfigurationFault>> {
         Ok(RegularChunkGridConfiguration {
-            chunk_shape: required_value(alloc, members, "chunk_shape")?,
+            chunk_shape: required_value(alloc, members, CHUNK_SHAPE)?,
         })
     }
 
@@ -88,7 +90,7 @@ impl ConfigurationForm for RegularChunkGridConfiguration {
         serde_json::put(
             &mut members,
             alloc,
-            "chunk_shape",
+            CHUNK_SHAPE,
             self.chunk_shape.to_tree(alloc)?,
         )?;
         Ok(members)

@@ -15,6 +15,7 @@ pub trait TreeForm: Sized + Drop {
     /// What a value is, without where it lies in memory.
     ghost Seen: { Type 0 };
 
+    /// What a value is seen as.
     ghost seen: { Self → Seen };
 
     /// What a tree stands for, if it is of the form.

@@ -4,9 +4,9 @@ ghost use Rattle.serde_json.specs.View.{members_view};
 ghost use Rattle.zarrs_chunk_base.specs.Metadata.{extension_of};
 ghost use Rattle.zarrs_chunk_base.specs.Refusal.{IfRefused};
 ghost use Rattle.zarrs_chunk_axes.specs.InBounds.{AreBelow, AreInBounds};
-ghost use Rattle.zarrs_chunks.specs.GridNames.{HasItsEdges, IsGrid, IsGridFault, IsItsConfiguration, IsMetadata, shape_in};
+ghost use Rattle.zarrs_chunks.specs.GridNames.{HasInBounds, HasItsEdges, IsGrid, IsGridFault, IsItsConfiguration, IsMetadata, dimensions_in, edges_in, name_in, shape_in};
 ghost use Rattle.zarrs_chunks.specs.declared.chunk_grid.named.ChunkGrid.TheVariants.{Rectangular, Rectilinear, Regular, RegularBounded};
-ghost use Rattle.zarrs_chunks.specs.seen.ChunkGrid.{HasInBounds, chains_in, dimensions_in, edges_in, name_in};
+ghost use Rattle.zarrs_chunks.specs.seen.ChunkGrid.{chains_in};
 
 use super::rectangular::RectangularChunkGrid;
 use super::rectilinear::RectilinearChunkGrid;

@@ -57,7 +57,7 @@ pub(crate) trait OverAxes: Sized + Drop {
         ensures edges { IfOk result (λ grid. HasEdgesOf grid_kind (extension_of metadata.now)
             (axis_edges grid)) };
 
-    /// The configuration that it was made of, as it is written.
+    /// The configuration that tells its edges, in the form in which one is written.
     fn to_configuration(&self, alloc: Global) -> Result<Configuration, AllocError>
         ensures { IfOk result (λ c. IsConfigurationOf grid_kind (map
             (λ d. d.array_size) (axis_dimensions self.now)) (axis_edges self.now)
@@ -65,12 +65,6 @@ pub(crate) trait OverAxes: Sized + Drop {
 
     /// Each of its dimensions is a chain.
     ghost axes_chained: { (grid : Self) → AllByRecursion IsChain (axis_dimensions grid) };
-
-    /// A grid of the same array shape and edges has the same dimensions.
-    ghost determined: { (grid other : Self)
-        → map (λ d. d.array_size) (axis_dimensions grid) ≡ map
-        (λ d. d.array_size) (axis_dimensions other)
-        → axis_edges grid ≡ axis_edges other → axis_dimensions grid ≡ axis_dimensions other };
 }
 
 impl<G: OverAxes> ChunkGridTraits for G {

@@ -4,7 +4,7 @@ ghost use Rattle.zarrs_chunk_axes.specs.Rectangular.{AreRectangular};
 ghost use Rattle.zarrs_chunk_axes.specs.lemmas.AcceptedOnce.{are_rectangular_once};
 ghost use Rattle.zarrs_chunk_axes.specs.seen.AxisGrid.{dimensions_of, edges_of};
 
-use super::over_axes::{OverAxes, other};
+use super::over_axes::OverAxes;
 use super::rectangular_create_error::RectangularChunkGridCreateError;
 use crate::ChunkGridTraits;
 use std::alloc::{AllocError, Global};
@@ -21,7 +21,8 @@ use zarrs_chunk_base::{
 #[derive(Debug, Drop)]
 pub struct RectangularChunkGrid {
     axes: AxisGrid<EqualOrListedAxis>,
-    ghost accepted: { AreRectangular (map (λ d. d.array_size) (dimensions_of axes)) (edges_of axes) } by { are_rectangular_once _ _ },
+    ghost accepted: { AreRectangular (map (λ d. d.array_size)
+        (dimensions_of axes)) (edges_of axes) } by { are_rectangular_once _ _ },
 }
 
 impl RectangularChunkGrid {
@@ -88,8 +89,8 @@ impl OverAxes for RectangularChunkGrid {
     ghost use Rattle.std.specs.Prelude.{List};
     ghost use Rattle.zarrs_chunk_base.specs.DimensionEdges.{DimensionEdges};
     ghost use Rattle.zarrs_chunks.specs.GridKinds.{rectangular};
-    ghost use Rattle.zarrs_chunk_axes.specs.seen.AxisGrid.{chains_of, determined_by, dimensions_of, edges_of};
-    ghost use Rattle.zarrs_chunk_axes.specs.seen.EqualOrListedAxis.{equal_or_listed_determined, equal_or_listed_is_chain};
+    ghost use Rattle.zarrs_chunk_axes.specs.seen.AxisGrid.{chains_of, dimensions_of, edges_of};
+    ghost use Rattle.zarrs_chunk_axes.specs.seen.EqualOrListedAxis.{equal_or_listed_is_chain};
 
     ghost Said = { List DimensionEdges };
 
@@ -100,8 +101,6 @@ impl OverAxes for RectangularChunkGrid {
     ghost axis_edges = { λ grid. edges_of grid.axes };
 
     ghost axes_chained = { λ grid. chains_of equal_or_listed_is_chain grid.axes };
-
-    ghost determined = { λ grid other. determined_by equal_or_listed_determined grid.axes other.axes };
 
     fn axes(&self) -> &AxisGrid<EqualOrListedAxis> {
         &self.axes
@@ -116,7 +115,9 @@ impl OverAxes for RectangularChunkGrid {
         let array_shape = array_shape.to_vec(alloc)?;
         match RectangularChunkGrid::new(alloc, array_shape, &configuration.chunk_shape) {
             Ok(grid) => Ok(grid),
-            Err(refusal) => Err(refusal.try_map(|error| other(alloc, &error.to_string(alloc)?))),
+            Err(refusal) => Err(refusal.try_map(|error| {
+                Ok(PluginCreateError::Other(error.to_string(alloc)?))
+            })),
         }
     }
 

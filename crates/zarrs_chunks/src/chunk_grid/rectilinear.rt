@@ -1,12 +1,12 @@
 //! The `rectilinear` grid: in each dimension chunks of one edge, or with the edges of run-length elements.
 ghost use Rattle.std.specs.Prelude.{◌≡◌, map};
 ghost use Rattle.zarrs_chunk_base.specs.RunLength.{edges_of_lengths, rectilinear_edges};
-ghost use Rattle.zarrs_chunk_base.specs.seen.Configurations.{rectilinear_lengths};
+ghost use Rattle.zarrs_chunk_base.specs.GridConfigurations.{rectilinear_lengths};
 ghost use Rattle.zarrs_chunk_axes.specs.Rectilinear.{AreRectilinear};
 ghost use Rattle.zarrs_chunk_axes.specs.lemmas.AcceptedOnce.{are_rectilinear_once};
 ghost use Rattle.zarrs_chunk_axes.specs.seen.AxisGrid.{dimensions_of, edges_of};
 
-use super::over_axes::{OverAxes, other};
+use super::over_axes::OverAxes;
 use super::rectilinear_create_error::RectilinearChunkGridCreateError;
 use crate::ChunkGridTraits;
 use std::alloc::{AllocError, Global};
@@ -18,13 +18,15 @@ use zarrs_chunk_base::{
 
 /// A grid whose chunks have one edge or listed edges in each dimension, where a list may say that so many chunks
 /// in a row have one edge. Listed edges reach over the array and may reach past it; there are no other chunks in that
-/// dimension. Each listed edge takes 16 bytes, also where an element stands for many.
+/// dimension. Each listed edge takes 16 bytes, also where an element stands for many. The grid's configuration has listed
+/// edges in run-length form: equal neighbours as one element, and a pair only where it counts more than one chunk.
 ///
 /// Source: the `rectilinear` extension of zarr-extensions.
 #[derive(Debug, Drop)]
 pub struct RectilinearChunkGrid {
     axes: AxisGrid<EqualOrListedAxis>,
-    ghost accepted: { AreRectilinear (map (λ d. d.array_size) (dimensions_of axes)) (edges_of axes) } by { are_rectilinear_once _ _ },
+    ghost accepted: { AreRectilinear (map (λ d. d.array_size)
+        (dimensions_of axes)) (edges_of axes) } by { are_rectilinear_once _ _ },
 }
 
 impl RectilinearChunkGrid {
@@ -92,8 +94,8 @@ impl OverAxes for RectilinearChunkGrid {
     ghost use Rattle.std.specs.Prelude.{List};
     ghost use Rattle.zarrs_chunk_base.specs.RunLength.{EdgeLengths};
     ghost use Rattle.zarrs_chunks.specs.GridKinds.{rectilinear};
-    ghost use Rattle.zarrs_chunk_axes.specs.seen.AxisGrid.{chains_of, determined_by, dimensions_of, edges_of};
-    ghost use Rattle.zarrs_chunk_axes.specs.seen.EqualOrListedAxis.{equal_or_listed_determined, equal_or_listed_is_chain};
+    ghost use Rattle.zarrs_chunk_axes.specs.seen.AxisGrid.{chains_of, dimensions_of, edges_of};
+    ghost use Rattle.zarrs_chunk_axes.specs.seen.EqualOrListedAxis.{equal_or_listed_is_chain};
 
     ghost Said = { List EdgeLengths };
 
@@ -104,8 +106,6 @@ impl OverAxes for RectilinearChunkGrid {
     ghost axis_edges = { λ grid. edges_of grid.axes };
 
     ghost axes_chained = { λ grid. chains_of equal_or_listed_is_chain grid.axes };
-
-    ghost determined = { λ grid other. determined_by equal_or_listed_determined grid.axes other.axes };
 
     fn axes(&self) -> &AxisGrid<EqualOrListedAxis> {
         &self.axes
@@ -120,7 +120,9 @@ impl OverAxes for RectilinearChunkGrid {
         let array_shape = array_shape.to_vec(alloc)?;
         match RectilinearChunkGrid::new(alloc, array_shape, chunk_shapes_in(&configuration)) {
             Ok(grid) => Ok(grid),
-            Err(refusal) => Err(refusal.try_map(|error| other(alloc, &error.to_string(alloc)?))),
+            Err(refusal) => Err(refusal.try_map(|error| {
+                Ok(PluginCreateError::Other(error.to_string(alloc)?))
+            })),
         }
     }
 

@@ -108,8 +108,8 @@ impl OverAxes for RegularChunkGrid {
 
     ghost use Rattle.std.specs.Prelude.{ℕ, List};
     ghost use Rattle.zarrs_chunks.specs.GridKinds.{regular};
-    ghost use Rattle.zarrs_chunk_axes.specs.seen.AxisGrid.{chains_of, determined_by, edges_of};
-    ghost use Rattle.zarrs_chunk_axes.specs.seen.EqualAxis.{equal_determined, equal_is_chain};
+    ghost use Rattle.zarrs_chunk_axes.specs.seen.AxisGrid.{chains_of, edges_of};
+    ghost use Rattle.zarrs_chunk_axes.specs.seen.EqualAxis.{equal_is_chain};
 
     ghost Said = { List ℕ };
 
@@ -120,8 +120,6 @@ impl OverAxes for RegularChunkGrid {
     ghost axis_edges = { λ grid. edges_of grid.axes };
 
     ghost axes_chained = { λ grid. chains_of equal_is_chain grid.axes };
-
-    ghost determined = { λ grid other. determined_by equal_determined grid.axes other.axes };
 
     fn axes(&self) -> &AxisGrid<EqualAxis> {
         &self.axes

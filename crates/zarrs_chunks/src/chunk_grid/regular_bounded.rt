@@ -1,4 +1,4 @@
-//! The `regular_bounded` grid: chunks that all have one shape, save at the array's end.
+//! The `zarrs.regular_bounded` grid: chunks that all have one shape, save at the array's end.
 use super::over_axes::{OverAxes, other};
 use crate::ChunkGridTraits;
 use std::alloc::{AllocError, Global};
@@ -11,7 +11,7 @@ use zarrs_chunk_base::{
 /// A grid whose chunks all have one shape, save that none reaches past the array. There are no chunks past
 /// the array, and none along a dimension of size 0.
 ///
-/// Source: the extension `regular_bounded` of zarrs, after the Zarr V3 core regular grid.
+/// Source: the extension `zarrs.regular_bounded`, after the Zarr V3 core regular grid.
 #[derive(Debug, Drop)]
 pub struct RegularBoundedChunkGrid {
     axes: AxisGrid<BoundedAxis>,
@@ -77,8 +77,8 @@ impl OverAxes for RegularBoundedChunkGrid {
 
     ghost use Rattle.std.specs.Prelude.{ℕ, List};
     ghost use Rattle.zarrs_chunks.specs.GridKinds.{regular_bounded};
-    ghost use Rattle.zarrs_chunk_axes.specs.seen.AxisGrid.{chains_of, determined_by, dimensions_of, edges_of};
-    ghost use Rattle.zarrs_chunk_axes.specs.seen.BoundedAxis.{bounded_determined, bounded_is_chain};
+    ghost use Rattle.zarrs_chunk_axes.specs.seen.AxisGrid.{chains_of, dimensions_of, edges_of};
+    ghost use Rattle.zarrs_chunk_axes.specs.seen.BoundedAxis.{bounded_is_chain};
 
     ghost Said = { List ℕ };
 
@@ -89,8 +89,6 @@ impl OverAxes for RegularBoundedChunkGrid {
     ghost axis_edges = { λ grid. edges_of grid.axes };
 
     ghost axes_chained = { λ grid. chains_of bounded_is_chain grid.axes };
-
-    ghost determined = { λ grid other. determined_by bounded_determined grid.axes other.axes };
 
     fn axes(&self) -> &AxisGrid<BoundedAxis> {
         &self.axes

@@ -1,11 +1,11 @@
-use Rattle.std.proofs.Common.{◌≡◌, IsSome, ℕ, List, subst}
+use Rattle.std.proofs.Common.{IsSome, subst}
 use Rattle.std.specs.List.{AllByRecursion}
 use Rattle.std.proofs.lemmas.Result.{MatchResult-weaker, err_from_is_err_and}
 use Rattle.serde_json.specs.Find.{get_member}
 use Rattle.serde_json.specs.View.{members_view}
-use Rattle.zarrs_chunk_base.specs.Configuration.{HasNoUnknown, IsConfigurationFault, names_of, required_names_of}
+use Rattle.zarrs_chunk_base.specs.Configuration.{HasNoUnknown, HasRequired, IsConfigurationFault, names_of, required_names_of}
 use Rattle.zarrs_chunk_base.specs.Refusal.{IfRefused}
-use Rattle.zarrs_chunk_base.specs.lemmas.Members.{HasRequired, IsFirstMissing}
+use Rattle.zarrs_chunk_base.specs.lemmas.Members.{IsFirstMissing}
 use Rattle.zarrs_chunk_base.proofs.FirstMembers.{missing_is_first, wrong_is_first}
 use Rattle.zarrs_chunk_base.proofs.Refusals.{refused_weaker}
 use Rattle.zarrs_chunk_base.proofs.json.configuration_form.ConfigurationForm.from_tree.Goals as goal

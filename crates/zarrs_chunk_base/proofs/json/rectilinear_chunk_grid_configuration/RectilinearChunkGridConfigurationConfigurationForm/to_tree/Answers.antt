@@ -1,8 +1,7 @@
 use Rattle.std.proofs.Common.{refl, rules}
-use Rattle.serde_json.specs.View.{members_view}
 use Rattle.zarrs_chunk_base.proofs.KnownNames.{reads_back}
 use Rattle.zarrs_chunk_base.specs.GridConfigurations.{rectilinear_members, rectilinear_table, rectilinear_value}
-use Rattle.zarrs_chunk_base.specs.seen.Configurations.{rectilinear_lengths}
+use Rattle.zarrs_chunk_base.specs.GridConfigurations.{rectilinear_lengths}
 use Rattle.zarrs_chunk_base.proofs.json.rectilinear_chunk_grid_configuration.RectilinearChunkGridConfigurationConfigurationForm.to_tree.Goals as goal
 
 pub returns-clause-reads_back : goal.returns-clause-reads_back

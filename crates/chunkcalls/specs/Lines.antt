@@ -1,0 +1,26 @@
+-- Lines of bytes.
+use Rattle.std.specs.Prelude.{◌≡◌, ℕ, ◌+◌, ◌==◌, ◌||◌, if◌then◌else◌, List, [], ◌∷◌, ◌++◌, length, Option, Some, codes}
+
+-- how many line feeds there are
+abbrev pub line_feeds : List ℕ → ℕ
+line_feeds [] = 0
+line_feeds (b ∷ bytes) = (if b == 10 then 1 else 0) + line_feeds bytes
+
+-- how many lines there are: each line feed ends one, and so does the last byte
+abbrev pub line_count : List ℕ → ℕ
+line_count [] = 0
+line_count (b ∷ bytes) = (if b == 10 || length bytes == 0 then 1 else 0) + line_count bytes
+
+-- a text without a line feed, and then one line feed
+abbrev pub IsOneLine : List ℕ → Type 0
+IsOneLine line = (text : List ℕ) × (line_feeds text ≡ 0) × (line ≡ text ++ codes "\n")
+
+-- as many lines as the input has, and each of them ends in a line feed
+pub record AreLinesFor (input answers : List ℕ) : Type 0 where
+  pub lines : line_count answers ≡ line_count input
+  pub ended : line_feeds answers ≡ line_count input
+
+-- the writer held some bytes, and now holds a line for each line of the input behind them
+abbrev pub HasAnswered : (input held : List ℕ) → Option (List ℕ) → Type 0
+HasAnswered input held holds =
+    (answers : List ℕ) × AreLinesFor input answers × (holds ≡ Some (held ++ answers))

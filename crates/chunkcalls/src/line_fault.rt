@@ -1,0 +1,37 @@
+//! Why a line has no answer.
+use thiserror::Error;
+use zarrs_chunk_base::{
+    ArraySubsetError, IncompatibleDimensionalityError, MetadataError, PluginCreateError,
+};
+
+/// Why a line has no answer: it can't be read, or the library refuses.
+#[derive(Debug, Drop, Error)]
+pub(crate) enum LineFault {
+    /// The line is no text of JSON.
+    #[error("unreadable: not JSON")]
+    NotJson,
+    /// The line is no JSON object.
+    #[error("unreadable: not an object")]
+    NotObject,
+    /// A member of the line is missing.
+    #[error("unreadable: missing field `{0}`")]
+    Missing(&'static str),
+    /// A member of the line isn't of its form.
+    #[error("unreadable: wrong value in field `{0}`")]
+    WrongValue(&'static str),
+    /// No call has this name.
+    #[error("unreadable: there is no call `{0}`")]
+    NoCall(String),
+    /// The chunk grid is no extension's metadata.
+    #[error("refused: {0}")]
+    Metadata(MetadataError),
+    /// The chunk grid can't be made.
+    #[error("refused: {0}")]
+    Grid(PluginCreateError),
+    /// The box that the call is asked of can't be made.
+    #[error("refused: {0}")]
+    Box(ArraySubsetError),
+    /// What the call is asked of has another number of dimensions than the grid.
+    #[error("refused: {0}")]
+    Lengths(IncompatibleDimensionalityError),
+}

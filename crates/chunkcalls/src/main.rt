@@ -1,0 +1,40 @@
+//! `chunkcalls` asks chunk grids, a call a line.
+//!
+//! Each line of standard input is a JSON object: the `shape` of an array and its `chunk_grid`, as
+//! in its `zarr.json`, the name of a `call`, and what it is asked `of`, where it takes something.
+//! For each line one line is printed: the answer as compact JSON, why the library refused, or why
+//! the line can't be read.
+//!
+//! ```text
+//! {"shape":[5,7,52],"chunk_grid":{"name":"regular","configuration":{"chunk_shape":[1,2,3]}},"call":"subset","of":[0,3,17]}
+//! [[0,6,51],[1,2,3]]
+//! ```
+//!
+//! | Module | What it holds |
+//! |---|---|
+//! | `program` | the whole program over any reader and writers: `run`, and then `finish` |
+//! | `answer` | the line that answers a line |
+//! | `question` | what a line asks |
+//! | `call` | the calls, by their names, and what each answers |
+//! | `start_shape` | a box as a line writes it |
+//! | `line_fault` | why a line has no answer |
+//! | `run_fault` | why a run stops |
+#![tactic(auto)]
+
+mod answer;
+mod call;
+mod line_fault;
+mod program;
+mod question;
+mod run_fault;
+mod start_shape;
+#[cfg(test)]
+mod tests;
+
+use program::run_to_status;
+use std::process::ExitCode;
+
+fn main(rt: HostRuntime) -> ExitCode {
+    let status = run_to_status(rt.alloc(), rt.stdin(), rt.stdout(), &mut rt.stderr());
+    ExitCode::from(status)
+}

@@ -1,0 +1,99 @@
+//! The program over any reader and writer.
+ghost use Rattle.std.specs.Prelude.{◌≡◌, ◌≤◌, ℕ, IfOk, IfSome, List, MatchResult, OnOk};
+ghost use Rattle.std.specs.Io.KnownBytes.{Appends, Keeps};
+ghost use Rattle.chunkcalls.specs.Lines.{HasAnswered, IsOneLine};
+
+use crate::answer::answer;
+use crate::run_fault::RunFault;
+use std::alloc::Global;
+use std::io::{BufRead, BufReader, BufWriter, Read, Write};
+
+/// Runs the program, tells its fault in one line, if it had one, and answers the status to end
+/// with: 0 where the run succeeded, and 1 after a fault.
+pub fn run_to_status<R: Read + Drop, W: Write + Drop, E: Write>(
+    alloc: Global,
+    reader: R,
+    writer: W,
+    errors: &mut E,
+) -> u8
+    ensures silent { result ≡ 0 → Keeps (E.contents errors.old) (E.contents errors.new) }
+    ensures zero_or_one { result ≤ 1 }
+{
+    let outcome = run(alloc, reader, writer);
+    finish(&outcome, errors)
+}
+
+/// Reads lines to the end, writes the answer to each, in order, and gives the writer back.
+///
+/// # Errors
+/// A read or a write failed, or there was no memory. What has been answered by then is written, if
+/// it can be.
+pub fn run<R: Read + Drop, W: Write + Drop>(
+    alloc: Global,
+    reader: R,
+    writer: W,
+) -> Result<W, RunFault>
+    ensures { IfOk result (λ written. IfSome (R.remaining reader) (λ input.
+        IfSome (W.contents writer) (λ held. HasAnswered input held (W.contents written)))) }
+{
+    let Ok(reader) = BufReader::new(alloc, reader) else {
+        return Err(RunFault::Memory);
+    };
+    let Ok(mut answers) = BufWriter::new(alloc, writer) else {
+        return Err(RunFault::Memory);
+    };
+    answer_lines(alloc, reader, &mut answers)?;
+    let Ok(mut writer) = answers.into_inner() else {
+        return Err(RunFault::Write);
+    };
+    match writer.flush() {
+        Ok(()) => Ok(writer),
+        Err(_) => Err(RunFault::Write),
+    }
+}
+
+/// Writes the answer to each line that a reader has left, in order.
+fn answer_lines<R: BufRead + Drop, W: Write>(
+    alloc: Global,
+    reader: R,
+    writer: &mut W,
+) -> Result<(), RunFault>
+    ensures { OnOk result (IfSome (R.remaining reader) (λ input.
+        IfSome (W.contents writer.old) (λ held.
+        HasAnswered input held (W.contents writer.new)))) }
+{
+    for line in reader.split(alloc, b'\n') {
+        match line {
+            Ok(line) => answer_line(alloc, &line, writer)?,
+            Err(error) => return Err(RunFault::from_read(error)),
+        }
+    }
+    Ok(())
+}
+
+/// Writes the answer to a line.
+fn answer_line<W: Write>(alloc: Global, line: &[u8], writer: &mut W) -> Result<(), RunFault>
+    ensures { OnOk result ((written : List ℕ) × IsOneLine written
+        × Appends (W.contents writer.old) (W.contents writer.new) written) }
+{
+    let answer = answer(alloc, line)?;
+    match writer.write_all(&answer) {
+        Ok(()) => Ok(()),
+        Err(_) => Err(RunFault::Write),
+    }
+}
+
+/// Tells a run's fault in one line, if it had one, and answers the status to end with: 0, or 1
+/// after a fault. That the line can't be written changes nothing.
+pub fn finish<T, W: Write>(outcome: &Result<T, RunFault>, errors: &mut W) -> u8
+    ensures status { MatchResult outcome.now (λ _. result ≡ 0) (λ _. result ≡ 1) }
+    ensures silent { OnOk outcome.now (Keeps (W.contents errors.old) (W.contents errors.new)) }
+{
+    match outcome {
+        Ok(_) => 0,
+        Err(fault) => {
+            let _ = writeln!(errors, "chunkcalls: {fault}");
+            1
+        }
+    }
+}
