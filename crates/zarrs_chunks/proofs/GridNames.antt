@@ -1,5 +1,5 @@
 -- The names of chunk grids, and grids that are made again of their metadata.
-use Rattle.std.proofs.Common.{◌≡◌, ◌≢◌, ℕ, List, [], ◌∷◌, Contains, Option, Some, Result, Ok, Err, IfErr, IfOk, MatchResult, false, eqb, get_or, refl, sym, ap, ◌∙◌, subst, unwrap_or, arith}
+use Rattle.std.proofs.Common.{◌≡◌, ◌≢◌, ℕ, List, [], ◌∷◌, Contains, Some, Result, Ok, Err, IfErr, IfOk, MatchResult, false, eqb, get_or, refl, sym, ap, ◌∙◌, subst, unwrap_or, arith}
 use Rattle.std.proofs.lemmas.Bool.{eqb-false}
 use Rattle.std.specs.List.{AllByRecursion}
 use Rattle.serde_json.specs.Data.{Members, no_members}

@@ -1,7 +1,7 @@
 -- The kinds of chunk grids: which configurations each accepts for an array shape, and what grids it makes of them.
 -- Sources: Zarr V3 core, regular grid; the extension `zarrs.regular_bounded`; ZEP 3, variable chunks; the `rectilinear`
 -- extension of zarr-extensions.
-use Rattle.std.specs.Prelude.{◌≡◌, ℕ, ⊤, List, length, map, Option, codes, string_bytes}
+use Rattle.std.specs.Prelude.{◌≡◌, ℕ, List, length, map, Option, codes, string_bytes}
 use Rattle.std.specs.List.{AllByRecursion}
 use Rattle.serde_json.specs.Data.{Members}
 use Rattle.zarrs_chunk_base.specs.Configuration.{IsConfiguration, IsConfigurationFault, Table}
