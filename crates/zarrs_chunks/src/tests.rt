@@ -42,16 +42,11 @@ fn metadata(alloc: Global, text: &str) -> Result<MetadataV3, Fail> {
     Ok(MetadataV3::from_tree(alloc, &tree)?)
 }
 
-/// Five, in chunks of three and of two: each kind of grid, of one dimension.
-#[derive(Drop)]
-struct Grids {
-    regular: RegularChunkGrid,
-    bounded: RegularBoundedChunkGrid,
-    rectangular: RectangularChunkGrid,
-    rectilinear: RectilinearChunkGrid,
-}
+/// A grid of five elements, where its second chunk ends, and its kind's name.
+type Row = (ChunkGrid, u64, &'static str);
 
-fn make_grids(alloc: Global) -> Result<Grids, Fail> {
+/// Five, in chunks of three and of two: each kind of grid, of one dimension.
+fn make_grids(alloc: Global) -> Result<[Row; 4], Fail> {
     let array_shape = || [5].to_vec(alloc);
     let regular = RegularChunkGrid::new(alloc, array_shape()?, edges(alloc, &[3])?)?;
     let bounded = RegularBoundedChunkGrid::new(alloc, array_shape()?, edges(alloc, &[3])?)?;
@@ -64,12 +59,12 @@ fn make_grids(alloc: Global) -> Result<Grids, Fail> {
     let mut lengths = Vec::new(alloc);
     lengths.push(ChunkEdgeLengths::Varying(elements))?;
     let rectilinear = RectilinearChunkGrid::new(alloc, array_shape()?, &lengths)?;
-    Ok(Grids {
-        regular,
-        bounded,
-        rectangular,
-        rectilinear,
-    })
+    Ok([
+        (ChunkGrid::from(regular), 6, "regular"),
+        (ChunkGrid::from(bounded), 5, "zarrs.regular_bounded"),
+        (ChunkGrid::from(rectangular), 5, "rectangular"),
+        (ChunkGrid::from(rectilinear), 5, "rectilinear"),
+    ])
 }
 
 /// The look-up is refused, with the length that was given and the one that was expected.
@@ -105,29 +100,38 @@ fn check_box(
     Ok(())
 }
 
-/// Each call on a grid of five elements in a chunk of three and another one up to `end`, and each law that makes a call.
-fn check_calls<G: ChunkGridTraits>(
+/// There is an answer, and it is these numbers.
+fn check_numbers(
+    rt: &impl Abort,
+    answer: Result<Option<Vec<u64>>, Refusal<IncompatibleDimensionalityError>>,
+    numbers: &[u64],
+) -> Result<(), Fail> {
+    let found = answer?.ok_or("no answer")?;
+    assert_eq!(rt; found.as_slice(), numbers);
+    Ok(())
+}
+
+/// Where the second chunk lies, and which element in it index 4 is.
+fn check_look_ups(
     rt: &(impl Abort + AllocGlobal),
-    grid: &G,
-    end: u64,
+    grid: &ChunkGrid,
+    last_edge: u64,
 ) -> Result<(), Fail> {
     let alloc = rt.alloc();
-    let last_edge = end.saturating_sub(3);
-    assert_eq!(rt; grid.dimensionality(), 1);
-    assert_eq!(rt; grid.array_shape(), [5].as_slice());
-    assert_eq!(rt; grid.grid_shape(), [2].as_slice());
     let shape = grid.chunk_shape(alloc, &[1])?.ok_or("no shape")?;
     assert!(rt; shape.iter().map(|edge| edge.get()).eq([last_edge]));
-    let numbers = grid.chunk_shape_u64(alloc, &[1])?.ok_or("no shape")?;
-    assert_eq!(rt; numbers.as_slice(), [last_edge].as_slice());
-    let origin = grid.chunk_origin(alloc, &[1])?.ok_or("no origin")?;
-    assert_eq!(rt; origin.as_slice(), [3].as_slice());
-    let chunk = grid.chunk_indices(alloc, &[4])?.ok_or("no chunk")?;
-    assert_eq!(rt; chunk.as_slice(), [1].as_slice());
-    let home = chunk_indices_names_the_home(alloc, grid, &[4])?.ok_or("no home")?;
-    assert_eq!(rt; home.as_slice(), [1].as_slice());
-    let place = grid.chunk_element_indices(alloc, &[4])?.ok_or("no place")?;
-    assert_eq!(rt; place.as_slice(), [1].as_slice());
+    check_numbers(rt, grid.chunk_shape_u64(alloc, &[1]), &[last_edge])?;
+    check_numbers(rt, grid.chunk_origin(alloc, &[1]), &[3])?;
+    check_numbers(rt, grid.chunk_indices(alloc, &[4]), &[1])?;
+    check_numbers(rt, chunk_indices_names_the_home(alloc, grid, &[4]), &[1])?;
+    check_numbers(rt, grid.chunk_element_indices(alloc, &[4]), &[1])?;
+    check_refused(rt, grid.chunk_indices(alloc, &[]), 0, 1);
+    Ok(())
+}
+
+/// Boxes of both chunks, and covers of the last two elements.
+fn check_boxes(rt: &(impl Abort + AllocGlobal), grid: &ChunkGrid, end: u64) -> Result<(), Fail> {
+    let alloc = rt.alloc();
     check_box(rt, grid.subset(alloc, &[1]), Some(&[3..end]))?;
     let chunks = ArraySubset::new_with_ranges(alloc, &[0..2])?;
     check_box(rt, grid.chunks_subset(alloc, &chunks), Some(&[0..end]))?;
@@ -137,43 +141,26 @@ fn check_calls<G: ChunkGridTraits>(
     let cover = grid.chunks_in_array_subset(alloc, &elements);
     check_box(rt, cover, Some(&[1..2]))?;
     let met = the_cover_names_the_chunks_that_meet_a_box(alloc, grid, &elements);
-    check_box(rt, met, Some(&[1..2]))?;
+    check_box(rt, met, Some(&[1..2]))
+}
+
+/// Each call on a grid of five elements in a chunk of three and another one up to `end`, and each law that makes a call.
+fn check_calls(rt: &(impl Abort + AllocGlobal), grid: &ChunkGrid, end: u64) -> Result<(), Fail> {
+    assert_eq!(rt; grid.dimensionality(), 1);
+    assert_eq!(rt; grid.array_shape(), [5].as_slice());
+    assert_eq!(rt; grid.grid_shape(), [2].as_slice());
+    check_look_ups(rt, grid, end.saturating_sub(3))?;
+    check_boxes(rt, grid, end)?;
     assert!(rt; grid.chunk_indices_inbounds(&[1]) && !grid.chunk_indices_inbounds(&[2]));
     assert!(rt; grid.array_indices_inbounds(&[4]) && !grid.array_indices_inbounds(&[5]));
     chunks_share_no_index(grid);
-    check_refused(rt, grid.chunk_indices(alloc, &[]), 0, 1);
-    let _configuration = grid.configuration(alloc)?;
+    let _configuration = grid.configuration(rt.alloc())?;
     Ok(())
 }
 
 #[test]
-fn grids_are_made_and_asked(rt: HostRuntime) -> Result<(), Fail> {
-    let grids = make_grids(rt.alloc())?;
-    check_calls(&rt, &grids.regular, 6)?;
-    check_calls(&rt, &grids.bounded, 5)?;
-    check_calls(&rt, &grids.rectangular, 5)?;
-    check_calls(&rt, &grids.rectilinear, 5)
-}
-
-#[test]
-fn copies_of_grids_are_asked(rt: HostRuntime) -> Result<(), Fail> {
-    let grids = make_grids(rt.alloc())?;
-    check_calls(&rt, &grids.regular.clone()?, 6)?;
-    check_calls(&rt, &grids.bounded.clone()?, 5)?;
-    check_calls(&rt, &grids.rectangular.clone()?, 5)?;
-    check_calls(&rt, &grids.rectilinear.clone()?, 5)
-}
-
-#[test]
-fn grids_of_any_kind_are_asked(rt: HostRuntime) -> Result<(), Fail> {
-    let grids = make_grids(rt.alloc())?;
-    let rows = [
-        (ChunkGrid::from(grids.regular), 6, "regular"),
-        (ChunkGrid::from(grids.bounded), 5, "zarrs.regular_bounded"),
-        (ChunkGrid::from(grids.rectangular), 5, "rectangular"),
-        (ChunkGrid::from(grids.rectilinear), 5, "rectilinear"),
-    ];
-    for (grid, end, name) in &rows {
+fn grids_of_each_kind_are_asked(rt: HostRuntime) -> Result<(), Fail> {
+    for (grid, end, name) in &make_grids(rt.alloc())? {
         check_calls(&rt, grid, *end)?;
         check_calls(&rt, &grid.clone()?, *end)?;
         let again = a_grid_is_made_again_of_its_metadata(rt.alloc(), grid)?;
@@ -237,24 +224,33 @@ fn grids_are_made_of_metadata(rt: HostRuntime) -> Result<(), Fail> {
 fn a_kind_of_grid_looks_at_no_name(rt: HostRuntime) -> Result<(), Fail> {
     let alloc = rt.alloc();
     let edge = metadata(alloc, r#"{"name":"x","configuration":{"chunk_shape":[3]}}"#)?;
-    check_calls(&rt, &RegularChunkGrid::create(alloc, &edge, &[5])?, 6)?;
-    check_calls(
-        &rt,
-        &RegularBoundedChunkGrid::create(alloc, &edge, &[5])?,
-        5,
-    )?;
     let edges = metadata(
         alloc,
         r#"{"name":"x","configuration":{"chunk_shape":[[3,2]]}}"#,
     )?;
-    check_calls(&rt, &RectangularChunkGrid::create(alloc, &edges, &[5])?, 5)?;
     let lengths = r#"{"name":"x","configuration":{"chunk_shapes":[[3,2]],"kind":"inline"}}"#;
     let lengths = metadata(alloc, lengths)?;
-    check_calls(
-        &rt,
-        &RectilinearChunkGrid::create(alloc, &lengths, &[5])?,
-        5,
-    )?;
+    let rows = [
+        (
+            ChunkGrid::from(RegularChunkGrid::create(alloc, &edge, &[5])?),
+            6,
+        ),
+        (
+            ChunkGrid::from(RegularBoundedChunkGrid::create(alloc, &edge, &[5])?),
+            5,
+        ),
+        (
+            ChunkGrid::from(RectangularChunkGrid::create(alloc, &edges, &[5])?),
+            5,
+        ),
+        (
+            ChunkGrid::from(RectilinearChunkGrid::create(alloc, &lengths, &[5])?),
+            5,
+        ),
+    ];
+    for (grid, end) in &rows {
+        check_calls(&rt, grid, *end)?;
+    }
     Ok(())
 }
 
@@ -341,10 +337,11 @@ fn more_edges_than_fit_into_memory_find_no_room(rt: HostRuntime) -> Result<(), F
 
 #[test]
 fn a_regular_grid_tells_its_edges(rt: HostRuntime) -> Result<(), Fail> {
-    let grid = make_grids(rt.alloc())?.regular;
+    let alloc = rt.alloc();
+    let grid = RegularChunkGrid::new(alloc, [5].to_vec(alloc)?, edges(alloc, &[3])?)?;
     let edges = grid.chunk_shape().iter().map(|edge| edge.get());
     assert!(rt; edges.eq([3]));
-    let numbers = grid.chunk_shape_u64(rt.alloc())?;
+    let numbers = grid.chunk_shape_u64(alloc)?;
     assert_eq!(rt; numbers.as_slice(), [3].as_slice());
     Ok(())
 }
