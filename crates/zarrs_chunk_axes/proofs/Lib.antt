@@ -5,4 +5,6 @@ pub mod EqualAxes
 pub mod Expansions
 pub mod ListedAxes
 pub mod MadeSoFar
+pub mod Passing
+pub mod RowMajor
 pub mod RunLengthForms

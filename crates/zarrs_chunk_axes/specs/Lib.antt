@@ -6,5 +6,6 @@ pub mod Listed
 pub mod LookUp
 pub mod Rectangular
 pub mod Rectilinear
+pub mod RowMajor
 pub mod lemmas
 pub mod seen

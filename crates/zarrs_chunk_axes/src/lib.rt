@@ -17,6 +17,7 @@
 //! | `equal_axis`, `bounded_axis`, `listed_axis`, `equal_or_listed_axis` | the kinds of dimension |
 //! | `axis_grid` | the list of dimensions |
 //! | `in_bounds` | numbers in bounds of sizes |
+//! | `row_major` | counting through the lists of numbers below a shape |
 //! | `run_lengths` | run-length elements: their sum, their edges one by one, and the run-length form of edges |
 #![tactic(auto)]
 
@@ -27,6 +28,7 @@ mod equal_axis;
 mod equal_or_listed_axis;
 mod in_bounds;
 mod listed_axis;
+pub mod row_major;
 mod run_lengths;
 #[cfg(test)]
 mod tests;

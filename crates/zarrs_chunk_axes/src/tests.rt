@@ -1,4 +1,5 @@
 //! What no contract says: that calls succeed with ample memory.
+use crate::row_major::{advance, pass_over};
 use crate::{AxisGrid, EqualAxis};
 use std::num::NonZeroU64;
 use std::process::Abort;
@@ -26,4 +27,27 @@ fn lists_of_axes_are_looked_up(rt: HostRuntime) -> Result<(), Fail> {
     let shape = axes.chunk_shape(alloc, &chunk)?.ok_or("no shape")?;
     assert_eq!(rt; shape.as_slice(), chunk_shape.as_slice());
     Ok(())
+}
+
+#[test]
+fn lists_below_a_shape_are_counted(rt: HostRuntime) {
+    let shape = [2, 1, 3];
+    let mut numbers = [0, 0, 1];
+    assert!(rt; advance(&shape, &mut numbers));
+    assert_eq!(rt; numbers, [0, 0, 2]);
+    let mut numbers = [0, 0, 2];
+    assert!(rt; advance(&shape, &mut numbers));
+    assert_eq!(rt; numbers, [1, 0, 0]);
+    let mut numbers = [1, 0, 2];
+    assert!(rt; !advance(&shape, &mut numbers));
+}
+
+#[test]
+fn lists_below_a_shape_are_passed_over(rt: HostRuntime) {
+    let shape = [2, 1, 3];
+    let mut numbers = [0, 0, 1];
+    assert!(rt; pass_over(&shape, &mut numbers));
+    assert_eq!(rt; numbers, [1, 0, 0]);
+    let mut numbers = [1, 0, 0];
+    assert!(rt; !pass_over(&shape, &mut numbers));
 }

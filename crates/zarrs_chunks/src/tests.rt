@@ -170,56 +170,6 @@ fn grids_of_each_kind_are_asked(rt: HostRuntime) -> Result<(), Fail> {
     Ok(())
 }
 
-/// The grid of this metadata and array shape is written as the same metadata; or the text says why there is none.
-fn check_metadata(
-    rt: &(impl Abort + AllocGlobal),
-    text: &str,
-    array_shape: &[u64],
-    outcome: &str,
-) -> Result<(), Fail> {
-    let alloc = rt.alloc();
-    let written = match ChunkGrid::create(alloc, &metadata(alloc, text)?, array_shape) {
-        Ok(grid) => grid.metadata(alloc)?.to_tree(alloc)?.to_string(alloc)?,
-        Err(refusal) => refusal.to_string(alloc)?,
-    };
-    assert_eq!(rt; written.as_str(), outcome, "{text}");
-    Ok(())
-}
-
-#[test]
-fn grids_are_made_of_metadata(rt: HostRuntime) -> Result<(), Fail> {
-    let runs =
-        r#"{"configuration":{"chunk_shapes":[[[5,3],[15,2],20,35],10],"kind":"inline"},"name":"rectilinear"}"#;
-    let inconsistent =
-        "`regular_bounded` chunk shape and array shape have inconsistent dimensionality";
-    let rows: [(&str, &[u64], &str); 4] = [
-        (
-            r#"{"name":"rectilinear","configuration":{"kind":"inline","chunk_shapes":[[5,5,[5,1],15,15,20,35],10]}}"#,
-            &[100, 100],
-            runs,
-        ),
-        (
-            r#"{"name":"regular_bounded","configuration":{"chunk_shape":[1]}}"#,
-            &[3],
-            "name `regular_bounded` is not supported",
-        ),
-        (
-            r#""zarrs.regular_bounded""#,
-            &[3],
-            "configuration is unsupported: missing field `chunk_shape`",
-        ),
-        (
-            r#"{"name":"zarrs.regular_bounded","configuration":{"chunk_shape":[1]}}"#,
-            &[3, 3],
-            inconsistent,
-        ),
-    ];
-    for (text, array_shape, outcome) in rows {
-        check_metadata(&rt, text, array_shape, outcome)?;
-    }
-    Ok(())
-}
-
 #[test]
 fn a_kind_of_grid_looks_at_no_name(rt: HostRuntime) -> Result<(), Fail> {
     let alloc = rt.alloc();
@@ -270,21 +220,6 @@ fn shapes_of_unequal_lengths_make_no_regular_grid(rt: HostRuntime) -> Result<(),
     assert_eq!(rt; lengths.given(), 3);
     assert_eq!(rt; lengths.expected(), 1);
     Ok(())
-}
-
-#[test]
-fn shapes_of_unequal_lengths_make_no_bounded_grid(rt: HostRuntime) -> Result<(), Fail> {
-    let array_shape = [0].to_vec(rt.alloc())?;
-    let chunk_shape = edges(rt.alloc(), &[1, 2, 3])?;
-    match RegularBoundedChunkGrid::new(rt.alloc(), array_shape, chunk_shape) {
-        Err(Refusal::Refused(error)) => {
-            assert_eq!(rt; error.given(), 3);
-            assert_eq!(rt; error.expected(), 1);
-            Ok(())
-        }
-        Err(Refusal::Memory(error)) => Err(error.into()),
-        Ok(_) => Err("the shapes were accepted".into()),
-    }
 }
 
 #[test]

@@ -1,0 +1,14 @@
+-- The lists of numbers below a shape, one after another.
+-- Source: Zarr V3 core, row-major ("C") order.
+use Rattle.std.specs.Prelude.{ℕ, List, [], ◌∷◌, map}
+use Rattle.std.specs.List.{flat_map, range_with_len}
+
+-- for each of `count` numbers from `first` on the lists that begin with it and go on as one of those given
+abbrev pub rows : ℕ → ℕ → List (List ℕ) → List (List ℕ)
+rows first count others = flat_map (λ n. map (λ numbers. n ∷ numbers) others) (range_with_len first count)
+
+-- All lists below the shape: those that begin with 0, then those that begin with 1, and so on. Below the shape without
+-- dimensions there is one, the list without numbers.
+unfoldable pub row_major : List ℕ → List (List ℕ)
+row_major [] = [] ∷ []
+row_major (size ∷ shape) = rows 0 size (row_major shape)
