@@ -1,6 +1,6 @@
 -- What a step through the lists below a shape passes over.
 use Rattle.std.proofs.Common.{◌≡◌, ℕ, zero, suc, ◌+◌, ◌-◌, ◌<◌, ◌≤◌, List, [], ◌∷◌, ◌++◌, length, map, get_or, refl, ap, sym, ◌∙◌, append_assoc, append-nil, arith}
-use Rattle.std.proofs.lemmas.List.{map-append}
+use Rattle.std.proofs.lemmas.List.{length-map, map-append}
 use Rattle.std.specs.List.{AllByRecursion}
 use Rattle.zarrs_chunk_axes.specs.InBounds.{AreBelow}
 use Rattle.zarrs_chunk_axes.specs.RowMajor.{row_major, rows}
@@ -61,6 +61,9 @@ module _ (size n : ℕ) (shape numbers : List ℕ) (left : List (List ℕ)) (pas
       ∙ ap (λ lists. lists ++ rows (n + 1) (size - (n + 1)) (row_major shape)) (map-append (λ more. n ∷ more) passed left)
       ∙ append_assoc (map (λ more. n ∷ more) passed) (map (λ more. n ∷ more) left) (rows (n + 1) (size - (n + 1)) (row_major shape))
 
+  some : 0 < length (map (λ more. n ∷ more) passed)
+  some = omega (arith, behind.some, length-map passed (λ more. n ∷ more))
+
   at_least : AllByRecursion (AreAtLeast (n ∷ numbers)) (map (λ more. n ∷ more) passed)
   at_least = all_beginning (AreAtLeast numbers) (AreAtLeast (n ∷ numbers)) n (λ more h. (omega arith, h)) passed behind.at_least
 
@@ -68,7 +71,7 @@ module _ (size n : ℕ) (shape numbers : List ℕ) (left : List (List ℕ)) (pas
 pub all_passed : (shape numbers : List ℕ) (end : ℕ) → AreBelow shape numbers → AreFull shape numbers 0 end
     → ((k : ℕ) → end < k → get_or numbers k 0 ≡ 0) → (passed : List (List ℕ)) × IsPassed shape numbers [] passed
 unfolding after
-all_passed [] [] end below full zeros = ([] ∷ [], record { all = refl; at_least = (tt, tt) })
+all_passed [] [] end below full zeros = ([] ∷ [], record { all = refl; at_least = (tt, tt); some = omega arith })
 all_passed [] (_ ∷ _) end below full zeros = absurd below
 all_passed (_ ∷ _) [] end below full zeros = absurd below
 all_passed (size ∷ shape) (n ∷ numbers) zero below full zeros =
@@ -86,6 +89,7 @@ all_passed (size ∷ shape) (n ∷ numbers) zero below full zeros =
               (all_in_rows (AreBelow shape) (AreAtLeast (n ∷ numbers)) (n + 1) (size - (n + 1)) (λ m others first last h. (omega arith, low others h))
               (row_major shape) (all_below shape)),
         );
+        some = omega arith;
       },
     )
 all_passed (size ∷ shape) (n ∷ numbers) (suc end) below full zeros =
@@ -98,6 +102,7 @@ all_passed (size ∷ shape) (n ∷ numbers) (suc end) below full zeros =
         all = beginning size n shape numbers [] passed behind
             ∙ ap (λ count. map (λ more. n ∷ more) passed ++ rows (n + 1) count (row_major shape)) none;
         at_least = at_least size n shape numbers [] passed behind;
+        some = some size n shape numbers [] passed behind;
       },
     )
 
@@ -114,14 +119,15 @@ raised_passed (size ∷ shape) (n ∷ numbers) (suc end) zero below is zeros =
     let (passed, behind) = all_passed shape numbers end below.1 (λ k first last. is.last (suc k) (omega arith) (omega arith))
     (λ k later. zeros (suc k) (omega arith)) in
     let fits : n + 1 < size = is.below in
-    let some : size - (n + 1) ≡ suc (size - (n + 1 + 1)) = omega arith in (
+    let count_is : size - (n + 1) ≡ suc (size - (n + 1 + 1)) = omega arith in (
       map (λ more. n ∷ more) passed,
       record {
         all = beginning size n shape numbers [] passed behind
-            ∙ ap (λ count. map (λ more. n ∷ more) passed ++ rows (n + 1) count (row_major shape)) some
+            ∙ ap (λ count. map (λ more. n ∷ more) passed ++ rows (n + 1) count (row_major shape)) count_is
             ∙ ap (λ others. map (λ more. n ∷ more) passed ++ (map (λ more. (n + 1) ∷ more) others ++ rows (n + 1 + 1) (size - (n + 1 + 1)) (row_major shape)))
             (first_is_zeros shape numbers below.1);
         at_least = at_least size n shape numbers [] passed behind;
+        some = some size n shape numbers [] passed behind;
       },
     )
 raised_passed (size ∷ shape) (n ∷ numbers) (suc end) (suc k) below is zeros =
@@ -135,6 +141,7 @@ raised_passed (size ∷ shape) (n ∷ numbers) (suc end) (suc k) below is zeros 
       record {
         all = beginning size n shape numbers left passed behind;
         at_least = at_least size n shape numbers left passed behind;
+        some = some size n shape numbers left passed behind;
       },
     )
 

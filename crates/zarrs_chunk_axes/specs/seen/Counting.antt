@@ -1,5 +1,5 @@
 -- Where a count through the lists below a shape stands, and what a step leaves.
-use Rattle.std.specs.Prelude.{◌≡◌, ℕ, zero, suc, ◌+◌, ◌-◌, ◌<◌, ◌≤◌, Bool, true, false, List, [], ◌∷◌, ◌++◌, map, slice_index_or}
+use Rattle.std.specs.Prelude.{◌≡◌, ℕ, zero, suc, ◌+◌, ◌-◌, ◌<◌, ◌≤◌, Bool, true, false, List, [], ◌∷◌, ◌++◌, length, map, slice_index_or}
 use Rattle.std.specs.List.{AllByRecursion, AllZip}
 use Rattle.zarrs_chunk_axes.specs.RowMajor.{row_major, rows}
 
@@ -33,7 +33,8 @@ raised (suc k) (n ∷ numbers) = n ∷ raised k numbers
 abbrev pub AreAtLeast : List ℕ → List ℕ → Type 0
 AreAtLeast = AllZip (λ low n. low ≤ n)
 
--- Of a list and those after it the first ones, which a step passes over, have no number below its own. The rest is left.
+-- Of a list and those after it the first ones, which a step passes over, have no number below its own. The rest is left, which is less.
 pub record IsPassed (shape numbers : List ℕ) (left : List (List ℕ)) (passed : List (List ℕ)) : Type 0 where
   pub all : numbers ∷ after shape numbers ≡ passed ++ left
   pub at_least : AllByRecursion (AreAtLeast numbers) passed
+  pub some : 0 < length passed

@@ -16,7 +16,7 @@ passed : (found : Bool) (shape : List ℕ) (end : ℕ) (old new : List ℕ) → 
     → Stepped found shape end old new → (passed : List (List ℕ)) × IsPassed shape old (from found shape new) passed
 passed true shape end old new low zeros (k, is, same) =
     let (passed, behind) = raised_passed shape old end k low is zeros in
-    (passed, record { all = behind.all ∙ ap (λ list. passed ++ from true shape list) (sym same); at_least = behind.at_least })
+    (passed, record { all = behind.all ∙ ap (λ list. passed ++ from true shape list) (sym same); at_least = behind.at_least; some = behind.some })
 passed false shape end old new low zeros full = all_passed shape old end low full zeros
 
 pub returns-in-Some-clause-below : goal.returns-in-Some-clause-below
