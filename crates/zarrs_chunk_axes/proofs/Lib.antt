@@ -7,4 +7,5 @@ pub mod ListedAxes
 pub mod MadeSoFar
 pub mod Passing
 pub mod RowMajor
+pub mod RowMajorOrder
 pub mod RunLengthForms

@@ -1,7 +1,9 @@
 //! Counting through the lists of numbers below a shape in row-major order.
-ghost use Rattle.std.specs.Prelude.{◌≡◌, ◌<◌, ◌≤◌, ℕ, IsTrue, List, MatchOption, length, slice_index_or};
+ghost use Rattle.std.specs.Prelude.{◌≡◌, ◌≢◌, ◌↔◌, ◌<◌, ◌≤◌, ℕ, IsTrue, List, MatchOption, length, slice_index_or};
 ghost use Rattle.std.specs.Bool.{MatchBool};
+ghost use Rattle.std.specs.List.{AllPairs, Contains};
 ghost use Rattle.zarrs_chunk_axes.specs.InBounds.{AreBelow};
+ghost use Rattle.zarrs_chunk_axes.specs.RowMajor.{IsBefore, row_major};
 ghost use Rattle.zarrs_chunk_axes.specs.seen.Counting.{AreFull, IsPassed, IsRaisable, after, from, raised};
 
 /// Goes from a list below the shape to the one that comes next; `false` where it was the last.
@@ -26,6 +28,14 @@ pub fn pass_over(shape: &[u64], numbers: &mut [u64]) -> bool
         None => false,
     }
 }
+
+/// The lists in row-major order are all that are below the shape, each once and each after those before it.
+pub fn row_major_gives_each_list_once()
+    ensures each { (shape numbers : List ℕ)
+        → Contains (row_major shape) numbers ↔ AreBelow shape numbers }
+    ensures in_order { (shape : List ℕ) → AllPairs IsBefore (row_major shape) }
+    ensures once { (shape : List ℕ) → AllPairs (λ one other. one ≢ other) (row_major shape) }
+{}
 
 /// Raises the last of the first `width` numbers that stays below its size, and sets those after it to 0; `false` where
 /// there is none.
