@@ -2,6 +2,7 @@
 use crate::line_fault::LineFault;
 use crate::question::required_member;
 use crate::start_shape::{StartShape, box_tree, numbers_tree};
+use crate::walk_items::first_items;
 use serde_json::Value;
 use std::alloc::Global;
 use zarrs_chunk_base::{ArraySubset, IncompatibleDimensionalityError, Refusal, TreeForm};
@@ -23,12 +24,16 @@ pub(crate) enum Call {
     ChunksInArraySubset(StartShape),
     ChunkIndicesInbounds(Vec<u64>),
     ArrayIndicesInbounds(Vec<u64>),
+    IterChunkIndices(u64),
+    IterChunkSubsets(u64),
+    IterChunkIndicesAndSubsets(u64),
     Configuration,
     Metadata,
 }
 
 impl Call {
-    /// The call of this name. What it is asked of is the tree's member `of`.
+    /// The call of this name. What it is asked of is the tree's member `of`; how many items of a walk are given, the member
+    /// `items`.
     pub(crate) fn from_name(
         alloc: Global,
         name: &str,
@@ -48,6 +53,11 @@ impl Call {
             "chunks_in_array_subset" => Call::ChunksInArraySubset(start_shape(alloc, tree)?),
             "chunk_indices_inbounds" => Call::ChunkIndicesInbounds(numbers(alloc, tree)?),
             "array_indices_inbounds" => Call::ArrayIndicesInbounds(numbers(alloc, tree)?),
+            "iter_chunk_indices" => Call::IterChunkIndices(items(alloc, tree)?),
+            "iter_chunk_subsets" => Call::IterChunkSubsets(items(alloc, tree)?),
+            "iter_chunk_indices_and_subsets" => {
+                Call::IterChunkIndicesAndSubsets(items(alloc, tree)?)
+            }
             "configuration" => Call::Configuration,
             "metadata" => Call::Metadata,
             _ => return Err(Refusal::Refused(LineFault::NoCall(String::from_str(alloc, name)?))),
@@ -87,6 +97,16 @@ impl Call {
             Call::ArrayIndicesInbounds(index) => {
                 Ok(Value::from(grid.array_indices_inbounds(&index)))
             }
+            Call::IterChunkIndices(most) => {
+                Ok(first_items(alloc, grid.iter_chunk_indices(alloc), most)?)
+            }
+            Call::IterChunkSubsets(most) => {
+                Ok(first_items(alloc, grid.iter_chunk_subsets(alloc), most)?)
+            }
+            Call::IterChunkIndicesAndSubsets(most) => {
+                let walk = grid.iter_chunk_indices_and_subsets(alloc);
+                Ok(first_items(alloc, walk, most)?)
+            }
             Call::Configuration => Ok(Value::Object(grid.configuration(alloc)?)),
             Call::Metadata => Ok(grid.metadata(alloc)?.to_tree(alloc)?),
         }
@@ -103,6 +123,12 @@ fn numbers(alloc: Global, tree: &Value) -> Result<Vec<u64>, Refusal<LineFault>> 
 fn start_shape(alloc: Global, tree: &Value) -> Result<StartShape, Refusal<LineFault>> {
     let start_shape = StartShape::from_tree(alloc, required_member(tree, "of")?)?;
     start_shape.ok_or(Refusal::Refused(LineFault::WrongValue("of")))
+}
+
+/// How many items of a walk are given at most.
+fn items(alloc: Global, tree: &Value) -> Result<u64, Refusal<LineFault>> {
+    let most = u64::from_tree(alloc, required_member(tree, "items")?)?;
+    most.ok_or(Refusal::Refused(LineFault::WrongValue("items")))
 }
 
 /// The tree of an answer that is a list, or `null` where there is none.

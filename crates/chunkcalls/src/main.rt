@@ -1,7 +1,8 @@
 //! `chunkcalls` asks chunk grids, a call a line.
 //!
 //! Each line of standard input is a JSON object: the `shape` of an array and its `chunk_grid`, as
-//! in its `zarr.json`, the name of a `call`, and what it is asked `of`, where it takes something.
+//! in its `zarr.json`, the name of a `call`, and what it is asked `of`, where it takes something; for a walk, how many
+//! `items` to give.
 //! For each line one line is printed: the answer as compact JSON, why the library refused, or why
 //! the line can't be read.
 //!
@@ -17,6 +18,7 @@
 //! | `question` | what a line asks |
 //! | `call` | the calls, by their names, and what each answers |
 //! | `start_shape` | a box as a line writes it |
+//! | `walk_items` | the first items of a walk, as a line writes them |
 //! | `line_fault` | why a line has no answer |
 //! | `run_fault` | why a run stops |
 #![tactic(auto)]
@@ -30,6 +32,7 @@ mod run_fault;
 mod start_shape;
 #[cfg(test)]
 mod tests;
+mod walk_items;
 
 use program::run_to_status;
 use std::process::ExitCode;

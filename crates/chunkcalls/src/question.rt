@@ -20,7 +20,7 @@ impl<'t> Question<'t> {
     /// # Errors
     /// The first that applies: the tree is no object; `shape`, `chunk_grid` or `call` is missing,
     /// in this order; `shape` is no list of sizes; `call` is no text; there is no such call; the
-    /// call takes an argument, and `of` is missing or isn't of its form. Or there was no memory.
+    /// call takes an argument, and `of`, or for a walk `items`, is missing or isn't of its form. Or there was no memory.
     pub(crate) fn from_tree(
         alloc: Global,
         tree: &'t Value,

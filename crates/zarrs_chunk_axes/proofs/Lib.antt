@@ -3,6 +3,7 @@ pub mod EachAxis
 pub mod EachSoFar
 pub mod EqualAxes
 pub mod Expansions
+pub mod FirstList
 pub mod ListedAxes
 pub mod MadeSoFar
 pub mod Passing

@@ -1,6 +1,6 @@
 -- The lists of numbers below a shape, one after another.
 -- Source: Zarr V3 core, row-major ("C") order.
-use Rattle.std.specs.Prelude.{◌≡◌, ◌⊎◌, ℕ, ◌<◌, List, [], ◌∷◌, map}
+use Rattle.std.specs.Prelude.{◌≡◌, ◌⊎◌, ℕ, ◌<◌, List, [], ◌∷◌, length, map}
 use Rattle.std.specs.List.{flat_map, range_with_len}
 
 -- for each of `count` numbers from `first` on the lists that begin with it and go on as one of those given
@@ -17,3 +17,8 @@ row_major (size ∷ shape) = rows 0 size (row_major shape)
 abbrev pub IsBefore : List ℕ → List ℕ → Type 0
 IsBefore (m ∷ one) (n ∷ other) = (m < n) ⊎ ((m ≡ n) × IsBefore one other)
 IsBefore _ _ = ⊥
+
+-- a list is to come that has more numbers than are kept without memory
+abbrev pub NeedsMemory : List (List ℕ) → Type 0
+NeedsMemory (numbers ∷ others) = 4 < length numbers
+NeedsMemory [] = ⊥

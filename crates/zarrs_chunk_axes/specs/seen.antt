@@ -4,3 +4,4 @@ pub mod Counting
 pub mod EqualAxis
 pub mod EqualOrListedAxis
 pub mod ListedAxis
+pub mod RowMajorWalk

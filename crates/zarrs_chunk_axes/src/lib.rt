@@ -17,7 +17,7 @@
 //! | `equal_axis`, `bounded_axis`, `listed_axis`, `equal_or_listed_axis` | the kinds of dimension |
 //! | `axis_grid` | the list of dimensions |
 //! | `in_bounds` | numbers in bounds of sizes |
-//! | `row_major` | counting through the lists of numbers below a shape |
+//! | `row_major`, `row_major_walk` | counting through the lists of numbers below a shape, and a walk that does so |
 //! | `run_lengths` | run-length elements: their sum, their edges one by one, and the run-length form of edges |
 #![tactic(auto)]
 
@@ -29,9 +29,8 @@ mod equal_or_listed_axis;
 mod in_bounds;
 mod listed_axis;
 pub mod row_major;
+mod row_major_walk;
 mod run_lengths;
-#[cfg(test)]
-mod tests;
 
 pub use axis::{Axis, AxisFrom};
 pub use axis_grid::AxisGrid;
@@ -40,3 +39,4 @@ pub use equal_axis::EqualAxis;
 pub use equal_or_listed_axis::EqualOrListedAxis;
 pub use in_bounds::are_in_bounds;
 pub use listed_axis::ListedAxis;
+pub use row_major_walk::{ArrayIndicesTinyVec, RowMajorWalk};

@@ -7,7 +7,7 @@ ghost use Rattle.zarrs_chunk_axes.specs.RowMajor.{IsBefore, row_major};
 ghost use Rattle.zarrs_chunk_axes.specs.seen.Counting.{AreFull, IsPassed, IsRaisable, after, from, raised};
 
 /// Goes from a list below the shape to the one that comes next; `false` where it was the last.
-pub fn advance(shape: &[u64], numbers: &mut [u64]) -> bool
+pub(crate) fn advance(shape: &[u64], numbers: &mut [u64]) -> bool
     requires { AreBelow shape.now numbers.old }
     ensures below { IsTrue result → AreBelow shape.now numbers.new }
     ensures next { after shape.now numbers.old ≡ from result shape.now numbers.new }
@@ -17,7 +17,7 @@ pub fn advance(shape: &[u64], numbers: &mut [u64]) -> bool
 
 /// Goes from a list below the shape to a later one, over those all of whose numbers are at least its own: past the last
 /// number that isn't 0, into the number before. `false` where it passed over all that are left.
-pub fn pass_over(shape: &[u64], numbers: &mut [u64]) -> bool
+pub(crate) fn pass_over(shape: &[u64], numbers: &mut [u64]) -> bool
     requires { AreBelow shape.now numbers.old }
     ensures below { IsTrue result → AreBelow shape.now numbers.new }
     ensures passed { (passed : List (List ℕ))

@@ -52,8 +52,6 @@ mod refusal;
 mod run_length_element;
 mod store_key;
 mod store_key_error;
-#[cfg(test)]
-mod tests;
 
 pub use array_subset::ArraySubset;
 pub use array_subset_error::ArraySubsetError;

@@ -3,6 +3,7 @@ pub mod Chains
 pub mod ClippedEdges
 pub mod Configured
 pub mod Covers
+pub mod FittingChunks
 pub mod GridNames
 pub mod Meeting
 pub mod Ranges

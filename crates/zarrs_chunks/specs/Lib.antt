@@ -2,9 +2,9 @@ pub mod Clipped
 pub mod GridKinds
 pub mod GridNames
 pub mod Subsets
+pub mod Walks
 pub mod lemmas
 pub mod seen
-pub mod tests
 pub use Rattle.zarrs_chunk_axes.specs.Bounded
 pub use Rattle.zarrs_chunk_axes.specs.EqualEdges
 pub use Rattle.zarrs_chunk_axes.specs.EqualOrListed

@@ -1,1 +1,2 @@
 pub mod ChunkGrid
+pub mod Walks

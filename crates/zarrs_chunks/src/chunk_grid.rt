@@ -21,7 +21,12 @@ ghost use Rattle.zarrs_chunk_base.specs.Refusal.{HasMemory};
 ghost use Rattle.zarrs_chunk_axes.specs.InBounds.{AreBelow, AreInBounds};
 ghost use Rattle.zarrs_chunk_axes.specs.LookUp.{AnswersShape, AnswersShapeNumbers, AnswersOrigin, AnswersChunk, AnswersPlace};
 ghost use Rattle.zarrs_chunks.specs.Subsets.{AnswersSubset, AnswersChunksSubset, AnswersCover, AnswersEmptyCover};
+ghost use Rattle.zarrs_chunks.specs.Walks.{box_at, boxed, chunks_of};
+ghost use Rattle.zarrs_chunks.specs.seen.Walks.{AreBoxesOfGrid, AreChunksOfGrid, boxes_left, chunks_and_boxes_left, chunks_left};
 
+use crate::walks::chunk_indices::ChunkIndices;
+use crate::walks::chunk_indices_and_subsets::ChunkIndicesAndSubsets;
+use crate::walks::chunk_subsets::ChunkSubsets;
 use boxes::{box_between, next_numbers};
 use edges::edge_numbers;
 use std::alloc::{AllocError, Global};
@@ -266,6 +271,43 @@ pub trait ChunkGridTraits: Sized + Drop {
             (λ d. d.array_size) (dimensions self.now)) array_indices.now }
     {
         are_in_bounds(self.array_shape(), array_indices)
+    }
+
+    /// A walk over the numbers of all chunks that are counted, in row-major order: those of the last dimension change
+    /// fastest. It gives nothing where a grid size is 0, and the one item `[]` without dimensions.
+    ///
+    /// Making the walk takes no memory, and neither does an item of up to four numbers.
+    final fn iter_chunk_indices(&self, alloc: Global) -> ChunkIndices<'_>
+        ensures { chunks_left result ≡ chunks_of (dimensions self.now) }
+    {
+        ChunkIndices::new(alloc, self.grid_shape())
+    }
+
+    /// A walk over the boxes of these chunks, in the same order. A chunk that ends past 18446744073709551615 is passed over.
+    ///
+    /// Making the walk takes no memory.
+    final fn iter_chunk_subsets(&self, alloc: Global) -> ChunkSubsets<'_, Self>
+        ensures over { AreBoxesOfGrid dimensions result }
+        ensures left { boxes_left dimensions result ≡ map (box_at (dimensions self.now))
+            (boxed (dimensions self.now) (chunks_of (dimensions self.now))) }
+    {
+        ChunkSubsets::new(alloc, self)
+    }
+
+    /// A walk over the numbers of these chunks, each with its box, in the same order. A chunk that ends past
+    /// 18446744073709551615 is passed over.
+    ///
+    /// Making the walk takes no memory.
+    final fn iter_chunk_indices_and_subsets(
+        &self,
+        alloc: Global,
+    ) -> ChunkIndicesAndSubsets<'_, Self>
+        ensures over { AreChunksOfGrid dimensions result }
+        ensures left { chunks_and_boxes_left dimensions result
+            ≡ map (λ chunk. (chunk, box_at (dimensions self.now) chunk))
+            (boxed (dimensions self.now) (chunks_of (dimensions self.now))) }
+    {
+        ChunkIndicesAndSubsets::new(alloc, self)
     }
 
     /// Each dimension is a chain: its chunks lie end to end from 0 and reach over the array.

@@ -1,18 +1,23 @@
 //! What holds of every chunk grid, whoever wrote it: it follows from the contracts of
 //! [`ChunkGridTraits`] and from its law that each dimension is a chain. Besides, that a [`ChunkGrid`] is made again of its
 //! metadata, and what two kinds of dimension have in common.
-ghost use Rattle.std.specs.Prelude.{◌≡◌, ◌≢◌, ◌↔◌, ◌⊎◌, ℕ, ◌<◌, IfErr, IfOk, IfSome, List, Some, length, option_map};
-ghost use Rattle.zarrs_chunk_base.specs.ArraySubset.{IsEmptyBox, IsInside};
+ghost use Rattle.std.specs.Prelude.{◌≡◌, ◌≢◌, ◌↔◌, ◌⊎◌, ℕ, ◌<◌, IfErr, IfOk, IfSome, IsTrue, List, Some, length, map, option_map};
+ghost use Rattle.std.specs.List.{AllPairs, Contains};
+ghost use Rattle.zarrs_chunk_base.specs.ArraySubset.{Box, IsEmptyBox, IsInside};
 ghost use Rattle.zarrs_chunk_base.specs.Dimension.{Dimension, InBox};
 ghost use Rattle.zarrs_chunk_axes.specs.Listed.{IsListed};
 ghost use Rattle.zarrs_chunk_axes.specs.Bounded.{IsBounded};
 ghost use Rattle.zarrs_chunk_base.specs.Refusal.{IfRefused};
 ghost use Rattle.zarrs_chunks.specs.GridNames.{dimensions_in, edges_in, name_in};
 ghost use Rattle.zarrs_chunks.specs.Clipped.{AreAlike, AreClipped};
+ghost use Rattle.zarrs_chunk_axes.specs.InBounds.{AreBelow};
 ghost use Rattle.zarrs_chunk_axes.specs.LookUp.{AnswersChunk};
-ghost use Rattle.zarrs_chunks.specs.Subsets.{AnswersChunksSubset, AnswersCover, AnswersEmptyCover};
+ghost use Rattle.zarrs_chunk_axes.specs.RowMajor.{IsBefore};
+ghost use Rattle.zarrs_chunks.specs.Subsets.{AnswersChunksSubset, AnswersCover, AnswersEmptyCover, Spans};
+ghost use Rattle.zarrs_chunks.specs.Walks.{box_at, chunks_of, ends_within};
+ghost use Rattle.zarrs_chunks.specs.seen.Walks.{chunks_left};
 
-use crate::{ChunkGrid, ChunkGridTraits};
+use crate::{ChunkGrid, ChunkGridTraits, ChunkIndices};
 use std::alloc::Global;
 use zarrs_chunk_base::{
     ArrayIndices, ArraySubset, IncompatibleDimensionalityError, PluginCreateError, Refusal,
@@ -83,6 +88,44 @@ pub fn the_box_of_chunks_is_the_union_of_their_boxes<G: ChunkGridTraits>(
     let _start = chunks.start();
     grid.chunks_subset(alloc, chunks)
 }
+
+/// The walk over chunk numbers gives each list below the grid shape, once, and each after those that come before it.
+pub fn the_walk_gives_each_chunk_once<G: ChunkGridTraits>(
+    alloc: Global,
+    grid: &G,
+) -> ChunkIndices<'_>
+    ensures each { (chunk : List ℕ) → Contains (chunks_left result) chunk
+        ↔ AreBelow (map (λ d. d.grid_size) (G.dimensions grid.now)) chunk }
+    ensures in_order { AllPairs IsBefore (chunks_left result) }
+    ensures once { AllPairs (λ one other. one ≢ other) (chunks_left result) }
+{
+    grid.iter_chunk_indices(alloc)
+}
+
+/// Each element of the array lies in the box of one of the chunks that the walk gives, and of no other.
+pub fn each_element_lies_in_one_chunk_of_the_walk<G: ChunkGridTraits>(
+    alloc: Global,
+    grid: &G,
+) -> ChunkIndices<'_>
+    ensures one { (index : List ℕ)
+        → AreBelow (map (λ d. d.array_size) (G.dimensions grid.now)) index → (chunk : List ℕ)
+        × Contains (chunks_left result) chunk × InBox (G.dimensions grid.now) chunk index }
+    ensures no_other { (index chunk other : List ℕ) → InBox (G.dimensions grid.now) chunk index
+        → InBox (G.dimensions grid.now) other index → chunk ≡ other }
+{
+    grid.iter_chunk_indices(alloc)
+}
+
+/// A chunk that is counted has a box just where it ends at 18446744073709551615 or before it, and then the walks over boxes
+/// give that box.
+pub fn the_boxes_of_a_walk_are_those_of_its_chunks<G: ChunkGridTraits>(grid: &G)
+    ensures boxed { (chunk : List ℕ) → Contains (chunks_of (G.dimensions grid.now)) chunk
+        → IsTrue (ends_within (G.dimensions grid.now) chunk)
+        → Spans (G.dimensions grid.now) chunk chunk (box_at (G.dimensions grid.now) chunk) }
+    ensures only { (chunk : List ℕ) → (b : Box) → Spans (G.dimensions grid.now) chunk chunk b
+        → IsTrue (ends_within (G.dimensions grid.now) chunk)
+        × (b ≡ box_at (G.dimensions grid.now) chunk) }
+{}
 
 /// An array size and an edge that aren't 0 have a list of clipped edges, and its dimension has the same chunks as
 /// the bounded one, from and to the same indices.

@@ -7,7 +7,7 @@ use Rattle.zarrs_chunk_base.specs.DimensionEdges.{DimensionEdges, equal, listed}
 use Rattle.zarrs_chunk_axes.specs.Rectangular.{AreRectangular, IsRectangular}
 use Rattle.zarrs_chunk_axes.specs.Rectilinear.{AreRectilinear, IsRectilinear}
 
-all_once : {A B : Type 0} (R : A → B → Type 0) → ((x : A) (y : B) → IsProp (R x y)) → (xs : List A) (ys : List B) → IsProp (AllZip R xs ys)
+pub all_once : {A B : Type 0} (R : A → B → Type 0) → ((x : A) (y : B) → IsProp (R x y)) → (xs : List A) (ys : List B) → IsProp (AllZip R xs ys)
 all_once R once [] [] = hlevel
 all_once R once [] (_ ∷ _) = hlevel
 all_once R once (_ ∷ _) [] = hlevel

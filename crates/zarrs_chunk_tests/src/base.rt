@@ -1,13 +1,4 @@
-//! What no contract says: the texts of the errors, and that each call answers with ample memory.
-use crate::{
-    ArraySubset, ArraySubsetError, BoxEndError, ChunkEdgeLengths, ChunkKeySeparator, Configuration,
-    ConfigurationFault, ConfigurationForm, DefaultChunkKeyEncodingConfiguration, InBrackets,
-    IncompatibleDimensionalityError, MetadataError, MetadataV3, PluginCreateError,
-    RectangularChunkGridConfiguration,
-    RectangularChunkGridDimensionConfiguration as DimensionEdges,
-    RectilinearChunkGridConfiguration, Refusal, RegularBoundedChunkGridConfiguration,
-    RegularChunkGridConfiguration, RunLengthElement, StoreKey, StoreKeyError, TreeForm,
-};
+//! Boxes, keys, configurations and metadata: the texts of refusals, and that each call answers with ample memory.
 use serde_json::Value;
 use std::alloc::{AllocError, Global};
 use std::cmp::Ordering;
@@ -16,6 +7,15 @@ use std::hash::{DefaultHasher, Hash, Hasher};
 use std::num::NonZeroU64;
 use std::process::Abort;
 use std::test::Fail;
+use zarrs_chunk_base::{
+    ArraySubset, ArraySubsetError, BoxEndError, ChunkEdgeLengths, ChunkKeySeparator, Configuration,
+    ConfigurationFault, ConfigurationForm, DefaultChunkKeyEncodingConfiguration, InBrackets,
+    IncompatibleDimensionalityError, MetadataError, MetadataV3, PluginCreateError,
+    RectangularChunkGridConfiguration,
+    RectangularChunkGridDimensionConfiguration as DimensionEdges,
+    RectilinearChunkGridConfiguration, Refusal, RegularBoundedChunkGridConfiguration,
+    RegularChunkGridConfiguration, RunLengthElement, StoreKey, StoreKeyError, TreeForm,
+};
 
 /// Compares what a value prints.
 fn check_text<T: Display>(

@@ -1,14 +1,6 @@
-//! What no contract says: that calls succeed with ample memory, and texts. Vectors stand with the program `chunkcalls`.
+//! The grids: that each call and each law succeeds with ample memory, and the texts of refusals.
 mod stairs;
 
-use crate::laws::{
-    a_grid_is_made_again_of_its_metadata, chunk_indices_names_the_home, chunks_share_no_index,
-    the_box_of_chunks_is_the_union_of_their_boxes, the_cover_names_the_chunks_that_meet_a_box,
-};
-use crate::{
-    ChunkGrid, ChunkGridTraits, RectangularChunkGrid, RectilinearChunkGrid,
-    RegularBoundedChunkGrid, RegularChunkGrid,
-};
 use serde_json::Value;
 use stairs::Stairs;
 use std::alloc::{AllocError, Global};
@@ -20,6 +12,14 @@ use zarrs_chunk_base::{
     ArraySubset, ChunkEdgeLengths, ChunkShape, IncompatibleDimensionalityError, MetadataV3,
     RectangularChunkGridDimensionConfiguration, Refusal, RunLengthElement,
 };
+use zarrs_chunks::laws::{
+    a_grid_is_made_again_of_its_metadata, chunk_indices_names_the_home, chunks_share_no_index,
+    the_box_of_chunks_is_the_union_of_their_boxes, the_cover_names_the_chunks_that_meet_a_box,
+};
+use zarrs_chunks::{
+    ChunkGrid, ChunkGridTraits, RectangularChunkGrid, RectilinearChunkGrid,
+    RegularBoundedChunkGrid, RegularChunkGrid,
+};
 
 const MAX: u64 = u64::MAX;
 
@@ -28,7 +28,7 @@ fn non_zero(edge: u64) -> Result<NonZeroU64, Fail> {
 }
 
 /// Edges, none of which is 0.
-fn edges(alloc: Global, numbers: &[u64]) -> Result<ChunkShape, Fail> {
+pub(crate) fn edges(alloc: Global, numbers: &[u64]) -> Result<ChunkShape, Fail> {
     let mut edges = Vec::new(alloc);
     for number in numbers {
         edges.push(non_zero(*number)?)?;

@@ -2,13 +2,13 @@
 ghost use Rattle.std.specs.Prelude.{◌≡◌, ◌∷◌, [], MatchResult, length};
 ghost use Rattle.zarrs_chunk_base.specs.Refusal.{RefusesLength};
 
-use crate::ChunkGridTraits;
 use std::alloc::{AllocError, Global};
 use std::num::NonZeroU64;
 use zarrs_chunk_base::{
     ArrayIndices, ChunkShape, Configuration, IncompatibleDimensionalityError, MetadataV3,
     PluginCreateError, Refusal,
 };
+use zarrs_chunks::ChunkGridTraits;
 
 /// One dimension of six elements, in chunks of the edges 1, 2 and 3.
 #[derive(Debug, Drop)]
@@ -16,7 +16,7 @@ pub(super) struct Stairs;
 
 impl ChunkGridTraits for Stairs {
     ghost use Rattle.std.specs.Prelude.{◌∷◌, []};
-    ghost use Rattle.zarrs_chunks.specs.tests.Stairs.{stairs, stairs_is_chain};
+    ghost use Rattle.zarrs_chunk_tests.specs.Stairs.{stairs, stairs_is_chain};
 
     ghost dimensions = { λ _. stairs ∷ [] };
 

@@ -1,0 +1,2 @@
+pub mod Overlong
+pub mod Stairs

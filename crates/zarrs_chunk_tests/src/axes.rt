@@ -1,0 +1,76 @@
+//! Lists of axes, and walks through lists of numbers: that calls succeed with ample memory, and how far they pass over.
+use std::alloc::AllocError;
+use std::num::NonZeroU64;
+use std::process::Abort;
+use std::test::Fail;
+use zarrs_chunk_axes::{AxisGrid, EqualAxis, RowMajorWalk};
+use zarrs_chunk_base::Refusal;
+
+#[test]
+fn lists_of_axes_are_looked_up(rt: HostRuntime) -> Result<(), Fail> {
+    let alloc = rt.alloc();
+    let mut chunk_shape = Vec::new(alloc);
+    for edge in [1, 2, 3] {
+        chunk_shape.push(NonZeroU64::new(edge).ok_or("an edge of 0")?)?;
+    }
+    let array_shape = [5, 7, 52].to_vec(alloc)?;
+    let axes = match AxisGrid::<EqualAxis>::new(alloc, array_shape, &chunk_shape) {
+        Ok(axes) => axes.clone()?,
+        Err(Refusal::Memory(error)) => return Err(error.into()),
+        Err(Refusal::Refused(_)) => return Err("no axes".into()),
+    };
+    assert_eq!(rt; axes.grid_shape(), [5, 4, 18].as_slice());
+    let chunk = axes.chunk_indices(alloc, &[3, 5, 50])?.ok_or("no chunk")?;
+    assert_eq!(rt; chunk.as_slice(), [3, 2, 16].as_slice());
+    let origin = axes.chunk_origin(alloc, &chunk)?.ok_or("no origin")?;
+    assert_eq!(rt; origin.as_slice(), [3, 4, 48].as_slice());
+    let shape = axes.chunk_shape(alloc, &chunk)?.ok_or("no shape")?;
+    assert_eq!(rt; shape.as_slice(), chunk_shape.as_slice());
+    Ok(())
+}
+
+/// The walk stands at a list, which is this one.
+fn check_stands(
+    rt: &impl Abort,
+    walk: &RowMajorWalk<'_>,
+    found: Result<bool, AllocError>,
+    numbers: &[u64],
+) -> Result<(), AllocError> {
+    assert!(rt; found?, "there is no list {numbers:?}");
+    assert_eq!(rt; walk.numbers(), numbers);
+    Ok(())
+}
+
+#[test]
+fn lists_below_a_shape_are_passed_over(rt: HostRuntime) -> Result<(), Fail> {
+    let mut walk = RowMajorWalk::new(rt.alloc(), &[2, 2, 3]);
+    let found = walk.step();
+    check_stands(&rt, &walk, found, &[0, 0, 0])?;
+    let found = walk.step();
+    check_stands(&rt, &walk, found, &[0, 0, 1])?;
+    if walk.step()? {
+        let found = walk.pass_over();
+        check_stands(&rt, &walk, Ok(found), &[0, 1, 0])?;
+    }
+    if walk.step()? {
+        let found = walk.pass_over();
+        check_stands(&rt, &walk, Ok(found), &[1, 0, 0])?;
+    }
+    if walk.step()? {
+        let found = walk.pass_over();
+        check_stands(&rt, &walk, Ok(found), &[1, 1, 0])?;
+    }
+    if walk.step()? {
+        assert!(rt; walk.indices()?.as_slice() == [1, 1, 1].as_slice());
+        assert!(rt; !walk.pass_over(), "there is a list after the last one");
+    }
+    assert!(rt; !walk.step()?, "the walk goes on after its end");
+    let mut walk = RowMajorWalk::new(rt.alloc(), &[2, 0, 3]);
+    assert!(rt; !walk.step()?, "there is a list below 0");
+    let mut walk = RowMajorWalk::new(rt.alloc(), &[2]);
+    let found = walk.step();
+    check_stands(&rt, &walk, found, &[0])?;
+    walk.end();
+    assert!(rt; !walk.step()?, "an ended walk goes on");
+    Ok(())
+}

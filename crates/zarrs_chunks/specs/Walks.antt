@@ -1,0 +1,42 @@
+-- The chunks that a grid counts, one after another, their boxes, and what a walk gives of them.
+-- Source: Zarr V3 core, chunk grids and row-major ("C") order; the walks are this library's own.
+use Rattle.std.specs.Prelude.{◌≡◌, ℕ, ◌-◌, ◌&&◌, Bool, true, List, [], ◌∷◌, map, nat_le, Option, Some, None, Result, Ok, Err}
+use Rattle.std.specs.List.{filter}
+use Rattle.std.specs.declared.alloc.AllocError.{AllocError}
+use Rattle.zarrs_chunk_base.specs.ArraySubset.{Box}
+use Rattle.zarrs_chunk_base.specs.Dimension.{Dimension}
+use Rattle.zarrs_chunk_base.specs.Greatest.{greatest}
+use Rattle.zarrs_chunk_axes.specs.RowMajor.{row_major}
+
+-- the chunks that are counted, in row-major order
+abbrev pub chunks_of : List Dimension → List (List ℕ)
+chunks_of ds = row_major (map (λ d. d.grid_size) ds)
+
+-- the chunk ends at the greatest number or before it, in each dimension
+abbrev pub ends_within : List Dimension → List ℕ → Bool
+ends_within (d ∷ ds) (c ∷ chunk) = nat_le (d.end c) greatest && ends_within ds chunk
+ends_within _ _ = true
+
+-- those of the chunks that do; the others have no box
+abbrev pub boxed : List Dimension → List (List ℕ) → List (List ℕ)
+boxed ds = filter (ends_within ds)
+
+-- where a chunk starts, and how long it is, in each dimension
+abbrev pub starts_at : List Dimension → List ℕ → List ℕ
+starts_at (d ∷ ds) (c ∷ chunk) = d.start c ∷ starts_at ds chunk
+starts_at _ _ = []
+
+abbrev pub lengths_at : List Dimension → List ℕ → List ℕ
+lengths_at (d ∷ ds) (c ∷ chunk) = (d.end c - d.start c) ∷ lengths_at ds chunk
+lengths_at _ _ = []
+
+-- the box of a chunk
+abbrev pub box_at : List Dimension → List ℕ → Box
+box_at ds chunk = record { start = starts_at ds chunk; shape = lengths_at ds chunk }
+
+-- What `next` of a walk gives, by what is left before and after it: the first of what was left, as `view` shows it, and the
+-- others are left then; nothing, where nothing was left; or that there was no memory, where that may be, and nothing is left then.
+abbrev pub Gives : {W T X : Type 0} → (W → List X) → (T → X) → (W → Type 0) → W → Option (Result T AllocError) → W → Type 0
+Gives left view MayFail before (Some (Ok item)) after = left before ≡ view item ∷ left after
+Gives left view MayFail before (Some (Err _)) after = MayFail before × (left after ≡ [])
+Gives left view MayFail before None after = (left before ≡ []) × (left after ≡ [])

@@ -1,0 +1,53 @@
+-- What is left of a walk over the chunks of a grid.
+use Rattle.std.specs.Prelude.{◌≡◌, ◌≢◌, ℕ, ◌<◌, List, [], ◌∷◌, length, map, Option, Some, None, Result, Ok, Err}
+use Rattle.std.specs.declared.alloc.AllocError.{AllocError}
+use Rattle.zarrs_chunk_base.specs.ArraySubset.{Box}
+use Rattle.zarrs_chunk_base.specs.Dimension.{Dimension}
+use Rattle.zarrs_chunk_axes.specs.seen.RowMajorWalk.{lists_left, numbers_at, shape_of}
+use Rattle.zarrs_chunks.specs.declared.walks.chunk_boxes.ChunkBoxes.{ChunkBoxes}
+use Rattle.zarrs_chunks.specs.declared.walks.chunk_indices.ChunkIndices.{ChunkIndices}
+use Rattle.zarrs_chunks.specs.declared.walks.chunk_indices_and_subsets.ChunkIndicesAndSubsets.{ChunkIndicesAndSubsets}
+use Rattle.zarrs_chunks.specs.declared.walks.chunk_subsets.ChunkSubsets.{ChunkSubsets}
+use Rattle.zarrs_chunks.specs.Walks.{box_at, boxed}
+
+-- the chunks that are still to come
+abbrev pub chunks_left : ChunkIndices → List (List ℕ)
+chunks_left walk = lists_left walk.walk
+
+-- over a grid, whose dimensions are known by a function of it
+module _ {G : Type 0} (dimensions : G → List Dimension) where
+  -- the walk goes through the chunks that its grid counts
+  abbrev pub IsOverGrid : ChunkBoxes G → Type 0
+  IsOverGrid walk = shape_of walk.walk ≡ map (λ d. d.grid_size) (dimensions walk.grid.now)
+
+  -- the chunks that it still comes by, with or without a box
+  abbrev pub chunks_ahead : ChunkBoxes G → List (List ℕ)
+  chunks_ahead walk = lists_left walk.walk
+
+  -- those of them that have a box
+  abbrev pub boxed_left : ChunkBoxes G → List (List ℕ)
+  boxed_left walk = boxed (dimensions walk.grid.now) (chunks_ahead walk)
+
+  -- A step goes to the first chunk that has a box, and gives that; none, where no chunk with a box was left; or there was no memory, where
+  -- a chunk was left, and none is left then.
+  abbrev pub StepsTo : ChunkBoxes G → Result (Option Box) AllocError → ChunkBoxes G → Type 0
+  StepsTo old (Ok (Some b)) new =
+      (boxed_left old ≡ numbers_at new.walk ∷ boxed_left new) × (b ≡ box_at (dimensions old.grid.now) (numbers_at new.walk))
+      × (length (chunks_ahead new) < length (chunks_ahead old))
+  StepsTo old (Ok None) new = (boxed_left old ≡ []) × (boxed_left new ≡ [])
+  StepsTo old (Err _) new = (chunks_ahead old ≢ []) × (chunks_ahead new ≡ [])
+
+  -- a walk over boxes, or over chunks and boxes, goes through the chunks that its grid counts
+  abbrev pub AreBoxesOfGrid : ChunkSubsets G → Type 0
+  AreBoxesOfGrid walk = IsOverGrid walk.boxes
+
+  abbrev pub AreChunksOfGrid : ChunkIndicesAndSubsets G → Type 0
+  AreChunksOfGrid walk = IsOverGrid walk.boxes
+
+  -- the boxes that are still to come
+  abbrev pub boxes_left : ChunkSubsets G → List Box
+  boxes_left walk = map (box_at (dimensions walk.boxes.grid.now)) (boxed_left walk.boxes)
+
+  -- the chunks that are still to come, each with its box
+  abbrev pub chunks_and_boxes_left : ChunkIndicesAndSubsets G → List (List ℕ × Box)
+  chunks_and_boxes_left walk = map (λ chunk. (chunk, box_at (dimensions walk.boxes.grid.now) chunk)) (boxed_left walk.boxes)

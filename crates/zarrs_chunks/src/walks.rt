@@ -1,0 +1,5 @@
+//! Walks over the chunks that a grid counts, in row-major order.
+mod chunk_boxes;
+pub(crate) mod chunk_indices;
+pub(crate) mod chunk_indices_and_subsets;
+pub(crate) mod chunk_subsets;
