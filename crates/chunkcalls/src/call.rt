@@ -1,16 +1,18 @@
 //! The calls of a chunk grid, by their names, and what each answers.
+use crate::extensions::make_encoding;
 use crate::line_fault::LineFault;
-use crate::question::required_member;
+use crate::located::located_tree;
+use crate::question::{numbers, required_member};
 use crate::start_shape::{StartShape, box_tree, numbers_tree};
 use crate::walk_items::first_items;
 use serde_json::Value;
 use std::alloc::Global;
 use zarrs_chunk_base::{ArraySubset, IncompatibleDimensionalityError, Refusal, TreeForm};
-use zarrs_chunks::{ChunkGrid, ChunkGridTraits};
+use zarrs_chunks::{ChunkGrid, ChunkGridTraits, locate};
 
 /// A call, and what it is asked of.
 #[derive(Drop)]
-pub(crate) enum Call {
+pub(crate) enum Call<'t> {
     Dimensionality,
     ArrayShape,
     GridShape,
@@ -27,18 +29,19 @@ pub(crate) enum Call {
     IterChunkIndices(u64),
     IterChunkSubsets(u64),
     IterChunkIndicesAndSubsets(u64),
+    Locate(&'t Value, Vec<u64>),
     Configuration,
     Metadata,
 }
 
-impl Call {
+impl<'t> Call<'t> {
     /// The call of this name. What it is asked of is the tree's member `of`; how many items of a walk are given, the member
-    /// `items`.
+    /// `items`; and `locate` takes the member `chunk_key_encoding` besides.
     pub(crate) fn from_name(
         alloc: Global,
         name: &str,
-        tree: &Value,
-    ) -> Result<Call, Refusal<LineFault>> {
+        tree: &'t Value,
+    ) -> Result<Call<'t>, Refusal<LineFault>> {
         Ok(match name {
             "dimensionality" => Call::Dimensionality,
             "array_shape" => Call::ArrayShape,
@@ -58,6 +61,10 @@ impl Call {
             "iter_chunk_indices_and_subsets" => {
                 Call::IterChunkIndicesAndSubsets(items(alloc, tree)?)
             }
+            "locate" => Call::Locate(
+                required_member(tree, "chunk_key_encoding")?,
+                numbers(alloc, tree)?,
+            ),
             "configuration" => Call::Configuration,
             "metadata" => Call::Metadata,
             _ => return Err(Refusal::Refused(LineFault::NoCall(String::from_str(alloc, name)?))),
@@ -107,16 +114,18 @@ impl Call {
                 let walk = grid.iter_chunk_indices_and_subsets(alloc);
                 Ok(first_items(alloc, walk, most)?)
             }
+            Call::Locate(encoding, index) => {
+                let encoding = make_encoding(alloc, encoding)?;
+                let located = locate(alloc, grid, &encoding, &index);
+                match located.map_err(|refusal| refusal.map(LineFault::Lengths))? {
+                    Some(located) => Ok(located_tree(alloc, &located)?),
+                    None => Ok(Value::Null),
+                }
+            }
             Call::Configuration => Ok(Value::Object(grid.configuration(alloc)?)),
             Call::Metadata => Ok(grid.metadata(alloc)?.to_tree(alloc)?),
         }
     }
-}
-
-/// The numbers that a call is asked of.
-fn numbers(alloc: Global, tree: &Value) -> Result<Vec<u64>, Refusal<LineFault>> {
-    let numbers = Vec::from_tree(alloc, required_member(tree, "of")?)?;
-    numbers.ok_or(Refusal::Refused(LineFault::WrongValue("of")))
 }
 
 /// The box that a call is asked of.

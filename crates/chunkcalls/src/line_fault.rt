@@ -22,12 +22,12 @@ pub(crate) enum LineFault {
     /// No call has this name.
     #[error("unreadable: there is no call `{0}`")]
     NoCall(String),
-    /// The chunk grid is no extension's metadata.
+    /// The chunk grid or the chunk key encoding is no extension's metadata.
     #[error("refused: {0}")]
     Metadata(MetadataError),
-    /// The chunk grid can't be made.
+    /// The chunk grid or the chunk key encoding can't be made.
     #[error("refused: {0}")]
-    Grid(PluginCreateError),
+    Extension(PluginCreateError),
     /// The box that the call is asked of can't be made.
     #[error("refused: {0}")]
     Box(ArraySubsetError),

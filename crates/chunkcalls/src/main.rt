@@ -1,8 +1,9 @@
-//! `chunkcalls` asks chunk grids, a call a line.
+//! `chunkcalls` asks chunk grids and chunk key encodings, a call a line.
 //!
 //! Each line of standard input is a JSON object: the `shape` of an array and its `chunk_grid`, as
 //! in its `zarr.json`, the name of a `call`, and what it is asked `of`, where it takes something; for a walk, how many
-//! `items` to give.
+//! `items` to give; for `locate`, a `chunk_key_encoding`. The call `encode` takes a `chunk_key_encoding` and the numbers of a chunk
+//! alone.
 //! For each line one line is printed: the answer as compact JSON, why the library refused, or why
 //! the line can't be read.
 //!
@@ -17,7 +18,9 @@
 //! | `answer` | the line that answers a line |
 //! | `question` | what a line asks |
 //! | `call` | the calls, by their names, and what each answers |
+//! | `extensions` | the chunk grid and the chunk key encoding that a line gives |
 //! | `start_shape` | a box as a line writes it |
+//! | `located` | where an element is stored, as a line writes it |
 //! | `walk_items` | the first items of a walk, as a line writes them |
 //! | `line_fault` | why a line has no answer |
 //! | `run_fault` | why a run stops |
@@ -25,7 +28,9 @@
 
 mod answer;
 mod call;
+mod extensions;
 mod line_fault;
+mod located;
 mod program;
 mod question;
 mod run_fault;

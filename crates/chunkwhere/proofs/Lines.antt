@@ -3,7 +3,7 @@ use Rattle.std.proofs.Common.{◌≡◌, ◌≢◌, ℕ, zero, suc, ◌+◌, ◌
 use Rattle.std.specs.List.{AllByRecursion}
 use Rattle.zarrs_chunk_base.specs.declared.incompatible_dimensionality_error.IncompatibleDimensionalityError.{IncompatibleDimensionalityError}
 use Rattle.chunkwhere.specs.Answer.{HasLengthOf, IsFirstWrongLength}
-use Rattle.chunkwhere.specs.ChunkKey.{Encoding}
+use Rattle.zarrs_chunk_keys.specs.ChunkKey.{Encoding}
 use Rattle.zarrs_chunk_base.specs.Dimension.{Dimension}
 use Rattle.chunkwhere.specs.Output.{IsLine, IsOutput}
 use Rattle.zarrs_chunk_base.specs.Refusal.{TellsLengths}

@@ -5,8 +5,8 @@ use Rattle.chunkwhere.specs.declared.run_fault.RunFault.{RunFault}
 use Rattle.chunkwhere.specs.declared.run_fault.RunFault.TheVariants.{Grid, Encoding as EncodingFault, Index}
 use Rattle.zarrs_chunk_base.specs.declared.incompatible_dimensionality_error.IncompatibleDimensionalityError.{IncompatibleDimensionalityError}
 use Rattle.chunkwhere.specs.ChunkGrid.{IsGrid, IsGridFault}
-use Rattle.chunkwhere.specs.ChunkKey.{Encoding}
-use Rattle.chunkwhere.specs.ChunkKeyEncoding.{IsEncoding, IsEncodingFault}
+use Rattle.zarrs_chunk_keys.specs.ChunkKey.{Encoding}
+use Rattle.zarrs_chunk_keys.specs.KeyNames.{IsEncoding, IsEncodingFault}
 use Rattle.zarrs_chunk_base.specs.Dimension.{Dimension}
 use Rattle.chunkwhere.specs.Document.{Document}
 use Rattle.zarrs_chunk_base.specs.Refusal.{TellsLengths}

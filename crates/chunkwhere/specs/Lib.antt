@@ -1,11 +1,7 @@
 pub mod Answer
 pub mod ChunkGrid
-pub mod ChunkKey
-pub mod ChunkKeyEncoding
 pub mod Document
-pub mod Numeral
 pub mod Output
 pub mod Run
 pub mod RunFault
 pub mod Watched
-pub mod seen

@@ -1,8 +1,8 @@
 -- What the program writes: a line for each index list.
 use Rattle.std.specs.Prelude.{◌≡◌, ℕ, List, [], ◌∷◌, ◌++◌, codes}
 use Rattle.zarrs_chunk_base.specs.Dimension.{Dimension, InBox, IsPlace}
-use Rattle.chunkwhere.specs.ChunkKey.{Encoding, IsKey}
-use Rattle.chunkwhere.specs.Numeral.{IsNumerals}
+use Rattle.zarrs_chunk_keys.specs.ChunkKey.{Encoding, IsKey}
+use Rattle.zarrs_chunk_keys.specs.Numeral.{IsNumerals}
 
 -- The line of an index: the key of its chunk and its place there, each number after a space, or `-` where no chunk holds it.
 pub data IsLine (dimensions : List Dimension) (encoding : Encoding) (index line : List ℕ) : Type 0 where

@@ -2,21 +2,20 @@
 ghost use Rattle.std.specs.Prelude.{◌≡◌, ◌≢◌, ℕ, List, ◌++◌, codes, length, map, MatchResult, OnOk, string_bytes};
 ghost use Rattle.std.specs.List.{AllByRecursion};
 ghost use Rattle.chunkwhere.specs.Answer.{HasLengthOf, IsAnswer, IsAnswerFault, IsIndexFault};
-ghost use Rattle.chunkwhere.specs.ChunkKey.{IsKey};
-ghost use Rattle.chunkwhere.specs.seen.DefaultChunkKeyEncoding.{encoding_of};
+ghost use Rattle.zarrs_chunk_keys.specs.ChunkKey.{IsKey};
+ghost use Rattle.zarrs_chunk_keys.specs.seen.Encodings.{encoding_in};
 ghost use Rattle.chunkwhere.specs.Document.{document_of};
-ghost use Rattle.chunkwhere.specs.Numeral.{IsNumerals};
+ghost use Rattle.zarrs_chunk_keys.specs.Numeral.{IsNumerals};
 ghost use Rattle.chunkwhere.specs.Output.{IsLine, IsOutput};
 ghost use Rattle.zarrs_chunk_base.specs.Refusal.{IfRefused, TellsLengths};
 ghost use Rattle.chunkwhere.specs.RunFault.{OrMemory};
 
-use crate::chunk_key_encoding::default::DefaultChunkKeyEncoding;
+use crate::chunk_grid;
 use crate::document::Document;
-use crate::numerals::append_numerals;
 use crate::run_fault::RunFault;
-use crate::{chunk_grid, chunk_key_encoding};
 use std::alloc::{AllocError, Global};
 use zarrs_chunk_base::{IncompatibleDimensionalityError, Refusal};
+use zarrs_chunk_keys::{ChunkKeyEncoding, append_numerals};
 use zarrs_chunks::ChunkGridTraits;
 
 /// The whole text that answers a document, or the first fault.
@@ -26,7 +25,7 @@ pub(crate) fn answer(alloc: Global, document: &Document) -> Result<String, RunFa
 {
     let grid = chunk_grid::from_metadata(alloc, &document.chunk_grid, &document.shape);
     let grid = grid.map_err(|refusal| refusal.map(RunFault::Grid))?;
-    let encoding = chunk_key_encoding::from_metadata(alloc, &document.chunk_key_encoding);
+    let encoding = ChunkKeyEncoding::from_metadata(alloc, &document.chunk_key_encoding);
     let encoding = encoding.map_err(|refusal| refusal.map(RunFault::Encoding))?;
     lines(alloc, &grid, &encoding, &document.indices)
 }
@@ -35,13 +34,13 @@ pub(crate) fn answer(alloc: Global, document: &Document) -> Result<String, RunFa
 fn lines<G: ChunkGridTraits>(
     alloc: Global,
     grid: &G,
-    encoding: &DefaultChunkKeyEncoding,
+    encoding: &ChunkKeyEncoding,
     indices: &[Vec<u64>],
 ) -> Result<String, RunFault>
     ensures { MatchResult result
         (λ text. AllByRecursion (HasLengthOf (G.dimensions grid.now)) (map
         (λ index. index.items) indices.now)
-        × IsOutput (G.dimensions grid.now) (encoding_of encoding.now) (map
+        × IsOutput (G.dimensions grid.now) (encoding_in encoding.now) (map
         (λ index. index.items) indices.now) (string_bytes text))
         (OrMemory (IsIndexFault (G.dimensions grid.now) (map (λ index. index.items) indices.now))) }
 {
@@ -59,12 +58,12 @@ fn append_line<G: ChunkGridTraits>(
     alloc: Global,
     text: &mut String,
     grid: &G,
-    encoding: &DefaultChunkKeyEncoding,
+    encoding: &ChunkKeyEncoding,
     index: &[u64],
 ) -> Result<(), Refusal<IncompatibleDimensionalityError>>
     ensures { MatchResult result
         (λ _. HasLengthOf (G.dimensions grid.now) index.now
-        × (line : List ℕ) × IsLine (G.dimensions grid.now) (encoding_of encoding.now) index.now line
+        × (line : List ℕ) × IsLine (G.dimensions grid.now) (encoding_in encoding.now) index.now line
         × (string_bytes text.new ≡ string_bytes text.old ++ line))
         (λ refusal. IfRefused refusal (λ e. (length index.now ≢ length (G.dimensions grid.now))
         × TellsLengths (length index.now) (length (G.dimensions grid.now)) e)) }
@@ -75,24 +74,23 @@ fn append_line<G: ChunkGridTraits>(
         text.push_str("-\n")?;
         return Ok(());
     };
-    append_key_and_place(alloc, text, encoding, &chunk, &place)?;
+    append_key_and_place(text, encoding, &chunk, &place)?;
     Ok(())
 }
 
 /// Appends the key of a chunk and a place in it.
 fn append_key_and_place(
-    alloc: Global,
     text: &mut String,
-    encoding: &DefaultChunkKeyEncoding,
+    encoding: &ChunkKeyEncoding,
     chunk: &[u64],
     place: &[u64],
 ) -> Result<(), AllocError>
     ensures { OnOk result ((key : List ℕ) × (numbers : List ℕ)
-        × IsKey (encoding_of encoding.now) chunk.now key
+        × IsKey (encoding_in encoding.now) chunk.now key
         × IsNumerals 32 place.now numbers × (string_bytes text.new
         ≡ string_bytes text.old ++ (key ++ numbers ++ codes "\n"))) }
 {
-    text.push_str(encoding.encode(alloc, chunk)?.as_str())?;
+    encoding.append_key(text, chunk)?;
     append_numerals(text, ' ', place)?;
     text.push_str("\n")?;
     Ok(())

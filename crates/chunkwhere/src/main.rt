@@ -11,16 +11,12 @@
 //! | `input`, `document`, `answer`, `output` | the four steps: read, understand, answer, write |
 //! | `run_fault` | why a run stops |
 //! | `chunk_grid` | the `regular` grid |
-//! | `chunk_key_encoding` | the `default` keys |
-//! | `numerals` | numbers as decimal text |
 #![tactic(auto)]
 
 mod answer;
 mod chunk_grid;
-mod chunk_key_encoding;
 mod document;
 mod input;
-mod numerals;
 mod output;
 mod program;
 mod run_fault;

@@ -167,7 +167,7 @@ fn members_are_refused(rt: HostRuntime) -> Result<(), Fail> {
             (SHAPE, r#""hexagonal""#, DEFAULT, "[[1]]"),
             "name `hexagonal` is not supported",
         ),
-        (encoding(r#""v2""#), "name `v2` is not supported"),
+        (encoding(r#""v3""#), "name `v3` is not supported"),
         (
             grid(r#""regular""#),
             "configuration is unsupported: missing field `chunk_shape`",

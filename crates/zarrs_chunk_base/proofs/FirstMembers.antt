@@ -3,9 +3,10 @@ use Rattle.std.proofs.Common.{◌≡◌, ◌≢◌, ℕ, zero, suc, Bool, true, 
 use Rattle.std.proofs.lemmas.Cmp.{nat_list_cmp_total, tied_itself}
 use Rattle.std.specs.Cmp.Lexicographic.{slice_cmp}
 use Rattle.std.specs.List.{AllByRecursion}
+use Rattle.std.specs.Option.{option_map_or}
 use Rattle.serde_json.specs.Data.{Data, Members}
 use Rattle.serde_json.specs.Find.{get_member}
-use Rattle.zarrs_chunk_base.specs.Configuration.{AreInOrder, HasNoUnknown, HasRequired, IsFirstWrong, IsConfigurationFault, IsFitting, IsLeastName, HasWrongValue, IsMissing, IsWrong, Member, Table, names_of, required_names_of, value_of}
+use Rattle.zarrs_chunk_base.specs.Configuration.{AreInOrder, HasNoUnknown, HasRequired, IsFirstWrong, IsConfigurationFault, IsFitting, IsLeastName, HasWrongValue, IsMissing, IsWrong, Member, Table, names_of, required_names_of, value_of, value_or}
 use Rattle.zarrs_chunk_base.specs.First.{IsFirst}
 use Rattle.zarrs_chunk_base.specs.declared.configuration_fault.ConfigurationFault.{ConfigurationFault}
 use Rattle.zarrs_chunk_base.specs.declared.configuration_fault.ConfigurationFault.TheVariants.{UnknownField, MissingField, WrongValue}
@@ -143,14 +144,22 @@ module _ {X : Type 0} (form : Data → Option X) (m : Member) (rest : List Membe
   first_wrong (WrongValue field) (named, d, there, none) = (m, named, inl ((d, there, misformed d none), refl))
 
   -- where that member's value is of its form, the first is one of the rest
+  later : ((d : Data) → get_member m.name members ≡ Some d → is_some (form d) ≡ true) → (fault : ConfigurationFault) → IsFirstWrong rest members fault
+      → IsFirstWrong (m ∷ rest) members fault
+  later formed (UnknownField field listed) wrong = absurd wrong
+  later formed (MissingField field) wrong = absurd wrong
+  later formed (WrongValue field) (other, named, first) = (other, named, inr (not_here, first)) where
+    not_here : ¬ HasWrongValue members m
+    not_here (d, there, wrong) = true≢false (sym (of_form d ∙ formed d there) ∙ wrong)
+
   pub later_wrong : (x : X) → value_of m.name form members ≡ Some x → (fault : ConfigurationFault) → IsFirstWrong rest members fault
       → IsFirstWrong (m ∷ rest) members fault
-  later_wrong x is (UnknownField field listed) wrong = absurd wrong
-  later_wrong x is (MissingField field) wrong = absurd wrong
-  later_wrong x is (WrongValue field) (other, named, first) = (other, named, inr (not_here, first)) where
-    not_here : ¬ HasWrongValue members m
-    not_here (d, there, wrong) =
-        true≢false (sym (of_form d ∙ ap is_some (ap (option_and_then form) (sym there) ∙ is)) ∙ wrong)
+  later_wrong x is = later (λ d there. ap is_some (ap (option_and_then form) (sym there) ∙ is))
+
+  -- also where it may be absent
+  pub later_wrong_or : (usual x : X) → value_or usual m.name form members ≡ Some x → (fault : ConfigurationFault) → IsFirstWrong rest members fault
+      → IsFirstWrong (m ∷ rest) members fault
+  later_wrong_or usual x is = later (λ d there. ap is_some (ap (λ found. option_map_or form found (Some usual)) (sym there) ∙ is))
 
 -- ---- no fault
 

@@ -1,5 +1,5 @@
 -- The first member that isn't known has the least name, since members are kept in the order of their names.
-use Rattle.std.proofs.Common.{◌≡◌, ◌≢◌, ℕ, suc, Bool, true, false, cond, not, List, [], ◌∷◌, map, Option, None, Some, String, Global, Ordering, Less, Equal, Greater, string_bytes, string_cmp, nat_cmp, Contains, IsSome, find, bytes_eq, Bor, refl, sym, ap, ◌∙◌, subst, inl, inr, ◌⊎◌, ⊎_elim, true≢false, arith}
+use Rattle.std.proofs.Common.{◌≡◌, ◌≢◌, ℕ, suc, Bool, true, false, cond, not, List, [], ◌∷◌, map, Option, None, Some, String, Global, Ordering, Less, Equal, Greater, string_bytes, string_cmp, nat_cmp, Contains, IsSome, find, bytes_eq, Bor, Result, Ok, Err, IfOk, refl, sym, ap, ◌∙◌, subst, inl, inr, ◌⊎◌, ⊎_elim, true≢false, arith}
 use Rattle.std.proofs.lemmas.Bool.{not-true, not-false, both_ways}
 use Rattle.std.proofs.lemmas.Cmp.{nat_list_cmp_total, tied_itself}
 use Rattle.std.proofs.lemmas.List.Folds.{list_any_at}
@@ -168,3 +168,10 @@ in_no_list name (k, within, at) = absurd (omega arith)
 -- a list with another name first doesn't contain a name, where the rest doesn't
 pub not_first : (first name : List ℕ) (names : List (List ℕ)) → name ≢ first → ¬ Contains names name → ¬ Contains (first ∷ names) name
 not_first first name names other rest known = ⊎_elim (λ same. other (sym same)) rest (contained first names name known)
+
+-- also where it may not have been written
+pub reads_back_if_ok : {X C E : Type 0} (table : Table) (value : Members → Option X) (members : C → Members) (answer : Result C E) (written : Members) (x : X)
+    → IfOk answer (λ c. members c ≡ written) → names_of table.members ≡ keys_of_members written → value written ≡ Some x
+    → IfOk answer (λ c. IsConfiguration table value (members c) x)
+reads_back_if_ok table value members (Ok c) written x same names is = reads_back table value (members c) written x same names is
+reads_back_if_ok table value members (Err _) written x same names is = tt

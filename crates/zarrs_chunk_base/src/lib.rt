@@ -28,7 +28,8 @@
 //! | `json` | what extensions look like in JSON |
 //! | `json::metadata_v3` | the metadata of an extension: its name and its configuration |
 //! | `json::configuration_form`, `members` | a configuration as a table of members, and how members are read |
-//! | `json::regular_chunk_grid_configuration`, `rectangular_..`, `rectilinear_..`, `default_chunk_key_encoding_configuration` | the configurations |
+//! | `json::regular_chunk_grid_configuration`, `rectangular_..`, `rectilinear_..` | the configurations of chunk grids |
+//! | `json::default_chunk_key_encoding_configuration`, `v2_..`, `default_suffix_..`, `separator_member` | those of chunk key encodings, and the member that they share |
 //! | `json::tree_form` | sizes, edges, texts and lists of them in a tree |
 //! | `plugin_create_error`, `configuration_fault`, `metadata_error` | why an extension isn't made of its metadata |
 #![tactic(auto)]
@@ -52,6 +53,8 @@ mod refusal;
 mod run_length_element;
 mod store_key;
 mod store_key_error;
+#[cfg(test)]
+mod tests;
 
 pub use array_subset::ArraySubset;
 pub use array_subset_error::ArraySubsetError;
@@ -63,6 +66,7 @@ pub use in_brackets::InBrackets;
 pub use incompatible_dimensionality_error::IncompatibleDimensionalityError;
 pub use json::configuration_form::{ConfigurationForm, MemberNames};
 pub use json::default_chunk_key_encoding_configuration::DefaultChunkKeyEncodingConfiguration;
+pub use json::default_suffix_chunk_key_encoding_configuration::DefaultSuffixChunkKeyEncodingConfiguration;
 pub use json::metadata_v3::MetadataV3;
 pub use json::rectangular_chunk_grid_configuration::RectangularChunkGridConfiguration;
 pub use json::rectilinear_chunk_grid_configuration::RectilinearChunkGridConfiguration;
@@ -70,6 +74,7 @@ pub use json::regular_chunk_grid_configuration::{
     RegularBoundedChunkGridConfiguration, RegularChunkGridConfiguration,
 };
 pub use json::tree_form::TreeForm;
+pub use json::v2_chunk_key_encoding_configuration::V2ChunkKeyEncodingConfiguration;
 pub use metadata_error::MetadataError;
 pub use plugin_create_error::PluginCreateError;
 pub use rectangular_chunk_grid_dimension_configuration::RectangularChunkGridDimensionConfiguration;

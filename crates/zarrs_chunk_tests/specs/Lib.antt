@@ -1,2 +1,3 @@
 pub mod Overlong
 pub mod Stairs
+pub mod Versioned

@@ -1,12 +1,13 @@
 -- A chunk whose box holds an index has an origin, and the index a place behind it.
-use Rattle.std.proofs.Common.{◌≡◌, ℕ, suc, ◌-◌, ◌<◌, ◌≤◌, ◌^◌, List, [], ◌∷◌, length, get_or, Err, refl, arith}
+use Rattle.std.proofs.Common.{◌≡◌, ℕ, suc, ◌-◌, ◌<◌, ◌≤◌, ◌^◌, List, [], ◌∷◌, length, get_or, Err, refl, ap₂, arith}
 use Rattle.zarrs_chunk_base.specs.declared.incompatible_dimensionality_error.IncompatibleDimensionalityError.{IncompatibleDimensionalityError}
 use Rattle.zarrs_chunk_base.specs.declared.refusal.Refusal.{Refusal}
 use Rattle.zarrs_chunk_base.specs.declared.refusal.Refusal.TheVariants.{Refused, Memory}
 use Rattle.zarrs_chunk_base.specs.Dimension.{Dimension, Holds, InBox, IsOrigin, IsPlace, StartsAt}
 use Rattle.zarrs_chunk_base.specs.Greatest.{greatest, AllFit}
+use Rattle.zarrs_chunk_base.specs.Refusal.{Answers}
 use Rattle.zarrs_chunk_base.proofs.InEach.{by_dimension, by_dimension_twice, length_numbers}
-use Rattle.zarrs_chunk_axes.specs.LookUp.{AnswersOrigin, AnswersPlace}
+use Rattle.zarrs_chunk_axes.specs.LookUp.{AnswersOrigin}
 
 -- the numbers of a list of u64 fit
 pub fits : (xs : List ℕ) → ((k : ℕ) → get_or xs k 0 < 2 ^ 64) → AllFit xs
@@ -46,8 +47,24 @@ is_place ds chunk index origin place box is same differ =
           let start = starts.start in
           (omega arith, rest place (omega arith) (λ k within. differ (suc k) (omega arith)))
 
--- the origin of a chunk that holds an index is refused for memory alone
-pub origin_refused : (ds : List Dimension) (chunk index : List ℕ) (refusal : Refusal IncompatibleDimensionalityError) → InBox ds chunk index
-    → AnswersOrigin ds chunk (Err refusal) → length index ≡ length ds → AnswersPlace ds index (Err refusal)
-origin_refused ds chunk index (Refused e) box refused same = absurd (refused.0 (length_numbers Holds ds chunk index box))
-origin_refused ds chunk index (Memory e) box refused same = same
+-- the origin of a chunk that holds an index is refused for memory alone, whatever it is asked for
+pub origin_refused : {X : Type 0} (Found : X → Type 0) (Absent : Type 0) (ds : List Dimension) (chunk index : List ℕ)
+    (refusal : Refusal IncompatibleDimensionalityError) → InBox ds chunk index → AnswersOrigin ds chunk (Err refusal) → length index ≡ length ds
+    → Answers (length index) (length ds) Found Absent (Err refusal)
+origin_refused Found Absent ds chunk index (Refused e) box refused same = absurd (refused.0 (length_numbers Holds ds chunk index box))
+origin_refused Found Absent ds chunk index (Memory e) box refused same = same
+
+-- an index is known by its chunk and its place there
+pub same_index : (ds : List Dimension) (chunk one other place : List ℕ) → IsPlace ds chunk one place → IsPlace ds chunk other place → one ≡ other
+same_index [] [] [] [] [] first second = refl
+same_index (d ∷ ds) (c ∷ chunk) (i ∷ one) (j ∷ other) (p ∷ place) first second =
+    let here : i ≡ j = let one_is = first.0 in let other_is = second.0 in omega arith in
+    ap₂ (λ x xs. x ∷ xs) here (same_index ds chunk one other place first.1 second.1)
+same_index [] (_ ∷ _) one other place first second = absurd first
+same_index [] [] (_ ∷ _) other place first second = absurd first
+same_index [] [] [] (_ ∷ _) place first second = absurd second
+same_index [] [] [] [] (_ ∷ _) first second = absurd first
+same_index (_ ∷ _) [] one other place first second = absurd first
+same_index (_ ∷ _) (_ ∷ _) [] other place first second = absurd first
+same_index (_ ∷ _) (_ ∷ _) (_ ∷ _) other [] first second = absurd first
+same_index (_ ∷ _) (_ ∷ _) (_ ∷ _) [] (_ ∷ _) first second = absurd second

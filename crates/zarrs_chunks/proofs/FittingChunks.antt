@@ -1,5 +1,5 @@
 -- The chunks of a walk that have a box, and what is passed over.
-use Rattle.std.proofs.Common.{◌≡◌, ◌∙◌, ℕ, ◌+◌, ◌-◌, ◌&&◌, ◌<◌, ◌≤◌, Bool, true, false, cond, List, [], ◌∷◌, ◌++◌, length, length-append, map, nat_le, suc, Some, None, Ok, le-leb, leb-true, refl, ap, ap₂, sym, subst, ⊎_elim, true≢false, arith}
+use Rattle.std.proofs.Common.{◌≡◌, ◌∙◌, ℕ, ◌-◌, ◌&&◌, ◌<◌, ◌≤◌, Bool, true, false, cond, List, [], ◌∷◌, ◌++◌, length, length-append, map, nat_le, suc, Some, None, Ok, le-leb, leb-true, refl, ap, ap₂, sym, subst, ⊎_elim, true≢false, arith}
 use Rattle.std.proofs.lemmas.Bool.{cases_lt}
 use Rattle.std.specs.List.{AllByRecursion, filter}
 use Rattle.zarrs_chunk_base.specs.ArraySubset.{Box, ends}

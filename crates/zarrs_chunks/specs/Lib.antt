@@ -1,6 +1,7 @@
 pub mod Clipped
 pub mod GridKinds
 pub mod GridNames
+pub mod Located
 pub mod Subsets
 pub mod Walks
 pub mod lemmas

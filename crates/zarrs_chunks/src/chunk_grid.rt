@@ -315,7 +315,7 @@ pub trait ChunkGridTraits: Sized + Drop {
 }
 
 /// For each dimension how far behind the origin the index lies, in the origin's own memory.
-fn place_from(mut origin: ArrayIndices, indices: &[u64]) -> ArrayIndices
+pub(crate) fn place_from(mut origin: ArrayIndices, indices: &[u64]) -> ArrayIndices
     requires { length origin.items ≡ length indices.now }
     ensures length { length result.items ≡ length origin.items }
     ensures difference { (k : ℕ) → k < length result.items

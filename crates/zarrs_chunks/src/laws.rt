@@ -4,7 +4,8 @@
 ghost use Rattle.std.specs.Prelude.{◌≡◌, ◌≢◌, ◌↔◌, ◌⊎◌, ℕ, ◌<◌, IfErr, IfOk, IfSome, IsTrue, List, Some, length, map, option_map};
 ghost use Rattle.std.specs.List.{AllPairs, Contains};
 ghost use Rattle.zarrs_chunk_base.specs.ArraySubset.{Box, IsEmptyBox, IsInside};
-ghost use Rattle.zarrs_chunk_base.specs.Dimension.{Dimension, InBox};
+ghost use Rattle.zarrs_chunk_base.specs.Dimension.{Dimension, InBox, IsPlace};
+ghost use Rattle.zarrs_chunk_base.specs.Greatest.{AllFit};
 ghost use Rattle.zarrs_chunk_axes.specs.Listed.{IsListed};
 ghost use Rattle.zarrs_chunk_axes.specs.Bounded.{IsBounded};
 ghost use Rattle.zarrs_chunk_base.specs.Refusal.{IfRefused};
@@ -22,6 +23,7 @@ use std::alloc::Global;
 use zarrs_chunk_base::{
     ArrayIndices, ArraySubset, IncompatibleDimensionalityError, PluginCreateError, Refusal,
 };
+use zarrs_chunk_keys::ChunkKeyEncodingTraits;
 
 /// `chunk_indices` names a chunk just where that chunk's box holds the index.
 ///
@@ -88,6 +90,20 @@ pub fn the_box_of_chunks_is_the_union_of_their_boxes<G: ChunkGridTraits>(
     let _start = chunks.start();
     grid.chunks_subset(alloc, chunks)
 }
+
+/// The key and the place under which an element is stored determine the element's indices: what `locate` answers of two elements
+/// differs.
+pub fn key_and_place_determine_the_index<G: ChunkGridTraits, E: ChunkKeyEncodingTraits>(
+    grid: &G,
+    encoding: &E,
+)
+    ensures { (one other chunk other_chunk key place : List ℕ)
+        → AllFit chunk → AllFit other_chunk
+        → InBox (G.dimensions grid.now) chunk one → InBox (G.dimensions grid.now) other_chunk other
+        → E.is_key encoding.now chunk key → E.is_key encoding.now other_chunk key
+        → IsPlace (G.dimensions grid.now) chunk one place
+        → IsPlace (G.dimensions grid.now) other_chunk other place → one ≡ other }
+{}
 
 /// The walk over chunk numbers gives each list below the grid shape, once, and each after those that come before it.
 pub fn the_walk_gives_each_chunk_once<G: ChunkGridTraits>(

@@ -11,6 +11,7 @@
 //! grid.chunk_element_indices(alloc, &[3, 5, 50])?       // Some([0, 1, 2])
 //! grid.chunk_origin(alloc, &[3, 2, 16])?                // Some([3, 4, 48])
 //! grid.chunks_in_array_subset(alloc, &array_subset)?    // Some([0..2, 0..2, 1..3]), of [0..2, 1..3, 5..9]
+//! locate(alloc, &grid, &encoding, &[3, 5, 50])?         // Some: chunk [3, 2, 16], key c/3/2/16, element [0, 1, 2]
 //! for chunk in grid.iter_chunk_indices(alloc) { .. }    // Ok([0, 0, 0]), Ok([0, 0, 1]), .. Ok([4, 3, 17])
 //!
 //! let elements = vec![in alloc; RunLengthElement::Repeated([five, three]), RunLengthElement::Single(twenty)]?;
@@ -46,6 +47,7 @@
 //! | `chunk_grid::named` | a grid of any of these kinds, by its extension's name |
 //! | `chunk_grid::regular_create_error`, `rectangular_create_error`, `rectilinear_create_error` | why there is no such grid |
 //! | `laws` | what holds of every chunk grid |
+//! | `location` | `locate`: the key of an element's chunk, and its place there |
 //! | `walks` | the three walks over the chunks of a grid |
 //! | `chunk_grid::over_axes` | the calls of the four grids, over their lists of axes |
 //! | `chunk_grid::axis_bounds` | which indices are in bounds of a list of axes |
@@ -57,6 +59,7 @@
 
 mod chunk_grid;
 pub mod laws;
+mod location;
 mod walks;
 
 pub use chunk_grid::ChunkGridTraits;
@@ -68,6 +71,7 @@ pub use chunk_grid::rectilinear_create_error::RectilinearChunkGridCreateError;
 pub use chunk_grid::regular::RegularChunkGrid;
 pub use chunk_grid::regular_bounded::RegularBoundedChunkGrid;
 pub use chunk_grid::regular_create_error::RegularChunkGridCreateError;
+pub use location::{Located, locate};
 pub use walks::chunk_indices::ChunkIndices;
 pub use walks::chunk_indices_and_subsets::ChunkIndicesAndSubsets;
 pub use walks::chunk_subsets::ChunkSubsets;

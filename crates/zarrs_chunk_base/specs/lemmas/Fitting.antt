@@ -3,14 +3,14 @@ use Rattle.std.specs.Prelude.{◌≡◌, ℕ, true, false, List, is_some, MatchO
 use Rattle.std.specs.Option.{option_map_or}
 use Rattle.std.proofs.Common.{sym, ap, true≢false}
 use Rattle.serde_json.specs.Data.{Data, Members}
-use Rattle.serde_json.specs.Find.{get_member}
+use Rattle.serde_json.specs.Find.{as_str, get_member}
 use Rattle.std.specs.List.{AllByRecursion}
 use Rattle.zarrs_chunk_base.specs.declared.chunk_key_separator.ChunkKeySeparator.{ChunkKeySeparator}
-use Rattle.zarrs_chunk_base.specs.declared.chunk_key_separator.ChunkKeySeparator.TheVariants.{Slash}
+use Rattle.zarrs_chunk_base.specs.declared.chunk_key_separator.ChunkKeySeparator.TheVariants.{Slash, Dot}
 use Rattle.zarrs_chunk_base.specs.DimensionEdges.{DimensionEdges}
 use Rattle.zarrs_chunk_base.specs.GridConfigurations.{dimension_edges_of, inline_in, lengths_in, rectangular_table, rectangular_value, rectilinear_table, rectilinear_value, regular_table, regular_value}
 use Rattle.zarrs_chunk_base.specs.Json.{edge_of, list_of}
-use Rattle.zarrs_chunk_base.specs.KeyConfigurations.{default_table, default_value, separator_in}
+use Rattle.zarrs_chunk_base.specs.KeyConfigurations.{Suffixed, default_value, separator_in, separator_table, suffix_table, suffix_value, v2_value}
 use Rattle.zarrs_chunk_base.specs.RunLength.{EdgeLengths}
 use Rattle.zarrs_chunk_base.specs.Configuration.{IsFitting, optional, required, value_of, value_or}
 
@@ -63,5 +63,21 @@ rectilinear_fits members x is =
     let both = both_fit (codes "chunk_shapes") (codes "kind") (list_of lengths_in) inline_in members x is in
     (both.0, (both.1, tt))
 
-pub default_fits : (members : Members) (x : ChunkKeySeparator) → default_value members ≡ Some x → AllByRecursion (IsFitting members) default_table.members
+pub default_fits : (members : Members) (x : ChunkKeySeparator) → default_value members ≡ Some x → AllByRecursion (IsFitting members) separator_table.members
 default_fits members x is = (optional_fits Slash (codes "separator") separator_in members x is, tt)
+
+pub v2_fits : (members : Members) (x : ChunkKeySeparator) → v2_value members ≡ Some x → AllByRecursion (IsFitting members) separator_table.members
+v2_fits members x is = (optional_fits Dot (codes "separator") separator_in members x is, tt)
+
+made_of_both : {X Y Z : Type 0} (make : X → Y → Z) (first : Option X) (second : Option Y) (z : Z)
+    → option_and_then (λ x. option_map (λ y. make x y) second) first ≡ Some z → ((x : X) × (first ≡ Some x)) × ((y : Y) × (second ≡ Some y))
+made_of_both make None second z is = absurd (true≢false (sym (ap is_some is)))
+made_of_both make (Some x) None z is = absurd (true≢false (sym (ap is_some is)))
+made_of_both make (Some x) (Some y) z is = ((x, refl), (y, refl))
+
+pub suffix_fits : (members : Members) (x : Suffixed) → suffix_value members ≡ Some x → AllByRecursion (IsFitting members) suffix_table.members
+suffix_fits members x is =
+    let both = made_of_both (λ separator suffix. record { separator = separator; suffix = suffix }) (default_value members)
+    (value_of (codes "suffix") as_str members) x is
+    in
+    (optional_fits Slash (codes "separator") separator_in members both.0.0 both.0.1, (required_fits (codes "suffix") as_str members both.1.0 both.1.1, tt))

@@ -1,18 +1,13 @@
 //! The configuration of the `default` chunk key encoding.
-ghost use Rattle.std.specs.Prelude.{◌≡◌};
 ghost use Rattle.zarrs_chunk_base.specs.declared.chunk_key_separator.ChunkKeySeparator.{ChunkKeySeparator};
 ghost use Rattle.zarrs_chunk_base.specs.lemmas.Fitting.{default_fits};
-ghost use Rattle.zarrs_chunk_base.specs.KeyConfigurations.{default_members, default_table, default_value, separator_in, separator_tree};
+ghost use Rattle.zarrs_chunk_base.specs.KeyConfigurations.{default_value, separator_members, separator_table};
 
 use crate::json::configuration_form::{ConfigurationForm, MemberNames};
-use crate::json::members::optional_value;
-use crate::json::tree_form::TreeForm;
+use crate::json::separator_member::{SEPARATOR, separator_or, with_separator};
 use crate::{ChunkKeySeparator, Configuration, ConfigurationFault, Refusal};
-use serde_json::{Map, Value};
 use std::alloc::{AllocError, Global};
 use std::fmt;
-
-const SEPARATOR: &str = "separator";
 
 /// The configuration of the `default` chunk key encoding: `separator`, the text `/` or `.`, and `/` where it is absent.
 ///
@@ -46,11 +41,11 @@ impl ConfigurationForm for DefaultChunkKeyEncodingConfiguration {
 
     ghost seen = { λ c. c.separator };
 
-    ghost table = { default_table };
+    ghost table = { separator_table };
 
     ghost value = { default_value };
 
-    ghost written = { default_members };
+    ghost written = { separator_members };
 
     ghost in_order = { (tt, tt) };
 
@@ -68,50 +63,12 @@ impl ConfigurationForm for DefaultChunkKeyEncodingConfiguration {
         alloc: Global,
         members: &Configuration,
     ) -> Result<DefaultChunkKeyEncodingConfiguration, Refusal<ConfigurationFault>> {
-        let separator = optional_value(alloc, members, SEPARATOR)?;
-        Ok(DefaultChunkKeyEncodingConfiguration {
-            separator: separator.unwrap_or(ChunkKeySeparator::Slash),
-        })
+        let separator = separator_or(alloc, members, ChunkKeySeparator::Slash)?;
+        Ok(DefaultChunkKeyEncodingConfiguration { separator })
     }
 
     fn to_tree(&self, alloc: Global) -> Result<Configuration, AllocError> {
-        let mut members = Map::new(alloc);
-        serde_json::put(
-            &mut members,
-            alloc,
-            SEPARATOR,
-            self.separator.to_tree(alloc)?,
-        )?;
-        Ok(members)
-    }
-}
-
-/// The text `/` or `.`.
-impl TreeForm for ChunkKeySeparator {
-    ghost Seen = { ChunkKeySeparator };
-
-    ghost seen = { λ separator. separator };
-
-    ghost form = { separator_in };
-
-    ghost written = { separator_tree };
-
-    fn from_tree(_alloc: Global, tree: &Value) -> Result<Option<ChunkKeySeparator>, AllocError> {
-        Ok(match tree.as_str() {
-            Some("/") => Some(ChunkKeySeparator::Slash),
-            Some(".") => Some(ChunkKeySeparator::Dot),
-            _ => None,
-        })
-    }
-
-    fn to_tree(&self, alloc: Global) -> Result<Value, AllocError> {
-        Value::try_from_str(
-            alloc,
-            match self {
-                ChunkKeySeparator::Slash => "/",
-                ChunkKeySeparator::Dot => ".",
-            },
-        )
+        with_separator(alloc, self.separator)
     }
 }
 

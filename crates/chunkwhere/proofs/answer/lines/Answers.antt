@@ -1,6 +1,6 @@
 use Rattle.std.proofs.Common.{◌≢◌, ◌<◌, ◌≤◌, ◌+◌, drop, length, string_bytes, arith}
 use Rattle.std.proofs.lemmas.Result.{err_from_is_err_and}
-use Rattle.chunkwhere.specs.seen.DefaultChunkKeyEncoding.{encoding_of}
+use Rattle.zarrs_chunk_keys.specs.seen.Encodings.{encoding_in}
 use Rattle.zarrs_chunk_base.specs.Refusal.{TellsLengths}
 use Rattle.zarrs_chunk_base.specs.declared.incompatible_dimensionality_error.IncompatibleDimensionalityError.{IncompatibleDimensionalityError}
 use Rattle.chunkwhere.specs.Answer.{IsFirstWrongLength}
@@ -22,7 +22,7 @@ returns-in_err-map_err g c =
     let wrong : (e : IncompatibleDimensionalityError) → (length c.deref.result.now ≢ length dimensions) → TellsLengths (length c.deref.result.now) (length dimensions) e
     → IsFirstWrongLength dimensions all position e =
     λ e unequal tells.
-    wrong_length_is_first dimensions (encoding_of c.args.encoding.now) all _ position (string_bytes c.loop-position.text) index.items (drop (position + 1) all) e c.loop-position.invariant first
+    wrong_length_is_first dimensions (encoding_in c.args.encoding.now) all _ position (string_bytes c.loop-position.text) index.items (drop (position + 1) all) e c.loop-position.invariant first
     (rw c.deref.ensures.value at unequal) (rw c.deref.ensures.value at tells) in
     let p = err_from_is_err_and c.from_residual.result c.from_residual.ensures.1 in
     rw (p.1, p.2) (grind (arith, wrong))
@@ -35,7 +35,7 @@ loop-position-preserved g c =
     let first = rest_begins_with c.args.indices.now position index within c.index-indices-position.is in
     let (has_length, line, is_line, text) =
     rw c.deref.ensures.value at (value_is_kept _ _ _ _ _ _ c.append_line-appended.ensures c.map_err.ensures.cases c.map_err.ensures.variant c.in_ok-map_err.was) in
-    so_far_with_line (g.G.ChunkGridTraits.dimensions c.args.grid.now) (encoding_of c.args.encoding.now) (lists_of c.args.indices.now) _ position (string_bytes c.loop-position.text) index.items line
+    so_far_with_line (g.G.ChunkGridTraits.dimensions c.args.grid.now) (encoding_in c.args.encoding.now) (lists_of c.args.indices.now) _ position (string_bytes c.loop-position.text) index.items line
     (drop (position + 1) (lists_of c.args.indices.now)) (string_bytes c.append_line-appended.new.text) c.loop-position.invariant first has_length is_line text
 
 pub returns : goal.returns

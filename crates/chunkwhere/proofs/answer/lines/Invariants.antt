@@ -1,5 +1,5 @@
 use Rattle.std.proofs.Common.{drop, map, string_bytes}
-use Rattle.chunkwhere.specs.seen.DefaultChunkKeyEncoding.{encoding_of}
+use Rattle.zarrs_chunk_keys.specs.seen.Encodings.{encoding_in}
 use Rattle.chunkwhere.proofs.Lines.{IsSoFar}
 use Rattle.chunkwhere.proofs.answer.lines.Given as goal
 
@@ -7,4 +7,4 @@ use Rattle.chunkwhere.proofs.answer.lines.Given as goal
 abbrev pub invariant-loop-position : goal.invariant-loop-position
 invariant-loop-position g l =
     let all = map (λ index. index.items) l.indices in
-    IsSoFar (g.G.ChunkGridTraits.dimensions l.grid) (encoding_of l.encoding) all (drop l.position-counter all) l.position-counter (string_bytes l.text)
+    IsSoFar (g.G.ChunkGridTraits.dimensions l.grid) (encoding_in l.encoding) all (drop l.position-counter all) l.position-counter (string_bytes l.text)

@@ -1,5 +1,4 @@
-use Rattle.std.proofs.Common.{◌≡◌, ◌∙◌, ℕ, ◌<◌, ◌==◌, Bool, true, false, List, ◌∷◌, Result, Ok, Err, OnErr, length, replicate, refl, ap, subst, sym, rules, arith}
-use Rattle.std.specs.List.{list_any}
+use Rattle.std.proofs.Common.{◌≡◌, ◌∙◌, ◌<◌, Bool, ◌∷◌, Result, Ok, Err, OnErr, length, replicate, subst, sym, rules}
 use Rattle.std.specs.declared.alloc.AllocError.{AllocError}
 use Rattle.zarrs_chunk_axes.specs.InBounds.{AreBelow}
 use Rattle.zarrs_chunk_axes.specs.RowMajor.{row_major}

@@ -1,5 +1,5 @@
-use Rattle.std.proofs.Common.{◌≡◌, ◌∙◌, Some, None, Ok, true, ap, map, sym, subst, rules}
-use Rattle.zarrs_chunk_axes.specs.seen.RowMajorWalk.{IsAtList, Stands, numbers_at, shape_of}
+use Rattle.std.proofs.Common.{◌≡◌, ◌∙◌, Ok, true, ap, map, subst}
+use Rattle.zarrs_chunk_axes.specs.seen.RowMajorWalk.{IsAtList, numbers_at, shape_of}
 use Rattle.zarrs_chunks.specs.Subsets.{AnswersSubset, HasNoBox, Spans}
 use Rattle.zarrs_chunks.proofs.FittingChunks.{ComesBy, found_box, found_none, gives_box, passes}
 use Rattle.zarrs_chunks.proofs.walks.chunk_boxes.ChunkBoxes.step.Goals as goal

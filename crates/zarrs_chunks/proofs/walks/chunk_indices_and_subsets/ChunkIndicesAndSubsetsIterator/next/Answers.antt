@@ -1,6 +1,6 @@
-use Rattle.std.proofs.Common.{◌≡◌, ◌<◌, length, map, ap, rules, arith}
+use Rattle.std.proofs.Common.{◌<◌, length, map, ap, rules, arith}
 use Rattle.zarrs_chunks.specs.Walks.{box_at, boxed}
-use Rattle.zarrs_chunks.specs.seen.Walks.{AreChunksOfGrid, chunks_ahead}
+use Rattle.zarrs_chunks.specs.seen.Walks.{chunks_ahead}
 use Rattle.zarrs_chunks.proofs.walks.chunk_indices_and_subsets.ChunkIndicesAndSubsetsIterator.next.Goals as goal
 
 pub returns-in-Err-indices-clause-steps : goal.returns-in-Err-indices-clause-steps

@@ -1,0 +1,97 @@
+//! The configuration of the `zarrs.default_suffix` chunk key encoding.
+ghost use Rattle.std.specs.Prelude.{◌≡◌, refl, string_bytes};
+ghost use Rattle.zarrs_chunk_base.specs.lemmas.Fitting.{suffix_fits};
+ghost use Rattle.zarrs_chunk_base.specs.KeyConfigurations.{Suffixed, suffix_members, suffix_table, suffix_value};
+
+use crate::json::configuration_form::{ConfigurationForm, MemberNames};
+use crate::json::members::required_value;
+use crate::json::separator_member::{SEPARATOR, separator_or, with_separator};
+use crate::json::tree_form::TreeForm;
+use crate::{ChunkKeySeparator, Configuration, ConfigurationFault, Refusal};
+use serde_json::Value;
+use std::alloc::{AllocError, Global};
+
+const SUFFIX: &str = "suffix";
+
+/// The configuration of the `zarrs.default_suffix` chunk key encoding: `separator`, the text `/` or `.`, and `/` where it is
+/// absent; and `suffix`, the text at the end of each key.
+///
+/// ```json
+/// {"separator": "/", "suffix": ".tiff"}
+/// ```
+///
+/// Source: the extension `zarrs.default_suffix`.
+#[derive(Debug, Drop, PartialEq, Eq)]
+pub struct DefaultSuffixChunkKeyEncodingConfiguration {
+    /// What stands before each number of a key.
+    pub separator: ChunkKeySeparator,
+    /// What a key ends in.
+    pub suffix: String,
+}
+
+impl DefaultSuffixChunkKeyEncodingConfiguration {
+    ghost use Rattle.std.specs.Prelude.{◌≡◌, IfOk};
+    ghost use Rattle.zarrs_chunk_base.specs.KeyConfigurations.{suffixed_of};
+
+    /// A configuration with the same separator and an equal suffix.
+    ///
+    /// # Errors
+    /// There was no memory.
+    pub fn clone(&self) -> Result<DefaultSuffixChunkKeyEncodingConfiguration, AllocError>
+        ensures { IfOk result (λ copy. suffixed_of copy ≡ suffixed_of self.now) }
+    {
+        Ok(DefaultSuffixChunkKeyEncodingConfiguration {
+            separator: self.separator,
+            suffix: self.suffix.clone()?,
+        })
+    }
+
+    /// The members of the configuration as compact JSON, in the order of their names.
+    ///
+    /// # Errors
+    /// There was no memory.
+    pub fn to_text(&self, alloc: Global) -> Result<String, AllocError> {
+        Value::Object(self.to_tree(alloc)?).to_string(alloc)
+    }
+}
+
+impl ConfigurationForm for DefaultSuffixChunkKeyEncodingConfiguration {
+    ghost use Rattle.zarrs_chunk_base.specs.KeyConfigurations.{suffixed_of};
+
+    ghost Seen = { Suffixed };
+
+    ghost seen = { suffixed_of };
+
+    ghost table = { suffix_table };
+
+    ghost value = { suffix_value };
+
+    ghost written = { suffix_members };
+
+    ghost in_order = { ((refl, tt), (tt, tt)) };
+
+    ghost fitting = { suffix_fits };
+
+    fn names() -> MemberNames {
+        MemberNames {
+            known: &[SEPARATOR, SUFFIX],
+            required: &[SUFFIX],
+            expected: "`separator` or `suffix`",
+        }
+    }
+
+    fn from_members(
+        alloc: Global,
+        members: &Configuration,
+    ) -> Result<DefaultSuffixChunkKeyEncodingConfiguration, Refusal<ConfigurationFault>> {
+        let separator = separator_or(alloc, members, ChunkKeySeparator::Slash)?;
+        let suffix = required_value(alloc, members, SUFFIX)?;
+        Ok(DefaultSuffixChunkKeyEncodingConfiguration { separator, suffix })
+    }
+
+    fn to_tree(&self, alloc: Global) -> Result<Configuration, AllocError> {
+        let mut members = with_separator(alloc, self.separator)?;
+        serde_json::put(&mut members, alloc, SUFFIX, self.suffix.to_tree(alloc)?)?;
+        Ok(members)
+    }
+}

@@ -1,0 +1,79 @@
+//! The configuration of the `v2` chunk key encoding.
+ghost use Rattle.zarrs_chunk_base.specs.declared.chunk_key_separator.ChunkKeySeparator.{ChunkKeySeparator};
+ghost use Rattle.zarrs_chunk_base.specs.lemmas.Fitting.{v2_fits};
+ghost use Rattle.zarrs_chunk_base.specs.KeyConfigurations.{separator_members, separator_table, v2_value};
+
+use crate::json::configuration_form::{ConfigurationForm, MemberNames};
+use crate::json::separator_member::{SEPARATOR, separator_or, with_separator};
+use crate::{ChunkKeySeparator, Configuration, ConfigurationFault, Refusal};
+use std::alloc::{AllocError, Global};
+use std::fmt;
+
+/// The configuration of the `v2` chunk key encoding: `separator`, the text `/` or `.`, and `.` where it is absent.
+///
+/// ```json
+/// {"separator": "."}
+/// ```
+///
+/// Source: Zarr V3 core, v2 chunk key encoding.
+#[derive(Clone, Copy, Debug, PartialEq, Eq)]
+pub struct V2ChunkKeyEncodingConfiguration {
+    /// What stands between the numbers of a key.
+    pub separator: ChunkKeySeparator,
+}
+
+impl V2ChunkKeyEncodingConfiguration {
+    ghost use Rattle.std.specs.Prelude.{◌≡◌, IfOk};
+
+    /// The same configuration.
+    ///
+    /// # Errors
+    /// None comes: the answer is that of every configuration's `clone`.
+    pub fn clone(&self) -> Result<V2ChunkKeyEncodingConfiguration, AllocError>
+        ensures { IfOk result (λ copy. copy ≡ self.now) }
+    {
+        Ok(*self)
+    }
+}
+
+impl ConfigurationForm for V2ChunkKeyEncodingConfiguration {
+    ghost Seen = { ChunkKeySeparator };
+
+    ghost seen = { λ c. c.separator };
+
+    ghost table = { separator_table };
+
+    ghost value = { v2_value };
+
+    ghost written = { separator_members };
+
+    ghost in_order = { (tt, tt) };
+
+    ghost fitting = { v2_fits };
+
+    fn names() -> MemberNames {
+        MemberNames {
+            known: &[SEPARATOR],
+            required: &[],
+            expected: "`separator`",
+        }
+    }
+
+    fn from_members(
+        alloc: Global,
+        members: &Configuration,
+    ) -> Result<V2ChunkKeyEncodingConfiguration, Refusal<ConfigurationFault>> {
+        let separator = separator_or(alloc, members, ChunkKeySeparator::Dot)?;
+        Ok(V2ChunkKeyEncodingConfiguration { separator })
+    }
+
+    fn to_tree(&self, alloc: Global) -> Result<Configuration, AllocError> {
+        with_separator(alloc, self.separator)
+    }
+}
+
+impl fmt::Display for V2ChunkKeyEncodingConfiguration {
+    fn fmt<W: fmt::Write>(&self, f: &mut fmt::Formatter<W>) -> fmt::Result {
+        write!(f, "{{\"separator\":\"{}\"}}", self.separator.as_char())
+    }
+}

@@ -1,0 +1,4 @@
+pub mod KeyEnds
+pub mod KeyNames
+pub mod Keys
+pub mod NumeralLemmas

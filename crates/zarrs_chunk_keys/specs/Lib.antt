@@ -1,0 +1,6 @@
+pub mod ChunkKey
+pub mod KeyKinds
+pub mod KeyNames
+pub mod Numeral
+pub mod lemmas
+pub mod seen

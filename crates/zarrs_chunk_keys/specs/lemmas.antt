@@ -1,0 +1,3 @@
+pub mod ExactKeys
+pub mod Numerals
+pub mod Parts

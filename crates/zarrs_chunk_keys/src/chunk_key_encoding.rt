@@ -1,0 +1,45 @@
+//! What every chunk key encoding answers.
+pub(crate) mod default;
+pub(crate) mod default_suffix;
+pub(crate) mod named;
+pub(crate) mod v2;
+
+ghost use Rattle.std.specs.Prelude.{◌≡◌, ℕ, IfOk, List, length};
+ghost use Rattle.zarrs_chunk_base.specs.Greatest.{AllFit};
+
+use std::alloc::{AllocError, Global};
+use zarrs_chunk_base::{Configuration, MetadataV3, PluginCreateError, Refusal, StoreKey};
+
+/// A chunk key encoding: under which key each chunk of an array is stored.
+///
+/// Source: Zarr V3 core, chunk key encodings.
+pub trait ChunkKeyEncodingTraits: Sized + Drop {
+    /// What the encoding's value means: which bytes are a key of which chunk.
+    ghost is_key: { Self → List ℕ → List ℕ → Type 0 };
+
+    /// The encoding that the configuration in an extension's metadata says. An absent configuration counts as one without
+    /// members. An encoding of one kind doesn't look at the extension's name.
+    ///
+    /// # Errors
+    /// The first that applies: an encoding of several kinds knows no such name (`NameUnsupported`); the configuration isn't
+    /// of its form (`ConfigurationUnsupported`); the encoding doesn't accept it (`Other`). Or there was no memory.
+    fn create(alloc: Global, metadata: &MetadataV3) -> Result<Self, Refusal<PluginCreateError>>;
+
+    /// The configuration of the encoding: what the member `configuration` of its metadata is.
+    ///
+    /// # Errors
+    /// There was no memory.
+    fn configuration(&self, alloc: Global) -> Result<Configuration, AllocError>;
+
+    /// The key of a chunk, of which the numbers are given, one a dimension.
+    ///
+    /// # Errors
+    /// There was no memory.
+    fn encode(&self, alloc: Global, chunk_indices: &[u64]) -> Result<StoreKey, AllocError>
+        ensures { IfOk result (is_key self.now chunk_indices.now) };
+
+    /// Equal keys of equally long lists of 64-bit numbers come from equal lists.
+    ghost exact: { (encoding : Self) (chunk other key : List ℕ) → AllFit chunk → AllFit other
+        → length chunk ≡ length other → is_key encoding chunk key → is_key encoding other key
+        → chunk ≡ other };
+}

@@ -1,0 +1,181 @@
+//! A chunk key encoding of any of the kinds, chosen by its extension's name.
+ghost use Rattle.std.specs.Prelude.{◌≡◌, ◌++◌, ℕ, IfOk, List, MatchResult, OnOk, string_bytes};
+ghost use Rattle.serde_json.specs.View.{members_view};
+ghost use Rattle.zarrs_chunk_base.specs.Metadata.{extension_of};
+ghost use Rattle.zarrs_chunk_base.specs.Refusal.{IfRefused};
+ghost use Rattle.zarrs_chunk_keys.specs.ChunkKey.{IsKey};
+ghost use Rattle.zarrs_chunk_keys.specs.KeyNames.{IsEncoding, IsEncodingFault, IsItsConfiguration, IsMetadata, name_of};
+ghost use Rattle.zarrs_chunk_keys.specs.declared.chunk_key_encoding.named.ChunkKeyEncoding.TheVariants.{Default, DefaultSuffix, V2};
+ghost use Rattle.zarrs_chunk_keys.specs.lemmas.ExactKeys.{exact};
+ghost use Rattle.zarrs_chunk_keys.specs.seen.Encodings.{encoding_in};
+
+use crate::ChunkKeyEncodingTraits;
+use crate::chunk_key_encoding::default::DefaultChunkKeyEncoding;
+use crate::chunk_key_encoding::default_suffix::DefaultSuffixChunkKeyEncoding;
+use crate::chunk_key_encoding::v2::V2ChunkKeyEncoding;
+use std::alloc::{AllocError, Global};
+use zarrs_chunk_base::{Configuration, MetadataV3, PluginCreateError, Refusal, StoreKey};
+
+const DEFAULT: &str = "default";
+
+const V2: &str = "v2";
+
+const DEFAULT_SUFFIX: &str = "zarrs.default_suffix";
+
+/// A chunk key encoding of any of the library's kinds. It answers every call as the encoding inside it.
+///
+/// Sources: Zarr V3 core, chunk key encodings; the extension `zarrs.default_suffix`.
+#[derive(Debug, Drop)]
+pub enum ChunkKeyEncoding {
+    /// The extension `default`.
+    Default(DefaultChunkKeyEncoding),
+    /// The extension `v2`.
+    V2(V2ChunkKeyEncoding),
+    /// The extension `zarrs.default_suffix`.
+    DefaultSuffix(DefaultSuffixChunkKeyEncoding),
+}
+
+/// What the encoding inside answers.
+macro_rules! inside {
+    ($any:expr, $encoding:ident => $answer:expr) => {
+        match $any {
+            ChunkKeyEncoding::Default($encoding) => $answer,
+            ChunkKeyEncoding::V2($encoding) => $answer,
+            ChunkKeyEncoding::DefaultSuffix($encoding) => $answer,
+        }
+    };
+}
+
+impl ChunkKeyEncoding {
+    /// The encoding that an extension's metadata stands for. An absent configuration counts as one without members.
+    ///
+    /// # Errors
+    /// The first that applies: the name is none of a chunk key encoding; the configuration isn't of the form of its kind;
+    /// the encoding doesn't accept it. Or there was no memory.
+    pub fn from_metadata(
+        alloc: Global,
+        metadata: &MetadataV3,
+    ) -> Result<ChunkKeyEncoding, Refusal<PluginCreateError>>
+        ensures { MatchResult result
+            (λ encoding. IsEncoding (extension_of metadata.now) (encoding_in encoding))
+            (λ refusal. IfRefused refusal (IsEncodingFault (extension_of metadata.now))) }
+    {
+        match metadata.name() {
+            DEFAULT => Ok(ChunkKeyEncoding::Default(DefaultChunkKeyEncoding::create(
+                alloc, metadata,
+            )?)),
+            V2 => Ok(ChunkKeyEncoding::V2(V2ChunkKeyEncoding::create(alloc, metadata)?)),
+            DEFAULT_SUFFIX => Ok(ChunkKeyEncoding::DefaultSuffix(
+                DefaultSuffixChunkKeyEncoding::create(alloc, metadata)?,
+            )),
+            name => Err(Refusal::Refused(PluginCreateError::NameUnsupported(String::from_str(
+                alloc, name,
+            )?))),
+        }
+    }
+
+    /// The metadata of the encoding: its extension's name, and its configuration.
+    ///
+    /// # Errors
+    /// There was no memory.
+    pub fn metadata(&self, alloc: Global) -> Result<MetadataV3, AllocError>
+        ensures { IfOk result (λ metadata. IsMetadata (encoding_in self.now)
+            (extension_of metadata)) }
+    {
+        let name = String::from_str(alloc, self.name())?;
+        let configuration = self.configuration(alloc)?;
+        Ok(MetadataV3::new(name, Some(configuration)))
+    }
+
+    /// The same encoding.
+    ///
+    /// # Errors
+    /// There was no memory.
+    pub fn clone(&self) -> Result<ChunkKeyEncoding, AllocError>
+        ensures { IfOk result (λ copy. encoding_in copy ≡ encoding_in self.now) }
+    {
+        Ok(match self {
+            ChunkKeyEncoding::Default(encoding) => ChunkKeyEncoding::Default(encoding.clone()?),
+            ChunkKeyEncoding::V2(encoding) => ChunkKeyEncoding::V2(encoding.clone()?),
+            ChunkKeyEncoding::DefaultSuffix(encoding) => {
+                ChunkKeyEncoding::DefaultSuffix(encoding.clone()?)
+            }
+        })
+    }
+
+    /// Appends the key of a chunk to a text, for callers that write many.
+    ///
+    /// # Errors
+    /// There was no memory; the text then ends in a beginning of the key.
+    pub fn append_key(&self, text: &mut String, chunk_indices: &[u64]) -> Result<(), AllocError>
+        ensures { OnOk result ((key : List ℕ)
+            × IsKey (encoding_in self.now) chunk_indices.now key
+            × (string_bytes text.new ≡ string_bytes text.old ++ key)) }
+    {
+        inside!(self, encoding => encoding.append_key(text, chunk_indices))
+    }
+
+    /// The extension's name.
+    fn name(&self) -> &'static str
+        ensures { result.now ≡ name_of (encoding_in self.now) }
+    {
+        match self {
+            ChunkKeyEncoding::Default(_) => DEFAULT,
+            ChunkKeyEncoding::V2(_) => V2,
+            ChunkKeyEncoding::DefaultSuffix(_) => DEFAULT_SUFFIX,
+        }
+    }
+}
+
+impl ChunkKeyEncodingTraits for ChunkKeyEncoding {
+    ghost is_key = { λ encoding. IsKey (encoding_in encoding) };
+
+    ghost exact = { λ encoding chunk other key fit other_fit same is also.
+        exact (encoding_in encoding) chunk other key same is also };
+
+    fn create(
+        alloc: Global,
+        metadata: &MetadataV3,
+    ) -> Result<ChunkKeyEncoding, Refusal<PluginCreateError>>
+        ensures { MatchResult result
+            (λ encoding. IsEncoding (extension_of metadata.now) (encoding_in encoding))
+            (λ refusal. IfRefused refusal (IsEncodingFault (extension_of metadata.now))) }
+    {
+        ChunkKeyEncoding::from_metadata(alloc, metadata)
+    }
+
+    fn configuration(&self, alloc: Global) -> Result<Configuration, AllocError>
+        ensures { IfOk result (λ c. IsItsConfiguration (encoding_in self.now)
+            (members_view c.entries)) }
+    {
+        inside!(self, encoding => encoding.configuration(alloc))
+    }
+
+    fn encode(&self, alloc: Global, chunk_indices: &[u64]) -> Result<StoreKey, AllocError> {
+        inside!(self, encoding => encoding.encode(alloc, chunk_indices))
+    }
+}
+
+impl From<DefaultChunkKeyEncoding> for ChunkKeyEncoding {
+    ghost from_gives = { λ encoding any. any ≡ Default encoding };
+
+    fn from(encoding: DefaultChunkKeyEncoding) -> ChunkKeyEncoding {
+        ChunkKeyEncoding::Default(encoding)
+    }
+}
+
+impl From<V2ChunkKeyEncoding> for ChunkKeyEncoding {
+    ghost from_gives = { λ encoding any. any ≡ V2 encoding };
+
+    fn from(encoding: V2ChunkKeyEncoding) -> ChunkKeyEncoding {
+        ChunkKeyEncoding::V2(encoding)
+    }
+}
+
+impl From<DefaultSuffixChunkKeyEncoding> for ChunkKeyEncoding {
+    ghost from_gives = { λ encoding any. any ≡ DefaultSuffix encoding };
+
+    fn from(encoding: DefaultSuffixChunkKeyEncoding) -> ChunkKeyEncoding {
+        ChunkKeyEncoding::DefaultSuffix(encoding)
+    }
+}

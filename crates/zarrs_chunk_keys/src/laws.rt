@@ -1,0 +1,36 @@
+//! What holds of the library's chunk key encodings. What every encoding has to prove, also one of another crate, is the law of
+//! [`ChunkKeyEncodingTraits`](crate::ChunkKeyEncodingTraits).
+ghost use Rattle.std.specs.Prelude.{◌≡◌, ℕ, IfErr, IfOk, List};
+ghost use Rattle.zarrs_chunk_base.specs.declared.chunk_key_separator.ChunkKeySeparator.{ChunkKeySeparator};
+ghost use Rattle.zarrs_chunk_base.specs.Refusal.{IfRefused};
+ghost use Rattle.zarrs_chunk_keys.specs.ChunkKey.{IsKey, default_keys, suffixed_keys};
+ghost use Rattle.zarrs_chunk_keys.specs.seen.Encodings.{encoding_in};
+
+use crate::ChunkKeyEncoding;
+use std::alloc::Global;
+use zarrs_chunk_base::{PluginCreateError, Refusal};
+
+/// A key of the `default` encoding, with or without a suffix, is that of one list of numbers, of whatever length.
+pub fn a_default_key_names_one_chunk()
+    ensures default { (separator : ChunkKeySeparator) (chunk other key : List ℕ)
+        → IsKey (default_keys separator) chunk key → IsKey (default_keys separator) other key
+        → chunk ≡ other }
+    ensures suffixed { (separator : ChunkKeySeparator) (suffix chunk other key : List ℕ)
+        → IsKey (suffixed_keys separator suffix) chunk key
+        → IsKey (suffixed_keys separator suffix) other key → chunk ≡ other }
+{}
+
+/// An encoding is made again of its metadata.
+///
+/// # Errors
+/// There was no memory.
+pub fn an_encoding_is_made_again_of_its_metadata(
+    alloc: Global,
+    encoding: &ChunkKeyEncoding,
+) -> Result<ChunkKeyEncoding, Refusal<PluginCreateError>>
+    ensures accepted { IfErr result (λ refusal. IfRefused refusal (λ _. ⊥)) }
+    ensures same { IfOk result (λ again. encoding_in again ≡ encoding_in encoding.now) }
+{
+    let metadata = encoding.metadata(alloc)?;
+    ChunkKeyEncoding::from_metadata(alloc, &metadata)
+}

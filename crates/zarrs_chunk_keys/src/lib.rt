@@ -1,0 +1,38 @@
+//! Chunk key encodings: under which key each chunk of an array is stored.
+//!
+//! [`ChunkKeyEncodingTraits`] says what every encoding answers, and proves that equal keys of equally long lists of chunk
+//! numbers come from equal lists. Every call that takes memory, save `clone`, is passed the allocator; each can answer that
+//! there is none.
+//!
+//! ```text
+//! DefaultChunkKeyEncoding::new_slash().encode(alloc, &[3, 2, 16])?      // c/3/2/16
+//! V2ChunkKeyEncoding::new_dot().encode(alloc, &[3, 2, 16])?             // 3.2.16
+//! let encoding = DefaultSuffixChunkKeyEncoding::new(ChunkKeySeparator::Dot, suffix)?;    // ".tiff"
+//! encoding.encode(alloc, &[3, 2, 16])?                                  // c.3.2.16.tiff
+//!
+//! let encoding = ChunkKeyEncoding::from_metadata(alloc, &metadata)?;    // by the extension's name
+//! encoding.append_key(&mut text, &[3, 2, 16])?;                         // behind what stands in the text
+//! ```
+//!
+//! | Module | What it holds |
+//! |---|---|
+//! | `chunk_key_encoding` | the trait of all encodings |
+//! | `chunk_key_encoding::default`, `v2`, `default_suffix` | the encodings |
+//! | `chunk_key_encoding::named` | an encoding of any of these kinds, by its extension's name |
+//! | `chunk_key_suffix_error` | a text that is no suffix |
+//! | `numerals` | numbers as decimal text |
+//! | `laws` | what holds of the encodings |
+#![tactic(auto)]
+
+mod chunk_key_encoding;
+mod chunk_key_suffix_error;
+pub mod laws;
+mod numerals;
+
+pub use chunk_key_encoding::ChunkKeyEncodingTraits;
+pub use chunk_key_encoding::default::DefaultChunkKeyEncoding;
+pub use chunk_key_encoding::default_suffix::DefaultSuffixChunkKeyEncoding;
+pub use chunk_key_encoding::named::ChunkKeyEncoding;
+pub use chunk_key_encoding::v2::V2ChunkKeyEncoding;
+pub use chunk_key_suffix_error::ChunkKeySuffixError;
+pub use numerals::append_numerals;

@@ -1,0 +1,145 @@
+//! Chunk key encodings and `locate`: that each call and each law succeeds with ample memory, keys of many dimensions, and an
+//! encoding from outside.
+mod versioned;
+
+use crate::grids::edges;
+use serde_json::Value;
+use std::alloc::{AllocError, Global};
+use std::process::Abort;
+use std::test::Fail;
+use versioned::Versioned;
+use zarrs_chunk_base::{ChunkKeySeparator, MetadataV3};
+use zarrs_chunk_keys::laws::{
+    a_default_key_names_one_chunk, an_encoding_is_made_again_of_its_metadata,
+};
+use zarrs_chunk_keys::{
+    ChunkKeyEncoding, ChunkKeyEncodingTraits, ChunkKeySuffixError, DefaultChunkKeyEncoding,
+    DefaultSuffixChunkKeyEncoding, V2ChunkKeyEncoding,
+};
+use zarrs_chunks::laws::key_and_place_determine_the_index;
+use zarrs_chunks::{RegularChunkGrid, locate};
+
+/// A row of encodings: an encoding, its key of the chunk `[1, 23]`, and its name.
+type Row = (ChunkKeyEncoding, &'static str, &'static str);
+
+/// The encoding with a suffix that isn't refused.
+fn suffixed(
+    alloc: Global,
+    separator: ChunkKeySeparator,
+    suffix: &str,
+) -> Result<DefaultSuffixChunkKeyEncoding, Fail> {
+    match DefaultSuffixChunkKeyEncoding::new(separator, String::from_str(alloc, suffix)?) {
+        Ok(encoding) => Ok(encoding),
+        Err(_) => Err("the suffix is refused".into()),
+    }
+}
+
+/// The key of a chunk is this text, and is appended as such.
+fn check_key(
+    rt: &(impl Abort + AllocGlobal),
+    encoding: &ChunkKeyEncoding,
+    key: &str,
+) -> Result<(), AllocError> {
+    let encoded = encoding.encode(rt.alloc(), &[1, 23])?;
+    assert_eq!(rt; encoded.as_str(), key);
+    let mut text = String::from_str(rt.alloc(), "key ")?;
+    encoding.append_key(&mut text, &[1, 23])?;
+    assert!(rt;
+        text.as_str().strip_prefix("key ") == Some(key),
+        "{text} for {key}"
+    );
+    Ok(())
+}
+
+#[test]
+fn encodings_of_each_kind_are_asked(rt: HostRuntime) -> Result<(), Fail> {
+    let alloc = rt.alloc();
+    let dot = ChunkKeySeparator::Dot;
+    let slash = ChunkKeySeparator::Slash;
+    let suffix = "zarrs.default_suffix";
+    let rows: [Row; 9] = [
+        (
+            DefaultChunkKeyEncoding::new(dot).into(),
+            "c.1.23",
+            "default",
+        ),
+        (
+            DefaultChunkKeyEncoding::new_dot().into(),
+            "c.1.23",
+            "default",
+        ),
+        (
+            DefaultChunkKeyEncoding::new_slash().into(),
+            "c/1/23",
+            "default",
+        ),
+        (
+            DefaultChunkKeyEncoding::default().into(),
+            "c/1/23",
+            "default",
+        ),
+        (V2ChunkKeyEncoding::new(slash).into(), "1/23", "v2"),
+        (V2ChunkKeyEncoding::new_dot().into(), "1.23", "v2"),
+        (V2ChunkKeyEncoding::new_slash().into(), "1/23", "v2"),
+        (V2ChunkKeyEncoding::default().into(), "1.23", "v2"),
+        (suffixed(alloc, dot, ".x")?.into(), "c.1.23.x", suffix),
+    ];
+    for (encoding, key, name) in &rows {
+        check_key(&rt, encoding, key)?;
+        check_key(&rt, &encoding.clone()?, key)?;
+        let again = an_encoding_is_made_again_of_its_metadata(alloc, encoding)?;
+        check_key(&rt, &again, key)?;
+        assert_eq!(rt; again.metadata(alloc)?.name(), *name);
+    }
+    a_default_key_names_one_chunk();
+    Ok(())
+}
+
+#[test]
+fn a_suffix_that_ends_in_a_slash_is_handed_back(rt: HostRuntime) -> Result<(), Fail> {
+    let suffix = String::from_str(rt.alloc(), "x/")?;
+    match DefaultSuffixChunkKeyEncoding::new(ChunkKeySeparator::Dot, suffix) {
+        Ok(_) => Err("the suffix is accepted".into()),
+        Err(error) => {
+            let ChunkKeySuffixError(text) = error.clone()?;
+            assert_eq!(rt; text.as_str(), "x/");
+            let text = error.to_string(rt.alloc())?;
+            assert_eq!(rt; text.as_str(), "chunk key suffix must not end with a slash");
+            Ok(())
+        }
+    }
+}
+
+#[test]
+fn keys_of_a_thousand_dimensions_are_written(rt: HostRuntime) -> Result<(), Fail> {
+    let chunk = vec![in rt.alloc(); u64::MAX; 1000]?;
+    let encoding = suffixed(rt.alloc(), ChunkKeySeparator::Slash, ".x")?.clone()?;
+    let key = encoding.encode(rt.alloc(), &chunk)?;
+    assert_eq!(rt; key.as_str().len(), 21003);
+    let key = V2ChunkKeyEncoding::new_dot()
+        .clone()?
+        .encode(rt.alloc(), &chunk)?;
+    assert_eq!(rt; key.as_str().len(), 20999);
+    let key = DefaultChunkKeyEncoding::new_dot()
+        .clone()?
+        .encode(rt.alloc(), &chunk)?;
+    assert_eq!(rt; key.as_str().len(), 21001);
+    Ok(())
+}
+
+#[test]
+fn an_encoding_from_outside_is_asked(rt: HostRuntime) -> Result<(), Fail> {
+    let alloc = rt.alloc();
+    let tree = Value::from_slice(alloc, br#"{"name":"x","configuration":{"separator":"."}}"#)?;
+    let metadata = MetadataV3::from_tree(alloc, &tree)?;
+    let encoding = Versioned::<DefaultChunkKeyEncoding>::create(alloc, &metadata)?;
+    let _configuration = encoding.configuration(alloc)?;
+    let array_shape = [5, 7, 52].to_vec(alloc)?;
+    let grid = RegularChunkGrid::new(alloc, array_shape, edges(alloc, &[1, 2, 3])?)?;
+    let located = locate(alloc, &grid, &encoding, &[3, 5, 50])?.ok_or("no chunk")?;
+    assert_eq!(rt; located.chunk.as_slice(), [3, 2, 16].as_slice());
+    assert_eq!(rt; located.key.as_str(), "c.3.2.16.v1");
+    assert_eq!(rt; located.element.as_slice(), [0, 1, 2].as_slice());
+    key_and_place_determine_the_index(&grid, &encoding);
+    Ok(())
+}

@@ -1,0 +1,41 @@
+//! A chunk key encoding that is none of the library's.
+
+use std::alloc::{AllocError, Global};
+use zarrs_chunk_base::{Configuration, MetadataV3, PluginCreateError, Refusal, StoreKey};
+use zarrs_chunk_keys::ChunkKeyEncodingTraits;
+
+/// The keys of another encoding, each with a version behind it.
+#[derive(Drop)]
+pub(super) struct Versioned<E: ChunkKeyEncodingTraits>(pub(super) E);
+
+impl<E: ChunkKeyEncodingTraits> ChunkKeyEncodingTraits for Versioned<E> {
+    ghost use Rattle.zarrs_chunk_tests.specs.Versioned.{IsVersioned, versioned_exact};
+
+    ghost is_key = { λ encoding. IsVersioned (E.is_key encoding.0) };
+
+    ghost exact = { λ encoding chunk other key fit other_fit same.
+        versioned_exact (E.is_key encoding.0) chunk other key
+        (λ front. E.exact encoding.0 chunk other front fit other_fit same) };
+
+    fn create(
+        alloc: Global,
+        metadata: &MetadataV3,
+    ) -> Result<Versioned<E>, Refusal<PluginCreateError>> {
+        Ok(Versioned(E::create(alloc, metadata)?))
+    }
+
+    fn configuration(&self, alloc: Global) -> Result<Configuration, AllocError> {
+        self.0.configuration(alloc)
+    }
+
+    fn encode(&self, alloc: Global, chunk_indices: &[u64]) -> Result<StoreKey, AllocError> {
+        let key = self.0.encode(alloc, chunk_indices)?;
+        let mut text = String::from_str(alloc, key.as_str())?;
+        text.push_str(".v1")?;
+        match StoreKey::new(text) {
+            Ok(key) => Ok(key),
+            // Never: the text ends in a digit.
+            Err(_) => Err(AllocError),
+        }
+    }
+}

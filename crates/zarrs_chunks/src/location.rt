@@ -1,0 +1,52 @@
+//! Where an element is stored: the key of its chunk, and its place in the chunk.
+ghost use Rattle.std.specs.Prelude.{length};
+ghost use Rattle.zarrs_chunk_base.specs.Refusal.{Answers};
+ghost use Rattle.zarrs_chunks.specs.Located.{IsLocated};
+ghost use Rattle.zarrs_chunks.specs.Subsets.{HasNoHome};
+
+use crate::ChunkGridTraits;
+use crate::chunk_grid::place_from;
+use std::alloc::Global;
+use zarrs_chunk_base::{ArrayIndices, IncompatibleDimensionalityError, Refusal, StoreKey};
+use zarrs_chunk_keys::ChunkKeyEncodingTraits;
+
+/// Where an element is stored.
+#[derive(Debug, Drop)]
+pub struct Located {
+    /// The numbers of the chunk that holds the element.
+    pub chunk: ArrayIndices,
+    /// The key under which the chunk is stored.
+    pub key: StoreKey,
+    /// The element's place in the chunk, counted from the chunk's first element.
+    pub element: ArrayIndices,
+}
+
+/// Where the element at these indices is stored; `None` where no chunk holds it. The chunk and its origin are looked up once.
+///
+/// # Errors
+/// The list has another length than the grid has dimensions, or there was no memory.
+pub fn locate<G: ChunkGridTraits, E: ChunkKeyEncodingTraits>(
+    alloc: Global,
+    grid: &G,
+    encoding: &E,
+    array_indices: &[u64],
+) -> Result<Option<Located>, Refusal<IncompatibleDimensionalityError>>
+    ensures { Answers (length array_indices.now) (length (G.dimensions grid.now))
+        (IsLocated (G.dimensions grid.now) (E.is_key encoding.now) array_indices.now)
+        (HasNoHome (G.dimensions grid.now) array_indices.now) result }
+{
+    let Some(chunk) = grid.chunk_indices(alloc, array_indices)? else {
+        return Ok(None);
+    };
+    let Some(origin) = grid.chunk_origin(alloc, &chunk)? else {
+        // Never: a chunk that holds an element starts before it.
+        return Ok(None);
+    };
+    let element = place_from(origin, array_indices);
+    let key = encoding.encode(alloc, &chunk)?;
+    Ok(Some(Located {
+        chunk,
+        key,
+        element,
+    }))
+}
