@@ -34,7 +34,7 @@ module _ {G : Type 0} (dimensions : G → List Dimension) where
   StepsTo old (Ok (Some b)) new =
       (boxed_left old ≡ numbers_at new.walk ∷ boxed_left new) × (b ≡ box_at (dimensions old.grid.now) (numbers_at new.walk))
       × (length (chunks_ahead new) < length (chunks_ahead old))
-  StepsTo old (Ok None) new = (boxed_left old ≡ []) × (boxed_left new ≡ [])
+  StepsTo old (Ok None) new = (boxed_left old ≡ []) × (chunks_ahead new ≡ [])
   StepsTo old (Err _) new = (chunks_ahead old ≢ []) × (chunks_ahead new ≡ [])
 
   -- a walk over boxes, or over chunks and boxes, goes through the chunks that its grid counts

@@ -1,5 +1,5 @@
 //! The walk over chunks that have a box, which stands under the two walks that give boxes.
-ghost use Rattle.std.specs.Prelude.{◌≡◌, ◌∷◌, IfOk, List, OnErr, OnOk, []};
+ghost use Rattle.std.specs.Prelude.{◌≡◌, IfOk, OnErr, OnOk, []};
 
 use crate::ChunkGridTraits;
 use std::alloc::{AllocError, Global};
@@ -15,7 +15,6 @@ pub(crate) struct ChunkBoxes<'a, G> {
 }
 
 impl<'a, G: ChunkGridTraits> ChunkBoxes<'a, G> {
-    ghost use Rattle.zarrs_chunk_axes.specs.RowMajor.{NeedsMemory};
     ghost use Rattle.zarrs_chunk_axes.specs.seen.RowMajorWalk.{numbers_at};
     ghost use Rattle.zarrs_chunks.specs.Walks.{chunks_of};
     ghost use Rattle.zarrs_chunks.specs.seen.Walks.{IsOverGrid, StepsTo, chunks_ahead};

@@ -34,8 +34,7 @@ impl Iterator for ChunkIndices<'_> {
 
     type Item = Result<ArrayIndicesTinyVec, AllocError>;
 
-    ghost next_gives = { Gives chunks_left (λ chunk. chunk.items)
-        (λ walk. NeedsMemory (chunks_left walk)) };
+    ghost next_gives = { Gives chunks_left chunks_left (λ chunk. chunk.items) NeedsMemory };
 
     ghost remaining = { item_count chunks_left };
 

@@ -44,8 +44,8 @@ impl<'a, G: ChunkGridTraits> Iterator for ChunkIndicesAndSubsets<'a, G> {
     ghost can_next = { AreChunksOfGrid G.dimensions };
 
     ghost next_gives = { λ before given after. AreChunksOfGrid G.dimensions after
-        × Gives (chunks_and_boxes_left G.dimensions) (λ item. (item.0.items, item.1))
-        (λ walk. chunks_ahead G.dimensions walk.boxes ≢ []) before given after };
+        × Gives (λ walk. chunks_ahead G.dimensions walk.boxes) (chunks_and_boxes_left G.dimensions)
+        (λ item. (item.0.items, item.1)) (λ chunks. chunks ≢ []) before given after };
 
     ghost remaining = { item_count (λ walk. chunks_ahead G.dimensions walk.boxes) };
 

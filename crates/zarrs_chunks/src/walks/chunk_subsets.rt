@@ -43,8 +43,8 @@ impl<'a, G: ChunkGridTraits> Iterator for ChunkSubsets<'a, G> {
     ghost can_next = { AreBoxesOfGrid G.dimensions };
 
     ghost next_gives = { λ before given after. AreBoxesOfGrid G.dimensions after
-        × Gives (boxes_left G.dimensions) (λ subset. subset)
-        (λ walk. chunks_ahead G.dimensions walk.boxes ≢ []) before given after };
+        × Gives (λ walk. chunks_ahead G.dimensions walk.boxes) (boxes_left G.dimensions)
+        (λ subset. subset) (λ chunks. chunks ≢ []) before given after };
 
     ghost remaining = { item_count (λ walk. chunks_ahead G.dimensions walk.boxes) };
 

@@ -14,6 +14,7 @@ returns-in-Err-indices-clause-steps g c =
       (
         λ none. let empty = ap length none in absurd (omega arith),
         ap (λ left. map (λ chunk. (chunk, box_at ds chunk)) (boxed ds left)) c.in-Err-indices.ensures.ends,
+        c.in-Err-indices.ensures.ends,
       ),
     )
 
