@@ -2,7 +2,7 @@
 //! encoding from outside.
 mod versioned;
 
-use crate::grids::edges;
+use crate::regular::regular_grid;
 use serde_json::Value;
 use std::alloc::{AllocError, Global};
 use std::process::Abort;
@@ -17,7 +17,7 @@ use zarrs_chunk_keys::{
     DefaultSuffixChunkKeyEncoding, V2ChunkKeyEncoding,
 };
 use zarrs_chunks::laws::key_and_place_determine_the_index;
-use zarrs_chunks::{RegularChunkGrid, locate};
+use zarrs_chunks::locate;
 
 /// A row of encodings: an encoding, its key of the chunk `[1, 23]`, and its name.
 type Row = (ChunkKeyEncoding, &'static str, &'static str);
@@ -134,8 +134,7 @@ fn an_encoding_from_outside_is_asked(rt: HostRuntime) -> Result<(), Fail> {
     let metadata = MetadataV3::from_tree(alloc, &tree)?;
     let encoding = Versioned::<DefaultChunkKeyEncoding>::create(alloc, &metadata)?;
     let _configuration = encoding.configuration(alloc)?;
-    let array_shape = [5, 7, 52].to_vec(alloc)?;
-    let grid = RegularChunkGrid::new(alloc, array_shape, edges(alloc, &[1, 2, 3])?)?;
+    let grid = regular_grid(alloc, &[5, 7, 52], &[1, 2, 3])?;
     let located = locate(alloc, &grid, &encoding, &[3, 5, 50])?.ok_or("no chunk")?;
     assert_eq!(rt; located.chunk.as_slice(), [3, 2, 16].as_slice());
     assert_eq!(rt; located.key.as_str(), "c.3.2.16.v1");

@@ -28,7 +28,7 @@ fn non_zero(edge: u64) -> Result<NonZeroU64, Fail> {
 }
 
 /// Edges, none of which is 0.
-pub(crate) fn edges(alloc: Global, numbers: &[u64]) -> Result<ChunkShape, Fail> {
+fn edges(alloc: Global, numbers: &[u64]) -> Result<ChunkShape, Fail> {
     let mut edges = Vec::new(alloc);
     for number in numbers {
         edges.push(non_zero(*number)?)?;

@@ -16,7 +16,7 @@ pub(super) struct Stairs;
 
 impl ChunkGridTraits for Stairs {
     ghost use Rattle.std.specs.Prelude.{◌∷◌, []};
-    ghost use Rattle.zarrs_chunk_tests.specs.Stairs.{stairs, stairs_is_chain};
+    ghost use Rattle.zarrs_chunk_grid_tests.specs.Stairs.{stairs, stairs_is_chain};
 
     ghost dimensions = { λ _. stairs ∷ [] };
 

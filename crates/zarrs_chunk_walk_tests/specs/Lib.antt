@@ -1,3 +1,2 @@
 pub mod Overlong
-pub mod Stairs
 pub mod Versioned

@@ -2,7 +2,7 @@
 //! at once.
 mod overlong;
 
-use crate::grids::edges;
+use crate::regular::regular_grid;
 use overlong::Overlong;
 use std::alloc::AllocError;
 use std::cell::Cell;
@@ -12,7 +12,7 @@ use zarrs_chunks::laws::{
     each_element_lies_in_one_chunk_of_the_walk, the_boxes_of_a_walk_are_those_of_its_chunks,
     the_walk_gives_each_chunk_once,
 };
-use zarrs_chunks::{ChunkGridTraits, ChunkIndices, RegularChunkGrid};
+use zarrs_chunks::{ChunkGridTraits, ChunkIndices};
 
 /// The walk gives these chunks and ends. It stays ended, also after an error, which is handed on.
 fn check_walk(
@@ -37,8 +37,7 @@ fn check_walk(
 #[test]
 fn more_than_four_dimensions_are_walked(rt: HostRuntime) -> Result<(), Fail> {
     let alloc = rt.alloc();
-    let array_shape = [1, 1, 1, 1, 2].to_vec(alloc)?;
-    let grid = RegularChunkGrid::new(alloc, array_shape, edges(alloc, &[1, 1, 1, 1, 1])?)?;
+    let grid = regular_grid(alloc, &[1, 1, 1, 1, 2], &[1, 1, 1, 1, 1])?;
     let chunks: [&[u64]; 2] = [&[0, 0, 0, 0, 0], &[0, 0, 0, 0, 1]];
     check_walk(&rt, the_walk_gives_each_chunk_once(alloc, &grid), &chunks)?;
     check_walk(

@@ -9,7 +9,7 @@ use zarrs_chunk_keys::ChunkKeyEncodingTraits;
 pub(super) struct Versioned<E: ChunkKeyEncodingTraits>(pub(super) E);
 
 impl<E: ChunkKeyEncodingTraits> ChunkKeyEncodingTraits for Versioned<E> {
-    ghost use Rattle.zarrs_chunk_tests.specs.Versioned.{IsVersioned, versioned_exact};
+    ghost use Rattle.zarrs_chunk_walk_tests.specs.Versioned.{IsVersioned, versioned_exact};
 
     ghost is_key = { λ encoding. IsVersioned (E.is_key encoding.0) };
 

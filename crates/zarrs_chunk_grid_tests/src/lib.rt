@@ -1,0 +1,16 @@
+//! Tests of axes and grids, as a user calls them: that each call answers with ample memory, texts, and a grid that is none
+//! of the libraries' own.
+//!
+//! Tests stand apart from the library, since a crate with tests is proved twice, and in two crates, which are proved side by
+//! side: walks and keys have `zarrs_chunk_walk_tests`. Vectors of numbers stand with the program `chunkcalls`.
+//!
+//! | Module | What it tests |
+//! |---|---|
+//! | `axes` | lists of axes, and walks through lists of numbers |
+//! | `grids`, `grids::stairs` | the grids, and one from outside |
+#![tactic(auto)]
+
+#[cfg(test)]
+mod axes;
+#[cfg(test)]
+mod grids;
