@@ -1,4 +1,3 @@
 pub mod DocumentMembers
 pub mod Lines
-pub mod OneName
 pub mod Outcomes

@@ -4,7 +4,8 @@ use Rattle.std.specs.List.{AllByRecursion}
 use Rattle.chunkwhere.specs.declared.run_fault.RunFault.{RunFault}
 use Rattle.chunkwhere.specs.declared.run_fault.RunFault.TheVariants.{Grid, Encoding as EncodingFault, Index}
 use Rattle.zarrs_chunk_base.specs.declared.incompatible_dimensionality_error.IncompatibleDimensionalityError.{IncompatibleDimensionalityError}
-use Rattle.chunkwhere.specs.ChunkGrid.{IsGrid, IsGridFault}
+use Rattle.zarrs_chunks.specs.GridNames.{IsGrid, IsGridFault, dimensions_in}
+use Rattle.zarrs_chunks.specs.declared.chunk_grid.named.ChunkGrid.{ChunkGrid}
 use Rattle.zarrs_chunk_keys.specs.ChunkKey.{Encoding}
 use Rattle.zarrs_chunk_keys.specs.KeyNames.{IsEncoding, IsEncodingFault}
 use Rattle.zarrs_chunk_base.specs.Dimension.{Dimension}
@@ -13,8 +14,8 @@ use Rattle.zarrs_chunk_base.specs.Refusal.{TellsLengths}
 use Rattle.chunkwhere.specs.Output.{IsOutput}
 
 -- the document's grid and encoding
-pub record HasParts (document : Document) (dimensions : List Dimension) (encoding : Encoding) : Type 0 where
-  pub grid : IsGrid document.chunk_grid document.shape dimensions
+pub record HasParts (document : Document) (chunk_grid : ChunkGrid) (encoding : Encoding) : Type 0 where
+  pub grid : IsGrid document.chunk_grid document.shape chunk_grid
   pub key_encoding : IsEncoding document.chunk_key_encoding encoding
 
 -- the index has a number for each dimension
@@ -34,17 +35,17 @@ IsIndexFault _ _ _ = ⊥
 
 -- the text that answers a document
 pub record IsAnswer (document : Document) (text : List ℕ) : Type 0 where
-  pub dimensions : List Dimension
+  pub grid : ChunkGrid
   pub encoding : Encoding
-  pub parts : HasParts document dimensions encoding
-  pub lengths : AllByRecursion (HasLengthOf dimensions) document.indices
-  pub output : IsOutput dimensions encoding document.indices text
+  pub parts : HasParts document grid encoding
+  pub lengths : AllByRecursion (HasLengthOf (dimensions_in grid)) document.indices
+  pub output : IsOutput (dimensions_in grid) encoding document.indices text
 
 -- The first fault of a document that has no answer: the grid, the encoding, or the first index with a wrong length.
 abbrev pub IsAnswerFault : Document → RunFault → Type 0
 IsAnswerFault document (Grid fault) = IsGridFault document.chunk_grid document.shape fault
 IsAnswerFault document (EncodingFault fault) =
-    ((dimensions : List Dimension) × IsGrid document.chunk_grid document.shape dimensions) × IsEncodingFault document.chunk_key_encoding fault
+    ((grid : ChunkGrid) × IsGrid document.chunk_grid document.shape grid) × IsEncodingFault document.chunk_key_encoding fault
 IsAnswerFault document (Index position fault) =
-    (dimensions : List Dimension) × (encoding : Encoding) × HasParts document dimensions encoding × IsFirstWrongLength dimensions document.indices position fault
+    (grid : ChunkGrid) × (encoding : Encoding) × HasParts document grid encoding × IsFirstWrongLength (dimensions_in grid) document.indices position fault
 IsAnswerFault document _ = ⊥

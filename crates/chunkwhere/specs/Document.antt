@@ -1,9 +1,11 @@
 -- The program's document: a JSON object with the members `shape`, `chunk_grid`, `chunk_key_encoding`
 -- and `indices`; what else it has says nothing.
-use Rattle.std.specs.Prelude.{◌≡◌, ◌⊎◌, ℕ, List, [], ◌∷◌, map, Contains, IsSome, Option, Some, None, option_and_then, IsUtf8, codes}
+use Rattle.std.specs.Prelude.{◌≡◌, ◌⊎◌, ℕ, List, [], ◌∷◌, map, Contains, IsSome, Option, Some, None, option_and_then, unwrap_or, IsUtf8, codes}
 use Rattle.serde_json.specs.Data.{Data}
 use Rattle.serde_json.specs.Read.{read}
 use Rattle.serde_json.specs.Find.{get, as_object}
+use Rattle.serde_json.specs.View.{view}
+use Rattle.serde_json.specs.declared.value.Value.{Value}
 use Rattle.chunkwhere.specs.declared.document.Document.{Document as DocumentValue}
 use Rattle.zarrs_chunk_base.specs.declared.metadata_error.MetadataError.{MetadataError}
 use Rattle.chunkwhere.specs.declared.run_fault.RunFault.{RunFault}
@@ -23,13 +25,20 @@ pub record Document : Type 0 where
   pub chunk_key_encoding : Extension
   pub indices : List (List ℕ)
 
+-- the sizes of a list, and none where a tree is no list of sizes
+abbrev pub sizes_in : Value → List ℕ
+sizes_in tree = unwrap_or (list_of size_of (view tree)) []
+
+abbrev pub lists_in : List Value → List (List ℕ)
+lists_in = map sizes_in
+
 -- what a value of the program stands for
 abbrev pub document_of : DocumentValue → Document
 document_of d = record {
   shape = d.shape.items;
   chunk_grid = extension_of d.chunk_grid;
   chunk_key_encoding = extension_of d.chunk_key_encoding;
-  indices = map (λ index. index.items) d.indices.items;
+  indices = lists_in d.indices.items;
 }
 
 -- `shape`: a list of sizes

@@ -1,5 +1,4 @@
 pub mod Answer
-pub mod ChunkGrid
 pub mod Document
 pub mod Output
 pub mod Run

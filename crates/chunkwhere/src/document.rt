@@ -1,15 +1,16 @@
 //! The program's document.
-ghost use Rattle.std.specs.Prelude.{◌≡◌, MatchResult, Some};
+ghost use Rattle.std.specs.Prelude.{◌≡◌, IfOk, MatchResult, OnOk, Some, is_some, option_map};
 ghost use Rattle.serde_json.specs.Data.{Data};
 ghost use Rattle.serde_json.specs.Find.{get};
 ghost use Rattle.serde_json.specs.View.{view};
-ghost use Rattle.chunkwhere.specs.Document.{document_of, IsTreeOf, IsDocument, IsMissingFault, IsExtensionFault, IsFormFault, IsInputFault};
+ghost use Rattle.zarrs_chunk_base.specs.Json.{list_of, size_of};
+ghost use Rattle.chunkwhere.specs.Document.{document_of, indices_of, lists_in, sizes_in, IsTreeOf, IsDocument, IsMissingFault, IsExtensionFault, IsFormFault, IsInputFault};
 ghost use Rattle.zarrs_chunk_base.specs.Metadata.{extension_of, IsExtension};
 ghost use Rattle.chunkwhere.specs.RunFault.{OrMemory};
 
 use crate::run_fault::RunFault;
 use serde_json::Value;
-use std::alloc::Global;
+use std::alloc::{AllocError, Global};
 use zarrs_chunk_base::{MetadataV3, TreeForm};
 
 /// An array's metadata, and the indices of the elements to look up.
@@ -18,7 +19,8 @@ pub(crate) struct Document {
     pub(crate) shape: Vec<u64>,
     pub(crate) chunk_grid: MetadataV3,
     pub(crate) chunk_key_encoding: MetadataV3,
-    pub(crate) indices: Vec<Vec<u64>>,
+    /// The index lists, as they stand in the tree of the document.
+    pub(crate) indices: Vec<Value>,
 }
 
 /// The document that an input is the text of, or the first fault.
@@ -29,30 +31,30 @@ pub(crate) fn parse(alloc: Global, input: &[u8]) -> Result<Document, RunFault>
         (OrMemory (IsInputFault input.now)) }
 {
     match Value::from_slice(alloc, input) {
-        Ok(tree) => document_from(alloc, &tree),
+        Ok(tree) => document_from(alloc, tree),
         Err(error) if error.is_memory() => Err(RunFault::Memory),
         Err(_) => Err(RunFault::NotJson),
     }
 }
 
 /// The document that a tree stands for, or the first fault.
-fn document_from(alloc: Global, tree: &Value) -> Result<Document, RunFault>
-    ensures { MatchResult result (λ document. IsDocument (view tree.now) (document_of document))
-        (OrMemory (IsFormFault (view tree.now))) }
+fn document_from(alloc: Global, tree: Value) -> Result<Document, RunFault>
+    ensures { MatchResult result (λ document. IsDocument (view tree) (document_of document))
+        (OrMemory (IsFormFault (view tree))) }
 {
     if !tree.is_object() {
         return Err(RunFault::NotObject);
     }
-    let shape = required_member(tree, "shape")?;
-    let chunk_grid = required_member(tree, "chunk_grid")?;
-    let chunk_key_encoding = required_member(tree, "chunk_key_encoding")?;
-    let indices = required_member(tree, "indices")?;
+    let shape = required_member(&tree, "shape")?;
+    let chunk_grid = required_member(&tree, "chunk_grid")?;
+    let chunk_key_encoding = required_member(&tree, "chunk_key_encoding")?;
+    required_member(&tree, "indices")?;
     let Some(shape) = Vec::from_tree(alloc, shape)? else {
         return Err(RunFault::WrongValue("shape"));
     };
     let chunk_grid = member_metadata(alloc, chunk_grid, "chunk_grid")?;
     let chunk_key_encoding = member_metadata(alloc, chunk_key_encoding, "chunk_key_encoding")?;
-    let Some(indices) = Vec::from_tree(alloc, indices)? else {
+    let Some(indices) = take_indices(alloc, tree)? else {
         return Err(RunFault::WrongValue("indices"));
     };
     Ok(Document {
@@ -61,6 +63,45 @@ fn document_from(alloc: Global, tree: &Value) -> Result<Document, RunFault>
         chunk_key_encoding,
         indices,
     })
+}
+
+/// The index lists of a document's tree; `None` where they aren't lists of sizes.
+fn take_indices(alloc: Global, mut tree: Value) -> Result<Option<Vec<Value>>, AllocError>
+    ensures { IfOk result (λ o. option_map (λ lists. lists_in lists.items) o
+        ≡ indices_of (view tree)) }
+{
+    let Some(indices) = tree.get_mut("indices") else {
+        return Ok(None);
+    };
+    let Value::Array(lists) = indices.take() else {
+        return Ok(None);
+    };
+    let mut numbers = Vec::new(alloc);
+    for list in &lists {
+        if !read_sizes(list, &mut numbers)? {
+            return Ok(None);
+        }
+    }
+    Ok(Some(lists))
+}
+
+/// Reads the sizes of a list into the memory of other numbers, and tells whether it is such a list. Of another tree no number is read.
+pub(crate) fn read_sizes(tree: &Value, sizes: &mut Vec<u64>) -> Result<bool, AllocError>
+    ensures read { OnOk result (sizes.new.items ≡ sizes_in tree.now) }
+    ensures is { IfOk result (λ is. is ≡ is_some (list_of size_of (view tree.now))) }
+{
+    sizes.clear();
+    let Some(elements) = tree.as_array() else {
+        return Ok(false);
+    };
+    for element in elements {
+        let Some(size) = element.as_u64() else {
+            sizes.clear();
+            return Ok(false);
+        };
+        sizes.push(size)?;
+    }
+    Ok(true)
 }
 
 /// A member that has to be there.

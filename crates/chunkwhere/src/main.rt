@@ -10,11 +10,9 @@
 //! | `watched` | a reader or writer that remembers whether one of its calls failed |
 //! | `input`, `document`, `answer`, `output` | the four steps: read, understand, answer, write |
 //! | `run_fault` | why a run stops |
-//! | `chunk_grid` | the `regular` grid |
 #![tactic(auto)]
 
 mod answer;
-mod chunk_grid;
 mod document;
 mod input;
 mod output;

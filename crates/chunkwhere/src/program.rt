@@ -74,7 +74,7 @@ fn answer_input(alloc: Global, input: Vec<u8>) -> Result<String, RunFault>
 {
     let document = parse(alloc, &input)?;
     drop(input);
-    answer(alloc, &document)
+    answer(alloc, document)
 }
 
 /// Tells a run's fault in one line, if it had one, and answers the status to end with: 0, or 1

@@ -4,6 +4,7 @@ pub mod EachSoFar
 pub mod EqualAxes
 pub mod Expansions
 pub mod FirstList
+pub mod HomeSoFar
 pub mod ListedAxes
 pub mod MadeSoFar
 pub mod Passing

@@ -1,14 +1,15 @@
 -- What the look-ups of a chunk grid answer, over its dimensions.
 -- Sources: Zarr V3 core, chunk grids and the regular grid; ZEP 3, variable chunks.
-use Rattle.std.specs.Prelude.{ℕ, List, length, map, Option, Result, Vec}
+use Rattle.std.specs.Prelude.{◌≡◌, ◌≢◌, ℕ, Bool, true, false, List, length, map, Option, Result, Ok, Err, Vec}
 use Rattle.std.specs.Int.NonZero.{non_zero_u64_get}
 use Rattle.std.specs.declared.alloc.Global.{Global}
 use Rattle.std.specs.declared.num.NonZeroU64.{NonZeroU64}
 use Rattle.zarrs_chunk_base.specs.declared.incompatible_dimensionality_error.IncompatibleDimensionalityError.{IncompatibleDimensionalityError}
 use Rattle.zarrs_chunk_base.specs.declared.refusal.Refusal.{Refusal}
+use Rattle.zarrs_chunk_base.specs.declared.refusal.Refusal.TheVariants.{Refused, Memory}
 use Rattle.zarrs_chunk_base.specs.Dimension.{Dimension, InBox, IsChunk, IsOrigin, IsPlace, IsShape}
 use Rattle.zarrs_chunk_base.specs.Greatest.{AllFit}
-use Rattle.zarrs_chunk_base.specs.Refusal.{Answers}
+use Rattle.zarrs_chunk_base.specs.Refusal.{Answers, TellsLengths}
 
 -- a look-up's result: a list of numbers, none, or why it is refused
 abbrev pub Looked : Type 0 → Type 0
@@ -36,3 +37,10 @@ abbrev pub AnswersPlace : List Dimension → List ℕ → Looked ℕ → Type 0
 AnswersPlace ds index =
     Answers (length index) (length ds) (λ place. (chunk : List ℕ) × InBox ds chunk index × IsPlace ds chunk index place.items)
     ((chunk : List ℕ) → ¬ InBox ds chunk index)
+
+-- The chunk whose box holds the index and the index's place in it, as two lists hold them after the call; `false` where no box does.
+abbrev pub AnswersHome : List Dimension → List ℕ → Result Bool (Refusal IncompatibleDimensionalityError) → (chunk place : List ℕ) → Type 0
+AnswersHome ds index (Ok true) chunk place = (length index ≡ length ds) × InBox ds chunk index × IsPlace ds chunk index place
+AnswersHome ds index (Ok false) chunk place = (length index ≡ length ds) × ((chunk : List ℕ) → ¬ InBox ds chunk index)
+AnswersHome ds index (Err (Refused e)) chunk place = (length index ≢ length ds) × TellsLengths (length index) (length ds) e
+AnswersHome ds index (Err (Memory _)) chunk place = length index ≡ length ds

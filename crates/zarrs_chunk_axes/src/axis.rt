@@ -1,5 +1,5 @@
 //! One dimension of a chunk grid, and what it is made of.
-ghost use Rattle.std.specs.Prelude.{◌≡◌, ◌↔◌, ℕ, ◌<◌, IfOk, IsTrue, MatchOption};
+ghost use Rattle.std.specs.Prelude.{◌≡◌, ◌↔◌, ℕ, ◌+◌, ◌<◌, IfOk, IsTrue, MatchOption};
 ghost use Rattle.std.specs.Int.NonZero.{non_zero_u64_get};
 ghost use Rattle.zarrs_chunk_base.specs.Dimension.{Dimension, Holds, HasEdge, IsChain, StartsAt};
 ghost use Rattle.zarrs_chunk_base.specs.DimensionEdges.{DimensionEdges};
@@ -33,6 +33,17 @@ pub trait Axis: Sized + Drop {
     fn origin_of(&self, chunk: u64) -> Option<u64>
         ensures { MatchOption result ((o : ℕ) → StartsAt (dimension self.now) chunk o
             → greatest < o) (StartsAt (dimension self.now) chunk) };
+
+    /// The chunk that an index lies in, and how far behind the chunk's start it lies.
+    fn home_of(&self, index: u64) -> Option<(u64, u64)>
+        ensures { MatchOption result ((c : ℕ) → ¬ Holds (dimension self.now) c index)
+            (λ home. Holds (dimension self.now) home.0 index
+            × ((dimension self.now).start home.0 + home.1 ≡ index)) }
+    {
+        let chunk = self.chunk_of(index)?;
+        let origin = self.origin_of(chunk)?;
+        Some((chunk, index - origin))
+    }
 
     /// How many elements long a chunk is.
     fn edge_of(&self, chunk: u64) -> Option<NonZeroU64>

@@ -1,10 +1,10 @@
 //! The dimensions of a grid, and the loops over them that all grids share.
-ghost use Rattle.std.specs.Prelude.{◌≡◌, ◌↔◌, ℕ, IfErr, IfOk, IsOk, IsTrue, MatchOption, length, map};
+ghost use Rattle.std.specs.Prelude.{◌≡◌, ◌↔◌, ℕ, IfErr, IfOk, IsOk, IsTrue, List, MatchOption, cond, length, map};
 ghost use Rattle.std.specs.List.{AllByRecursion, AllZip};
-ghost use Rattle.zarrs_chunk_base.specs.Dimension.{Holds, InEach};
+ghost use Rattle.zarrs_chunk_base.specs.Dimension.{Holds, InBox, InEach, IsPlace};
 ghost use Rattle.zarrs_chunk_base.specs.Refusal.{Answers, HasMemory, IfRefused};
 ghost use Rattle.zarrs_chunk_axes.specs.InBounds.{AreBelow, AreHeldInBounds, AreIndicesInBounds};
-ghost use Rattle.zarrs_chunk_axes.specs.LookUp.{AnswersShape, AnswersOrigin, AnswersChunk};
+ghost use Rattle.zarrs_chunk_axes.specs.LookUp.{AnswersShape, AnswersOrigin, AnswersChunk, AnswersHome};
 ghost use Rattle.zarrs_chunk_axes.specs.lemmas.LookUpEach.{ByReference, IsFound, IsNotFound};
 
 use crate::axis::{Axis, AxisFrom};
@@ -132,6 +132,30 @@ impl<A: Axis> AxisGrid<A> {
         self.look_up(alloc, indices, A::chunk_of)
     }
 
+    /// Finds for each dimension the chunk that the index lies in, and how far behind the chunk's start it lies, and leaves them in
+    /// two lists, whatever these held. `false` where there is no such chunk somewhere.
+    ///
+    /// # Errors
+    /// The list has another length than there are dimensions, or there was no memory.
+    pub fn find_home(
+        &self,
+        indices: &[u64],
+        chunk: &mut ArrayIndices,
+        place: &mut ArrayIndices,
+    ) -> Result<bool, Refusal<IncompatibleDimensionalityError>>
+        ensures answers { AnswersHome (dimensions_of self.now) indices.now result
+            chunk.new.items place.new.items }
+        ensures stores_nothing { length (dimensions_of self.now) ≡ 0 → HasMemory result }
+    {
+        if indices.len() != self.axes.len() {
+            return Err(Refusal::Refused(IncompatibleDimensionalityError::new(
+                indices.len(),
+                self.axes.len(),
+            )));
+        }
+        Ok(find_each(&self.axes, indices, chunk, place)?)
+    }
+
     /// Whether each index is in bounds of its array size.
     pub fn is_in_bounds(&self, indices: &[u64]) -> bool
         ensures within { AreBelow (map (λ d. d.array_size) (dimensions_of self.now)) indices.now
@@ -240,6 +264,34 @@ fn look_up_each<A: Axis, T: Drop, F: Fn(&A, u64) -> Option<T>>(
         found.push(value)?;
     }
     Ok(Some(found))
+}
+
+/// Finds each index in its dimension: the chunk that it lies in, and how far behind the chunk's start.
+fn find_each<A: Axis>(
+    axes: &[A],
+    indices: &[u64],
+    chunk: &mut ArrayIndices,
+    place: &mut ArrayIndices,
+) -> Result<bool, AllocError>
+    requires { length axes.now ≡ length indices.now }
+    ensures found { IfOk result (λ found. cond found
+        (InBox (map A.dimension axes.now) chunk.new.items indices.now
+        × IsPlace (map A.dimension axes.now) chunk.new.items indices.now place.new.items)
+        ((c : List ℕ) → ¬ InBox (map A.dimension axes.now) c indices.now)) }
+    ensures stores_nothing { length axes.now ≡ 0 → IsOk result }
+{
+    chunk.clear();
+    place.clear();
+    chunk.reserve(axes.len())?;
+    place.reserve(axes.len())?;
+    for (axis, index) in axes.iter().zip(indices) {
+        let Some((number, behind)) = axis.home_of(*index) else {
+            return Ok(false);
+        };
+        chunk.push(number)?;
+        place.push(behind)?;
+    }
+    Ok(true)
 }
 
 /// Whether there are as many indices as axes, and in each some chunk holds the index.

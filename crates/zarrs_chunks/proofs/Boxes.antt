@@ -5,9 +5,8 @@ use Rattle.zarrs_chunk_base.specs.declared.refusal.Refusal.{Refusal}
 use Rattle.zarrs_chunk_base.specs.declared.refusal.Refusal.TheVariants.{Refused, Memory}
 use Rattle.zarrs_chunk_base.specs.Dimension.{Dimension, Holds, InBox, IsOrigin, IsPlace, StartsAt}
 use Rattle.zarrs_chunk_base.specs.Greatest.{greatest, AllFit}
-use Rattle.zarrs_chunk_base.specs.Refusal.{Answers}
 use Rattle.zarrs_chunk_base.proofs.InEach.{by_dimension, by_dimension_twice, length_numbers}
-use Rattle.zarrs_chunk_axes.specs.LookUp.{AnswersOrigin}
+use Rattle.zarrs_chunk_axes.specs.LookUp.{AnswersHome, AnswersOrigin}
 
 -- the numbers of a list of u64 fit
 pub fits : (xs : List ℕ) → ((k : ℕ) → get_or xs k 0 < 2 ^ 64) → AllFit xs
@@ -47,12 +46,11 @@ is_place ds chunk index origin place box is same differ =
           let start = starts.start in
           (omega arith, rest place (omega arith) (λ k within. differ (suc k) (omega arith)))
 
--- the origin of a chunk that holds an index is refused for memory alone, whatever it is asked for
-pub origin_refused : {X : Type 0} (Found : X → Type 0) (Absent : Type 0) (ds : List Dimension) (chunk index : List ℕ)
-    (refusal : Refusal IncompatibleDimensionalityError) → InBox ds chunk index → AnswersOrigin ds chunk (Err refusal) → length index ≡ length ds
-    → Answers (length index) (length ds) Found Absent (Err refusal)
-origin_refused Found Absent ds chunk index (Refused e) box refused same = absurd (refused.0 (length_numbers Holds ds chunk index box))
-origin_refused Found Absent ds chunk index (Memory e) box refused same = same
+-- the origin of a chunk that holds an index is refused for memory alone
+pub home_refused : (ds : List Dimension) (chunk index home_chunk place : List ℕ) (refusal : Refusal IncompatibleDimensionalityError) → InBox ds chunk index
+    → AnswersOrigin ds chunk (Err refusal) → length index ≡ length ds → AnswersHome ds index (Err refusal) home_chunk place
+home_refused ds chunk index home_chunk place (Refused e) box refused same = absurd (refused.0 (length_numbers Holds ds chunk index box))
+home_refused ds chunk index home_chunk place (Memory e) box refused same = same
 
 -- an index is known by its chunk and its place there
 pub same_index : (ds : List Dimension) (chunk one other place : List ℕ) → IsPlace ds chunk one place → IsPlace ds chunk other place → one ≡ other

@@ -5,8 +5,9 @@ use Rattle.std.proofs.Math.Nat.{div-add-mod', min-eq_left, min-eq_right, mul-le-
 use Rattle.std.specs.List.{sum}
 use Rattle.zarrs_chunk_base.specs.Dimension.{Dimension}
 use Rattle.zarrs_chunk_axes.specs.Listed.{IsListed}
-use Rattle.zarrs_chunk_axes.specs.Bounded.{IsBounded}
-use Rattle.zarrs_chunks.specs.Clipped.{AreClipped, AreAlike}
+use Rattle.zarrs_chunk_axes.specs.Bounded.{AreBounded, IsBounded}
+use Rattle.zarrs_chunks.specs.Alike.{AreAlike, AreAllAlike}
+use Rattle.zarrs_chunks.specs.Clipped.{AreClipped, AreClippedLists}
 use Rattle.zarrs_chunk_axes.specs.lemmas.Multiples.{next_multiple}
 use Rattle.zarrs_chunk_axes.specs.lemmas.Running.{take_next}
 
@@ -88,6 +89,21 @@ bounded_is_listed bounded listed size edge edges clipped is_bounded is_listed =
       start = λ c has. is_bounded.start c has ∙ starts_alike size edge edges clipped c (in_both c has) ∙ sym (is_listed.start c (listed_has c has));
       end = λ c has. is_bounded.end c has ∙ ends_alike size edge edges clipped c (in_both c has) ∙ sym (is_listed.end c (listed_has c has));
     }
+
+-- and so in each dimension
+pub all_bounded_are_listed : (bounded listed : List Dimension) (sizes edges : List ℕ) → AreBounded bounded sizes edges → AreClippedLists listed sizes edges
+    → AreAllAlike bounded listed
+all_bounded_are_listed [] [] [] [] first second = tt
+all_bounded_are_listed (b ∷ bounded) (l ∷ listed) (size ∷ sizes) (edge ∷ edges) first second = (
+  bounded_is_listed b l size edge second.0.edges second.0.clipped first.0 second.0.listed,
+  all_bounded_are_listed bounded listed sizes edges first.1 second.1,
+)
+all_bounded_are_listed [] (_ ∷ _) [] [] first second = absurd second
+all_bounded_are_listed [] listed [] (_ ∷ _) first second = absurd first
+all_bounded_are_listed [] listed (_ ∷ _) edges first second = absurd first
+all_bounded_are_listed (_ ∷ _) listed [] edges first second = absurd first
+all_bounded_are_listed (_ ∷ _) listed (_ ∷ _) [] first second = absurd first
+all_bounded_are_listed (_ ∷ _) [] (_ ∷ _) (_ ∷ _) first second = absurd second
 
 -- there is such a list for every size and edge that aren't 0
 pub has_clipped : (size edge : ℕ) → 0 < size → 0 < edge → (edges : List ℕ) × AreClipped size edge edges

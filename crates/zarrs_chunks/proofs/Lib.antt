@@ -1,3 +1,4 @@
+pub mod Alike
 pub mod Boxes
 pub mod Chains
 pub mod ClippedEdges
@@ -7,4 +8,5 @@ pub mod FittingChunks
 pub mod GridNames
 pub mod Meeting
 pub mod Ranges
+pub mod SameEdges
 pub mod Subsets

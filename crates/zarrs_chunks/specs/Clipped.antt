@@ -1,6 +1,7 @@
 -- A bounded dimension, and the list of its edges.
-use Rattle.std.specs.Prelude.{◌≡◌, ◌↔◌, ℕ, ◌+◌, ◌*◌, ◌<◌, ◌≤◌, IsTrue, List, [], ◌∷◌, ◌++◌, replicate}
-use Rattle.zarrs_chunk_base.specs.Dimension.{Dimension}
+use Rattle.std.specs.Prelude.{◌≡◌, ℕ, ◌+◌, ◌*◌, ◌<◌, ◌≤◌, List, [], ◌∷◌, ◌++◌, replicate}
+use Rattle.zarrs_chunk_base.specs.Dimension.{Dimension, InEach}
+use Rattle.zarrs_chunk_axes.specs.Listed.{IsListed}
 
 -- the edges of a bounded dimension of non-zero size: whole ones, and what is left of the size
 pub record AreClipped (size edge : ℕ) (edges : List ℕ) : Type 0 where
@@ -11,10 +12,12 @@ pub record AreClipped (size edge : ℕ) (edges : List ℕ) : Type 0 where
   pub size_is : size ≡ whole * edge + rest
   pub edges_are : edges ≡ replicate whole edge ++ rest ∷ []
 
--- two dimensions count alike, have the same chunks, and each starts and ends at the same numbers
-pub record AreAlike (d e : Dimension) : Type 0 where
-  pub array_size : d.array_size ≡ e.array_size
-  pub grid_size : d.grid_size ≡ e.grid_size
-  pub chunks : (c : ℕ) → IsTrue (d.has_chunk c) ↔ IsTrue (e.has_chunk c)
-  pub start : (c : ℕ) → IsTrue (d.has_chunk c) → d.start c ≡ e.start c
-  pub end : (c : ℕ) → IsTrue (d.has_chunk c) → d.end c ≡ e.end c
+-- a dimension of these edges, listed
+pub record IsClippedList (d : Dimension) (size edge : ℕ) : Type 0 where
+  pub edges : List ℕ
+  pub clipped : AreClipped size edge edges
+  pub listed : IsListed d size edges
+
+-- the dimensions of an array shape and a chunk shape, each of its clipped edges
+abbrev pub AreClippedLists : List Dimension → List ℕ → List ℕ → Type 0
+AreClippedLists = InEach IsClippedList

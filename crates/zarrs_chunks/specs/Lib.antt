@@ -1,3 +1,4 @@
+pub mod Alike
 pub mod Clipped
 pub mod GridKinds
 pub mod GridNames

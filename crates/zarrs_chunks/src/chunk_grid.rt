@@ -19,11 +19,12 @@ ghost use Rattle.zarrs_chunk_base.specs.ArraySubset.{IsEmptyBox};
 ghost use Rattle.zarrs_chunk_base.specs.Dimension.{Dimension, IsChain};
 ghost use Rattle.zarrs_chunk_base.specs.Refusal.{HasMemory};
 ghost use Rattle.zarrs_chunk_axes.specs.InBounds.{AreBelow, AreInBounds};
-ghost use Rattle.zarrs_chunk_axes.specs.LookUp.{AnswersShape, AnswersShapeNumbers, AnswersOrigin, AnswersChunk, AnswersPlace};
+ghost use Rattle.zarrs_chunk_axes.specs.LookUp.{AnswersShape, AnswersShapeNumbers, AnswersOrigin, AnswersChunk, AnswersHome, AnswersPlace};
 ghost use Rattle.zarrs_chunks.specs.Subsets.{AnswersSubset, AnswersChunksSubset, AnswersCover, AnswersEmptyCover};
 ghost use Rattle.zarrs_chunks.specs.Walks.{box_at, boxed, chunks_of};
 ghost use Rattle.zarrs_chunks.specs.seen.Walks.{AreBoxesOfGrid, AreChunksOfGrid, boxes_left, chunks_and_boxes_left, chunks_left};
 
+use crate::home::Home;
 use crate::walks::chunk_indices::ChunkIndices;
 use crate::walks::chunk_indices_and_subsets::ChunkIndicesAndSubsets;
 use crate::walks::chunk_subsets::ChunkSubsets;
@@ -151,13 +152,38 @@ pub trait ChunkGridTraits: Sized + Drop {
         ensures answers { AnswersPlace (dimensions self.now) array_indices.now result }
         ensures stores_nothing { length (dimensions self.now) ≡ 0 → HasMemory result }
     {
-        let Some(chunk) = self.chunk_indices(alloc, array_indices)? else {
+        let mut home = Home::new(alloc);
+        if !self.find_home(array_indices, &mut home)? {
             return Ok(None);
+        }
+        Ok(Some(home.element))
+    }
+
+    /// Finds where the element at these indices lies, and leaves it in `home`, in the memory that this has: for callers that look
+    /// many elements up. `false` where no chunk holds the element; `home` then holds anything, as it does after an error.
+    ///
+    /// # Errors
+    /// The list has another length than the grid has dimensions, or there was no memory.
+    fn find_home(
+        &self,
+        array_indices: &[u64],
+        home: &mut Home,
+    ) -> Result<bool, Refusal<IncompatibleDimensionalityError>>
+        ensures answers { AnswersHome (dimensions self.now) array_indices.now result
+            home.new.chunk.items home.new.element.items }
+        ensures stores_nothing { length (dimensions self.now) ≡ 0 → HasMemory result }
+    {
+        let alloc = *home.chunk.allocator();
+        let Some(chunk) = self.chunk_indices(alloc, array_indices)? else {
+            return Ok(false);
         };
         let Some(origin) = self.chunk_origin(alloc, &chunk)? else {
-            return Ok(None);
+            // Never: a chunk that holds an element starts before it.
+            return Ok(false);
         };
-        Ok(Some(place_from(origin, array_indices)))
+        home.chunk = chunk;
+        home.element = place_from(origin, array_indices);
+        Ok(true)
     }
 
     /// The box of a chunk, in element indices; `None` where there is no such chunk, or it ends past
@@ -315,7 +341,7 @@ pub trait ChunkGridTraits: Sized + Drop {
 }
 
 /// For each dimension how far behind the origin the index lies, in the origin's own memory.
-pub(crate) fn place_from(mut origin: ArrayIndices, indices: &[u64]) -> ArrayIndices
+fn place_from(mut origin: ArrayIndices, indices: &[u64]) -> ArrayIndices
     requires { length origin.items ≡ length indices.now }
     ensures length { length result.items ≡ length origin.items }
     ensures difference { (k : ℕ) → k < length result.items

@@ -7,15 +7,17 @@ ghost use Rattle.zarrs_chunk_base.specs.ArraySubset.{Box, IsEmptyBox, IsInside};
 ghost use Rattle.zarrs_chunk_base.specs.Dimension.{Dimension, InBox, IsPlace};
 ghost use Rattle.zarrs_chunk_base.specs.Greatest.{AllFit};
 ghost use Rattle.zarrs_chunk_axes.specs.Listed.{IsListed};
-ghost use Rattle.zarrs_chunk_axes.specs.Bounded.{IsBounded};
+ghost use Rattle.zarrs_chunk_axes.specs.Bounded.{AreBounded, IsBounded};
 ghost use Rattle.zarrs_chunk_base.specs.Refusal.{IfRefused};
-ghost use Rattle.zarrs_chunks.specs.GridNames.{dimensions_in, edges_in, name_in};
-ghost use Rattle.zarrs_chunks.specs.Clipped.{AreAlike, AreClipped};
+ghost use Rattle.zarrs_chunks.specs.GridKinds.{regular_bounded};
+ghost use Rattle.zarrs_chunks.specs.GridNames.{dimensions_in, edges_in, name_in, shape_in};
+ghost use Rattle.zarrs_chunks.specs.Alike.{AnswersAsWell, AreAlike, AreAllAlike};
+ghost use Rattle.zarrs_chunks.specs.Clipped.{AreClipped, AreClippedLists};
 ghost use Rattle.zarrs_chunk_axes.specs.InBounds.{AreBelow};
-ghost use Rattle.zarrs_chunk_axes.specs.LookUp.{AnswersChunk};
+ghost use Rattle.zarrs_chunk_axes.specs.LookUp.{AnswersChunk, AnswersOrigin, AnswersPlace, AnswersShape, AnswersShapeNumbers};
 ghost use Rattle.zarrs_chunk_axes.specs.RowMajor.{IsBefore};
-ghost use Rattle.zarrs_chunks.specs.Subsets.{AnswersChunksSubset, AnswersCover, AnswersEmptyCover, Spans};
-ghost use Rattle.zarrs_chunks.specs.Walks.{box_at, chunks_of, ends_within};
+ghost use Rattle.zarrs_chunks.specs.Subsets.{AnswersChunksSubset, AnswersCover, AnswersEmptyCover, AnswersSubset, LookedBox, Spans};
+ghost use Rattle.zarrs_chunks.specs.Walks.{box_at, boxed, chunks_of, ends_within};
 ghost use Rattle.zarrs_chunks.specs.seen.Walks.{chunks_left};
 
 use crate::{ChunkGrid, ChunkGridTraits, ChunkIndices};
@@ -144,13 +146,69 @@ pub fn the_boxes_of_a_walk_are_those_of_its_chunks<G: ChunkGridTraits>(grid: &G)
 {}
 
 /// An array size and an edge that aren't 0 have a list of clipped edges, and its dimension has the same chunks as
-/// the bounded one, from and to the same indices.
+/// the bounded one, from and to the same indices. So have lists of such dimensions.
 pub fn a_bounded_dimension_is_that_of_its_edges()
     ensures has_edges { (size edge : ℕ) → 0 < size → 0 < edge → (edges : List ℕ)
         × AreClipped size edge edges }
     ensures alike { (bounded listed : Dimension) (size edge : ℕ) (edges : List ℕ)
         → AreClipped size edge edges
         → IsBounded bounded size edge → IsListed listed size edges → AreAlike bounded listed }
+    ensures all { (bounded listed : List Dimension) (sizes edges : List ℕ)
+        → AreBounded bounded sizes edges → AreClippedLists listed sizes edges
+        → AreAllAlike bounded listed }
+{}
+
+/// Grids of one array shape and the same edges have the same dimensions, whether they are `regular`, `rectangular` or
+/// `rectilinear`; run-length elements count as the edges that they stand for. All that a grid answers goes by its dimensions.
+pub fn the_edges_determine_the_dimensions(grid: &ChunkGrid, other: &ChunkGrid)
+    ensures { name_in grid.now ≢ regular_bounded.name → name_in other.now ≢ regular_bounded.name
+        → shape_in grid.now ≡ shape_in other.now → edges_in grid.now ≡ edges_in other.now
+        → dimensions_in grid.now ≡ dimensions_in other.now }
+{}
+
+/// Of grids whose dimensions are alike, one by one, the other answers as the one does: each look-up, the boxes of chunks and the
+/// covers, and the walks. So do grids of the same dimensions, and a bounded grid and the grid of its clipped edges.
+pub fn grids_of_like_dimensions_answer_alike<G: ChunkGridTraits, H: ChunkGridTraits>(
+    grid: &G,
+    other: &H,
+)
+    ensures array_shape { AreAllAlike (G.dimensions grid.now) (H.dimensions other.now)
+        → map (λ d. d.array_size) (G.dimensions grid.now)
+        ≡ map (λ d. d.array_size) (H.dimensions other.now) }
+    ensures grid_shape { AreAllAlike (G.dimensions grid.now) (H.dimensions other.now)
+        → map (λ d. d.grid_size) (G.dimensions grid.now)
+        ≡ map (λ d. d.grid_size) (H.dimensions other.now) }
+    ensures chunk_shape { AreAllAlike (G.dimensions grid.now) (H.dimensions other.now)
+        → AnswersAsWell AnswersShape (G.dimensions grid.now) (H.dimensions other.now) }
+    ensures chunk_shape_u64 { AreAllAlike (G.dimensions grid.now) (H.dimensions other.now)
+        → AnswersAsWell AnswersShapeNumbers (G.dimensions grid.now) (H.dimensions other.now) }
+    ensures chunk_origin { AreAllAlike (G.dimensions grid.now) (H.dimensions other.now)
+        → AnswersAsWell AnswersOrigin (G.dimensions grid.now) (H.dimensions other.now) }
+    ensures chunk_indices { AreAllAlike (G.dimensions grid.now) (H.dimensions other.now)
+        → AnswersAsWell AnswersChunk (G.dimensions grid.now) (H.dimensions other.now) }
+    ensures chunk_element_indices { AreAllAlike (G.dimensions grid.now) (H.dimensions other.now)
+        → AnswersAsWell AnswersPlace (G.dimensions grid.now) (H.dimensions other.now) }
+    ensures subset { AreAllAlike (G.dimensions grid.now) (H.dimensions other.now)
+        → AnswersAsWell AnswersSubset (G.dimensions grid.now) (H.dimensions other.now) }
+    ensures chunks_subset { AreAllAlike (G.dimensions grid.now) (H.dimensions other.now)
+        → AnswersAsWell AnswersChunksSubset (G.dimensions grid.now) (H.dimensions other.now) }
+    ensures cover { AreAllAlike (G.dimensions grid.now) (H.dimensions other.now)
+        → AnswersAsWell AnswersCover (G.dimensions grid.now) (H.dimensions other.now) }
+    ensures empty_cover { AreAllAlike (G.dimensions grid.now) (H.dimensions other.now)
+        → (answer : LookedBox) → AnswersEmptyCover (G.dimensions grid.now) answer
+        → AnswersEmptyCover (H.dimensions other.now) answer }
+    ensures chunks { AreAllAlike (G.dimensions grid.now) (H.dimensions other.now)
+        → chunks_of (G.dimensions grid.now) ≡ chunks_of (H.dimensions other.now) }
+    ensures boxes { AreAllAlike (G.dimensions grid.now) (H.dimensions other.now)
+        → map (box_at (G.dimensions grid.now))
+        (boxed (G.dimensions grid.now) (chunks_of (G.dimensions grid.now)))
+        ≡ map (box_at (H.dimensions other.now))
+        (boxed (H.dimensions other.now) (chunks_of (H.dimensions other.now))) }
+    ensures chunks_and_boxes { AreAllAlike (G.dimensions grid.now) (H.dimensions other.now)
+        → map {B = List ℕ × Box} (λ chunk. (chunk, box_at (G.dimensions grid.now) chunk))
+        (boxed (G.dimensions grid.now) (chunks_of (G.dimensions grid.now)))
+        ≡ map {B = List ℕ × Box} (λ chunk. (chunk, box_at (H.dimensions other.now) chunk))
+        (boxed (H.dimensions other.now) (chunks_of (H.dimensions other.now))) }
 {}
 
 /// A grid is made again of its metadata and its array shape: one of the same kind, with the same dimensions and edges.

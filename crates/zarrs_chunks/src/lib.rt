@@ -47,7 +47,8 @@
 //! | `chunk_grid::named` | a grid of any of these kinds, by its extension's name |
 //! | `chunk_grid::regular_create_error`, `rectangular_create_error`, `rectilinear_create_error` | why there is no such grid |
 //! | `laws` | what holds of every chunk grid |
-//! | `location` | `locate`: the key of an element's chunk, and its place there |
+//! | `home` | where an element lies: its chunk, and its place there |
+//! | `location` | `locate`: where an element is stored, its chunk's key besides |
 //! | `walks` | the three walks over the chunks of a grid |
 //! | `chunk_grid::over_axes` | the calls of the four grids, over their lists of axes |
 //! | `chunk_grid::axis_bounds` | which indices are in bounds of a list of axes |
@@ -59,6 +60,7 @@
 
 mod chunk_grid;
 pub mod laws;
+mod home;
 mod location;
 mod walks;
 
@@ -71,6 +73,7 @@ pub use chunk_grid::rectilinear_create_error::RectilinearChunkGridCreateError;
 pub use chunk_grid::regular::RegularChunkGrid;
 pub use chunk_grid::regular_bounded::RegularBoundedChunkGrid;
 pub use chunk_grid::regular_create_error::RegularChunkGridCreateError;
+pub use home::Home;
 pub use location::{Located, locate};
 pub use walks::chunk_indices::ChunkIndices;
 pub use walks::chunk_indices_and_subsets::ChunkIndicesAndSubsets;

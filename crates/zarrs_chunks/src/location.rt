@@ -4,8 +4,7 @@ ghost use Rattle.zarrs_chunk_base.specs.Refusal.{Answers};
 ghost use Rattle.zarrs_chunks.specs.Located.{IsLocated};
 ghost use Rattle.zarrs_chunks.specs.Subsets.{HasNoHome};
 
-use crate::ChunkGridTraits;
-use crate::chunk_grid::place_from;
+use crate::{ChunkGridTraits, Home};
 use std::alloc::Global;
 use zarrs_chunk_base::{ArrayIndices, IncompatibleDimensionalityError, Refusal, StoreKey};
 use zarrs_chunk_keys::ChunkKeyEncodingTraits;
@@ -21,7 +20,7 @@ pub struct Located {
     pub element: ArrayIndices,
 }
 
-/// Where the element at these indices is stored; `None` where no chunk holds it. The chunk and its origin are looked up once.
+/// Where the element at these indices is stored; `None` where no chunk holds it.
 ///
 /// # Errors
 /// The list has another length than the grid has dimensions, or there was no memory.
@@ -35,18 +34,14 @@ pub fn locate<G: ChunkGridTraits, E: ChunkKeyEncodingTraits>(
         (IsLocated (G.dimensions grid.now) (E.is_key encoding.now) array_indices.now)
         (HasNoHome (G.dimensions grid.now) array_indices.now) result }
 {
-    let Some(chunk) = grid.chunk_indices(alloc, array_indices)? else {
+    let mut home = Home::new(alloc);
+    if !grid.find_home(array_indices, &mut home)? {
         return Ok(None);
-    };
-    let Some(origin) = grid.chunk_origin(alloc, &chunk)? else {
-        // Never: a chunk that holds an element starts before it.
-        return Ok(None);
-    };
-    let element = place_from(origin, array_indices);
-    let key = encoding.encode(alloc, &chunk)?;
+    }
+    let key = encoding.encode(alloc, &home.chunk)?;
     Ok(Some(Located {
-        chunk,
+        chunk: home.chunk,
         key,
-        element,
+        element: home.element,
     }))
 }

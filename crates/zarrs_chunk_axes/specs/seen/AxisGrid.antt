@@ -21,8 +21,9 @@ pub chains_of : {A : Type 0} {axis : Ghosts A} → ((a : A) → IsChain (axis.di
 chains_of {A} {axis} chain grid = are_chains axis.dimension chain grid.axes.items
 
 -- axes of the same array sizes and edges have the same dimensions, where this holds of each
-pub determined_by : {A : Type 0} {axis : Ghosts A}
-    → ((a b : A) → (axis.dimension a).array_size ≡ (axis.dimension b).array_size → axis.edges a ≡ axis.edges b → axis.dimension a ≡ axis.dimension b)
-    → (grid other : AxisGrid A axis) → map (λ d. d.array_size) (dimensions_of grid) ≡ map (λ d. d.array_size) (dimensions_of other)
+pub determined_by : {A B : Type 0} {axis : Ghosts A} {axis' : Ghosts B}
+    → ((a : A) (b : B) → (axis.dimension a).array_size ≡ (axis'.dimension b).array_size → axis.edges a ≡ axis'.edges b → axis.dimension a ≡ axis'.dimension b)
+    → (grid : AxisGrid A axis) (other : AxisGrid B axis') → map (λ d. d.array_size) (dimensions_of grid) ≡ map (λ d. d.array_size) (dimensions_of other)
     → edges_of grid ≡ edges_of other → dimensions_of grid ≡ dimensions_of other
-determined_by {A} {axis} each grid other sizes edges = are_determined axis.dimension axis.edges each grid.axes.items other.axes.items sizes edges
+determined_by {A} {B} {axis} {axis'} each grid other sizes edges =
+    are_determined axis.dimension axis.edges axis'.dimension axis'.edges each grid.axes.items other.axes.items sizes edges

@@ -12,7 +12,7 @@ use super::rectangular::RectangularChunkGrid;
 use super::rectilinear::RectilinearChunkGrid;
 use super::regular::RegularChunkGrid;
 use super::regular_bounded::RegularBoundedChunkGrid;
-use crate::ChunkGridTraits;
+use crate::{ChunkGridTraits, Home};
 use std::alloc::{AllocError, Global};
 use zarrs_chunk_base::{
     ArrayIndices, ChunkShape, Configuration, IncompatibleDimensionalityError, MetadataV3,
@@ -203,6 +203,14 @@ impl ChunkGridTraits for ChunkGrid {
         array_indices: &[u64],
     ) -> Result<Option<ArrayIndices>, Refusal<IncompatibleDimensionalityError>> {
         inside!(self, grid => grid.chunk_indices(alloc, array_indices))
+    }
+
+    fn find_home(
+        &self,
+        array_indices: &[u64],
+        home: &mut Home,
+    ) -> Result<bool, Refusal<IncompatibleDimensionalityError>> {
+        inside!(self, grid => grid.find_home(array_indices, home))
     }
 
     fn array_indices_inbounds(&self, array_indices: &[u64]) -> bool

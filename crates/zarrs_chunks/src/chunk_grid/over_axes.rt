@@ -12,7 +12,7 @@ ghost use Rattle.zarrs_chunks.specs.GridKinds.{GridKind, HasEdgesOf, IsConfigura
 ghost use Rattle.zarrs_chunks.specs.lemmas.Refused.{IsRefusedBy};
 
 use super::axis_bounds::AxisBounds;
-use crate::ChunkGridTraits;
+use crate::{ChunkGridTraits, Home};
 use std::alloc::{AllocError, Global};
 use zarrs_chunk_axes::AxisGrid;
 use zarrs_chunk_base::{
@@ -131,6 +131,14 @@ impl<G: OverAxes> ChunkGridTraits for G {
         array_indices: &[u64],
     ) -> Result<Option<ArrayIndices>, Refusal<IncompatibleDimensionalityError>> {
         self.axes().chunk_indices(alloc, array_indices)
+    }
+
+    fn find_home(
+        &self,
+        array_indices: &[u64],
+        home: &mut Home,
+    ) -> Result<bool, Refusal<IncompatibleDimensionalityError>> {
+        self.axes().find_home(array_indices, &mut home.chunk, &mut home.element)
     }
 
     fn array_indices_inbounds(&self, array_indices: &[u64]) -> bool

@@ -1,0 +1,111 @@
+//! What `chunkwhere` answers, as a Rust program with `serde_json` and `itoa` answers it: the tree of the whole text, a line for each
+//! index list, and the text of all lines written at once. It knows the grids and the encoding of the measured documents, and stops at
+//! any other.
+use serde_json::Value;
+use std::io::{Read, Write};
+
+/// The edges of one dimension: one for all chunks, or where each chunk starts and the last one ends.
+enum Edges {
+    Equal(u64),
+    Listed(Vec<u64>),
+}
+
+impl Edges {
+    /// The chunk that holds an index, and the index's place in it.
+    fn home(&self, index: u64) -> Option<(u64, u64)> {
+        match self {
+            Edges::Equal(edge) => Some((index / edge, index % edge)),
+            Edges::Listed(starts) => {
+                let after = starts.partition_point(|start| *start <= index);
+                if after == starts.len() {
+                    return None;
+                }
+                let chunk = after - 1;
+                Some((chunk as u64, index - starts[chunk]))
+            }
+        }
+    }
+}
+
+/// Where each of the chunks of these edges starts, and where the last one ends.
+fn starts(edges: impl Iterator<Item = u64>) -> Edges {
+    let mut starts = vec![0];
+    let mut end = 0;
+    for edge in edges {
+        end += edge;
+        starts.push(end);
+    }
+    Edges::Listed(starts)
+}
+
+/// An edge and how often it comes, or an edge that comes once.
+fn run(element: &Value) -> std::iter::RepeatN<u64> {
+    match element.as_array() {
+        Some(pair) => std::iter::repeat_n(number(&pair[0]), number(&pair[1]) as usize),
+        None => std::iter::repeat_n(number(element), 1),
+    }
+}
+
+fn number(tree: &Value) -> u64 {
+    tree.as_u64().expect("a whole number")
+}
+
+/// The edges of each dimension that a grid's metadata says.
+fn edges(grid: &Value) -> Vec<Edges> {
+    let configuration = &grid["configuration"];
+    let lists = |name: &str| configuration[name].as_array().expect("a list").iter();
+    match grid["name"].as_str() {
+        Some("regular") => lists("chunk_shape").map(|edge| Edges::Equal(number(edge))).collect(),
+        Some("rectangular") => lists("chunk_shape")
+            .map(|dimension| match dimension.as_array() {
+                Some(edges) => starts(edges.iter().map(number)),
+                None => Edges::Equal(number(dimension)),
+            })
+            .collect(),
+        Some("rectilinear") => lists("chunk_shapes")
+            .map(|dimension| match dimension.as_array() {
+                Some(elements) => starts(elements.iter().flat_map(run)),
+                None => Edges::Equal(number(dimension)),
+            })
+            .collect(),
+        name => panic!("not a measured grid: {name:?}"),
+    }
+}
+
+fn main() -> std::io::Result<()> {
+    let mut input = Vec::new();
+    std::io::stdin().read_to_end(&mut input)?;
+    let document: Value = serde_json::from_slice(&input)?;
+    drop(input);
+    let edges = edges(&document["chunk_grid"]);
+    assert_eq!(document["chunk_key_encoding"], "default");
+    let mut text = Vec::new();
+    let mut buffer = itoa::Buffer::new();
+    let mut place = Vec::with_capacity(edges.len());
+    for index in document["indices"].as_array().expect("a list of indices") {
+        let index = index.as_array().expect("an index list");
+        assert_eq!(index.len(), edges.len());
+        let line = text.len();
+        text.push(b'c');
+        place.clear();
+        for (dimension, index) in edges.iter().zip(index) {
+            let Some((chunk, element)) = dimension.home(number(index)) else {
+                break;
+            };
+            text.push(b'/');
+            text.extend_from_slice(buffer.format(chunk).as_bytes());
+            place.push(element);
+        }
+        if place.len() < edges.len() {
+            text.truncate(line);
+            text.push(b'-');
+        } else {
+            for element in &place {
+                text.push(b' ');
+                text.extend_from_slice(buffer.format(*element).as_bytes());
+            }
+        }
+        text.push(b'\n');
+    }
+    std::io::stdout().write_all(&text)
+}
