@@ -14,23 +14,10 @@ use Rattle.chunkwhere.specs.RunFault.{OrMemory}
 abbrev pub numbers : Vec ℕ Global → List ℕ
 numbers v = v.items
 
-abbrev pub lists : Vec (Vec ℕ Global) Global → List (List ℕ)
-lists v = map (λ (w : Vec ℕ Global). w.items) v.items
-
-same_lists : (vs : List (Vec ℕ Global)) → map (λ (v : Vec ℕ Global). map (λ (n : ℕ). n) v.items) vs ≡ map (λ (v : Vec ℕ Global). v.items) vs
-same_lists [] = refl
-same_lists (v ∷ vs) = rw (map-id v.items, same_lists vs) refl
-
 pub shape_is : (d m : Data) (read : Option (Vec ℕ Global)) → get (codes "shape") d ≡ Some m
     → option_map (λ (v : Vec ℕ Global). map (λ (n : ℕ). n) v.items) read ≡ list_of size_of m → shape_of d ≡ option_map numbers read
 shape_is d m None there e = ap (option_and_then (list_of size_of)) there ∙ sym e
 shape_is d m (Some v) there e = ap (option_and_then (list_of size_of)) there ∙ sym e ∙ ap Some (map-id v.items)
-
-pub indices_is : (d m : Data) (read : Option (Vec (Vec ℕ Global) Global)) → get (codes "indices") d ≡ Some m
-    → option_map (λ (v : Vec (Vec ℕ Global) Global). map (λ (w : Vec ℕ Global). map (λ (n : ℕ). n) w.items) v.items) read ≡ list_of (list_of size_of) m
-    → indices_of d ≡ option_map lists read
-indices_is d m None there e = ap (option_and_then (list_of (list_of size_of))) there ∙ sym e
-indices_is d m (Some v) there e = ap (option_and_then (list_of (list_of size_of))) there ∙ sym e ∙ ap Some (same_lists v.items)
 
 -- ---- the members that have to be there
 

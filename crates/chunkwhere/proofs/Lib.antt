@@ -1,3 +1,4 @@
 pub mod DocumentMembers
+pub mod IndexLists
 pub mod Lines
 pub mod Outcomes

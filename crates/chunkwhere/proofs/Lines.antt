@@ -1,31 +1,29 @@
 -- The lines so far, and what they leave to say of the indices that are left.
-use Rattle.std.proofs.Common.{◌≡◌, ◌≢◌, ℕ, zero, suc, ◌+◌, ◌<◌, ◌≤◌, List, [], ◌∷◌, ◌++◌, length, map, drop, get_or, Vec, Global, add-one, refl, sym, ap, ◌∙◌, subst, append_assoc, append-nil, arith}
+use Rattle.std.proofs.Common.{◌≡◌, ◌≢◌, ℕ, zero, suc, ◌+◌, ◌<◌, ◌≤◌, List, [], ◌∷◌, ◌++◌, length, drop, get_or, add-one, refl, sym, ap, ◌∙◌, subst, append_assoc, append-nil, arith}
 use Rattle.std.specs.List.{AllByRecursion}
 use Rattle.zarrs_chunk_base.specs.declared.incompatible_dimensionality_error.IncompatibleDimensionalityError.{IncompatibleDimensionalityError}
+use Rattle.serde_json.specs.declared.value.Value.{Value}
 use Rattle.chunkwhere.specs.Answer.{HasLengthOf, IsFirstWrongLength}
+use Rattle.chunkwhere.specs.Document.{lists_in, sizes_in}
 use Rattle.zarrs_chunk_keys.specs.ChunkKey.{Encoding}
 use Rattle.zarrs_chunk_base.specs.Dimension.{Dimension}
 use Rattle.chunkwhere.specs.Output.{IsLine, IsOutput}
 use Rattle.zarrs_chunk_base.specs.Refusal.{TellsLengths}
 
--- the lists of numbers in vectors
-abbrev pub lists_of : List (Vec ℕ Global) → List (List ℕ)
-lists_of vs = map (λ v. v.items) vs
-
--- what is left from a vector's place on begins with its numbers
-pub rest_begins_with : (vs : List (Vec ℕ Global)) (i : ℕ) (v : Vec ℕ Global) → i < length vs → v ≡ get_or vs i v
-    → drop i (lists_of vs) ≡ v.items ∷ drop (i + 1) (lists_of vs)
-rest_begins_with vs i v within is = rw (add-one) (from_place vs i within is) where
-  from_place : (ws : List (Vec ℕ Global)) (k : ℕ) → k < length ws → v ≡ get_or ws k v → drop k (lists_of ws) ≡ v.items ∷ drop (suc k) (lists_of ws)
+-- what is left from a tree's place on begins with its sizes
+pub rest_begins_with : (trees : List Value) (i : ℕ) (tree : Value) → i < length trees → tree ≡ get_or trees i tree
+    → drop i (lists_in trees) ≡ sizes_in tree ∷ drop (i + 1) (lists_in trees)
+rest_begins_with trees i tree within is = rw (add-one) (from_place trees i within is) where
+  from_place : (trees : List Value) (k : ℕ) → k < length trees → tree ≡ get_or trees k tree → drop k (lists_in trees) ≡ sizes_in tree ∷ drop (suc k) (lists_in trees)
   from_place [] k within is = absurd (omega arith)
-  from_place (w ∷ ws) zero within is = ap (λ (u : Vec ℕ Global). u.items ∷ lists_of ws) (sym is)
-  from_place (w ∷ ws) (suc k) within is = from_place ws k (omega arith) is
+  from_place (t ∷ trees) zero within is = ap (λ u. sizes_in u ∷ lists_in trees) (sym is)
+  from_place (t ∷ trees) (suc k) within is = from_place trees k (omega arith) is
 
-pub nothing_left : (vs : List (Vec ℕ Global)) (i : ℕ) → length vs ≤ i → drop i (lists_of vs) ≡ []
+pub nothing_left : (trees : List Value) (i : ℕ) → length trees ≤ i → drop i (lists_in trees) ≡ []
 nothing_left [] zero h = refl
 nothing_left [] (suc i) h = refl
-nothing_left (v ∷ vs) zero h = absurd (omega arith)
-nothing_left (v ∷ vs) (suc i) h = nothing_left vs i (omega arith)
+nothing_left (t ∷ trees) zero h = absurd (omega arith)
+nothing_left (t ∷ trees) (suc i) h = nothing_left trees i (omega arith)
 
 -- The text has the lines of all indices before the rest, which begins at the position: what holds of the
 -- rest holds, after the text, of all.

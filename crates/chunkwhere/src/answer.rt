@@ -10,11 +10,11 @@ ghost use Rattle.chunkwhere.specs.Output.{IsLine, IsOutput};
 ghost use Rattle.zarrs_chunk_base.specs.Refusal.{IfRefused, TellsLengths};
 ghost use Rattle.chunkwhere.specs.RunFault.{OrMemory};
 
-use crate::document::{Document, read_sizes};
+use crate::document::Document;
 use crate::run_fault::RunFault;
 use serde_json::Value;
 use std::alloc::{AllocError, Global};
-use zarrs_chunk_base::{IncompatibleDimensionalityError, Refusal};
+use zarrs_chunk_base::{IncompatibleDimensionalityError, Refusal, read_list};
 use zarrs_chunk_keys::{ChunkKeyEncoding, append_numerals};
 use zarrs_chunks::{ChunkGrid, ChunkGridTraits, Home};
 
@@ -27,7 +27,7 @@ pub(crate) fn answer(alloc: Global, document: Document) -> Result<String, RunFau
     let grid = grid.map_err(|refusal| refusal.map(RunFault::Grid))?;
     let encoding = ChunkKeyEncoding::from_metadata(alloc, &document.chunk_key_encoding);
     let encoding = encoding.map_err(|refusal| refusal.map(RunFault::Encoding))?;
-    lines(alloc, &grid, &encoding, document.indices)
+    lines(alloc, &grid, &encoding, &document.indices)
 }
 
 /// A line for each index list.
@@ -35,19 +35,19 @@ fn lines<G: ChunkGridTraits>(
     alloc: Global,
     grid: &G,
     encoding: &ChunkKeyEncoding,
-    indices: Vec<Value>,
+    indices: &[Value],
 ) -> Result<String, RunFault>
     ensures { MatchResult result
-        (λ text. AllByRecursion (HasLengthOf (G.dimensions grid.now)) (lists_in indices.items)
-        × IsOutput (G.dimensions grid.now) (encoding_in encoding.now) (lists_in indices.items)
+        (λ text. AllByRecursion (HasLengthOf (G.dimensions grid.now)) (lists_in indices.now)
+        × IsOutput (G.dimensions grid.now) (encoding_in encoding.now) (lists_in indices.now)
         (string_bytes text))
-        (OrMemory (IsIndexFault (G.dimensions grid.now) (lists_in indices.items))) }
+        (OrMemory (IsIndexFault (G.dimensions grid.now) (lists_in indices.now))) }
 {
     let mut text = String::new(alloc);
     let mut index = Vec::new(alloc);
     let mut home = Home::new(alloc);
-    for (position, list) in indices.into_iter().enumerate() {
-        read_sizes(&list, &mut index)?;
+    for (position, list) in indices.iter().enumerate() {
+        read_list(alloc, list, &mut index)?;
         let appended = append_line(&mut text, grid, encoding, &index, &mut home);
         appended.map_err(|refusal| refusal.map(|error| RunFault::Index(position, error)))?;
     }

@@ -1,17 +1,16 @@
 //! The program's document.
-ghost use Rattle.std.specs.Prelude.{◌≡◌, IfOk, MatchResult, OnOk, Some, is_some, option_map};
+ghost use Rattle.std.specs.Prelude.{◌≡◌, IfOk, MatchResult, Some, option_map};
 ghost use Rattle.serde_json.specs.Data.{Data};
 ghost use Rattle.serde_json.specs.Find.{get};
 ghost use Rattle.serde_json.specs.View.{view};
-ghost use Rattle.zarrs_chunk_base.specs.Json.{list_of, size_of};
-ghost use Rattle.chunkwhere.specs.Document.{document_of, indices_of, lists_in, sizes_in, IsTreeOf, IsDocument, IsMissingFault, IsExtensionFault, IsFormFault, IsInputFault};
+ghost use Rattle.chunkwhere.specs.Document.{document_of, indices_of, lists_in, IsTreeOf, IsDocument, IsMissingFault, IsExtensionFault, IsFormFault, IsInputFault};
 ghost use Rattle.zarrs_chunk_base.specs.Metadata.{extension_of, IsExtension};
 ghost use Rattle.chunkwhere.specs.RunFault.{OrMemory};
 
 use crate::run_fault::RunFault;
 use serde_json::Value;
 use std::alloc::{AllocError, Global};
-use zarrs_chunk_base::{MetadataV3, TreeForm};
+use zarrs_chunk_base::{MetadataV3, TreeForm, read_list};
 
 /// An array's metadata, and the indices of the elements to look up.
 #[derive(Drop)]
@@ -78,30 +77,11 @@ fn take_indices(alloc: Global, mut tree: Value) -> Result<Option<Vec<Value>>, Al
     };
     let mut numbers = Vec::new(alloc);
     for list in &lists {
-        if !read_sizes(list, &mut numbers)? {
+        if !read_list::<u64>(alloc, list, &mut numbers)? {
             return Ok(None);
         }
     }
     Ok(Some(lists))
-}
-
-/// Reads the sizes of a list into the memory of other numbers, and tells whether it is such a list. Of another tree no number is read.
-pub(crate) fn read_sizes(tree: &Value, sizes: &mut Vec<u64>) -> Result<bool, AllocError>
-    ensures read { OnOk result (sizes.new.items ≡ sizes_in tree.now) }
-    ensures is { IfOk result (λ is. is ≡ is_some (list_of size_of (view tree.now))) }
-{
-    sizes.clear();
-    let Some(elements) = tree.as_array() else {
-        return Ok(false);
-    };
-    for element in elements {
-        let Some(size) = element.as_u64() else {
-            sizes.clear();
-            return Ok(false);
-        };
-        sizes.push(size)?;
-    }
-    Ok(true)
 }
 
 /// A member that has to be there.

@@ -73,7 +73,7 @@ pub use json::rectilinear_chunk_grid_configuration::RectilinearChunkGridConfigur
 pub use json::regular_chunk_grid_configuration::{
     RegularBoundedChunkGridConfiguration, RegularChunkGridConfiguration,
 };
-pub use json::tree_form::TreeForm;
+pub use json::tree_form::{TreeForm, read_list};
 pub use json::v2_chunk_key_encoding_configuration::V2ChunkKeyEncodingConfiguration;
 pub use metadata_error::MetadataError;
 pub use plugin_create_error::PluginCreateError;

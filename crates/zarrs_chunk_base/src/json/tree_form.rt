@@ -1,5 +1,5 @@
 //! Values that a JSON tree may stand for: sizes, edges, texts, and lists of them.
-ghost use Rattle.std.specs.Prelude.{◌≡◌, IfOk, List, Option, Some, [], ◌∷◌, map, option_map, slice_index, string_bytes, ℕ};
+ghost use Rattle.std.specs.Prelude.{◌≡◌, IfOk, List, OnOk, Option, Some, [], ◌∷◌, is_some, map, option_map, slice_index, string_bytes, unwrap_or, ℕ};
 ghost use Rattle.std.specs.Int.NonZero.{non_zero_u64_get};
 ghost use Rattle.serde_json.specs.Data.{Data, string};
 ghost use Rattle.serde_json.specs.Find.{as_str};
@@ -111,15 +111,9 @@ impl<T: TreeForm> TreeForm for Vec<T> {
     ghost written = { list_tree T.written };
 
     fn from_tree(alloc: Global, tree: &Value) -> Result<Option<Vec<T>>, AllocError> {
-        let Some(elements) = tree.as_array() else {
+        let mut values = Vec::new(alloc);
+        if !read_list(alloc, tree, &mut values)? {
             return Ok(None);
-        };
-        let mut values = Vec::with_capacity(alloc, elements.len())?;
-        for element in elements {
-            let Some(value) = T::from_tree(alloc, element)? else {
-                return Ok(None);
-            };
-            values.push(value)?;
         }
         Ok(Some(values))
     }
@@ -131,6 +125,35 @@ impl<T: TreeForm> TreeForm for Vec<T> {
         }
         Ok(Value::Array(trees))
     }
+}
+
+/// Reads the values that a tree stands for, a list of one form, and leaves them in the memory of other values. `false` where the
+/// tree isn't of the form; then no value is left.
+///
+/// # Errors
+/// There was no memory.
+pub fn read_list<T: TreeForm>(
+    alloc: Global,
+    tree: &Value,
+    values: &mut Vec<T>,
+) -> Result<bool, AllocError>
+    ensures is_list { IfOk result (λ is. is ≡ is_some (list_of T.form (view tree.now))) }
+    ensures values { OnOk result (map T.seen values.new.items
+        ≡ unwrap_or (list_of T.form (view tree.now)) []) }
+{
+    values.clear();
+    let Some(elements) = tree.as_array() else {
+        return Ok(false);
+    };
+    values.reserve_exact(elements.len())?;
+    for element in elements {
+        let Some(value) = T::from_tree(alloc, element)? else {
+            values.clear();
+            return Ok(false);
+        };
+        values.push(value)?;
+    }
+    Ok(true)
 }
 
 /// Two edges, one after the other.

@@ -30,7 +30,7 @@ pub returns-in_err-encoding : goal.returns-in_err-encoding
 returns-in_err-encoding c =
     let p = err_from_is_err_and c.from_residual-in_err-encoding.result c.from_residual-in_err-encoding.ensures.1 in
     let document = document_of c.args.document in
-    let grid = rw c.deref.ensures.value at (value_is_kept _ _ _ _ _ _ c.from_metadata-grid.ensures c.map_err.ensures.cases c.map_err.ensures.variant c.in_ok-grid.was) in
+    let grid = rw c.deref.ensures.value at (value_is_kept _ _ _ _ _ _ c.from_metadata-grid.ensures.made c.map_err.ensures.cases c.map_err.ensures.variant c.in_ok-grid.was) in
     let blames : OrMemory (BlamesEncoding document) (fault_of c.in_err-encoding.field-0.0) = grind arith in
     rw (p.1, p.2) (⊎_elim inl (λ blames. inr (first_fault document _ _ grid blames)) blames)
 
@@ -56,7 +56,8 @@ answered document chunk_grid encoding (Err fault) parts lined = ⊎_elim inl (λ
 pub returns : goal.returns
 returns c =
     let document = document_of c.args.document in
-    let grid = rw c.deref.ensures.value at (value_is_kept _ _ _ _ _ _ c.from_metadata-grid.ensures c.map_err.ensures.cases c.map_err.ensures.variant c.in_ok-grid.was) in
+    let grid = rw c.deref.ensures.value at (value_is_kept _ _ _ _ _ _ c.from_metadata-grid.ensures.made c.map_err.ensures.cases c.map_err.ensures.variant c.in_ok-grid.was) in
     let encoding =
     value_is_kept _ _ _ _ _ _ c.from_metadata-encoding.ensures c.map_err-2.ensures.cases c.map_err-2.ensures.variant c.in_ok-encoding.was in
-    answered document c.in_ok-grid.grid (encoding_in c.in_ok-encoding.encoding) c.lines.result (record { grid = grid; key_encoding = encoding }) c.lines.ensures
+    answered document c.in_ok-grid.grid (encoding_in c.in_ok-encoding.encoding) c.lines.result (record { grid = grid; key_encoding = encoding })
+    (rw c.deref-2.ensures.value at c.lines.ensures)

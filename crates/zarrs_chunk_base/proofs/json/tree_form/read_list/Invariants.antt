@@ -1,7 +1,7 @@
 use Rattle.std.proofs.Common.{◌≡◌, ◌++◌, drop, map, option_map}
 use Rattle.serde_json.specs.View.{items_view}
 use Rattle.zarrs_chunk_base.specs.Json.{each_of}
-use Rattle.zarrs_chunk_base.proofs.json.tree_form.VecTreeForm.from_tree.Given as goal
+use Rattle.zarrs_chunk_base.proofs.json.tree_form.read_list.Given as goal
 
 -- the values so far, and then those of the elements that are left, are those of all elements
 abbrev pub invariant-loop-element : goal.invariant-loop-element
