@@ -15,6 +15,25 @@ const REGULAR: &str = r#"{"name":"regular","configuration":{"chunk_shape":[1,2,3
 
 const DEFAULT: &str = r#"{"name":"default","configuration":{"separator":"/"}}"#;
 
+const DOT: &str = r#"{"name":"default","configuration":{"separator":"."}}"#;
+
+const NO_DIMENSIONS: &str = r#"{"name":"regular","configuration":{"chunk_shape":[]}}"#;
+
+const BOUNDED: &str = r#"{"name":"zarrs.regular_bounded","configuration":{"chunk_shape":[1,2,3]}}"#;
+
+const RECTANGULAR: &str =
+    r#"{"name":"rectangular","configuration":{"chunk_shape":[[5,5,5,15,15,20,35],10]}}"#;
+
+const RECTILINEAR: &str =
+    r#"{"name":"rectilinear","configuration":{"kind":"inline","chunk_shapes":[[[4,3]],3]}}"#;
+
+/// The edges of its first dimension add up to one more than the greatest number.
+const TOO_LONG: &str =
+    r#"{"name":"rectilinear","configuration":{"kind":"inline","chunk_shapes":[[[2,9223372036854775808]],3]}}"#;
+
+const SUFFIXED: &str =
+    r#"{"name":"zarrs.default_suffix","configuration":{"separator":".","suffix":".tiff"}}"#;
+
 const INDICES: &str = "[[3,5,50],[0,0,0],[3,5,50]]";
 
 const LINES: &str = "c/3/2/16 0 1 2\nc/0/0/0 0 0 0\nc/3/2/16 0 1 2\n";
@@ -65,17 +84,47 @@ fn documents_are_answered(rt: HostRuntime) -> Result<(), Fail> {
         (
             SHAPE,
             REGULAR,
-            r#"{"name":"default","configuration":{"separator":"."}}"#,
+            DOT,
             INDICES,
             "c.3.2.16 0 1 2\nc.0.0.0 0 0 0\nc.3.2.16 0 1 2\n",
         ),
-        (SHAPE, REGULAR, DEFAULT, "[]", ""),
         (
-            "[]",
-            r#"{"name":"regular","configuration":{"chunk_shape":[]}}"#,
-            r#""default""#,
-            "[[]]",
-            "c\n",
+            SHAPE,
+            REGULAR,
+            r#""v2""#,
+            INDICES,
+            "3.2.16 0 1 2\n0.0.0 0 0 0\n3.2.16 0 1 2\n",
+        ),
+        ("[]", NO_DIMENSIONS, r#""default""#, "[[]]", "c\n"),
+        ("[]", NO_DIMENSIONS, r#""v2""#, "[[]]", "0\n"),
+        (
+            SHAPE,
+            BOUNDED,
+            r#"{"name":"v2","configuration":{"separator":"/"}}"#,
+            "[[3,6,51],[3,6,52]]",
+            "3/3/17 0 0 0\n-\n",
+        ),
+        (
+            "[100,100]",
+            RECTANGULAR,
+            DOT,
+            "[[17,17],[100,100]]",
+            "c.3.1 2 7\n-\n",
+        ),
+        (
+            "[6,6]",
+            RECTILINEAR,
+            DOT,
+            "[[5,5],[12,0]]",
+            "c.1.1 1 2\n-\n",
+        ),
+        ("[6,6]", RECTILINEAR, DOT, "[]", ""),
+        (
+            "[6,6]",
+            RECTILINEAR,
+            SUFFIXED,
+            "[[5,5],[12,0]]",
+            "c.1.1.tiff 1 2\n-\n",
         ),
         (
             "[18446744073709551615]",
@@ -164,8 +213,12 @@ fn members_are_refused(rt: HostRuntime) -> Result<(), Fail> {
             "field `chunk_key_encoding`: name is missing",
         ),
         (
-            (SHAPE, r#""hexagonal""#, DEFAULT, "[[1]]"),
+            (SHAPE, r#""hexagonal""#, r#""v3""#, "[[1]]"),
             "name `hexagonal` is not supported",
+        ),
+        (
+            grid(r#""regular_bounded""#),
+            "name `regular_bounded` is not supported",
         ),
         (encoding(r#""v3""#), "name `v3` is not supported"),
         (
@@ -175,6 +228,22 @@ fn members_are_refused(rt: HostRuntime) -> Result<(), Fail> {
         (
             encoding(r#"{"name":"default","configuration":{"suffix":""}}"#),
             "configuration is unsupported: unknown field `suffix`, expected `separator`",
+        ),
+        (
+            encoding(r#"{"name":"zarrs.default_suffix","configuration":{"suffix":"x/"}}"#),
+            "chunk key suffix must not end with a slash",
+        ),
+        (
+            ("[100,99]", RECTANGULAR, DEFAULT, "[[1]]"),
+            "index 0: incompatible dimensionality 1, expected 2",
+        ),
+        (
+            ("[99,100]", RECTANGULAR, DEFAULT, "[[1]]"),
+            "rectangular chunk grid configuration: [[5, 5, 5, 15, 15, 20, 35], 10] not compatible with array shape [99, 100]",
+        ),
+        (
+            ("[6,6]", TOO_LONG, DEFAULT, "[]"),
+            "rectilinear chunk grid configuration: [[[2, 9223372036854775808]], 3] not compatible with array shape [6, 6]",
         ),
     ];
     for ((shape, grid, encoding, indices), text) in rows {

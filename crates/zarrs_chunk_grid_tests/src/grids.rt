@@ -14,10 +14,11 @@ use zarrs_chunk_base::{
 };
 use zarrs_chunks::laws::{
     a_grid_is_made_again_of_its_metadata, chunk_indices_names_the_home, chunks_share_no_index,
-    the_box_of_chunks_is_the_union_of_their_boxes, the_cover_names_the_chunks_that_meet_a_box,
+    grids_of_like_dimensions_answer_alike, the_box_of_chunks_is_the_union_of_their_boxes,
+    the_cover_names_the_chunks_that_meet_a_box, the_edges_determine_the_dimensions,
 };
 use zarrs_chunks::{
-    ChunkGrid, ChunkGridTraits, RectangularChunkGrid, RectilinearChunkGrid,
+    ChunkGrid, ChunkGridTraits, Home, RectangularChunkGrid, RectilinearChunkGrid,
     RegularBoundedChunkGrid, RegularChunkGrid,
 };
 
@@ -129,6 +130,18 @@ fn check_look_ups(
     Ok(())
 }
 
+/// Elements one after another, found in one memory, and then a list of another length.
+fn check_homes(rt: &(impl Abort + AllocGlobal), grid: &ChunkGrid) -> Result<(), Fail> {
+    let mut home = Home::new(rt.alloc());
+    for (index, chunk, place) in [(4, 1, 1), (0, 0, 0), (2, 0, 2)] {
+        assert!(rt; grid.find_home(&[index], &mut home)?, "no chunk holds {index}");
+        assert_eq!(rt; home.chunk.as_slice(), [chunk].as_slice());
+        assert_eq!(rt; home.element.as_slice(), [place].as_slice());
+    }
+    assert!(rt; grid.find_home(&[], &mut home).is_err());
+    Ok(())
+}
+
 /// Boxes of both chunks, and covers of the last two elements.
 fn check_boxes(rt: &(impl Abort + AllocGlobal), grid: &ChunkGrid, end: u64) -> Result<(), Fail> {
     let alloc = rt.alloc();
@@ -150,6 +163,7 @@ fn check_calls(rt: &(impl Abort + AllocGlobal), grid: &ChunkGrid, end: u64) -> R
     assert_eq!(rt; grid.array_shape(), [5].as_slice());
     assert_eq!(rt; grid.grid_shape(), [2].as_slice());
     check_look_ups(rt, grid, end.saturating_sub(3))?;
+    check_homes(rt, grid)?;
     check_boxes(rt, grid, end)?;
     assert!(rt; grid.chunk_indices_inbounds(&[1]) && !grid.chunk_indices_inbounds(&[2]));
     assert!(rt; grid.array_indices_inbounds(&[4]) && !grid.array_indices_inbounds(&[5]));
@@ -166,6 +180,8 @@ fn grids_of_each_kind_are_asked(rt: HostRuntime) -> Result<(), Fail> {
         let again = a_grid_is_made_again_of_its_metadata(rt.alloc(), grid)?;
         check_calls(&rt, &again, *end)?;
         assert_eq!(rt; again.metadata(rt.alloc())?.name(), *name);
+        the_edges_determine_the_dimensions(grid, &again);
+        grids_of_like_dimensions_answer_alike(grid, &again);
     }
     Ok(())
 }

@@ -1,6 +1,6 @@
-//! What `chunkwhere` answers, as a Rust program with `serde_json` and `itoa` answers it: the tree of the whole text, a line for each
-//! index list, and the text of all lines written at once. It knows the grids and the encoding of the measured documents, and stops at
-//! any other.
+//! What `chunkwhere` answers, as a Rust program answers it with `serde_json` and `itoa`: the tree of the whole text, for each index
+//! list its chunk, its place and its key, and the text of all lines written at once. The input is given back before the text is formed.
+//! It knows the grids and the encoding of the measured documents, and stops at any other.
 use serde_json::Value;
 use std::io::{Read, Write};
 
@@ -72,6 +72,22 @@ fn edges(grid: &Value) -> Vec<Edges> {
     }
 }
 
+/// The chunk that holds an element, and the element's place in it.
+fn home(edges: &[Edges], index: &[u64]) -> Option<(Vec<u64>, Vec<u64>)> {
+    edges.iter().zip(index).map(|(edges, index)| edges.home(*index)).collect()
+}
+
+/// The key of a chunk.
+fn encode(chunk: &[u64]) -> String {
+    let mut key = String::from("c");
+    let mut buffer = itoa::Buffer::new();
+    for number in chunk {
+        key.push('/');
+        key.push_str(buffer.format(*number));
+    }
+    key
+}
+
 fn main() -> std::io::Result<()> {
     let mut input = Vec::new();
     std::io::stdin().read_to_end(&mut input)?;
@@ -79,33 +95,22 @@ fn main() -> std::io::Result<()> {
     drop(input);
     let edges = edges(&document["chunk_grid"]);
     assert_eq!(document["chunk_key_encoding"], "default");
-    let mut text = Vec::new();
+    let mut text = String::new();
     let mut buffer = itoa::Buffer::new();
-    let mut place = Vec::with_capacity(edges.len());
-    for index in document["indices"].as_array().expect("a list of indices") {
-        let index = index.as_array().expect("an index list");
+    for list in document["indices"].as_array().expect("a list of indices") {
+        let index: Vec<u64> = list.as_array().expect("an index list").iter().map(number).collect();
         assert_eq!(index.len(), edges.len());
-        let line = text.len();
-        text.push(b'c');
-        place.clear();
-        for (dimension, index) in edges.iter().zip(index) {
-            let Some((chunk, element)) = dimension.home(number(index)) else {
-                break;
-            };
-            text.push(b'/');
-            text.extend_from_slice(buffer.format(chunk).as_bytes());
-            place.push(element);
-        }
-        if place.len() < edges.len() {
-            text.truncate(line);
-            text.push(b'-');
-        } else {
-            for element in &place {
-                text.push(b' ');
-                text.extend_from_slice(buffer.format(*element).as_bytes());
+        match home(&edges, &index) {
+            Some((chunk, place)) => {
+                text.push_str(&encode(&chunk));
+                for element in &place {
+                    text.push(' ');
+                    text.push_str(buffer.format(*element));
+                }
             }
+            None => text.push('-'),
         }
-        text.push(b'\n');
+        text.push('\n');
     }
-    std::io::stdout().write_all(&text)
+    std::io::stdout().write_all(text.as_bytes())
 }
