@@ -5,10 +5,12 @@
 
 CHUNKWHERE is the built program, RUST that of the folder `rust` here (`cargo build --release`). For each kind of grid it makes
 a document of 500,000 index lists of three numbers, and sees that both programs print the same. Then it prints, for both and as a
-quotient, the instructions (counted by `valgrind --tool=callgrind`, whatever else runs), the seconds (the middle of nine runs,
+quotient, the instructions (counted by `valgrind --tool=callgrind`, whatever else runs), the seconds (the middle of fifteen runs,
 one program after the other) and the peak of the memory that was resident.
 """
+import hashlib
 import json
+import multiprocessing
 import os
 import random
 import re
@@ -18,6 +20,7 @@ import tempfile
 import time
 
 LISTS = 500_000
+RUNS = 15
 
 
 def documents():
@@ -63,26 +66,42 @@ def run_once(program, path):
 
 
 def output(program, path):
+    """The digest of what a run prints."""
     with open(path, "rb") as document:
-        return subprocess.run([program], stdin=document, stdout=subprocess.PIPE, check=True).stdout
+        run = subprocess.Popen([program], stdin=document, stdout=subprocess.PIPE)
+        digest = hashlib.sha256()
+        for piece in iter(lambda: run.stdout.read(1 << 16), b""):
+            digest.update(piece)
+        assert run.wait() == 0, f"{program} ended with {run.returncode}"
+    return digest.digest()
+
+
+def write_documents(folder):
+    """Writes a document for each kind of grid, and answers their names and paths."""
+    paths = []
+    for name, document in documents():
+        paths.append((name, os.path.join(folder, name + ".json")))
+        with open(paths[-1][1], "w") as file:
+            json.dump(document, file, separators=(",", ":"))
+    return paths
 
 
 def main():
     ours, rust = sys.argv[1:]
     print(f"{'grid':12} {'what':13} {'chunkwhere':>14} {'Rust':>14} {'quotient':>9}")
-    for name, document in documents():
-        with tempfile.NamedTemporaryFile("w", suffix=".json") as file:
-            json.dump(document, file, separators=(",", ":"))
-            file.flush()
-            assert output(ours, file.name) == output(rust, file.name), f"different answers on {name}"
-            counts = [instructions(program, file.name) for program in (ours, rust)]
-            runs = [(run_once(ours, file.name), run_once(rust, file.name)) for _ in range(9)]
-        seconds = [sorted(run[k][0] for run in runs)[4] for k in (0, 1)]
-        peaks = [max(run[k][1] for run in runs) / 1024 for k in (0, 1)]
-        for what, pair, form in (
-            ("instructions", counts, "{:14,}"), ("seconds", seconds, "{:14.3f}"), ("megabytes", peaks, "{:14.1f}"),
-        ):
-            print(f"{name:12} {what:13} {form.format(pair[0])} {form.format(pair[1])} {pair[0] / pair[1]:9.2f}")
+    with tempfile.TemporaryDirectory() as folder, multiprocessing.Pool(1) as pool:
+        # In a process of its own: a program that is started counts the memory of the one that starts it.
+        paths = pool.apply(write_documents, (folder,))
+        for name, path in paths:
+            assert output(ours, path) == output(rust, path), f"different answers on {name}"
+            counts = [instructions(program, path) for program in (ours, rust)]
+            runs = [(run_once(ours, path), run_once(rust, path)) for _ in range(RUNS)]
+            seconds = [sorted(run[k][0] for run in runs)[RUNS // 2] for k in (0, 1)]
+            peaks = [max(run[k][1] for run in runs) / 1024 for k in (0, 1)]
+            for what, pair, form in (
+                ("instructions", counts, "{:14,}"), ("seconds", seconds, "{:14.3f}"), ("megabytes", peaks, "{:14.1f}"),
+            ):
+                print(f"{name:12} {what:13} {form.format(pair[0])} {form.format(pair[1])} {pair[0] / pair[1]:9.2f}")
 
 
 if __name__ == "__main__":
