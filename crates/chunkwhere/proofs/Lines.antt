@@ -10,20 +10,9 @@ use Rattle.zarrs_chunk_base.specs.Dimension.{Dimension}
 use Rattle.chunkwhere.specs.Output.{IsLine, IsOutput}
 use Rattle.zarrs_chunk_base.specs.Refusal.{TellsLengths}
 
--- what is left from a tree's place on begins with its sizes
-pub rest_begins_with : (trees : List Value) (i : ℕ) (tree : Value) → i < length trees → tree ≡ get_or trees i tree
-    → drop i (lists_in trees) ≡ sizes_in tree ∷ drop (i + 1) (lists_in trees)
-rest_begins_with trees i tree within is = rw (add-one) (from_place trees i within is) where
-  from_place : (trees : List Value) (k : ℕ) → k < length trees → tree ≡ get_or trees k tree → drop k (lists_in trees) ≡ sizes_in tree ∷ drop (suc k) (lists_in trees)
-  from_place [] k within is = absurd (omega arith)
-  from_place (t ∷ trees) zero within is = ap (λ u. sizes_in u ∷ lists_in trees) (sym is)
-  from_place (t ∷ trees) (suc k) within is = from_place trees k (omega arith) is
-
-pub nothing_left : (trees : List Value) (i : ℕ) → length trees ≤ i → drop i (lists_in trees) ≡ []
-nothing_left [] zero h = refl
-nothing_left [] (suc i) h = refl
-nothing_left (t ∷ trees) zero h = absurd (omega arith)
-nothing_left (t ∷ trees) (suc i) h = nothing_left trees i (omega arith)
+pub none_left : (trees : List Value) → length trees ≡ 0 → lists_in trees ≡ []
+none_left [] none = refl
+none_left (t ∷ trees) none = absurd (omega arith)
 
 -- The text has the lines of all indices before the rest, which begins at the position: what holds of the
 -- rest holds, after the text, of all.

@@ -27,27 +27,28 @@ pub(crate) fn answer(alloc: Global, document: Document) -> Result<String, RunFau
     let grid = grid.map_err(|refusal| refusal.map(RunFault::Grid))?;
     let encoding = ChunkKeyEncoding::from_metadata(alloc, &document.chunk_key_encoding);
     let encoding = encoding.map_err(|refusal| refusal.map(RunFault::Encoding))?;
-    lines(alloc, &grid, &encoding, &document.indices)
+    lines(alloc, &grid, &encoding, document.indices)
 }
 
-/// A line for each index list.
+/// A line for each index list, which is given back once it is read.
 fn lines<G: ChunkGridTraits>(
     alloc: Global,
     grid: &G,
     encoding: &ChunkKeyEncoding,
-    indices: &[Value],
+    indices: Vec<Value>,
 ) -> Result<String, RunFault>
     ensures { MatchResult result
-        (λ text. AllByRecursion (HasLengthOf (G.dimensions grid.now)) (lists_in indices.now)
-        × IsOutput (G.dimensions grid.now) (encoding_in encoding.now) (lists_in indices.now)
+        (λ text. AllByRecursion (HasLengthOf (G.dimensions grid.now)) (lists_in indices.items)
+        × IsOutput (G.dimensions grid.now) (encoding_in encoding.now) (lists_in indices.items)
         (string_bytes text))
-        (OrMemory (IsIndexFault (G.dimensions grid.now) (lists_in indices.now))) }
+        (OrMemory (IsIndexFault (G.dimensions grid.now) (lists_in indices.items))) }
 {
     let mut text = String::new(alloc);
     let mut index = Vec::new(alloc);
     let mut home = Home::new(alloc);
-    for (position, list) in indices.iter().enumerate() {
-        read_list(alloc, list, &mut index)?;
+    for (position, list) in indices.into_iter().enumerate() {
+        read_list(alloc, &list, &mut index)?;
+        drop(list);
         let appended = append_line(&mut text, grid, encoding, &index, &mut home);
         appended.map_err(|refusal| refusal.map(|error| RunFault::Index(position, error)))?;
     }

@@ -59,5 +59,4 @@ returns c =
     let grid = rw c.deref.ensures.value at (value_is_kept _ _ _ _ _ _ c.from_metadata-grid.ensures.made c.map_err.ensures.cases c.map_err.ensures.variant c.in_ok-grid.was) in
     let encoding =
     value_is_kept _ _ _ _ _ _ c.from_metadata-encoding.ensures c.map_err-2.ensures.cases c.map_err-2.ensures.variant c.in_ok-encoding.was in
-    answered document c.in_ok-grid.grid (encoding_in c.in_ok-encoding.encoding) c.lines.result (record { grid = grid; key_encoding = encoding })
-    (rw c.deref-2.ensures.value at c.lines.ensures)
+    answered document c.in_ok-grid.grid (encoding_in c.in_ok-encoding.encoding) c.lines.result (record { grid = grid; key_encoding = encoding }) c.lines.ensures

@@ -1,4 +1,4 @@
-use Rattle.std.proofs.Common.{drop, string_bytes}
+use Rattle.std.proofs.Common.{string_bytes}
 use Rattle.zarrs_chunk_keys.specs.seen.Encodings.{encoding_in}
 use Rattle.chunkwhere.specs.Document.{lists_in}
 use Rattle.chunkwhere.proofs.Lines.{IsSoFar}
@@ -7,5 +7,5 @@ use Rattle.chunkwhere.proofs.answer.lines.Given as goal
 -- the text has the lines of the indices so far
 abbrev pub invariant-loop-position : goal.invariant-loop-position
 invariant-loop-position g l =
-    let all = lists_in l.indices in
-    IsSoFar (g.G.ChunkGridTraits.dimensions l.grid) (encoding_in l.encoding) all (drop l.position-counter all) l.position-counter (string_bytes l.text)
+    let left = lists_in l.position-iterator.iter.rest.items in
+    IsSoFar (g.G.ChunkGridTraits.dimensions l.grid) (encoding_in l.encoding) (lists_in l.fn.indices.items) left l.position-iterator.count (string_bytes l.text)
