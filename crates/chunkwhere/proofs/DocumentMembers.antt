@@ -1,11 +1,11 @@
 -- What the parts of a document say of the whole.
-use Rattle.std.proofs.Common.{◌≡◌, ℕ, zero, suc, List, [], ◌∷◌, map, IsSome, is_some, Option, None, Some, option_map, option_and_then, Vec, Global, codes, refl, sym, ap, ◌∙◌, inl, inr, ⊎_elim, arith}
+use Rattle.std.proofs.Common.{◌≡◌, ℕ, zero, suc, List, map, IsSome, is_some, Option, None, Some, option_map, option_and_then, Vec, Global, codes, sym, ap, ◌∙◌, inl, inr, ⊎_elim, arith}
 use Rattle.std.proofs.lemmas.List.{map-id}
 use Rattle.serde_json.specs.Data.{Data}
 use Rattle.serde_json.specs.Find.{get}
 use Rattle.chunkwhere.specs.declared.run_fault.RunFault.{RunFault}
 use Rattle.chunkwhere.specs.declared.run_fault.RunFault.TheVariants.{Metadata}
-use Rattle.chunkwhere.specs.Document.{HasMembers, HasSomeExtension, IsExtensionFault, IsFormFault, shape_of, indices_of}
+use Rattle.chunkwhere.specs.Document.{HasMembers, HasSomeExtension, IsExtensionFault, IsFormFault, shape_of}
 use Rattle.zarrs_chunk_base.specs.Json.{list_of, size_of}
 use Rattle.chunkwhere.specs.RunFault.{OrMemory}
 

@@ -6,7 +6,7 @@ use Rattle.serde_json.specs.Find.{get}
 use Rattle.serde_json.specs.View.{items_view, view}
 use Rattle.serde_json.specs.declared.value.Value.{Value, Array}
 use Rattle.serde_json.proofs.Views.{view-Array}
-use Rattle.chunkwhere.specs.Document.{indices_of, lists_in, sizes_in}
+use Rattle.chunkwhere.specs.Document.{indices_of, lists_in}
 use Rattle.zarrs_chunk_base.specs.Json.{each_of, list_of, size_of}
 
 -- the tree is a list of sizes

@@ -1,5 +1,5 @@
 -- The home that was found in the axes so far, and what the rests decide.
-use Rattle.std.proofs.Common.{◌≡◌, ℕ, ◌+◌, List, [], ◌∷◌, ◌++◌, length, map, subst, sym, append_assoc, append-nil, arith}
+use Rattle.std.proofs.Common.{◌≡◌, ℕ, ◌+◌, List, [], ◌∷◌, ◌++◌, length, append_assoc, append-nil, arith}
 use Rattle.zarrs_chunk_base.specs.Dimension.{Dimension, Holds, InBox, IsPlace}
 
 -- the chunk's box holds the index, and the place is the index's in the chunk

@@ -1,16 +1,17 @@
 -- Grids of like dimensions answer alike.
-use Rattle.std.proofs.Common.{◌≡◌, ◌∙◌, ℕ, ◌+◌, ◌-◌, ◌&&◌, ◌<◌, ◌≤◌, Bool, true, false, cond, List, [], ◌∷◌, length, map, nat_le, suc, Some, None, Ok, Err, sym, refl, ap, ap₂, subst, ⊎_elim, inl, inr, arith}
-use Rattle.std.specs.List.{AllByRecursion, AllZip}
-use Rattle.zarrs_chunk_base.specs.ArraySubset.{Box, zero_box}
+use Rattle.std.proofs.Common.{◌≡◌, ◌∙◌, ℕ, ◌+◌, ◌-◌, ◌&&◌, ◌<◌, ◌≤◌, Bool, true, false, cond, List, [], ◌∷◌, length, map, nat_le, suc, Some, None, Ok, Err, sym, refl, ap, ap₂, subst, arith, ⊎_elim, inl, inr}
+use Rattle.std.specs.List.{AllByRecursion}
+use Rattle.zarrs_chunk_base.specs.ArraySubset.{Box, lasts, zero_box}
 use Rattle.zarrs_chunk_base.specs.declared.refusal.Refusal.TheVariants.{Refused, Memory}
 use Rattle.zarrs_chunk_base.specs.Dimension.{Dimension, EndsAt, HasEdge, Holds, InBox, InEach, IsChain, IsChunk, IsEnd, IsOrigin, IsPlace, IsShape, StartsAt}
 use Rattle.zarrs_chunk_base.specs.Greatest.{greatest}
 use Rattle.zarrs_chunk_axes.specs.InBounds.{AreBelow}
 use Rattle.zarrs_chunk_axes.specs.RowMajor.{row_major}
 use Rattle.zarrs_chunk_axes.proofs.RowMajor.{all_below}
-use Rattle.zarrs_chunks.specs.Alike.{AreAlike, AreAllAlike}
+use Rattle.zarrs_chunk_axes.proofs.EachAxis.{answers_weaker}
+use Rattle.zarrs_chunks.specs.Alike.{AnswerAlike, AreAlike, AreAllAlike, chunk_and_box, chunks_and_boxes}
 use Rattle.zarrs_chunks.specs.Subsets.{AnswersEmptyCover, HasNoBox, HasNoHome, IsCover, LookedBox, Spans}
-use Rattle.zarrs_chunks.specs.Walks.{box_at, boxed, chunks_of, ends_within, lengths_at, starts_at}
+use Rattle.zarrs_chunks.specs.Walks.{boxed, chunks_of, ends_within, lengths_at, starts_at}
 
 -- ---- either way round
 
@@ -23,7 +24,7 @@ alike_back d e alike = record {
   end = λ c has. sym (alike.end c ((alike.chunks c).1 has));
 }
 
-pub all_back : (ds es : List Dimension) → AreAllAlike ds es → AreAllAlike es ds
+all_back : (ds es : List Dimension) → AreAllAlike ds es → AreAllAlike es ds
 all_back [] [] alike = tt
 all_back (d ∷ ds) (e ∷ es) alike = (alike_back d e alike.0, all_back ds es alike.1)
 all_back [] (_ ∷ _) alike = absurd alike
@@ -31,7 +32,7 @@ all_back (_ ∷ _) [] alike = absurd alike
 
 -- ---- what is so of the one list is so of the other
 
-pub same_length : (ds es : List Dimension) → AreAllAlike ds es → length ds ≡ length es
+same_length : (ds es : List Dimension) → AreAllAlike ds es → length ds ≡ length es
 same_length [] [] alike = refl
 same_length (d ∷ ds) (e ∷ es) alike = ap suc (same_length ds es alike.1)
 same_length [] (_ ∷ _) alike = absurd alike
@@ -44,10 +45,10 @@ sizes_alike size each (d ∷ ds) (e ∷ es) alike = ap₂ (λ n ns. n ∷ ns) (e
 sizes_alike size each [] (_ ∷ _) alike = absurd alike
 sizes_alike size each (_ ∷ _) [] alike = absurd alike
 
-pub array_shapes_alike : (ds es : List Dimension) → AreAllAlike ds es → map (λ d. d.array_size) ds ≡ map (λ d. d.array_size) es
+array_shapes_alike : (ds es : List Dimension) → AreAllAlike ds es → map (λ d. d.array_size) ds ≡ map (λ d. d.array_size) es
 array_shapes_alike = sizes_alike (λ d. d.array_size) (λ d e alike. alike.array_size)
 
-pub grid_shapes_alike : (ds es : List Dimension) → AreAllAlike ds es → map (λ d. d.grid_size) ds ≡ map (λ d. d.grid_size) es
+grid_shapes_alike : (ds es : List Dimension) → AreAllAlike ds es → map (λ d. d.grid_size) ds ≡ map (λ d. d.grid_size) es
 grid_shapes_alike = sizes_alike (λ d. d.grid_size) (λ d e alike. alike.grid_size)
 
 -- what is so in each dimension
@@ -61,7 +62,7 @@ each_alike R each [] (_ ∷ _) alike chunk xs h = absurd alike
 each_alike R each (_ ∷ _) [] alike chunk xs h = absurd alike
 
 module _ (ds es : List Dimension) (alike : AreAllAlike ds es) where
-  pub box_alike : (chunk index : List ℕ) → InBox ds chunk index → InBox es chunk index
+  box_alike : (chunk index : List ℕ) → InBox ds chunk index → InBox es chunk index
   box_alike = each_alike Holds holds ds es alike where
     holds : (d e : Dimension) (c i : ℕ) → AreAlike d e → Holds d c i → Holds e c i
     holds d e c i alike h = record {
@@ -70,14 +71,14 @@ module _ (ds es : List Dimension) (alike : AreAllAlike ds es) where
       below = subst (λ n. i < n) (alike.end c h.chunk) h.below;
     }
 
-  pub origin_alike : (chunk origin : List ℕ) → IsOrigin ds chunk origin → IsOrigin es chunk origin
+  origin_alike : (chunk origin : List ℕ) → IsOrigin ds chunk origin → IsOrigin es chunk origin
   origin_alike =
       each_alike StartsAt (λ d e c o alike h. record { chunk = (alike.chunks c).0 h.chunk; start = sym (alike.start c h.chunk) ∙ h.start }) ds es alike
 
-  pub end_alike : (chunk end : List ℕ) → IsEnd ds chunk end → IsEnd es chunk end
+  end_alike : (chunk end : List ℕ) → IsEnd ds chunk end → IsEnd es chunk end
   end_alike = each_alike EndsAt (λ d e c o alike h. record { chunk = (alike.chunks c).0 h.chunk; end = sym (alike.end c h.chunk) ∙ h.end }) ds es alike
 
-  pub shape_alike : (chunk shape : List ℕ) → IsShape ds chunk shape → IsShape es chunk shape
+  shape_alike : (chunk shape : List ℕ) → IsShape ds chunk shape → IsShape es chunk shape
   shape_alike = each_alike HasEdge edge ds es alike where
     edge : (d e : Dimension) (c s : ℕ) → AreAlike d e → HasEdge d c s → HasEdge e c s
     edge d e c s alike h = record {
@@ -89,14 +90,14 @@ module _ (ds es : List Dimension) (alike : AreAllAlike ds es) where
           omega arith;
     }
 
-  pub spans_alike : (first last : List ℕ) (b : Box) → Spans ds first last b → Spans es first last b
+  spans_alike : (first last : List ℕ) (b : Box) → Spans ds first last b → Spans es first last b
   spans_alike first last b spans = record {
     is_box = spans.is_box;
     start = origin_alike first b.start spans.start;
     end = end_alike last _ spans.end;
   }
 
-  pub cover_alike : (b cover : Box) → IsCover ds b cover → IsCover es b cover
+  cover_alike : (b cover : Box) → IsCover ds b cover → IsCover es b cover
   cover_alike b cover is = record {
     is_box = is.is_box;
     some = is.some;
@@ -104,7 +105,7 @@ module _ (ds es : List Dimension) (alike : AreAllAlike ds es) where
     last = box_alike _ _ is.last;
   }
 
-pub chunk_alike : (ds es : List Dimension) → AreAllAlike ds es → (chunk : List ℕ) → IsChunk ds chunk → IsChunk es chunk
+chunk_alike : (ds es : List Dimension) → AreAllAlike ds es → (chunk : List ℕ) → IsChunk ds chunk → IsChunk es chunk
 chunk_alike [] [] alike chunk h = h
 chunk_alike (d ∷ ds) (e ∷ es) alike (c ∷ chunk) h = ((alike.0.chunks c).0 h.0, chunk_alike ds es alike.1 chunk h.1)
 chunk_alike (d ∷ ds) (e ∷ es) alike [] h = absurd h
@@ -112,7 +113,7 @@ chunk_alike [] (_ ∷ _) alike chunk h = absurd alike
 chunk_alike (_ ∷ _) [] alike chunk h = absurd alike
 
 -- a place in a chunk that holds the index
-pub place_alike : (ds es : List Dimension) → AreAllAlike ds es → (chunk index place : List ℕ) → InBox ds chunk index → IsPlace ds chunk index place
+place_alike : (ds es : List Dimension) → AreAllAlike ds es → (chunk index place : List ℕ) → InBox ds chunk index → IsPlace ds chunk index place
     → IsPlace es chunk index place
 place_alike [] [] alike chunk index place box h = h
 place_alike (d ∷ ds) (e ∷ es) alike (c ∷ chunk) (i ∷ index) (p ∷ place) box h =
@@ -123,13 +124,13 @@ place_alike (d ∷ ds) (e ∷ es) alike (_ ∷ _) (_ ∷ _) [] box h = absurd h
 place_alike [] (_ ∷ _) alike chunk index place box h = absurd alike
 place_alike (_ ∷ _) [] alike chunk index place box h = absurd alike
 
-pub no_home_alike : (ds es : List Dimension) → AreAllAlike ds es → (index : List ℕ) → HasNoHome ds index → HasNoHome es index
+no_home_alike : (ds es : List Dimension) → AreAllAlike ds es → (index : List ℕ) → HasNoHome ds index → HasNoHome es index
 no_home_alike ds es alike index none chunk box = none chunk (box_alike es ds (all_back ds es alike) chunk index box)
 
-pub no_box_alike : (ds es : List Dimension) → AreAllAlike ds es → (chunk : List ℕ) → HasNoBox ds chunk → HasNoBox es chunk
+no_box_alike : (ds es : List Dimension) → AreAllAlike ds es → (chunk : List ℕ) → HasNoBox ds chunk → HasNoBox es chunk
 no_box_alike ds es alike chunk none b spans = none b (spans_alike es ds (all_back ds es alike) chunk chunk b spans)
 
-pub empty_cover_alike : (ds es : List Dimension) → AreAllAlike ds es → (answer : LookedBox) → AnswersEmptyCover ds answer → AnswersEmptyCover es answer
+empty_cover_alike : (ds es : List Dimension) → AreAllAlike ds es → (answer : LookedBox) → AnswersEmptyCover ds answer → AnswersEmptyCover es answer
 empty_cover_alike ds es alike (Ok (Some cover)) is = is ∙ ap zero_box (same_length ds es alike)
 empty_cover_alike ds es alike (Ok None) is = is
 empty_cover_alike ds es alike (Err (Refused _)) is = is
@@ -137,7 +138,7 @@ empty_cover_alike ds es alike (Err (Memory _)) is = is
 
 -- ---- the walks
 
-pub chunks_alike : (ds es : List Dimension) → AreAllAlike ds es → chunks_of ds ≡ chunks_of es
+chunks_alike : (ds es : List Dimension) → AreAllAlike ds es → chunks_of ds ≡ chunks_of es
 chunks_alike ds es alike = ap row_major (grid_shapes_alike ds es alike)
 
 -- a counted chunk has the same box, and that box ends within the numbers or doesn't
@@ -163,25 +164,66 @@ boxed_alike (d ∷ ds) (e ∷ es) alike chains [] below = absurd below
 boxed_alike [] (_ ∷ _) alike chains chunk below = absurd alike
 boxed_alike (_ ∷ _) [] alike chains chunk below = absurd alike
 
--- so what is made of the chunks that have a box, by the box, is the same
-module _ {X : Type 0} (item : List ℕ → Box → X) (ds es : List Dimension) (alike : AreAllAlike ds es) (chains : AllByRecursion IsChain ds) where
-  item_alike : (chunk : List ℕ) → IsBoxedAlike ds es chunk → item chunk (box_at ds chunk) ≡ item chunk (box_at es chunk)
-  item_alike chunk is = ap₂ (λ start shape. item chunk (record { start = start; shape = shape })) is.starts is.lengths
+-- so the chunks that have a box are the same, and so is each with its box
+module _ (ds es : List Dimension) (alike : AreAllAlike ds es) (chains : AllByRecursion IsChain ds) where
+  with_box_alike : (chunk : List ℕ) → IsBoxedAlike ds es chunk → chunk_and_box ds chunk ≡ chunk_and_box es chunk
+  with_box_alike chunk is = ap₂ (λ start shape. (chunk, record { start = start; shape = shape })) is.starts is.lengths
 
-  made_alike : (chunks : List (List ℕ)) → AllByRecursion (AreBelow (map (λ d. d.grid_size) ds)) chunks
-      → map (λ chunk. item chunk (box_at ds chunk)) (boxed ds chunks) ≡ map (λ chunk. item chunk (box_at es chunk)) (boxed es chunks)
-  made_alike [] below = refl
-  made_alike (chunk ∷ chunks) below =
+  with_boxes_alike : (chunks : List (List ℕ)) → AllByRecursion (AreBelow (map (λ d. d.grid_size) ds)) chunks
+      → map (chunk_and_box ds) (boxed ds chunks) ≡ map (chunk_and_box es) (boxed es chunks)
+  with_boxes_alike [] below = refl
+  with_boxes_alike (chunk ∷ chunks) below =
       let is = boxed_alike ds es alike chains chunk below.0 in
-      let rest = made_alike chunks below.1 in
-      with_head (ends_within ds chunk) (ends_within es chunk) is.within (item_alike chunk is) rest where
-        with_head : (a b : Bool) → a ≡ b → item chunk (box_at ds chunk) ≡ item chunk (box_at es chunk)
-            → map (λ chunk. item chunk (box_at ds chunk)) (boxed ds chunks) ≡ map (λ chunk. item chunk (box_at es chunk)) (boxed es chunks)
-            → map (λ chunk. item chunk (box_at ds chunk)) (cond a (chunk ∷ boxed ds chunks) (boxed ds chunks))
-            ≡ map (λ chunk. item chunk (box_at es chunk)) (cond b (chunk ∷ boxed es chunks) (boxed es chunks))
+      with_head (ends_within ds chunk) (ends_within es chunk) is.within (with_box_alike chunk is) (with_boxes_alike chunks below.1) where
+        with_head : (a b : Bool) → a ≡ b → chunk_and_box ds chunk ≡ chunk_and_box es chunk
+            → map (chunk_and_box ds) (boxed ds chunks) ≡ map (chunk_and_box es) (boxed es chunks)
+            → map (chunk_and_box ds) (cond a (chunk ∷ boxed ds chunks) (boxed ds chunks))
+            ≡ map (chunk_and_box es) (cond b (chunk ∷ boxed es chunks) (boxed es chunks))
         with_head true b same head rest = rw (← same) (ap₂ (λ x xs. x ∷ xs) head rest)
         with_head false b same head rest = rw (← same) rest
 
-  pub walks_alike : map (λ chunk. item chunk (box_at ds chunk)) (boxed ds (chunks_of ds)) ≡ map (λ chunk. item chunk (box_at es chunk)) (boxed es (chunks_of es))
+  walks_alike : chunks_and_boxes ds ≡ chunks_and_boxes es
   walks_alike =
-      made_alike (chunks_of ds) (all_below (map (λ d. d.grid_size) ds)) ∙ ap (λ chunks. map (λ chunk. item chunk (box_at es chunk)) (boxed es chunks)) (chunks_alike ds es alike)
+      with_boxes_alike (chunks_of ds) (all_below (map (λ d. d.grid_size) ds))
+      ∙ ap (λ chunks. map (chunk_and_box es) (boxed es chunks)) (chunks_alike ds es alike)
+
+-- ---- all of it
+
+pub answer_alike : (ds es : List Dimension) → AreAllAlike ds es → AllByRecursion IsChain ds → AnswerAlike ds es
+answer_alike ds es alike chains =
+    let back = all_back ds es alike in
+    let same = same_length ds es alike in
+    record {
+      array_shape = array_shapes_alike ds es alike;
+      grid_shape = grid_shapes_alike ds es alike;
+      chunk_shape = λ chunk answer.
+          answers_weaker (length chunk) (length ds) (length es) _ _ _ _ answer same (λ shape is. shape_alike ds es alike chunk _ is)
+          (λ none is. none (chunk_alike es ds back chunk is));
+      chunk_shape_u64 = λ chunk answer.
+          answers_weaker (length chunk) (length ds) (length es) _ _ _ _ answer same (λ shape is. shape_alike ds es alike chunk _ is)
+          (λ none is. none (chunk_alike es ds back chunk is));
+      chunk_origin = λ chunk answer.
+          answers_weaker (length chunk) (length ds) (length es) _ _ _ _ answer same (λ origin is. origin_alike ds es alike chunk _ is)
+          (λ none origin is. none origin (origin_alike es ds back chunk origin is));
+      chunk_indices = λ index answer.
+          answers_weaker (length index) (length ds) (length es) _ _ _ _ answer same (λ chunk is. box_alike ds es alike _ index is)
+          (no_home_alike ds es alike index);
+      chunk_element_indices = λ index answer.
+          answers_weaker (length index) (length ds) (length es) _ _ _ _ answer same
+          (λ place is. let (chunk, box, at) = is in (chunk, box_alike ds es alike chunk index box, place_alike ds es alike chunk index _ box at))
+          (no_home_alike ds es alike index);
+      subset = λ chunk answer.
+          answers_weaker (length chunk) (length ds) (length es) _ _ _ _ answer same (λ b is. spans_alike ds es alike chunk chunk b is)
+          (no_box_alike ds es alike chunk);
+      chunks_subset = λ chunks answer.
+          let last = lasts chunks.start chunks.shape in
+          answers_weaker (length chunks.start) (length ds) (length es) _ _ _ _ answer same
+          (λ b is. (λ empty. is.0 empty ∙ ap zero_box same, λ some. spans_alike ds es alike chunks.start last b (is.1 some)))
+          (λ none. (none.0, ⊎_elim (λ first. inl (no_box_alike ds es alike chunks.start first)) (λ end. inr (no_box_alike ds es alike last end)) none.1));
+      cover = λ b answer.
+          answers_weaker (length b.start) (length ds) (length es) _ _ _ _ answer same (λ cover is. cover_alike ds es alike b cover is)
+          (⊎_elim (λ first. inl (no_home_alike ds es alike b.start first)) (λ last. inr (no_home_alike ds es alike (lasts b.start b.shape) last)));
+      empty_cover = empty_cover_alike ds es alike;
+      walk = chunks_alike ds es alike;
+      walk_of_boxes = walks_alike ds es alike chains;
+    }

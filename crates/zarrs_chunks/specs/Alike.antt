@@ -1,7 +1,11 @@
 -- Dimensions that have the same chunks, and grids that answer alike.
-use Rattle.std.specs.Prelude.{◌≡◌, ◌↔◌, ℕ, IsTrue, List}
+use Rattle.std.specs.Prelude.{◌≡◌, ◌↔◌, ℕ, IsTrue, List, map}
 use Rattle.std.specs.List.{AllZip}
+use Rattle.zarrs_chunk_base.specs.ArraySubset.{Box}
 use Rattle.zarrs_chunk_base.specs.Dimension.{Dimension}
+use Rattle.zarrs_chunk_axes.specs.LookUp.{AnswersChunk, AnswersOrigin, AnswersPlace, AnswersShape, AnswersShapeNumbers}
+use Rattle.zarrs_chunks.specs.Subsets.{AnswersChunksSubset, AnswersCover, AnswersEmptyCover, AnswersSubset, LookedBox}
+use Rattle.zarrs_chunks.specs.Walks.{box_at, boxed, chunks_of}
 
 -- two dimensions count alike, have the same chunks, and each starts and ends at the same numbers
 pub record AreAlike (d e : Dimension) : Type 0 where
@@ -18,3 +22,26 @@ AreAllAlike = AllZip AreAlike
 -- what the one grid may answer to a question, the other may
 abbrev pub AnswersAsWell : {Q A : Type 0} → (List Dimension → Q → A → Type 0) → List Dimension → List Dimension → Type 0
 AnswersAsWell {Q} {A} Answers ds es = (asked : Q) (answer : A) → Answers ds asked answer → Answers es asked answer
+
+-- a chunk with its box, and the chunks that have one with theirs
+abbrev pub chunk_and_box : List Dimension → List ℕ → List ℕ × Box
+chunk_and_box ds chunk = (chunk, box_at ds chunk)
+
+abbrev pub chunks_and_boxes : List Dimension → List (List ℕ × Box)
+chunks_and_boxes ds = map (chunk_and_box ds) (boxed ds (chunks_of ds))
+
+-- to each call the other grid may answer what the one may, and the walks give the same
+pub record AnswerAlike (ds es : List Dimension) : Type 0 where
+  pub array_shape : map (λ d. d.array_size) ds ≡ map (λ d. d.array_size) es
+  pub grid_shape : map (λ d. d.grid_size) ds ≡ map (λ d. d.grid_size) es
+  pub chunk_shape : AnswersAsWell AnswersShape ds es
+  pub chunk_shape_u64 : AnswersAsWell AnswersShapeNumbers ds es
+  pub chunk_origin : AnswersAsWell AnswersOrigin ds es
+  pub chunk_indices : AnswersAsWell AnswersChunk ds es
+  pub chunk_element_indices : AnswersAsWell AnswersPlace ds es
+  pub subset : AnswersAsWell AnswersSubset ds es
+  pub chunks_subset : AnswersAsWell AnswersChunksSubset ds es
+  pub cover : AnswersAsWell AnswersCover ds es
+  pub empty_cover : (answer : LookedBox) → AnswersEmptyCover ds answer → AnswersEmptyCover es answer
+  pub walk : chunks_of ds ≡ chunks_of es
+  pub walk_of_boxes : chunks_and_boxes ds ≡ chunks_and_boxes es

@@ -24,13 +24,13 @@ ghost use Rattle.zarrs_chunk_axes.specs.Bounded.{AreBounded, IsBounded};
 ghost use Rattle.zarrs_chunk_base.specs.Refusal.{IfRefused};
 ghost use Rattle.zarrs_chunks.specs.GridKinds.{regular_bounded};
 ghost use Rattle.zarrs_chunks.specs.GridNames.{dimensions_in, edges_in, name_in, shape_in};
-ghost use Rattle.zarrs_chunks.specs.Alike.{AnswersAsWell, AreAlike, AreAllAlike};
+ghost use Rattle.zarrs_chunks.specs.Alike.{AnswerAlike, AreAlike, AreAllAlike};
 ghost use Rattle.zarrs_chunks.specs.Clipped.{AreClipped, AreClippedLists};
 ghost use Rattle.zarrs_chunk_axes.specs.InBounds.{AreBelow};
-ghost use Rattle.zarrs_chunk_axes.specs.LookUp.{AnswersChunk, AnswersOrigin, AnswersPlace, AnswersShape, AnswersShapeNumbers};
+ghost use Rattle.zarrs_chunk_axes.specs.LookUp.{AnswersChunk};
 ghost use Rattle.zarrs_chunk_axes.specs.RowMajor.{IsBefore};
-ghost use Rattle.zarrs_chunks.specs.Subsets.{AnswersChunksSubset, AnswersCover, AnswersEmptyCover, AnswersSubset, LookedBox, Spans};
-ghost use Rattle.zarrs_chunks.specs.Walks.{box_at, boxed, chunks_of, ends_within};
+ghost use Rattle.zarrs_chunks.specs.Subsets.{AnswersChunksSubset, AnswersCover, AnswersEmptyCover, Spans};
+ghost use Rattle.zarrs_chunks.specs.Walks.{box_at, chunks_of, ends_within};
 ghost use Rattle.zarrs_chunks.specs.seen.Walks.{chunks_left};
 
 use crate::{ChunkGrid, ChunkGridTraits, ChunkIndices};
@@ -185,43 +185,8 @@ pub fn grids_of_like_dimensions_answer_alike<G: ChunkGridTraits, H: ChunkGridTra
     grid: &G,
     other: &H,
 )
-    ensures array_shape { AreAllAlike (G.dimensions grid.now) (H.dimensions other.now)
-        → map (λ d. d.array_size) (G.dimensions grid.now)
-        ≡ map (λ d. d.array_size) (H.dimensions other.now) }
-    ensures grid_shape { AreAllAlike (G.dimensions grid.now) (H.dimensions other.now)
-        → map (λ d. d.grid_size) (G.dimensions grid.now)
-        ≡ map (λ d. d.grid_size) (H.dimensions other.now) }
-    ensures chunk_shape { AreAllAlike (G.dimensions grid.now) (H.dimensions other.now)
-        → AnswersAsWell AnswersShape (G.dimensions grid.now) (H.dimensions other.now) }
-    ensures chunk_shape_u64 { AreAllAlike (G.dimensions grid.now) (H.dimensions other.now)
-        → AnswersAsWell AnswersShapeNumbers (G.dimensions grid.now) (H.dimensions other.now) }
-    ensures chunk_origin { AreAllAlike (G.dimensions grid.now) (H.dimensions other.now)
-        → AnswersAsWell AnswersOrigin (G.dimensions grid.now) (H.dimensions other.now) }
-    ensures chunk_indices { AreAllAlike (G.dimensions grid.now) (H.dimensions other.now)
-        → AnswersAsWell AnswersChunk (G.dimensions grid.now) (H.dimensions other.now) }
-    ensures chunk_element_indices { AreAllAlike (G.dimensions grid.now) (H.dimensions other.now)
-        → AnswersAsWell AnswersPlace (G.dimensions grid.now) (H.dimensions other.now) }
-    ensures subset { AreAllAlike (G.dimensions grid.now) (H.dimensions other.now)
-        → AnswersAsWell AnswersSubset (G.dimensions grid.now) (H.dimensions other.now) }
-    ensures chunks_subset { AreAllAlike (G.dimensions grid.now) (H.dimensions other.now)
-        → AnswersAsWell AnswersChunksSubset (G.dimensions grid.now) (H.dimensions other.now) }
-    ensures cover { AreAllAlike (G.dimensions grid.now) (H.dimensions other.now)
-        → AnswersAsWell AnswersCover (G.dimensions grid.now) (H.dimensions other.now) }
-    ensures empty_cover { AreAllAlike (G.dimensions grid.now) (H.dimensions other.now)
-        → (answer : LookedBox) → AnswersEmptyCover (G.dimensions grid.now) answer
-        → AnswersEmptyCover (H.dimensions other.now) answer }
-    ensures chunks { AreAllAlike (G.dimensions grid.now) (H.dimensions other.now)
-        → chunks_of (G.dimensions grid.now) ≡ chunks_of (H.dimensions other.now) }
-    ensures boxes { AreAllAlike (G.dimensions grid.now) (H.dimensions other.now)
-        → map (box_at (G.dimensions grid.now))
-        (boxed (G.dimensions grid.now) (chunks_of (G.dimensions grid.now)))
-        ≡ map (box_at (H.dimensions other.now))
-        (boxed (H.dimensions other.now) (chunks_of (H.dimensions other.now))) }
-    ensures chunks_and_boxes { AreAllAlike (G.dimensions grid.now) (H.dimensions other.now)
-        → map {B = List ℕ × Box} (λ chunk. (chunk, box_at (G.dimensions grid.now) chunk))
-        (boxed (G.dimensions grid.now) (chunks_of (G.dimensions grid.now)))
-        ≡ map {B = List ℕ × Box} (λ chunk. (chunk, box_at (H.dimensions other.now) chunk))
-        (boxed (H.dimensions other.now) (chunks_of (H.dimensions other.now))) }
+    ensures { AreAllAlike (G.dimensions grid.now) (H.dimensions other.now)
+        → AnswerAlike (G.dimensions grid.now) (H.dimensions other.now) }
 {}
 
 /// A grid is made again of its metadata and its array shape: one of the same kind, with the same dimensions and edges.

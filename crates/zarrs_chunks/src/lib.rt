@@ -59,8 +59,8 @@
 #![tactic(auto)]
 
 mod chunk_grid;
-pub mod laws;
 mod home;
+pub mod laws;
 mod location;
 mod walks;
 

@@ -138,7 +138,8 @@ impl<G: OverAxes> ChunkGridTraits for G {
         array_indices: &[u64],
         home: &mut Home,
     ) -> Result<bool, Refusal<IncompatibleDimensionalityError>> {
-        self.axes().find_home(array_indices, &mut home.chunk, &mut home.element)
+        self.axes()
+            .find_home(array_indices, &mut home.chunk, &mut home.element)
     }
 
     fn array_indices_inbounds(&self, array_indices: &[u64]) -> bool

@@ -1,4 +1,4 @@
-use Rattle.std.proofs.Common.{List, Result, Ok, Err, MatchResult, String, Global, string_bytes, ⊎_elim, inl, inr, arith}
+use Rattle.std.proofs.Common.{Result, Ok, Err, MatchResult, String, Global, string_bytes, ⊎_elim, inl, inr, arith}
 use Rattle.std.specs.List.{AllByRecursion}
 use Rattle.std.proofs.lemmas.Result.{err_from_is_err_and}
 use Rattle.chunkwhere.specs.Answer.{HasLengthOf, HasParts, IsAnswer, IsAnswerFault, IsIndexFault}

@@ -1,4 +1,4 @@
-use Rattle.std.proofs.Common.{append_assoc, refl}
+use Rattle.std.proofs.Common.{append_assoc}
 use Rattle.chunkwhere.proofs.answer.append_key_and_place.Goals as goal
 
 pub returns : goal.returns

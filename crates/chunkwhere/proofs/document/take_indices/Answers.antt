@@ -1,4 +1,4 @@
-use Rattle.std.proofs.Common.{◌≡◌, ◌<◌, ◌≤◌, false, None, is_some, length, sym, ◌∙◌, arith}
+use Rattle.std.proofs.Common.{◌<◌, ◌≤◌, length, sym, ◌∙◌, arith}
 use Rattle.serde_json.specs.View.{view}
 use Rattle.zarrs_chunk_base.specs.Json.{list_of, size_of}
 use Rattle.chunkwhere.proofs.IndexLists.{IsIndexList, all_are, indices_are, no_list, one_is_not, one_more}
