@@ -1,6 +1,6 @@
 -- The dimensions of the tests' grid that asks for no box twice: along the first one chunk, which ends past the greatest number; along the
 -- second as many chunks of one element as can be counted.
-use Rattle.std.specs.Prelude.{ℕ, ◌+◌, ◌<◌, true, List, [], ◌∷◌, nat_lt, refl}
+use Rattle.std.specs.Prelude.{◌+◌, ◌<◌, true, List, [], ◌∷◌, nat_lt, refl}
 use Rattle.std.specs.List.{AllByRecursion}
 use Rattle.std.proofs.Common.{arith, ltb-true, lt-ltb}
 use Rattle.zarrs_chunk_base.specs.Dimension.{Dimension, IsChain}
