@@ -134,7 +134,10 @@ fn check_look_ups(
 fn check_homes(rt: &(impl Abort + AllocGlobal), grid: &ChunkGrid) -> Result<(), Fail> {
     let mut home = Home::new(rt.alloc());
     for (index, chunk, place) in [(4, 1, 1), (0, 0, 0), (2, 0, 2)] {
-        assert!(rt; grid.find_home(&[index], &mut home)?, "no chunk holds {index}");
+        assert!(rt;
+            grid.find_home(&[index], &mut home)?,
+            "no chunk holds {index}"
+        );
         assert_eq!(rt; home.chunk.as_slice(), [chunk].as_slice());
         assert_eq!(rt; home.element.as_slice(), [place].as_slice());
     }
