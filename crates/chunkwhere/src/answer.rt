@@ -47,6 +47,7 @@ fn lines<G: ChunkGridTraits>(
     let mut index = Vec::new(alloc);
     let mut home = Home::new(alloc);
     for (position, list) in indices.into_iter().enumerate() {
+        // It is a list of sizes, as its document has seen.
         read_list(alloc, &list, &mut index)?;
         drop(list);
         let appended = append_line(&mut text, grid, encoding, &index, &mut home);
