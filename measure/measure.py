@@ -3,7 +3,7 @@
 
     python3 measure.py CHUNKWHERE RUST
 
-CHUNKWHERE is the built program, RUST that of the folder `rust` here (`cargo build --release`). For each kind of grid it makes
+CHUNKWHERE is the built program, RUST that of the folder `rust` here (`cargo build --release`). For three kinds of grid it makes
 a document of 500,000 index lists of three numbers, and sees that both programs print the same. Then it prints, for both and as a
 quotient, the instructions (counted by `valgrind --tool=callgrind`, whatever else runs), the seconds (the middle of fifteen runs,
 one program after the other) and the peak of the memory that was resident.

@@ -25,10 +25,11 @@ pub record Document : Type 0 where
   pub chunk_key_encoding : Extension
   pub indices : List (List ℕ)
 
--- the sizes of a list, and none where a tree is no list of sizes
+-- the sizes that a tree is a list of; the empty list where it is none
 abbrev pub sizes_in : Value → List ℕ
 sizes_in tree = unwrap_or (list_of size_of (view tree)) []
 
+-- the sizes of each of some trees
 abbrev pub lists_in : List Value → List (List ℕ)
 lists_in = map sizes_in
 

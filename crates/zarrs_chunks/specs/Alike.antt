@@ -23,14 +23,15 @@ AreAllAlike = AllZip AreAlike
 abbrev pub AnswersAsWell : {Q A : Type 0} → (List Dimension → Q → A → Type 0) → List Dimension → List Dimension → Type 0
 AnswersAsWell {Q} {A} Answers ds es = (asked : Q) (answer : A) → Answers ds asked answer → Answers es asked answer
 
--- a chunk with its box, and the chunks that have one with theirs
+-- a chunk with its box, and the counted chunks that have one with theirs
 abbrev pub chunk_and_box : List Dimension → List ℕ → List ℕ × Box
 chunk_and_box ds chunk = (chunk, box_at ds chunk)
 
 abbrev pub chunks_and_boxes : List Dimension → List (List ℕ × Box)
 chunks_and_boxes ds = map (chunk_and_box ds) (boxed ds (chunks_of ds))
 
--- to each call the other grid may answer what the one may, and the walks give the same
+-- To each look-up, and about boxes and covers, the other grid may answer what the one may, and the walks give the same. Which indices are in
+-- bounds is left out: a grid may have bounds of its own where an array size is 0.
 pub record AnswerAlike (ds es : List Dimension) : Type 0 where
   pub array_shape : map (λ d. d.array_size) ds ≡ map (λ d. d.array_size) es
   pub grid_shape : map (λ d. d.grid_size) ds ≡ map (λ d. d.grid_size) es

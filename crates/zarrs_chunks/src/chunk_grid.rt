@@ -159,8 +159,9 @@ pub trait ChunkGridTraits: Sized + Drop {
         Ok(Some(home.element))
     }
 
-    /// Finds where the element at these indices lies, and leaves it in `home`, in the memory that this has: for callers that look
-    /// many elements up. `false` where no chunk holds the element; `home` then holds anything, as it does after an error.
+    /// Finds where the element at these indices lies, and leaves it in `home`: for callers that look many elements up. The grids of
+    /// this library use the memory that `home` has; this body gives it new lists. `false` where no chunk holds the element; `home` then
+    /// holds anything, as it does after an error.
     ///
     /// # Errors
     /// The list has another length than the grid has dimensions, or there was no memory.

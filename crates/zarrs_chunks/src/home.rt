@@ -2,7 +2,7 @@
 use std::alloc::Global;
 use zarrs_chunk_base::ArrayIndices;
 
-/// Where an element lies: [`find_home`](crate::ChunkGridTraits::find_home) fills one, and uses its memory again.
+/// Where an element lies, as [`find_home`](crate::ChunkGridTraits::find_home) leaves it.
 #[derive(Debug, Drop)]
 pub struct Home {
     /// The numbers of the chunk that holds the element.

@@ -11,9 +11,9 @@
 //! | The walk gives every chunk that is counted once, in row-major order | [`the_walk_gives_each_chunk_once`] |
 //! | Each element of the array lies in exactly one of them | [`each_element_lies_in_one_chunk_of_the_walk`] |
 //! | The walks over boxes give the boxes of those that have one | [`the_boxes_of_a_walk_are_those_of_its_chunks`] |
-//! | Run-length elements answer as the edges that they stand for, and edges alike in every kind but the bounded one | [`the_edges_determine_the_dimensions`] |
-//! | A bounded grid answers as its clipped edges | [`a_bounded_dimension_is_that_of_its_edges`], [`grids_of_like_dimensions_answer_alike`] |
-//! | A grid is made again of its metadata | [`a_grid_is_made_again_of_its_metadata`] |
+//! | Run-length elements answer as the edges that they stand for: of a [`ChunkGrid`] that isn't bounded, the edges say the dimensions | [`the_edges_determine_the_dimensions`] |
+//! | A bounded grid answers as its clipped edges, where no array size is 0 | [`a_bounded_dimension_is_that_of_its_edges`], [`grids_of_like_dimensions_answer_alike`] |
+//! | A [`ChunkGrid`] is made again of its metadata | [`a_grid_is_made_again_of_its_metadata`] |
 ghost use Rattle.std.specs.Prelude.{◌≡◌, ◌≢◌, ◌↔◌, ◌⊎◌, ℕ, ◌<◌, IfErr, IfOk, IfSome, IsTrue, List, Some, length, map, option_map};
 ghost use Rattle.std.specs.List.{AllPairs, Contains};
 ghost use Rattle.zarrs_chunk_base.specs.ArraySubset.{Box, IsEmptyBox, IsInside};
@@ -172,7 +172,8 @@ pub fn a_bounded_dimension_is_that_of_its_edges()
 {}
 
 /// Grids of one array shape and the same edges have the same dimensions, whether they are `regular`, `rectangular` or
-/// `rectilinear`; run-length elements count as the edges that they stand for. All that a grid answers goes by its dimensions.
+/// `rectilinear`; run-length elements count as the edges that they stand for, and one edge for all chunks isn't the same as a list of it.
+/// Every look-up, box, cover and walk of a grid goes by its dimensions.
 pub fn the_edges_determine_the_dimensions(grid: &ChunkGrid, other: &ChunkGrid)
     ensures { name_in grid.now ≢ regular_bounded.name → name_in other.now ≢ regular_bounded.name
         → shape_in grid.now ≡ shape_in other.now → edges_in grid.now ≡ edges_in other.now
@@ -180,7 +181,7 @@ pub fn the_edges_determine_the_dimensions(grid: &ChunkGrid, other: &ChunkGrid)
 {}
 
 /// Of grids whose dimensions are alike, one by one, the other answers as the one does: each look-up, the boxes of chunks and the
-/// covers, and the walks. So do grids of the same dimensions, and a bounded grid and the grid of its clipped edges.
+/// covers, and the walks. So do a bounded grid and the grid of its clipped edges, where no array size is 0.
 pub fn grids_of_like_dimensions_answer_alike<G: ChunkGridTraits, H: ChunkGridTraits>(
     grid: &G,
     other: &H,
