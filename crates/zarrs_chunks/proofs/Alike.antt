@@ -1,12 +1,15 @@
 -- Grids of like dimensions answer alike.
-use Rattle.std.proofs.Common.{◌≡◌, ◌∙◌, ℕ, ◌+◌, ◌-◌, ◌&&◌, ◌<◌, ◌≤◌, Bool, true, false, cond, List, [], ◌∷◌, length, map, nat_le, suc, Some, None, Ok, Err, sym, refl, ap, ap₂, subst, arith, ⊎_elim, inl, inr}
+use Rattle.std.proofs.Common.{◌≡◌, ◌∙◌, ℕ, ◌+◌, ◌-◌, ◌&&◌, ◌<◌, ◌≤◌, Bool, true, false, cond, List, [], ◌∷◌, length, map, nat_le, suc, Some, None, Result, Ok, Err, sym, refl, ap, ap₂, subst, arith, ⊎_elim, inl, inr}
 use Rattle.std.specs.List.{AllByRecursion}
 use Rattle.zarrs_chunk_base.specs.ArraySubset.{Box, lasts, zero_box}
 use Rattle.zarrs_chunk_base.specs.declared.refusal.Refusal.TheVariants.{Refused, Memory}
 use Rattle.zarrs_chunk_base.specs.Dimension.{Dimension, EndsAt, HasEdge, Holds, InBox, InEach, IsChain, IsChunk, IsEnd, IsOrigin, IsPlace, IsShape, StartsAt}
 use Rattle.zarrs_chunk_base.specs.Greatest.{greatest}
 use Rattle.zarrs_chunk_axes.specs.InBounds.{AreBelow}
+use Rattle.zarrs_chunk_axes.specs.LookUp.{AnswersHome}
 use Rattle.zarrs_chunk_axes.specs.RowMajor.{row_major}
+use Rattle.zarrs_chunk_base.specs.declared.incompatible_dimensionality_error.IncompatibleDimensionalityError.{IncompatibleDimensionalityError}
+use Rattle.zarrs_chunk_base.specs.declared.refusal.Refusal.{Refusal}
 use Rattle.zarrs_chunk_axes.proofs.RowMajor.{all_below}
 use Rattle.zarrs_chunk_axes.proofs.EachAxis.{answers_weaker}
 use Rattle.zarrs_chunks.specs.Alike.{AnswerAlike, AreAlike, AreAllAlike, chunk_and_box, chunks_and_boxes}
@@ -136,6 +139,15 @@ empty_cover_alike ds es alike (Ok None) is = is
 empty_cover_alike ds es alike (Err (Refused _)) is = is
 empty_cover_alike ds es alike (Err (Memory _)) is = is
 
+home_alike : (ds es : List Dimension) → AreAllAlike ds es → (index : List ℕ) (found : Result Bool (Refusal IncompatibleDimensionalityError)) (chunk place : List ℕ)
+    → AnswersHome ds index found chunk place → AnswersHome es index found chunk place
+home_alike ds es alike index (Ok true) chunk place h =
+    let (same, box, at) = h in
+    (same ∙ same_length ds es alike, box_alike ds es alike chunk index box, place_alike ds es alike chunk index place box at)
+home_alike ds es alike index (Ok false) chunk place h = (h.0 ∙ same_length ds es alike, no_home_alike ds es alike index h.1)
+home_alike ds es alike index (Err (Refused e)) chunk place h = rw (← same_length ds es alike) h
+home_alike ds es alike index (Err (Memory e)) chunk place h = h ∙ same_length ds es alike
+
 -- ---- the walks
 
 chunks_alike : (ds es : List Dimension) → AreAllAlike ds es → chunks_of ds ≡ chunks_of es
@@ -212,6 +224,7 @@ answer_alike ds es alike chains =
           answers_weaker (length index) (length ds) (length es) _ _ _ _ answer same
           (λ place is. let (chunk, box, at) = is in (chunk, box_alike ds es alike chunk index box, place_alike ds es alike chunk index _ box at))
           (no_home_alike ds es alike index);
+      find_home = home_alike ds es alike;
       subset = λ chunk answer.
           answers_weaker (length chunk) (length ds) (length es) _ _ _ _ answer same (λ b is. spans_alike ds es alike chunk chunk b is)
           (no_box_alike ds es alike chunk);

@@ -1,9 +1,11 @@
 -- Dimensions that have the same chunks, and grids that answer alike.
-use Rattle.std.specs.Prelude.{◌≡◌, ◌↔◌, ℕ, IsTrue, List, map}
+use Rattle.std.specs.Prelude.{◌≡◌, ◌↔◌, ℕ, Bool, IsTrue, List, Result, map}
 use Rattle.std.specs.List.{AllZip}
 use Rattle.zarrs_chunk_base.specs.ArraySubset.{Box}
 use Rattle.zarrs_chunk_base.specs.Dimension.{Dimension}
-use Rattle.zarrs_chunk_axes.specs.LookUp.{AnswersChunk, AnswersOrigin, AnswersPlace, AnswersShape, AnswersShapeNumbers}
+use Rattle.zarrs_chunk_base.specs.declared.incompatible_dimensionality_error.IncompatibleDimensionalityError.{IncompatibleDimensionalityError}
+use Rattle.zarrs_chunk_base.specs.declared.refusal.Refusal.{Refusal}
+use Rattle.zarrs_chunk_axes.specs.LookUp.{AnswersChunk, AnswersHome, AnswersOrigin, AnswersPlace, AnswersShape, AnswersShapeNumbers}
 use Rattle.zarrs_chunks.specs.Subsets.{AnswersChunksSubset, AnswersCover, AnswersEmptyCover, AnswersSubset, LookedBox}
 use Rattle.zarrs_chunks.specs.Walks.{box_at, boxed, chunks_of}
 
@@ -40,6 +42,8 @@ pub record AnswerAlike (ds es : List Dimension) : Type 0 where
   pub chunk_origin : AnswersAsWell AnswersOrigin ds es
   pub chunk_indices : AnswersAsWell AnswersChunk ds es
   pub chunk_element_indices : AnswersAsWell AnswersPlace ds es
+  pub find_home : (index : List ℕ) (found : Result Bool (Refusal IncompatibleDimensionalityError)) (chunk place : List ℕ)
+      → AnswersHome ds index found chunk place → AnswersHome es index found chunk place
   pub subset : AnswersAsWell AnswersSubset ds es
   pub chunks_subset : AnswersAsWell AnswersChunksSubset ds es
   pub cover : AnswersAsWell AnswersCover ds es
