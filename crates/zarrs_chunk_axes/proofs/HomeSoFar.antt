@@ -17,9 +17,6 @@ pub record HomeSoFar (ds : List Dimension) (index : List ℕ) (ds_left : List Di
   pub none : HasNone ds_left index_left → HasNone ds index
 
 module _ (ds : List Dimension) (index : List ℕ) where
-  pub at_start : (chunk place : List ℕ) → chunk ≡ [] → place ≡ [] → length ds ≡ length index → HomeSoFar ds index ds index chunk place
-  at_start chunk place none nowhere same = rw (none, nowhere) (record { lengths = same; all = λ more more_place h. h; none = λ h. h })
-
   pub one_more : (d : Dimension) (i c p : ℕ) (ds_left : List Dimension) (index_left chunk place : List ℕ) → HomeSoFar ds index (d ∷ ds_left) (i ∷ index_left) chunk place
       → Holds d c i → d.start c + p ≡ i → HomeSoFar ds index ds_left index_left (chunk ++ c ∷ []) (place ++ p ∷ [])
   one_more d i c p ds_left index_left chunk place so_far holds behind = record {
@@ -32,13 +29,6 @@ module _ (ds : List Dimension) (index : List ℕ) where
     no_more : HasNone ds_left index_left → HasNone (d ∷ ds_left) (i ∷ index_left)
     no_more none [] box = absurd box
     no_more none (c ∷ chunk) box = none chunk box.1
-
-  pub none_here : (d : Dimension) (i : ℕ) (ds_left : List Dimension) (index_left chunk place : List ℕ) → HomeSoFar ds index (d ∷ ds_left) (i ∷ index_left) chunk place
-      → ((c : ℕ) → ¬ Holds d c i) → HasNone ds index
-  none_here d i ds_left index_left chunk place so_far none = so_far.none no_first where
-    no_first : HasNone (d ∷ ds_left) (i ∷ index_left)
-    no_first [] box = absurd box
-    no_first (c ∷ chunk) box = none c box.0
 
   pub at_end : (ds_left : List Dimension) (index_left chunk place : List ℕ) → length ds_left ≡ 0 → HomeSoFar ds index ds_left index_left chunk place
       → IsHome ds chunk index place
