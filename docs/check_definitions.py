@@ -3,58 +3,91 @@
 
     python3 docs/check_definitions.py
 
-It prints each public definition there that the page doesn't name, and each name on the page that no file of `specs/` defines, and ends
-with the status 1 where it printed any. The crates of tests have definitions of their own and are passed over.
+A table of the page is about the crate in its heading. In a row the names before a file stand in that file; names after which no file comes
+stand in the file that was named last. The script prints each public definition that its crate's tables don't name, each definition of the
+repository that one of them uses and the page doesn't name, each name that its file doesn't define, and each file that isn't there. It ends
+with the status 1 where it printed any. The crates of tests and of callers have definitions of their own and are passed over.
 """
 import pathlib
 import re
 import sys
 
 ROOT = pathlib.Path(__file__).resolve().parent.parent
-PAGE = (ROOT / "docs" / "DEFINITIONS.md").read_text()
+PAGE = ROOT / "docs" / "DEFINITIONS.md"
 
 # A definition stands at the left margin, or inside a module of parameters, two spaces further right.
 DEFINITION = re.compile(r"^(?:  )?(?:abbrev pub|pub data|pub record|pub unfoldable|unfoldable pub) ([^\s({:]+)", re.M)
-# A constructor is named with its type, and a field of a record with its record.
-NAMED = re.compile(r"`([^`\s]+)`")
+HEADING = re.compile(r"^## .*: `(\w+)`$")
+# What a file takes from another file of a `specs/` folder: the crate, the path to the file, and the names.
+TAKEN = re.compile(r"^use Rattle\.(\w+)\.specs\.([\w.]+)\.\{([^}]*)\}", re.M)
+QUOTED = re.compile(r"`([^`\s]+)`(?: of `(\w+)`)?")
 
 
-def definitions(folder):
-    """The public definitions in the files of a folder, and in which file each is."""
-    found = {}
-    for path in sorted(folder.glob("*.antt")):
-        for name in DEFINITION.findall(path.read_text()):
-            found.setdefault(name, path)
-    return found
+def specs(crate):
+    return ROOT / "crates" / crate / "specs"
+
+
+def taken(path):
+    """The crate and the name of each definition of the repository that a file takes from another one."""
+    for crate, place, names in TAKEN.findall(path.read_text()):
+        source = specs(crate) / (place.replace(".", "/") + ".antt")
+        if source.exists():
+            defined = set(DEFINITION.findall(source.read_text()))
+            yield from ((crate, name) for name in re.split(r",\s*", names) if name in defined)
+
+
+def rows():
+    """The crate of each row of the page, and its cell of names."""
+    crate = None
+    for line in PAGE.read_text().splitlines():
+        heading = HEADING.match(line)
+        if line.startswith("#"):
+            crate = heading.group(1) if heading else None
+        elif crate and line.startswith("| ") and not line.startswith("| In words"):
+            yield crate, line.split(" | ")[1]
+
+
+def places():
+    """The crate of the table, the name, and the file in which the page says that the name stands."""
+    last = {}
+    for crate, cell in rows():
+        waiting = []
+        for quoted, elsewhere in QUOTED.findall(cell):
+            if not quoted.endswith(".antt"):
+                waiting.append(quoted)
+                continue
+            last[crate] = specs(elsewhere or crate) / quoted
+            yield from ((crate, name, last[crate]) for name in waiting)
+            waiting = []
+        yield from ((crate, name, last[crate]) for name in waiting)
 
 
 def main():
-    named = set(NAMED.findall(PAGE))
-    everywhere = set()
-    missing = []
-    for specs in sorted(ROOT.glob("crates/*/specs")):
-        crate = specs.parent.name
-        top = definitions(specs)
-        everywhere |= set(top)
-        for folder in specs.rglob("*"):
-            if folder.is_dir():
-                everywhere |= set(definitions(folder))
-        if crate.endswith("_tests"):
-            continue
-        missing += [f"{path.relative_to(ROOT)}: {name} is not on the page" for name, path in top.items() if name not in named]
-    crates = {folder.name for folder in ROOT.glob("crates/*")}
-    files = {path.name for path in ROOT.glob("crates/*/specs/**/*.antt")}
-    text = "".join(path.read_text() for path in ROOT.glob("crates/*/specs/**/*.antt"))
-    strange = []
-    for name in sorted(named):
-        if name.endswith(".antt"):
-            if name.split("/")[-1] not in files:
-                strange.append(f"DEFINITIONS.md: there is no file {name}")
-        elif re.fullmatch(r"[A-Za-z][A-Za-z0-9_]*", name) and name not in everywhere | crates and not re.search(rf"\b{name}\b", text):
-            strange.append(f"DEFINITIONS.md: nothing is named {name}")
-    for line in missing + strange:
-        print(line)
-    sys.exit(1 if missing or strange else 0)
+    faults = []
+    named = set()
+    for crate, name, path in places():
+        named.add((crate, name))
+        where = path.relative_to(ROOT)
+        if not path.exists():
+            faults.append(f"DEFINITIONS.md: there is no file {where}")
+        elif not re.search(rf"^(?:  )?(?:abbrev )?(?:pub )?(?:unfoldable )?(?:pub )?(?:data |record )?{re.escape(name)}\b", path.read_text(), re.M):
+            faults.append(f"DEFINITIONS.md: {where} doesn't define {name}")
+    for crate in sorted({crate for crate, _ in rows()}):
+        for path in sorted(specs(crate).glob("*.antt")):
+            for name in DEFINITION.findall(path.read_text()):
+                if (crate, name) not in named:
+                    faults.append(f"{path.relative_to(ROOT)}: {name} isn't in the tables of {crate}")
+            for used in taken(path):
+                if used not in named:
+                    faults.append(f"{path.relative_to(ROOT)}: {used[1]} of {used[0]}, which it uses, isn't on the page")
+    tables = {crate for crate, _ in rows()}
+    for folder in sorted(ROOT.glob("crates/*/specs")):
+        crate = folder.parent.name
+        if crate not in tables and not crate.endswith("_tests") and crate != "callers":
+            faults.append(f"{folder.relative_to(ROOT)}: no table of DEFINITIONS.md is about {crate}")
+    for fault in faults:
+        print(fault)
+    sys.exit(1 if faults else 0)
 
 
 if __name__ == "__main__":

@@ -11,7 +11,7 @@ use zarrs_chunk_base::Refusal;
 /// The line that answers a line: its answer as compact JSON, or why it has none, and a line feed.
 ///
 /// # Errors
-/// There was no memory.
+/// Out of memory.
 pub(crate) fn answer(alloc: Global, line: &[u8]) -> Result<Vec<u8>, AllocError>
     ensures { IfOk result (λ answer. IsOneLine answer.items) }
 {

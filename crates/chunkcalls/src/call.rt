@@ -36,7 +36,7 @@ pub(crate) enum Call<'t> {
 
 impl<'t> Call<'t> {
     /// The call of this name. What it is asked of is the tree's member `of`; how many items of a walk are given, the member
-    /// `items`; and `locate` takes the member `chunk_key_encoding` besides.
+    /// `items`; `locate` takes the member `chunk_key_encoding` too.
     pub(crate) fn from_name(
         alloc: Global,
         name: &str,

@@ -9,7 +9,7 @@ use zarrs_chunks::ChunkGrid;
 /// The chunk grid that metadata stands for, of an array with this shape.
 ///
 /// # Errors
-/// The tree is no extension's metadata, the grid can't be made, or there was no memory.
+/// The tree is no extension's metadata, the grid can't be made; or out of memory.
 pub(crate) fn make_grid(
     alloc: Global,
     tree: &Value,
@@ -23,7 +23,7 @@ pub(crate) fn make_grid(
 /// The chunk key encoding that metadata stands for.
 ///
 /// # Errors
-/// The tree is no extension's metadata, the encoding can't be made, or there was no memory.
+/// The tree is no extension's metadata, the encoding can't be made; or out of memory.
 pub(crate) fn make_encoding(
     alloc: Global,
     tree: &Value,

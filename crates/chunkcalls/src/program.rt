@@ -26,7 +26,7 @@ pub fn run_to_status<R: Read + Drop, W: Write + Drop, E: Write>(
 /// Reads lines to the end, writes the answer to each, in order, and gives the writer back.
 ///
 /// # Errors
-/// A read or a write failed, or there was no memory. What has been answered by then is written, if
+/// A read or a write failed, or memory ran out. What has been answered by then is written, if
 /// it can be.
 pub fn run<R: Read + Drop, W: Write + Drop>(
     alloc: Global,

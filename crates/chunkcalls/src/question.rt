@@ -28,7 +28,7 @@ impl<'t> Question<'t> {
     ///
     /// # Errors
     /// The tree is no object; or, where the call is `encode`, a fault of [`of_encoding`](Question::of_encoding), and else one of
-    /// [`of_grid`](Question::of_grid). Or there was no memory.
+    /// [`of_grid`](Question::of_grid). Or out of memory.
     pub(crate) fn from_tree(
         alloc: Global,
         tree: &'t Value,
@@ -45,8 +45,8 @@ impl<'t> Question<'t> {
     /// The question about a key.
     ///
     /// # Errors
-    /// The first that applies: `chunk_key_encoding` or `of` is missing, in this order; `of` is no list of sizes. Or there was
-    /// no memory.
+    /// The first that applies: `chunk_key_encoding` or `of` is missing, in this order; `of` is no list of sizes. Or out of
+    /// memory.
     fn of_encoding(alloc: Global, tree: &'t Value) -> Result<Question<'t>, Refusal<LineFault>> {
         Ok(Question::OfEncoding {
             chunk_key_encoding: required_member(tree, "chunk_key_encoding")?,
@@ -58,8 +58,8 @@ impl<'t> Question<'t> {
     ///
     /// # Errors
     /// The first that applies: `shape`, `chunk_grid` or `call` is missing, in this order; `shape` is no list of sizes; `call`
-    /// is no text; there is no such call; the call takes an argument, and that is missing or isn't of its form. Or there was
-    /// no memory.
+    /// is no text; there is no such call; the call takes an argument, and that is missing or isn't of its form. Or out of
+    /// memory.
     fn of_grid(alloc: Global, tree: &'t Value) -> Result<Question<'t>, Refusal<LineFault>> {
         let shape = required_member(tree, "shape")?;
         let chunk_grid = required_member(tree, "chunk_grid")?;
@@ -81,7 +81,7 @@ impl<'t> Question<'t> {
     ///
     /// # Errors
     /// The first that applies: the grid, or for a key the encoding, can't be made; the call is asked of something that can't be
-    /// made; the call refuses. Or there was no memory.
+    /// made; the call refuses. Or out of memory.
     pub(crate) fn answer(self, alloc: Global) -> Result<Value, Refusal<LineFault>> {
         match self {
             Question::OfGrid {

@@ -16,7 +16,7 @@ pub enum RunFault {
     /// A write or the flush failed, or a write took nothing.
     #[error("output failed")]
     Write,
-    /// There was no memory.
+    /// Out of memory.
     #[error("out of memory")]
     Memory,
 }

@@ -40,7 +40,7 @@ impl WalkItem for (ArrayIndicesTinyVec, ArraySubset) {
 /// The tree of the first items of a walk, at most so many, and of whether more follow.
 ///
 /// # Errors
-/// There was no memory.
+/// Out of memory.
 pub(crate) fn first_items<T: WalkItem, I: Iterator<Item = Result<T, AllocError>> + Drop>(
     alloc: Global,
     walk: I,

@@ -68,7 +68,7 @@ pub record IsDocument (d : Data) (document : Document) : Type 0 where
   pub chunk_key_encoding : HasExtension d (codes "chunk_key_encoding") document.chunk_key_encoding
   pub indices : indices_of d ≡ Some document.indices
 
--- the members that have to be there, in the order in which they are missed
+-- the members that have to be there, in the order in which a missing one is reported
 abbrev pub document_members : List (List ℕ)
 document_members = codes "shape" ∷ codes "chunk_grid" ∷ codes "chunk_key_encoding" ∷ codes "indices" ∷ []
 

@@ -10,6 +10,6 @@ abbrev pub fault_of : Refusal RunFault → RunFault
 fault_of (Refused fault) = fault
 fault_of (OutOfMemory _) = Memory
 
--- there was no memory, or P holds of the fault
+-- out of memory, or P holds of the fault
 abbrev pub OrMemory : (RunFault → Type 0) → RunFault → Type 0
 OrMemory P fault = (fault ≡ Memory) ⊎ P fault

@@ -17,7 +17,7 @@ abbrev pub is_failed_write : {E : Type 0} → Result ℕ E → List ℕ → Bool
 is_failed_write (Ok n) bytes = n == 0 && not (length bytes == 0)
 is_failed_write (Err e) bytes = true
 
--- why reading to the end stopped: a read failed, or there was no memory and none had
+-- why reading to the end stopped: a read failed, or memory ran out and none had
 abbrev pub IsReadFault : RunFault → Bool → Bool → Type 0
 IsReadFault Read old new = new ≡ true
 IsReadFault Memory old new = new ≡ old

@@ -43,7 +43,7 @@ pub fn run_to_status<R: Read, W: Write, E: Write>(
 /// holds the element. Nothing is written before the whole text stands.
 ///
 /// # Errors
-/// The first fault, or there was no memory. A failed read comes first, then a text that is no JSON, then
+/// The first fault; or out of memory. A failed read comes first, then a text that is no JSON, then
 /// a document that isn't of its form (all members have to be there before the form of one is looked
 /// at, in the order `shape`, `chunk_grid`, `chunk_key_encoding`, `indices`), then a grid or an
 /// encoding that can't be made, then an index list of a wrong length, then a failed write.

@@ -8,7 +8,7 @@ use zarrs_chunk_base::{
     IncompatibleDimensionalityError, MetadataError, PluginCreateError, Refusal,
 };
 
-/// Why a run stops. Nothing has been written, save on `Write`.
+/// Why a run stops. Nothing has been written, except on `Write`.
 #[derive(Debug, Drop, Error)]
 pub enum RunFault {
     /// A read failed.
@@ -41,7 +41,7 @@ pub enum RunFault {
     /// A write or the flush failed, or a write took nothing. A beginning of the text may have been written.
     #[error("output failed")]
     Write,
-    /// There was no memory.
+    /// Out of memory.
     #[error("out of memory")]
     Memory,
 }

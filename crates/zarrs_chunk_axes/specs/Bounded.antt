@@ -1,4 +1,4 @@
--- Dimensions whose chunks all have one edge, save that none reaches past the array: the `regular_bounded` grid.
+-- Dimensions whose chunks all have one edge, except that none reaches past the array: the `regular_bounded` grid.
 -- Source: the extension `zarrs.regular_bounded`, after the Zarr V3 core regular grid.
 use Rattle.std.specs.Prelude.{◌≡◌, ◌↔◌, ℕ, ◌+◌, ◌*◌, ◌<◌, ◌≤◌, min, IsTrue, List}
 use Rattle.zarrs_chunk_base.specs.Dimension.{Dimension, InEach}

@@ -6,7 +6,7 @@ use Rattle.zarrs_chunk_base.specs.DimensionEdges.{DimensionEdges, equal, listed}
 use Rattle.zarrs_chunk_base.specs.Greatest.{greatest}
 
 -- A list of edges isn't empty, and its sum reaches over the array but not past the greatest number. Each run-length
--- element stands for at least one edge, so the list is empty just where there are no elements.
+-- element stands for at least one edge, so the list is empty exactly where there are no elements.
 abbrev pub IsRectilinear : ℕ → DimensionEdges → Type 0
 IsRectilinear size (equal edge) = Unit {0}
 IsRectilinear size (listed edges) = (edges ≢ []) × (size ≤ sum edges) × (sum edges ≤ greatest)

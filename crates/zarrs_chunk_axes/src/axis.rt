@@ -34,7 +34,7 @@ pub trait Axis: Sized + Drop {
         ensures { MatchOption result ((o : ℕ) → StartsAt (dimension self.now) chunk o
             → greatest < o) (StartsAt (dimension self.now) chunk) };
 
-    /// The chunk that an index lies in, and how far behind the chunk's start it lies.
+    /// The chunk that an index lies in, and how far after the chunk's start it lies.
     fn home_of(&self, index: u64) -> Option<(u64, u64)>
         ensures { MatchOption result ((c : ℕ) → ¬ Holds (dimension self.now) c index)
             (λ home. Holds (dimension self.now) home.0 index
@@ -98,7 +98,7 @@ pub trait AxisFrom<C>: Axis {
     /// A configuration that tells the edges of the axis, in the form in which one is written.
     ///
     /// # Errors
-    /// There was no memory.
+    /// Out of memory.
     fn configuration(&self, alloc: Global) -> Result<C, AllocError>
         ensures edges { IfOk result (λ c. tells c ≡ Self.edges self.now) }
         ensures written { IfOk result is_written };

@@ -32,7 +32,7 @@ impl<A: Axis> AxisGrid<A> {
     ///
     /// # Errors
     /// The two lists have different lengths, or there is no such dimension somewhere, and the array sizes are handed
-    /// back; or there was no memory.
+    /// back; or out of memory.
     pub fn new<C>(
         alloc: Global,
         array_shape: ArrayShape,
@@ -90,7 +90,7 @@ impl<A: Axis> AxisGrid<A> {
     /// For each dimension how many elements long the chunk is.
     ///
     /// # Errors
-    /// The list has another length than there are dimensions, or there was no memory.
+    /// The list has another length than there are dimensions; or out of memory.
     pub fn chunk_shape(
         &self,
         alloc: Global,
@@ -105,7 +105,7 @@ impl<A: Axis> AxisGrid<A> {
     /// For each dimension where the chunk starts.
     ///
     /// # Errors
-    /// The list has another length than there are dimensions, or there was no memory.
+    /// The list has another length than there are dimensions; or out of memory.
     pub fn chunk_origin(
         &self,
         alloc: Global,
@@ -120,7 +120,7 @@ impl<A: Axis> AxisGrid<A> {
     /// For each dimension the chunk that the index lies in.
     ///
     /// # Errors
-    /// The list has another length than there are dimensions, or there was no memory.
+    /// The list has another length than there are dimensions; or out of memory.
     pub fn chunk_indices(
         &self,
         alloc: Global,
@@ -132,11 +132,11 @@ impl<A: Axis> AxisGrid<A> {
         self.look_up(alloc, indices, A::chunk_of)
     }
 
-    /// Finds for each dimension the chunk that the index lies in, and how far behind the chunk's start it lies, and leaves them in
+    /// Finds for each dimension the chunk that the index lies in, and how far after the chunk's start it lies, and leaves them in
     /// two lists, whatever these held. `false` where there is no such chunk somewhere.
     ///
     /// # Errors
-    /// The list has another length than there are dimensions, or there was no memory.
+    /// The list has another length than there are dimensions; or out of memory.
     pub fn find_home(
         &self,
         indices: &[u64],
@@ -177,7 +177,7 @@ impl<A: Axis> AxisGrid<A> {
     /// Configurations that tell the edges of the dimensions, in the form in which they are written.
     ///
     /// # Errors
-    /// There was no memory.
+    /// Out of memory.
     pub fn configurations<C>(&self, alloc: Global) -> Result<Vec<C>, AllocError>
     where
         A: AxisFrom<C>,
@@ -191,7 +191,7 @@ impl<A: Axis> AxisGrid<A> {
     /// A list of the same dimensions, made with the same edges.
     ///
     /// # Errors
-    /// There was no memory.
+    /// Out of memory.
     pub fn clone(&self) -> Result<AxisGrid<A>, AllocError>
         ensures dimensions { IfOk result (λ grid. dimensions_of grid ≡ dimensions_of self.now) }
         ensures edges { IfOk result (λ grid. edges_of grid ≡ edges_of self.now) }
@@ -266,7 +266,7 @@ fn look_up_each<A: Axis, T: Drop, F: Fn(&A, u64) -> Option<T>>(
     Ok(Some(found))
 }
 
-/// Finds each index in its dimension: the chunk that it lies in, and how far behind the chunk's start.
+/// Finds each index in its dimension: the chunk that it lies in, and how far after the chunk's start.
 fn find_each<A: Axis>(
     axes: &[A],
     indices: &[u64],

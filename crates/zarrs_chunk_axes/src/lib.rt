@@ -6,10 +6,12 @@
 //! crate above hold one list each, and add their names and refusals.
 //!
 //! ```text
-//! let axes = AxisGrid::<EqualAxis>::new(alloc, array_shape, &chunk_shape)?;   // [5, 7, 52], edges 1, 2 and 3
-//! axes.grid_shape()                                // [5, 4, 18]
-//! axes.chunk_indices(alloc, &[3, 5, 50])?          // Some([3, 2, 16])
+//! AxisGrid<EqualAxis>, array shape [5, 7, 52], edges 1, 2 and 3
+//!   grid_shape                      [5, 4, 18]
+//!   chunk_indices  [3, 5, 50]       [3, 2, 16]
 //! ```
+//!
+//! `CALLING.md` has a caller.
 //!
 //! | Module | What it holds |
 //! |---|---|

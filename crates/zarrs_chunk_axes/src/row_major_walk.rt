@@ -51,7 +51,7 @@ impl<'a> RowMajorWalk<'a> {
     /// A copy of the list at which the walk stands.
     ///
     /// # Errors
-    /// There was no memory for the numbers, which are more than four. The walk has ended then.
+    /// Out of memory for the numbers, which are more than four. The walk has ended then.
     pub fn indices(&mut self) -> Result<ArrayIndicesTinyVec, AllocError>
         ensures copy { IfOk result (λ indices. indices.items ≡ numbers_at self.old) }
         ensures stays { OnOk result (self.new ≡ self.old) }
@@ -69,7 +69,7 @@ impl<'a> RowMajorWalk<'a> {
     /// Goes to the next list; `false` at the end, at which the walk stays.
     ///
     /// # Errors
-    /// There was no memory for the numbers, which are more than four. The walk has ended then.
+    /// Out of memory for the numbers, which are more than four. The walk has ended then.
     pub fn step(&mut self) -> Result<bool, AllocError>
         ensures gives { IfOk result (λ found. lists_left self.old ≡ lists_from found self.new) }
         ensures stands { IfOk result (λ found. Stands found self.new) }

@@ -10,7 +10,7 @@ abbrev pub IfRefused : {E : Type 0} → Refusal E → (E → Type 0) → Type 0
 IfRefused (Refused e) P = P e
 IfRefused (Memory _) P = Unit {0}
 
--- what holds of a call's own refusal, and what where there was no memory
+-- what holds of a call's own refusal, and what where it is out of memory
 abbrev pub MatchRefusal : {E : Type 0} → Refusal E → (E → Type 0) → (AllocError → Type 0) → Type 0
 MatchRefusal (Refused e) P Q = P e
 MatchRefusal (Memory error) P Q = Q error

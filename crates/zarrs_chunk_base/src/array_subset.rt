@@ -38,7 +38,7 @@ impl ArraySubset {
     /// The box of so many ranges `0..0`. It is empty, unless there are no dimensions.
     ///
     /// # Errors
-    /// There was no memory.
+    /// Out of memory.
     pub fn new_empty(alloc: Global, dimensionality: usize) -> Result<Self, AllocError>
         ensures { IfOk result (λ subset. subset ≡ zero_box dimensionality) }
     {
@@ -52,7 +52,7 @@ impl ArraySubset {
     /// start.
     ///
     /// # Errors
-    /// There was no memory.
+    /// Out of memory.
     pub fn new_with_ranges(alloc: Global, ranges: &[Range<u64>]) -> Result<Self, AllocError>
         ensures { IfOk result (λ subset. subset
             ≡ record {
@@ -120,7 +120,7 @@ impl ArraySubset {
     /// The first number after each range, one a dimension.
     ///
     /// # Errors
-    /// There was no memory.
+    /// Out of memory.
     pub fn end_exc(&self, alloc: Global) -> Result<Vec<u64>, AllocError>
         ensures { IfOk result (λ v. v.items ≡ ends self.now.start self.now.shape) }
     {
@@ -134,7 +134,7 @@ impl ArraySubset {
     /// The last number of each range, one a dimension; `None` where some range is empty.
     ///
     /// # Errors
-    /// There was no memory.
+    /// Out of memory.
     pub fn end_inc(&self, alloc: Global) -> Result<Option<Vec<u64>>, AllocError>
         ensures { IfOk result (λ end. MatchOption end (IsEmptyBox self.now)
             (λ v. (¬ IsEmptyBox self.now) × (v.items ≡ lasts self.now.start self.now.shape))) }
@@ -174,7 +174,7 @@ impl ArraySubset {
     /// A box with the same starts and sizes.
     ///
     /// # Errors
-    /// There was no memory.
+    /// Out of memory.
     pub fn clone(&self) -> Result<Self, AllocError>
         ensures { IfOk result (λ subset. subset ≡ self.now) }
     {

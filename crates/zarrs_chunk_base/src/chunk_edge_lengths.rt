@@ -24,7 +24,7 @@ impl ChunkEdgeLengths {
     /// Edge lengths of the same elements.
     ///
     /// # Errors
-    /// There was no memory.
+    /// Out of memory.
     pub fn clone(&self) -> Result<ChunkEdgeLengths, AllocError>
         ensures { IfOk result (λ copy. IsSameChunkEdgeLengths copy self.now) }
     {

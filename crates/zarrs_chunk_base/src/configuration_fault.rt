@@ -34,7 +34,7 @@ impl ConfigurationFault {
     /// The same fault, of equal texts.
     ///
     /// # Errors
-    /// There was no memory.
+    /// Out of memory.
     pub fn clone(&self) -> Result<ConfigurationFault, AllocError>
         ensures { IfOk result (λ fault. IsSameConfigurationFault fault self.now) }
     {

@@ -1,19 +1,15 @@
 //! What every layer of chunk grids and chunk keys speaks of: boxes of indices, keys in a store, the edges of
 //! chunks, what extensions look like in JSON, and why calls are refused.
 //!
-//! Every call that takes memory, save `clone`, is passed the allocator; each can answer that there is none. A box of
-//! indices is made of ranges or of a start and a shape, and never ends past the greatest `u64`:
+//! Every call that takes memory, except `clone`, is passed the allocator, and can answer that it is out of memory. `CALLING.md` has a
+//! caller.
 //!
 //! ```text
-//! let subset = ArraySubset::new_with_ranges(alloc, &[3..5, 5..9])?;
-//! subset.contains(&[4, 8])     // true
-//! subset.contains(&[5, 8])     // false: a range ends before its end
-//! StoreKey::new(text)?         // refused where the text ends in a slash
-//!
-//! let metadata = MetadataV3::from_tree(alloc, &tree)?;   // {"name": "regular", "configuration": {"chunk_shape": [1, 2, 3]}}
-//! let configuration = RegularChunkGridConfiguration::from_metadata(alloc, &metadata)?;
-//! configuration.chunk_shape    // [1, 2, 3]
-//! configuration.to_tree(alloc)?                          // {"chunk_shape": [1, 2, 3]}
+//! ArraySubset, the box [3..5, 5..9]: its start is [3, 5], its shape [2, 4]
+//!   contains  [4, 8]       true
+//!   contains  [5, 8]       false: a range doesn't hold its end
+//!   end_exc                [5, 9]
+//!   end_inc                [4, 8]
 //! ```
 //!
 //! | Module | What it holds |
@@ -21,7 +17,7 @@
 //! | `array_subset`, `array_subset_error`, `box_end_error` | a box of indices, and why there is none |
 //! | `store_key`, `store_key_error` | the key of a value in a store, and a text that is none |
 //! | `chunk_key_separator` | what stands between the parts of a chunk key |
-//! | `refusal` | a call's own refusal, or that there was no memory |
+//! | `refusal` | a call's own refusal, or out of memory |
 //! | `incompatible_dimensionality_error` | a list of another length than there are dimensions |
 //! | `rectangular_chunk_grid_dimension_configuration`, `chunk_edge_lengths`, `run_length_element` | the chunk edges of one dimension |
 //! | `in_brackets` | a list as a text, for those that refuse one |

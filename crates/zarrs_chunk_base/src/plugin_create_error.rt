@@ -24,7 +24,7 @@ impl PluginCreateError {
     /// The same refusal, of equal texts.
     ///
     /// # Errors
-    /// There was no memory.
+    /// Out of memory.
     pub fn clone(&self) -> Result<PluginCreateError, AllocError>
         ensures { IfOk result (λ error. IsSamePluginCreateError error self.now) }
     {

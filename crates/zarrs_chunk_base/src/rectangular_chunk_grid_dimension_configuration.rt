@@ -23,7 +23,7 @@ impl RectangularChunkGridDimensionConfiguration {
     /// A configuration with the same edges.
     ///
     /// # Errors
-    /// There was no memory.
+    /// Out of memory.
     pub fn clone(&self) -> Result<RectangularChunkGridDimensionConfiguration, AllocError>
         ensures { IfOk result (λ copy. rectangular_edges copy ≡ rectangular_edges self.now) }
     {

@@ -7,12 +7,12 @@ use std::error::Error;
 use std::fmt;
 use std::fmt::{Debug, Display};
 
-/// A call's own refusal, or that there was no memory.
+/// A call's own refusal, or out of memory.
 #[derive(Debug, Drop)]
 pub enum Refusal<E> {
     /// The call's own refusal.
     Refused(E),
-    /// There was no memory.
+    /// Out of memory.
     Memory(AllocError),
 }
 
@@ -21,7 +21,7 @@ impl<E> Refusal<E> {
     ghost use Rattle.zarrs_chunk_base.specs.Refusal.{IfRefused, IsRefusedAnd, MatchRefusal};
     ghost use Rattle.zarrs_chunk_base.specs.declared.refusal.Refusal.TheVariants.{Memory};
 
-    /// The refusal that `op` makes of the call's own; that there was no memory stays.
+    /// The refusal that `op` makes of the call's own; that it is out of memory stays.
     pub fn map<F, O: FnOnce(E) -> F>(self, op: O) -> Refusal<F>
         requires { IfRefused self (O.pre op) }
         ensures { MatchRefusal self

@@ -59,7 +59,7 @@ impl StoreKey {
     /// A key with the same text.
     ///
     /// # Errors
-    /// There was no memory.
+    /// Out of memory.
     pub fn clone(&self) -> Result<StoreKey, AllocError>
         ensures { IfOk result (λ key. key ≡ self.now) }
     {

@@ -1,8 +1,5 @@
 //! The grids: that each call and each law succeeds with ample memory, and the texts of refusals.
-mod stairs;
-
 use serde_json::Value;
-use stairs::Stairs;
 use std::alloc::{AllocError, Global};
 use std::num::NonZeroU64;
 use std::ops::Range;
@@ -84,20 +81,15 @@ fn check_refused<T: Drop>(
     }
 }
 
-/// The box of these ranges, or none.
+/// The answer is the box of these ranges.
 fn check_box(
     rt: &(impl Abort + AllocGlobal),
     answer: Result<Option<ArraySubset>, Refusal<IncompatibleDimensionalityError>>,
-    ranges: Option<&[Range<u64>]>,
+    ranges: &[Range<u64>],
 ) -> Result<(), Fail> {
-    match (answer?, ranges) {
-        (Some(found), Some(ranges)) => {
-            let expected = ArraySubset::new_with_ranges(rt.alloc(), ranges)?;
-            assert!(rt; found == expected, "{found:?}, and not {expected:?}");
-        }
-        (None, None) => {}
-        (found, _) => assert!(rt; false, "{found:?}"),
-    }
+    let found = answer?.ok_or("no box")?;
+    let expected = ArraySubset::new_with_ranges(rt.alloc(), ranges)?;
+    assert!(rt; found == expected, "{found:?}, and not {expected:?}");
     Ok(())
 }
 
@@ -148,16 +140,16 @@ fn check_homes(rt: &(impl Abort + AllocGlobal), grid: &ChunkGrid) -> Result<(), 
 /// Boxes of both chunks, and covers of the last two elements.
 fn check_boxes(rt: &(impl Abort + AllocGlobal), grid: &ChunkGrid, end: u64) -> Result<(), Fail> {
     let alloc = rt.alloc();
-    check_box(rt, grid.subset(alloc, &[1]), Some(&[3..end]))?;
+    check_box(rt, grid.subset(alloc, &[1]), &[3..end])?;
     let chunks = ArraySubset::new_with_ranges(alloc, &[0..2])?;
-    check_box(rt, grid.chunks_subset(alloc, &chunks), Some(&[0..end]))?;
+    check_box(rt, grid.chunks_subset(alloc, &chunks), &[0..end])?;
     let union = the_box_of_chunks_is_the_union_of_their_boxes(alloc, grid, &chunks);
-    check_box(rt, union, Some(&[0..end]))?;
+    check_box(rt, union, &[0..end])?;
     let elements = ArraySubset::new_with_ranges(alloc, &[3..5])?;
     let cover = grid.chunks_in_array_subset(alloc, &elements);
-    check_box(rt, cover, Some(&[1..2]))?;
+    check_box(rt, cover, &[1..2])?;
     let met = the_cover_names_the_chunks_that_meet_a_box(alloc, grid, &elements);
-    check_box(rt, met, Some(&[1..2]))
+    check_box(rt, met, &[1..2])
 }
 
 /// Each call on a grid of five elements in a chunk of three and another one up to `end`, and each law that makes a call.
@@ -297,43 +289,5 @@ fn a_regular_grid_tells_its_edges(rt: HostRuntime) -> Result<(), Fail> {
     assert!(rt; edges.eq([3]));
     let numbers = grid.chunk_shape_u64(alloc)?;
     assert_eq!(rt; numbers.as_slice(), [3].as_slice());
-    Ok(())
-}
-
-/// One dimension of six elements, in chunks of one, two and three.
-#[test]
-fn a_grid_from_outside_is_asked(rt: HostRuntime) -> Result<(), Fail> {
-    let alloc = rt.alloc();
-    let anything = metadata(alloc, r#""stairs""#)?;
-    let grid = Stairs::create(alloc, &anything, &[6])?;
-    let rows: [(u64, Option<(u64, u64)>); 6] = [
-        (0, Some((0, 0))),
-        (1, Some((1, 0))),
-        (2, Some((1, 1))),
-        (3, Some((2, 0))),
-        (5, Some((2, 2))),
-        (6, None),
-    ];
-    for (index, home) in rows {
-        let chunk = chunk_indices_names_the_home(alloc, &grid, &[index])?;
-        let place = grid.chunk_element_indices(alloc, &[index])?;
-        match home {
-            Some((home, at)) => {
-                assert_eq!(rt; chunk.ok_or("no chunk")?.as_slice(), [home].as_slice());
-                assert_eq!(rt; place.ok_or("no place")?.as_slice(), [at].as_slice());
-            }
-            None => assert!(rt; chunk.is_none() && place.is_none()),
-        }
-    }
-    check_box(&rt, grid.subset(alloc, &[2]), Some(&[3..6]))?;
-    check_box(&rt, grid.subset(alloc, &[3]), None)?;
-    let elements = ArraySubset::new_with_ranges(alloc, &[2..4])?;
-    let cover = grid.chunks_in_array_subset(alloc, &elements);
-    check_box(&rt, cover, Some(&[1..3]))?;
-    let chunks = ArraySubset::new_with_ranges(alloc, &[1..3])?;
-    check_box(&rt, grid.chunks_subset(alloc, &chunks), Some(&[1..6]))?;
-    assert!(rt; grid.chunk_indices_inbounds(&[2]) && !grid.chunk_indices_inbounds(&[3]));
-    assert!(rt; grid.array_indices_inbounds(&[5]) && !grid.array_indices_inbounds(&[6]));
-    check_refused(&rt, grid.subset(alloc, &[]), 0, 1);
     Ok(())
 }

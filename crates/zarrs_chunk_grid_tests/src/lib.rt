@@ -1,13 +1,13 @@
-//! Tests of axes and grids, as a user calls them: that each call answers with ample memory, texts, and a grid that is none
-//! of the libraries' own.
+//! Tests of axes and grids, as a user calls them: that each call answers with ample memory, and texts.
 //!
 //! Tests stand apart from the library, since a crate with tests is proved twice, and in two crates, which are proved side by
-//! side: walks and keys have `zarrs_chunk_walk_tests`. Vectors of numbers stand with the program `chunkcalls`.
+//! side: walks and keys have `zarrs_chunk_walk_tests`. A grid of one's own is tested in `callers`; vectors of numbers stand with
+//! the program `chunkcalls`.
 //!
 //! | Module | What it tests |
 //! |---|---|
 //! | `axes` | lists of axes, and walks through lists of numbers |
-//! | `grids`, `grids::stairs` | the grids, and one from outside |
+//! | `grids` | the grids |
 #![tactic(auto)]
 
 #[cfg(test)]

@@ -22,19 +22,19 @@ pub trait ChunkKeyEncodingTraits: Sized + Drop {
     ///
     /// # Errors
     /// The first that applies: an encoding of several kinds knows no such name (`NameUnsupported`); the configuration isn't
-    /// of its form (`ConfigurationUnsupported`); the encoding doesn't accept it (`Other`). Or there was no memory.
+    /// of its form (`ConfigurationUnsupported`); the encoding doesn't accept it (`Other`). Or out of memory.
     fn create(alloc: Global, metadata: &MetadataV3) -> Result<Self, Refusal<PluginCreateError>>;
 
     /// The configuration of the encoding: what the member `configuration` of its metadata is.
     ///
     /// # Errors
-    /// There was no memory.
+    /// Out of memory.
     fn configuration(&self, alloc: Global) -> Result<Configuration, AllocError>;
 
     /// The key of a chunk, of which the numbers are given, one a dimension.
     ///
     /// # Errors
-    /// There was no memory.
+    /// Out of memory.
     fn encode(&self, alloc: Global, chunk_indices: &[u64]) -> Result<StoreKey, AllocError>
         ensures { IfOk result (is_key self.now chunk_indices.now) };
 

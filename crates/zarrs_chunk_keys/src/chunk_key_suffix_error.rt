@@ -13,7 +13,7 @@ impl ChunkKeySuffixError {
     /// The error about an equal text.
     ///
     /// # Errors
-    /// There was no memory.
+    /// Out of memory.
     pub fn clone(&self) -> Result<ChunkKeySuffixError, AllocError>
         ensures { IfOk result (λ error. string_bytes error.0 ≡ string_bytes self.now.0) }
     {

@@ -1,4 +1,4 @@
-//! What holds of the library's chunk key encodings. What every encoding has to prove, also one of another crate, is the law of
+//! What holds of the library's chunk key encodings. What every encoding has to prove, one of another crate too, is the law of
 //! [`ChunkKeyEncodingTraits`](crate::ChunkKeyEncodingTraits).
 ghost use Rattle.std.specs.Prelude.{◌≡◌, ℕ, IfErr, IfOk, List};
 ghost use Rattle.zarrs_chunk_base.specs.declared.chunk_key_separator.ChunkKeySeparator.{ChunkKeySeparator};
@@ -23,7 +23,7 @@ pub fn a_default_key_names_one_chunk()
 /// An encoding is made again of its metadata.
 ///
 /// # Errors
-/// There was no memory.
+/// Out of memory.
 pub fn an_encoding_is_made_again_of_its_metadata(
     alloc: Global,
     encoding: &ChunkKeyEncoding,

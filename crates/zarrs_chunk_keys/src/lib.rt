@@ -1,18 +1,14 @@
 //! Chunk key encodings: under which key each chunk of an array is stored.
 //!
 //! [`ChunkKeyEncodingTraits`] says what every encoding answers, and proves that equal keys of equally long lists of chunk
-//! numbers come from equal lists. Every call that takes memory, save `clone`, is passed the allocator; each can answer that
-//! there is none.
+//! numbers come from equal lists. Every call that takes memory, except `clone`, is passed the allocator, and can answer that it is out of
+//! memory. `CALLING.md` has callers.
 //!
-//! ```text
-//! DefaultChunkKeyEncoding::new_slash().encode(alloc, &[3, 2, 16])?      // c/3/2/16
-//! V2ChunkKeyEncoding::new_dot().encode(alloc, &[3, 2, 16])?             // 3.2.16
-//! let encoding = DefaultSuffixChunkKeyEncoding::new(ChunkKeySeparator::Dot, suffix)?;    // ".tiff"
-//! encoding.encode(alloc, &[3, 2, 16])?                                  // c.3.2.16.tiff
-//!
-//! let encoding = ChunkKeyEncoding::from_metadata(alloc, &metadata)?;    // by the extension's name
-//! encoding.append_key(&mut text, &[3, 2, 16])?;                         // behind what stands in the text
-//! ```
+//! | Encoding | Separator | Key of the chunk `[3, 2, 16]` |
+//! |---|---|---|
+//! | [`DefaultChunkKeyEncoding`] | `/` | `c/3/2/16` |
+//! | [`V2ChunkKeyEncoding`] | `.` | `3.2.16` |
+//! | [`DefaultSuffixChunkKeyEncoding`], suffix `.tiff` | `.` | `c.3.2.16.tiff` |
 //!
 //! | Module | What it holds |
 //! |---|---|

@@ -7,7 +7,7 @@ use std::alloc::AllocError;
 /// The most bytes that a number and a character before it take up.
 const LONGEST: usize = 21;
 
-/// Room for the numerals of numbers, each behind a character, and so many bytes beside.
+/// Room for the numerals of numbers, each after a character, and so many bytes beside.
 pub(crate) fn room_for(numbers: &[u64], beside: usize) -> usize {
     numbers.len().saturating_mul(LONGEST).saturating_add(beside)
 }
@@ -15,7 +15,7 @@ pub(crate) fn room_for(numbers: &[u64], beside: usize) -> usize {
 /// Appends a number's digits to a text.
 ///
 /// # Errors
-/// There was no memory; the text is as it was.
+/// Out of memory; the text is as it was.
 pub(crate) fn append_numeral(text: &mut String, number: u64) -> Result<(), AllocError>
     ensures { OnOk result ((numeral : List ℕ) × IsNumeral number numeral
         × (string_bytes text.new ≡ string_bytes text.old ++ numeral)) }
@@ -27,7 +27,7 @@ pub(crate) fn append_numeral(text: &mut String, number: u64) -> Result<(), Alloc
 /// Appends to a text, for each number, the ASCII character and the number's digits.
 ///
 /// # Errors
-/// There was no memory; the text then ends in a beginning of this.
+/// Out of memory; the text then ends in a beginning of this.
 pub fn append_numerals(text: &mut String, before: char, numbers: &[u64]) -> Result<(), AllocError>
     requires { before < 128 }
     ensures { OnOk result ((numerals : List ℕ) × IsNumerals before numbers.now numerals

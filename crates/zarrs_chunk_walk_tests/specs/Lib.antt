@@ -1,2 +1,1 @@
 pub mod Overlong
-pub mod Versioned

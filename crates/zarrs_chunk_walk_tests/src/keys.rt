@@ -1,14 +1,8 @@
-//! Chunk key encodings and `locate`: that each call and each law succeeds with ample memory, keys of many dimensions, and an
-//! encoding from outside.
-mod versioned;
-
-use crate::regular::regular_grid;
-use serde_json::Value;
+//! Chunk key encodings: that each call and each law succeeds with ample memory, and keys of many dimensions.
 use std::alloc::{AllocError, Global};
 use std::process::Abort;
 use std::test::Fail;
-use versioned::Versioned;
-use zarrs_chunk_base::{ChunkKeySeparator, MetadataV3};
+use zarrs_chunk_base::ChunkKeySeparator;
 use zarrs_chunk_keys::laws::{
     a_default_key_names_one_chunk, an_encoding_is_made_again_of_its_metadata,
 };
@@ -16,8 +10,6 @@ use zarrs_chunk_keys::{
     ChunkKeyEncoding, ChunkKeyEncodingTraits, ChunkKeySuffixError, DefaultChunkKeyEncoding,
     DefaultSuffixChunkKeyEncoding, V2ChunkKeyEncoding,
 };
-use zarrs_chunks::laws::key_and_place_determine_the_index;
-use zarrs_chunks::locate;
 
 /// A row of encodings: an encoding, its key of the chunk `[1, 23]`, and its name.
 type Row = (ChunkKeyEncoding, &'static str, &'static str);
@@ -124,21 +116,5 @@ fn keys_of_a_thousand_dimensions_are_written(rt: HostRuntime) -> Result<(), Fail
         .clone()?
         .encode(rt.alloc(), &chunk)?;
     assert_eq!(rt; key.as_str().len(), 21001);
-    Ok(())
-}
-
-#[test]
-fn an_encoding_from_outside_is_asked(rt: HostRuntime) -> Result<(), Fail> {
-    let alloc = rt.alloc();
-    let tree = Value::from_slice(alloc, br#"{"name":"x","configuration":{"separator":"."}}"#)?;
-    let metadata = MetadataV3::from_tree(alloc, &tree)?;
-    let encoding = Versioned::<DefaultChunkKeyEncoding>::create(alloc, &metadata)?;
-    let _configuration = encoding.configuration(alloc)?;
-    let grid = regular_grid(alloc, &[5, 7, 52], &[1, 2, 3])?;
-    let located = locate(alloc, &grid, &encoding, &[3, 5, 50])?.ok_or("no chunk")?;
-    assert_eq!(rt; located.chunk.as_slice(), [3, 2, 16].as_slice());
-    assert_eq!(rt; located.key.as_str(), "c.3.2.16.v1");
-    assert_eq!(rt; located.element.as_slice(), [0, 1, 2].as_slice());
-    key_and_place_determine_the_index(&grid, &encoding);
     Ok(())
 }

@@ -2,19 +2,25 @@
 //! at once.
 mod overlong;
 
-use crate::regular::regular_grid;
 use overlong::Overlong;
-use std::alloc::AllocError;
+use std::alloc::{AllocError, Global};
 use std::cell::Cell;
+use std::num::NonZeroU64;
 use std::process::Abort;
 use std::test::Fail;
 use zarrs_chunks::laws::{
     each_element_lies_in_one_chunk_of_the_walk, the_boxes_of_a_walk_are_those_of_its_chunks,
     the_walk_gives_each_chunk_once,
 };
-use zarrs_chunks::{ChunkGridTraits, ChunkIndices};
+use zarrs_chunks::{ChunkGridTraits, ChunkIndices, RegularChunkGrid};
 
-/// The walk gives these chunks and ends. It stays ended, also after an error, which is handed on.
+/// A regular grid of one chunk an element.
+fn grid_of_elements(alloc: Global, array_shape: &[u64]) -> Result<RegularChunkGrid, Fail> {
+    let chunk_shape = vec![in alloc; NonZeroU64::MIN; array_shape.len()]?;
+    Ok(RegularChunkGrid::new(alloc, array_shape.to_vec(alloc)?, chunk_shape)?)
+}
+
+/// The walk gives these chunks and ends. It stays ended, even after an error, which is handed on.
 fn check_walk(
     rt: &impl Abort,
     mut walk: ChunkIndices<'_>,
@@ -37,7 +43,7 @@ fn check_walk(
 #[test]
 fn more_than_four_dimensions_are_walked(rt: HostRuntime) -> Result<(), Fail> {
     let alloc = rt.alloc();
-    let grid = regular_grid(alloc, &[1, 1, 1, 1, 2], &[1, 1, 1, 1, 1])?;
+    let grid = grid_of_elements(alloc, &[1, 1, 1, 1, 2])?;
     let chunks: [&[u64]; 2] = [&[0, 0, 0, 0, 0], &[0, 0, 0, 0, 1]];
     check_walk(&rt, the_walk_gives_each_chunk_once(alloc, &grid), &chunks)?;
     check_walk(

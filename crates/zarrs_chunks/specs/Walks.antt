@@ -35,7 +35,7 @@ abbrev pub box_at : List Dimension → List ℕ → Box
 box_at ds chunk = record { start = starts_at ds chunk; shape = lengths_at ds chunk }
 
 -- What `next` of a walk gives, by what is left before and after it, and by the chunks that it still comes by: the first of what was left, as `view`
--- shows it, and the others are left then; nothing, where nothing was left; or that there was no memory, where the chunks ahead may need some.
+-- shows it, and the others are left then; nothing, where nothing was left; or out of memory, where the chunks ahead may need some.
 -- After the last two nothing is left, and no chunk is ahead that could need memory.
 abbrev pub Gives : {W T X Y : Type 0} → (W → List Y) → (W → List X) → (T → X) → (List Y → Type 0) → W → Option (Result T AllocError) → W → Type 0
 Gives ahead left view MayFail before (Some (Ok item)) after = left before ≡ view item ∷ left after

@@ -44,7 +44,7 @@ use zarrs_chunk_base::{
 /// dimension.
 ///
 /// A look-up refuses a list of another length than the grid has dimensions, and otherwise can answer
-/// that there was no memory; a grid without dimensions needs none, save for the box of a box of chunks and the cover.
+/// that it is out of memory; a grid without dimensions needs none, except for the box of a box of chunks and the cover.
 ///
 /// Source: Zarr V3 core, chunk grids; ZEP 3, variable chunks.
 pub trait ChunkGridTraits: Sized + Drop {
@@ -69,7 +69,7 @@ pub trait ChunkGridTraits: Sized + Drop {
     /// The configuration of the grid: what the member `configuration` of its metadata is.
     ///
     /// # Errors
-    /// There was no memory.
+    /// Out of memory.
     fn configuration(&self, alloc: Global) -> Result<Configuration, AllocError>;
 
     /// The number of dimensions.
@@ -87,7 +87,7 @@ pub trait ChunkGridTraits: Sized + Drop {
     /// The edges of a chunk; `None` where there is no such chunk.
     ///
     /// # Errors
-    /// The list has another length than the grid has dimensions, or there was no memory.
+    /// The list has another length than the grid has dimensions; or out of memory.
     fn chunk_shape(
         &self,
         alloc: Global,
@@ -100,7 +100,7 @@ pub trait ChunkGridTraits: Sized + Drop {
     /// 18446744073709551615.
     ///
     /// # Errors
-    /// The list has another length than the grid has dimensions, or there was no memory.
+    /// The list has another length than the grid has dimensions; or out of memory.
     fn chunk_origin(
         &self,
         alloc: Global,
@@ -112,7 +112,7 @@ pub trait ChunkGridTraits: Sized + Drop {
     /// The chunk that holds the element at these indices; `None` where no chunk does.
     ///
     /// # Errors
-    /// The list has another length than the grid has dimensions, or there was no memory.
+    /// The list has another length than the grid has dimensions; or out of memory.
     fn chunk_indices(
         &self,
         alloc: Global,
@@ -124,7 +124,7 @@ pub trait ChunkGridTraits: Sized + Drop {
     /// The edges of a chunk as plain numbers; `None` where there is no such chunk.
     ///
     /// # Errors
-    /// The list has another length than the grid has dimensions, or there was no memory.
+    /// The list has another length than the grid has dimensions; or out of memory.
     fn chunk_shape_u64(
         &self,
         alloc: Global,
@@ -143,7 +143,7 @@ pub trait ChunkGridTraits: Sized + Drop {
     /// first element; `None` where no chunk holds it.
     ///
     /// # Errors
-    /// The list has another length than the grid has dimensions, or there was no memory.
+    /// The list has another length than the grid has dimensions; or out of memory.
     fn chunk_element_indices(
         &self,
         alloc: Global,
@@ -164,7 +164,7 @@ pub trait ChunkGridTraits: Sized + Drop {
     /// holds anything, as it does after an error.
     ///
     /// # Errors
-    /// The list has another length than the grid has dimensions, or there was no memory.
+    /// The list has another length than the grid has dimensions; or out of memory.
     fn find_home(
         &self,
         array_indices: &[u64],
@@ -191,7 +191,7 @@ pub trait ChunkGridTraits: Sized + Drop {
     /// 18446744073709551615.
     ///
     /// # Errors
-    /// The list has another length than the grid has dimensions, or there was no memory.
+    /// The list has another length than the grid has dimensions; or out of memory.
     fn subset(
         &self,
         alloc: Global,
@@ -214,7 +214,7 @@ pub trait ChunkGridTraits: Sized + Drop {
     /// [`subset`](ChunkGridTraits::subset).
     ///
     /// # Errors
-    /// The box has another number of dimensions than the grid, or there was no memory.
+    /// The box has another number of dimensions than the grid; or out of memory.
     fn chunks_subset(
         &self,
         alloc: Global,
@@ -241,12 +241,12 @@ pub trait ChunkGridTraits: Sized + Drop {
     }
 
     /// The cover of a box of elements: the box of the numbers of all chunks that hold some of them. An empty box has the
-    /// empty cover that begins at 0, whatever its number of dimensions, save in a grid without dimensions. `None` where
+    /// empty cover that begins at 0, whatever its number of dimensions, except in a grid without dimensions. `None` where
     /// the first or the last element lies in no chunk.
     ///
     /// # Errors
-    /// The box isn't empty, or the grid has no dimensions, and the two have different numbers of dimensions; or there
-    /// was no memory.
+    /// The box isn't empty, or the grid has no dimensions, and the two have different numbers of dimensions; or out
+    /// of memory.
     fn chunks_in_array_subset(
         &self,
         alloc: Global,
@@ -341,7 +341,7 @@ pub trait ChunkGridTraits: Sized + Drop {
     ghost chained: { (grid : Self) → AllByRecursion IsChain (dimensions grid) };
 }
 
-/// For each dimension how far behind the origin the index lies, in the origin's own memory.
+/// For each dimension how far after the origin the index lies, in the origin's own memory.
 fn place_from(mut origin: ArrayIndices, indices: &[u64]) -> ArrayIndices
     requires { length origin.items ≡ length indices.now }
     ensures length { length result.items ≡ length origin.items }

@@ -40,7 +40,7 @@ use zarrs_chunk_base::{
 };
 use zarrs_chunk_keys::ChunkKeyEncodingTraits;
 
-/// `chunk_indices` names a chunk just where that chunk's box holds the index.
+/// `chunk_indices` names a chunk exactly where that chunk's box holds the index.
 ///
 /// # Errors
 /// As `chunk_indices`, which this calls.
@@ -63,7 +63,7 @@ pub fn chunks_share_no_index<G: ChunkGridTraits>(grid: &G)
         → InBox (G.dimensions grid.now) other index → chunk ≡ other }
 {}
 
-/// The cover of a box that isn't empty names a chunk just where that chunk holds some element of the box.
+/// The cover of a box that isn't empty names a chunk exactly where that chunk holds some element of the box.
 ///
 /// # Errors
 /// As `chunks_in_array_subset`, which this calls.
@@ -86,7 +86,7 @@ pub fn the_cover_names_the_chunks_that_meet_a_box<G: ChunkGridTraits>(
     grid.chunks_in_array_subset(alloc, array_subset)
 }
 
-/// The box of a box of chunks that isn't empty holds an element just where one of the chunks does.
+/// The box of a box of chunks that isn't empty holds an element exactly where one of the chunks does.
 ///
 /// # Errors
 /// As `chunks_subset`, which this calls.
@@ -147,7 +147,7 @@ pub fn each_element_lies_in_one_chunk_of_the_walk<G: ChunkGridTraits>(
     grid.iter_chunk_indices(alloc)
 }
 
-/// A chunk that is counted has a box just where it ends at 18446744073709551615 or before it, and then the walks over boxes
+/// A chunk that is counted has a box exactly where it ends at 18446744073709551615 or before it, and then the walks over boxes
 /// give that box.
 pub fn the_boxes_of_a_walk_are_those_of_its_chunks<G: ChunkGridTraits>(grid: &G)
     ensures boxed { (chunk : List ℕ) → Contains (chunks_of (G.dimensions grid.now)) chunk
@@ -193,7 +193,7 @@ pub fn grids_of_like_dimensions_answer_alike<G: ChunkGridTraits, H: ChunkGridTra
 /// A grid is made again of its metadata and its array shape: one of the same kind, with the same dimensions and edges.
 ///
 /// # Errors
-/// There was no memory.
+/// Out of memory.
 pub fn a_grid_is_made_again_of_its_metadata(
     alloc: Global,
     grid: &ChunkGrid,

@@ -1,43 +1,19 @@
 //! Chunk grids: in which chunk of a large array an element lies, and at which place there.
 //!
 //! Each dimension of a grid is cut into intervals that follow one another, one a chunk. [`ChunkGridTraits`] says what
-//! every grid answers, over its dimensions; [`laws`] says what follows for all grids, also for those of
-//! other crates. Every call that takes memory, save `clone`, is passed the allocator; each can answer that there is none.
+//! every grid answers, over its dimensions; [`laws`] says what follows for all grids, those of other crates too. Every call that takes
+//! memory, except `clone`, is passed the allocator, and can answer that it is out of memory. `CALLING.md` has callers and a picture.
 //!
 //! ```text
-//! let grid = RegularChunkGrid::new(alloc, array_shape, chunk_shape)?;   // [5, 7, 52], chunks of [1, 2, 3]
-//! grid.grid_shape()                                     // [5, 4, 18]
-//! grid.chunk_indices(alloc, &[3, 5, 50])?               // Some([3, 2, 16])
-//! grid.chunk_element_indices(alloc, &[3, 5, 50])?       // Some([0, 1, 2])
-//! grid.chunk_origin(alloc, &[3, 2, 16])?                // Some([3, 4, 48])
-//! grid.chunks_in_array_subset(alloc, &array_subset)?    // Some([0..2, 0..2, 1..3]), of [0..2, 1..3, 5..9]
-//! locate(alloc, &grid, &encoding, &[3, 5, 50])?         // Some: chunk [3, 2, 16], key c/3/2/16, element [0, 1, 2]
-//! for chunk in grid.iter_chunk_indices(alloc) { .. }    // Ok([0, 0, 0]), Ok([0, 0, 1]), .. Ok([4, 3, 17])
-//!
-//! let elements = vec![in alloc; RunLengthElement::Repeated([five, three]), RunLengthElement::Single(twenty)]?;
-//! let edges = vec![in alloc; ChunkEdgeLengths::Varying(elements), ChunkEdgeLengths::Scalar(ten)]?;
-//! let grid = RectilinearChunkGrid::new(alloc, array_shape, &edges)?;    // [35, 100], chunks of 5, 5, 5, 20 and of 10
-//! grid.grid_shape()                                     // [4, 10]
-//! grid.configuration(alloc)?                            // {"chunk_shapes": [[[5, 3], 20], 10], "kind": "inline"}
-//!
-//! let grid = ChunkGrid::from_metadata(alloc, &metadata, &array_shape)?;   // by the extension's name
-//! ```
-//!
-//! The chunks of an array of 4 by 7 elements, and those that a box of elements meets:
-//!
-//! ```text
-//!         0  1  2   3  4  5   6  7  8
-//!       +---------+---------+---------+
-//!     0 | a  a  a | a  a  a | a       |     RegularChunkGrid, array shape [4, 7], chunk shape [2, 3]
-//!     1 | a  a  a | a  b  b | b       |     a  an element of the array
-//!       +---------+---------+---------+     b  one that lies in the box [1..3, 4..7] besides
-//!     2 | a  a  a | a  b  b | b       |
-//!     3 | a  a  a | a  a  a | a       |
-//!       +---------+---------+---------+
-//!
-//! iter_chunk_indices              [0, 0], [0, 1], [0, 2],
-//!                                 [1, 0], [1, 1], [1, 2]
-//! chunks_in_array_subset          [0..2, 1..3], the cover of the box
+//! RegularChunkGrid, array shape [5, 7, 52], chunk shape [1, 2, 3]
+//!   grid_shape                                        [5, 4, 18]
+//!   chunk_indices          [3, 5, 50]                 [3, 2, 16]
+//!   chunk_element_indices  [3, 5, 50]                 [0, 1, 2]
+//!   chunk_origin           [3, 2, 16]                 [3, 4, 48]
+//!   subset                 [3, 2, 16]                 [3..4, 4..6, 48..51]
+//!   chunks_in_array_subset [0..2, 1..3, 5..9]         [0..2, 0..2, 1..3]
+//!   iter_chunk_indices                                [0, 0, 0], [0, 0, 1], .. [4, 3, 17]
+//!   locate                 [3, 5, 50]                 chunk [3, 2, 16], key c/3/2/16, element [0, 1, 2]
 //! ```
 //!
 //! | Module | What it holds |
@@ -48,7 +24,7 @@
 //! | `chunk_grid::regular_create_error`, `rectangular_create_error`, `rectilinear_create_error` | why there is no such grid |
 //! | `laws` | what holds of every chunk grid |
 //! | `home` | where an element lies: its chunk, and its place there |
-//! | `location` | `locate`: where an element is stored, its chunk's key besides |
+//! | `location` | `locate`: where an element is stored: its chunk, the chunk's key, and its place there |
 //! | `walks` | the three walks over the chunks of a grid |
 //! | `chunk_grid::over_axes` | the calls of the four grids, over their lists of axes |
 //! | `chunk_grid::axis_bounds` | which indices are in bounds of a list of axes |

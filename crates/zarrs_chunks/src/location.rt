@@ -23,7 +23,7 @@ pub struct Located {
 /// Where the element at these indices is stored; `None` where no chunk holds it.
 ///
 /// # Errors
-/// The list has another length than the grid has dimensions, or there was no memory.
+/// The list has another length than the grid has dimensions; or out of memory.
 pub fn locate<G: ChunkGridTraits, E: ChunkKeyEncodingTraits>(
     alloc: Global,
     grid: &G,

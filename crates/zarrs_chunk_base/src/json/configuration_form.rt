@@ -51,7 +51,7 @@ pub trait ConfigurationForm: Sized + Drop {
     /// What members stand for of which all are known and none is missing.
     ///
     /// # Errors
-    /// The first value, by the names of the members, that isn't of its form; or there was no memory.
+    /// The first value, by the names of the members, that isn't of its form; or out of memory.
     fn from_members(
         alloc: Global,
         members: &Configuration,
@@ -65,7 +65,7 @@ pub trait ConfigurationForm: Sized + Drop {
     /// The members of the configuration, which stand for it.
     ///
     /// # Errors
-    /// There was no memory.
+    /// Out of memory.
     fn to_tree(&self, alloc: Global) -> Result<Configuration, AllocError>
         ensures members { IfOk result
             (λ c. members_view c.entries ≡ written (seen self.now)) }
@@ -75,7 +75,7 @@ pub trait ConfigurationForm: Sized + Drop {
     /// The configuration that members stand for.
     ///
     /// # Errors
-    /// The first fault of the members, or there was no memory.
+    /// The first fault of the members; or out of memory.
     final fn from_tree(
         alloc: Global,
         members: &Configuration,
@@ -94,7 +94,7 @@ pub trait ConfigurationForm: Sized + Drop {
     /// The configuration of an extension's metadata. An absent one counts as one without members.
     ///
     /// # Errors
-    /// [`PluginCreateError::ConfigurationUnsupported`] with the first fault of the members, or there was no memory.
+    /// [`PluginCreateError::ConfigurationUnsupported`] with the first fault of the members; or out of memory.
     final fn from_metadata(
         alloc: Global,
         metadata: &MetadataV3,

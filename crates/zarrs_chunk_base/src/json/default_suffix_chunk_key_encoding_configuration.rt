@@ -36,7 +36,7 @@ impl DefaultSuffixChunkKeyEncodingConfiguration {
     /// A configuration with the same separator and an equal suffix.
     ///
     /// # Errors
-    /// There was no memory.
+    /// Out of memory.
     pub fn clone(&self) -> Result<DefaultSuffixChunkKeyEncodingConfiguration, AllocError>
         ensures { IfOk result (λ copy. suffixed_of copy ≡ suffixed_of self.now) }
     {
@@ -49,7 +49,7 @@ impl DefaultSuffixChunkKeyEncodingConfiguration {
     /// The members of the configuration as compact JSON, in the order of their names.
     ///
     /// # Errors
-    /// There was no memory.
+    /// Out of memory.
     pub fn to_text(&self, alloc: Global) -> Result<String, AllocError> {
         Value::Object(self.to_tree(alloc)?).to_string(alloc)
     }

@@ -45,7 +45,7 @@ impl MetadataV3 {
     /// isn't kept; other members are ignored.
     ///
     /// # Errors
-    /// The first fault of the tree, or there was no memory.
+    /// The first fault of the tree; or out of memory.
     pub fn from_tree(alloc: Global, tree: &Value) -> Result<MetadataV3, Refusal<MetadataError>>
         ensures { MatchResult result (λ m. IsExtension (view tree.now) (extension_of m))
             (λ refusal. IfRefused refusal (IsMetadataFault (view tree.now))) }
@@ -92,7 +92,7 @@ impl MetadataV3 {
     /// `name` and `configuration`.
     ///
     /// # Errors
-    /// There was no memory.
+    /// Out of memory.
     pub fn to_tree(&self, alloc: Global) -> Result<Value, AllocError>
         ensures tree { IfOk result (λ tree. view tree ≡ extension_tree (extension_of self.now)) }
         ensures reads_back { IfOk result (λ tree. IsExtension (view tree) (extension_of self.now)) }
@@ -111,7 +111,7 @@ impl MetadataV3 {
     /// Metadata of an equal name and an equal configuration.
     ///
     /// # Errors
-    /// There was no memory.
+    /// Out of memory.
     pub fn clone(&self) -> Result<MetadataV3, AllocError>
         ensures { IfOk result (λ copy. extension_of copy ≡ extension_of self.now) }
     {

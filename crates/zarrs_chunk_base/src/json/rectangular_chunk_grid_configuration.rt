@@ -38,7 +38,7 @@ impl RectangularChunkGridConfiguration {
     /// A configuration with the same edges.
     ///
     /// # Errors
-    /// There was no memory.
+    /// Out of memory.
     pub fn clone(&self) -> Result<RectangularChunkGridConfiguration, AllocError>
         ensures { IfOk result (λ copy. map rectangular_edges copy.chunk_shape.items
             ≡ map rectangular_edges (self.now).chunk_shape.items) }

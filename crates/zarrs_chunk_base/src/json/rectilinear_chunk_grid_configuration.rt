@@ -44,7 +44,7 @@ impl RectilinearChunkGridConfiguration {
     /// A configuration with the same edges.
     ///
     /// # Errors
-    /// There was no memory.
+    /// Out of memory.
     pub fn clone(&self) -> Result<RectilinearChunkGridConfiguration, AllocError>
         ensures { IfOk result (λ copy. rectilinear_lengths copy ≡ rectilinear_lengths self.now) }
     {

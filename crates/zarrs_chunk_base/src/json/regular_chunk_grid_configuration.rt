@@ -36,7 +36,7 @@ impl RegularChunkGridConfiguration {
     /// A configuration with the same edges.
     ///
     /// # Errors
-    /// There was no memory.
+    /// Out of memory.
     pub fn clone(&self) -> Result<RegularChunkGridConfiguration, AllocError>
         ensures { IfOk result (λ copy. copy.chunk_shape.items ≡ (self.now).chunk_shape.items) }
     {

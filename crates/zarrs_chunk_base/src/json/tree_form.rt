@@ -27,14 +27,14 @@ pub trait TreeForm: Sized + Drop {
     /// The value that a tree stands for, or `None` where the tree isn't of the form.
     ///
     /// # Errors
-    /// There was no memory.
+    /// Out of memory.
     fn from_tree(alloc: Global, tree: &Value) -> Result<Option<Self>, AllocError>
         ensures { IfOk result (λ o. option_map seen o ≡ form (view tree.now)) };
 
     /// The tree of the value, which stands for it.
     ///
     /// # Errors
-    /// There was no memory.
+    /// Out of memory.
     fn to_tree(&self, alloc: Global) -> Result<Value, AllocError>
         ensures tree { IfOk result (λ value. view value ≡ written (seen self.now)) }
         ensures reads_back { IfOk result (λ value. form (view value) ≡ Some (seen self.now)) };
@@ -131,7 +131,7 @@ impl<T: TreeForm> TreeForm for Vec<T> {
 /// tree isn't of the form; then no value is left.
 ///
 /// # Errors
-/// There was no memory.
+/// Out of memory.
 pub fn read_list<T: TreeForm>(
     alloc: Global,
     tree: &Value,

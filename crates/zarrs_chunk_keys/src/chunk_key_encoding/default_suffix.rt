@@ -1,4 +1,16 @@
 //! The `zarrs.default_suffix` encoding: the keys of the `default` encoding with a suffix.
+//!
+//! ```json
+//! {"name": "zarrs.default_suffix", "configuration": {"separator": "/", "suffix": ".tiff"}}
+//! ```
+//!
+//! | | |
+//! |---|---|
+//! | Standard | none: an experimental extension of [zarrs](https://docs.rs/zarrs/0.23.13/zarrs/), after the default encoding of Zarr V3 core |
+//! | Configuration | `separator`, `/` or `.`, and where it is absent, `/`; and `suffix`, a text |
+//! | Accepted | the suffix doesn't end in a slash; it may be empty |
+//! | Keys | of the chunk `[3, 2, 16]` `c/3/2/16.tiff`; of the chunk without numbers `c.tiff` |
+//! | Differs from zarrs | a suffix that ends in a slash is refused, since a store key doesn't end in one |
 ghost use Rattle.std.specs.Prelude.{◌≡◌, ◌++◌, ℕ, IfOk, List, MatchResult, OnOk, string_bytes};
 ghost use Rattle.serde_json.specs.View.{members_view};
 ghost use Rattle.zarrs_chunk_base.specs.Metadata.{extension_of};
@@ -58,7 +70,7 @@ impl DefaultSuffixChunkKeyEncoding {
     /// The encoding with the same separator and an equal suffix.
     ///
     /// # Errors
-    /// There was no memory.
+    /// Out of memory.
     pub fn clone(&self) -> Result<DefaultSuffixChunkKeyEncoding, AllocError>
         ensures { IfOk result (λ copy. suffixed_of copy ≡ suffixed_of self.now) }
     {
@@ -71,7 +83,7 @@ impl DefaultSuffixChunkKeyEncoding {
     /// Appends the key of a chunk to a text, for callers that write many.
     ///
     /// # Errors
-    /// There was no memory; the text then ends in a beginning of the key.
+    /// Out of memory; the text then ends in a beginning of the key.
     pub fn append_key(&self, text: &mut String, chunk_indices: &[u64]) -> Result<(), AllocError>
         ensures { OnOk result ((key : List ℕ)
             × IsKey (suffixed_of self.now) chunk_indices.now key

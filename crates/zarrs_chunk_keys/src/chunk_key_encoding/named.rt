@@ -1,4 +1,13 @@
 //! A chunk key encoding of any of the kinds, chosen by its extension's name.
+//!
+//! | Name | Encoding |
+//! |---|---|
+//! | `default` | [`DefaultChunkKeyEncoding`] |
+//! | `v2` | [`V2ChunkKeyEncoding`] |
+//! | `zarrs.default_suffix` | [`DefaultSuffixChunkKeyEncoding`] |
+//!
+//! Unlike zarrs, no encoding registers itself, and no name has an alias: an encoding of another crate is passed to functions over
+//! [`ChunkKeyEncodingTraits`] as it is.
 ghost use Rattle.std.specs.Prelude.{◌≡◌, ◌++◌, ℕ, IfOk, List, MatchResult, OnOk, string_bytes};
 ghost use Rattle.serde_json.specs.View.{members_view};
 ghost use Rattle.zarrs_chunk_base.specs.Metadata.{extension_of};
@@ -51,7 +60,7 @@ impl ChunkKeyEncoding {
     ///
     /// # Errors
     /// The first that applies: the name is none of a chunk key encoding; the configuration isn't of the form of its kind;
-    /// the encoding doesn't accept it. Or there was no memory.
+    /// the encoding doesn't accept it. Or out of memory.
     pub fn from_metadata(
         alloc: Global,
         metadata: &MetadataV3,
@@ -77,7 +86,7 @@ impl ChunkKeyEncoding {
     /// The metadata of the encoding: its extension's name, and its configuration.
     ///
     /// # Errors
-    /// There was no memory.
+    /// Out of memory.
     pub fn metadata(&self, alloc: Global) -> Result<MetadataV3, AllocError>
         ensures { IfOk result (λ metadata. IsMetadata (encoding_in self.now)
             (extension_of metadata)) }
@@ -90,7 +99,7 @@ impl ChunkKeyEncoding {
     /// The same encoding.
     ///
     /// # Errors
-    /// There was no memory.
+    /// Out of memory.
     pub fn clone(&self) -> Result<ChunkKeyEncoding, AllocError>
         ensures { IfOk result (λ copy. encoding_in copy ≡ encoding_in self.now) }
     {
@@ -106,7 +115,7 @@ impl ChunkKeyEncoding {
     /// Appends the key of a chunk to a text, for callers that write many.
     ///
     /// # Errors
-    /// There was no memory; the text then ends in a beginning of the key.
+    /// Out of memory; the text then ends in a beginning of the key.
     pub fn append_key(&self, text: &mut String, chunk_indices: &[u64]) -> Result<(), AllocError>
         ensures { OnOk result ((key : List ℕ)
             × IsKey (encoding_in self.now) chunk_indices.now key

@@ -1,4 +1,15 @@
 //! The `v2` encoding: the chunk numbers with a separator between them.
+//!
+//! ```json
+//! {"name": "v2", "configuration": {"separator": "."}}
+//! ```
+//!
+//! | | |
+//! |---|---|
+//! | Standard | Zarr V3 core, [v2](https://zarr-specs.readthedocs.io/en/latest/v3/chunk-key-encodings/v2/index.html) |
+//! | Configuration | `separator`, `/` or `.`; where it is absent, `.` |
+//! | Keys | of the chunk `[3, 2, 16]` `3.2.16` or `3/2/16`; of the chunk without numbers `0` |
+//! | Differs from zarrs | in no key; an unknown member of the configuration is always refused |
 ghost use Rattle.std.specs.Prelude.{◌≡◌, ◌++◌, ℕ, IfOk, List, MatchResult, OnOk, string_bytes};
 ghost use Rattle.serde_json.specs.View.{members_view};
 ghost use Rattle.zarrs_chunk_base.specs.declared.chunk_key_separator.ChunkKeySeparator.TheVariants.{Dot, Slash};
@@ -62,7 +73,7 @@ impl V2ChunkKeyEncoding {
     /// Appends the key of a chunk to a text, for callers that write many.
     ///
     /// # Errors
-    /// There was no memory; the text then ends in a beginning of the key.
+    /// Out of memory; the text then ends in a beginning of the key.
     pub fn append_key(&self, text: &mut String, chunk_indices: &[u64]) -> Result<(), AllocError>
         ensures { OnOk result ((key : List ℕ) × IsKey (v2_of self.now) chunk_indices.now key
             × (string_bytes text.new ≡ string_bytes text.old ++ key)) }

@@ -28,7 +28,7 @@ module _ {G : Type 0} (dimensions : G → List Dimension) where
   abbrev pub boxed_left : ChunkBoxes G → List (List ℕ)
   boxed_left walk = boxed (dimensions walk.grid.now) (chunks_ahead walk)
 
-  -- A step goes to the first chunk that has a box, and gives that; none, where no chunk with a box was left; or there was no memory, where
+  -- A step goes to the first chunk that has a box, and gives that; none, where no chunk with a box was left; or out of memory, where
   -- a chunk was left, and none is left then.
   abbrev pub StepsTo : ChunkBoxes G → Result (Option Box) AllocError → ChunkBoxes G → Type 0
   StepsTo old (Ok (Some b)) new =

@@ -1,4 +1,14 @@
 //! A chunk grid of any of the kinds, chosen by its extension's name.
+//!
+//! | Name | Grid |
+//! |---|---|
+//! | `regular` | [`RegularChunkGrid`] |
+//! | `zarrs.regular_bounded` | [`RegularBoundedChunkGrid`] |
+//! | `rectangular` | [`RectangularChunkGrid`] |
+//! | `rectilinear` | [`RectilinearChunkGrid`] |
+//!
+//! Unlike zarrs, no grid registers itself, no name has an alias, and no name is warned of: a grid of another crate is passed to
+//! functions over [`ChunkGridTraits`] as it is.
 ghost use Rattle.std.specs.Prelude.{◌≡◌, ◌↔◌, IfOk, IsTrue, MatchResult, map};
 ghost use Rattle.serde_json.specs.View.{members_view};
 ghost use Rattle.zarrs_chunk_base.specs.Metadata.{extension_of};
@@ -60,7 +70,7 @@ impl ChunkGrid {
     ///
     /// # Errors
     /// The first that applies: the name is none of a chunk grid; the configuration isn't of the form of its kind; the
-    /// grid doesn't accept it for this array shape. Or there was no memory.
+    /// grid doesn't accept it for this array shape. Or out of memory.
     pub fn from_metadata(
         alloc: Global,
         metadata: &MetadataV3,
@@ -103,7 +113,7 @@ impl ChunkGrid {
     /// The metadata of the grid: its extension's name, and its configuration.
     ///
     /// # Errors
-    /// There was no memory.
+    /// Out of memory.
     pub fn metadata(&self, alloc: Global) -> Result<MetadataV3, AllocError>
         ensures { IfOk result (λ metadata. IsMetadata self.now (extension_of metadata)) }
     {
@@ -115,7 +125,7 @@ impl ChunkGrid {
     /// A copy.
     ///
     /// # Errors
-    /// There was no memory.
+    /// Out of memory.
     pub fn clone(&self) -> Result<ChunkGrid, AllocError>
         ensures name { IfOk result (λ grid. name_in grid ≡ name_in self.now) }
         ensures dimensions { IfOk result (λ grid. dimensions_in grid ≡ dimensions_in self.now) }

@@ -1,4 +1,16 @@
 //! The `rectangular` grid: in each dimension chunks of one edge, or with the edges of a list.
+//!
+//! ```json
+//! {"name": "rectangular", "configuration": {"chunk_shape": [[5, 5, 5, 15, 15, 20, 35], 10]}}
+//! ```
+//!
+//! | | |
+//! |---|---|
+//! | Standard | [ZEP 3](https://zarr.dev/zeps/draft/ZEP0003.html), variable chunks |
+//! | Configuration | `chunk_shape`, an item a dimension: one edge, or a list of the edges of all chunks, each from 1 on |
+//! | Accepted | as many items as dimensions; a list isn't empty, and its sum is the array size |
+//! | Chunks | of one edge: every number; of a list: one for each edge, and each is counted |
+//! | Differs from zarrs | an empty list is always refused; so is a sum past 18446744073709551615, where that of zarrs can overflow |
 ghost use Rattle.std.specs.Prelude.{map};
 ghost use Rattle.zarrs_chunk_axes.specs.Rectangular.{AreRectangular};
 ghost use Rattle.zarrs_chunk_axes.specs.lemmas.AcceptedOnce.{are_rectangular_once};
@@ -38,7 +50,7 @@ impl RectangularChunkGrid {
     ///
     /// # Errors
     /// The two lists have different lengths, or a list of edges is empty or has another sum than the array
-    /// size; both are handed back. Or there was no memory.
+    /// size; both are handed back. Or out of memory.
     pub fn new(
         alloc: Global,
         array_shape: ArrayShape,
@@ -70,7 +82,7 @@ impl RectangularChunkGrid {
     /// A copy.
     ///
     /// # Errors
-    /// There was no memory.
+    /// Out of memory.
     pub fn clone(&self) -> Result<RectangularChunkGrid, AllocError>
         ensures dimensions { IfOk result
             (λ grid. ⟦<RectangularChunkGrid as ChunkGridTraits>⟧.dimensions grid

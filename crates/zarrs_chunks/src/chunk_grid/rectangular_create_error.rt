@@ -31,7 +31,7 @@ impl RectangularChunkGridCreateError {
     /// A copy.
     ///
     /// # Errors
-    /// There was no memory.
+    /// Out of memory.
     pub fn clone(&self) -> Result<RectangularChunkGridCreateError, AllocError>
         ensures { IfOk result (λ e. (e.0.items ≡ (self.now).0.items)
             × (map rectangular_edges e.1.items ≡ map rectangular_edges (self.now).1.items)) }

@@ -1,4 +1,27 @@
 //! The `rectilinear` grid: in each dimension chunks of one edge, or with the edges of run-length elements.
+//!
+//! ```json
+//! {"name": "rectilinear", "configuration": {"kind": "inline", "chunk_shapes": [[[5, 3], [15, 2], 20, 35], 10]}}
+//! ```
+//!
+//! ```text
+//! index    0  1  2  3   4  5  6  7   8  9 10 11 12 13  14     RectilinearChunkGrid, array shape [12],
+//!        +------------+------------+------------------+       chunk shapes [[[4, 2], 6]]
+//!        | a  a  a  a | a  a  a  a | a  a  a  a  .  . |       a  an element of the array
+//!        +------------+------------+------------------+       .  past the array, and in the last chunk
+//! chunk        0            1               2           -     chunk_indices; - where no chunk holds the index
+//! edge         4            4               6                 chunk_shape: edges aren't clipped
+//! ```
+//!
+//! | | |
+//! |---|---|
+//! | Standard | the extension [rectilinear](https://github.com/zarr-developers/zarr-extensions/tree/main/chunk-grids/rectilinear) of zarr-extensions |
+//! | Configuration | `kind`, the text `inline`, and `chunk_shapes`, an item a dimension: one edge, or a list of edges and of pairs `[edge, count]` |
+//! | Accepted | as many items as dimensions; a list isn't empty, and the sum of its edges is from the array size to 18446744073709551615 |
+//! | Chunks | of one edge: every number; of a list: one for each edge, and each is counted |
+//! | In bounds | an index below the array size, or any where that is 0; where edges are listed, a chunk has to hold it too |
+//! | Memory | 16 bytes for each edge of a list, even where a pair stands for many |
+//! | Differs from zarrs | `kind` has to be there; the sum is exact, and taken before anything is expanded |
 ghost use Rattle.std.specs.Prelude.{◌≡◌, map};
 ghost use Rattle.zarrs_chunk_base.specs.RunLength.{edges_of_lengths, rectilinear_edges};
 ghost use Rattle.zarrs_chunk_base.specs.GridConfigurations.{rectilinear_lengths};
@@ -18,8 +41,8 @@ use zarrs_chunk_base::{
 
 /// A grid whose chunks have one edge or listed edges in each dimension, where a list may say that so many chunks
 /// in a row have one edge. Listed edges reach over the array and may reach past it; there are no other chunks in that
-/// dimension. Each listed edge takes 16 bytes, also where an element stands for many. The grid's configuration has listed
-/// edges in run-length form: equal neighbours as one element, and a pair only where it counts more than one chunk.
+/// dimension. The grid's configuration has listed edges in run-length form: equal neighbours as one element, and a pair only
+/// where it counts more than one chunk.
 ///
 /// Source: the `rectilinear` extension of zarr-extensions.
 #[derive(Debug, Drop)]
@@ -75,7 +98,7 @@ impl RectilinearChunkGrid {
     /// A copy.
     ///
     /// # Errors
-    /// There was no memory.
+    /// Out of memory.
     pub fn clone(&self) -> Result<RectilinearChunkGrid, AllocError>
         ensures dimensions { IfOk result
             (λ grid. ⟦<RectilinearChunkGrid as ChunkGridTraits>⟧.dimensions grid

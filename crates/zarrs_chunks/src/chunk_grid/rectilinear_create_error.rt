@@ -29,7 +29,7 @@ impl RectilinearChunkGridCreateError {
     /// A copy.
     ///
     /// # Errors
-    /// There was no memory.
+    /// Out of memory.
     pub fn clone(&self) -> Result<RectilinearChunkGridCreateError, AllocError>
         ensures { IfOk result (λ e. (e.0.items ≡ (self.now).0.items)
             × AllZip IsSameChunkEdgeLengths e.1.items (self.now).1.items) }

@@ -1,4 +1,16 @@
 //! The `regular` grid: chunks that all have one shape.
+//!
+//! ```json
+//! {"name": "regular", "configuration": {"chunk_shape": [2, 3]}}
+//! ```
+//!
+//! | | |
+//! |---|---|
+//! | Standard | Zarr V3 core, [regular grid](https://zarr-specs.readthedocs.io/en/latest/v3/chunk-grids/regular-grid/index.html) |
+//! | Configuration | `chunk_shape`, a list of edges: one a dimension, from 1 on |
+//! | Accepted | array shape and chunk shape have the same number of dimensions |
+//! | Chunks | every number is one; those that reach over the array are counted |
+//! | Differs from zarrs | an origin or an end past 18446744073709551615 is `None`, where zarrs forms a product that can overflow |
 ghost use Rattle.std.specs.Prelude.{◌≡◌, map};
 ghost use Rattle.std.specs.Int.NonZero.{non_zero_u64_get};
 ghost use Rattle.zarrs_chunk_axes.specs.seen.AxisGrid.{dimensions_of};
@@ -38,7 +50,7 @@ impl RegularChunkGrid {
     /// one number a dimension.
     ///
     /// # Errors
-    /// The two shapes have different lengths, and are handed back; or there was no memory.
+    /// The two shapes have different lengths, and are handed back; or out of memory.
     pub fn new(
         alloc: Global,
         array_shape: ArrayShape,
@@ -78,7 +90,7 @@ impl RegularChunkGrid {
     /// The edges of the chunks as plain numbers.
     ///
     /// # Errors
-    /// There was no memory.
+    /// Out of memory.
     pub fn chunk_shape_u64(&self, alloc: Global) -> Result<ArrayShape, AllocError>
         ensures { IfOk result (λ edges. HaveEqualEdges
             (⟦<RegularChunkGrid as ChunkGridTraits>⟧.dimensions self.now) edges.items) }
@@ -89,7 +101,7 @@ impl RegularChunkGrid {
     /// A copy.
     ///
     /// # Errors
-    /// There was no memory.
+    /// Out of memory.
     pub fn clone(&self) -> Result<RegularChunkGrid, AllocError>
         ensures dimensions { IfOk result
             (λ grid. ⟦<RegularChunkGrid as ChunkGridTraits>⟧.dimensions grid

@@ -1,4 +1,27 @@
-//! The `zarrs.regular_bounded` grid: chunks that all have one shape, save at the array's end.
+//! The `zarrs.regular_bounded` grid: chunks that all have one shape, except at the array's end.
+//!
+//! ```json
+//! {"name": "zarrs.regular_bounded", "configuration": {"chunk_shape": [3]}}
+//! ```
+//!
+//! ```text
+//! index    0  1  2   3  4  5   6   7  8      RegularBoundedChunkGrid, array shape [7], chunk shape [3]
+//!        +---------+---------+---+
+//!        | a  a  a | a  a  a | a |           a  an element of the array
+//!        +---------+---------+---+
+//! chunk       0         1      2   -  -      chunk_indices; - where no chunk holds the index
+//! place    0  1  2   0  1  2   0   -  -      chunk_element_indices
+//! edge        3         3      1             chunk_shape
+//! ```
+//!
+//! | | |
+//! |---|---|
+//! | Standard | an experimental extension, [regular_bounded](https://chunkgrid.zarrs.dev/regular_bounded), after the regular grid of Zarr V3 core |
+//! | Configuration | `chunk_shape`, a list of edges: one a dimension, from 1 on |
+//! | Accepted | array shape and chunk shape have the same number of dimensions |
+//! | Chunks | those that hold some element of the array; the last one ends where the array does |
+//! | A size of 0 | no chunks, so that no look-up finds one; every number counts as in bounds |
+//! | Differs from zarrs | the clipped edge is exact at every 64-bit number, where zarrs forms sums that can overflow |
 use super::over_axes::{OverAxes, other};
 use crate::ChunkGridTraits;
 use std::alloc::{AllocError, Global};
@@ -8,7 +31,7 @@ use zarrs_chunk_base::{
     MetadataV3, PluginCreateError, Refusal, RegularBoundedChunkGridConfiguration,
 };
 
-/// A grid whose chunks all have one shape, save that none reaches past the array. There are no chunks past
+/// A grid whose chunks all have one shape, except that none reaches past the array. There are no chunks past
 /// the array, and none along a dimension of size 0.
 ///
 /// Source: the extension `zarrs.regular_bounded`, after the Zarr V3 core regular grid.
@@ -30,7 +53,7 @@ impl RegularBoundedChunkGrid {
     ///
     /// # Errors
     /// The two shapes have different lengths: the chunk shape's is given and the array shape's
-    /// expected. Or there was no memory.
+    /// expected. Or out of memory.
     pub fn new(
         alloc: Global,
         array_shape: ArrayShape,
@@ -59,7 +82,7 @@ impl RegularBoundedChunkGrid {
     /// A copy.
     ///
     /// # Errors
-    /// There was no memory.
+    /// Out of memory.
     pub fn clone(&self) -> Result<RegularBoundedChunkGrid, AllocError>
         ensures dimensions { IfOk result
             (λ grid. ⟦<RegularBoundedChunkGrid as ChunkGridTraits>⟧.dimensions grid

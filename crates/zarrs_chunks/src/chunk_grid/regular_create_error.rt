@@ -14,7 +14,7 @@ impl RegularChunkGridCreateError {
     /// A copy.
     ///
     /// # Errors
-    /// There was no memory.
+    /// Out of memory.
     pub fn clone(&self) -> Result<RegularChunkGridCreateError, AllocError>
         ensures { IfOk result (λ e. (e.0.items ≡ (self.now).0.items)
             × (e.1.items ≡ (self.now).1.items)) }

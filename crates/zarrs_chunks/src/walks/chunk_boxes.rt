@@ -39,7 +39,7 @@ impl<'a, G: ChunkGridTraits> ChunkBoxes<'a, G> {
     /// box at most once for each dimension, and once more, however many chunks it counts.
     ///
     /// # Errors
-    /// There was no memory. The walk has ended then.
+    /// Out of memory. The walk has ended then.
     pub(crate) fn step(&mut self) -> Result<Option<ArraySubset>, AllocError>
         requires { IsOverGrid G.dimensions self.old }
         ensures steps { StepsTo G.dimensions self.old result self.new }
@@ -51,7 +51,7 @@ impl<'a, G: ChunkGridTraits> ChunkBoxes<'a, G> {
             match self.grid.subset(self.alloc, self.walk.numbers()) {
                 Ok(Some(subset)) => return Ok(Some(subset)),
                 Ok(None) => found = self.walk.pass_over(),
-                // The list has as many numbers as the grid has dimensions, so there was no memory.
+                // The list has as many numbers as the grid has dimensions, so it is out of memory.
                 Err(_) => {
                     self.walk.end();
                     return Err(AllocError);
@@ -64,7 +64,7 @@ impl<'a, G: ChunkGridTraits> ChunkBoxes<'a, G> {
     /// The numbers of the chunk at which the walk stands.
     ///
     /// # Errors
-    /// There was no memory. The walk has ended then.
+    /// Out of memory. The walk has ended then.
     pub(crate) fn indices(&mut self) -> Result<ArrayIndicesTinyVec, AllocError>
         ensures copy { IfOk result (λ indices. indices.items ≡ numbers_at self.old.walk) }
         ensures stays { OnOk result (self.new ≡ self.old) }

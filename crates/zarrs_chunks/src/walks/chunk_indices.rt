@@ -16,12 +16,13 @@ pub struct ChunkIndices<'a> {
 impl<'a> ChunkIndices<'a> {
     ghost use Rattle.zarrs_chunks.specs.seen.Walks.{chunks_left};
 
-    /// A walk over all numbers below a grid shape. It takes no memory.
-    pub(crate) fn new(alloc: Global, grid_shape: &'a [u64]) -> ChunkIndices<'a>
-        ensures { chunks_left result ≡ row_major grid_shape.now }
+    /// A walk over all numbers below a shape: that of a grid, or that of a cover, whose start is then to be added to each of them.
+    /// Making it takes no memory.
+    pub fn new(alloc: Global, shape: &'a [u64]) -> ChunkIndices<'a>
+        ensures { chunks_left result ≡ row_major shape.now }
     {
         ChunkIndices {
-            walk: RowMajorWalk::new(alloc, grid_shape),
+            walk: RowMajorWalk::new(alloc, shape),
         }
     }
 }

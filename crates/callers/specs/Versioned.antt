@@ -1,4 +1,4 @@
--- The keys of the tests' own encoding: those of another one, each with `.v1` behind it.
+-- The keys of another encoding, each with `.v1` after it.
 use Rattle.std.specs.Prelude.{◌≡◌, ℕ, List, ◌++◌, codes}
 use Rattle.std.proofs.Common.{sym, subst, ◌∙◌}
 use Rattle.zarrs_chunk_keys.specs.lemmas.Parts.{same_front}

@@ -1,15 +1,15 @@
-//! A chunk key encoding that is none of the library's.
+//! An encoding of one's own.
 
 use std::alloc::{AllocError, Global};
 use zarrs_chunk_base::{Configuration, MetadataV3, PluginCreateError, Refusal, StoreKey};
 use zarrs_chunk_keys::ChunkKeyEncodingTraits;
 
-/// The keys of another encoding, each with a version behind it.
+/// The keys of another encoding, each with a version after it.
 #[derive(Drop)]
-pub(super) struct Versioned<E: ChunkKeyEncodingTraits>(pub(super) E);
+pub struct Versioned<E: ChunkKeyEncodingTraits>(pub E);
 
 impl<E: ChunkKeyEncodingTraits> ChunkKeyEncodingTraits for Versioned<E> {
-    ghost use Rattle.zarrs_chunk_walk_tests.specs.Versioned.{IsVersioned, versioned_exact};
+    ghost use Rattle.callers.specs.Versioned.{IsVersioned, versioned_exact};
 
     ghost is_key = { λ encoding. IsVersioned (E.is_key encoding.0) };
 

@@ -1,4 +1,4 @@
--- The dimension of the tests' own grid: chunks of the edges 1, 2 and 3, over an array of six elements.
+-- One dimension: chunks of the edges 1, 2 and 3, over an array of six elements.
 use Rattle.std.specs.Prelude.{ℕ, zero, suc, ◌+◌, ◌<◌, nat_lt, refl}
 use Rattle.std.proofs.Common.{arith, ltb-true, lt-ltb}
 use Rattle.zarrs_chunk_base.specs.Dimension.{Dimension, Holds, IsChain}

@@ -1,4 +1,4 @@
-//! A grid that is none of the library's.
+//! A grid of one's own.
 ghost use Rattle.std.specs.Prelude.{◌≡◌, ◌∷◌, [], MatchResult, length};
 ghost use Rattle.zarrs_chunk_base.specs.Refusal.{RefusesLength};
 
@@ -12,11 +12,11 @@ use zarrs_chunks::ChunkGridTraits;
 
 /// One dimension of six elements, in chunks of the edges 1, 2 and 3.
 #[derive(Debug, Drop)]
-pub(super) struct Stairs;
+pub struct Stairs;
 
 impl ChunkGridTraits for Stairs {
     ghost use Rattle.std.specs.Prelude.{◌∷◌, []};
-    ghost use Rattle.zarrs_chunk_grid_tests.specs.Stairs.{stairs, stairs_is_chain};
+    ghost use Rattle.callers.specs.Stairs.{stairs, stairs_is_chain};
 
     ghost dimensions = { λ _. stairs ∷ [] };
 

@@ -1,0 +1,2 @@
+pub mod Stairs
+pub mod Versioned

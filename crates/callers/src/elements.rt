@@ -1,0 +1,44 @@
+//! Where an element lies, and under which key its chunk is stored: in any grid, under any encoding.
+ghost use Rattle.std.specs.Prelude.{◌↔◌, ℕ, IfOk, IfSome, IsTrue, List};
+ghost use Rattle.zarrs_chunk_base.specs.Dimension.{InBox};
+
+use std::alloc::Global;
+use zarrs_chunk_base::{IncompatibleDimensionalityError, Refusal, StoreKey};
+use zarrs_chunk_keys::ChunkKeyEncodingTraits;
+use zarrs_chunks::laws::chunks_share_no_index;
+use zarrs_chunks::{ChunkGridTraits, locate};
+
+/// The key of the chunk that holds an element; `None` where no chunk does.
+pub fn key_of_element<G: ChunkGridTraits, E: ChunkKeyEncodingTraits>(
+    alloc: Global,
+    grid: &G,
+    encoding: &E,
+    array_indices: &[u64],
+) -> Result<Option<StoreKey>, Refusal<IncompatibleDimensionalityError>>
+    ensures { IfOk result (λ found. IfSome found (λ key. (chunk : List ℕ)
+        × InBox (G.dimensions grid.now) chunk array_indices.now
+        × E.is_key encoding.now chunk key)) }
+{
+    match locate(alloc, grid, encoding, array_indices)? {
+        Some(located) => Ok(Some(located.key)),
+        None => Ok(None),
+    }
+}
+
+/// Whether some chunk holds both elements.
+pub fn share_a_chunk<G: ChunkGridTraits>(
+    alloc: Global,
+    grid: &G,
+    one: &[u64],
+    other: &[u64],
+) -> Result<bool, Refusal<IncompatibleDimensionalityError>>
+    ensures { IfOk result (λ shared. IsTrue shared ↔ ((chunk : List ℕ)
+        × InBox (G.dimensions grid.now) chunk one.now
+        × InBox (G.dimensions grid.now) chunk other.now)) }
+{
+    // The law: no other chunk holds the one, nor the other.
+    chunks_share_no_index(grid);
+    let chunk = grid.chunk_indices(alloc, one)?;
+    let same = grid.chunk_indices(alloc, other)?;
+    Ok(chunk.is_some() && chunk == same)
+}

@@ -1,0 +1,34 @@
+//! The callers that the README and the pages print, proved and run: `docs/check_callers.py` sees that each of them stands here word for
+//! word.
+//!
+//! | Module | What it shows |
+//! |---|---|
+//! | `metadata` | the metadata of a grid, as a tree |
+//! | `dimensions` | a list of dimensions of one kind |
+//! | `keys` | the keys of chunks |
+//! | `grids` | a grid of each kind |
+//! | `elements` | where an element lies, and under which key its chunk is stored |
+//! | `subsets` | the keys of all chunks that a box of elements meets |
+//! | `stairs` | a grid of one's own |
+//! | `versioned` | an encoding of one's own |
+#![tactic(auto)]
+
+mod dimensions;
+mod elements;
+mod grids;
+mod keys;
+mod metadata;
+mod stairs;
+mod subsets;
+#[cfg(test)]
+mod tests;
+mod versioned;
+
+pub use dimensions::grid_sizes;
+pub use elements::{key_of_element, share_a_chunk};
+pub use grids::{bounded, by_name, rectangular, rectilinear, regular};
+pub use keys::{append_keys, key_by_name};
+pub use metadata::regular_metadata;
+pub use stairs::Stairs;
+pub use subsets::keys_of_subset;
+pub use versioned::Versioned;

@@ -1,0 +1,28 @@
+//! All chunks that a box of elements meets.
+use std::alloc::Global;
+use zarrs_chunk_base::{ArraySubset, IncompatibleDimensionalityError, Refusal, StoreKey};
+use zarrs_chunk_keys::ChunkKeyEncodingTraits;
+use zarrs_chunks::{ChunkGridTraits, ChunkIndices};
+
+/// The keys of the chunks that a box of elements meets, in row-major order of the chunks; `None` where the box reaches past the grid's
+/// chunks.
+pub fn keys_of_subset<G: ChunkGridTraits, E: ChunkKeyEncodingTraits>(
+    alloc: Global,
+    grid: &G,
+    encoding: &E,
+    elements: &ArraySubset,
+) -> Result<Option<Vec<StoreKey>>, Refusal<IncompatibleDimensionalityError>> {
+    let Some(cover) = grid.chunks_in_array_subset(alloc, elements)? else {
+        return Ok(None);
+    };
+    let mut keys = Vec::new(alloc);
+    for offset in ChunkIndices::new(alloc, cover.shape()) {
+        let mut chunk = offset?;
+        for (number, first) in chunk.as_mut_slice().iter_mut().zip(cover.start()) {
+            // No sum is cut off, since no box ends past u64::MAX.
+            *number = number.saturating_add(*first);
+        }
+        keys.push(encoding.encode(alloc, chunk.as_slice())?)?;
+    }
+    Ok(Some(keys))
+}
