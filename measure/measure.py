@@ -5,7 +5,7 @@
 
 CHUNKWHERE is the built program, RUST that of the folder `rust` here (`cargo build --release`). For three kinds of grid it makes
 a document of 500,000 index lists of three numbers, and sees that both programs print the same. Then it prints, for both and as a
-quotient, the instructions (counted by `valgrind --tool=callgrind`, whatever else runs), the seconds (the middle of fifteen runs,
+quotient, the instructions (counted by `valgrind --tool=callgrind`, whatever else runs), the seconds (the middle of forty-one runs,
 one program after the other) and the peak of the memory that was resident.
 """
 import hashlib
@@ -20,7 +20,7 @@ import tempfile
 import time
 
 LISTS = 500_000
-RUNS = 15
+RUNS = 41
 
 
 def documents():

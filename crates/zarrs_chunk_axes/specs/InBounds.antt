@@ -1,5 +1,5 @@
 -- Which chunk numbers and indices a grid counts as its own.
--- Source: Zarr V3 core, the shape of an array; a size of 0 is that of an unlimited dimension.
+-- Source: zarrs, for which a dimension of size 0 is an unlimited one; the standard has no such dimension.
 use Rattle.std.specs.Prelude.{◌≡◌, ◌⊎◌, ℕ, ◌<◌, List, map}
 use Rattle.std.specs.List.{AllZip}
 use Rattle.zarrs_chunk_base.specs.Dimension.{Dimension, InBox}

@@ -3,7 +3,7 @@
 ghost use Rattle.std.specs.Prelude.{◌≡◌, ℕ, IfErr, IfOk, List};
 ghost use Rattle.zarrs_chunk_base.specs.declared.chunk_key_separator.ChunkKeySeparator.{ChunkKeySeparator};
 ghost use Rattle.zarrs_chunk_base.specs.Refusal.{IfRefused};
-ghost use Rattle.zarrs_chunk_keys.specs.ChunkKey.{IsKey, default_keys, suffixed_keys};
+ghost use Rattle.zarrs_chunk_keys.specs.ChunkKey.{Encoding, IsKey, default_keys, suffixed_keys};
 ghost use Rattle.zarrs_chunk_keys.specs.seen.Encodings.{encoding_in};
 
 use crate::ChunkKeyEncoding;
@@ -18,6 +18,12 @@ pub fn a_default_key_names_one_chunk()
     ensures suffixed { (separator : ChunkKeySeparator) (suffix chunk other key : List ℕ)
         → IsKey (suffixed_keys separator suffix) chunk key
         → IsKey (suffixed_keys separator suffix) other key → chunk ≡ other }
+{}
+
+/// A chunk has one key under an encoding.
+pub fn a_chunk_has_one_key()
+    ensures { (encoding : Encoding) (chunk key other : List ℕ) → IsKey encoding chunk key
+        → IsKey encoding chunk other → key ≡ other }
 {}
 
 /// An encoding is made again of its metadata.

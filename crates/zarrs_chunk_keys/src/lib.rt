@@ -1,8 +1,8 @@
 //! Chunk key encodings: under which key each chunk of an array is stored.
 //!
 //! [`ChunkKeyEncodingTraits`] says what every encoding answers, and proves that equal keys of equally long lists of chunk
-//! numbers come from equal lists. Every call that takes memory, except `clone`, is passed the allocator, and can answer that it is out of
-//! memory. `CALLING.md` has callers.
+//! numbers come from equal lists. A call that makes a new value in memory takes the allocator; `clone` doesn't. Every call that needs
+//! memory can answer that there is none. `CALLING.md` has callers.
 //!
 //! | Encoding | Separator | Key of the chunk `[3, 2, 16]` |
 //! |---|---|---|

@@ -4,7 +4,7 @@ use std::process::Abort;
 use std::test::Fail;
 use zarrs_chunk_base::ChunkKeySeparator;
 use zarrs_chunk_keys::laws::{
-    a_default_key_names_one_chunk, an_encoding_is_made_again_of_its_metadata,
+    a_chunk_has_one_key, a_default_key_names_one_chunk, an_encoding_is_made_again_of_its_metadata,
 };
 use zarrs_chunk_keys::{
     ChunkKeyEncoding, ChunkKeyEncodingTraits, ChunkKeySuffixError, DefaultChunkKeyEncoding,
@@ -83,6 +83,7 @@ fn encodings_of_each_kind_are_asked(rt: HostRuntime) -> Result<(), Fail> {
         check_key(&rt, &again, key)?;
         assert_eq!(rt; again.metadata(alloc)?.name(), *name);
     }
+    a_chunk_has_one_key();
     a_default_key_names_one_chunk();
     Ok(())
 }

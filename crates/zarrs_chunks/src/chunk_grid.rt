@@ -39,9 +39,9 @@ use zarrs_chunk_base::{
 
 /// A chunk grid: the chunks into which an array is cut.
 ///
-/// Lists of numbers have one number a dimension, the slowest varying first. Array sizes, indices, origins
-/// and edges count elements; chunk numbers count chunks from 0. An array size of 0 is that of an unlimited
-/// dimension.
+/// Lists of numbers have one number for each dimension, in the order of the array's shape. Array sizes, indices, origins
+/// and edges count elements; chunk numbers count chunks from 0. An array size of 0 is taken as that of an unlimited
+/// dimension, as zarrs does: any index is in bounds there.
 ///
 /// A look-up refuses a list of another length than the grid has dimensions, and otherwise can answer
 /// that it is out of memory; a grid without dimensions needs none, except for the box of a box of chunks and the cover.

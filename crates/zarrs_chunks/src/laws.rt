@@ -1,5 +1,6 @@
 //! What holds of every chunk grid and every encoding, whoever wrote them. It follows from the contracts of [`ChunkGridTraits`] and
 //! [`ChunkKeyEncodingTraits`] and from their laws: each dimension is a chain, and equal keys of equally long lists come from equal lists.
+//! The last three lines of the table are about the grids of this library.
 //!
 //! | What holds | The function whose contract says it |
 //! |---|---|
@@ -8,10 +9,10 @@
 //! | The key and the place of an element determine its index | [`key_and_place_determine_the_index`] |
 //! | The cover of a box names exactly the chunks that meet it | [`the_cover_names_the_chunks_that_meet_a_box`] |
 //! | The box of a box of chunks is the union of their boxes | [`the_box_of_chunks_is_the_union_of_their_boxes`] |
-//! | The walk gives every chunk that is counted once, in row-major order | [`the_walk_gives_each_chunk_once`] |
+//! | The walk gives each chunk below the grid shape once, in row-major order | [`the_walk_gives_each_chunk_once`] |
 //! | Each element of the array lies in exactly one of them | [`each_element_lies_in_one_chunk_of_the_walk`] |
 //! | The walks over boxes give the boxes of those that have one | [`the_boxes_of_a_walk_are_those_of_its_chunks`] |
-//! | Run-length elements answer as the edges that they stand for: of a [`ChunkGrid`] that isn't bounded, the edges say the dimensions | [`the_edges_determine_the_dimensions`] |
+//! | A grid of run-length elements has the dimensions of one with the edges written out | [`the_edges_determine_the_dimensions`] |
 //! | A bounded grid answers as its clipped edges, where no array size is 0 | [`a_bounded_dimension_is_that_of_its_edges`], [`grids_of_like_dimensions_answer_alike`] |
 //! | A [`ChunkGrid`] is made again of its metadata | [`a_grid_is_made_again_of_its_metadata`] |
 ghost use Rattle.std.specs.Prelude.{◌≡◌, ◌≢◌, ◌↔◌, ◌⊎◌, ℕ, ◌<◌, IfErr, IfOk, IfSome, IsTrue, List, Some, length, map, option_map};

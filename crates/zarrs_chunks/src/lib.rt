@@ -1,8 +1,9 @@
 //! Chunk grids: in which chunk of a large array an element lies, and at which place there.
 //!
 //! Each dimension of a grid is cut into intervals that follow one another, one a chunk. [`ChunkGridTraits`] says what
-//! every grid answers, over its dimensions; [`laws`] says what follows for all grids, those of other crates too. Every call that takes
-//! memory, except `clone`, is passed the allocator, and can answer that it is out of memory. `CALLING.md` has callers and a picture.
+//! every grid answers, over its dimensions; [`laws`] says what follows for all grids, those of other crates too. A call that makes a new
+//! value in memory takes the allocator; `clone` doesn't. Every call that needs memory can answer that there is none. `CALLING.md` has
+//! callers and a picture.
 //!
 //! ```text
 //! RegularChunkGrid, array shape [5, 7, 52], chunk shape [1, 2, 3]

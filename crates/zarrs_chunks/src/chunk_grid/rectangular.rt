@@ -6,9 +6,9 @@
 //!
 //! | | |
 //! |---|---|
-//! | Standard | [ZEP 3](https://zarr.dev/zeps/draft/ZEP0003.html), variable chunks |
+//! | Standard | none yet: the draft [ZEP 3](https://zarr.dev/zeps/draft/ZEP0003.html), variable chunks |
 //! | Configuration | `chunk_shape`, an item a dimension: one edge, or a list of the edges of all chunks, each from 1 on |
-//! | Accepted | as many items as dimensions; a list isn't empty, and its sum is the array size |
+//! | Accepted | as many items as dimensions; a list isn't empty, and its sum is the array size, so none is accepted for a size of 0 |
 //! | Chunks | of one edge: every number; of a list: one for each edge, and each is counted |
 //! | Differs from zarrs | an empty list is always refused; so is a sum past 18446744073709551615, where that of zarrs can overflow |
 ghost use Rattle.std.specs.Prelude.{map};

@@ -17,9 +17,9 @@
 //! |---|---|
 //! | Standard | the extension [rectilinear](https://github.com/zarr-developers/zarr-extensions/tree/main/chunk-grids/rectilinear) of zarr-extensions |
 //! | Configuration | `kind`, the text `inline`, and `chunk_shapes`, an item a dimension: one edge, or a list of edges and of pairs `[edge, count]` |
-//! | Accepted | as many items as dimensions; a list isn't empty, and the sum of its edges is from the array size to 18446744073709551615 |
+//! | Accepted | as many items as dimensions; a list isn't empty, and its sum is at least the array size and at most 18446744073709551615 |
 //! | Chunks | of one edge: every number; of a list: one for each edge, and each is counted |
-//! | In bounds | an index below the array size, or any where that is 0; where edges are listed, a chunk has to hold it too |
+//! | In bounds | an index below the array size (any index, where that is 0); where edges are listed, a chunk has to hold it too |
 //! | Memory | 16 bytes for each edge of a list, even where a pair stands for many |
 //! | Differs from zarrs | `kind` has to be there; the sum is exact, and taken before anything is expanded |
 ghost use Rattle.std.specs.Prelude.{◌≡◌, map};

@@ -9,7 +9,7 @@
 //! | Standard | Zarr V3 core, [regular grid](https://zarr-specs.readthedocs.io/en/latest/v3/chunk-grids/regular-grid/index.html) |
 //! | Configuration | `chunk_shape`, a list of edges: one a dimension, from 1 on |
 //! | Accepted | array shape and chunk shape have the same number of dimensions |
-//! | Chunks | every number is one; those that reach over the array are counted |
+//! | Chunks | every number names one; those that hold an element of the array are counted |
 //! | Differs from zarrs | an origin or an end past 18446744073709551615 is `None`, where zarrs forms a product that can overflow |
 ghost use Rattle.std.specs.Prelude.{◌≡◌, map};
 ghost use Rattle.std.specs.Int.NonZero.{non_zero_u64_get};

@@ -16,11 +16,11 @@
 //!
 //! | | |
 //! |---|---|
-//! | Standard | an experimental extension, [regular_bounded](https://chunkgrid.zarrs.dev/regular_bounded), after the regular grid of Zarr V3 core |
+//! | Standard | none: an experimental extension, [regular_bounded](https://chunkgrid.zarrs.dev/regular_bounded), after the regular grid of Zarr V3 core |
 //! | Configuration | `chunk_shape`, a list of edges: one a dimension, from 1 on |
 //! | Accepted | array shape and chunk shape have the same number of dimensions |
 //! | Chunks | those that hold some element of the array; the last one ends where the array does |
-//! | A size of 0 | no chunks, so that no look-up finds one; every number counts as in bounds |
+//! | A size of 0 | no chunk, so every look-up answers `None`; any index is in bounds, as in zarrs |
 //! | Differs from zarrs | the clipped edge is exact at every 64-bit number, where zarrs forms sums that can overflow |
 use super::over_axes::{OverAxes, other};
 use crate::ChunkGridTraits;
