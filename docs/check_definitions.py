@@ -16,7 +16,10 @@ ROOT = pathlib.Path(__file__).resolve().parent.parent
 PAGE = ROOT / "docs" / "DEFINITIONS.md"
 
 # A definition stands at the left margin, or inside a module of parameters, two spaces further right.
-DEFINITION = re.compile(r"^(?:  )?(?:abbrev pub|pub data|pub record|pub unfoldable|unfoldable pub) ([^\s({:]+)", re.M)
+DEFINITION = re.compile(
+    r"^(?:  )?(?:abbrev pub|pub abbrev|pub data|pub record|pub unfoldable|unfoldable pub) ([^\s({:]+)|^pub (?!use |mod )([^\s({:]+) *[:({]", re.M)
+# A case of a `data` type.
+CASE = re.compile(r"^  (?!pub )([^\s({:]+) : ", re.M)
 HEADING = re.compile(r"^## .*: `(\w+)`$")
 # What a file takes from another file of a `specs/` folder: the crate, the path to the file, and the names.
 TAKEN = re.compile(r"^use Rattle\.(\w+)\.specs\.([\w.]+)\.\{([^}]*)\}", re.M)
@@ -27,13 +30,18 @@ def specs(crate):
     return ROOT / "crates" / crate / "specs"
 
 
+def definitions(path):
+    """The names of the public definitions of a file."""
+    return [one or other for one, other in DEFINITION.findall(path.read_text())]
+
+
 def taken(path):
     """The crate and the name of each definition of the repository that a file takes from another one."""
     for crate, place, names in TAKEN.findall(path.read_text()):
         source = specs(crate) / (place.replace(".", "/") + ".antt")
         if source.exists():
-            defined = set(DEFINITION.findall(source.read_text()))
-            yield from ((crate, name) for name in re.split(r",\s*", names) if name in defined)
+            wanted = {name.split(" as ")[0] for name in re.split(r",\s*", names)}
+            yield from ((crate, name) for name in definitions(source) if name in wanted)
 
 
 def rows():
@@ -70,11 +78,11 @@ def main():
         where = path.relative_to(ROOT)
         if not path.exists():
             faults.append(f"DEFINITIONS.md: there is no file {where}")
-        elif not re.search(rf"^(?:  )?(?:abbrev )?(?:pub )?(?:unfoldable )?(?:pub )?(?:data |record )?{re.escape(name)}\b", path.read_text(), re.M):
+        elif name not in definitions(path) + CASE.findall(path.read_text()):
             faults.append(f"DEFINITIONS.md: {where} doesn't define {name}")
     for crate in sorted({crate for crate, _ in rows()}):
         for path in sorted(specs(crate).glob("*.antt")):
-            for name in DEFINITION.findall(path.read_text()):
+            for name in definitions(path):
                 if (crate, name) not in named:
                     faults.append(f"{path.relative_to(ROOT)}: {name} isn't in the tables of {crate}")
             for used in taken(path):

@@ -1,6 +1,7 @@
 //! Where an element lies, and under which key its chunk is stored: in any grid, under any encoding.
-ghost use Rattle.std.specs.Prelude.{◌↔◌, ℕ, IfOk, IsTrue, List, MatchOption};
+ghost use Rattle.std.specs.Prelude.{◌↔◌, ℕ, IfOk, IsTrue, List, length};
 ghost use Rattle.zarrs_chunk_base.specs.Dimension.{InBox};
+ghost use Rattle.zarrs_chunk_base.specs.Refusal.{Answers};
 ghost use Rattle.zarrs_chunks.specs.Subsets.{HasNoHome};
 
 use std::alloc::Global;
@@ -16,10 +17,10 @@ pub fn key_of_element<G: ChunkGridTraits, E: ChunkKeyEncodingTraits>(
     encoding: &E,
     array_indices: &[u64],
 ) -> Result<Option<StoreKey>, Refusal<IncompatibleDimensionalityError>>
-    ensures { IfOk result
-        (λ found. MatchOption found (HasNoHome (G.dimensions grid.now) array_indices.now)
+    ensures { Answers (length array_indices.now) (length (G.dimensions grid.now))
         (λ key. (chunk : List ℕ) × InBox (G.dimensions grid.now) chunk array_indices.now
-        × E.is_key encoding.now chunk key)) }
+        × E.is_key encoding.now chunk key)
+        (HasNoHome (G.dimensions grid.now) array_indices.now) result }
 {
     match locate(alloc, grid, encoding, array_indices)? {
         Some(located) => Ok(Some(located.key)),

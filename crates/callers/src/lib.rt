@@ -1,14 +1,14 @@
-//! The callers that the README and the pages print, proved and run: `docs/check_callers.py` sees that each of them stands here word for
-//! word.
+//! The callers that the README and the pages print, which `callers_tests` runs: `docs/check_callers.py` sees that each of them stands here
+//! word for word.
 //!
 //! | Module | What it shows |
 //! |---|---|
-//! | `metadata` | the metadata of a grid, as a tree |
+//! | `metadata` | the metadata of a grid, read from a text and written as a tree |
 //! | `dimensions` | a list of dimensions of one kind |
 //! | `keys` | the keys of chunks |
 //! | `grids` | a grid of each kind |
 //! | `elements` | where an element lies, and under which key its chunk is stored |
-//! | `subsets` | the keys of all chunks that a box of elements meets |
+//! | `subsets` | the keys of all chunks of a grid, and of those that a box of elements meets |
 //! | `stairs` | a grid of one's own |
 //! | `versioned` | an encoding of one's own |
 #![tactic(auto)]
@@ -20,15 +20,13 @@ mod keys;
 mod metadata;
 mod stairs;
 mod subsets;
-#[cfg(test)]
-mod tests;
 mod versioned;
 
 pub use dimensions::grid_sizes;
 pub use elements::{key_of_element, share_a_chunk};
 pub use grids::{bounded, by_name, rectangular, rectilinear, regular};
 pub use keys::{append_keys, key_by_name};
-pub use metadata::regular_metadata;
+pub use metadata::{metadata_of, regular_metadata};
 pub use stairs::Stairs;
-pub use subsets::keys_of_subset;
+pub use subsets::{keys_of_grid, keys_of_subset};
 pub use versioned::Versioned;

@@ -1,13 +1,34 @@
-//! The metadata of a grid, as a tree.
-ghost use Rattle.std.specs.Prelude.{◌≡◌, IfOk, Some, codes, map};
+//! The metadata of a grid, read from a text and written as a tree.
+ghost use Rattle.std.specs.Prelude.{◌≡◌, IfOk, IfSome, IsSome, Some, codes, map};
 ghost use Rattle.std.specs.Int.NonZero.{non_zero_u64_get};
+ghost use Rattle.serde_json.specs.Read.{read};
 ghost use Rattle.serde_json.specs.View.{view};
 ghost use Rattle.zarrs_chunk_base.specs.GridConfigurations.{regular_members};
-ghost use Rattle.zarrs_chunk_base.specs.Metadata.{extension_tree};
+ghost use Rattle.zarrs_chunk_base.specs.Metadata.{IsExtension, extension_of, extension_tree};
 
 use serde_json::Value;
 use std::alloc::{AllocError, Global};
-use zarrs_chunk_base::{ChunkShape, ConfigurationForm, MetadataV3, RegularChunkGridConfiguration};
+use zarrs_chunk_base::{
+    ChunkShape, ConfigurationForm, MetadataV3, Refusal, RegularChunkGridConfiguration,
+};
+
+/// The metadata that a text stands for, as `{"name": "regular", "configuration": {"chunk_shape": [2, 3]}}`; `None` where it stands for none.
+pub fn metadata_of(alloc: Global, text: &str) -> Result<Option<MetadataV3>, AllocError>
+    ensures json { IfOk result (λ found. IfSome found (λ _. IsSome (read text.now))) }
+    ensures metadata { IfOk result (λ found. IfSome found (λ metadata. IfSome (read text.now)
+        (λ tree. IsExtension tree (extension_of metadata)))) }
+{
+    let tree = match Value::from_str(alloc, text) {
+        Ok(tree) => tree,
+        Err(error) if error.is_memory() => return Err(AllocError),
+        Err(_) => return Ok(None),
+    };
+    match MetadataV3::from_tree(alloc, &tree) {
+        Ok(metadata) => Ok(Some(metadata)),
+        Err(Refusal::Refused(_)) => Ok(None),
+        Err(Refusal::Memory(error)) => Err(error),
+    }
+}
 
 /// The member `chunk_grid` of an array that is cut into chunks with these edges.
 pub fn regular_metadata(alloc: Global, chunk_shape: ChunkShape) -> Result<Value, AllocError>

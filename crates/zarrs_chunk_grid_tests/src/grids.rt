@@ -1,4 +1,6 @@
-//! The grids: that each call and each law succeeds with ample memory, and the texts of refusals.
+//! The grids: that laws, homes and copies succeed with ample memory, what is refused, and what a kind of grid makes of metadata.
+//!
+//! Each look-up, box, cover, bound, walk and configuration of each kind of grid is a vector of `chunkcalls`.
 use serde_json::Value;
 use std::alloc::{AllocError, Global};
 use std::num::NonZeroU64;
@@ -65,22 +67,6 @@ fn make_grids(alloc: Global) -> Result<[Row; 4], Fail> {
     ])
 }
 
-/// The look-up is refused, with the length that was given and the one that was expected.
-fn check_refused<T: Drop>(
-    rt: &impl Abort,
-    answer: Result<Option<T>, Refusal<IncompatibleDimensionalityError>>,
-    given: usize,
-    expected: usize,
-) {
-    match answer {
-        Err(Refusal::Refused(error)) => {
-            assert_eq!(rt; error.given(), given);
-            assert_eq!(rt; error.expected(), expected);
-        }
-        _ => assert!(rt; false, "a wrong length was not refused"),
-    }
-}
-
 /// The answer is the box of these ranges.
 fn check_box(
     rt: &(impl Abort + AllocGlobal),
@@ -90,35 +76,6 @@ fn check_box(
     let found = answer?.ok_or("no box")?;
     let expected = ArraySubset::new_with_ranges(rt.alloc(), ranges)?;
     assert!(rt; found == expected, "{found:?}, and not {expected:?}");
-    Ok(())
-}
-
-/// There is an answer, and it is these numbers.
-fn check_numbers(
-    rt: &impl Abort,
-    answer: Result<Option<Vec<u64>>, Refusal<IncompatibleDimensionalityError>>,
-    numbers: &[u64],
-) -> Result<(), Fail> {
-    let found = answer?.ok_or("no answer")?;
-    assert_eq!(rt; found.as_slice(), numbers);
-    Ok(())
-}
-
-/// Where the second chunk lies, and which element in it index 4 is.
-fn check_look_ups(
-    rt: &(impl Abort + AllocGlobal),
-    grid: &ChunkGrid,
-    last_edge: u64,
-) -> Result<(), Fail> {
-    let alloc = rt.alloc();
-    let shape = grid.chunk_shape(alloc, &[1])?.ok_or("no shape")?;
-    assert!(rt; shape.iter().map(|edge| edge.get()).eq([last_edge]));
-    check_numbers(rt, grid.chunk_shape_u64(alloc, &[1]), &[last_edge])?;
-    check_numbers(rt, grid.chunk_origin(alloc, &[1]), &[3])?;
-    check_numbers(rt, grid.chunk_indices(alloc, &[4]), &[1])?;
-    check_numbers(rt, chunk_indices_names_the_home(alloc, grid, &[4]), &[1])?;
-    check_numbers(rt, grid.chunk_element_indices(alloc, &[4]), &[1])?;
-    check_refused(rt, grid.chunk_indices(alloc, &[]), 0, 1);
     Ok(())
 }
 
@@ -137,43 +94,27 @@ fn check_homes(rt: &(impl Abort + AllocGlobal), grid: &ChunkGrid) -> Result<(), 
     Ok(())
 }
 
-/// Boxes of both chunks, and covers of the last two elements.
-fn check_boxes(rt: &(impl Abort + AllocGlobal), grid: &ChunkGrid, end: u64) -> Result<(), Fail> {
+/// Each law that makes a call, on a grid of five elements in a chunk of three and another one up to `end`, and homes.
+fn check_laws(rt: &(impl Abort + AllocGlobal), grid: &ChunkGrid, end: u64) -> Result<(), Fail> {
     let alloc = rt.alloc();
-    check_box(rt, grid.subset(alloc, &[1]), &[3..end])?;
+    let chunk = chunk_indices_names_the_home(alloc, grid, &[4])?.ok_or("no chunk")?;
+    assert_eq!(rt; chunk.as_slice(), [1].as_slice());
     let chunks = ArraySubset::new_with_ranges(alloc, &[0..2])?;
-    check_box(rt, grid.chunks_subset(alloc, &chunks), &[0..end])?;
     let union = the_box_of_chunks_is_the_union_of_their_boxes(alloc, grid, &chunks);
     check_box(rt, union, &[0..end])?;
     let elements = ArraySubset::new_with_ranges(alloc, &[3..5])?;
-    let cover = grid.chunks_in_array_subset(alloc, &elements);
-    check_box(rt, cover, &[1..2])?;
     let met = the_cover_names_the_chunks_that_meet_a_box(alloc, grid, &elements);
-    check_box(rt, met, &[1..2])
-}
-
-/// Each call on a grid of five elements in a chunk of three and another one up to `end`, and each law that makes a call.
-fn check_calls(rt: &(impl Abort + AllocGlobal), grid: &ChunkGrid, end: u64) -> Result<(), Fail> {
-    assert_eq!(rt; grid.dimensionality(), 1);
-    assert_eq!(rt; grid.array_shape(), [5].as_slice());
-    assert_eq!(rt; grid.grid_shape(), [2].as_slice());
-    check_look_ups(rt, grid, end.saturating_sub(3))?;
-    check_homes(rt, grid)?;
-    check_boxes(rt, grid, end)?;
-    assert!(rt; grid.chunk_indices_inbounds(&[1]) && !grid.chunk_indices_inbounds(&[2]));
-    assert!(rt; grid.array_indices_inbounds(&[4]) && !grid.array_indices_inbounds(&[5]));
+    check_box(rt, met, &[1..2])?;
     chunks_share_no_index(grid);
-    let _configuration = grid.configuration(rt.alloc())?;
-    Ok(())
+    check_homes(rt, grid)
 }
 
 #[test]
 fn grids_of_each_kind_are_asked(rt: HostRuntime) -> Result<(), Fail> {
     for (grid, end, name) in &make_grids(rt.alloc())? {
-        check_calls(&rt, grid, *end)?;
-        check_calls(&rt, &grid.clone()?, *end)?;
+        check_laws(&rt, grid, *end)?;
+        check_laws(&rt, &grid.clone()?, *end)?;
         let again = a_grid_is_made_again_of_its_metadata(rt.alloc(), grid)?;
-        check_calls(&rt, &again, *end)?;
         assert_eq!(rt; again.metadata(rt.alloc())?.name(), *name);
         the_edges_determine_the_dimensions(grid, &again);
         grids_of_like_dimensions_answer_alike(grid, &again);
@@ -210,7 +151,7 @@ fn a_kind_of_grid_looks_at_no_name(rt: HostRuntime) -> Result<(), Fail> {
         ),
     ];
     for (grid, end) in &rows {
-        check_calls(&rt, grid, *end)?;
+        check_box(&rt, grid.subset(alloc, &[1]), &[3..*end])?;
     }
     Ok(())
 }

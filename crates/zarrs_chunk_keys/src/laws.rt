@@ -10,7 +10,7 @@ use crate::ChunkKeyEncoding;
 use std::alloc::Global;
 use zarrs_chunk_base::{PluginCreateError, Refusal};
 
-/// A key of the `default` encoding, with or without a suffix, is that of one list of numbers, of whatever length.
+/// Under one separator, and one suffix where there is one, a key of the `default` encoding is that of one list of numbers, whatever its length.
 pub fn a_default_key_names_one_chunk()
     ensures default { (separator : ChunkKeySeparator) (chunk other key : List ℕ)
         → IsKey (default_keys separator) chunk key → IsKey (default_keys separator) other key
@@ -20,7 +20,7 @@ pub fn a_default_key_names_one_chunk()
         → IsKey (suffixed_keys separator suffix) other key → chunk ≡ other }
 {}
 
-/// A chunk has one key under an encoding.
+/// A chunk has one key under an encoding: any two are equal.
 pub fn a_chunk_has_one_key()
     ensures { (encoding : Encoding) (chunk key other : List ℕ) → IsKey encoding chunk key
         → IsKey encoding chunk other → key ≡ other }

@@ -11,7 +11,7 @@
 //! | The box of a box of chunks is the union of their boxes | [`the_box_of_chunks_is_the_union_of_their_boxes`] |
 //! | The walk gives each chunk below the grid shape once, in row-major order | [`the_walk_gives_each_chunk_once`] |
 //! | Each element of the array lies in exactly one of them | [`each_element_lies_in_one_chunk_of_the_walk`] |
-//! | The walks over boxes give the boxes of those that have one | [`the_boxes_of_a_walk_are_those_of_its_chunks`] |
+//! | A chunk that is counted has a box exactly where it ends at 18446744073709551615 or before it; these are the boxes of the walks | [`the_boxes_of_a_walk_are_those_of_its_chunks`] |
 //! | A grid of run-length elements has the dimensions of one with the edges written out | [`the_edges_determine_the_dimensions`] |
 //! | A bounded grid answers as its clipped edges, where no array size is 0 | [`a_bounded_dimension_is_that_of_its_edges`], [`grids_of_like_dimensions_answer_alike`] |
 //! | A [`ChunkGrid`] is made again of its metadata | [`a_grid_is_made_again_of_its_metadata`] |
@@ -107,8 +107,8 @@ pub fn the_box_of_chunks_is_the_union_of_their_boxes<G: ChunkGridTraits>(
     grid.chunks_subset(alloc, chunks)
 }
 
-/// The key and the place under which an element is stored determine the element's indices: what `locate` answers of two elements
-/// differs.
+/// The key and the place under which an element is stored determine the element's indices: where `locate` finds two different elements, their
+/// keys or their places differ.
 pub fn key_and_place_determine_the_index<G: ChunkGridTraits, E: ChunkKeyEncodingTraits>(
     grid: &G,
     encoding: &E,
@@ -148,8 +148,8 @@ pub fn each_element_lies_in_one_chunk_of_the_walk<G: ChunkGridTraits>(
     grid.iter_chunk_indices(alloc)
 }
 
-/// A chunk that is counted has a box exactly where it ends at 18446744073709551615 or before it, and then the walks over boxes
-/// give that box.
+/// A chunk that is counted has a box exactly where it ends at 18446744073709551615 or before it: the one by which the contracts of the
+/// walks over boxes name their items.
 pub fn the_boxes_of_a_walk_are_those_of_its_chunks<G: ChunkGridTraits>(grid: &G)
     ensures boxed { (chunk : List ℕ) → Contains (chunks_of (G.dimensions grid.now)) chunk
         → IsTrue (ends_within (G.dimensions grid.now) chunk)

@@ -1,14 +1,14 @@
 //! Each caller with its answer, which was computed by hand.
-use crate::{
+use callers::{
     Stairs, Versioned, append_keys, bounded, by_name, grid_sizes, key_by_name, key_of_element,
-    keys_of_subset, rectangular, rectilinear, regular, regular_metadata, share_a_chunk,
+    keys_of_grid, keys_of_subset, metadata_of, rectangular, rectilinear, regular, regular_metadata,
+    share_a_chunk,
 };
-use serde_json::Value;
 use std::alloc::Global;
 use std::num::NonZeroU64;
 use std::process::Abort;
 use std::test::Fail;
-use zarrs_chunk_base::{ArraySubset, ChunkShape, MetadataV3, Refusal};
+use zarrs_chunk_base::{ArraySubset, ChunkShape, MetadataV3, Refusal, StoreKey};
 use zarrs_chunk_keys::{ChunkKeyEncoding, ChunkKeyEncodingTraits, DefaultChunkKeyEncoding};
 use zarrs_chunks::laws::{chunk_indices_names_the_home, key_and_place_determine_the_index};
 use zarrs_chunks::{ChunkGridTraits, RegularChunkGrid, locate};
@@ -26,8 +26,7 @@ fn edges(alloc: Global, numbers: &[u64]) -> Result<ChunkShape, Fail> {
 }
 
 fn metadata(alloc: Global, text: &str) -> Result<MetadataV3, Fail> {
-    let tree = Value::from_str(alloc, text)?;
-    Ok(MetadataV3::from_tree(alloc, &tree)?)
+    Ok(metadata_of(alloc, text)?.ok_or("no metadata")?)
 }
 
 fn regular_grid(
@@ -58,6 +57,7 @@ fn metadata_and_dimensions(rt: HostRuntime) -> Result<(), Fail> {
     let tree = regular_metadata(alloc, edges(alloc, &[1, 2, 3])?)?;
     let text = r#"{"configuration":{"chunk_shape":[1,2,3]},"name":"regular"}"#;
     assert_eq!(rt; tree.to_string(alloc)?.as_str(), text);
+    assert!(rt; metadata_of(alloc, "5")?.is_none() && metadata_of(alloc, "{")?.is_none());
     let sizes = grid_sizes(alloc, [5, 7, 52].to_vec(alloc)?, &edges(alloc, &[1, 2, 3])?)?;
     assert_eq!(rt; sizes.as_slice(), [5, 4, 18].as_slice());
     Ok(())
@@ -116,6 +116,14 @@ fn elements(rt: HostRuntime) -> Result<(), Fail> {
     Ok(())
 }
 
+/// The keys are these texts, in this order.
+fn check_keys(rt: &impl Abort, keys: &[StoreKey], expected: &[&str]) {
+    assert_eq!(rt; keys.len(), expected.len());
+    for (key, expected) in keys.iter().zip(expected) {
+        assert_eq!(rt; key.as_str(), *expected);
+    }
+}
+
 #[test]
 fn subsets(rt: HostRuntime) -> Result<(), Fail> {
     let alloc = rt.alloc();
@@ -123,11 +131,10 @@ fn subsets(rt: HostRuntime) -> Result<(), Fail> {
     let grid = regular_grid(alloc, &[4, 7], &[2, 3])?;
     let subset = ArraySubset::new_with_ranges(alloc, &[1..3, 4..7])?;
     let keys = keys_of_subset(alloc, &grid, &slash, &subset)?.ok_or("no cover")?;
-    let expected = ["c/0/1", "c/0/2", "c/1/1", "c/1/2"];
-    assert_eq!(rt; keys.len(), expected.len());
-    for (key, expected) in keys.iter().zip(expected) {
-        assert_eq!(rt; key.as_str(), expected);
-    }
+    check_keys(&rt, &keys, &["c/0/1", "c/0/2", "c/1/1", "c/1/2"]);
+    let keys = keys_of_grid(alloc, &grid, &slash)?;
+    let expected = ["c/0/0", "c/0/1", "c/0/2", "c/1/0", "c/1/1", "c/1/2"];
+    check_keys(&rt, &keys, &expected);
     let grid = bounded(alloc, [7].to_vec(alloc)?, edges(alloc, &[3])?)?;
     let past = ArraySubset::new_with_ranges(alloc, &[5..8])?;
     assert!(rt; keys_of_subset(alloc, &grid, &slash, &past)?.is_none());
