@@ -2,7 +2,7 @@
 //!
 //! Each look-up, box, cover, bound, walk and configuration of each kind of grid is a vector of `chunkcalls`.
 use serde_json::Value;
-use std::alloc::{AllocError, Global};
+use std::alloc::Global;
 use std::num::NonZeroU64;
 use std::ops::Range;
 use std::process::Abort;

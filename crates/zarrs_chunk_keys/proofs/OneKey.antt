@@ -1,9 +1,9 @@
 -- A chunk has one key under an encoding, since a number has one numeral.
-use Rattle.std.specs.Prelude.{◌≡◌, ℕ, ◌+◌, ◌*◌, ◌<◌, List, [], ◌∷◌, ◌++◌, length}
+use Rattle.std.specs.Prelude.{◌≡◌, ℕ, List, [], ◌∷◌, ◌++◌, length}
 use Rattle.std.proofs.Common.{ap, ap₂, sym, ◌∙◌, refl, subst, length-append, arith}
 use Rattle.zarrs_chunk_base.specs.declared.chunk_key_separator.ChunkKeySeparator.{ChunkKeySeparator}
 use Rattle.zarrs_chunk_base.specs.ChunkKeySeparator.{separator_byte}
-use Rattle.zarrs_chunk_keys.specs.ChunkKey.{Encoding, IsDefaultKey, IsKey, IsSuffixedKey, IsV2Key, c_alone, default_keys, number_more, one_more, one_number, suffixed, suffixed_keys, v2_keys, zero_alone}
+use Rattle.zarrs_chunk_keys.specs.ChunkKey.{Encoding, IsDefaultKey, IsKey, IsV2Key, c_alone, default_keys, number_more, one_more, one_number, suffixed, suffixed_keys, v2_keys, zero_alone}
 use Rattle.zarrs_chunk_keys.specs.Numeral.{IsNumeral, digit, more_digits, one_digit}
 
 one_numeral : (n : ℕ) (text other : List ℕ) → IsNumeral n text → IsNumeral n other → text ≡ other
