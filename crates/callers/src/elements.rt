@@ -1,7 +1,7 @@
 //! Where an element lies, and under which key its chunk is stored: in any grid, under any encoding.
-ghost use Rattle.std.specs.Prelude.{◌↔◌, ℕ, IfOk, IsTrue, List, length};
+ghost use Rattle.std.specs.Prelude.{◌≢◌, ◌↔◌, ◌⊎◌, ℕ, IfErr, IfOk, IsTrue, List, length};
 ghost use Rattle.zarrs_chunk_base.specs.Dimension.{InBox};
-ghost use Rattle.zarrs_chunk_base.specs.Refusal.{Answers};
+ghost use Rattle.zarrs_chunk_base.specs.Refusal.{Answers, IfRefused};
 ghost use Rattle.zarrs_chunks.specs.Subsets.{HasNoHome};
 
 use std::alloc::Global;
@@ -35,9 +35,12 @@ pub fn share_a_chunk<G: ChunkGridTraits>(
     one: &[u64],
     other: &[u64],
 ) -> Result<bool, Refusal<IncompatibleDimensionalityError>>
-    ensures { IfOk result (λ shared. IsTrue shared ↔ ((chunk : List ℕ)
+    ensures shared { IfOk result (λ shared. IsTrue shared ↔ ((chunk : List ℕ)
         × InBox (G.dimensions grid.now) chunk one.now
         × InBox (G.dimensions grid.now) chunk other.now)) }
+    ensures refused { IfErr result (λ refusal. IfRefused refusal
+        (λ _. (length one.now ≢ length (G.dimensions grid.now))
+        ⊎ (length other.now ≢ length (G.dimensions grid.now)))) }
 {
     // The law: no other chunk holds the one, nor the other.
     chunks_share_no_index(grid);

@@ -1,8 +1,9 @@
 //! The keys of chunks.
-ghost use Rattle.std.specs.Prelude.{◌≡◌, IfOk};
+ghost use Rattle.std.specs.Prelude.{MatchResult};
 ghost use Rattle.zarrs_chunk_base.specs.Metadata.{extension_of};
+ghost use Rattle.zarrs_chunk_base.specs.Refusal.{IfRefused};
 ghost use Rattle.zarrs_chunk_keys.specs.ChunkKey.{Encoding, IsKey};
-ghost use Rattle.zarrs_chunk_keys.specs.KeyNames.{IsEncoding};
+ghost use Rattle.zarrs_chunk_keys.specs.KeyNames.{IsEncoding, IsEncodingFault};
 
 use std::alloc::{AllocError, Global};
 use zarrs_chunk_base::{ArrayIndices, MetadataV3, PluginCreateError, Refusal, StoreKey};
@@ -14,9 +15,10 @@ pub fn key_by_name(
     metadata: &MetadataV3,
     chunk_indices: &[u64],
 ) -> Result<StoreKey, Refusal<PluginCreateError>>
-    ensures { IfOk result (λ key. (encoding : Encoding)
-        × IsEncoding (extension_of metadata.now) encoding
-        × IsKey encoding chunk_indices.now key) }
+    ensures { MatchResult result
+        (λ key. (encoding : Encoding) × IsEncoding (extension_of metadata.now) encoding
+        × IsKey encoding chunk_indices.now key)
+        (λ refusal. IfRefused refusal (IsEncodingFault (extension_of metadata.now))) }
 {
     let encoding = ChunkKeyEncoding::from_metadata(alloc, metadata)?;
     Ok(encoding.encode(alloc, chunk_indices)?)
