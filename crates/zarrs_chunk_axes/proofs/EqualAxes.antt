@@ -1,23 +1,11 @@
 -- Axes of one edge are dimensions of equal edges.
 use Rattle.std.proofs.Common.{◌≡◌, ℕ, ◌+◌, ◌*◌, ◌<◌, List, [], ◌∷◌, map, refl, arith}
-use Rattle.std.proofs.lemmas.Grind.{div_ceil_times}
 use Rattle.std.specs.Int.NonZero.{non_zero_u64_get}
 use Rattle.zarrs_chunk_base.specs.Dimension.{Dimension}
 use Rattle.zarrs_chunk_base.proofs.InEach.{values_are}
 use Rattle.zarrs_chunk_axes.specs.declared.equal_axis.EqualAxis.{EqualAxis}
-use Rattle.zarrs_chunk_axes.specs.seen.EqualAxis.{equal_from, equal_of}
-use Rattle.zarrs_chunk_axes.specs.lemmas.Multiples.{ceil_least}
+use Rattle.zarrs_chunk_axes.specs.seen.EqualAxis.{equal_edges, equal_of}
 use Rattle.zarrs_chunk_axes.specs.EqualEdges.{IsEqualEdges, AreEqualEdges, HaveEqualEdges}
-
-pub equal_edges : (a s : ℕ) → 0 < s → IsEqualEdges (equal_from a s) a s
-equal_edges a s positive = record {
-  array_size = refl;
-  chunks = λ c. refl;
-  start = λ c. refl;
-  end = λ c. refl;
-  covers = (div_ceil_times a s positive).0;
-  least = λ n. ceil_least a s n positive;
-}
 
 -- an edge is where the first chunk ends
 pub edges_are : (ds : List Dimension) (shape edges : List ℕ) → AreEqualEdges ds shape edges → edges ≡ map (λ d. d.end 0) ds

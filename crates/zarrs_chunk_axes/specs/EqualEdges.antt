@@ -1,7 +1,7 @@
 -- Dimensions whose chunks all have one edge: the `regular` grid.
 -- Source: Zarr V3 core, regular grid.
-use Rattle.std.specs.Prelude.{◌≡◌, ℕ, ◌+◌, ◌*◌, ◌≤◌, IsTrue, List, map}
-use Rattle.zarrs_chunk_base.specs.Dimension.{Dimension, InEach}
+use Rattle.std.specs.Prelude.{◌≡◌, ℕ, ◌+◌, ◌*◌, ◌≤◌, IsTrue, List}
+use Rattle.zarrs_chunk_base.specs.Dimension.{Dimension, InEach, array_sizes}
 
 -- Every number has a chunk, as long as the edge; chunk c begins after c edges. As many are
 -- counted as it takes to reach over the array.
@@ -19,4 +19,4 @@ AreEqualEdges = InEach IsEqualEdges
 
 -- the edges of dimensions of equal edges
 abbrev pub HaveEqualEdges : List Dimension → List ℕ → Type 0
-HaveEqualEdges ds edges = AreEqualEdges ds (map (λ d. d.array_size) ds) edges
+HaveEqualEdges ds edges = AreEqualEdges ds (array_sizes ds) edges

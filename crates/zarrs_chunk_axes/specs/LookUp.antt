@@ -43,4 +43,4 @@ abbrev pub AnswersHome : List Dimension → List ℕ → Result Bool (Refusal In
 AnswersHome ds index (Ok true) chunk place = (length index ≡ length ds) × InBox ds chunk index × IsPlace ds chunk index place
 AnswersHome ds index (Ok false) chunk place = (length index ≡ length ds) × ((chunk : List ℕ) → ¬ InBox ds chunk index)
 AnswersHome ds index (Err (Refused e)) chunk place = (length index ≢ length ds) × TellsLengths (length index) (length ds) e
-AnswersHome ds index (Err (Memory _)) chunk place = length index ≡ length ds
+AnswersHome ds index (Err (Memory _)) chunk place = (length index ≡ length ds) × (length ds ≢ 0)

@@ -1,6 +1,7 @@
 pub mod AcceptedOnce
 pub mod AllChains
-pub mod AllDetermined
+pub mod AllFromEdges
+pub mod AllMade
 pub mod BelowOnce
 pub mod EqualOrListedSizes
 pub mod LookUpEach

@@ -1,12 +1,17 @@
 //! One dimension of a chunk grid, and what it is made of.
-ghost use Rattle.std.specs.Prelude.{◌≡◌, ◌↔◌, ℕ, ◌+◌, ◌<◌, IfOk, IsTrue, MatchOption};
+ghost use Rattle.std.specs.Prelude.{◌≡◌, ◌↔◌, ℕ, ◌+◌, ◌<◌, ◌≤◌, IfOk, IsTrue, MatchOption, map};
+ghost use Rattle.std.specs.List.{sum};
 ghost use Rattle.std.specs.Int.NonZero.{non_zero_u64_get};
 ghost use Rattle.zarrs_chunk_base.specs.Dimension.{Dimension, Holds, HasEdge, IsChain, StartsAt};
-ghost use Rattle.zarrs_chunk_base.specs.DimensionEdges.{DimensionEdges};
+ghost use Rattle.zarrs_chunk_base.specs.DimensionEdges.{DimensionEdges, listed};
 ghost use Rattle.zarrs_chunk_base.specs.Greatest.{greatest};
+ghost use Rattle.zarrs_chunk_base.specs.RunLength.{element_of, expansion, IsRunLengthForm};
+ghost use Rattle.zarrs_chunk_axes.specs.InBounds.{IsIndexInBounds};
+ghost use Rattle.zarrs_chunk_axes.specs.Listed.{IsListed};
 
 use std::alloc::{AllocError, Global};
 use std::num::NonZeroU64;
+use zarrs_chunk_base::RunLengthElement;
 
 /// One dimension of a chunk grid, with its look-ups on single numbers.
 pub trait Axis: Sized + Drop {
@@ -50,15 +55,14 @@ pub trait Axis: Sized + Drop {
         ensures { MatchOption result (¬ IsTrue ((dimension self.now).has_chunk chunk))
             (λ s. HasEdge (dimension self.now) chunk (non_zero_u64_get s)) };
 
+    /// Whether an index is in bounds: below the array size, or that is 0; and where the edges are listed, a chunk holds it too.
+    fn is_in_bounds(&self, index: u64) -> bool
+        ensures { IsTrue result ↔ IsIndexInBounds (dimension self.now) index (edges self.now) };
+
     /// An axis of the same dimension, made with the same edges.
     fn clone(&self) -> Result<Self, AllocError>
         ensures dimension { IfOk result (λ axis. dimension axis ≡ dimension self.now) }
         ensures edges { IfOk result (λ axis. edges axis ≡ edges self.now) };
-
-    /// An axis of the same array size and edges has the same dimension.
-    ghost determined: { (axis other : Self)
-        → (dimension axis).array_size ≡ (dimension other).array_size → edges axis ≡ edges other
-        → dimension axis ≡ dimension other };
 
     /// The dimension is a chain.
     ghost chained: { (axis : Self) → IsChain (dimension axis) };
@@ -66,33 +70,27 @@ pub trait Axis: Sized + Drop {
 
 /// An axis that is made of an array size and what a configuration says of its dimension.
 pub trait AxisFrom<C>: Axis {
-    /// The edges that a configuration stands for, as whole numbers.
-    ghost Edges: { Type 0 };
-
-    /// The edges that a configuration stands for.
-    ghost edges_of: { C → Edges };
-
-    /// The same edges, as an axis of any kind tells them.
+    /// The edges that a configuration tells.
     ghost tells: { C → DimensionEdges };
 
     /// The configuration is in the form in which it is written.
     ghost is_written: { C → Type 0 };
 
     /// There is a dimension of this array size and these edges.
-    ghost accepted: { ℕ → Edges → Type 0 };
+    ghost accepted: { ℕ → DimensionEdges → Type 0 };
 
     /// The dimension is that of an array size and edges.
-    ghost is_made_of: { Dimension → ℕ → Edges → Type 0 };
+    ghost is_made_of: { Dimension → ℕ → DimensionEdges → Type 0 };
 
     /// Whether there is such a dimension.
     fn accepts(array_size: u64, configuration: &C) -> bool
-        ensures { IsTrue result ↔ accepted array_size (edges_of configuration.now) };
+        ensures { IsTrue result ↔ accepted array_size (tells configuration.now) };
 
     /// The axis of such a dimension.
     fn new(alloc: Global, array_size: u64, configuration: &C) -> Result<Self, AllocError>
-        requires { accepted array_size (edges_of configuration.now) }
+        requires { accepted array_size (tells configuration.now) }
         ensures made { IfOk result (λ axis. is_made_of (Self.dimension axis) array_size
-            (edges_of configuration.now)) }
+            (tells configuration.now)) }
         ensures edges { IfOk result (λ axis. Self.edges axis ≡ tells configuration.now) };
 
     /// A configuration that tells the edges of the axis, in the form in which one is written.
@@ -104,6 +102,55 @@ pub trait AxisFrom<C>: Axis {
         ensures written { IfOk result is_written };
 
     /// The array size is the dimension's.
-    ghost sized: { (d : Dimension) (size : ℕ) (edges : Edges) → is_made_of d size edges
+    ghost sized: { (d : Dimension) (size : ℕ) (edges : DimensionEdges) → is_made_of d size edges
         → d.array_size ≡ size };
+}
+
+/// An axis that is made of the edges of its chunks.
+pub trait FromEdges: Axis {
+    /// The axis of an array size and of edges that reach over the array.
+    fn from_edges(
+        alloc: Global,
+        array_size: u64,
+        edges: &[NonZeroU64],
+    ) -> Result<Self, AllocError>
+        requires covers { array_size ≤ sum (map non_zero_u64_get edges.now) }
+        requires fits { sum (map non_zero_u64_get edges.now) ≤ greatest }
+        ensures made { IfOk result (λ axis. IsListed (Self.dimension axis) array_size
+            (map non_zero_u64_get edges.now)) }
+        ensures edges { IfOk result (λ axis. Self.edges axis
+            ≡ listed (map non_zero_u64_get edges.now)) };
+
+    /// The edges of its chunks.
+    ///
+    /// # Errors
+    /// Out of memory.
+    fn to_edges(&self, alloc: Global) -> Result<Vec<NonZeroU64>, AllocError>
+        ensures { IfOk result (λ edges. listed (map non_zero_u64_get edges.items)
+            ≡ Self.edges self.now) };
+}
+
+/// An axis that is made of run-length elements.
+pub trait FromRunLengths: Axis {
+    /// The axis of an array size and of elements whose edges reach over the array.
+    fn from_run_lengths(
+        alloc: Global,
+        array_size: u64,
+        elements: &[RunLengthElement],
+    ) -> Result<Self, AllocError>
+        requires covers { array_size ≤ sum (expansion elements.now) }
+        requires fits { sum (expansion elements.now) ≤ greatest }
+        ensures made { IfOk result (λ axis. IsListed (Self.dimension axis) array_size
+            (expansion elements.now)) }
+        ensures edges { IfOk result (λ axis. Self.edges axis ≡ listed (expansion elements.now)) };
+
+    /// The elements of its edges, in run-length form.
+    ///
+    /// # Errors
+    /// Out of memory.
+    fn to_run_lengths(&self, alloc: Global) -> Result<Vec<RunLengthElement>, AllocError>
+        ensures edges { IfOk result (λ elements. listed (expansion elements.items)
+            ≡ Self.edges self.now) }
+        ensures form { IfOk result (λ elements. IsRunLengthForm
+            (map element_of elements.items)) };
 }

@@ -1,14 +1,13 @@
 //! The dimensions of a grid, and the loops over them that all grids share.
 ghost use Rattle.std.specs.Prelude.{◌≡◌, ◌↔◌, ℕ, IfErr, IfOk, IsOk, IsTrue, List, MatchOption, cond, length, map};
 ghost use Rattle.std.specs.List.{AllByRecursion, AllZip};
-ghost use Rattle.zarrs_chunk_base.specs.Dimension.{Holds, InBox, InEach, IsPlace};
+ghost use Rattle.zarrs_chunk_base.specs.Dimension.{InBox, InEach, IsPlace, array_sizes, grid_sizes};
 ghost use Rattle.zarrs_chunk_base.specs.Refusal.{Answers, HasMemory, IfRefused};
-ghost use Rattle.zarrs_chunk_axes.specs.InBounds.{AreBelow, AreHeldInBounds, AreIndicesInBounds};
+ghost use Rattle.zarrs_chunk_axes.specs.InBounds.{AreBelow, AreInBounds, AreIndicesInBounds, IsIndexInBounds};
 ghost use Rattle.zarrs_chunk_axes.specs.LookUp.{AnswersShape, AnswersOrigin, AnswersChunk, AnswersHome};
 ghost use Rattle.zarrs_chunk_axes.specs.lemmas.LookUpEach.{ByReference, IsFound, IsNotFound};
 
 use crate::axis::{Axis, AxisFrom};
-use crate::in_bounds::are_in_bounds;
 use std::alloc::{AllocError, Global};
 use std::num::NonZeroU64;
 use zarrs_chunk_base::{
@@ -21,12 +20,12 @@ pub struct AxisGrid<A: Axis> {
     axes: Vec<A>,
     array_shape: ArrayShape,
     grid_shape: ArrayShape,
-    ghost array_sizes: { array_shape.items ≡ map (λ d. d.array_size) (map A.dimension axes.items) },
-    ghost grid_sizes: { grid_shape.items ≡ map (λ d. d.grid_size) (map A.dimension axes.items) },
+    ghost array_sizes: { array_shape.items ≡ array_sizes (map A.dimension axes.items) },
+    ghost grid_sizes: { grid_shape.items ≡ grid_sizes (map A.dimension axes.items) },
 }
 
 impl<A: Axis> AxisGrid<A> {
-    ghost use Rattle.zarrs_chunk_axes.specs.seen.AxisGrid.{dimensions_of, edges_of};
+    ghost use Rattle.zarrs_chunk_axes.specs.seen.AxisGrid.{dimensions_of, edges_of, grid_of};
 
     /// The dimensions of these array sizes and configurations, one of each a dimension.
     ///
@@ -41,18 +40,18 @@ impl<A: Axis> AxisGrid<A> {
     where
         A: AxisFrom<C>,
         ensures accepted { IfOk result (λ _. AllZip A.accepted array_shape.items
-            (map A.edges_of configurations.now)) }
+            (map A.tells configurations.now)) }
         ensures made { IfOk result (λ grid. InEach A.is_made_of
-            (dimensions_of grid) array_shape.items (map A.edges_of configurations.now)) }
+            (dimensions_of grid) array_shape.items (map A.tells configurations.now)) }
         ensures edges { IfOk result (λ grid. edges_of grid ≡ map A.tells configurations.now) }
-        ensures sizes { IfOk result (λ grid. map (λ d. d.array_size) (dimensions_of grid)
+        ensures sizes { IfOk result (λ grid. array_sizes (dimensions_of grid)
             ≡ array_shape.items) }
         ensures refused { IfErr result (λ refusal. IfRefused refusal
-            (λ _. ¬ AllZip A.accepted array_shape.items (map A.edges_of configurations.now))) }
+            (λ _. ¬ AllZip A.accepted array_shape.items (map A.tells configurations.now))) }
         ensures handed_back { IfErr result (λ refusal. IfRefused refusal
             (λ shape. shape ≡ array_shape)) }
         ensures refused_first { (¬ AllZip A.accepted array_shape.items
-            (map A.edges_of configurations.now)) → HasMemory result }
+            (map A.tells configurations.now)) → HasMemory result }
     {
         if !are_accepted::<A, C>(&array_shape, configurations) {
             return Err(Refusal::Refused(array_shape));
@@ -75,14 +74,14 @@ impl<A: Axis> AxisGrid<A> {
 
     /// For each dimension how many elements the array has.
     pub fn array_shape(&self) -> &[u64]
-        ensures { result.now ≡ map (λ d. d.array_size) (dimensions_of self.now) }
+        ensures { result.now ≡ array_sizes (dimensions_of self.now) }
     {
         &self.array_shape
     }
 
     /// For each dimension how many chunks are counted.
     pub fn grid_shape(&self) -> &[u64]
-        ensures { result.now ≡ map (λ d. d.grid_size) (dimensions_of self.now) }
+        ensures { result.now ≡ grid_sizes (dimensions_of self.now) }
     {
         &self.grid_shape
     }
@@ -96,8 +95,7 @@ impl<A: Axis> AxisGrid<A> {
         alloc: Global,
         chunk: &[u64],
     ) -> Result<Option<ChunkShape>, Refusal<IncompatibleDimensionalityError>>
-        ensures answers { AnswersShape (dimensions_of self.now) chunk.now result }
-        ensures stores_nothing { length (dimensions_of self.now) ≡ 0 → HasMemory result }
+        ensures { AnswersShape (dimensions_of self.now) chunk.now result }
     {
         self.look_up(alloc, chunk, A::edge_of)
     }
@@ -111,8 +109,7 @@ impl<A: Axis> AxisGrid<A> {
         alloc: Global,
         chunk: &[u64],
     ) -> Result<Option<ArrayIndices>, Refusal<IncompatibleDimensionalityError>>
-        ensures answers { AnswersOrigin (dimensions_of self.now) chunk.now result }
-        ensures stores_nothing { length (dimensions_of self.now) ≡ 0 → HasMemory result }
+        ensures { AnswersOrigin (dimensions_of self.now) chunk.now result }
     {
         self.look_up(alloc, chunk, A::origin_of)
     }
@@ -126,8 +123,7 @@ impl<A: Axis> AxisGrid<A> {
         alloc: Global,
         indices: &[u64],
     ) -> Result<Option<ArrayIndices>, Refusal<IncompatibleDimensionalityError>>
-        ensures answers { AnswersChunk (dimensions_of self.now) indices.now result }
-        ensures stores_nothing { length (dimensions_of self.now) ≡ 0 → HasMemory result }
+        ensures { AnswersChunk (dimensions_of self.now) indices.now result }
     {
         self.look_up(alloc, indices, A::chunk_of)
     }
@@ -143,9 +139,8 @@ impl<A: Axis> AxisGrid<A> {
         chunk: &mut ArrayIndices,
         place: &mut ArrayIndices,
     ) -> Result<bool, Refusal<IncompatibleDimensionalityError>>
-        ensures answers { AnswersHome (dimensions_of self.now) indices.now result
+        ensures { AnswersHome (dimensions_of self.now) indices.now result
             chunk.new.items place.new.items }
-        ensures stores_nothing { length (dimensions_of self.now) ≡ 0 → HasMemory result }
     {
         if indices.len() != self.axes.len() {
             return Err(Refusal::Refused(IncompatibleDimensionalityError::new(
@@ -156,22 +151,15 @@ impl<A: Axis> AxisGrid<A> {
         Ok(find_each(&self.axes, indices, chunk, place)?)
     }
 
-    /// Whether each index is in bounds of its array size.
-    pub fn is_in_bounds(&self, indices: &[u64]) -> bool
-        ensures within { AreBelow (map (λ d. d.array_size) (dimensions_of self.now)) indices.now
+    /// Whether there is an index for each dimension, and each is in bounds there.
+    pub fn are_in_bounds(&self, indices: &[u64]) -> bool
+        ensures within { AreBelow (array_sizes (dimensions_of self.now)) indices.now
             → IsTrue result }
-        ensures exact { IsTrue result ↔ AreIndicesInBounds (dimensions_of self.now) indices.now }
+        ensures only { IsTrue result
+            → AreInBounds (array_sizes (dimensions_of self.now)) indices.now }
+        ensures exact { IsTrue result ↔ AreIndicesInBounds (grid_of self.now) indices.now }
     {
-        are_in_bounds(&self.array_shape, indices)
-    }
-
-    /// Whether each index is in bounds of its array size, and a chunk holds them.
-    pub fn holds_in_bounds(&self, indices: &[u64]) -> bool
-        ensures within { AreBelow (map (λ d. d.array_size) (dimensions_of self.now)) indices.now
-            → IsTrue result }
-        ensures exact { IsTrue result ↔ AreHeldInBounds (dimensions_of self.now) indices.now }
-    {
-        self.is_in_bounds(indices) && are_held(indices, &self.axes)
+        are_in_bounds(&self.axes, indices)
     }
 
     /// Configurations that tell the edges of the dimensions, in the form in which they are written.
@@ -211,10 +199,9 @@ impl<A: Axis> AxisGrid<A> {
         look_up: F,
     ) -> Result<Option<Vec<T>>, Refusal<IncompatibleDimensionalityError>>
         requires { F.IsAlwaysCallable look_up }
-        ensures answers { Answers (length numbers.now) (length self.now.axes.items)
+        ensures { Answers (length numbers.now) (length self.now.axes.items)
             (λ v. IsFound (ByReference (F.post look_up)) self.now.axes.items numbers.now v.items)
             (IsNotFound (ByReference (F.post look_up)) self.now.axes.items numbers.now) result }
-        ensures stores_nothing { length self.now.axes.items ≡ 0 → HasMemory result }
     {
         if numbers.len() != self.axes.len() {
             return Err(Refusal::Refused(IncompatibleDimensionalityError::new(
@@ -229,7 +216,7 @@ impl<A: Axis> AxisGrid<A> {
 /// Whether there are as many array sizes as configurations, and in each dimension there is one of them.
 fn are_accepted<A: AxisFrom<C>, C>(array_shape: &[u64], configurations: &[C]) -> bool
     ensures { IsTrue result ↔ AllZip A.accepted array_shape.now
-        (map A.edges_of configurations.now) }
+        (map A.tells configurations.now) }
 {
     if array_shape.len() != configurations.len() {
         return false;
@@ -294,16 +281,16 @@ fn find_each<A: Axis>(
     Ok(true)
 }
 
-/// Whether there are as many indices as axes, and in each some chunk holds the index.
-fn are_held<A: Axis>(indices: &[u64], axes: &[A]) -> bool
-    ensures { IsTrue result ↔ AllZip (λ i axis. (c : ℕ)
-        × Holds (A.dimension axis) c i) indices.now axes.now }
+/// Whether there are as many indices as axes, and each is in bounds.
+fn are_in_bounds<A: Axis>(axes: &[A], indices: &[u64]) -> bool
+    ensures { IsTrue result ↔ AllZip (λ index axis. IsIndexInBounds (A.dimension axis)
+        index (A.edges axis)) indices.now axes.now }
 {
     if indices.len() != axes.len() {
         return false;
     }
     for (index, axis) in indices.iter().zip(axes) {
-        if axis.chunk_of(*index).is_none() {
+        if !axis.is_in_bounds(*index) {
             return false;
         }
     }
@@ -316,9 +303,9 @@ fn axes_of<C, A: AxisFrom<C>>(
     array_shape: &[u64],
     configurations: &[C],
 ) -> Result<Vec<A>, AllocError>
-    requires { AllZip A.accepted array_shape.now (map A.edges_of configurations.now) }
+    requires { AllZip A.accepted array_shape.now (map A.tells configurations.now) }
     ensures made { IfOk result (λ axes. InEach A.is_made_of (map A.dimension axes.items)
-        array_shape.now (map A.edges_of configurations.now)) }
+        array_shape.now (map A.tells configurations.now)) }
     ensures edges { IfOk result (λ axes. map A.edges axes.items
         ≡ map A.tells configurations.now) }
 {
@@ -331,7 +318,7 @@ fn axes_of<C, A: AxisFrom<C>>(
 
 /// For each dimension how many chunks are counted.
 fn grid_sizes<A: Axis>(alloc: Global, axes: &[A]) -> Result<ArrayShape, AllocError>
-    ensures { IfOk result (λ v. v.items ≡ map (λ d. d.grid_size) (map A.dimension axes.now)) }
+    ensures { IfOk result (λ v. v.items ≡ grid_sizes (map A.dimension axes.now)) }
 {
     let mut sizes = Vec::with_capacity(alloc, axes.len())?;
     for axis in axes {

@@ -1,5 +1,6 @@
 //! One dimension of an array that is cut into chunks of one edge, none of which reaches past the array.
 use crate::axis::{Axis, AxisFrom};
+use crate::in_bounds::is_in_bounds;
 use std::alloc::{AllocError, Global};
 use std::num::NonZeroU64;
 
@@ -15,15 +16,13 @@ pub struct BoundedAxis {
 impl Axis for BoundedAxis {
     ghost use Rattle.std.specs.Int.NonZero.{non_zero_u64_get};
     ghost use Rattle.zarrs_chunk_base.specs.DimensionEdges.{equal};
-    ghost use Rattle.zarrs_chunk_axes.specs.seen.BoundedAxis.{bounded_of, bounded_is_chain, bounded_determined};
+    ghost use Rattle.zarrs_chunk_axes.specs.seen.BoundedAxis.{bounded_of, bounded_is_chain};
 
     ghost dimension = { bounded_of };
 
     ghost edges = { λ axis. equal (non_zero_u64_get axis.edge) };
 
     ghost chained = { bounded_is_chain };
-
-    ghost determined = { bounded_determined };
 
     fn array_size(&self) -> u64 {
         self.array_size
@@ -61,6 +60,10 @@ impl Axis for BoundedAxis {
         }
     }
 
+    fn is_in_bounds(&self, index: u64) -> bool {
+        is_in_bounds(self.array_size, index)
+    }
+
     fn clone(&self) -> Result<BoundedAxis, AllocError> {
         Ok(BoundedAxis {
             array_size: self.array_size,
@@ -73,12 +76,8 @@ impl Axis for BoundedAxis {
 impl AxisFrom<NonZeroU64> for BoundedAxis {
     ghost use Rattle.std.specs.Int.NonZero.{non_zero_u64_get};
     ghost use Rattle.zarrs_chunk_base.specs.DimensionEdges.{equal};
-    ghost use Rattle.std.specs.Prelude.{ℕ};
-    ghost use Rattle.zarrs_chunk_axes.specs.Bounded.{IsBounded};
-
-    ghost Edges = { ℕ };
-
-    ghost edges_of = { non_zero_u64_get };
+    ghost use Rattle.zarrs_chunk_axes.specs.Bounded.{IsBoundedBy};
+    ghost use Rattle.zarrs_chunk_axes.specs.seen.BoundedAxis.{bounded_size};
 
     ghost tells = { λ edge. equal (non_zero_u64_get edge) };
 
@@ -86,9 +85,9 @@ impl AxisFrom<NonZeroU64> for BoundedAxis {
 
     ghost accepted = { λ _ _. Unit {0} };
 
-    ghost is_made_of = { IsBounded };
+    ghost is_made_of = { IsBoundedBy };
 
-    ghost sized = { λ d size edge is. is.array_size };
+    ghost sized = { bounded_size };
 
     fn accepts(_array_size: u64, _edge: &NonZeroU64) -> bool {
         true

@@ -1,5 +1,6 @@
 //! One dimension of an array that is cut into chunks of one edge.
 use crate::axis::{Axis, AxisFrom};
+use crate::in_bounds::is_in_bounds;
 use std::alloc::{AllocError, Global};
 use std::num::NonZeroU64;
 
@@ -15,15 +16,13 @@ pub struct EqualAxis {
 impl Axis for EqualAxis {
     ghost use Rattle.std.specs.Int.NonZero.{non_zero_u64_get};
     ghost use Rattle.zarrs_chunk_base.specs.DimensionEdges.{equal};
-    ghost use Rattle.zarrs_chunk_axes.specs.seen.EqualAxis.{equal_of, equal_is_chain, equal_determined};
+    ghost use Rattle.zarrs_chunk_axes.specs.seen.EqualAxis.{equal_of, equal_is_chain};
 
     ghost dimension = { equal_of };
 
     ghost edges = { λ axis. equal (non_zero_u64_get axis.edge) };
 
     ghost chained = { equal_is_chain };
-
-    ghost determined = { equal_determined };
 
     fn array_size(&self) -> u64 {
         self.array_size
@@ -45,6 +44,10 @@ impl Axis for EqualAxis {
         Some(self.edge)
     }
 
+    fn is_in_bounds(&self, index: u64) -> bool {
+        is_in_bounds(self.array_size, index)
+    }
+
     fn clone(&self) -> Result<EqualAxis, AllocError> {
         Ok(EqualAxis {
             array_size: self.array_size,
@@ -57,12 +60,8 @@ impl Axis for EqualAxis {
 impl AxisFrom<NonZeroU64> for EqualAxis {
     ghost use Rattle.std.specs.Int.NonZero.{non_zero_u64_get};
     ghost use Rattle.zarrs_chunk_base.specs.DimensionEdges.{equal};
-    ghost use Rattle.std.specs.Prelude.{ℕ};
-    ghost use Rattle.zarrs_chunk_axes.specs.EqualEdges.{IsEqualEdges};
-
-    ghost Edges = { ℕ };
-
-    ghost edges_of = { non_zero_u64_get };
+    ghost use Rattle.zarrs_chunk_axes.specs.EqualOrListed.{IsEqualOrListed};
+    ghost use Rattle.zarrs_chunk_axes.specs.lemmas.EqualOrListedSizes.{equal_or_listed_size};
 
     ghost tells = { λ edge. equal (non_zero_u64_get edge) };
 
@@ -70,15 +69,15 @@ impl AxisFrom<NonZeroU64> for EqualAxis {
 
     ghost accepted = { λ _ _. Unit {0} };
 
-    ghost is_made_of = { IsEqualEdges };
+    ghost is_made_of = { IsEqualOrListed };
 
-    ghost sized = { λ d size edge is. is.array_size };
+    ghost sized = { equal_or_listed_size };
 
     fn accepts(_array_size: u64, _edge: &NonZeroU64) -> bool {
         true
     }
 
-    #[tactic(auto, using(crate::proofs::EqualAxes::equal_edges))]
+    #[tactic(auto, using(crate::specs::seen::EqualAxis::equal_edges))]
     fn new(_alloc: Global, array_size: u64, edge: &NonZeroU64) -> Result<EqualAxis, AllocError> {
         Ok(EqualAxis {
             array_size,

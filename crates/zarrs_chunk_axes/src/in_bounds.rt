@@ -18,7 +18,7 @@ pub fn are_in_bounds(sizes: &[u64], numbers: &[u64]) -> bool
 }
 
 /// Whether the number is below the size, or that is 0.
-fn is_in_bounds(size: u64, number: u64) -> bool
+pub(crate) fn is_in_bounds(size: u64, number: u64) -> bool
     ensures { IsTrue result ↔ IsInBounds size number }
 {
     size == 0 || number < size

@@ -16,7 +16,7 @@
 //! | Module | What it holds |
 //! |---|---|
 //! | `axis` | one dimension, and what it is made of |
-//! | `equal_axis`, `bounded_axis`, `listed_axis`, `equal_or_listed_axis` | the kinds of dimension |
+//! | `equal_axis`, `bounded_axis`, `listed_axis`, `equal_or` | the kinds of dimension |
 //! | `axis_grid` | the list of dimensions |
 //! | `in_bounds` | numbers in bounds of sizes |
 //! | `row_major`, `row_major_walk` | counting through the lists of numbers below a shape, and a walk that does so |
@@ -27,18 +27,18 @@ mod axis;
 mod axis_grid;
 mod bounded_axis;
 mod equal_axis;
-mod equal_or_listed_axis;
+mod equal_or;
 mod in_bounds;
 mod listed_axis;
 pub mod row_major;
 mod row_major_walk;
 mod run_lengths;
 
-pub use axis::{Axis, AxisFrom};
+pub use axis::{Axis, AxisFrom, FromEdges, FromRunLengths};
 pub use axis_grid::AxisGrid;
 pub use bounded_axis::BoundedAxis;
 pub use equal_axis::EqualAxis;
-pub use equal_or_listed_axis::EqualOrListedAxis;
+pub use equal_or::EqualOr;
 pub use in_bounds::are_in_bounds;
 pub use listed_axis::ListedAxis;
 pub use row_major_walk::{ArrayIndicesTinyVec, RowMajorWalk};

@@ -5,9 +5,12 @@ ghost use Rattle.std.specs.Int.NonZero.{non_zero_u64_get};
 ghost use Rattle.zarrs_chunk_base.specs.Greatest.{greatest};
 ghost use Rattle.zarrs_chunk_axes.specs.lemmas.Running.{starts_from};
 
-use crate::axis::Axis;
+use crate::axis::{Axis, FromEdges, FromRunLengths};
+use crate::in_bounds::is_in_bounds;
+use crate::run_lengths::{expand, run_length_form};
 use std::alloc::{AllocError, Global};
 use std::num::NonZeroU64;
+use zarrs_chunk_base::RunLengthElement;
 
 /// One dimension of an array, cut into chunks with the edges of a list, which reach over the array.
 #[derive(Debug, Drop)]
@@ -28,7 +31,7 @@ impl ListedAxis {
     ghost use Rattle.zarrs_chunk_axes.specs.lemmas.Running.{IsAfter};
 
     /// The dimension of an array size and the edges of its chunks.
-    pub(crate) fn new(
+    fn new(
         alloc: Global,
         array_size: u64,
         edges: Vec<NonZeroU64>,
@@ -47,13 +50,6 @@ impl ListedAxis {
         })
     }
 
-    /// How many elements each chunk has.
-    pub(crate) fn edges(&self) -> &[NonZeroU64]
-        ensures { map non_zero_u64_get result.now ≡ edges_in self.now }
-    {
-        &self.edges
-    }
-
     /// How many chunks start at the index or before it.
     fn starting_up_to(&self, index: u64) -> usize
         ensures { IsAfter (map non_zero_u64_get self.now.edges.items) index result }
@@ -64,15 +60,13 @@ impl ListedAxis {
 
 impl Axis for ListedAxis {
     ghost use Rattle.zarrs_chunk_base.specs.DimensionEdges.{listed};
-    ghost use Rattle.zarrs_chunk_axes.specs.seen.ListedAxis.{edges_in, listed_of, listed_is_chain, listed_determined};
+    ghost use Rattle.zarrs_chunk_axes.specs.seen.ListedAxis.{edges_in, listed_of, listed_is_chain};
 
     ghost dimension = { listed_of };
 
     ghost edges = { λ axis. listed (edges_in axis) };
 
     ghost chained = { listed_is_chain };
-
-    ghost determined = { listed_determined };
 
     fn array_size(&self) -> u64 {
         self.array_size
@@ -99,12 +93,44 @@ impl Axis for ListedAxis {
         item_at(&self.edges, chunk)
     }
 
+    fn is_in_bounds(&self, index: u64) -> bool {
+        is_in_bounds(self.array_size, index) && self.chunk_of(index).is_some()
+    }
+
     fn clone(&self) -> Result<ListedAxis, AllocError> {
         Ok(ListedAxis {
             array_size: self.array_size,
             edges: self.edges.clone()?,
             starts: self.starts.clone()?,
         })
+    }
+}
+
+impl FromEdges for ListedAxis {
+    fn from_edges(
+        alloc: Global,
+        array_size: u64,
+        edges: &[NonZeroU64],
+    ) -> Result<ListedAxis, AllocError> {
+        ListedAxis::new(alloc, array_size, edges.to_vec(alloc)?)
+    }
+
+    fn to_edges(&self, alloc: Global) -> Result<Vec<NonZeroU64>, AllocError> {
+        self.edges.to_vec(alloc)
+    }
+}
+
+impl FromRunLengths for ListedAxis {
+    fn from_run_lengths(
+        alloc: Global,
+        array_size: u64,
+        elements: &[RunLengthElement],
+    ) -> Result<ListedAxis, AllocError> {
+        ListedAxis::new(alloc, array_size, expand(alloc, elements)?)
+    }
+
+    fn to_run_lengths(&self, alloc: Global) -> Result<Vec<RunLengthElement>, AllocError> {
+        run_length_form(alloc, &self.edges)
     }
 }
 

@@ -1,6 +1,6 @@
 -- The dimensions of a chunk grid, and the boxes that its chunks take up.
 -- Sources: Zarr V3 core, chunk grids and the regular grid; ZEP 3, variable chunks.
-use Rattle.std.specs.Prelude.{◌≡◌, ℕ, ◌+◌, ◌<◌, ◌≤◌, Bool, IsTrue, List, [], ◌∷◌}
+use Rattle.std.specs.Prelude.{◌≡◌, ℕ, ◌+◌, ◌<◌, ◌≤◌, Bool, IsTrue, List, [], ◌∷◌, map}
 
 -- One dimension: which whole numbers are chunks, and for each the first index that lies in it and
 -- the first one after.
@@ -42,6 +42,14 @@ pub record IsChain (d : Dimension) : Type 0 where
   pub no_gap : (c : ℕ) → IsTrue (d.has_chunk (c + 1)) → IsTrue (d.has_chunk c) × (d.start (c + 1) ≡ d.end c)
   pub counted : (c : ℕ) → c < d.grid_size → IsTrue (d.has_chunk c)
   pub reaches : (i : ℕ) → i < d.array_size → (c : ℕ) × (c < d.grid_size) × Holds d c i
+
+-- how many elements the array has along each dimension: the array shape
+abbrev pub array_sizes : List Dimension → List ℕ
+array_sizes = map (λ d. d.array_size)
+
+-- how many chunks are counted along each dimension: the grid shape
+abbrev pub grid_sizes : List Dimension → List ℕ
+grid_sizes = map (λ d. d.grid_size)
 
 -- the list names a chunk: each number is one of its dimension
 abbrev pub IsChunk : List Dimension → List ℕ → Type 0

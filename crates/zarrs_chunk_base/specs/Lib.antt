@@ -7,6 +7,7 @@ pub mod Dimension
 pub mod DimensionEdges
 pub mod First
 pub mod Greatest
+pub mod Grid
 pub mod GridConfigurations
 pub mod Json
 pub mod KeyConfigurations

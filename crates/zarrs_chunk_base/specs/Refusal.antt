@@ -36,12 +36,20 @@ abbrev pub RefusesLength : ℕ → ℕ → Refusal IncompatibleDimensionalityErr
 RefusesLength given expected (Refused e) = (given ≢ expected) × TellsLengths given expected e
 RefusesLength given expected (Memory _) = ⊥
 
--- A look-up refuses a wrong length first; then it finds what was sought, or nothing, or no memory.
+-- A look-up refuses a wrong length first; then it finds what was sought, or nothing, or is out of memory, if it stores anything.
+abbrev pub AnswersStoring : {X : Type 0} → Type 0 → ℕ → ℕ → (X → Type 0) → Type 0 → Result (Option X) (Refusal IncompatibleDimensionalityError) → Type 0
+AnswersStoring Stores given expected Found Absent (Ok (Some x)) = (given ≡ expected) × Found x
+AnswersStoring Stores given expected Found Absent (Ok None) = (given ≡ expected) × Absent
+AnswersStoring Stores given expected Found Absent (Err (Refused e)) = (given ≢ expected) × TellsLengths given expected e
+AnswersStoring Stores given expected Found Absent (Err (Memory _)) = (given ≡ expected) × Stores
+
+-- a look-up that stores a number a dimension, and so nothing without dimensions
 abbrev pub Answers : {X : Type 0} → ℕ → ℕ → (X → Type 0) → Type 0 → Result (Option X) (Refusal IncompatibleDimensionalityError) → Type 0
-Answers given expected Found Absent (Ok (Some x)) = (given ≡ expected) × Found x
-Answers given expected Found Absent (Ok None) = (given ≡ expected) × Absent
-Answers given expected Found Absent (Err (Refused e)) = (given ≢ expected) × TellsLengths given expected e
-Answers given expected Found Absent (Err (Memory _)) = given ≡ expected
+Answers given expected = AnswersStoring (expected ≢ 0) given expected
+
+-- one that stores something without dimensions too
+abbrev pub AnswersOrMemory : {X : Type 0} → ℕ → ℕ → (X → Type 0) → Type 0 → Result (Option X) (Refusal IncompatibleDimensionalityError) → Type 0
+AnswersOrMemory = AnswersStoring (Unit {0})
 
 -- the call's own refusal, and not out of memory
 abbrev pub IsOwn : {E : Type 0} → Refusal E → Type 0

@@ -1,12 +1,15 @@
 -- How a list of axes is seen as dimensions, and that they are chains.
-use Rattle.std.specs.Prelude.{◌≡◌, List, map}
+use Rattle.std.specs.Prelude.{◌≡◌, ℕ, Bool, List, map}
 use Rattle.std.specs.List.{AllByRecursion}
 use Rattle.zarrs_chunk_axes.specs.declared.axis.Axis.{Ghosts}
 use Rattle.zarrs_chunk_axes.specs.declared.axis_grid.AxisGrid.{AxisGrid}
-use Rattle.zarrs_chunk_base.specs.Dimension.{Dimension, IsChain}
+use Rattle.zarrs_chunk_base.specs.Dimension.{Dimension, InEach, IsChain, array_sizes}
 use Rattle.zarrs_chunk_base.specs.DimensionEdges.{DimensionEdges}
 use Rattle.zarrs_chunk_axes.specs.lemmas.AllChains.{are_chains}
-use Rattle.zarrs_chunk_axes.specs.lemmas.AllDetermined.{are_determined}
+use Rattle.zarrs_chunk_base.specs.Grid.{Grid}
+use Rattle.zarrs_chunk_axes.specs.lemmas.AllFromEdges.{IsFromEdges, are_from_edges}
+use Rattle.zarrs_chunk_axes.specs.lemmas.AllMade.{are_made}
+use Rattle.zarrs_chunk_axes.specs.seen.DimensionFrom.{dimensions_from}
 
 -- the dimensions of a list of axes, one for each
 abbrev pub dimensions_of : {A : Type 0} {axis : Ghosts A} → AxisGrid A axis → List Dimension
@@ -16,14 +19,21 @@ dimensions_of {A} {axis} grid = map axis.dimension grid.axes.items
 abbrev pub edges_of : {A : Type 0} {axis : Ghosts A} → AxisGrid A axis → List DimensionEdges
 edges_of {A} {axis} grid = map axis.edges grid.axes.items
 
+-- the two together
+abbrev pub grid_of : {A : Type 0} {axis : Ghosts A} → AxisGrid A axis → Grid
+grid_of grid = record { dimensions = dimensions_of grid; edges = edges_of grid }
+
 -- they are chains, where the dimension of each axis is one
 pub chains_of : {A : Type 0} {axis : Ghosts A} → ((a : A) → IsChain (axis.dimension a)) → (grid : AxisGrid A axis) → AllByRecursion IsChain (dimensions_of grid)
 chains_of {A} {axis} chain grid = are_chains axis.dimension chain grid.axes.items
 
--- axes of the same array sizes and edges have the same dimensions, where this holds of each
-pub determined_by : {A B : Type 0} {axis : Ghosts A} {axis' : Ghosts B}
-    → ((a : A) (b : B) → (axis.dimension a).array_size ≡ (axis'.dimension b).array_size → axis.edges a ≡ axis'.edges b → axis.dimension a ≡ axis'.dimension b)
-    → (grid : AxisGrid A axis) (other : AxisGrid B axis') → map (λ d. d.array_size) (dimensions_of grid) ≡ map (λ d. d.array_size) (dimensions_of other)
-    → edges_of grid ≡ edges_of other → dimensions_of grid ≡ dimensions_of other
-determined_by {A} {B} {axis} {axis'} each grid other sizes edges =
-    are_determined axis.dimension axis.edges axis'.dimension axis'.edges each grid.axes.items other.axes.items sizes edges
+-- and each is made of its array size and its edges
+pub made_of : {A : Type 0} {axis : Ghosts A} (is_made_of : Dimension → ℕ → DimensionEdges → Type 0)
+    → ((a : A) → is_made_of (axis.dimension a) (axis.dimension a).array_size (axis.edges a))
+    → (grid : AxisGrid A axis) → InEach is_made_of (dimensions_of grid) (array_sizes (dimensions_of grid)) (edges_of grid)
+made_of {A} {axis} is_made_of made grid = are_made axis.dimension axis.edges is_made_of made grid.axes.items
+
+-- and they are those of the array sizes and the edges
+pub from_edges : {A : Type 0} {axis : Ghosts A} (bounded : Bool) → ((a : A) → IsFromEdges axis.dimension axis.edges bounded a)
+    → (grid : AxisGrid A axis) → dimensions_of grid ≡ dimensions_from bounded (array_sizes (dimensions_of grid)) (edges_of grid)
+from_edges {A} {axis} bounded each grid = are_from_edges axis.dimension axis.edges bounded each grid.axes.items

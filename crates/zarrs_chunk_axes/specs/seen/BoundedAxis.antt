@@ -1,14 +1,16 @@
 -- How an axis of one edge that ends with the array is seen as a dimension, and that it is a chain.
 use Rattle.std.specs.Prelude.{◌≡◌, ℕ, ◌+◌, ◌*◌, ◌/◌, ◌<◌, ◌≤◌, min, nat_lt}
-use Rattle.std.proofs.Common.{sym, ⊎_elim, arith, ltb-true, lt-ltb}
+use Rattle.std.proofs.Common.{sym, ⊎_elim, arith, ltb-true, lt-ltb, refl}
 use Rattle.std.proofs.lemmas.Bool.{cases_lt}
+use Rattle.std.proofs.lemmas.Grind.{div_ceil_times}
 use Rattle.std.proofs.Math.Nat.{div-mul-le_self, min-eq_left, le-min}
 use Rattle.std.specs.Int.{div_ceil}
 use Rattle.std.specs.Int.NonZero.{non_zero_u64_get}
 use Rattle.zarrs_chunk_axes.specs.lemmas.Multiples.{next_multiple, below_next, quotient_counted, ceil_least}
 use Rattle.zarrs_chunk_axes.specs.declared.bounded_axis.BoundedAxis.{BoundedAxis}
 use Rattle.zarrs_chunk_base.specs.Dimension.{Dimension, Holds, IsChain}
-use Rattle.zarrs_chunk_base.specs.DimensionEdges.{equal}
+use Rattle.zarrs_chunk_base.specs.DimensionEdges.{DimensionEdges, equal, listed}
+use Rattle.zarrs_chunk_axes.specs.Bounded.{IsBounded, IsBoundedBy}
 
 -- the dimension of an array size and an edge
 abbrev pub bounded_from : ℕ → ℕ → Dimension
@@ -57,7 +59,19 @@ bounded_is_chain axis =
       reaches = λ i within. (i / edge, quotient_counted size edge i positive within, quotient_within size edge i positive within);
     }
 
--- an axis of the same array size and edge has the same dimension
-pub bounded_determined : (axis other : BoundedAxis) → axis.array_size ≡ other.array_size → equal (non_zero_u64_get axis.edge) ≡ equal (non_zero_u64_get other.edge)
-    → bounded_of axis ≡ bounded_of other
-bounded_determined axis other size edge = cc
+pub bounded_size : (d : Dimension) (size : ℕ) (edges : DimensionEdges) → IsBoundedBy d size edges → d.array_size ≡ size
+bounded_size d size (equal edge) is = is.array_size
+bounded_size d size (listed edges) is = absurd is
+
+pub bounded_is_made : (axis : BoundedAxis) → IsBounded (bounded_of axis) axis.array_size (non_zero_u64_get axis.edge)
+bounded_is_made axis =
+    let edge = non_zero_u64_get axis.edge in
+    let size = axis.array_size in
+    record {
+      array_size = refl;
+      chunks = λ c. (ltb-true (c * edge) size, lt-ltb (c * edge) size);
+      start = λ c _. refl;
+      end = λ c _. refl;
+      covers = (div_ceil_times size edge axis.edge.ok).0;
+      least = λ n. ceil_least size edge n axis.edge.ok;
+    }

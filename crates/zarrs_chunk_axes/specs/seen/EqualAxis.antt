@@ -2,12 +2,13 @@
 use Rattle.std.specs.Prelude.{◌≡◌, ℕ, ◌+◌, ◌*◌, ◌/◌, ◌<◌, true, refl}
 use Rattle.std.proofs.Common.{arith}
 use Rattle.std.proofs.Math.Nat.{div-mul-le_self}
+use Rattle.std.proofs.lemmas.Grind.{div_ceil_times}
 use Rattle.std.specs.Int.{div_ceil}
 use Rattle.std.specs.Int.NonZero.{non_zero_u64_get}
-use Rattle.zarrs_chunk_axes.specs.lemmas.Multiples.{next_multiple, below_next, quotient_counted}
+use Rattle.zarrs_chunk_axes.specs.lemmas.Multiples.{ceil_least, next_multiple, below_next, quotient_counted}
 use Rattle.zarrs_chunk_axes.specs.declared.equal_axis.EqualAxis.{EqualAxis}
 use Rattle.zarrs_chunk_base.specs.Dimension.{Dimension, Holds, IsChain}
-use Rattle.zarrs_chunk_base.specs.DimensionEdges.{equal}
+use Rattle.zarrs_chunk_axes.specs.EqualEdges.{IsEqualEdges}
 
 -- the dimension of an array size and an edge
 abbrev pub equal_from : ℕ → ℕ → Dimension
@@ -34,7 +35,16 @@ equal_is_chain axis =
       reaches = λ i within. (i / edge, quotient_counted axis.array_size edge i positive within, quotient_holds axis.array_size edge i positive);
     }
 
--- an axis of the same array size and edge has the same dimension
-pub equal_determined : (axis other : EqualAxis) → axis.array_size ≡ other.array_size → equal (non_zero_u64_get axis.edge) ≡ equal (non_zero_u64_get other.edge)
-    → equal_of axis ≡ equal_of other
-equal_determined axis other size edge = cc
+-- its edges are equal
+pub equal_edges : (a s : ℕ) → 0 < s → IsEqualEdges (equal_from a s) a s
+equal_edges a s positive = record {
+  array_size = refl;
+  chunks = λ c. refl;
+  start = λ c. refl;
+  end = λ c. refl;
+  covers = (div_ceil_times a s positive).0;
+  least = λ n. ceil_least a s n positive;
+}
+
+pub equal_is_made : (axis : EqualAxis) → IsEqualEdges (equal_of axis) axis.array_size (non_zero_u64_get axis.edge)
+equal_is_made axis = equal_edges axis.array_size (non_zero_u64_get axis.edge) axis.edge.ok

@@ -9,7 +9,7 @@ use Rattle.std.specs.declared.num.NonZeroU64.{NonZeroU64}
 use Rattle.zarrs_chunk_axes.specs.lemmas.Running.{sum_next, take_next}
 use Rattle.zarrs_chunk_axes.specs.declared.listed_axis.ListedAxis.{ListedAxis}
 use Rattle.zarrs_chunk_base.specs.Dimension.{Dimension, Holds, IsChain}
-use Rattle.zarrs_chunk_base.specs.DimensionEdges.{listed}
+use Rattle.zarrs_chunk_axes.specs.Listed.{IsListed}
 
 -- the dimension of an array size and a list of edges
 abbrev pub listed_from : ℕ → List ℕ → Dimension
@@ -71,6 +71,13 @@ listed_is_chain axis =
       reaches = λ i within. reached axis.array_size edges i (let covers = axis.covers in omega arith);
     }
 
--- an axis of the same array size and edges has the same dimension
-pub listed_determined : (axis other : ListedAxis) → axis.array_size ≡ other.array_size → listed (edges_in axis) ≡ listed (edges_in other) → listed_of axis ≡ listed_of other
-listed_determined axis other size edges = cc
+pub listed_is_made : (axis : ListedAxis) → IsListed (listed_of axis) axis.array_size (edges_in axis)
+listed_is_made axis =
+    let edges = map non_zero_u64_get axis.edges.items in
+    record {
+      array_size = refl;
+      grid_size = refl;
+      chunks = λ c. (ltb-true c (length edges), lt-ltb c (length edges));
+      start = λ c _. refl;
+      end = λ c _. refl;
+    }

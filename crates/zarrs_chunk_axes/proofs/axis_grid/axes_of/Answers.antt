@@ -26,7 +26,7 @@ pub returns-clause-made : goal.returns-clause-made
 returns-clause-made g c =
     let lengths = AllZip-long _ _ _ c.loop-array_size.invariant.accepted_left in
     let none : length c.loop-array_size.array_size-iterator.a.rest.now ≡ 0 = grind (arith, c.in-None.ensures.steps, lengths) in
-    mapped g.A.AxisFrom.edges_of g.A.AxisFrom.is_made_of _ _ _ (all_made _ _ _ _ _ _ _ _ _ _ c.loop-array_size.invariant none)
+    mapped g.A.AxisFrom.tells g.A.AxisFrom.is_made_of _ _ _ (all_made _ _ _ _ _ _ _ _ _ _ c.loop-array_size.invariant none)
 
 pub returns-clause-edges : goal.returns-clause-edges
 returns-clause-edges g c =

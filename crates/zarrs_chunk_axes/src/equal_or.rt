@@ -1,90 +1,86 @@
-//! One dimension of an array that is cut into chunks of one edge, or with the edges of a list.
+//! One dimension of an array that is cut into chunks of one edge, or in another way.
 ghost use Rattle.std.specs.Prelude.{◌≤◌, SomeIff, map};
 ghost use Rattle.std.specs.List.{sum};
 ghost use Rattle.std.specs.Int.NonZero.{non_zero_u64_get};
 ghost use Rattle.zarrs_chunk_base.specs.Greatest.{greatest};
 
-use crate::axis::{Axis, AxisFrom};
+use crate::axis::{Axis, AxisFrom, FromEdges, FromRunLengths};
 use crate::equal_axis::EqualAxis;
-use crate::listed_axis::ListedAxis;
 use crate::run_lengths;
 use std::alloc::{AllocError, Global};
 use std::num::NonZeroU64;
 use zarrs_chunk_base::{ChunkEdgeLengths, RectangularChunkGridDimensionConfiguration};
 
-/// One dimension of an array, cut into chunks of one edge or with the edges of a list.
+/// One dimension of an array, cut into chunks of one edge or as an axis of another kind is. It answers every call as the axis inside it.
 #[derive(Debug, Drop)]
-pub enum EqualOrListedAxis {
+pub enum EqualOr<A> {
     /// One edge for all chunks.
     Equal(EqualAxis),
-    /// An edge for each chunk.
-    Listed(ListedAxis),
+    /// An axis of the other kind.
+    Other(A),
 }
 
-impl Axis for EqualOrListedAxis {
-    ghost use Rattle.zarrs_chunk_axes.specs.seen.EqualOrListedAxis.{equal_or_listed_edges, equal_or_listed_of, equal_or_listed_is_chain, equal_or_listed_determined};
+/// What the axis inside answers.
+macro_rules! inside {
+    ($either:expr, $axis:ident => $answer:expr) => {
+        match $either {
+            EqualOr::Equal($axis) => $answer,
+            EqualOr::Other($axis) => $answer,
+        }
+    };
+}
 
-    ghost dimension = { equal_or_listed_of };
+impl<A: Axis> Axis for EqualOr<A> {
+    ghost use Rattle.zarrs_chunk_axes.specs.seen.EqualOr.{equal_or, equal_or_edges, equal_or_is_chain};
 
-    ghost edges = { equal_or_listed_edges };
+    ghost dimension = { equal_or A.dimension };
 
-    ghost chained = { equal_or_listed_is_chain };
+    ghost edges = { equal_or_edges A.edges };
 
-    ghost determined = { equal_or_listed_determined };
+    ghost chained = { equal_or_is_chain A.dimension A.chained };
 
     fn array_size(&self) -> u64 {
-        match self {
-            EqualOrListedAxis::Equal(axis) => axis.array_size(),
-            EqualOrListedAxis::Listed(axis) => axis.array_size(),
-        }
+        inside!(self, axis => axis.array_size())
     }
 
     fn grid_size(&self) -> u64 {
-        match self {
-            EqualOrListedAxis::Equal(axis) => axis.grid_size(),
-            EqualOrListedAxis::Listed(axis) => axis.grid_size(),
-        }
+        inside!(self, axis => axis.grid_size())
     }
 
     fn chunk_of(&self, index: u64) -> Option<u64> {
-        match self {
-            EqualOrListedAxis::Equal(axis) => axis.chunk_of(index),
-            EqualOrListedAxis::Listed(axis) => axis.chunk_of(index),
-        }
+        inside!(self, axis => axis.chunk_of(index))
     }
 
     fn origin_of(&self, chunk: u64) -> Option<u64> {
-        match self {
-            EqualOrListedAxis::Equal(axis) => axis.origin_of(chunk),
-            EqualOrListedAxis::Listed(axis) => axis.origin_of(chunk),
-        }
+        inside!(self, axis => axis.origin_of(chunk))
+    }
+
+    fn home_of(&self, index: u64) -> Option<(u64, u64)> {
+        inside!(self, axis => axis.home_of(index))
     }
 
     fn edge_of(&self, chunk: u64) -> Option<NonZeroU64> {
-        match self {
-            EqualOrListedAxis::Equal(axis) => axis.edge_of(chunk),
-            EqualOrListedAxis::Listed(axis) => axis.edge_of(chunk),
-        }
+        inside!(self, axis => axis.edge_of(chunk))
     }
 
-    fn clone(&self) -> Result<EqualOrListedAxis, AllocError> {
+    fn is_in_bounds(&self, index: u64) -> bool {
+        inside!(self, axis => axis.is_in_bounds(index))
+    }
+
+    fn clone(&self) -> Result<EqualOr<A>, AllocError> {
         Ok(match self {
-            EqualOrListedAxis::Equal(axis) => EqualOrListedAxis::Equal(axis.clone()?),
-            EqualOrListedAxis::Listed(axis) => EqualOrListedAxis::Listed(axis.clone()?),
+            EqualOr::Equal(axis) => EqualOr::Equal(axis.clone()?),
+            EqualOr::Other(axis) => EqualOr::Other(axis.clone()?),
         })
     }
 }
 
 /// A dimension of a `rectangular` grid.
-impl AxisFrom<RectangularChunkGridDimensionConfiguration> for EqualOrListedAxis {
-    ghost use Rattle.zarrs_chunk_base.specs.DimensionEdges.{DimensionEdges, rectangular_edges};
+impl<A: FromEdges> AxisFrom<RectangularChunkGridDimensionConfiguration> for EqualOr<A> {
+    ghost use Rattle.zarrs_chunk_base.specs.DimensionEdges.{rectangular_edges};
     ghost use Rattle.zarrs_chunk_axes.specs.EqualOrListed.{IsEqualOrListed};
     ghost use Rattle.zarrs_chunk_axes.specs.lemmas.EqualOrListedSizes.{equal_or_listed_size};
     ghost use Rattle.zarrs_chunk_axes.specs.Rectangular.{IsRectangular};
-
-    ghost Edges = { DimensionEdges };
-
-    ghost edges_of = { rectangular_edges };
 
     ghost tells = { rectangular_edges };
 
@@ -112,13 +108,13 @@ impl AxisFrom<RectangularChunkGridDimensionConfiguration> for EqualOrListedAxis 
         alloc: Global,
         array_size: u64,
         configuration: &RectangularChunkGridDimensionConfiguration,
-    ) -> Result<EqualOrListedAxis, AllocError> {
+    ) -> Result<EqualOr<A>, AllocError> {
         Ok(match configuration {
             RectangularChunkGridDimensionConfiguration::Fixed(edge) => {
-                EqualOrListedAxis::Equal(EqualAxis::new(alloc, array_size, edge)?)
+                EqualOr::Equal(EqualAxis::new(alloc, array_size, edge)?)
             }
             RectangularChunkGridDimensionConfiguration::Varying(edges) => {
-                EqualOrListedAxis::Listed(ListedAxis::new(alloc, array_size, edges.to_vec(alloc)?)?)
+                EqualOr::Other(A::from_edges(alloc, array_size, edges)?)
             }
         })
     }
@@ -128,27 +124,22 @@ impl AxisFrom<RectangularChunkGridDimensionConfiguration> for EqualOrListedAxis 
         alloc: Global,
     ) -> Result<RectangularChunkGridDimensionConfiguration, AllocError> {
         Ok(match self {
-            EqualOrListedAxis::Equal(axis) => {
+            EqualOr::Equal(axis) => {
                 RectangularChunkGridDimensionConfiguration::Fixed(axis.configuration(alloc)?)
             }
-            EqualOrListedAxis::Listed(axis) => {
-                RectangularChunkGridDimensionConfiguration::Varying(axis.edges().to_vec(alloc)?)
+            EqualOr::Other(axis) => {
+                RectangularChunkGridDimensionConfiguration::Varying(axis.to_edges(alloc)?)
             }
         })
     }
 }
 
 /// A dimension of a `rectilinear` grid.
-impl AxisFrom<ChunkEdgeLengths> for EqualOrListedAxis {
-    ghost use Rattle.zarrs_chunk_base.specs.DimensionEdges.{DimensionEdges};
+impl<A: FromRunLengths> AxisFrom<ChunkEdgeLengths> for EqualOr<A> {
     ghost use Rattle.zarrs_chunk_base.specs.RunLength.{rectilinear_edges, lengths_of, IsWrittenLengths};
     ghost use Rattle.zarrs_chunk_axes.specs.EqualOrListed.{IsEqualOrListed};
     ghost use Rattle.zarrs_chunk_axes.specs.lemmas.EqualOrListedSizes.{equal_or_listed_size};
     ghost use Rattle.zarrs_chunk_axes.specs.Rectilinear.{IsRectilinear};
-
-    ghost Edges = { DimensionEdges };
-
-    ghost edges_of = { rectilinear_edges };
 
     ghost tells = { rectilinear_edges };
 
@@ -176,23 +167,22 @@ impl AxisFrom<ChunkEdgeLengths> for EqualOrListedAxis {
         alloc: Global,
         array_size: u64,
         lengths: &ChunkEdgeLengths,
-    ) -> Result<EqualOrListedAxis, AllocError> {
+    ) -> Result<EqualOr<A>, AllocError> {
         Ok(match lengths {
             ChunkEdgeLengths::Scalar(edge) => {
-                EqualOrListedAxis::Equal(EqualAxis::new(alloc, array_size, edge)?)
+                EqualOr::Equal(EqualAxis::new(alloc, array_size, edge)?)
             }
             ChunkEdgeLengths::Varying(elements) => {
-                let edges = run_lengths::expand(alloc, elements)?;
-                EqualOrListedAxis::Listed(ListedAxis::new(alloc, array_size, edges)?)
+                EqualOr::Other(A::from_run_lengths(alloc, array_size, elements)?)
             }
         })
     }
 
     fn configuration(&self, alloc: Global) -> Result<ChunkEdgeLengths, AllocError> {
         Ok(match self {
-            EqualOrListedAxis::Equal(axis) => ChunkEdgeLengths::Scalar(axis.configuration(alloc)?),
-            EqualOrListedAxis::Listed(axis) => {
-                ChunkEdgeLengths::Varying(run_lengths::run_length_form(alloc, axis.edges())?)
+            EqualOr::Equal(axis) => ChunkEdgeLengths::Scalar(axis.configuration(alloc)?),
+            EqualOr::Other(axis) => {
+                ChunkEdgeLengths::Varying(axis.to_run_lengths(alloc)?)
             }
         })
     }

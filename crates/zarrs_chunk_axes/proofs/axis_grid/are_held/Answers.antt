@@ -1,8 +1,0 @@
-use Rattle.std.proofs.Common.{sym, true≢false, arith}
-use Rattle.zarrs_chunk_axes.proofs.Bounds.{IsHeld}
-use Rattle.std.proofs.lemmas.Slice.Zip.{AllZip-long}
-use Rattle.zarrs_chunk_axes.proofs.axis_grid.are_held.Goals as goal
-
-pub returns-then-indices-axes : goal.returns-then-indices-axes
-returns-then-indices-axes g c =
-    (λ t. absurd (true≢false (sym t)), λ all. absurd (omega (arith, AllZip-long (IsHeld g.A.Axis.dimension) _ _ all)))
