@@ -1,10 +1,10 @@
 -- What is known of the look-ups in each axis, for the dimensions of the axes.
-use Rattle.std.proofs.Common.{◌≡◌, ℕ, List, [], ◌∷◌, map, IsTrue, Option, Some, None, MatchOption, Result, Ok, Err, ⊎_elim}
+use Rattle.std.proofs.Common.{◌≡◌, ◌≢◌, ℕ, List, [], ◌∷◌, map, IsTrue, Option, Some, None, MatchOption, Result, Ok, Err, ⊎_elim}
 use Rattle.zarrs_chunk_base.specs.declared.incompatible_dimensionality_error.IncompatibleDimensionalityError.{IncompatibleDimensionalityError}
 use Rattle.zarrs_chunk_base.specs.declared.refusal.Refusal.{Refusal}
 use Rattle.zarrs_chunk_base.specs.declared.refusal.Refusal.TheVariants.{Refused, Memory}
 use Rattle.zarrs_chunk_base.specs.Dimension.{Dimension, InEach, IsChunk}
-use Rattle.zarrs_chunk_base.specs.Refusal.{Answers}
+use Rattle.zarrs_chunk_base.specs.Refusal.{Answers, AnswersStoring}
 use Rattle.zarrs_chunk_axes.specs.lemmas.LookUpEach.{EachGives, SomeGivesNone, IsFound, IsNotFound}
 
 -- what a look-up of a list answers, where the lengths agree
@@ -14,13 +14,18 @@ answers_of given expected Found Absent None same h = (same, h)
 answers_of given expected Found Absent (Some x) same h = (same, h)
 
 -- an answer that says more says less
+pub answers_storing_weaker : {X : Type 0} (Stores : ℕ → Type 0) (given n m : ℕ) (Found Sought : X → Type 0) (Absent Missing : Type 0)
+    (r : Result (Option X) (Refusal IncompatibleDimensionalityError)) → n ≡ m → ((x : X) → Found x → Sought x) → (Absent → Missing)
+    → AnswersStoring (Stores n) given n Found Absent r → AnswersStoring (Stores m) given m Sought Missing r
+answers_storing_weaker Stores given n m Found Sought Absent Missing (Ok (Some x)) same found absent h = rw (← same) (h.0, found x h.1)
+answers_storing_weaker Stores given n m Found Sought Absent Missing (Ok None) same found absent h = rw (← same) (h.0, absent h.1)
+answers_storing_weaker Stores given n m Found Sought Absent Missing (Err (Refused e)) same found absent h = rw (← same) h
+answers_storing_weaker Stores given n m Found Sought Absent Missing (Err (Memory e)) same found absent h = rw (← same) h
+
 pub answers_weaker : {X : Type 0} (given n m : ℕ) (Found Sought : X → Type 0) (Absent Missing : Type 0)
     (r : Result (Option X) (Refusal IncompatibleDimensionalityError)) → n ≡ m → ((x : X) → Found x → Sought x) → (Absent → Missing)
     → Answers given n Found Absent r → Answers given m Sought Missing r
-answers_weaker given n m Found Sought Absent Missing (Ok (Some x)) same found absent h = rw (← same) (h.0, found x h.1)
-answers_weaker given n m Found Sought Absent Missing (Ok None) same found absent h = rw (← same) (h.0, absent h.1)
-answers_weaker given n m Found Sought Absent Missing (Err (Refused e)) same found absent h = rw (← same) h
-answers_weaker given n m Found Sought Absent Missing (Err (Memory e)) same found absent h = rw (← same) h
+answers_weaker = answers_storing_weaker (λ n. n ≢ 0)
 
 module _ {A X : Type 0} (dimension : A → Dimension) where
   -- what is found is related in each dimension

@@ -14,7 +14,7 @@ use std::num::NonZeroU64;
 use zarrs_chunk_base::RunLengthElement;
 
 /// One dimension of a chunk grid, with its look-ups on single numbers.
-pub trait Axis: Sized + Drop {
+pub trait Axis: Sized {
     /// The dimension, as the value is now.
     ghost dimension: { Self → Dimension };
 

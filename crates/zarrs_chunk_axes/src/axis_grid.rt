@@ -24,7 +24,7 @@ pub struct AxisGrid<A: Axis> {
     ghost grid_sizes: { grid_shape.items ≡ grid_sizes (map A.dimension axes.items) },
 }
 
-impl<A: Axis> AxisGrid<A> {
+impl<A: Axis + Drop> AxisGrid<A> {
     ghost use Rattle.zarrs_chunk_axes.specs.seen.AxisGrid.{dimensions_of, edges_of, grid_of};
 
     /// The dimensions of these array sizes and configurations, one of each a dimension.
@@ -298,7 +298,7 @@ fn are_in_bounds<A: Axis>(axes: &[A], indices: &[u64]) -> bool
 }
 
 /// For each dimension its axis.
-fn axes_of<C, A: AxisFrom<C>>(
+fn axes_of<C, A: AxisFrom<C> + Drop>(
     alloc: Global,
     array_shape: &[u64],
     configurations: &[C],
@@ -328,7 +328,7 @@ fn grid_sizes<A: Axis>(alloc: Global, axes: &[A]) -> Result<ArrayShape, AllocErr
 }
 
 /// A copy of each dimension.
-fn clone_each<A: Axis>(alloc: Global, axes: &[A]) -> Result<Vec<A>, AllocError>
+fn clone_each<A: Axis + Drop>(alloc: Global, axes: &[A]) -> Result<Vec<A>, AllocError>
     ensures dimensions { IfOk result (λ v. map A.dimension v.items ≡ map A.dimension axes.now) }
     ensures edges { IfOk result (λ v. map A.edges v.items ≡ map A.edges axes.now) }
 {

@@ -3,7 +3,7 @@ use Rattle.std.proofs.Common.{◌≡◌, ◌∙◌, ℕ, ◌+◌, ◌-◌, ◌&&
 use Rattle.std.specs.List.{AllByRecursion}
 use Rattle.zarrs_chunk_base.specs.ArraySubset.{Box, lasts, zero_box}
 use Rattle.zarrs_chunk_base.specs.declared.refusal.Refusal.TheVariants.{Refused, Memory}
-use Rattle.zarrs_chunk_base.specs.Dimension.{Dimension, EndsAt, HasEdge, Holds, InBox, InEach, IsChain, IsChunk, IsEnd, IsOrigin, IsPlace, IsShape, StartsAt}
+use Rattle.zarrs_chunk_base.specs.Dimension.{Dimension, EndsAt, HasEdge, Holds, InBox, InEach, IsChain, IsChunk, IsEnd, IsOrigin, IsPlace, IsShape, StartsAt, array_sizes, grid_sizes}
 use Rattle.zarrs_chunk_base.specs.Greatest.{greatest}
 use Rattle.zarrs_chunk_axes.specs.InBounds.{AreBelow}
 use Rattle.zarrs_chunk_axes.specs.LookUp.{AnswersHome}
@@ -11,7 +11,7 @@ use Rattle.zarrs_chunk_axes.specs.RowMajor.{row_major}
 use Rattle.zarrs_chunk_base.specs.declared.incompatible_dimensionality_error.IncompatibleDimensionalityError.{IncompatibleDimensionalityError}
 use Rattle.zarrs_chunk_base.specs.declared.refusal.Refusal.{Refusal}
 use Rattle.zarrs_chunk_axes.proofs.RowMajor.{all_below}
-use Rattle.zarrs_chunk_axes.proofs.EachAxis.{answers_weaker}
+use Rattle.zarrs_chunk_axes.proofs.EachAxis.{answers_storing_weaker, answers_weaker}
 use Rattle.zarrs_chunks.specs.Alike.{AnswerAlike, AreAlike, AreAllAlike, chunk_and_box, chunks_and_boxes}
 use Rattle.zarrs_chunks.specs.Subsets.{AnswersEmptyCover, HasNoBox, HasNoHome, IsCover, LookedBox, Spans}
 use Rattle.zarrs_chunks.specs.Walks.{boxed, chunks_of, ends_within, lengths_at, starts_at}
@@ -48,10 +48,10 @@ sizes_alike size each (d ∷ ds) (e ∷ es) alike = ap₂ (λ n ns. n ∷ ns) (e
 sizes_alike size each [] (_ ∷ _) alike = absurd alike
 sizes_alike size each (_ ∷ _) [] alike = absurd alike
 
-array_shapes_alike : (ds es : List Dimension) → AreAllAlike ds es → map (λ d. d.array_size) ds ≡ map (λ d. d.array_size) es
+array_shapes_alike : (ds es : List Dimension) → AreAllAlike ds es → array_sizes ds ≡ array_sizes es
 array_shapes_alike = sizes_alike (λ d. d.array_size) (λ d e alike. alike.array_size)
 
-grid_shapes_alike : (ds es : List Dimension) → AreAllAlike ds es → map (λ d. d.grid_size) ds ≡ map (λ d. d.grid_size) es
+grid_shapes_alike : (ds es : List Dimension) → AreAllAlike ds es → grid_sizes ds ≡ grid_sizes es
 grid_shapes_alike = sizes_alike (λ d. d.grid_size) (λ d e alike. alike.grid_size)
 
 -- what is so in each dimension
@@ -146,7 +146,7 @@ home_alike ds es alike index (Ok true) chunk place h =
     (same ∙ same_length ds es alike, box_alike ds es alike chunk index box, place_alike ds es alike chunk index place box at)
 home_alike ds es alike index (Ok false) chunk place h = (h.0 ∙ same_length ds es alike, no_home_alike ds es alike index h.1)
 home_alike ds es alike index (Err (Refused e)) chunk place h = rw (← same_length ds es alike) h
-home_alike ds es alike index (Err (Memory e)) chunk place h = h ∙ same_length ds es alike
+home_alike ds es alike index (Err (Memory e)) chunk place h = rw (← same_length ds es alike) h
 
 -- ---- the walks
 
@@ -230,11 +230,11 @@ answer_alike ds es alike chains =
           (no_box_alike ds es alike chunk);
       chunks_subset = λ chunks answer.
           let last = lasts chunks.start chunks.shape in
-          answers_weaker (length chunks.start) (length ds) (length es) _ _ _ _ answer same
+          answers_storing_weaker (λ _. Unit {0}) (length chunks.start) (length ds) (length es) _ _ _ _ answer same
           (λ b is. (λ empty. is.0 empty ∙ ap zero_box same, λ some. spans_alike ds es alike chunks.start last b (is.1 some)))
           (λ none. (none.0, ⊎_elim (λ first. inl (no_box_alike ds es alike chunks.start first)) (λ end. inr (no_box_alike ds es alike last end)) none.1));
       cover = λ b answer.
-          answers_weaker (length b.start) (length ds) (length es) _ _ _ _ answer same (λ cover is. cover_alike ds es alike b cover is)
+          answers_storing_weaker (λ _. Unit {0}) (length b.start) (length ds) (length es) _ _ _ _ answer same (λ cover is. cover_alike ds es alike b cover is)
           (⊎_elim (λ first. inl (no_home_alike ds es alike b.start first)) (λ last. inr (no_home_alike ds es alike (lasts b.start b.shape) last)));
       empty_cover = empty_cover_alike ds es alike;
       walk = chunks_alike ds es alike;

@@ -50,7 +50,7 @@ is_place ds chunk index origin place box is same differ =
 pub home_refused : (ds : List Dimension) (chunk index home_chunk place : List ℕ) (refusal : Refusal IncompatibleDimensionalityError) → InBox ds chunk index
     → AnswersOrigin ds chunk (Err refusal) → length index ≡ length ds → AnswersHome ds index (Err refusal) home_chunk place
 home_refused ds chunk index home_chunk place (Refused e) box refused same = absurd (refused.0 (length_numbers Holds ds chunk index box))
-home_refused ds chunk index home_chunk place (Memory e) box refused same = same
+home_refused ds chunk index home_chunk place (Memory e) box refused same = (same, refused.1)
 
 -- an index is known by its chunk and its place there
 pub same_index : (ds : List Dimension) (chunk one other place : List ℕ) → IsPlace ds chunk one place → IsPlace ds chunk other place → one ≡ other

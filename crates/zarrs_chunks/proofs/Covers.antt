@@ -1,17 +1,18 @@
 -- The box of the chunks from that of a box's first element to that of its last.
-use Rattle.std.proofs.Common.{◌≡◌, ℕ, zero, suc, ◌+◌, ◌-◌, ◌<◌, ◌≤◌, List, [], ◌∷◌, length, map, Err, refl, ap, ⊎_elim, arith}
+use Rattle.std.proofs.Common.{◌≡◌, ℕ, zero, suc, ◌+◌, ◌-◌, ◌<◌, ◌≤◌, List, [], ◌∷◌, length, map, replicate, Option, Some, None, MatchOption, Ok, Err, IsTrue, refl, ap, ◌∙◌, ⊎_elim, arith}
 use Rattle.std.proofs.lemmas.Bool.{cases_lt}
 use Rattle.std.specs.List.{AllByRecursion, AllZip, Contains}
 use Rattle.zarrs_chunk_base.specs.declared.incompatible_dimensionality_error.IncompatibleDimensionalityError.{IncompatibleDimensionalityError}
 use Rattle.zarrs_chunk_base.specs.declared.refusal.Refusal.{Refusal}
 use Rattle.zarrs_chunk_base.specs.declared.refusal.Refusal.TheVariants.{Refused, Memory}
+use Rattle.zarrs_chunk_axes.specs.LookUp.{AnswersChunk}
 use Rattle.zarrs_chunk_base.specs.ArraySubset.{Box, IsBox, IsEmptyBox, ends, lasts}
-use Rattle.zarrs_chunk_base.specs.Dimension.{Dimension, EndsAt, Holds, IsChain, InBox, IsEnd, IsOrigin, StartsAt}
+use Rattle.zarrs_chunk_base.specs.Dimension.{Dimension, Holds, IsChain, InBox, IsOrigin, StartsAt}
 use Rattle.zarrs_chunk_base.proofs.InEach.{along, by_dimension, by_dimension_twice, turned}
 use Rattle.zarrs_chunk_base.specs.Greatest.{greatest, AllFit}
-use Rattle.zarrs_chunk_axes.specs.LookUp.{AnswersChunk}
 use Rattle.zarrs_chunks.specs.Subsets.{AnswersCover, IsCover}
-use Rattle.zarrs_chunks.proofs.Chains.{apart, at_most_start, starts_before_end}
+use Rattle.zarrs_chunks.proofs.UpTo.{after_ones, ones_fit}
+use Rattle.zarrs_chunks.proofs.Chains.{apart, at_most_start, earlier_has}
 
 -- no range ends before it starts
 pub firsts_before_lasts : (start shape : List ℕ) → length start ≡ length shape → AllZip ◌≤◌ start (lasts start shape)
@@ -20,17 +21,24 @@ firsts_before_lasts (s ∷ start) (n ∷ shape) same = (omega arith, firsts_befo
 firsts_before_lasts [] (_ ∷ _) same = absurd (omega arith)
 firsts_before_lasts (_ ∷ _) [] same = absurd (omega arith)
 
--- chunks start before later ones end
-pub starts_before_ends : (ds : List Dimension) (first last origin end : List ℕ) → AllByRecursion IsChain ds → AllZip ◌≤◌ first last
-    → IsOrigin ds first origin → IsEnd ds last end → AllZip ◌≤◌ origin end
-starts_before_ends ds first last origin end chains order starts stops =
-    by_dimension_twice (λ d l o. (f : ℕ) × (f ≤ l) × StartsAt d f o) EndsAt (λ ds last origin end. AllByRecursion IsChain ds → AllZip ◌≤◌ origin end) (λ chains. tt)
-    (λ d l o e ds last origin end (f, order, starts) stops rest chains.
-    let before : d.start f < d.end l = starts_before_end d chains.0 f l order stops.chunk in
+-- chunks start before later ones, or with them
+pub starts_in_order : (ds : List Dimension) (first last origin last_origin : List ℕ) → AllByRecursion IsChain ds → AllZip ◌≤◌ first last
+    → IsOrigin ds first origin → IsOrigin ds last last_origin → AllZip ◌≤◌ origin last_origin
+starts_in_order ds first last origin last_origin chains order starts last_starts =
+    by_dimension_twice (λ d l o. (f : ℕ) × (f ≤ l) × StartsAt d f o) StartsAt (λ ds last origin others. AllByRecursion IsChain ds → AllZip ◌≤◌ origin others) (λ chains. tt)
+    (λ d l o e ds last origin others (f, order, starts) later rest chains.
+    let before : d.start f ≤ d.start l = starts_at_most d chains.0 f l order later.chunk in
     let start = starts.start in
-    let stop = stops.end in
+    let last = later.start in
     (omega arith, rest chains.1))
-    ds last origin end (along StartsAt ◌≤◌ ds first origin starts last order) stops chains
+    ds last origin last_origin (along StartsAt ◌≤◌ ds first origin starts last order) last_starts chains where
+      starts_at_most : (d : Dimension) → IsChain d → (f l : ℕ) → f ≤ l → IsTrue (d.has_chunk l) → d.start f ≤ d.start l
+      starts_at_most d chain f l order has = ⊎_elim
+          (λ (before : f < l).
+          let some : d.start f < d.end f = chain.not_empty f (earlier_has d chain f l order has) in
+          omega (arith, apart d chain f l before has))
+          (λ (le : l ≤ f). let same : f ≡ l = omega arith in let start : d.start f ≡ d.start l = ap d.start same in omega arith)
+          (cases_lt f l)
 
 -- a later index lies in no earlier chunk
 pub in_order : (ds : List Dimension) (first last low high : List ℕ) → AllByRecursion IsChain ds → AllZip ◌≤◌ low high
@@ -80,13 +88,6 @@ chunks_small ds chunk index chains box small =
     (omega arith, rest chains.1 small.1))
     ds chunk index box chains small
 
--- numbers and the numbers after others that are no smaller
-pub below_after : (first last : List ℕ) → AllZip ◌≤◌ first last → AllZip ◌≤◌ first (map (λ n. n + 1) last)
-below_after [] [] order = tt
-below_after (a ∷ first) (b ∷ last) order = (let le : a ≤ b = order.0 in omega arith, below_after first last order.1)
-below_after [] (_ ∷ _) order = absurd order
-below_after (_ ∷ _) [] order = absurd order
-
 -- what ends after the last numbers has them as its last numbers
 pub lasts_are : (start shape last : List ℕ) → length start ≡ length shape → AllZip ◌≤◌ start last → ends start shape ≡ map (λ n. n + 1) last
     → (lasts start shape ≡ last) × (¬ Contains shape 0)
@@ -122,8 +123,18 @@ is_cover ds b cover first last is_box starts end order in_first in_last =
 pub none_is_not_empty : (b : Box) → IsBox b → length b.start ≡ 0 → ¬ IsEmptyBox b
 none_is_not_empty b is_box none (k, within, is) = let same = is_box.lengths in absurd (omega arith)
 
+-- the cover from the first chunk to the last one, or none, which can't be where the chunks are small
+pub covers : (ds : List Dimension) (b : Box) (first last sizes : List ℕ) (made : Option Box) → length b.start ≡ length ds → AllZip ◌≤◌ first last
+    → AllByRecursion (λ n. n < greatest) last → sizes ≡ replicate (length last) 1 → InBox ds first b.start → InBox ds last (lasts b.start b.shape)
+    → MatchOption made (¬ AllFit (ends last sizes)) (λ cover. IsBox cover × (cover.start ≡ first) × (ends cover.start cover.shape ≡ ends last sizes))
+    → AnswersCover ds b (Ok made)
+covers ds b first last sizes (Some cover) agree order small ones in_first in_last (is_box, starts, end) =
+    (agree, is_cover ds b cover first last is_box starts (end ∙ ap (ends last) ones ∙ after_ones last) order in_first in_last)
+covers ds b first last sizes None agree order small ones in_first in_last past =
+    absurd (past (rw (ones, after_ones last) (ones_fit last small)))
+
 -- the last element's chunk is refused for memory alone
-pub end_has_no_memory : (ds : List Dimension) (end : List ℕ) (b : Box) (refusal : Refusal IncompatibleDimensionalityError)
+pub cover_refused : (ds : List Dimension) (end : List ℕ) (b : Box) (refusal : Refusal IncompatibleDimensionalityError)
     → length end ≡ length ds → length b.start ≡ length ds → AnswersChunk ds end (Err refusal) → AnswersCover ds b (Err refusal)
-end_has_no_memory ds end b (Refused e) same agree refused = absurd (refused.0 same)
-end_has_no_memory ds end b (Memory e) same agree refused = agree
+cover_refused ds end b (Refused e) same agree refused = absurd (refused.0 same)
+cover_refused ds end b (Memory e) same agree refused = (agree, tt)

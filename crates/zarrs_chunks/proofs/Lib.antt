@@ -5,8 +5,7 @@ pub mod ClippedEdges
 pub mod Configured
 pub mod Covers
 pub mod FittingChunks
-pub mod GridNames
 pub mod Meeting
-pub mod Ranges
-pub mod SameEdges
+pub mod SeenGrids
 pub mod Subsets
+pub mod UpTo

@@ -1,5 +1,5 @@
 -- The box of a chunk, from its origin and its shape.
-use Rattle.std.proofs.Common.{◌≡◌, ℕ, zero, suc, ◌+◌, ◌<◌, ◌≤◌, List, [], ◌∷◌, length, Result, Ok, Err, sym, subst, ◌∙◌, arith}
+use Rattle.std.proofs.Common.{◌≡◌, ℕ, zero, suc, ◌+◌, ◌<◌, ◌≤◌, List, [], ◌∷◌, length, Option, Some, None, MatchOption, Result, Ok, Err, inr, sym, subst, ◌∙◌, arith}
 use Rattle.std.specs.Prelude.{slice_index, MatchResult}
 use Rattle.std.specs.Result.{result_ok}
 use Rattle.zarrs_chunk_base.specs.declared.array_subset_error.ArraySubsetError.{ArraySubsetError}
@@ -7,10 +7,11 @@ use Rattle.zarrs_chunk_base.specs.declared.array_subset_error.ArraySubsetError.T
 use Rattle.zarrs_chunk_base.specs.declared.incompatible_dimensionality_error.IncompatibleDimensionalityError.{IncompatibleDimensionalityError}
 use Rattle.zarrs_chunk_base.specs.declared.refusal.Refusal.{Refusal}
 use Rattle.zarrs_chunk_base.specs.declared.refusal.Refusal.TheVariants.{Refused, Memory}
-use Rattle.zarrs_chunk_base.specs.ArraySubset.{Box, IsBox, ends}
+use Rattle.zarrs_chunk_base.specs.ArraySubset.{Box, IsBox, IsEmptyBox, ends, lasts}
 use Rattle.zarrs_chunk_base.specs.ArraySubsetError.{IsBoxFault}
 use Rattle.zarrs_chunk_base.specs.Dimension.{Dimension, EndsAt, IsChunk, IsEnd, IsOrigin, IsShape, HasEdge, StartsAt}
 use Rattle.zarrs_chunk_base.specs.Greatest.{greatest, AllFit}
+use Rattle.zarrs_chunk_axes.specs.LookUp.{AnswersOrigin}
 use Rattle.zarrs_chunks.specs.Subsets.{AnswersChunksSubset, AnswersSubset, HasNoBox}
 use Rattle.zarrs_chunk_base.proofs.InEach.{by_dimension, by_dimension_twice, length_values, same_values}
 
@@ -76,8 +77,32 @@ makes_box ds chunk origin shape (Err (End e)) same is edge h = (
       absurd (omega arith),
 )
 
--- the last chunk's box is refused for memory alone
-pub last_has_no_memory : (ds : List Dimension) (last : List ℕ) (chunks : Box) (refusal : Refusal IncompatibleDimensionalityError)
-    → length last ≡ length ds → length chunks.start ≡ length ds → AnswersSubset ds last (Err refusal) → AnswersChunksSubset ds chunks (Err refusal)
-last_has_no_memory ds last chunks (Refused e) same agree refused = absurd (refused.0 same)
-last_has_no_memory ds last chunks (Memory e) same agree refused = agree
+-- the last chunk's origin is refused for memory alone
+pub last_refused : (ds : List Dimension) (last : List ℕ) (chunks : Box) (refusal : Refusal IncompatibleDimensionalityError)
+    → length last ≡ length ds → length chunks.start ≡ length ds → AnswersOrigin ds last (Err refusal) → AnswersChunksSubset ds chunks (Err refusal)
+last_refused ds last chunks (Refused e) same agree refused = absurd (refused.0 same)
+last_refused ds last chunks (Memory e) same agree refused = (agree, tt)
+
+-- a chunk whose end is past the greatest number has no box
+pub no_end : (ds : List Dimension) (chunk origin shape : List ℕ) → IsOrigin ds chunk origin → IsShape ds chunk shape → ¬ AllFit (ends origin shape) → HasNoBox ds chunk
+no_end ds chunk origin shape starts long past b spans =
+    past (subst AllFit (same_end ds chunk _ _ spans.end (is_end ds chunk origin shape starts long)) spans.is_box.fits)
+
+-- a box from where the first chunk starts to where the last one ends, or none where the last one has no box
+pub spans_or_none : (ds : List Dimension) (first last start origin shape : List ℕ) (chunks : Box) (made : Option Box) → length chunks.start ≡ length ds
+    → (¬ IsEmptyBox chunks) → chunks.start ≡ first → lasts chunks.start chunks.shape ≡ last → IsOrigin ds first start → IsOrigin ds last origin → IsShape ds last shape
+    → MatchOption made (¬ AllFit (ends origin shape)) (λ b. IsBox b × (b.start ≡ start) × (ends b.start b.shape ≡ ends origin shape))
+    → AnswersChunksSubset ds chunks (Ok made)
+spans_or_none ds first last start origin shape chunks (Some b) agree some is_first is_last starts last_starts long (is_box, at, end) = (
+  agree,
+  (
+    λ empty. absurd (some empty),
+    λ _. record {
+          is_box = is_box;
+          start = rw (is_first, at) starts;
+          end = rw (is_last, end) (is_end ds last origin shape last_starts long);
+        },
+  ),
+)
+spans_or_none ds first last start origin shape chunks None agree some is_first is_last starts last_starts long past =
+    (agree, (some, inr (rw is_last (no_end ds last origin shape last_starts long past))))

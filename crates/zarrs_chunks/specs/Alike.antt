@@ -2,7 +2,7 @@
 use Rattle.std.specs.Prelude.{◌≡◌, ◌↔◌, ℕ, Bool, IsTrue, List, Result, map}
 use Rattle.std.specs.List.{AllZip}
 use Rattle.zarrs_chunk_base.specs.ArraySubset.{Box}
-use Rattle.zarrs_chunk_base.specs.Dimension.{Dimension}
+use Rattle.zarrs_chunk_base.specs.Dimension.{Dimension, array_sizes, grid_sizes}
 use Rattle.zarrs_chunk_base.specs.declared.incompatible_dimensionality_error.IncompatibleDimensionalityError.{IncompatibleDimensionalityError}
 use Rattle.zarrs_chunk_base.specs.declared.refusal.Refusal.{Refusal}
 use Rattle.zarrs_chunk_axes.specs.LookUp.{AnswersChunk, AnswersHome, AnswersOrigin, AnswersPlace, AnswersShape, AnswersShapeNumbers}
@@ -35,8 +35,8 @@ chunks_and_boxes ds = map (chunk_and_box ds) (boxed ds (chunks_of ds))
 -- To each look-up, and about boxes and covers, the other grid may answer what the one may, and the walks give the same. Which indices are in
 -- bounds is left out: a grid may have bounds of its own where an array size is 0.
 pub record AnswerAlike (ds es : List Dimension) : Type 0 where
-  pub array_shape : map (λ d. d.array_size) ds ≡ map (λ d. d.array_size) es
-  pub grid_shape : map (λ d. d.grid_size) ds ≡ map (λ d. d.grid_size) es
+  pub array_shape : array_sizes ds ≡ array_sizes es
+  pub grid_shape : grid_sizes ds ≡ grid_sizes es
   pub chunk_shape : AnswersAsWell AnswersShape ds es
   pub chunk_shape_u64 : AnswersAsWell AnswersShapeNumbers ds es
   pub chunk_origin : AnswersAsWell AnswersOrigin ds es

@@ -1,7 +1,6 @@
 pub mod Alike
 pub mod Clipped
 pub mod GridKinds
-pub mod GridNames
 pub mod Located
 pub mod Subsets
 pub mod Walks

@@ -6,7 +6,7 @@ use Rattle.zarrs_chunk_base.specs.declared.refusal.Refusal.{Refusal}
 use Rattle.zarrs_chunk_base.specs.declared.refusal.Refusal.TheVariants.{Refused, Memory}
 use Rattle.zarrs_chunk_base.specs.ArraySubset.{Box, IsBox, IsEmptyBox, ends, lasts, zero_box}
 use Rattle.zarrs_chunk_base.specs.Dimension.{Dimension, InBox, IsEnd, IsOrigin}
-use Rattle.zarrs_chunk_base.specs.Refusal.{Answers}
+use Rattle.zarrs_chunk_base.specs.Refusal.{Answers, AnswersOrMemory}
 
 -- what a call that answers a box gives: the box, none, or why it is refused
 abbrev pub LookedBox : Type 0
@@ -31,7 +31,7 @@ AnswersSubset ds chunk = Answers (length chunk) (length ds) (Spans ds chunk chun
 abbrev pub AnswersChunksSubset : List Dimension → Box → LookedBox → Type 0
 AnswersChunksSubset ds chunks =
     let last = lasts chunks.start chunks.shape in
-    Answers (length chunks.start) (length ds)
+    AnswersOrMemory (length chunks.start) (length ds)
     (λ b. (IsEmptyBox chunks → b ≡ zero_box (length ds)) × ((¬ IsEmptyBox chunks) → Spans ds chunks.start last b))
     ((¬ IsEmptyBox chunks) × (HasNoBox ds chunks.start ⊎ HasNoBox ds last))
 
@@ -48,7 +48,7 @@ HasNoHome ds index = (chunk : List ℕ) → ¬ InBox ds chunk index
 
 -- the cover of a box, and none where its first or its last element lies in no chunk
 abbrev pub AnswersCover : List Dimension → Box → LookedBox → Type 0
-AnswersCover ds b = Answers (length b.start) (length ds) (IsCover ds b) (HasNoHome ds b.start ⊎ HasNoHome ds (lasts b.start b.shape))
+AnswersCover ds b = AnswersOrMemory (length b.start) (length ds) (IsCover ds b) (HasNoHome ds b.start ⊎ HasNoHome ds (lasts b.start b.shape))
 
 -- the cover of an empty box: the empty box that begins at 0
 abbrev pub AnswersEmptyCover : List Dimension → LookedBox → Type 0

@@ -4,13 +4,13 @@ use Rattle.std.specs.Prelude.{◌≡◌, ℕ, ◌-◌, ◌&&◌, Bool, true, Lis
 use Rattle.std.specs.List.{filter}
 use Rattle.std.specs.declared.alloc.AllocError.{AllocError}
 use Rattle.zarrs_chunk_base.specs.ArraySubset.{Box}
-use Rattle.zarrs_chunk_base.specs.Dimension.{Dimension}
+use Rattle.zarrs_chunk_base.specs.Dimension.{Dimension, grid_sizes}
 use Rattle.zarrs_chunk_base.specs.Greatest.{greatest}
 use Rattle.zarrs_chunk_axes.specs.RowMajor.{row_major}
 
 -- the chunks that are counted, in row-major order
 abbrev pub chunks_of : List Dimension → List (List ℕ)
-chunks_of ds = row_major (map (λ d. d.grid_size) ds)
+chunks_of ds = row_major (grid_sizes ds)
 
 -- the chunk ends at the greatest number or before it, in each dimension
 abbrev pub ends_within : List Dimension → List ℕ → Bool

@@ -1,2 +1,2 @@
-pub mod ChunkGrid
+pub mod Grids
 pub mod Walks

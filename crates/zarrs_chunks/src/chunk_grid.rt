@@ -1,23 +1,17 @@
 //! What every chunk grid answers.
-mod axis_bounds;
 mod boxes;
 mod edges;
-mod lent_edges;
 pub(crate) mod named;
-mod over_axes;
+pub(crate) mod over_axes;
 pub(crate) mod rectangular;
-pub(crate) mod rectangular_create_error;
 pub(crate) mod rectilinear;
-pub(crate) mod rectilinear_create_error;
 pub(crate) mod regular;
 pub(crate) mod regular_bounded;
-pub(crate) mod regular_create_error;
 
 ghost use Rattle.std.specs.Prelude.{◌≡◌, ◌≢◌, ◌↔◌, ◌⊎◌, ℕ, ◌-◌, ◌<◌, IfOk, IsTrue, List, length, map, slice_index_or};
 ghost use Rattle.std.specs.List.{AllByRecursion};
 ghost use Rattle.zarrs_chunk_base.specs.ArraySubset.{IsEmptyBox};
-ghost use Rattle.zarrs_chunk_base.specs.Dimension.{Dimension, IsChain};
-ghost use Rattle.zarrs_chunk_base.specs.Refusal.{HasMemory};
+ghost use Rattle.zarrs_chunk_base.specs.Dimension.{Dimension, IsChain, array_sizes, grid_sizes};
 ghost use Rattle.zarrs_chunk_axes.specs.InBounds.{AreBelow, AreInBounds};
 ghost use Rattle.zarrs_chunk_axes.specs.LookUp.{AnswersShape, AnswersShapeNumbers, AnswersOrigin, AnswersChunk, AnswersHome, AnswersPlace};
 ghost use Rattle.zarrs_chunks.specs.Subsets.{AnswersSubset, AnswersChunksSubset, AnswersCover, AnswersEmptyCover};
@@ -28,7 +22,7 @@ use crate::home::Home;
 use crate::walks::chunk_indices::ChunkIndices;
 use crate::walks::chunk_indices_and_subsets::ChunkIndicesAndSubsets;
 use crate::walks::chunk_subsets::ChunkSubsets;
-use boxes::{box_between, next_numbers};
+use boxes::box_up_to;
 use edges::edge_numbers;
 use std::alloc::{AllocError, Global};
 use zarrs_chunk_axes::are_in_bounds;
@@ -63,7 +57,7 @@ pub trait ChunkGridTraits: Sized + Drop {
         metadata: &MetadataV3,
         array_shape: &[u64],
     ) -> Result<Self, Refusal<PluginCreateError>>
-        ensures { IfOk result (λ grid. map (λ d. d.array_size) (dimensions grid)
+        ensures { IfOk result (λ grid. array_sizes (dimensions grid)
             ≡ array_shape.now) };
 
     /// The configuration of the grid: what the member `configuration` of its metadata is.
@@ -78,11 +72,11 @@ pub trait ChunkGridTraits: Sized + Drop {
 
     /// The sizes of the array, in elements.
     fn array_shape(&self) -> &[u64]
-        ensures { result.now ≡ map (λ d. d.array_size) (dimensions self.now) };
+        ensures { result.now ≡ array_sizes (dimensions self.now) };
 
     /// How many chunks are counted. Every number below is a chunk; a grid may have others.
     fn grid_shape(&self) -> &[u64]
-        ensures { result.now ≡ map (λ d. d.grid_size) (dimensions self.now) };
+        ensures { result.now ≡ grid_sizes (dimensions self.now) };
 
     /// The edges of a chunk; `None` where there is no such chunk.
     ///
@@ -93,8 +87,7 @@ pub trait ChunkGridTraits: Sized + Drop {
         alloc: Global,
         chunk_indices: &[u64],
     ) -> Result<Option<ChunkShape>, Refusal<IncompatibleDimensionalityError>>
-        ensures answers { AnswersShape (dimensions self.now) chunk_indices.now result }
-        ensures stores_nothing { length (dimensions self.now) ≡ 0 → HasMemory result };
+        ensures { AnswersShape (dimensions self.now) chunk_indices.now result };
 
     /// The index of a chunk's first element; `None` where there is no such chunk, or it starts past
     /// 18446744073709551615.
@@ -106,8 +99,7 @@ pub trait ChunkGridTraits: Sized + Drop {
         alloc: Global,
         chunk_indices: &[u64],
     ) -> Result<Option<ArrayIndices>, Refusal<IncompatibleDimensionalityError>>
-        ensures answers { AnswersOrigin (dimensions self.now) chunk_indices.now result }
-        ensures stores_nothing { length (dimensions self.now) ≡ 0 → HasMemory result };
+        ensures { AnswersOrigin (dimensions self.now) chunk_indices.now result };
 
     /// The chunk that holds the element at these indices; `None` where no chunk does.
     ///
@@ -118,8 +110,7 @@ pub trait ChunkGridTraits: Sized + Drop {
         alloc: Global,
         array_indices: &[u64],
     ) -> Result<Option<ArrayIndices>, Refusal<IncompatibleDimensionalityError>>
-        ensures answers { AnswersChunk (dimensions self.now) array_indices.now result }
-        ensures stores_nothing { length (dimensions self.now) ≡ 0 → HasMemory result };
+        ensures { AnswersChunk (dimensions self.now) array_indices.now result };
 
     /// The edges of a chunk as plain numbers; `None` where there is no such chunk.
     ///
@@ -130,8 +121,7 @@ pub trait ChunkGridTraits: Sized + Drop {
         alloc: Global,
         chunk_indices: &[u64],
     ) -> Result<Option<ArrayShape>, Refusal<IncompatibleDimensionalityError>>
-        ensures answers { AnswersShapeNumbers (dimensions self.now) chunk_indices.now result }
-        ensures stores_nothing { length (dimensions self.now) ≡ 0 → HasMemory result }
+        ensures { AnswersShapeNumbers (dimensions self.now) chunk_indices.now result }
     {
         match self.chunk_shape(alloc, chunk_indices)? {
             Some(shape) => Ok(Some(edge_numbers(alloc, &shape)?)),
@@ -149,8 +139,7 @@ pub trait ChunkGridTraits: Sized + Drop {
         alloc: Global,
         array_indices: &[u64],
     ) -> Result<Option<ArrayIndices>, Refusal<IncompatibleDimensionalityError>>
-        ensures answers { AnswersPlace (dimensions self.now) array_indices.now result }
-        ensures stores_nothing { length (dimensions self.now) ≡ 0 → HasMemory result }
+        ensures { AnswersPlace (dimensions self.now) array_indices.now result }
     {
         let mut home = Home::new(alloc);
         if !self.find_home(array_indices, &mut home)? {
@@ -170,9 +159,8 @@ pub trait ChunkGridTraits: Sized + Drop {
         array_indices: &[u64],
         home: &mut Home,
     ) -> Result<bool, Refusal<IncompatibleDimensionalityError>>
-        ensures answers { AnswersHome (dimensions self.now) array_indices.now result
+        ensures { AnswersHome (dimensions self.now) array_indices.now result
             home.new.chunk.items home.new.element.items }
-        ensures stores_nothing { length (dimensions self.now) ≡ 0 → HasMemory result }
     {
         let alloc = *home.chunk.allocator();
         let Some(chunk) = self.chunk_indices(alloc, array_indices)? else {
@@ -197,8 +185,7 @@ pub trait ChunkGridTraits: Sized + Drop {
         alloc: Global,
         chunk_indices: &[u64],
     ) -> Result<Option<ArraySubset>, Refusal<IncompatibleDimensionalityError>>
-        ensures answers { AnswersSubset (dimensions self.now) chunk_indices.now result }
-        ensures stores_nothing { length (dimensions self.now) ≡ 0 → HasMemory result }
+        ensures { AnswersSubset (dimensions self.now) chunk_indices.now result }
     {
         let Some(origin) = self.chunk_origin(alloc, chunk_indices)? else {
             return Ok(None);
@@ -228,16 +215,20 @@ pub trait ChunkGridTraits: Sized + Drop {
                 self.dimensionality(),
             )));
         }
+        let first = chunks.start();
         let Some(last) = chunks.end_inc(alloc)? else {
             return Ok(Some(ArraySubset::new_empty(alloc, self.dimensionality())?));
         };
-        let Some(first) = self.subset(alloc, chunks.start())? else {
+        let Some(start) = self.chunk_origin(alloc, first)? else {
             return Ok(None);
         };
-        let Some(last) = self.subset(alloc, &last)? else {
+        let Some(last_start) = self.chunk_origin(alloc, &last)? else {
             return Ok(None);
         };
-        Ok(Some(box_between(alloc, first.start(), &last.end_exc(alloc)?)?))
+        let Some(last_shape) = self.chunk_shape_u64(alloc, &last)? else {
+            return Ok(None);
+        };
+        Ok(box_up_to(start, &last_start, last_shape))
     }
 
     /// The cover of a box of elements: the box of the numbers of all chunks that hold some of them. An empty box has the
@@ -267,7 +258,7 @@ pub trait ChunkGridTraits: Sized + Drop {
             )));
         }
         let start = array_subset.start();
-        let Some(last_element) = array_subset.end_inc(alloc)? else {
+        let Some(mut last_element) = array_subset.end_inc(alloc)? else {
             // Never: a box that isn't empty has a last element.
             return Ok(None);
         };
@@ -277,14 +268,16 @@ pub trait ChunkGridTraits: Sized + Drop {
         let Some(last) = self.chunk_indices(alloc, &last_element)? else {
             return Ok(None);
         };
-        Ok(Some(box_between(alloc, &first, &next_numbers(alloc, &last)?)?))
+        // The last chunk counts as one in each dimension.
+        last_element.fill(1);
+        Ok(box_up_to(first, &last, last_element))
     }
 
     /// Whether each chunk number is below the number of chunks that are counted along its dimension, or none are
     /// counted there; `false` for a list of another length.
     fn chunk_indices_inbounds(&self, chunk_indices: &[u64]) -> bool
-        ensures { IsTrue result ↔ AreInBounds (map
-            (λ d. d.grid_size) (dimensions self.now)) chunk_indices.now }
+        ensures { IsTrue result
+            ↔ AreInBounds (grid_sizes (dimensions self.now)) chunk_indices.now }
     {
         are_in_bounds(self.grid_shape(), chunk_indices)
     }
@@ -292,10 +285,10 @@ pub trait ChunkGridTraits: Sized + Drop {
     /// Whether each index is below its array size; `false` for a list of another length. Where an array size is 0, a grid
     /// may have bounds of its own, or none.
     fn array_indices_inbounds(&self, array_indices: &[u64]) -> bool
-        ensures within { AreBelow (map (λ d. d.array_size) (dimensions self.now)) array_indices.now
+        ensures within { AreBelow (array_sizes (dimensions self.now)) array_indices.now
             → IsTrue result }
-        ensures only { IsTrue result → AreInBounds (map
-            (λ d. d.array_size) (dimensions self.now)) array_indices.now }
+        ensures only { IsTrue result
+            → AreInBounds (array_sizes (dimensions self.now)) array_indices.now }
     {
         are_in_bounds(self.array_shape(), array_indices)
     }

@@ -18,13 +18,13 @@
 ghost use Rattle.std.specs.Prelude.{◌≡◌, ◌≢◌, ◌↔◌, ◌⊎◌, ℕ, ◌<◌, IfErr, IfOk, IfSome, IsTrue, List, Some, length, map, option_map};
 ghost use Rattle.std.specs.List.{AllPairs, Contains};
 ghost use Rattle.zarrs_chunk_base.specs.ArraySubset.{Box, IsEmptyBox, IsInside};
-ghost use Rattle.zarrs_chunk_base.specs.Dimension.{Dimension, InBox, IsPlace};
+ghost use Rattle.zarrs_chunk_base.specs.Dimension.{Dimension, InBox, IsPlace, array_sizes, grid_sizes};
 ghost use Rattle.zarrs_chunk_base.specs.Greatest.{AllFit};
 ghost use Rattle.zarrs_chunk_axes.specs.Listed.{IsListed};
 ghost use Rattle.zarrs_chunk_axes.specs.Bounded.{AreBounded, IsBounded};
 ghost use Rattle.zarrs_chunk_base.specs.Refusal.{IfRefused};
-ghost use Rattle.zarrs_chunks.specs.GridKinds.{regular_bounded};
-ghost use Rattle.zarrs_chunks.specs.GridNames.{dimensions_in, edges_in, name_in, shape_in};
+ghost use Rattle.zarrs_chunks.specs.GridKinds.{is_bounded};
+ghost use Rattle.zarrs_chunks.specs.seen.Grids.{grid_in, kind_in};
 ghost use Rattle.zarrs_chunks.specs.Alike.{AnswerAlike, AreAlike, AreAllAlike};
 ghost use Rattle.zarrs_chunks.specs.Clipped.{AreClipped, AreClippedLists};
 ghost use Rattle.zarrs_chunk_axes.specs.InBounds.{AreBelow};
@@ -127,7 +127,7 @@ pub fn the_walk_gives_each_chunk_once<G: ChunkGridTraits>(
     grid: &G,
 ) -> ChunkIndices<'_>
     ensures each { (chunk : List ℕ) → Contains (chunks_left result) chunk
-        ↔ AreBelow (map (λ d. d.grid_size) (G.dimensions grid.now)) chunk }
+        ↔ AreBelow (grid_sizes (G.dimensions grid.now)) chunk }
     ensures in_order { AllPairs IsBefore (chunks_left result) }
     ensures once { AllPairs (λ one other. one ≢ other) (chunks_left result) }
 {
@@ -140,7 +140,7 @@ pub fn each_element_lies_in_one_chunk_of_the_walk<G: ChunkGridTraits>(
     grid: &G,
 ) -> ChunkIndices<'_>
     ensures one { (index : List ℕ)
-        → AreBelow (map (λ d. d.array_size) (G.dimensions grid.now)) index → (chunk : List ℕ)
+        → AreBelow (array_sizes (G.dimensions grid.now)) index → (chunk : List ℕ)
         × Contains (chunks_left result) chunk × InBox (G.dimensions grid.now) chunk index }
     ensures no_other { (index chunk other : List ℕ) → InBox (G.dimensions grid.now) chunk index
         → InBox (G.dimensions grid.now) other index → chunk ≡ other }
@@ -172,13 +172,14 @@ pub fn a_bounded_dimension_is_that_of_its_edges()
         → AreAllAlike bounded listed }
 {}
 
-/// Grids of one array shape and the same edges have the same dimensions, whether they are `regular`, `rectangular` or
-/// `rectilinear`; run-length elements count as the edges that they stand for, and one edge for all chunks isn't the same as a list of it.
-/// Every look-up, box, cover and walk of a grid goes by its dimensions.
+/// Grids of one array shape and the same edges have the same dimensions, whether they are `regular`, `rectangular` or `rectilinear`, and
+/// so have two `regular_bounded` ones; run-length elements count as the edges that they stand for, and one edge for all chunks isn't
+/// the same as a list of it. Every look-up, box, cover and walk of a grid goes by its dimensions.
 pub fn the_edges_determine_the_dimensions(grid: &ChunkGrid, other: &ChunkGrid)
-    ensures { name_in grid.now ≢ regular_bounded.name → name_in other.now ≢ regular_bounded.name
-        → shape_in grid.now ≡ shape_in other.now → edges_in grid.now ≡ edges_in other.now
-        → dimensions_in grid.now ≡ dimensions_in other.now }
+    ensures { is_bounded (kind_in grid.now) ≡ is_bounded (kind_in other.now)
+        → array_sizes (grid_in grid.now).dimensions ≡ array_sizes (grid_in other.now).dimensions
+        → (grid_in grid.now).edges ≡ (grid_in other.now).edges
+        → (grid_in grid.now).dimensions ≡ (grid_in other.now).dimensions }
 {}
 
 /// Of grids whose dimensions are alike, one by one, the other answers as the one does: each look-up, the boxes of chunks and the
@@ -200,9 +201,10 @@ pub fn a_grid_is_made_again_of_its_metadata(
     grid: &ChunkGrid,
 ) -> Result<ChunkGrid, Refusal<PluginCreateError>>
     ensures accepted { IfErr result (λ refusal. IfRefused refusal (λ _. ⊥)) }
-    ensures name { IfOk result (λ again. name_in again ≡ name_in grid.now) }
-    ensures dimensions { IfOk result (λ again. dimensions_in again ≡ dimensions_in grid.now) }
-    ensures edges { IfOk result (λ again. edges_in again ≡ edges_in grid.now) }
+    ensures kind { IfOk result (λ again. kind_in again ≡ kind_in grid.now) }
+    ensures dimensions { IfOk result (λ again. (grid_in again).dimensions
+        ≡ (grid_in grid.now).dimensions) }
+    ensures edges { IfOk result (λ again. (grid_in again).edges ≡ (grid_in grid.now).edges) }
 {
     let metadata = grid.metadata(alloc)?;
     ChunkGrid::from_metadata(alloc, &metadata, grid.array_shape())

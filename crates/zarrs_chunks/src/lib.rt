@@ -20,18 +20,15 @@
 //! | Module | What it holds |
 //! |---|---|
 //! | `chunk_grid` | the trait of all chunk grids |
-//! | `chunk_grid::regular`, `regular_bounded`, `rectangular`, `rectilinear` | the grids |
+//! | `chunk_grid::regular`, `regular_bounded`, `rectangular`, `rectilinear` | the grids, and why there is no such grid |
 //! | `chunk_grid::named` | a grid of any of these kinds, by its extension's name |
-//! | `chunk_grid::regular_create_error`, `rectangular_create_error`, `rectilinear_create_error` | why there is no such grid |
-//! | `laws` | what holds of every chunk grid |
+//! //! | `laws` | what holds of every chunk grid |
 //! | `home` | where an element lies: its chunk, and its place there |
 //! | `location` | `locate`: where an element is stored: its chunk, the chunk's key, and its place there |
 //! | `walks` | the three walks over the chunks of a grid |
 //! | `chunk_grid::over_axes` | the calls of the four grids, over their lists of axes |
-//! | `chunk_grid::axis_bounds` | which indices are in bounds of a list of axes |
-//! | `chunk_grid::boxes`, `edges` | boxes that are made of starts and ends; edges as plain numbers |
-//! | `chunk_grid::lent_edges` | how a refusal prints the edges that `new` was lent |
-//!
+//! //! | `chunk_grid::boxes`, `edges` | boxes that are made of starts and sizes; edges as plain numbers |
+//! //!
 //! One dimension, its kinds and the loops over dimensions stand in the crate `zarrs_chunk_axes`.
 #![tactic(auto)]
 
@@ -43,13 +40,11 @@ mod walks;
 
 pub use chunk_grid::ChunkGridTraits;
 pub use chunk_grid::named::ChunkGrid;
-pub use chunk_grid::rectangular::RectangularChunkGrid;
-pub use chunk_grid::rectangular_create_error::RectangularChunkGridCreateError;
-pub use chunk_grid::rectilinear::RectilinearChunkGrid;
-pub use chunk_grid::rectilinear_create_error::RectilinearChunkGridCreateError;
-pub use chunk_grid::regular::RegularChunkGrid;
+pub use chunk_grid::over_axes::GridOfKind;
+pub use chunk_grid::rectangular::{RectangularChunkGrid, RectangularChunkGridCreateError};
+pub use chunk_grid::rectilinear::{RectilinearChunkGrid, RectilinearChunkGridCreateError};
+pub use chunk_grid::regular::{RegularChunkGrid, RegularChunkGridCreateError};
 pub use chunk_grid::regular_bounded::RegularBoundedChunkGrid;
-pub use chunk_grid::regular_create_error::RegularChunkGridCreateError;
 pub use home::Home;
 pub use location::{Located, locate};
 pub use walks::chunk_indices::ChunkIndices;

@@ -1,6 +1,6 @@
 //! Where an element is stored: the key of its chunk, and its place in the chunk.
 ghost use Rattle.std.specs.Prelude.{length};
-ghost use Rattle.zarrs_chunk_base.specs.Refusal.{Answers};
+ghost use Rattle.zarrs_chunk_base.specs.Refusal.{AnswersOrMemory};
 ghost use Rattle.zarrs_chunks.specs.Located.{IsLocated};
 ghost use Rattle.zarrs_chunks.specs.Subsets.{HasNoHome};
 
@@ -30,7 +30,7 @@ pub fn locate<G: ChunkGridTraits, E: ChunkKeyEncodingTraits>(
     encoding: &E,
     array_indices: &[u64],
 ) -> Result<Option<Located>, Refusal<IncompatibleDimensionalityError>>
-    ensures { Answers (length array_indices.now) (length (G.dimensions grid.now))
+    ensures { AnswersOrMemory (length array_indices.now) (length (G.dimensions grid.now))
         (IsLocated (G.dimensions grid.now) (E.is_key encoding.now) array_indices.now)
         (HasNoHome (G.dimensions grid.now) array_indices.now) result }
 {

@@ -2,7 +2,7 @@
 use Rattle.std.specs.Prelude.{◌≡◌, ◌≢◌, ℕ, ◌<◌, List, [], ◌∷◌, length, map, Option, Some, None, Result, Ok, Err}
 use Rattle.std.specs.declared.alloc.AllocError.{AllocError}
 use Rattle.zarrs_chunk_base.specs.ArraySubset.{Box}
-use Rattle.zarrs_chunk_base.specs.Dimension.{Dimension}
+use Rattle.zarrs_chunk_base.specs.Dimension.{Dimension, grid_sizes}
 use Rattle.zarrs_chunk_axes.specs.seen.RowMajorWalk.{lists_left, numbers_at, shape_of}
 use Rattle.zarrs_chunks.specs.declared.walks.chunk_boxes.ChunkBoxes.{ChunkBoxes}
 use Rattle.zarrs_chunks.specs.declared.walks.chunk_indices.ChunkIndices.{ChunkIndices}
@@ -18,7 +18,7 @@ chunks_left walk = lists_left walk.walk
 module _ {G : Type 0} (dimensions : G → List Dimension) where
   -- the walk goes through the chunks that its grid counts
   abbrev pub IsOverGrid : ChunkBoxes G → Type 0
-  IsOverGrid walk = shape_of walk.walk ≡ map (λ d. d.grid_size) (dimensions walk.grid.now)
+  IsOverGrid walk = shape_of walk.walk ≡ grid_sizes (dimensions walk.grid.now)
 
   -- the chunks that it still comes by, with or without a box
   abbrev pub chunks_ahead : ChunkBoxes G → List (List ℕ)

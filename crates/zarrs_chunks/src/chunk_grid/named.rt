@@ -9,14 +9,16 @@
 //!
 //! Unlike zarrs, no grid registers itself, no name has an alias, and no name is warned of: a grid of another crate is passed to
 //! functions over [`ChunkGridTraits`] as it is.
-ghost use Rattle.std.specs.Prelude.{◌≡◌, ◌↔◌, IfOk, IsTrue, MatchResult, map};
+ghost use Rattle.std.specs.Prelude.{◌≡◌, ◌↔◌, IfOk, IsTrue, MatchResult};
 ghost use Rattle.serde_json.specs.View.{members_view};
+ghost use Rattle.zarrs_chunk_base.specs.Dimension.{array_sizes};
+ghost use Rattle.zarrs_chunk_base.specs.Kinds.{IsConfigurationOf, IsMetadata, IsOf};
 ghost use Rattle.zarrs_chunk_base.specs.Metadata.{extension_of};
 ghost use Rattle.zarrs_chunk_base.specs.Refusal.{IfRefused};
-ghost use Rattle.zarrs_chunk_axes.specs.InBounds.{AreBelow, AreInBounds};
-ghost use Rattle.zarrs_chunks.specs.GridNames.{HasInBounds, HasItsEdges, IsGrid, IsGridFault, IsItsConfiguration, IsMetadata, dimensions_in, edges_in, name_in, shape_in};
+ghost use Rattle.zarrs_chunk_axes.specs.InBounds.{AreBelow, AreInBounds, AreIndicesInBounds};
+ghost use Rattle.zarrs_chunks.specs.GridKinds.{IsGridFault, grid_kind};
 ghost use Rattle.zarrs_chunks.specs.declared.chunk_grid.named.ChunkGrid.TheVariants.{Rectangular, Rectilinear, Regular, RegularBounded};
-ghost use Rattle.zarrs_chunks.specs.seen.ChunkGrid.{chains_in};
+ghost use Rattle.zarrs_chunks.specs.seen.Grids.{chained_in, grid_in, kind_in};
 
 use super::rectangular::RectangularChunkGrid;
 use super::rectilinear::RectilinearChunkGrid;
@@ -76,12 +78,13 @@ impl ChunkGrid {
         metadata: &MetadataV3,
         array_shape: &[u64],
     ) -> Result<ChunkGrid, Refusal<PluginCreateError>>
-        ensures shape { IfOk result (λ grid. shape_in grid ≡ array_shape.now) }
+        ensures shape { IfOk result (λ grid. array_sizes (grid_in grid).dimensions
+            ≡ array_shape.now) }
         ensures made { MatchResult result
-            (IsGrid (extension_of metadata.now) array_shape.now)
+            (λ grid. IsOf (grid_kind (kind_in grid)) (extension_of metadata.now)
+            array_shape.now (grid_in grid))
             (λ refusal. IfRefused refusal
             (IsGridFault (extension_of metadata.now) array_shape.now)) }
-        ensures edges { IfOk result (HasItsEdges (extension_of metadata.now)) }
     {
         match metadata.name() {
             REGULAR => Ok(ChunkGrid::Regular(RegularChunkGrid::create(
@@ -115,7 +118,9 @@ impl ChunkGrid {
     /// # Errors
     /// Out of memory.
     pub fn metadata(&self, alloc: Global) -> Result<MetadataV3, AllocError>
-        ensures { IfOk result (λ metadata. IsMetadata self.now (extension_of metadata)) }
+        ensures { IfOk result (λ metadata. IsMetadata (grid_kind (kind_in self.now))
+            (array_sizes (grid_in self.now).dimensions) (grid_in self.now)
+            (extension_of metadata)) }
     {
         let name = String::from_str(alloc, self.name())?;
         let configuration = self.configuration(alloc)?;
@@ -127,9 +132,10 @@ impl ChunkGrid {
     /// # Errors
     /// Out of memory.
     pub fn clone(&self) -> Result<ChunkGrid, AllocError>
-        ensures name { IfOk result (λ grid. name_in grid ≡ name_in self.now) }
-        ensures dimensions { IfOk result (λ grid. dimensions_in grid ≡ dimensions_in self.now) }
-        ensures edges { IfOk result (λ grid. edges_in grid ≡ edges_in self.now) }
+        ensures kind { IfOk result (λ grid. kind_in grid ≡ kind_in self.now) }
+        ensures dimensions { IfOk result (λ grid. (grid_in grid).dimensions
+            ≡ (grid_in self.now).dimensions) }
+        ensures edges { IfOk result (λ grid. (grid_in grid).edges ≡ (grid_in self.now).edges) }
     {
         Ok(match self {
             ChunkGrid::Regular(grid) => ChunkGrid::Regular(grid.clone()?),
@@ -141,7 +147,7 @@ impl ChunkGrid {
 
     /// The extension's name.
     fn name(&self) -> &'static str
-        ensures { result.now ≡ name_in self.now }
+        ensures { result.now ≡ (grid_kind (kind_in self.now)).name }
     {
         match self {
             ChunkGrid::Regular(_) => REGULAR,
@@ -153,28 +159,30 @@ impl ChunkGrid {
 }
 
 impl ChunkGridTraits for ChunkGrid {
-    ghost dimensions = { dimensions_in };
+    ghost dimensions = { λ grid. (grid_in grid).dimensions };
 
-    ghost chained = { chains_in };
+    ghost chained = { chained_in };
 
     fn create(
         alloc: Global,
         metadata: &MetadataV3,
         array_shape: &[u64],
     ) -> Result<ChunkGrid, Refusal<PluginCreateError>>
-        ensures shape { IfOk result (λ grid. map (λ d. d.array_size) (dimensions_in grid)
+        ensures shape { IfOk result (λ grid. array_sizes (grid_in grid).dimensions
             ≡ array_shape.now) }
         ensures made { MatchResult result
-            (IsGrid (extension_of metadata.now) array_shape.now)
+            (λ grid. IsOf (grid_kind (kind_in grid)) (extension_of metadata.now)
+            array_shape.now (grid_in grid))
             (λ refusal. IfRefused refusal
             (IsGridFault (extension_of metadata.now) array_shape.now)) }
-        ensures edges { IfOk result (HasItsEdges (extension_of metadata.now)) }
     {
         ChunkGrid::from_metadata(alloc, metadata, array_shape)
     }
 
     fn configuration(&self, alloc: Global) -> Result<Configuration, AllocError>
-        ensures { IfOk result (λ c. IsItsConfiguration self.now (members_view c.entries)) }
+        ensures { IfOk result (λ c. IsConfigurationOf (grid_kind (kind_in self.now))
+            (array_sizes (grid_in self.now).dimensions) (grid_in self.now)
+            (members_view c.entries)) }
     {
         inside!(self, grid => grid.configuration(alloc))
     }
@@ -224,11 +232,11 @@ impl ChunkGridTraits for ChunkGrid {
     }
 
     fn array_indices_inbounds(&self, array_indices: &[u64]) -> bool
-        ensures within { AreBelow (map (λ d. d.array_size)
-            (dimensions_in self.now)) array_indices.now → IsTrue result }
-        ensures only { IsTrue result → AreInBounds (map
-            (λ d. d.array_size) (dimensions_in self.now)) array_indices.now }
-        ensures exact { IsTrue result ↔ HasInBounds self.now array_indices.now }
+        ensures within { AreBelow (array_sizes (grid_in self.now).dimensions) array_indices.now
+            → IsTrue result }
+        ensures only { IsTrue result
+            → AreInBounds (array_sizes (grid_in self.now).dimensions) array_indices.now }
+        ensures exact { IsTrue result ↔ AreIndicesInBounds (grid_in self.now) array_indices.now }
     {
         inside!(self, grid => grid.array_indices_inbounds(array_indices))
     }

@@ -1,45 +1,45 @@
 //! The grids that are lists of axes, and what all of them answer.
-ghost use Rattle.std.specs.Prelude.{◌≡◌, ◌↔◌, ℕ, IfOk, IsTrue, List, MatchResult, map};
+ghost use Rattle.std.specs.Prelude.{◌≡◌, ◌↔◌, IfOk, IsTrue, MatchResult};
 ghost use Rattle.std.specs.List.{AllByRecursion};
 ghost use Rattle.serde_json.specs.View.{members_view};
-ghost use Rattle.zarrs_chunk_base.specs.Dimension.{Dimension, IsChain};
-ghost use Rattle.zarrs_chunk_base.specs.DimensionEdges.{DimensionEdges};
+ghost use Rattle.zarrs_chunk_base.specs.Dimension.{IsChain, array_sizes};
+ghost use Rattle.zarrs_chunk_base.specs.Grid.{Grid};
+ghost use Rattle.zarrs_chunk_base.specs.Kinds.{IsConfigurationOf, IsFaultOf, IsMadeOf};
 ghost use Rattle.zarrs_chunk_base.specs.Metadata.{extension_of};
 ghost use Rattle.zarrs_chunk_base.specs.Refusal.{IfRefused};
-ghost use Rattle.zarrs_chunk_axes.specs.InBounds.{AreBelow, AreInBounds};
+ghost use Rattle.zarrs_chunk_axes.specs.InBounds.{AreBelow, AreInBounds, AreIndicesInBounds};
 ghost use Rattle.zarrs_chunk_axes.specs.seen.AxisGrid.{dimensions_of, edges_of};
-ghost use Rattle.zarrs_chunks.specs.GridKinds.{GridKind, HasEdgesOf, IsConfigurationOf, IsGridFaultOf, IsGridOf};
+ghost use Rattle.zarrs_chunks.specs.GridKinds.{GridKind, grid_kind};
 ghost use Rattle.zarrs_chunks.specs.lemmas.Refused.{IsRefusedBy};
 
-use super::axis_bounds::AxisBounds;
 use crate::{ChunkGridTraits, Home};
 use std::alloc::{AllocError, Global};
-use zarrs_chunk_axes::AxisGrid;
+use std::fmt;
+use std::fmt::Display;
+use zarrs_chunk_axes::{Axis, AxisGrid};
 use zarrs_chunk_base::{
-    ArrayIndices, ArrayShape, ChunkShape, Configuration, IncompatibleDimensionalityError,
-    MetadataV3, PluginCreateError, Refusal,
+    ArrayIndices, ArrayShape, ChunkShape, Configuration, InBrackets,
+    IncompatibleDimensionalityError, MetadataV3, PluginCreateError, Refusal,
 };
 
-/// A grid that is a list of axes.
-pub(crate) trait OverAxes: Sized + Drop {
-    /// The kind of its dimensions.
-    type Kind: AxisBounds;
-
-    /// What its configurations stand for.
-    ghost Said: { Type 0 };
-
+/// A grid of one of this library's kinds: which kind, and what a value of it means.
+pub trait GridOfKind {
     /// The kind of grid.
-    ghost grid_kind: { GridKind Said };
+    ghost kind: { GridKind };
 
-    /// The dimensions of its axes.
-    ghost axis_dimensions: { Self → List Dimension };
+    /// The dimensions, and the edges that the grid was made with.
+    ghost grid: { Self → Grid };
+}
 
-    /// The edges that it was made with.
-    ghost axis_edges: { Self → List DimensionEdges };
+/// A grid that is a list of axes.
+pub(crate) trait OverAxes: GridOfKind + Sized + Drop {
+    /// The kind of its dimensions.
+    type Dimension: Axis + Drop;
 
     /// Its axes.
-    fn axes(&self) -> &AxisGrid<Self::Kind>
-        ensures { dimensions_of result.now ≡ axis_dimensions self.now };
+    fn axes(&self) -> &AxisGrid<Self::Dimension>
+        ensures dimensions { dimensions_of result.now ≡ (Self.grid self.now).dimensions }
+        ensures edges { edges_of result.now ≡ (Self.grid self.now).edges };
 
     /// The grid of an array shape and the configuration in an extension's metadata.
     fn of_metadata(
@@ -47,28 +47,26 @@ pub(crate) trait OverAxes: Sized + Drop {
         metadata: &MetadataV3,
         array_shape: &[u64],
     ) -> Result<Self, Refusal<PluginCreateError>>
-        ensures shape { IfOk result (λ grid. map (λ d. d.array_size) (axis_dimensions grid)
+        ensures shape { IfOk result (λ grid. array_sizes (Self.grid grid).dimensions
             ≡ array_shape.now) }
         ensures made { MatchResult result
-            (λ grid. IsGridOf grid_kind (extension_of metadata.now) array_shape.now
-            (axis_dimensions grid))
-            (λ refusal. IfRefused refusal (IsGridFaultOf grid_kind (extension_of metadata.now)
-            array_shape.now)) }
-        ensures edges { IfOk result (λ grid. HasEdgesOf grid_kind (extension_of metadata.now)
-            (axis_edges grid)) };
+            (λ grid. IsMadeOf (grid_kind Self.kind) (extension_of metadata.now)
+            array_shape.now (Self.grid grid))
+            (λ refusal. IfRefused refusal (IsFaultOf (grid_kind Self.kind)
+            (extension_of metadata.now) array_shape.now)) };
 
     /// The configuration that tells its edges, in the form in which one is written.
     fn to_configuration(&self, alloc: Global) -> Result<Configuration, AllocError>
-        ensures { IfOk result (λ c. IsConfigurationOf grid_kind (map
-            (λ d. d.array_size) (axis_dimensions self.now)) (axis_edges self.now)
+        ensures { IfOk result (λ c. IsConfigurationOf (grid_kind Self.kind)
+            (array_sizes (Self.grid self.now).dimensions) (Self.grid self.now)
             (members_view c.entries)) };
 
     /// Each of its dimensions is a chain.
-    ghost axes_chained: { (grid : Self) → AllByRecursion IsChain (axis_dimensions grid) };
+    ghost axes_chained: { (grid : Self) → AllByRecursion IsChain (Self.grid grid).dimensions };
 }
 
 impl<G: OverAxes> ChunkGridTraits for G {
-    ghost dimensions = { λ grid. G.axis_dimensions grid };
+    ghost dimensions = { λ grid. (G.grid grid).dimensions };
 
     ghost chained = { λ grid. G.axes_chained grid };
 
@@ -77,22 +75,21 @@ impl<G: OverAxes> ChunkGridTraits for G {
         metadata: &MetadataV3,
         array_shape: &[u64],
     ) -> Result<G, Refusal<PluginCreateError>>
-        ensures shape { IfOk result (λ grid. map (λ d. d.array_size) (G.axis_dimensions grid)
+        ensures shape { IfOk result (λ grid. array_sizes (G.grid grid).dimensions
             ≡ array_shape.now) }
         ensures made { MatchResult result
-            (λ grid. IsGridOf G.grid_kind (extension_of metadata.now) array_shape.now
-            (G.axis_dimensions grid))
-            (λ refusal. IfRefused refusal (IsGridFaultOf G.grid_kind (extension_of metadata.now)
-            array_shape.now)) }
-        ensures edges { IfOk result (λ grid. HasEdgesOf G.grid_kind (extension_of metadata.now)
-            (G.axis_edges grid)) }
+            (λ grid. IsMadeOf (grid_kind G.kind) (extension_of metadata.now)
+            array_shape.now (G.grid grid))
+            (λ refusal. IfRefused refusal (IsFaultOf (grid_kind G.kind)
+            (extension_of metadata.now) array_shape.now)) }
     {
         G::of_metadata(alloc, metadata, array_shape)
     }
 
     fn configuration(&self, alloc: Global) -> Result<Configuration, AllocError>
-        ensures { IfOk result (λ c. IsConfigurationOf G.grid_kind (map (λ d. d.array_size)
-            (G.axis_dimensions self.now)) (G.axis_edges self.now) (members_view c.entries)) }
+        ensures { IfOk result (λ c. IsConfigurationOf (grid_kind G.kind)
+            (array_sizes (G.grid self.now).dimensions) (G.grid self.now)
+            (members_view c.entries)) }
     {
         self.to_configuration(alloc)
     }
@@ -143,14 +140,14 @@ impl<G: OverAxes> ChunkGridTraits for G {
     }
 
     fn array_indices_inbounds(&self, array_indices: &[u64]) -> bool
-        ensures within { AreBelow (map (λ d. d.array_size)
-            (G.axis_dimensions self.now)) array_indices.now → IsTrue result }
-        ensures only { IsTrue result → AreInBounds (map
-            (λ d. d.array_size) (G.axis_dimensions self.now)) array_indices.now }
-        ensures exact { IsTrue result ↔ G.Kind.in_bounds
-            (G.axis_dimensions self.now) array_indices.now }
+        ensures within { AreBelow (array_sizes (G.grid self.now).dimensions) array_indices.now
+            → IsTrue result }
+        ensures only { IsTrue result
+            → AreInBounds (array_sizes (G.grid self.now).dimensions) array_indices.now }
+        ensures exact { IsTrue result
+            ↔ AreIndicesInBounds (G.grid self.now) array_indices.now }
     {
-        G::Kind::are_in_bounds(self.axes(), array_indices)
+        self.axes().are_in_bounds(array_indices)
     }
 }
 
@@ -159,4 +156,18 @@ pub(super) fn other(alloc: Global, text: &str) -> Result<PluginCreateError, Allo
     ensures { IfOk result (IsRefusedBy (λ bytes. bytes ≡ text.now) (Unit {0})) }
 {
     Ok(PluginCreateError::Other(String::from_str(alloc, text)?))
+}
+
+/// Prints why there is no grid of this kind with these edges.
+pub(super) fn write_incompatible<W: fmt::Write, C: Display>(
+    f: &mut fmt::Formatter<W>,
+    kind: &str,
+    edges: &[C],
+    array_shape: &ArrayShape,
+) -> fmt::Result {
+    let edges = InBrackets(edges);
+    write!(
+        f,
+        "{kind} chunk grid configuration: {edges} not compatible with array shape {array_shape:?}"
+    )
 }

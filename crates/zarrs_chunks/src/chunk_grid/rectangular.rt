@@ -13,14 +13,15 @@
 //! | Differs from zarrs | an empty list is always refused; so is a sum past 18446744073709551615, where that of zarrs can overflow |
 ghost use Rattle.std.specs.Prelude.{map};
 ghost use Rattle.zarrs_chunk_axes.specs.Rectangular.{AreRectangular};
+ghost use Rattle.zarrs_chunk_base.specs.Dimension.{array_sizes};
 ghost use Rattle.zarrs_chunk_axes.specs.lemmas.AcceptedOnce.{are_rectangular_once};
 ghost use Rattle.zarrs_chunk_axes.specs.seen.AxisGrid.{dimensions_of, edges_of};
 
-use super::over_axes::OverAxes;
-use super::rectangular_create_error::RectangularChunkGridCreateError;
-use crate::ChunkGridTraits;
+use super::over_axes::{GridOfKind, OverAxes, write_incompatible};
 use std::alloc::{AllocError, Global};
-use zarrs_chunk_axes::{AxisGrid, EqualOrListedAxis};
+use std::error::Error;
+use std::fmt;
+use zarrs_chunk_axes::{AxisGrid, EqualOr, ListedAxis};
 use zarrs_chunk_base::{
     ArrayShape, Configuration, ConfigurationForm, MetadataV3, PluginCreateError,
     RectangularChunkGridConfiguration, RectangularChunkGridDimensionConfiguration, Refusal,
@@ -32,9 +33,8 @@ use zarrs_chunk_base::{
 /// Source: ZEP 3, variable chunks.
 #[derive(Debug, Drop)]
 pub struct RectangularChunkGrid {
-    axes: AxisGrid<EqualOrListedAxis>,
-    ghost accepted: { AreRectangular (map (λ d. d.array_size)
-        (dimensions_of axes)) (edges_of axes) } by { are_rectangular_once _ _ },
+    axes: AxisGrid<EqualOr<ListedAxis>>,
+    ghost accepted: { AreRectangular (array_sizes (dimensions_of axes)) (edges_of axes) } by { are_rectangular_once _ _ },
 }
 
 impl RectangularChunkGrid {
@@ -43,7 +43,7 @@ impl RectangularChunkGrid {
     ghost use Rattle.zarrs_chunk_base.specs.Refusal.{IfRefused};
     ghost use Rattle.zarrs_chunk_axes.specs.EqualOrListed.{AreEqualOrListed};
     ghost use Rattle.zarrs_chunk_axes.specs.Rectangular.{AreRectangular};
-    ghost use Rattle.zarrs_chunk_axes.specs.seen.AxisGrid.{edges_of};
+    ghost use Rattle.zarrs_chunks.specs.seen.Grids.{rectangular_of};
 
     /// The grid of an array with these sizes, in elements, and with these edges, one configuration a
     /// dimension.
@@ -59,9 +59,9 @@ impl RectangularChunkGrid {
         ensures accepted { IfOk result (λ _. AreRectangular array_shape.items
             (map rectangular_edges chunk_shape.now)) }
         ensures made { IfOk result (λ grid. AreEqualOrListed
-            (⟦<RectangularChunkGrid as ChunkGridTraits>⟧.dimensions grid)
+            (rectangular_of grid).dimensions
             array_shape.items (map rectangular_edges chunk_shape.now)) }
-        ensures edges { IfOk result (λ grid. edges_of grid.axes
+        ensures edges { IfOk result (λ grid. (rectangular_of grid).edges
             ≡ map rectangular_edges chunk_shape.now) }
         ensures refused { IfErr result (λ refusal. IfRefused refusal
             (λ _. ¬ AreRectangular array_shape.items (map rectangular_edges chunk_shape.now))) }
@@ -84,10 +84,9 @@ impl RectangularChunkGrid {
     /// # Errors
     /// Out of memory.
     pub fn clone(&self) -> Result<RectangularChunkGrid, AllocError>
-        ensures dimensions { IfOk result
-            (λ grid. ⟦<RectangularChunkGrid as ChunkGridTraits>⟧.dimensions grid
-            ≡ ⟦<RectangularChunkGrid as ChunkGridTraits>⟧.dimensions self.now) }
-        ensures edges { IfOk result (λ grid. edges_of grid.axes ≡ edges_of self.now.axes) }
+        ensures dimensions { IfOk result (λ grid. (rectangular_of grid).dimensions
+            ≡ (rectangular_of self.now).dimensions) }
+        ensures edges { IfOk result (λ grid. (rectangular_of grid).edges ≡ (rectangular_of self.now).edges) }
     {
         Ok(RectangularChunkGrid {
             axes: self.axes.clone()?,
@@ -95,26 +94,23 @@ impl RectangularChunkGrid {
     }
 }
 
-impl OverAxes for RectangularChunkGrid {
-    type Kind = EqualOrListedAxis;
-
-    ghost use Rattle.std.specs.Prelude.{List};
-    ghost use Rattle.zarrs_chunk_base.specs.DimensionEdges.{DimensionEdges};
+impl GridOfKind for RectangularChunkGrid {
     ghost use Rattle.zarrs_chunks.specs.GridKinds.{rectangular};
-    ghost use Rattle.zarrs_chunk_axes.specs.seen.AxisGrid.{chains_of, dimensions_of, edges_of};
-    ghost use Rattle.zarrs_chunk_axes.specs.seen.EqualOrListedAxis.{equal_or_listed_is_chain};
+    ghost use Rattle.zarrs_chunks.specs.seen.Grids.{rectangular_of};
 
-    ghost Said = { List DimensionEdges };
+    ghost kind = { rectangular };
 
-    ghost grid_kind = { rectangular };
+    ghost grid = { rectangular_of };
+}
 
-    ghost axis_dimensions = { λ grid. dimensions_of grid.axes };
+impl OverAxes for RectangularChunkGrid {
+    type Dimension = EqualOr<ListedAxis>;
 
-    ghost axis_edges = { λ grid. edges_of grid.axes };
+    ghost use Rattle.zarrs_chunks.specs.seen.Grids.{rectangular_chained};
 
-    ghost axes_chained = { λ grid. chains_of equal_or_listed_is_chain grid.axes };
+    ghost axes_chained = { rectangular_chained };
 
-    fn axes(&self) -> &AxisGrid<EqualOrListedAxis> {
+    fn axes(&self) -> &AxisGrid<EqualOr<ListedAxis>> {
         &self.axes
     }
 
@@ -140,3 +136,46 @@ impl OverAxes for RectangularChunkGrid {
         configuration.to_tree(alloc)
     }
 }
+
+/// An array shape and edges of which there is no rectangular grid, handed back.
+#[derive(Debug, Drop)]
+pub struct RectangularChunkGridCreateError(
+    pub ArrayShape,
+    pub Vec<RectangularChunkGridDimensionConfiguration>,
+);
+
+impl RectangularChunkGridCreateError {
+    ghost use Rattle.std.specs.Prelude.{◌≡◌, IfOk, map};
+    ghost use Rattle.zarrs_chunk_base.specs.DimensionEdges.{rectangular_edges};
+
+    /// The error about an array shape and a copy of the edges.
+    fn new(
+        alloc: Global,
+        array_shape: ArrayShape,
+        chunk_shape: &[RectangularChunkGridDimensionConfiguration],
+    ) -> Result<RectangularChunkGridCreateError, AllocError>
+        ensures { IfOk result (λ e. (e.0 ≡ array_shape)
+            × (map rectangular_edges e.1.items ≡ map rectangular_edges chunk_shape.now)) }
+    {
+        Ok(RectangularChunkGridCreateError(array_shape, chunk_shape.to_vec(alloc)?))
+    }
+
+    /// A copy.
+    ///
+    /// # Errors
+    /// Out of memory.
+    pub fn clone(&self) -> Result<RectangularChunkGridCreateError, AllocError>
+        ensures { IfOk result (λ e. (e.0.items ≡ (self.now).0.items)
+            × (map rectangular_edges e.1.items ≡ map rectangular_edges (self.now).1.items)) }
+    {
+        RectangularChunkGridCreateError::new(*self.1.allocator(), self.0.clone()?, &self.1)
+    }
+}
+
+impl fmt::Display for RectangularChunkGridCreateError {
+    fn fmt<W: fmt::Write>(&self, f: &mut fmt::Formatter<W>) -> fmt::Result {
+        write_incompatible(f, "rectangular", &self.1, &self.0)
+    }
+}
+
+impl Error for RectangularChunkGridCreateError {}

@@ -26,14 +26,15 @@ ghost use Rattle.std.specs.Prelude.{◌≡◌, map};
 ghost use Rattle.zarrs_chunk_base.specs.RunLength.{edges_of_lengths, rectilinear_edges};
 ghost use Rattle.zarrs_chunk_base.specs.GridConfigurations.{rectilinear_lengths};
 ghost use Rattle.zarrs_chunk_axes.specs.Rectilinear.{AreRectilinear};
+ghost use Rattle.zarrs_chunk_base.specs.Dimension.{array_sizes};
 ghost use Rattle.zarrs_chunk_axes.specs.lemmas.AcceptedOnce.{are_rectilinear_once};
 ghost use Rattle.zarrs_chunk_axes.specs.seen.AxisGrid.{dimensions_of, edges_of};
 
-use super::over_axes::OverAxes;
-use super::rectilinear_create_error::RectilinearChunkGridCreateError;
-use crate::ChunkGridTraits;
+use super::over_axes::{GridOfKind, OverAxes, write_incompatible};
 use std::alloc::{AllocError, Global};
-use zarrs_chunk_axes::{AxisGrid, EqualOrListedAxis};
+use std::error::Error;
+use std::fmt;
+use zarrs_chunk_axes::{AxisGrid, EqualOr, ListedAxis};
 use zarrs_chunk_base::{
     ArrayShape, ChunkEdgeLengths, Configuration, ConfigurationForm, MetadataV3, PluginCreateError,
     RectilinearChunkGridConfiguration, Refusal,
@@ -47,9 +48,8 @@ use zarrs_chunk_base::{
 /// Source: the `rectilinear` extension of zarr-extensions.
 #[derive(Debug, Drop)]
 pub struct RectilinearChunkGrid {
-    axes: AxisGrid<EqualOrListedAxis>,
-    ghost accepted: { AreRectilinear (map (λ d. d.array_size)
-        (dimensions_of axes)) (edges_of axes) } by { are_rectilinear_once _ _ },
+    axes: AxisGrid<EqualOr<ListedAxis>>,
+    ghost accepted: { AreRectilinear (array_sizes (dimensions_of axes)) (edges_of axes) } by { are_rectilinear_once _ _ },
 }
 
 impl RectilinearChunkGrid {
@@ -59,7 +59,7 @@ impl RectilinearChunkGrid {
     ghost use Rattle.zarrs_chunk_base.specs.RunLength.{rectilinear_edges, IsSameChunkEdgeLengths};
     ghost use Rattle.zarrs_chunk_axes.specs.EqualOrListed.{AreEqualOrListed};
     ghost use Rattle.zarrs_chunk_axes.specs.Rectilinear.{AreRectilinear};
-    ghost use Rattle.zarrs_chunk_axes.specs.seen.AxisGrid.{edges_of};
+    ghost use Rattle.zarrs_chunks.specs.seen.Grids.{rectilinear_of};
 
     /// The grid of an array with these sizes, in elements, and with these edges, one item a dimension.
     ///
@@ -75,9 +75,9 @@ impl RectilinearChunkGrid {
         ensures accepted { IfOk result (λ _. AreRectilinear array_shape.items
             (map rectilinear_edges chunk_shapes.now)) }
         ensures made { IfOk result (λ grid. AreEqualOrListed
-            (⟦<RectilinearChunkGrid as ChunkGridTraits>⟧.dimensions grid)
+            (rectilinear_of grid).dimensions
             array_shape.items (map rectilinear_edges chunk_shapes.now)) }
-        ensures edges { IfOk result (λ grid. edges_of grid.axes
+        ensures edges { IfOk result (λ grid. (rectilinear_of grid).edges
             ≡ map rectilinear_edges chunk_shapes.now) }
         ensures refused { IfErr result (λ refusal. IfRefused refusal
             (λ _. ¬ AreRectilinear array_shape.items (map rectilinear_edges chunk_shapes.now))) }
@@ -100,10 +100,9 @@ impl RectilinearChunkGrid {
     /// # Errors
     /// Out of memory.
     pub fn clone(&self) -> Result<RectilinearChunkGrid, AllocError>
-        ensures dimensions { IfOk result
-            (λ grid. ⟦<RectilinearChunkGrid as ChunkGridTraits>⟧.dimensions grid
-            ≡ ⟦<RectilinearChunkGrid as ChunkGridTraits>⟧.dimensions self.now) }
-        ensures edges { IfOk result (λ grid. edges_of grid.axes ≡ edges_of self.now.axes) }
+        ensures dimensions { IfOk result (λ grid. (rectilinear_of grid).dimensions
+            ≡ (rectilinear_of self.now).dimensions) }
+        ensures edges { IfOk result (λ grid. (rectilinear_of grid).edges ≡ (rectilinear_of self.now).edges) }
     {
         Ok(RectilinearChunkGrid {
             axes: self.axes.clone()?,
@@ -111,26 +110,23 @@ impl RectilinearChunkGrid {
     }
 }
 
-impl OverAxes for RectilinearChunkGrid {
-    type Kind = EqualOrListedAxis;
-
-    ghost use Rattle.std.specs.Prelude.{List};
-    ghost use Rattle.zarrs_chunk_base.specs.RunLength.{EdgeLengths};
+impl GridOfKind for RectilinearChunkGrid {
     ghost use Rattle.zarrs_chunks.specs.GridKinds.{rectilinear};
-    ghost use Rattle.zarrs_chunk_axes.specs.seen.AxisGrid.{chains_of, dimensions_of, edges_of};
-    ghost use Rattle.zarrs_chunk_axes.specs.seen.EqualOrListedAxis.{equal_or_listed_is_chain};
+    ghost use Rattle.zarrs_chunks.specs.seen.Grids.{rectilinear_of};
 
-    ghost Said = { List EdgeLengths };
+    ghost kind = { rectilinear };
 
-    ghost grid_kind = { rectilinear };
+    ghost grid = { rectilinear_of };
+}
 
-    ghost axis_dimensions = { λ grid. dimensions_of grid.axes };
+impl OverAxes for RectilinearChunkGrid {
+    type Dimension = EqualOr<ListedAxis>;
 
-    ghost axis_edges = { λ grid. edges_of grid.axes };
+    ghost use Rattle.zarrs_chunks.specs.seen.Grids.{rectilinear_chained};
 
-    ghost axes_chained = { λ grid. chains_of equal_or_listed_is_chain grid.axes };
+    ghost axes_chained = { rectilinear_chained };
 
-    fn axes(&self) -> &AxisGrid<EqualOrListedAxis> {
+    fn axes(&self) -> &AxisGrid<EqualOr<ListedAxis>> {
         &self.axes
     }
 
@@ -166,3 +162,44 @@ fn chunk_shapes_in(configuration: &RectilinearChunkGridConfiguration) -> &[Chunk
         RectilinearChunkGridConfiguration::Inline { chunk_shapes } => chunk_shapes,
     }
 }
+
+/// An array shape and edges of which there is no rectilinear grid, handed back.
+#[derive(Debug, Drop)]
+pub struct RectilinearChunkGridCreateError(pub ArrayShape, pub Vec<ChunkEdgeLengths>);
+
+impl RectilinearChunkGridCreateError {
+    ghost use Rattle.std.specs.Prelude.{◌≡◌, IfOk};
+    ghost use Rattle.std.specs.List.{AllZip};
+    ghost use Rattle.zarrs_chunk_base.specs.RunLength.{IsSameChunkEdgeLengths};
+
+    /// The error about an array shape and a copy of the edges.
+    fn new(
+        alloc: Global,
+        array_shape: ArrayShape,
+        chunk_shapes: &[ChunkEdgeLengths],
+    ) -> Result<RectilinearChunkGridCreateError, AllocError>
+        ensures { IfOk result (λ e. (e.0 ≡ array_shape)
+            × AllZip IsSameChunkEdgeLengths e.1.items chunk_shapes.now) }
+    {
+        Ok(RectilinearChunkGridCreateError(array_shape, chunk_shapes.to_vec(alloc)?))
+    }
+
+    /// A copy.
+    ///
+    /// # Errors
+    /// Out of memory.
+    pub fn clone(&self) -> Result<RectilinearChunkGridCreateError, AllocError>
+        ensures { IfOk result (λ e. (e.0.items ≡ (self.now).0.items)
+            × AllZip IsSameChunkEdgeLengths e.1.items (self.now).1.items) }
+    {
+        RectilinearChunkGridCreateError::new(*self.1.allocator(), self.0.clone()?, &self.1)
+    }
+}
+
+impl fmt::Display for RectilinearChunkGridCreateError {
+    fn fmt<W: fmt::Write>(&self, f: &mut fmt::Formatter<W>) -> fmt::Result {
+        write_incompatible(f, "rectilinear", &self.1, &self.0)
+    }
+}
+
+impl Error for RectilinearChunkGridCreateError {}

@@ -16,15 +16,14 @@ ghost use Rattle.std.specs.Int.NonZero.{non_zero_u64_get};
 ghost use Rattle.zarrs_chunk_axes.specs.seen.AxisGrid.{dimensions_of};
 
 use super::edges::edge_numbers;
-use super::over_axes::{OverAxes, other};
-use super::regular_create_error::RegularChunkGridCreateError;
-use crate::ChunkGridTraits;
+use super::over_axes::{GridOfKind, OverAxes, other};
 use std::alloc::{AllocError, Global};
 use std::num::NonZeroU64;
+use thiserror::Error;
 use zarrs_chunk_axes::{AxisGrid, EqualAxis};
 use zarrs_chunk_base::{
-    ArrayShape, ChunkShape, Configuration, ConfigurationForm, MetadataV3, PluginCreateError,
-    Refusal, RegularChunkGridConfiguration,
+    ArrayShape, ChunkShape, Configuration, ConfigurationForm, IncompatibleDimensionalityError,
+    MetadataV3, PluginCreateError, Refusal, RegularChunkGridConfiguration,
 };
 
 /// A grid whose chunks all have one shape. Chunk numbers and indices past the array have their
@@ -44,7 +43,7 @@ impl RegularChunkGrid {
     ghost use Rattle.zarrs_chunk_base.specs.Refusal.{HasMemory, IfRefused};
     ghost use Rattle.zarrs_chunk_base.specs.DimensionEdges.{equal};
     ghost use Rattle.zarrs_chunk_axes.specs.EqualEdges.{AreEqualEdges, HaveEqualEdges};
-    ghost use Rattle.zarrs_chunk_axes.specs.seen.AxisGrid.{edges_of};
+    ghost use Rattle.zarrs_chunks.specs.seen.Grids.{regular_of};
 
     /// The grid of an array with these sizes, cut into chunks with these edges, both in elements,
     /// one number a dimension.
@@ -57,9 +56,9 @@ impl RegularChunkGrid {
         chunk_shape: ChunkShape,
     ) -> Result<RegularChunkGrid, Refusal<RegularChunkGridCreateError>>
         ensures made { IfOk result (λ grid. AreEqualEdges
-            (⟦<RegularChunkGrid as ChunkGridTraits>⟧.dimensions grid)
+            (regular_of grid).dimensions
             array_shape.items (map non_zero_u64_get chunk_shape.items)) }
-        ensures edges { IfOk result (λ grid. edges_of grid.axes ≡ map equal
+        ensures edges { IfOk result (λ grid. (regular_of grid).edges ≡ map equal
             (map non_zero_u64_get chunk_shape.items)) }
         ensures refused { IfErr result (λ refusal. IfRefused refusal
             (λ _. length chunk_shape.items ≢ length array_shape.items)) }
@@ -81,7 +80,7 @@ impl RegularChunkGrid {
 
     /// The edges of the chunks, in elements, one a dimension.
     pub fn chunk_shape(&self) -> &[NonZeroU64]
-        ensures { HaveEqualEdges (⟦<RegularChunkGrid as ChunkGridTraits>⟧.dimensions self.now)
+        ensures { HaveEqualEdges (regular_of self.now).dimensions
             (map non_zero_u64_get result.now) }
     {
         &self.chunk_shape
@@ -93,7 +92,7 @@ impl RegularChunkGrid {
     /// Out of memory.
     pub fn chunk_shape_u64(&self, alloc: Global) -> Result<ArrayShape, AllocError>
         ensures { IfOk result (λ edges. HaveEqualEdges
-            (⟦<RegularChunkGrid as ChunkGridTraits>⟧.dimensions self.now) edges.items) }
+            (regular_of self.now).dimensions edges.items) }
     {
         edge_numbers(alloc, &self.chunk_shape)
     }
@@ -103,10 +102,9 @@ impl RegularChunkGrid {
     /// # Errors
     /// Out of memory.
     pub fn clone(&self) -> Result<RegularChunkGrid, AllocError>
-        ensures dimensions { IfOk result
-            (λ grid. ⟦<RegularChunkGrid as ChunkGridTraits>⟧.dimensions grid
-            ≡ ⟦<RegularChunkGrid as ChunkGridTraits>⟧.dimensions self.now) }
-        ensures edges { IfOk result (λ grid. edges_of grid.axes ≡ edges_of self.now.axes) }
+        ensures dimensions { IfOk result (λ grid. (regular_of grid).dimensions
+            ≡ (regular_of self.now).dimensions) }
+        ensures edges { IfOk result (λ grid. (regular_of grid).edges ≡ (regular_of self.now).edges) }
     {
         Ok(RegularChunkGrid {
             axes: self.axes.clone()?,
@@ -115,23 +113,21 @@ impl RegularChunkGrid {
     }
 }
 
-impl OverAxes for RegularChunkGrid {
-    type Kind = EqualAxis;
-
-    ghost use Rattle.std.specs.Prelude.{ℕ, List};
+impl GridOfKind for RegularChunkGrid {
     ghost use Rattle.zarrs_chunks.specs.GridKinds.{regular};
-    ghost use Rattle.zarrs_chunk_axes.specs.seen.AxisGrid.{chains_of, edges_of};
-    ghost use Rattle.zarrs_chunk_axes.specs.seen.EqualAxis.{equal_is_chain};
+    ghost use Rattle.zarrs_chunks.specs.seen.Grids.{regular_of};
 
-    ghost Said = { List ℕ };
+    ghost kind = { regular };
 
-    ghost grid_kind = { regular };
+    ghost grid = { regular_of };
+}
 
-    ghost axis_dimensions = { λ grid. dimensions_of grid.axes };
+impl OverAxes for RegularChunkGrid {
+    type Dimension = EqualAxis;
 
-    ghost axis_edges = { λ grid. edges_of grid.axes };
+    ghost use Rattle.zarrs_chunks.specs.seen.Grids.{regular_chained};
 
-    ghost axes_chained = { λ grid. chains_of equal_is_chain grid.axes };
+    ghost axes_chained = { regular_chained };
 
     fn axes(&self) -> &AxisGrid<EqualAxis> {
         &self.axes
@@ -160,3 +156,36 @@ impl OverAxes for RegularChunkGrid {
 
 const INCONSISTENT_DIMENSIONALITY: &str =
     "regular chunk shape and array shape have inconsistent dimensionality";
+
+/// An array shape and a chunk shape of different lengths, handed back.
+#[derive(Debug, Drop, Error)]
+#[error("regular chunk shape: {1:?} not compatible with array shape {0:?}")]
+pub struct RegularChunkGridCreateError(pub ArrayShape, pub ChunkShape);
+
+impl RegularChunkGridCreateError {
+    ghost use Rattle.std.specs.Prelude.{◌≡◌, IfOk};
+
+    /// A copy.
+    ///
+    /// # Errors
+    /// Out of memory.
+    pub fn clone(&self) -> Result<RegularChunkGridCreateError, AllocError>
+        ensures { IfOk result (λ e. (e.0.items ≡ (self.now).0.items)
+            × (e.1.items ≡ (self.now).1.items)) }
+    {
+        Ok(RegularChunkGridCreateError(self.0.clone()?, self.1.clone()?))
+    }
+}
+
+/// The chunk shape's length is given, and the array shape's expected.
+impl From<RegularChunkGridCreateError> for IncompatibleDimensionalityError {
+    ghost use Rattle.std.specs.Prelude.{length};
+    ghost use Rattle.zarrs_chunk_base.specs.Refusal.{TellsLengths};
+
+    ghost from_gives = { λ e r. TellsLengths (length e.1.items) (length e.0.items) r };
+
+    fn from(error: RegularChunkGridCreateError) -> IncompatibleDimensionalityError {
+        let RegularChunkGridCreateError(array_shape, chunk_shape) = error;
+        IncompatibleDimensionalityError::new(chunk_shape.len(), array_shape.len())
+    }
+}

@@ -22,8 +22,7 @@
 //! | Chunks | those that hold some element of the array; the last one ends where the array does |
 //! | A size of 0 | no chunk, so every look-up answers `None`; any index is in bounds, as in zarrs |
 //! | Differs from zarrs | the clipped edge is exact at every 64-bit number, where zarrs forms sums that can overflow |
-use super::over_axes::{OverAxes, other};
-use crate::ChunkGridTraits;
+use super::over_axes::{GridOfKind, OverAxes, other};
 use std::alloc::{AllocError, Global};
 use zarrs_chunk_axes::{AxisGrid, BoundedAxis};
 use zarrs_chunk_base::{
@@ -46,7 +45,7 @@ impl RegularBoundedChunkGrid {
     ghost use Rattle.zarrs_chunk_base.specs.Refusal.{HasMemory, IfRefused, TellsLengths};
     ghost use Rattle.zarrs_chunk_base.specs.DimensionEdges.{equal};
     ghost use Rattle.zarrs_chunk_axes.specs.Bounded.{AreBounded};
-    ghost use Rattle.zarrs_chunk_axes.specs.seen.AxisGrid.{edges_of};
+    ghost use Rattle.zarrs_chunks.specs.seen.Grids.{regular_bounded_of};
 
     /// The grid of an array with these sizes, cut into chunks with these edges, both in elements,
     /// one number a dimension.
@@ -60,9 +59,9 @@ impl RegularBoundedChunkGrid {
         chunk_shape: ChunkShape,
     ) -> Result<RegularBoundedChunkGrid, Refusal<IncompatibleDimensionalityError>>
         ensures made { IfOk result (λ grid. AreBounded
-            (⟦<RegularBoundedChunkGrid as ChunkGridTraits>⟧.dimensions grid)
+            (regular_bounded_of grid).dimensions
             array_shape.items (map non_zero_u64_get chunk_shape.items)) }
-        ensures edges { IfOk result (λ grid. edges_of grid.axes ≡ map equal
+        ensures edges { IfOk result (λ grid. (regular_bounded_of grid).edges ≡ map equal
             (map non_zero_u64_get chunk_shape.items)) }
         ensures refused { IfErr result (λ refusal. IfRefused refusal
             (λ _. length chunk_shape.items ≢ length array_shape.items)) }
@@ -84,10 +83,9 @@ impl RegularBoundedChunkGrid {
     /// # Errors
     /// Out of memory.
     pub fn clone(&self) -> Result<RegularBoundedChunkGrid, AllocError>
-        ensures dimensions { IfOk result
-            (λ grid. ⟦<RegularBoundedChunkGrid as ChunkGridTraits>⟧.dimensions grid
-            ≡ ⟦<RegularBoundedChunkGrid as ChunkGridTraits>⟧.dimensions self.now) }
-        ensures edges { IfOk result (λ grid. edges_of grid.axes ≡ edges_of self.now.axes) }
+        ensures dimensions { IfOk result (λ grid. (regular_bounded_of grid).dimensions
+            ≡ (regular_bounded_of self.now).dimensions) }
+        ensures edges { IfOk result (λ grid. (regular_bounded_of grid).edges ≡ (regular_bounded_of self.now).edges) }
     {
         Ok(RegularBoundedChunkGrid {
             axes: self.axes.clone()?,
@@ -95,23 +93,21 @@ impl RegularBoundedChunkGrid {
     }
 }
 
-impl OverAxes for RegularBoundedChunkGrid {
-    type Kind = BoundedAxis;
-
-    ghost use Rattle.std.specs.Prelude.{ℕ, List};
+impl GridOfKind for RegularBoundedChunkGrid {
     ghost use Rattle.zarrs_chunks.specs.GridKinds.{regular_bounded};
-    ghost use Rattle.zarrs_chunk_axes.specs.seen.AxisGrid.{chains_of, dimensions_of, edges_of};
-    ghost use Rattle.zarrs_chunk_axes.specs.seen.BoundedAxis.{bounded_is_chain};
+    ghost use Rattle.zarrs_chunks.specs.seen.Grids.{regular_bounded_of};
 
-    ghost Said = { List ℕ };
+    ghost kind = { regular_bounded };
 
-    ghost grid_kind = { regular_bounded };
+    ghost grid = { regular_bounded_of };
+}
 
-    ghost axis_dimensions = { λ grid. dimensions_of grid.axes };
+impl OverAxes for RegularBoundedChunkGrid {
+    type Dimension = BoundedAxis;
 
-    ghost axis_edges = { λ grid. edges_of grid.axes };
+    ghost use Rattle.zarrs_chunks.specs.seen.Grids.{regular_bounded_chained};
 
-    ghost axes_chained = { λ grid. chains_of bounded_is_chain grid.axes };
+    ghost axes_chained = { regular_bounded_chained };
 
     fn axes(&self) -> &AxisGrid<BoundedAxis> {
         &self.axes

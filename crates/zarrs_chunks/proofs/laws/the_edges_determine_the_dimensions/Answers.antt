@@ -1,4 +1,4 @@
-use Rattle.zarrs_chunks.proofs.SameEdges.{same_dimensions}
+use Rattle.zarrs_chunks.proofs.SeenGrids.{same_dimensions}
 use Rattle.zarrs_chunks.proofs.laws.the_edges_determine_the_dimensions.Goals as goal
 
 pub returns : goal.returns

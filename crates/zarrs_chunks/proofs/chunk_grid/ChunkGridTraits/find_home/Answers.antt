@@ -6,30 +6,30 @@ use Rattle.zarrs_chunk_base.proofs.InEach.{length_values}
 use Rattle.zarrs_chunks.proofs.Boxes.{fits, has_origin, home_refused, is_place}
 use Rattle.zarrs_chunks.proofs.chunk_grid.ChunkGridTraits.find_home.Goals as goal
 
-pub returns-in_default-2-clause-answers : goal.returns-in_default-2-clause-answers
-returns-in_default-2-clause-answers g c =
-    let (same, box) = rw c.in-Some.is at c.in_ok-chunk.ensures.answers in
-    let (_, none) = rw (c.in_default-2.is, c.deref.ensures.value) at c.in_ok-origin.ensures.answers in
+pub returns-in_default-2 : goal.returns-in_default-2
+returns-in_default-2 g c =
+    let (same, box) = rw c.in-Some.is at c.in_ok-chunk.ensures in
+    let (_, none) = rw (c.in_default-2.is, c.deref.ensures.value) at c.in_ok-origin.ensures in
     let (origin, is_origin, fit) = has_origin _ _ _ box (fits _ (λ k. omega (arith, c.type_inv.array_indices k))) in
     absurd (none origin is_origin fit)
 
 pub place_from-requires : goal.place_from-requires
 place_from-requires g c =
-    let (same, box) = rw c.in-Some.is at c.in_ok-chunk.ensures.answers in
-    let (_, is_origin) = rw (c.in-Some-2.is, c.deref.ensures.value) at c.in_ok-origin.ensures.answers in
+    let (same, box) = rw c.in-Some.is at c.in_ok-chunk.ensures in
+    let (_, is_origin) = rw (c.in-Some-2.is, c.deref.ensures.value) at c.in_ok-origin.ensures in
     length_values StartsAt _ _ _ is_origin ∙ sym same
 
-pub returns-clause-answers : goal.returns-clause-answers
-returns-clause-answers g c =
-    let (same, box) = rw c.in-Some.is at c.in_ok-chunk.ensures.answers in
-    let (_, is_origin) = rw (c.in-Some-2.is, c.deref.ensures.value) at c.in_ok-origin.ensures.answers in
+pub returns : goal.returns
+returns g c =
+    let (same, box) = rw c.in-Some.is at c.in_ok-chunk.ensures in
+    let (_, is_origin) = rw (c.in-Some-2.is, c.deref.ensures.value) at c.in_ok-origin.ensures in
     (same, box, is_place _ _ _ _ _ box is_origin c.place_from.ensures.length c.place_from.ensures.difference)
 
-pub returns-in_err-origin-clause-answers : goal.returns-in_err-origin-clause-answers
-returns-in_err-origin-clause-answers g c =
-    let (same, box) = rw c.in-Some.is at c.in_ok-chunk.ensures.answers in
+pub returns-in_err-origin : goal.returns-in_err-origin
+returns-in_err-origin g c =
+    let (same, box) = rw c.in-Some.is at c.in_ok-chunk.ensures in
     let refused = subst (λ chunk. AnswersOrigin (g.Self.ChunkGridTraits.dimensions c.args.self.now) chunk (Err c.in_err-origin.field-0.0)) c.deref.ensures.value
-    c.in_err-origin.ensures.answers
+    c.in_err-origin.ensures
     in
     let told = err_from_is_err_and c.from_residual-in_err-origin.result c.from_residual-in_err-origin.ensures.1 in
     rw (told.1, told.2) (home_refused _ _ _ _ _ _ box refused same)

@@ -3,15 +3,18 @@ use Rattle.std.proofs.lemmas.Simd.{map-map}
 use Rattle.zarrs_chunk_base.specs.DimensionEdges.{equal}
 use Rattle.std.specs.Int.NonZero.{non_zero_u64_get}
 use Rattle.zarrs_chunk_base.proofs.Refusals.{own_through}
+use Rattle.zarrs_chunk_axes.specs.Bounded.{IsBoundedBy}
+use Rattle.zarrs_chunks.proofs.Configured.{of_one_edge}
 use Rattle.zarrs_chunk_axes.proofs.MadeSoFar.{any_accepted, unequal_lengths}
 use Rattle.zarrs_chunks.proofs.chunk_grid.regular_bounded.RegularBoundedChunkGrid.new.Goals as goal
 
 pub returns-in-Ok-clause-made : goal.returns-in-Ok-clause-made
-returns-in-Ok-clause-made c = rw c.deref.ensures.value at c.in-Ok.ensures.made
+returns-in-Ok-clause-made c =
+    of_one_edge IsBoundedBy _ _ _ _ (rw c.deref.ensures.value at c.in-Ok.ensures.made) (sym (map-map equal non_zero_u64_get _))
 
 pub returns-clause-refused : goal.returns-clause-refused
 returns-clause-refused c =
-    unequal_lengths non_zero_u64_get _ _ _ _ _ c.map.ensures (rw c.deref.ensures.value at c.in-Err.ensures.refused)
+    unequal_lengths (λ e. equal (non_zero_u64_get e)) _ _ _ _ _ c.map.ensures (rw c.deref.ensures.value at c.in-Err.ensures.refused)
 
 pub returns-clause-refused_first : goal.returns-clause-refused_first
 returns-clause-refused_first c = λ unequal.

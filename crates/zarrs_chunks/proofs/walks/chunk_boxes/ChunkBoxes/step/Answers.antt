@@ -14,7 +14,7 @@ returns-in-Ok-Some-clause-steps g c =
     let by : ComesBy (dimensions old.grid.now) old.walk true new.walk =
     subst (λ found. ComesBy (dimensions old.grid.now) old.walk found new.walk) c.loop-found-test.true c.loop-found.invariant.0
     in
-    let answers = subst (λ list. AnswersSubset (dimensions new.grid.now) list c.subset.result) c.numbers.ensures c.subset.ensures.answers in
+    let answers = subst (λ list. AnswersSubset (dimensions new.grid.now) list c.subset.result) c.numbers.ensures c.subset.ensures in
     let spans = found_box (dimensions new.grid.now) chunk c.subset.result c.in-Ok-Some.subset answers (c.in-Ok-Some.is ∙ ap Ok c.in-Ok-Some.field-0-is) in
     let (rest, is, fewer) = gives_box (dimensions old.grid.now) old.walk new.walk c.in-Ok-Some.subset by
     (subst (λ grid. Spans (dimensions grid) chunk chunk c.in-Ok-Some.subset) same spans)
@@ -31,7 +31,7 @@ loop-found-preserved g c =
     let by = subst (λ found. ComesBy (dimensions old.grid.now) old.walk found now.walk) c.loop-found-test.true c.loop-found.invariant.0 in
     let at : IsAtList now.walk = by.stands in
     let over : shape_of now.walk ≡ map (λ d. d.grid_size) (dimensions now.grid.now) = c.loop-found.invariant.1 in
-    let answers = subst (λ list. AnswersSubset (dimensions now.grid.now) list c.subset.result) c.numbers.ensures c.subset.ensures.answers in
+    let answers = subst (λ list. AnswersSubset (dimensions now.grid.now) list c.subset.result) c.numbers.ensures c.subset.ensures in
     let none = found_none (dimensions now.grid.now) chunk c.subset.result answers (c.in-Ok-None.is ∙ ap Ok c.in-Ok-None.field-0-is) in
     let (passed, is) = c.pass_over-found.ensures.passed in (
       passes (dimensions old.grid.now) (g.met.G.ChunkGridTraits.chained old.grid.now) now.walk at

@@ -1,0 +1,121 @@
+-- What is known of the dimensions of each kind of grid, and that a grid is made again of its metadata.
+use Rattle.std.proofs.Common.{◌≡◌, ℕ, List, Some, Result, Ok, Err, IfErr, IfOk, MatchResult, true, false, refl, sym, ap, ◌∙◌}
+use Rattle.zarrs_chunk_base.specs.Dimension.{InEach, array_sizes}
+use Rattle.zarrs_chunk_base.specs.Grid.{Grid}
+use Rattle.zarrs_chunk_base.specs.Kinds.{IsMetadata, IsOf}
+use Rattle.zarrs_chunk_base.specs.Metadata.{Extension}
+use Rattle.zarrs_chunk_base.specs.Refusal.{IfRefused}
+use Rattle.zarrs_chunk_base.specs.declared.plugin_create_error.PluginCreateError.{PluginCreateError}
+use Rattle.zarrs_chunk_base.specs.declared.refusal.Refusal.{Refusal}
+use Rattle.zarrs_chunk_base.specs.lemmas.Fitting.{rectangular_fits, rectilinear_fits, regular_fits}
+use Rattle.zarrs_chunk_base.proofs.KindsByName as kinds
+use Rattle.zarrs_chunk_axes.specs.Bounded.{IsBoundedBy}
+use Rattle.zarrs_chunk_axes.specs.EqualOrListed.{IsEqualOrListed}
+use Rattle.zarrs_chunk_axes.specs.declared.equal_or.EqualOr.{EqualOr}
+use Rattle.zarrs_chunk_axes.specs.declared.equal_or.EqualOr.TheVariants.{Equal, Other}
+use Rattle.zarrs_chunk_axes.specs.declared.listed_axis.ListedAxis.{ListedAxis}
+use Rattle.zarrs_chunk_base.specs.DimensionEdges.{DimensionEdges, listed}
+use Rattle.zarrs_chunk_axes.specs.lemmas.AllFromEdges.{IsFromEdges}
+use Rattle.zarrs_chunk_axes.specs.seen.AxisGrid.{from_edges, made_of}
+use Rattle.zarrs_chunk_axes.specs.seen.BoundedAxis.{bounded_is_made}
+use Rattle.zarrs_chunk_axes.specs.seen.DimensionFrom.{dimensions_from}
+use Rattle.zarrs_chunk_axes.specs.seen.EqualAxis.{equal_is_made}
+use Rattle.zarrs_chunk_axes.specs.seen.EqualOr.{equal_or, equal_or_edges, equal_or_is_made}
+use Rattle.zarrs_chunk_axes.specs.seen.ListedAxis.{edges_in, listed_is_made, listed_of}
+use Rattle.zarrs_chunks.specs.GridKinds.{GridKind, IsGridFault, grid_kind, grid_kinds, is_bounded, rectangular, rectilinear, regular, regular_bounded}
+use Rattle.zarrs_chunks.specs.seen.Grids.{grid_in, kind_in, rectangular_of, rectilinear_of, regular_bounded_of, regular_of}
+use Rattle.zarrs_chunks.specs.declared.chunk_grid.named.ChunkGrid.{ChunkGrid}
+use Rattle.zarrs_chunks.specs.declared.chunk_grid.named.ChunkGrid.TheVariants.{Rectangular, Rectilinear, Regular, RegularBounded}
+use Rattle.zarrs_chunks.specs.declared.chunk_grid.rectangular.RectangularChunkGrid.{RectangularChunkGrid}
+use Rattle.zarrs_chunks.specs.declared.chunk_grid.rectilinear.RectilinearChunkGrid.{RectilinearChunkGrid}
+use Rattle.zarrs_chunks.specs.declared.chunk_grid.regular.RegularChunkGrid.{RegularChunkGrid}
+use Rattle.zarrs_chunks.specs.declared.chunk_grid.regular_bounded.RegularBoundedChunkGrid.{RegularBoundedChunkGrid}
+
+-- ---- the dimensions are made of the array sizes and the edges
+
+pub regular_made : (grid : RegularChunkGrid) → InEach IsEqualOrListed (regular_of grid).dimensions (array_sizes (regular_of grid).dimensions) (regular_of grid).edges
+regular_made grid = made_of IsEqualOrListed equal_is_made grid.axes
+
+pub regular_bounded_made : (grid : RegularBoundedChunkGrid)
+    → InEach IsBoundedBy (regular_bounded_of grid).dimensions (array_sizes (regular_bounded_of grid).dimensions) (regular_bounded_of grid).edges
+regular_bounded_made grid = made_of IsBoundedBy bounded_is_made grid.axes
+
+pub rectangular_made : (grid : RectangularChunkGrid)
+    → InEach IsEqualOrListed (rectangular_of grid).dimensions (array_sizes (rectangular_of grid).dimensions) (rectangular_of grid).edges
+rectangular_made grid = made_of IsEqualOrListed (equal_or_is_made listed_of (λ axis. listed (edges_in axis)) listed_is_made) grid.axes
+
+pub rectilinear_made : (grid : RectilinearChunkGrid)
+    → InEach IsEqualOrListed (rectilinear_of grid).dimensions (array_sizes (rectilinear_of grid).dimensions) (rectilinear_of grid).edges
+rectilinear_made grid = made_of IsEqualOrListed (equal_or_is_made listed_of (λ axis. listed (edges_in axis)) listed_is_made) grid.axes
+
+-- ---- and determined by them
+
+listed_from_edges : (axis : EqualOr ListedAxis) → IsFromEdges (equal_or listed_of) (equal_or_edges (λ a. listed (edges_in a))) false axis
+listed_from_edges (Equal axis) = refl
+listed_from_edges (Other axis) = refl
+
+dimensions_are : (grid : ChunkGrid)
+    → (grid_in grid).dimensions ≡ dimensions_from (is_bounded (kind_in grid)) (array_sizes (grid_in grid).dimensions) (grid_in grid).edges
+dimensions_are (Regular grid) = from_edges false (λ axis. refl) grid.axes
+dimensions_are (RegularBounded grid) = from_edges true (λ axis. refl) grid.axes
+dimensions_are (Rectangular grid) = from_edges false listed_from_edges grid.axes
+dimensions_are (Rectilinear grid) = from_edges false listed_from_edges grid.axes
+
+pub same_dimensions : (grid other : ChunkGrid) → is_bounded (kind_in grid) ≡ is_bounded (kind_in other)
+    → array_sizes (grid_in grid).dimensions ≡ array_sizes (grid_in other).dimensions → (grid_in grid).edges ≡ (grid_in other).edges
+    → (grid_in grid).dimensions ≡ (grid_in other).dimensions
+same_dimensions grid other bounded sizes edges =
+    let one = dimensions_are grid in
+    let another = dimensions_are other in
+    cc
+
+-- ---- made again
+
+-- each kind is found by its name
+found : kinds.AreFound grid_kind grid_kinds
+found regular = refl
+found regular_bounded = refl
+found rectangular = refl
+found rectilinear = refl
+
+fits : (kind : GridKind) → kinds.Fits (grid_kind kind)
+fits regular = regular_fits
+fits regular_bounded = regular_fits
+fits rectangular = rectangular_fits
+fits rectilinear = rectilinear_fits
+
+-- what two grids are made of tells their edges
+same_edges : (kind : GridKind) (given : List ℕ) (grid again : Grid) (x : (grid_kind kind).Said) → (grid_kind kind).makes grid given x
+    → (grid_kind kind).makes again given x → again.edges ≡ grid.edges
+same_edges regular given grid again x made remade = remade.1 ∙ sym made.1
+same_edges regular_bounded given grid again x made remade = remade.1 ∙ sym made.1
+same_edges rectangular given grid again x made remade = remade.1 ∙ sym made.1
+same_edges rectilinear given grid again x made remade = remade.1 ∙ sym made.1
+
+pub accepted_again : (grid : ChunkGrid) (e : Extension) (answer : Result ChunkGrid (Refusal PluginCreateError)) (P : ChunkGrid → Type 0)
+    → IsMetadata (grid_kind (kind_in grid)) (array_sizes (grid_in grid).dimensions) (grid_in grid) e
+    → MatchResult answer P (λ refusal. IfRefused refusal (IsGridFault e (array_sizes (grid_in grid).dimensions)))
+    → IfErr answer (λ refusal. IfRefused refusal (λ _. ⊥))
+accepted_again grid e answer P is made =
+    kinds.accepted_again grid_kind grid_kinds found fits P (kind_in grid) (array_sizes (grid_in grid).dimensions) (grid_in grid) e answer is made
+
+-- the second grid is of the same kind, with the same edges and dimensions
+pub record IsAgain (grid again : ChunkGrid) : Type 0 where
+  pub kind : kind_in again ≡ kind_in grid
+  pub edges : (grid_in again).edges ≡ (grid_in grid).edges
+  pub dimensions : (grid_in again).dimensions ≡ (grid_in grid).dimensions
+
+pub is_again : (grid : ChunkGrid) (e : Extension) (answer : Result ChunkGrid (Refusal PluginCreateError)) (Q : Refusal PluginCreateError → Type 0)
+    → IsMetadata (grid_kind (kind_in grid)) (array_sizes (grid_in grid).dimensions) (grid_in grid) e
+    → MatchResult answer (λ again. IsOf (grid_kind (kind_in again)) e (array_sizes (grid_in grid).dimensions) (grid_in again)) Q
+    → IfOk answer (λ again. array_sizes (grid_in again).dimensions ≡ array_sizes (grid_in grid).dimensions) → IfOk answer (IsAgain grid)
+is_again grid e (Ok again) Q is made shape =
+    let sizes = array_sizes (grid_in grid).dimensions in
+    let (same, (x, makes, remakes)) = kinds.made_again grid_kind grid_kinds found (kind_in grid) (kind_in again) sizes (grid_in grid) (grid_in again) e is made in
+    let edges = same_edges (kind_in grid) sizes (grid_in grid) (grid_in again) x makes remakes in
+    record {
+      kind = sym same;
+      edges = edges;
+      dimensions = same_dimensions again grid (ap is_bounded (sym same)) shape edges;
+    }
+is_again grid e (Err _) Q is made shape = tt
