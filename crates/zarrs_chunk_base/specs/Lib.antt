@@ -10,6 +10,7 @@ pub mod Greatest
 pub mod GridConfigurations
 pub mod Json
 pub mod KeyConfigurations
+pub mod Kinds
 pub mod Metadata
 pub mod Refusal
 pub mod RunLength
