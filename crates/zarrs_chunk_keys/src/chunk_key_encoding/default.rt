@@ -13,10 +13,11 @@
 ghost use Rattle.std.specs.Prelude.{◌≡◌, ◌++◌, ℕ, IfOk, List, MatchResult, OnOk, string_bytes};
 ghost use Rattle.serde_json.specs.View.{members_view};
 ghost use Rattle.zarrs_chunk_base.specs.declared.chunk_key_separator.ChunkKeySeparator.TheVariants.{Dot, Slash};
+ghost use Rattle.zarrs_chunk_base.specs.Kinds.{IsConfigurationOf, IsFaultOf, IsMadeOf};
 ghost use Rattle.zarrs_chunk_base.specs.Metadata.{extension_of};
 ghost use Rattle.zarrs_chunk_base.specs.Refusal.{IfRefused};
 ghost use Rattle.zarrs_chunk_keys.specs.ChunkKey.{IsKey, default_keys};
-ghost use Rattle.zarrs_chunk_keys.specs.KeyKinds.{IsConfigurationOf, IsEncodingFaultOf, IsEncodingOf};
+ghost use Rattle.zarrs_chunk_keys.specs.KeyKinds.{key_kind};
 ghost use Rattle.zarrs_chunk_keys.specs.KeyKinds as kinds;
 ghost use Rattle.zarrs_chunk_keys.specs.lemmas.ExactKeys.{default_exact};
 ghost use Rattle.zarrs_chunk_keys.specs.seen.Encodings.{default_of};
@@ -103,18 +104,18 @@ impl ChunkKeyEncodingTraits for DefaultChunkKeyEncoding {
         metadata: &MetadataV3,
     ) -> Result<DefaultChunkKeyEncoding, Refusal<PluginCreateError>>
         ensures { MatchResult result
-            (λ encoding. IsEncodingOf kinds.default (extension_of metadata.now)
+            (λ encoding. IsMadeOf (key_kind kinds.default) (extension_of metadata.now) tt
             (default_of encoding))
-            (λ refusal. IfRefused refusal (IsEncodingFaultOf kinds.default
-            (extension_of metadata.now))) }
+            (λ refusal. IfRefused refusal (IsFaultOf (key_kind kinds.default)
+            (extension_of metadata.now) tt)) }
     {
         let configuration = DefaultChunkKeyEncodingConfiguration::from_metadata(alloc, metadata)?;
         Ok(DefaultChunkKeyEncoding::new(configuration.separator))
     }
 
     fn configuration(&self, alloc: Global) -> Result<Configuration, AllocError>
-        ensures { IfOk result (λ c. IsConfigurationOf kinds.default (default_of self.now)
-            (members_view c.entries)) }
+        ensures { IfOk result (λ c. IsConfigurationOf (key_kind kinds.default) tt
+            (default_of self.now) (members_view c.entries)) }
     {
         let separator = self.separator;
         DefaultChunkKeyEncodingConfiguration { separator }.to_tree(alloc)

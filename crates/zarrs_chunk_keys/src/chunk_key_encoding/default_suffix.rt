@@ -13,11 +13,12 @@
 //! | Differs from zarrs | a suffix that ends in a slash is refused, since a store key doesn't end in one |
 ghost use Rattle.std.specs.Prelude.{◌≡◌, ◌++◌, ℕ, IfOk, List, MatchResult, OnOk, string_bytes};
 ghost use Rattle.serde_json.specs.View.{members_view};
+ghost use Rattle.zarrs_chunk_base.specs.Kinds.{IsConfigurationOf, IsFaultOf, IsMadeOf};
 ghost use Rattle.zarrs_chunk_base.specs.Metadata.{extension_of};
 ghost use Rattle.zarrs_chunk_base.specs.Refusal.{IfRefused};
 ghost use Rattle.zarrs_chunk_base.specs.StoreKey.{EndsInSlash};
 ghost use Rattle.zarrs_chunk_keys.specs.ChunkKey.{IsKey, suffixed_keys};
-ghost use Rattle.zarrs_chunk_keys.specs.KeyKinds.{IsConfigurationOf, IsEncodingFaultOf, IsEncodingOf};
+ghost use Rattle.zarrs_chunk_keys.specs.KeyKinds.{key_kind};
 ghost use Rattle.zarrs_chunk_keys.specs.KeyKinds as kinds;
 ghost use Rattle.zarrs_chunk_keys.specs.lemmas.ExactKeys.{suffixed_exact};
 ghost use Rattle.zarrs_chunk_keys.specs.seen.Encodings.{suffixed_of};
@@ -106,10 +107,10 @@ impl ChunkKeyEncodingTraits for DefaultSuffixChunkKeyEncoding {
         metadata: &MetadataV3,
     ) -> Result<DefaultSuffixChunkKeyEncoding, Refusal<PluginCreateError>>
         ensures { MatchResult result
-            (λ encoding. IsEncodingOf kinds.default_suffix (extension_of metadata.now)
+            (λ encoding. IsMadeOf (key_kind kinds.default_suffix) (extension_of metadata.now) tt
             (suffixed_of encoding))
-            (λ refusal. IfRefused refusal (IsEncodingFaultOf kinds.default_suffix
-            (extension_of metadata.now))) }
+            (λ refusal. IfRefused refusal (IsFaultOf (key_kind kinds.default_suffix)
+            (extension_of metadata.now) tt)) }
     {
         let configuration = DefaultSuffixChunkKeyEncodingConfiguration::from_metadata(
             alloc, metadata,
@@ -125,8 +126,8 @@ impl ChunkKeyEncodingTraits for DefaultSuffixChunkKeyEncoding {
     }
 
     fn configuration(&self, alloc: Global) -> Result<Configuration, AllocError>
-        ensures { IfOk result (λ c. IsConfigurationOf kinds.default_suffix (suffixed_of self.now)
-            (members_view c.entries)) }
+        ensures { IfOk result (λ c. IsConfigurationOf (key_kind kinds.default_suffix) tt
+            (suffixed_of self.now) (members_view c.entries)) }
     {
         let configuration = DefaultSuffixChunkKeyEncodingConfiguration {
             separator: self.keys.separator(),

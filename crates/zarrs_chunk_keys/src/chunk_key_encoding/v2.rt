@@ -13,10 +13,11 @@
 ghost use Rattle.std.specs.Prelude.{◌≡◌, ◌++◌, ℕ, IfOk, List, MatchResult, OnOk, string_bytes};
 ghost use Rattle.serde_json.specs.View.{members_view};
 ghost use Rattle.zarrs_chunk_base.specs.declared.chunk_key_separator.ChunkKeySeparator.TheVariants.{Dot, Slash};
+ghost use Rattle.zarrs_chunk_base.specs.Kinds.{IsConfigurationOf, IsFaultOf, IsMadeOf};
 ghost use Rattle.zarrs_chunk_base.specs.Metadata.{extension_of};
 ghost use Rattle.zarrs_chunk_base.specs.Refusal.{IfRefused};
 ghost use Rattle.zarrs_chunk_keys.specs.ChunkKey.{IsKey, v2_keys};
-ghost use Rattle.zarrs_chunk_keys.specs.KeyKinds.{IsConfigurationOf, IsEncodingFaultOf, IsEncodingOf};
+ghost use Rattle.zarrs_chunk_keys.specs.KeyKinds.{key_kind};
 ghost use Rattle.zarrs_chunk_keys.specs.KeyKinds as kinds;
 ghost use Rattle.zarrs_chunk_keys.specs.lemmas.ExactKeys.{v2_exact};
 ghost use Rattle.zarrs_chunk_keys.specs.seen.Encodings.{v2_of};
@@ -99,17 +100,18 @@ impl ChunkKeyEncodingTraits for V2ChunkKeyEncoding {
         metadata: &MetadataV3,
     ) -> Result<V2ChunkKeyEncoding, Refusal<PluginCreateError>>
         ensures { MatchResult result
-            (λ encoding. IsEncodingOf kinds.v2 (extension_of metadata.now) (v2_of encoding))
-            (λ refusal. IfRefused refusal (IsEncodingFaultOf kinds.v2
-            (extension_of metadata.now))) }
+            (λ encoding. IsMadeOf (key_kind kinds.v2) (extension_of metadata.now) tt
+            (v2_of encoding))
+            (λ refusal. IfRefused refusal (IsFaultOf (key_kind kinds.v2)
+            (extension_of metadata.now) tt)) }
     {
         let configuration = V2ChunkKeyEncodingConfiguration::from_metadata(alloc, metadata)?;
         Ok(V2ChunkKeyEncoding::new(configuration.separator))
     }
 
     fn configuration(&self, alloc: Global) -> Result<Configuration, AllocError>
-        ensures { IfOk result (λ c. IsConfigurationOf kinds.v2 (v2_of self.now)
-            (members_view c.entries)) }
+        ensures { IfOk result (λ c. IsConfigurationOf (key_kind kinds.v2) tt
+            (v2_of self.now) (members_view c.entries)) }
     {
         let separator = self.separator;
         V2ChunkKeyEncodingConfiguration { separator }.to_tree(alloc)
