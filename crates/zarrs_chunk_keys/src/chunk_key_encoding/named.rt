@@ -8,7 +8,7 @@
 //!
 //! Unlike zarrs, no encoding registers itself, and no name has an alias: an encoding of another crate is passed to functions over
 //! [`ChunkKeyEncodingTraits`] as it is.
-ghost use Rattle.std.specs.Prelude.{◌≡◌, ◌++◌, ℕ, IfOk, List, MatchResult, OnOk, string_bytes};
+ghost use Rattle.std.specs.Prelude.{◌≡◌, IfOk, MatchResult};
 ghost use Rattle.serde_json.specs.View.{members_view};
 ghost use Rattle.zarrs_chunk_base.specs.Kinds.{IsConfigurationOf, IsMetadata};
 ghost use Rattle.zarrs_chunk_base.specs.Metadata.{extension_of};
@@ -114,18 +114,6 @@ impl ChunkKeyEncoding {
         })
     }
 
-    /// Appends the key of a chunk to a text, for callers that write many.
-    ///
-    /// # Errors
-    /// Out of memory; the text then ends in a beginning of the key.
-    pub fn append_key(&self, text: &mut String, chunk_indices: &[u64]) -> Result<(), AllocError>
-        ensures { OnOk result ((key : List ℕ)
-            × IsKey (encoding_in self.now) chunk_indices.now key
-            × (string_bytes text.new ≡ string_bytes text.old ++ key)) }
-    {
-        inside!(self, encoding => encoding.append_key(text, chunk_indices))
-    }
-
     /// The extension's name.
     fn name(&self) -> &'static str
         ensures { result.now ≡ (key_kind (kind_of (encoding_in self.now))).name }
@@ -165,6 +153,10 @@ impl ChunkKeyEncodingTraits for ChunkKeyEncoding {
 
     fn encode(&self, alloc: Global, chunk_indices: &[u64]) -> Result<StoreKey, AllocError> {
         inside!(self, encoding => encoding.encode(alloc, chunk_indices))
+    }
+
+    fn append_key(&self, text: &mut String, chunk_indices: &[u64]) -> Result<(), AllocError> {
+        inside!(self, encoding => encoding.append_key(text, chunk_indices))
     }
 }
 
