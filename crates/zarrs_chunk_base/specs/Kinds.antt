@@ -18,9 +18,9 @@ pub record Kind (G M : Type 0) : Type 1 where
   pub table : Table
   pub value : Members → Option Said
   pub written : Said → Members
-  -- a configuration that is made anew says this
+  -- it is said in the form in which the kind writes it
   pub is_written : Said → Type 0
-  -- there is something that is made of what is given and said, and what that is
+  -- something is made of what is given and said, and this is what
   pub accepts : G → Said → Type 0
   pub makes : M → G → Said → Type 0
   -- the text says that nothing is made
@@ -29,7 +29,7 @@ pub record Kind (G M : Type 0) : Type 1 where
 -- ---- of one kind
 
 module _ {G M : Type 0} (kind : Kind G M) where
-  -- what is made of what is given and what the extension's configuration stands for
+  -- what is made of what is given and of what the extension's configuration stands for
   abbrev pub IsMadeOf : Extension → G → M → Type 0
   IsMadeOf e given made =
       (x : kind.Said) × IsConfiguration kind.table kind.value (configuration_of e) x × kind.accepts given x × kind.makes made given x
@@ -41,7 +41,7 @@ module _ {G M : Type 0} (kind : Kind G M) where
   IsFaultOf e given (Other text) =
       kind.refuses (string_bytes text) × (x : kind.Said) × IsConfiguration kind.table kind.value (configuration_of e) x × ¬ kind.accepts given x
 
-  -- the members say what something was made of, and are written as such
+  -- the members say what something was made of, as the kind writes it
   abbrev pub IsConfigurationOf : G → M → Members → Type 0
   IsConfigurationOf given made members =
       (x : kind.Said) × kind.accepts given x × kind.makes made given x × kind.is_written x × (members ≡ kind.written x)
@@ -54,14 +54,14 @@ module _ {G M : Type 0} (kind : Kind G M) where
     pub configuration : e.configuration ≡ Some members
     pub is_configuration : IsConfigurationOf given made members
 
-  -- what is made of an extension of this name
+  -- the extension has the kind's name, and this is made of it
   abbrev pub IsOf : Extension → G → M → Type 0
   IsOf e given made = (e.name ≡ kind.name) × IsMadeOf e given made
 
 -- ---- of several kinds, by name
 
 module _ {K G M : Type 0} (kind : K → Kind G M) where
-  -- what the kind of the extension's name makes
+  -- what some kind makes of the extension, which has its name
   abbrev pub IsMade : Extension → G → M → Type 0
   IsMade e given made = (k : K) × IsOf (kind k) e given made
 

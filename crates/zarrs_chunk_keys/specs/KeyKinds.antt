@@ -9,13 +9,14 @@ use Rattle.zarrs_chunk_base.specs.Metadata.{Extension}
 use Rattle.zarrs_chunk_base.specs.StoreKey.{EndsInSlash}
 use Rattle.zarrs_chunk_keys.specs.ChunkKey.{Encoding, default_keys, suffixed_keys, v2_keys}
 
+-- the kinds
 pub data KeyKind : Type 0 where
   default : KeyKind
   v2 : KeyKind
   default_suffix : KeyKind
 
--- what each kind is: nothing is given beside its metadata, and a key doesn't end in a slash, so a suffix doesn't; nothing is said of
--- the text that refuses one
+-- What each kind is. Nothing is given beside the metadata. A key doesn't end in a slash, and so a suffix doesn't; nothing is said
+-- of the text that refuses one.
 abbrev pub key_kind : KeyKind → Kind (Unit {0}) Encoding
 key_kind default = record {
   name = codes "default";
@@ -51,7 +52,7 @@ key_kind default_suffix = record {
   refuses = λ _. Unit {0};
 }
 
--- the kinds, as a name is sought among them
+-- the kinds, in the order in which a name is sought among them
 abbrev pub key_kinds : List KeyKind
 key_kinds = default ∷ v2 ∷ default_suffix ∷ []
 
