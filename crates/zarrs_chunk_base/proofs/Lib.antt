@@ -3,6 +3,7 @@ pub mod Copies
 pub mod Extensions
 pub mod FirstMembers
 pub mod InEach
+pub mod KindsByName
 pub mod KnownNames
 pub mod MappedErrors
 pub mod Refusals

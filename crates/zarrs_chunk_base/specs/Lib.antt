@@ -11,6 +11,7 @@ pub mod Grid
 pub mod GridConfigurations
 pub mod Json
 pub mod KeyConfigurations
+pub mod Kinds
 pub mod Metadata
 pub mod Refusal
 pub mod RunLength

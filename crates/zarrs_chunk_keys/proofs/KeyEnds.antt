@@ -1,5 +1,5 @@
 -- Keys end in `c`, in a digit or in a suffix, and not in a slash.
-use Rattle.std.proofs.Common.{◌≡◌, ◌∙◌, ℕ, ◌<◌, List, [], ◌∷◌, ◌++◌, Result, Ok, Err, MatchResult, IsOk, refl, ap, append-nil, sym, subst, arith}
+use Rattle.std.proofs.Common.{◌≡◌, ◌∙◌, ℕ, ◌<◌, List, [], ◌∷◌, ◌++◌, refl, ap, append-nil, sym, subst, arith}
 use Rattle.zarrs_chunk_base.specs.ChunkKeySeparator.{separator_byte}
 use Rattle.zarrs_chunk_base.specs.StoreKey.{EndsInSlash}
 use Rattle.zarrs_chunk_base.specs.declared.chunk_key_separator.ChunkKeySeparator.{ChunkKeySeparator}
@@ -56,8 +56,3 @@ pub suffixed_has_no_slash : (separator : ChunkKeySeparator) (suffix chunk key : 
     → ¬ EndsInSlash key
 suffixed_has_no_slash separator suffix chunk key none (suffixed {front = front} is ends) =
     subst (λ text. ¬ EndsInSlash text) (sym ends) (behind_no_slash front suffix (default_past separator chunk front 99 is) none)
-
--- what is refused for a reason that doesn't hold isn't refused
-pub ok_unless : {T E : Type 0} (r : Result T E) (P : T → Type 0) (Q : E → Type 0) → MatchResult r P Q → ((e : E) → ¬ Q e) → IsOk r
-ok_unless (Ok x) P Q h never = refl
-ok_unless (Err e) P Q h never = absurd (never e h)

@@ -1,5 +1,5 @@
 pub mod KeyEnds
-pub mod KeyNames
+pub mod KeysByName
 pub mod Keys
 pub mod NumeralLemmas
 mod OneKey

@@ -2,9 +2,10 @@
 pub(crate) mod default;
 pub(crate) mod default_suffix;
 pub(crate) mod named;
+pub(crate) mod of_kind;
 pub(crate) mod v2;
 
-ghost use Rattle.std.specs.Prelude.{◌≡◌, ℕ, IfOk, List, length};
+ghost use Rattle.std.specs.Prelude.{◌≡◌, ◌++◌, ℕ, IfOk, List, OnOk, length, string_bytes};
 ghost use Rattle.zarrs_chunk_base.specs.Greatest.{AllFit};
 
 use std::alloc::{AllocError, Global};
@@ -37,6 +38,20 @@ pub trait ChunkKeyEncodingTraits: Sized + Drop {
     /// Out of memory.
     fn encode(&self, alloc: Global, chunk_indices: &[u64]) -> Result<StoreKey, AllocError>
         ensures { IfOk result (is_key self.now chunk_indices.now) };
+
+    /// Appends the key of a chunk to a text, for callers that write many. Here it is copied from what
+    /// [`encode`](ChunkKeyEncodingTraits::encode) gives; an encoding that can write it in place does so.
+    ///
+    /// # Errors
+    /// Out of memory; the text then has what it had, and after it what was written by then.
+    fn append_key(&self, text: &mut String, chunk_indices: &[u64]) -> Result<(), AllocError>
+        ensures appended { OnOk result ((key : List ℕ) × is_key self.now chunk_indices.now key
+            × (string_bytes text.new ≡ string_bytes text.old ++ key)) }
+        ensures kept { (rest : List ℕ) × (string_bytes text.new ≡ string_bytes text.old ++ rest) }
+    {
+        let key = self.encode(*text.allocator(), chunk_indices)?;
+        text.push_str(key.as_str())
+    }
 
     /// Equal keys of equally long lists of 64-bit numbers come from equal lists.
     ghost exact: { (encoding : Self) (chunk other key : List ℕ) → AllFit chunk → AllFit other

@@ -14,6 +14,7 @@
 //! |---|---|
 //! | `chunk_key_encoding` | the trait of all encodings |
 //! | `chunk_key_encoding::default`, `v2`, `default_suffix` | the encodings |
+//! | `chunk_key_encoding::of_kind` | what all of these answer |
 //! | `chunk_key_encoding::named` | an encoding of any of these kinds, by its extension's name |
 //! | `chunk_key_suffix_error` | a text that is no suffix |
 //! | `numerals` | numbers as decimal text |

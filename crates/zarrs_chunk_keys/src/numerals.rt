@@ -1,5 +1,5 @@
 //! Numbers as decimal text.
-ghost use Rattle.std.specs.Prelude.{◌≡◌, ◌++◌, ◌<◌, List, ℕ, OnOk, string_bytes};
+ghost use Rattle.std.specs.Prelude.{◌≡◌, ◌++◌, ◌<◌, List, ℕ, OnErr, OnOk, string_bytes};
 ghost use Rattle.zarrs_chunk_keys.specs.Numeral.{IsNumeral, IsNumerals};
 
 use std::alloc::AllocError;
@@ -15,10 +15,11 @@ pub(crate) fn room_for(numbers: &[u64], beside: usize) -> usize {
 /// Appends a number's digits to a text.
 ///
 /// # Errors
-/// Out of memory; the text is as it was.
+/// Out of memory.
 pub(crate) fn append_numeral(text: &mut String, number: u64) -> Result<(), AllocError>
-    ensures { OnOk result ((numeral : List ℕ) × IsNumeral number numeral
+    ensures appended { OnOk result ((numeral : List ℕ) × IsNumeral number numeral
         × (string_bytes text.new ≡ string_bytes text.old ++ numeral)) }
+    ensures unchanged { OnErr result (string_bytes text.new ≡ string_bytes text.old) }
 {
     text.push_str(itoa::Buffer::new().format(number))?;
     Ok(())
@@ -27,11 +28,12 @@ pub(crate) fn append_numeral(text: &mut String, number: u64) -> Result<(), Alloc
 /// Appends to a text, for each number, the ASCII character and the number's digits.
 ///
 /// # Errors
-/// Out of memory; the text then ends in a beginning of this.
+/// Out of memory; the text then has what it had, and after it what was written by then.
 pub fn append_numerals(text: &mut String, before: char, numbers: &[u64]) -> Result<(), AllocError>
     requires { before < 128 }
-    ensures { OnOk result ((numerals : List ℕ) × IsNumerals before numbers.now numerals
+    ensures appended { OnOk result ((numerals : List ℕ) × IsNumerals before numbers.now numerals
         × (string_bytes text.new ≡ string_bytes text.old ++ numerals)) }
+    ensures kept { (rest : List ℕ) × (string_bytes text.new ≡ string_bytes text.old ++ rest) }
 {
     let mut buffer = itoa::Buffer::new();
     for number in numbers {

@@ -10,23 +10,18 @@
 //! | Configuration | `separator`, `/` or `.`; where it is absent, `/` |
 //! | Keys | of the chunk `[3, 2, 16]` `c/3/2/16` or `c.3.2.16`; of the chunk without numbers `c` |
 //! | Differs from zarrs | in no key; an unknown member of the configuration is always refused |
-ghost use Rattle.std.specs.Prelude.{◌≡◌, ◌++◌, ℕ, IfOk, List, MatchResult, OnOk, string_bytes};
-ghost use Rattle.serde_json.specs.View.{members_view};
+ghost use Rattle.std.specs.Prelude.{◌≡◌};
 ghost use Rattle.zarrs_chunk_base.specs.declared.chunk_key_separator.ChunkKeySeparator.TheVariants.{Dot, Slash};
-ghost use Rattle.zarrs_chunk_base.specs.Metadata.{extension_of};
-ghost use Rattle.zarrs_chunk_base.specs.Refusal.{IfRefused};
-ghost use Rattle.zarrs_chunk_keys.specs.ChunkKey.{IsKey, default_keys};
-ghost use Rattle.zarrs_chunk_keys.specs.KeyKinds.{IsConfigurationOf, IsEncodingFaultOf, IsEncodingOf};
+ghost use Rattle.zarrs_chunk_keys.specs.ChunkKey.{default_keys};
 ghost use Rattle.zarrs_chunk_keys.specs.KeyKinds as kinds;
-ghost use Rattle.zarrs_chunk_keys.specs.lemmas.ExactKeys.{default_exact};
 ghost use Rattle.zarrs_chunk_keys.specs.seen.Encodings.{default_of};
 
-use crate::ChunkKeyEncodingTraits;
-use crate::numerals::{append_numerals, room_for};
+use crate::chunk_key_encoding::of_kind::OfKind;
+use crate::numerals::append_numerals;
 use std::alloc::{AllocError, Global};
 use zarrs_chunk_base::{
     ChunkKeySeparator, Configuration, ConfigurationForm, DefaultChunkKeyEncodingConfiguration,
-    MetadataV3, PluginCreateError, Refusal, StoreKey,
+    MetadataV3, PluginCreateError, Refusal,
 };
 
 /// The `default` encoding with a separator. The key of a chunk is `c`, and for each of its numbers the separator and the
@@ -60,12 +55,9 @@ impl DefaultChunkKeyEncoding {
         DefaultChunkKeyEncoding::new(ChunkKeySeparator::Slash)
     }
 
-    /// The same encoding.
-    ///
-    /// # Errors
-    /// None comes: the answer is that of every encoding's `clone`.
+    /// The same encoding. It never fails, and answers as every encoding's `clone`.
     pub fn clone(&self) -> Result<DefaultChunkKeyEncoding, AllocError>
-        ensures { IfOk result (λ copy. default_of copy ≡ default_of self.now) }
+        ensures { result ≡ Ok self.now }
     {
         Ok(*self)
     }
@@ -76,55 +68,30 @@ impl DefaultChunkKeyEncoding {
     {
         self.separator
     }
-
-    /// Appends the key of a chunk to a text, for callers that write many.
-    ///
-    /// # Errors
-    /// Out of memory; the text then ends in a beginning of the key.
-    pub fn append_key(&self, text: &mut String, chunk_indices: &[u64]) -> Result<(), AllocError>
-        ensures { OnOk result ((key : List ℕ)
-            × IsKey (default_of self.now) chunk_indices.now key
-            × (string_bytes text.new ≡ string_bytes text.old ++ key)) }
-    {
-        text.push('c')?;
-        append_numerals(text, self.separator.as_char(), chunk_indices)?;
-        Ok(())
-    }
 }
 
-impl ChunkKeyEncodingTraits for DefaultChunkKeyEncoding {
-    ghost is_key = { λ encoding. IsKey (default_of encoding) };
+impl OfKind for DefaultChunkKeyEncoding {
+    ghost kind = { kinds.default };
 
-    ghost exact = { λ encoding chunk other key fit other_fit same is also.
-        default_exact encoding.separator chunk other key is also };
+    ghost encoding = { default_of };
 
-    fn create(
+    fn of_metadata(
         alloc: Global,
         metadata: &MetadataV3,
-    ) -> Result<DefaultChunkKeyEncoding, Refusal<PluginCreateError>>
-        ensures { MatchResult result
-            (λ encoding. IsEncodingOf kinds.default (extension_of metadata.now)
-            (default_of encoding))
-            (λ refusal. IfRefused refusal (IsEncodingFaultOf kinds.default
-            (extension_of metadata.now))) }
-    {
+    ) -> Result<DefaultChunkKeyEncoding, Refusal<PluginCreateError>> {
         let configuration = DefaultChunkKeyEncodingConfiguration::from_metadata(alloc, metadata)?;
         Ok(DefaultChunkKeyEncoding::new(configuration.separator))
     }
 
-    fn configuration(&self, alloc: Global) -> Result<Configuration, AllocError>
-        ensures { IfOk result (λ c. IsConfigurationOf kinds.default (default_of self.now)
-            (members_view c.entries)) }
-    {
+    fn to_configuration(&self, alloc: Global) -> Result<Configuration, AllocError> {
         let separator = self.separator;
         DefaultChunkKeyEncodingConfiguration { separator }.to_tree(alloc)
     }
 
-    fn encode(&self, alloc: Global, chunk_indices: &[u64]) -> Result<StoreKey, AllocError> {
-        let mut key = String::with_capacity(alloc, room_for(chunk_indices, 1))?;
-        self.append_key(&mut key, chunk_indices)?;
-        // A key ends in `c` or a digit, so it is a store key.
-        Ok(StoreKey::new(key).unwrap())
+    fn append(&self, text: &mut String, chunk_indices: &[u64]) -> Result<(), AllocError> {
+        text.push('c')?;
+        append_numerals(text, self.separator.as_char(), chunk_indices)?;
+        Ok(())
     }
 }
 

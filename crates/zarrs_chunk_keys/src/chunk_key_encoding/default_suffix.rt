@@ -11,21 +11,15 @@
 //! | Accepted | the suffix doesn't end in a slash; it may be empty |
 //! | Keys | of the chunk `[3, 2, 16]` `c/3/2/16.tiff`; of the chunk without numbers `c.tiff` |
 //! | Differs from zarrs | a suffix that ends in a slash is refused, since a store key doesn't end in one |
-ghost use Rattle.std.specs.Prelude.{◌≡◌, ◌++◌, ℕ, IfOk, List, MatchResult, OnOk, string_bytes};
-ghost use Rattle.serde_json.specs.View.{members_view};
-ghost use Rattle.zarrs_chunk_base.specs.Metadata.{extension_of};
-ghost use Rattle.zarrs_chunk_base.specs.Refusal.{IfRefused};
+ghost use Rattle.std.specs.Prelude.{◌≡◌, IfOk, MatchResult, string_bytes};
 ghost use Rattle.zarrs_chunk_base.specs.StoreKey.{EndsInSlash};
-ghost use Rattle.zarrs_chunk_keys.specs.ChunkKey.{IsKey, suffixed_keys};
-ghost use Rattle.zarrs_chunk_keys.specs.KeyKinds.{IsConfigurationOf, IsEncodingFaultOf, IsEncodingOf};
+ghost use Rattle.zarrs_chunk_keys.specs.ChunkKey.{suffixed_keys};
 ghost use Rattle.zarrs_chunk_keys.specs.KeyKinds as kinds;
-ghost use Rattle.zarrs_chunk_keys.specs.lemmas.ExactKeys.{suffixed_exact};
 ghost use Rattle.zarrs_chunk_keys.specs.seen.Encodings.{suffixed_of};
 
-use crate::ChunkKeyEncodingTraits;
 use crate::chunk_key_encoding::default::DefaultChunkKeyEncoding;
+use crate::chunk_key_encoding::of_kind::OfKind;
 use crate::chunk_key_suffix_error::ChunkKeySuffixError;
-use crate::numerals::room_for;
 use std::alloc::{AllocError, Global};
 use zarrs_chunk_base::{
     ChunkKeySeparator, Configuration, ConfigurationForm,
@@ -79,38 +73,17 @@ impl DefaultSuffixChunkKeyEncoding {
             suffix: self.suffix.clone()?,
         })
     }
-
-    /// Appends the key of a chunk to a text, for callers that write many.
-    ///
-    /// # Errors
-    /// Out of memory; the text then ends in a beginning of the key.
-    pub fn append_key(&self, text: &mut String, chunk_indices: &[u64]) -> Result<(), AllocError>
-        ensures { OnOk result ((key : List ℕ)
-            × IsKey (suffixed_of self.now) chunk_indices.now key
-            × (string_bytes text.new ≡ string_bytes text.old ++ key)) }
-    {
-        self.keys.append_key(text, chunk_indices)?;
-        text.push_str(self.suffix.as_str())?;
-        Ok(())
-    }
 }
 
-impl ChunkKeyEncodingTraits for DefaultSuffixChunkKeyEncoding {
-    ghost is_key = { λ encoding. IsKey (suffixed_of encoding) };
+impl OfKind for DefaultSuffixChunkKeyEncoding {
+    ghost kind = { kinds.default_suffix };
 
-    ghost exact = { λ encoding chunk other key fit other_fit same is also.
-        suffixed_exact encoding.keys.separator encoding.suffix chunk other key is also };
+    ghost encoding = { suffixed_of };
 
-    fn create(
+    fn of_metadata(
         alloc: Global,
         metadata: &MetadataV3,
-    ) -> Result<DefaultSuffixChunkKeyEncoding, Refusal<PluginCreateError>>
-        ensures { MatchResult result
-            (λ encoding. IsEncodingOf kinds.default_suffix (extension_of metadata.now)
-            (suffixed_of encoding))
-            (λ refusal. IfRefused refusal (IsEncodingFaultOf kinds.default_suffix
-            (extension_of metadata.now))) }
-    {
+    ) -> Result<DefaultSuffixChunkKeyEncoding, Refusal<PluginCreateError>> {
         let configuration = DefaultSuffixChunkKeyEncodingConfiguration::from_metadata(
             alloc, metadata,
         )?;
@@ -124,10 +97,7 @@ impl ChunkKeyEncodingTraits for DefaultSuffixChunkKeyEncoding {
         }
     }
 
-    fn configuration(&self, alloc: Global) -> Result<Configuration, AllocError>
-        ensures { IfOk result (λ c. IsConfigurationOf kinds.default_suffix (suffixed_of self.now)
-            (members_view c.entries)) }
-    {
+    fn to_configuration(&self, alloc: Global) -> Result<Configuration, AllocError> {
         let configuration = DefaultSuffixChunkKeyEncodingConfiguration {
             separator: self.keys.separator(),
             suffix: String::from_str(alloc, self.suffix.as_str())?,
@@ -135,11 +105,13 @@ impl ChunkKeyEncodingTraits for DefaultSuffixChunkKeyEncoding {
         configuration.to_tree(alloc)
     }
 
-    fn encode(&self, alloc: Global, chunk_indices: &[u64]) -> Result<StoreKey, AllocError> {
-        let beside = self.suffix.as_str().len().saturating_add(1);
-        let mut key = String::with_capacity(alloc, room_for(chunk_indices, beside))?;
-        self.append_key(&mut key, chunk_indices)?;
-        // A key ends in `c`, a digit or the suffix, so it is a store key.
-        Ok(StoreKey::new(key).unwrap())
+    fn beside(&self) -> usize {
+        self.suffix.as_str().len().saturating_add(1)
+    }
+
+    fn append(&self, text: &mut String, chunk_indices: &[u64]) -> Result<(), AllocError> {
+        self.keys.append(text, chunk_indices)?;
+        text.push_str(self.suffix.as_str())?;
+        Ok(())
     }
 }

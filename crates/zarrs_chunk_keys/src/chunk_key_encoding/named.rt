@@ -8,12 +8,13 @@
 //!
 //! Unlike zarrs, no encoding registers itself, and no name has an alias: an encoding of another crate is passed to functions over
 //! [`ChunkKeyEncodingTraits`] as it is.
-ghost use Rattle.std.specs.Prelude.{◌≡◌, ◌++◌, ℕ, IfOk, List, MatchResult, OnOk, string_bytes};
+ghost use Rattle.std.specs.Prelude.{◌≡◌, IfOk, MatchResult};
 ghost use Rattle.serde_json.specs.View.{members_view};
+ghost use Rattle.zarrs_chunk_base.specs.Kinds.{IsConfigurationOf, IsMetadata};
 ghost use Rattle.zarrs_chunk_base.specs.Metadata.{extension_of};
 ghost use Rattle.zarrs_chunk_base.specs.Refusal.{IfRefused};
 ghost use Rattle.zarrs_chunk_keys.specs.ChunkKey.{IsKey};
-ghost use Rattle.zarrs_chunk_keys.specs.KeyNames.{IsEncoding, IsEncodingFault, IsItsConfiguration, IsMetadata, name_of};
+ghost use Rattle.zarrs_chunk_keys.specs.KeyKinds.{IsEncoding, IsEncodingFault, key_kind, kind_of};
 ghost use Rattle.zarrs_chunk_keys.specs.declared.chunk_key_encoding.named.ChunkKeyEncoding.TheVariants.{Default, DefaultSuffix, V2};
 ghost use Rattle.zarrs_chunk_keys.specs.lemmas.ExactKeys.{exact};
 ghost use Rattle.zarrs_chunk_keys.specs.seen.Encodings.{encoding_in};
@@ -88,7 +89,8 @@ impl ChunkKeyEncoding {
     /// # Errors
     /// Out of memory.
     pub fn metadata(&self, alloc: Global) -> Result<MetadataV3, AllocError>
-        ensures { IfOk result (λ metadata. IsMetadata (encoding_in self.now)
+        ensures { IfOk result (λ metadata. IsMetadata
+            (key_kind (kind_of (encoding_in self.now))) tt (encoding_in self.now)
             (extension_of metadata)) }
     {
         let name = String::from_str(alloc, self.name())?;
@@ -112,21 +114,9 @@ impl ChunkKeyEncoding {
         })
     }
 
-    /// Appends the key of a chunk to a text, for callers that write many.
-    ///
-    /// # Errors
-    /// Out of memory; the text then ends in a beginning of the key.
-    pub fn append_key(&self, text: &mut String, chunk_indices: &[u64]) -> Result<(), AllocError>
-        ensures { OnOk result ((key : List ℕ)
-            × IsKey (encoding_in self.now) chunk_indices.now key
-            × (string_bytes text.new ≡ string_bytes text.old ++ key)) }
-    {
-        inside!(self, encoding => encoding.append_key(text, chunk_indices))
-    }
-
     /// The extension's name.
     fn name(&self) -> &'static str
-        ensures { result.now ≡ name_of (encoding_in self.now) }
+        ensures { result.now ≡ (key_kind (kind_of (encoding_in self.now))).name }
     {
         match self {
             ChunkKeyEncoding::Default(_) => DEFAULT,
@@ -154,7 +144,8 @@ impl ChunkKeyEncodingTraits for ChunkKeyEncoding {
     }
 
     fn configuration(&self, alloc: Global) -> Result<Configuration, AllocError>
-        ensures { IfOk result (λ c. IsItsConfiguration (encoding_in self.now)
+        ensures { IfOk result (λ c. IsConfigurationOf
+            (key_kind (kind_of (encoding_in self.now))) tt (encoding_in self.now)
             (members_view c.entries)) }
     {
         inside!(self, encoding => encoding.configuration(alloc))
@@ -162,6 +153,10 @@ impl ChunkKeyEncodingTraits for ChunkKeyEncoding {
 
     fn encode(&self, alloc: Global, chunk_indices: &[u64]) -> Result<StoreKey, AllocError> {
         inside!(self, encoding => encoding.encode(alloc, chunk_indices))
+    }
+
+    fn append_key(&self, text: &mut String, chunk_indices: &[u64]) -> Result<(), AllocError> {
+        inside!(self, encoding => encoding.append_key(text, chunk_indices))
     }
 }
 

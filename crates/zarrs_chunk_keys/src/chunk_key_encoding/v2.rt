@@ -10,23 +10,18 @@
 //! | Configuration | `separator`, `/` or `.`; where it is absent, `.` |
 //! | Keys | of the chunk `[3, 2, 16]` `3.2.16` or `3/2/16`; of the chunk without numbers `0` |
 //! | Differs from zarrs | in no key; an unknown member of the configuration is always refused |
-ghost use Rattle.std.specs.Prelude.{◌≡◌, ◌++◌, ℕ, IfOk, List, MatchResult, OnOk, string_bytes};
-ghost use Rattle.serde_json.specs.View.{members_view};
+ghost use Rattle.std.specs.Prelude.{◌≡◌};
 ghost use Rattle.zarrs_chunk_base.specs.declared.chunk_key_separator.ChunkKeySeparator.TheVariants.{Dot, Slash};
-ghost use Rattle.zarrs_chunk_base.specs.Metadata.{extension_of};
-ghost use Rattle.zarrs_chunk_base.specs.Refusal.{IfRefused};
-ghost use Rattle.zarrs_chunk_keys.specs.ChunkKey.{IsKey, v2_keys};
-ghost use Rattle.zarrs_chunk_keys.specs.KeyKinds.{IsConfigurationOf, IsEncodingFaultOf, IsEncodingOf};
+ghost use Rattle.zarrs_chunk_keys.specs.ChunkKey.{v2_keys};
 ghost use Rattle.zarrs_chunk_keys.specs.KeyKinds as kinds;
-ghost use Rattle.zarrs_chunk_keys.specs.lemmas.ExactKeys.{v2_exact};
 ghost use Rattle.zarrs_chunk_keys.specs.seen.Encodings.{v2_of};
 
-use crate::ChunkKeyEncodingTraits;
-use crate::numerals::{append_numeral, append_numerals, room_for};
+use crate::chunk_key_encoding::of_kind::OfKind;
+use crate::numerals::{append_numeral, append_numerals};
 use std::alloc::{AllocError, Global};
 use zarrs_chunk_base::{
     ChunkKeySeparator, Configuration, ConfigurationForm, MetadataV3, PluginCreateError, Refusal,
-    StoreKey, V2ChunkKeyEncodingConfiguration,
+    V2ChunkKeyEncodingConfiguration,
 };
 
 /// The `v2` encoding with a separator. The key of a chunk is its numbers in decimal digits, with the separator between
@@ -60,24 +55,33 @@ impl V2ChunkKeyEncoding {
         V2ChunkKeyEncoding::new(ChunkKeySeparator::Slash)
     }
 
-    /// The same encoding.
-    ///
-    /// # Errors
-    /// None comes: the answer is that of every encoding's `clone`.
+    /// The same encoding. It never fails, and answers as every encoding's `clone`.
     pub fn clone(&self) -> Result<V2ChunkKeyEncoding, AllocError>
-        ensures { IfOk result (λ copy. v2_of copy ≡ v2_of self.now) }
+        ensures { result ≡ Ok self.now }
     {
         Ok(*self)
     }
+}
 
-    /// Appends the key of a chunk to a text, for callers that write many.
-    ///
-    /// # Errors
-    /// Out of memory; the text then ends in a beginning of the key.
-    pub fn append_key(&self, text: &mut String, chunk_indices: &[u64]) -> Result<(), AllocError>
-        ensures { OnOk result ((key : List ℕ) × IsKey (v2_of self.now) chunk_indices.now key
-            × (string_bytes text.new ≡ string_bytes text.old ++ key)) }
-    {
+impl OfKind for V2ChunkKeyEncoding {
+    ghost kind = { kinds.v2 };
+
+    ghost encoding = { v2_of };
+
+    fn of_metadata(
+        alloc: Global,
+        metadata: &MetadataV3,
+    ) -> Result<V2ChunkKeyEncoding, Refusal<PluginCreateError>> {
+        let configuration = V2ChunkKeyEncodingConfiguration::from_metadata(alloc, metadata)?;
+        Ok(V2ChunkKeyEncoding::new(configuration.separator))
+    }
+
+    fn to_configuration(&self, alloc: Global) -> Result<Configuration, AllocError> {
+        let separator = self.separator;
+        V2ChunkKeyEncodingConfiguration { separator }.to_tree(alloc)
+    }
+
+    fn append(&self, text: &mut String, chunk_indices: &[u64]) -> Result<(), AllocError> {
         let Some((first, others)) = chunk_indices.split_first() else {
             text.push('0')?;
             return Ok(());
@@ -85,41 +89,6 @@ impl V2ChunkKeyEncoding {
         append_numeral(text, *first)?;
         append_numerals(text, self.separator.as_char(), others)?;
         Ok(())
-    }
-}
-
-impl ChunkKeyEncodingTraits for V2ChunkKeyEncoding {
-    ghost is_key = { λ encoding. IsKey (v2_of encoding) };
-
-    ghost exact = { λ encoding chunk other key fit other_fit same is also.
-        v2_exact encoding.separator chunk other key same is also };
-
-    fn create(
-        alloc: Global,
-        metadata: &MetadataV3,
-    ) -> Result<V2ChunkKeyEncoding, Refusal<PluginCreateError>>
-        ensures { MatchResult result
-            (λ encoding. IsEncodingOf kinds.v2 (extension_of metadata.now) (v2_of encoding))
-            (λ refusal. IfRefused refusal (IsEncodingFaultOf kinds.v2
-            (extension_of metadata.now))) }
-    {
-        let configuration = V2ChunkKeyEncodingConfiguration::from_metadata(alloc, metadata)?;
-        Ok(V2ChunkKeyEncoding::new(configuration.separator))
-    }
-
-    fn configuration(&self, alloc: Global) -> Result<Configuration, AllocError>
-        ensures { IfOk result (λ c. IsConfigurationOf kinds.v2 (v2_of self.now)
-            (members_view c.entries)) }
-    {
-        let separator = self.separator;
-        V2ChunkKeyEncodingConfiguration { separator }.to_tree(alloc)
-    }
-
-    fn encode(&self, alloc: Global, chunk_indices: &[u64]) -> Result<StoreKey, AllocError> {
-        let mut key = String::with_capacity(alloc, room_for(chunk_indices, 1))?;
-        self.append_key(&mut key, chunk_indices)?;
-        // A key ends in a digit, so it is a store key.
-        Ok(StoreKey::new(key).unwrap())
     }
 }
 

@@ -2,7 +2,7 @@ use Rattle.std.proofs.Common.{◌<◌, ◌^◌, ◌++◌, ◌∙◌, decimal, ap
 use Rattle.zarrs_chunk_keys.proofs.NumeralLemmas.{IsNumeral-decimal}
 use Rattle.zarrs_chunk_keys.proofs.numerals.append_numeral.Goals as goal
 
-pub returns : goal.returns
-returns c =
+pub returns-clause-appended : goal.returns-clause-appended
+returns-clause-appended c =
     let fits : c.args.number < 2 ^ 64 = omega (arith, c.ranges.number.fits) in
     (decimal c.args.number, IsNumeral-decimal c.args.number fits, c.in_ok-push_str.ensures.bytes ∙ ap (λ t. string_bytes c.args.text.now ++ t) c.format.ensures.text)

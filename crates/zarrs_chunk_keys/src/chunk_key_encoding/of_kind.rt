@@ -1,0 +1,82 @@
+//! The encodings of one kind each, and what all of them answer.
+ghost use Rattle.std.specs.Prelude.{◌≡◌, ◌++◌, ℕ, IfOk, List, MatchResult, OnOk, string_bytes};
+ghost use Rattle.serde_json.specs.View.{members_view};
+ghost use Rattle.zarrs_chunk_base.specs.Kinds.{IsConfigurationOf, IsFaultOf, IsMadeOf};
+ghost use Rattle.zarrs_chunk_base.specs.Metadata.{extension_of};
+ghost use Rattle.zarrs_chunk_base.specs.Refusal.{IfRefused};
+ghost use Rattle.zarrs_chunk_base.specs.StoreKey.{EndsInSlash};
+ghost use Rattle.zarrs_chunk_keys.specs.ChunkKey.{Encoding, IsKey};
+ghost use Rattle.zarrs_chunk_keys.specs.KeyKinds.{KeyKind, key_kind};
+ghost use Rattle.zarrs_chunk_keys.specs.lemmas.ExactKeys as keys;
+
+use crate::ChunkKeyEncodingTraits;
+use crate::numerals::room_for;
+use std::alloc::{AllocError, Global};
+use zarrs_chunk_base::{Configuration, MetadataV3, PluginCreateError, Refusal, StoreKey};
+
+/// An encoding of one kind.
+pub(crate) trait OfKind: Sized + Drop {
+    /// Its kind.
+    ghost kind: { KeyKind };
+
+    /// What its value means.
+    ghost encoding: { Self → Encoding };
+
+    /// The encoding that the configuration in an extension's metadata says.
+    fn of_metadata(alloc: Global, metadata: &MetadataV3) -> Result<Self, Refusal<PluginCreateError>>
+        ensures { MatchResult result
+            (λ made. IsMadeOf (key_kind kind) (extension_of metadata.now) tt (encoding made))
+            (λ refusal. IfRefused refusal (IsFaultOf (key_kind kind)
+            (extension_of metadata.now) tt)) };
+
+    /// Its configuration, in the form in which one is written.
+    fn to_configuration(&self, alloc: Global) -> Result<Configuration, AllocError>
+        ensures { IfOk result (λ c. IsConfigurationOf (key_kind kind) tt (encoding self.now)
+            (members_view c.entries)) };
+
+    /// How many bytes a key has at most beside its numerals, each with a separator.
+    fn beside(&self) -> usize {
+        1
+    }
+
+    /// Appends the key of a chunk to a text. It is a store key.
+    fn append(&self, text: &mut String, chunk_indices: &[u64]) -> Result<(), AllocError>
+        ensures appended { OnOk result ((key : List ℕ)
+            × IsKey (encoding self.now) chunk_indices.now key × (¬ EndsInSlash key)
+            × (string_bytes text.new ≡ string_bytes text.old ++ key)) }
+        ensures kept { (rest : List ℕ) × (string_bytes text.new ≡ string_bytes text.old ++ rest) };
+}
+
+impl<E: OfKind> ChunkKeyEncodingTraits for E {
+    ghost is_key = { λ made. IsKey (E.encoding made) };
+
+    ghost exact = { λ made chunk other key fit other_fit same is also.
+        keys.exact (E.encoding made) chunk other key same is also };
+
+    fn create(alloc: Global, metadata: &MetadataV3) -> Result<E, Refusal<PluginCreateError>>
+        ensures { MatchResult result
+            (λ made. IsMadeOf (key_kind E.kind) (extension_of metadata.now) tt (E.encoding made))
+            (λ refusal. IfRefused refusal (IsFaultOf (key_kind E.kind)
+            (extension_of metadata.now) tt)) }
+    {
+        E::of_metadata(alloc, metadata)
+    }
+
+    fn configuration(&self, alloc: Global) -> Result<Configuration, AllocError>
+        ensures { IfOk result (λ c. IsConfigurationOf (key_kind E.kind) tt (E.encoding self.now)
+            (members_view c.entries)) }
+    {
+        self.to_configuration(alloc)
+    }
+
+    fn encode(&self, alloc: Global, chunk_indices: &[u64]) -> Result<StoreKey, AllocError> {
+        let mut key = String::with_capacity(alloc, room_for(chunk_indices, self.beside()))?;
+        self.append(&mut key, chunk_indices)?;
+        // A key doesn't end in a slash, so it is a store key.
+        Ok(StoreKey::new(key).unwrap())
+    }
+
+    fn append_key(&self, text: &mut String, chunk_indices: &[u64]) -> Result<(), AllocError> {
+        self.append(text, chunk_indices)
+    }
+}
