@@ -108,6 +108,28 @@ fn boxes_are_made(rt: HostRuntime) -> Result<(), Fail> {
 }
 
 #[test]
+fn boxes_of_a_thousand_dimensions_are_made(rt: HostRuntime) -> Result<(), Fail> {
+    let alloc = rt.alloc();
+    let row = Row {
+        start: &[3; 1000],
+        shape: &[2; 1000],
+        end_exc: &[5; 1000],
+        end_inc: Some(&[4; 1000]),
+    };
+    check_subset(&rt, &make(alloc, row.start, row.shape)??, &row)?;
+    let mut ranges = Vec::new(alloc);
+    for _ in 0..1000 {
+        ranges.push(3..5)?;
+    }
+    check_subset(&rt, &ArraySubset::new_with_ranges(alloc, &ranges)?, &row)?;
+    let zeros: [u64; 1000] = [0; 1000];
+    let empty = ArraySubset::new_empty(alloc, 1000)?;
+    assert_eq!(rt; empty.start(), zeros.as_slice());
+    assert_eq!(rt; empty.shape(), zeros.as_slice());
+    Ok(())
+}
+
+#[test]
 fn boxes_are_refused(rt: HostRuntime) -> Result<(), Fail> {
     let lengths = |given, expected| {
         ArraySubsetError::Lengths(IncompatibleDimensionalityError::new(given, expected))
