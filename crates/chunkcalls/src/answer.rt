@@ -3,7 +3,7 @@ ghost use Rattle.std.specs.Prelude.{◌≡◌, ◌==◌, if◌then◌else◌, If
 ghost use Rattle.chunkcalls.specs.Lines.{IsOneLine};
 
 use crate::line_fault::LineFault;
-use crate::question::Question;
+use crate::question::answer_question;
 use serde_json::Value;
 use std::alloc::{AllocError, Global};
 use zarrs_chunk_base::Refusal;
@@ -26,7 +26,7 @@ pub(crate) fn answer(alloc: Global, line: &[u8]) -> Result<Vec<u8>, AllocError>
 /// The tree of the answer to a line, or the first fault.
 fn answer_tree(alloc: Global, line: &[u8]) -> Result<Value, Refusal<LineFault>> {
     match Value::from_slice(alloc, line) {
-        Ok(tree) => Question::from_tree(alloc, &tree)?.answer(alloc),
+        Ok(tree) => answer_question(alloc, &tree),
         Err(error) if error.is_memory() => Err(Refusal::Memory(AllocError)),
         Err(_) => Err(Refusal::Refused(LineFault::NotJson)),
     }

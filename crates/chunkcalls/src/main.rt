@@ -16,8 +16,8 @@
 //! |---|---|
 //! | `program` | the whole program over any reader and writers: `run`, and then `finish` |
 //! | `answer` | the line that answers a line |
-//! | `question` | what a line asks |
-//! | `call` | the calls, by their names, and what each answers |
+//! | `question` | what a line asks, and what answers it |
+//! | `grid_question` | the calls of a chunk grid, by their names, and what each answers |
 //! | `extensions` | the chunk grid and the chunk key encoding that a line gives |
 //! | `start_shape` | a box as a line writes it |
 //! | `located` | where an element is stored, as a line writes it |
@@ -27,8 +27,8 @@
 #![tactic(auto)]
 
 mod answer;
-mod call;
 mod extensions;
+mod grid_question;
 mod line_fault;
 mod located;
 mod program;

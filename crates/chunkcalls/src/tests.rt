@@ -1,5 +1,7 @@
 //! What no contract and no row of `stdin` says: how inputs end, texts of several lines, and readers
 //! and writers that fail.
+mod at_size;
+
 use crate::program::{finish, run_to_status};
 use crate::run_fault::RunFault;
 use std::alloc::AllocError;

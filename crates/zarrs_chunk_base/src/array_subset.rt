@@ -8,8 +8,7 @@ ghost use Rattle.zarrs_chunk_base.specs.ArraySubset.{IsBox, IsEmptyBox, IsInside
 ghost use Rattle.zarrs_chunk_base.specs.ArraySubsetError.{IsBoxFault, IsFirstPast};
 ghost use Rattle.zarrs_chunk_base.specs.Greatest.{greatest, AllFit};
 
-use crate::array_subset_error::ArraySubsetError;
-use crate::box_end_error::BoxEndError;
+use crate::array_subset_error::{ArraySubsetError, BoxEndError};
 use crate::incompatible_dimensionality_error::IncompatibleDimensionalityError;
 use crate::{ArrayIndices, ArrayShape};
 use std::alloc::{AllocError, Global};

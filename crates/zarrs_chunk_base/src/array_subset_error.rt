@@ -1,5 +1,4 @@
-//! Why a start and a shape make no box.
-use crate::box_end_error::BoxEndError;
+//! Why there is no box.
 use crate::incompatible_dimensionality_error::IncompatibleDimensionalityError;
 use thiserror::Error;
 
@@ -12,4 +11,12 @@ pub enum ArraySubsetError {
     /// A range ends past the greatest number.
     #[error(transparent)]
     End(BoxEndError),
+}
+
+/// A box ends past 18446744073709551615.
+#[derive(Clone, Copy, Debug, PartialEq, Eq, Error)]
+#[error("box end exceeds 18446744073709551615 in dimension {dimension}")]
+pub struct BoxEndError {
+    /// The first dimension whose end is past the greatest number, counted from 0.
+    pub dimension: usize,
 }

@@ -14,8 +14,8 @@
 //!
 //! | Module | What it holds |
 //! |---|---|
-//! | `array_subset`, `array_subset_error`, `box_end_error` | a box of indices, and why there is none |
-//! | `store_key`, `store_key_error` | the key of a value in a store, and a text that is none |
+//! | `array_subset`, `array_subset_error` | a box of indices, and why there is none |
+//! | `store_key` | the key of a value in a store, and a text that is none |
 //! | `chunk_key_separator` | what stands between the parts of a chunk key |
 //! | `refusal` | a call's own refusal, or out of memory |
 //! | `incompatible_dimensionality_error` | a list of another length than there are dimensions |
@@ -35,7 +35,6 @@ use std::num::NonZeroU64;
 
 mod array_subset;
 mod array_subset_error;
-mod box_end_error;
 mod chunk_edge_lengths;
 mod chunk_key_separator;
 mod configuration_fault;
@@ -48,13 +47,9 @@ mod rectangular_chunk_grid_dimension_configuration;
 mod refusal;
 mod run_length_element;
 mod store_key;
-mod store_key_error;
-#[cfg(test)]
-mod tests;
 
 pub use array_subset::ArraySubset;
-pub use array_subset_error::ArraySubsetError;
-pub use box_end_error::BoxEndError;
+pub use array_subset_error::{ArraySubsetError, BoxEndError};
 pub use chunk_edge_lengths::ChunkEdgeLengths;
 pub use chunk_key_separator::ChunkKeySeparator;
 pub use configuration_fault::ConfigurationFault;
@@ -76,8 +71,7 @@ pub use plugin_create_error::PluginCreateError;
 pub use rectangular_chunk_grid_dimension_configuration::RectangularChunkGridDimensionConfiguration;
 pub use refusal::Refusal;
 pub use run_length_element::RunLengthElement;
-pub use store_key::StoreKey;
-pub use store_key_error::StoreKeyError;
+pub use store_key::{StoreKey, StoreKeyError};
 
 /// Indices of an element, or the numbers of a chunk, one a dimension.
 pub type ArrayIndices = Vec<u64>;

@@ -8,12 +8,12 @@ ghost use Rattle.std.specs.Ordering.{nat_cmp};
 ghost use Rattle.std.proofs.Common.{rules};
 ghost use Rattle.zarrs_chunk_base.specs.StoreKey.{EndsInSlash};
 
-use crate::store_key_error::StoreKeyError;
 use std::alloc::AllocError;
 use std::cmp::Ordering;
 use std::fmt;
 use std::hash::{Hash, Hasher};
 use std::marker::Model;
+use thiserror::Error;
 
 /// The key of a value in a store: any text that doesn't end in a slash. A contract sees it as
 /// its bytes.
@@ -120,5 +120,22 @@ impl fmt::Display for StoreKey {
 
     fn fmt<W: fmt::Write>(&self, f: &mut fmt::Formatter<W>) -> fmt::Result {
         f.write_str(self.as_str())
+    }
+}
+
+/// A text that ends in a slash, and so is no store key.
+#[derive(Debug, Drop, Error)]
+#[error("invalid store key {0}")]
+pub struct StoreKeyError(pub String);
+
+impl StoreKeyError {
+    /// The error about an equal text.
+    ///
+    /// # Errors
+    /// Out of memory.
+    pub fn clone(&self) -> Result<StoreKeyError, AllocError>
+        ensures { IfOk result (λ error. string_bytes error.0 ≡ string_bytes self.now.0) }
+    {
+        Ok(StoreKeyError(self.0.clone()?))
     }
 }

@@ -2,7 +2,7 @@
 //!
 //! Each look-up, box, cover, bound, walk and configuration of each kind of grid is a vector of `chunkcalls`.
 use serde_json::Value;
-use std::alloc::Global;
+use std::alloc::{AllocError, Global};
 use std::num::NonZeroU64;
 use std::ops::Range;
 use std::process::Abort;
@@ -42,22 +42,26 @@ fn metadata(alloc: Global, text: &str) -> Result<MetadataV3, Fail> {
     Ok(MetadataV3::from_tree(alloc, &tree)?)
 }
 
-/// A grid of five elements, where its second chunk ends, and its kind's name.
+/// A grid of five elements in each dimension, where its second chunks end, and its kind's name.
 type Row = (ChunkGrid, u64, &'static str);
 
-/// Five, in chunks of three and of two: each kind of grid, of one dimension.
-fn make_grids(alloc: Global) -> Result<[Row; 4], Fail> {
-    let array_shape = || [5].to_vec(alloc);
-    let regular = RegularChunkGrid::new(alloc, array_shape()?, edges(alloc, &[3])?)?;
-    let bounded = RegularBoundedChunkGrid::new(alloc, array_shape()?, edges(alloc, &[3])?)?;
+/// Five in each dimension, in chunks of three and of two: each kind of grid.
+fn make_grids(alloc: Global, dimensions: usize) -> Result<[Row; 4], Fail> {
+    let array_shape = || vec![in alloc; 5; dimensions];
+    let three = non_zero(3)?;
+    let threes = || vec![in alloc; three; dimensions];
+    let regular = RegularChunkGrid::new(alloc, array_shape()?, threes()?)?;
+    let bounded = RegularBoundedChunkGrid::new(alloc, array_shape()?, threes()?)?;
     let mut listed = Vec::new(alloc);
-    listed.push(RectangularChunkGridDimensionConfiguration::from(edges(alloc, &[3, 2])?))?;
-    let rectangular = RectangularChunkGrid::new(alloc, array_shape()?, &listed)?;
-    let mut elements = Vec::new(alloc);
-    elements.push(RunLengthElement::Single(non_zero(3)?))?;
-    elements.push(RunLengthElement::Repeated([non_zero(2)?, NonZeroU64::MIN]))?;
     let mut lengths = Vec::new(alloc);
-    lengths.push(ChunkEdgeLengths::Varying(elements))?;
+    for _ in 0..dimensions {
+        listed.push(RectangularChunkGridDimensionConfiguration::from(edges(alloc, &[3, 2])?))?;
+        let mut elements = Vec::new(alloc);
+        elements.push(RunLengthElement::Single(three))?;
+        elements.push(RunLengthElement::Repeated([non_zero(2)?, NonZeroU64::MIN]))?;
+        lengths.push(ChunkEdgeLengths::Varying(elements))?;
+    }
+    let rectangular = RectangularChunkGrid::new(alloc, array_shape()?, &listed)?;
     let rectilinear = RectilinearChunkGrid::new(alloc, array_shape()?, &lengths)?;
     Ok([
         (ChunkGrid::from(regular), 6, "regular"),
@@ -67,59 +71,94 @@ fn make_grids(alloc: Global) -> Result<[Row; 4], Fail> {
     ])
 }
 
-/// The answer is the box of these ranges.
+/// The box of one range in each dimension.
+fn box_of(alloc: Global, range: Range<u64>, dimensions: usize) -> Result<ArraySubset, AllocError> {
+    let mut ranges = Vec::new(alloc);
+    for _ in 0..dimensions {
+        ranges.push(range.start..range.end)?;
+    }
+    ArraySubset::new_with_ranges(alloc, &ranges)
+}
+
+/// The answer is the box of this range in each dimension.
 fn check_box(
     rt: &(impl Abort + AllocGlobal),
     answer: Result<Option<ArraySubset>, Refusal<IncompatibleDimensionalityError>>,
-    ranges: &[Range<u64>],
+    range: Range<u64>,
+    dimensions: usize,
 ) -> Result<(), Fail> {
     let found = answer?.ok_or("no box")?;
-    let expected = ArraySubset::new_with_ranges(rt.alloc(), ranges)?;
+    let expected = box_of(rt.alloc(), range, dimensions)?;
     assert!(rt; found == expected, "{found:?}, and not {expected:?}");
     Ok(())
 }
 
 /// Elements one after another, found in one memory, and then a list of another length.
-fn check_homes(rt: &(impl Abort + AllocGlobal), grid: &ChunkGrid) -> Result<(), Fail> {
+fn check_homes(
+    rt: &(impl Abort + AllocGlobal),
+    grid: &ChunkGrid,
+    dimensions: usize,
+) -> Result<(), Fail> {
     let mut home = Home::new(rt.alloc());
     for (index, chunk, place) in [(4, 1, 1), (0, 0, 0), (2, 0, 2)] {
+        let indices = vec![in rt.alloc(); index; dimensions]?;
         assert!(rt;
-            grid.find_home(&[index], &mut home)?,
+            grid.find_home(&indices, &mut home)?,
             "no chunk holds {index}"
         );
-        assert_eq!(rt; home.chunk.as_slice(), [chunk].as_slice());
-        assert_eq!(rt; home.element.as_slice(), [place].as_slice());
+        assert_eq!(rt; home.chunk.len(), dimensions);
+        assert!(rt; home.chunk.iter().all(|number| *number == chunk));
+        assert_eq!(rt; home.element.len(), dimensions);
+        assert!(rt; home.element.iter().all(|number| *number == place));
     }
     assert!(rt; grid.find_home(&[], &mut home).is_err());
     Ok(())
 }
 
-/// Each law that makes a call, on a grid of five elements in a chunk of three and another one up to `end`, and homes.
-fn check_laws(rt: &(impl Abort + AllocGlobal), grid: &ChunkGrid, end: u64) -> Result<(), Fail> {
+/// Each law that makes a call, on a grid of five elements in each dimension, in a chunk of three and another one up to `end`, and
+/// homes.
+fn check_laws(
+    rt: &(impl Abort + AllocGlobal),
+    grid: &ChunkGrid,
+    end: u64,
+    dimensions: usize,
+) -> Result<(), Fail> {
     let alloc = rt.alloc();
-    let chunk = chunk_indices_names_the_home(alloc, grid, &[4])?.ok_or("no chunk")?;
-    assert_eq!(rt; chunk.as_slice(), [1].as_slice());
-    let chunks = ArraySubset::new_with_ranges(alloc, &[0..2])?;
+    let last = vec![in alloc; 4; dimensions]?;
+    let chunk = chunk_indices_names_the_home(alloc, grid, &last)?.ok_or("no chunk")?;
+    assert_eq!(rt; chunk.len(), dimensions);
+    assert!(rt; chunk.iter().all(|number| *number == 1));
+    let chunks = box_of(alloc, 0..2, dimensions)?;
     let union = the_box_of_chunks_is_the_union_of_their_boxes(alloc, grid, &chunks);
-    check_box(rt, union, &[0..end])?;
-    let elements = ArraySubset::new_with_ranges(alloc, &[3..5])?;
+    check_box(rt, union, 0..end, dimensions)?;
+    let elements = box_of(alloc, 3..5, dimensions)?;
     let met = the_cover_names_the_chunks_that_meet_a_box(alloc, grid, &elements);
-    check_box(rt, met, &[1..2])?;
+    check_box(rt, met, 1..2, dimensions)?;
     chunks_share_no_index(grid);
-    check_homes(rt, grid)
+    check_homes(rt, grid, dimensions)
 }
 
-#[test]
-fn grids_of_each_kind_are_asked(rt: HostRuntime) -> Result<(), Fail> {
-    for (grid, end, name) in &make_grids(rt.alloc())? {
-        check_laws(&rt, grid, *end)?;
-        check_laws(&rt, &grid.clone()?, *end)?;
+/// Each kind of grid, its copy, and the grid that is made again of its metadata.
+fn check_grids(rt: &(impl Abort + AllocGlobal), dimensions: usize) -> Result<(), Fail> {
+    for (grid, end, name) in &make_grids(rt.alloc(), dimensions)? {
+        check_laws(rt, grid, *end, dimensions)?;
+        check_laws(rt, &grid.clone()?, *end, dimensions)?;
         let again = a_grid_is_made_again_of_its_metadata(rt.alloc(), grid)?;
         assert_eq!(rt; again.metadata(rt.alloc())?.name(), *name);
         the_edges_determine_the_dimensions(grid, &again);
         grids_of_like_dimensions_answer_alike(grid, &again);
     }
     Ok(())
+}
+
+#[test]
+fn grids_of_each_kind_are_asked(rt: HostRuntime) -> Result<(), Fail> {
+    check_grids(&rt, 1)
+}
+
+#[test]
+fn grids_of_a_thousand_dimensions_are_asked(rt: HostRuntime) -> Result<(), Fail> {
+    check_grids(&rt, 1000)
 }
 
 #[test]
@@ -151,7 +190,7 @@ fn a_kind_of_grid_looks_at_no_name(rt: HostRuntime) -> Result<(), Fail> {
         ),
     ];
     for (grid, end) in &rows {
-        check_box(&rt, grid.subset(alloc, &[1]), &[3..*end])?;
+        check_box(&rt, grid.subset(alloc, &[1]), 3..*end, 1)?;
     }
     Ok(())
 }

@@ -30,8 +30,10 @@ pub struct DefaultSuffixChunkKeyEncodingConfiguration {
 }
 
 impl DefaultSuffixChunkKeyEncodingConfiguration {
-    ghost use Rattle.std.specs.Prelude.{◌≡◌, IfOk};
-    ghost use Rattle.zarrs_chunk_base.specs.KeyConfigurations.{suffixed_of};
+    ghost use Rattle.std.specs.Prelude.{◌≡◌, IfOk, string_bytes};
+    ghost use Rattle.serde_json.specs.Data.{object};
+    ghost use Rattle.serde_json.specs.Written.{compact_text};
+    ghost use Rattle.zarrs_chunk_base.specs.KeyConfigurations.{suffix_members, suffixed_of};
 
     /// A configuration with the same separator and an equal suffix.
     ///
@@ -50,7 +52,10 @@ impl DefaultSuffixChunkKeyEncodingConfiguration {
     ///
     /// # Errors
     /// Out of memory.
-    pub fn to_text(&self, alloc: Global) -> Result<String, AllocError> {
+    pub fn to_text(&self, alloc: Global) -> Result<String, AllocError>
+        ensures { IfOk result (λ text. string_bytes text
+            ≡ compact_text (object (suffix_members (suffixed_of self.now)))) }
+    {
         Value::Object(self.to_tree(alloc)?).to_string(alloc)
     }
 }

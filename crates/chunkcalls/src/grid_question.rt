@@ -1,0 +1,181 @@
+//! The calls of a chunk grid, by their names, and what each answers.
+use crate::extensions::{make_encoding, make_grid};
+use crate::line_fault::LineFault;
+use crate::located::located_tree;
+use crate::question::{numbers, required_member};
+use crate::start_shape::{StartShape, box_tree, numbers_tree};
+use crate::walk_items::first_items;
+use serde_json::Value;
+use std::alloc::Global;
+use zarrs_chunk_base::{ArraySubset, IncompatibleDimensionalityError, Refusal, TreeForm};
+use zarrs_chunks::{ChunkGrid, ChunkGridTraits, locate};
+
+/// A call of the chunk grid of an array with this shape.
+#[derive(Drop)]
+pub(crate) struct GridQuestion<'t> {
+    /// The line's tree. What the call is asked of is its member `of`; how many items of a walk are given, its member `items`;
+    /// `locate` takes its member `chunk_key_encoding` too.
+    pub(crate) tree: &'t Value,
+    pub(crate) shape: Vec<u64>,
+    pub(crate) chunk_grid: &'t Value,
+    /// The name of the call.
+    pub(crate) call: &'t str,
+}
+
+/// Each call reads what it is asked of, and only then makes the grid.
+impl GridQuestion<'_> {
+    /// The tree of what the grid answers.
+    ///
+    /// # Errors
+    /// The first that applies: there is no such call; the call takes an argument, and that is missing or isn't of its form; the
+    /// grid can't be made; the call is asked of a box or an encoding that can't be made; the call refuses. Or out of memory.
+    pub(crate) fn answer(&self, alloc: Global) -> Result<Value, Refusal<LineFault>> {
+        match self.call {
+            "dimensionality" => Ok(Value::from(self.grid(alloc)?.dimensionality())),
+            "array_shape" => Ok(numbers_tree(alloc, self.grid(alloc)?.array_shape())?),
+            "grid_shape" => Ok(numbers_tree(alloc, self.grid(alloc)?.grid_shape())?),
+            "configuration" => Ok(Value::Object(self.grid(alloc)?.configuration(alloc)?)),
+            "metadata" => Ok(self.grid(alloc)?.metadata(alloc)?.to_tree(alloc)?),
+            "locate" => self.locate(alloc),
+            _ => self.answer_of_numbers(alloc),
+        }
+    }
+
+    /// The answer of a call that is asked of a chunk or of an index list, or of another one.
+    fn answer_of_numbers(&self, alloc: Global) -> Result<Value, Refusal<LineFault>> {
+        match self.call {
+            "chunk_shape" => {
+                let (chunk, grid) = self.numbers_and_grid(alloc)?;
+                list_or_null(alloc, grid.chunk_shape(alloc, &chunk))
+            }
+            "chunk_shape_u64" => {
+                let (chunk, grid) = self.numbers_and_grid(alloc)?;
+                list_or_null(alloc, grid.chunk_shape_u64(alloc, &chunk))
+            }
+            "chunk_origin" => {
+                let (chunk, grid) = self.numbers_and_grid(alloc)?;
+                list_or_null(alloc, grid.chunk_origin(alloc, &chunk))
+            }
+            "chunk_indices" => {
+                let (index, grid) = self.numbers_and_grid(alloc)?;
+                list_or_null(alloc, grid.chunk_indices(alloc, &index))
+            }
+            "chunk_element_indices" => {
+                let (index, grid) = self.numbers_and_grid(alloc)?;
+                list_or_null(alloc, grid.chunk_element_indices(alloc, &index))
+            }
+            "subset" => {
+                let (chunk, grid) = self.numbers_and_grid(alloc)?;
+                box_or_null(alloc, grid.subset(alloc, &chunk))
+            }
+            "chunk_indices_inbounds" => {
+                let (chunk, grid) = self.numbers_and_grid(alloc)?;
+                Ok(Value::from(grid.chunk_indices_inbounds(&chunk)))
+            }
+            "array_indices_inbounds" => {
+                let (index, grid) = self.numbers_and_grid(alloc)?;
+                Ok(Value::from(grid.array_indices_inbounds(&index)))
+            }
+            _ => self.answer_of_box(alloc),
+        }
+    }
+
+    /// The answer of a call that is asked of a box, or of another one.
+    fn answer_of_box(&self, alloc: Global) -> Result<Value, Refusal<LineFault>> {
+        match self.call {
+            "chunks_subset" => {
+                let (chunks, grid) = self.box_and_grid(alloc)?;
+                box_or_null(alloc, grid.chunks_subset(alloc, &chunks))
+            }
+            "chunks_in_array_subset" => {
+                let (elements, grid) = self.box_and_grid(alloc)?;
+                box_or_null(alloc, grid.chunks_in_array_subset(alloc, &elements))
+            }
+            _ => self.answer_of_walk(alloc),
+        }
+    }
+
+    /// The first items of a walk. There is no further call.
+    fn answer_of_walk(&self, alloc: Global) -> Result<Value, Refusal<LineFault>> {
+        match self.call {
+            "iter_chunk_indices" => {
+                let (most, grid) = self.items_and_grid(alloc)?;
+                Ok(first_items(alloc, grid.iter_chunk_indices(alloc), most)?)
+            }
+            "iter_chunk_subsets" => {
+                let (most, grid) = self.items_and_grid(alloc)?;
+                Ok(first_items(alloc, grid.iter_chunk_subsets(alloc), most)?)
+            }
+            "iter_chunk_indices_and_subsets" => {
+                let (most, grid) = self.items_and_grid(alloc)?;
+                let walk = grid.iter_chunk_indices_and_subsets(alloc);
+                Ok(first_items(alloc, walk, most)?)
+            }
+            name => {
+                let name = String::from_str(alloc, name)?;
+                Err(Refusal::Refused(LineFault::NoCall(name)))
+            }
+        }
+    }
+
+    /// Where the grid's array stores an element.
+    fn locate(&self, alloc: Global) -> Result<Value, Refusal<LineFault>> {
+        let encoding = required_member(self.tree, "chunk_key_encoding")?;
+        let (index, grid) = self.numbers_and_grid(alloc)?;
+        let encoding = make_encoding(alloc, encoding)?;
+        let located = locate(alloc, &grid, &encoding, &index);
+        match located.map_err(|refusal| refusal.map(LineFault::Lengths))? {
+            Some(located) => Ok(located_tree(alloc, &located)?),
+            None => Ok(Value::Null),
+        }
+    }
+
+    /// The grid.
+    fn grid(&self, alloc: Global) -> Result<ChunkGrid, Refusal<LineFault>> {
+        make_grid(alloc, self.chunk_grid, &self.shape)
+    }
+
+    /// The numbers that the call is asked of, and the grid.
+    fn numbers_and_grid(&self, alloc: Global) -> Result<(Vec<u64>, ChunkGrid), Refusal<LineFault>> {
+        let numbers = numbers(alloc, self.tree)?;
+        Ok((numbers, self.grid(alloc)?))
+    }
+
+    /// The box that the call is asked of, and the grid. A box that can't be made is a fault of the call's, and so comes after those
+    /// of the grid.
+    fn box_and_grid(&self, alloc: Global) -> Result<(ArraySubset, ChunkGrid), Refusal<LineFault>> {
+        let start_shape = StartShape::from_tree(alloc, required_member(self.tree, "of")?)?;
+        let start_shape = start_shape.ok_or(Refusal::Refused(LineFault::WrongValue("of")))?;
+        let grid = self.grid(alloc)?;
+        Ok((start_shape.into_box()?, grid))
+    }
+
+    /// How many items of a walk are given at most, and the grid.
+    fn items_and_grid(&self, alloc: Global) -> Result<(u64, ChunkGrid), Refusal<LineFault>> {
+        let most = u64::from_tree(alloc, required_member(self.tree, "items")?)?;
+        let most = most.ok_or(Refusal::Refused(LineFault::WrongValue("items")))?;
+        Ok((most, self.grid(alloc)?))
+    }
+}
+
+/// The tree of an answer that is a list, or `null` where there is none.
+fn list_or_null<T: TreeForm>(
+    alloc: Global,
+    answer: Result<Option<T>, Refusal<IncompatibleDimensionalityError>>,
+) -> Result<Value, Refusal<LineFault>> {
+    match answer.map_err(|refusal| refusal.map(LineFault::Lengths))? {
+        Some(list) => Ok(list.to_tree(alloc)?),
+        None => Ok(Value::Null),
+    }
+}
+
+/// The tree of an answer that is a box, or `null` where there is none.
+fn box_or_null(
+    alloc: Global,
+    answer: Result<Option<ArraySubset>, Refusal<IncompatibleDimensionalityError>>,
+) -> Result<Value, Refusal<LineFault>> {
+    match answer.map_err(|refusal| refusal.map(LineFault::Lengths))? {
+        Some(subset) => Ok(box_tree(alloc, &subset)?),
+        None => Ok(Value::Null),
+    }
+}
