@@ -1,7 +1,7 @@
 //! Where an element lies, and under which key its chunk is stored: in any grid, under any encoding.
 ghost use Rattle.std.specs.Prelude.{◌≢◌, ◌↔◌, ◌⊎◌, ℕ, IfErr, IfOk, IsTrue, List, length};
 ghost use Rattle.zarrs_chunk_base.specs.Dimension.{InBox};
-ghost use Rattle.zarrs_chunk_base.specs.Refusal.{Answers, IfRefused};
+ghost use Rattle.zarrs_chunk_base.specs.Refusal.{AnswersOrMemory, IfRefused};
 ghost use Rattle.zarrs_chunks.specs.Subsets.{HasNoHome};
 
 use std::alloc::Global;
@@ -17,7 +17,7 @@ pub fn key_of_element<G: ChunkGridTraits, E: ChunkKeyEncodingTraits>(
     encoding: &E,
     array_indices: &[u64],
 ) -> Result<Option<StoreKey>, Refusal<IncompatibleDimensionalityError>>
-    ensures { Answers (length array_indices.now) (length (G.dimensions grid.now))
+    ensures { AnswersOrMemory (length array_indices.now) (length (G.dimensions grid.now))
         (λ key. (chunk : List ℕ) × InBox (G.dimensions grid.now) chunk array_indices.now
         × E.is_key encoding.now chunk key)
         (HasNoHome (G.dimensions grid.now) array_indices.now) result }

@@ -3,7 +3,7 @@ ghost use Rattle.std.specs.Prelude.{MatchResult};
 ghost use Rattle.zarrs_chunk_base.specs.Metadata.{extension_of};
 ghost use Rattle.zarrs_chunk_base.specs.Refusal.{IfRefused};
 ghost use Rattle.zarrs_chunk_keys.specs.ChunkKey.{Encoding, IsKey};
-ghost use Rattle.zarrs_chunk_keys.specs.KeyNames.{IsEncoding, IsEncodingFault};
+ghost use Rattle.zarrs_chunk_keys.specs.KeyKinds.{IsEncoding, IsEncodingFault};
 
 use std::alloc::{AllocError, Global};
 use zarrs_chunk_base::{ArrayIndices, MetadataV3, PluginCreateError, Refusal, StoreKey};

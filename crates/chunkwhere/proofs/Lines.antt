@@ -5,7 +5,6 @@ use Rattle.zarrs_chunk_base.specs.declared.incompatible_dimensionality_error.Inc
 use Rattle.serde_json.specs.declared.value.Value.{Value}
 use Rattle.chunkwhere.specs.Answer.{HasLengthOf, IsFirstWrongLength}
 use Rattle.chunkwhere.specs.Document.{lists_in}
-use Rattle.zarrs_chunk_keys.specs.ChunkKey.{Encoding}
 use Rattle.zarrs_chunk_base.specs.Dimension.{Dimension}
 use Rattle.chunkwhere.specs.Output.{IsLine, IsOutput}
 use Rattle.zarrs_chunk_base.specs.Refusal.{TellsLengths}
@@ -16,13 +15,13 @@ none_left (t ∷ trees) none = absurd (omega arith)
 
 -- The text has the lines of all indices before the rest, which begins at the position: what holds of the
 -- rest holds, after the text, of all.
-pub record IsSoFar (ds : List Dimension) (encoding : Encoding) (all rest : List (List ℕ)) (position : ℕ) (text : List ℕ) : Type 0 where
+pub record IsSoFar (ds : List Dimension) (IsKey : List ℕ → List ℕ → Type 0) (all rest : List (List ℕ)) (position : ℕ) (text : List ℕ) : Type 0 where
   pub lengths : AllByRecursion (HasLengthOf ds) rest → AllByRecursion (HasLengthOf ds) all
-  pub output : (more : List ℕ) → IsOutput ds encoding rest more → IsOutput ds encoding all (text ++ more)
+  pub output : (more : List ℕ) → IsOutput ds IsKey rest more → IsOutput ds IsKey all (text ++ more)
   pub wrong : (n : ℕ) (e : IncompatibleDimensionalityError) → IsFirstWrongLength ds rest n e → IsFirstWrongLength ds all (position + n) e
 
-module _ (ds : List Dimension) (encoding : Encoding) (all : List (List ℕ)) where
-  pub so_far_at_start : (text : List ℕ) → text ≡ [] → IsSoFar ds encoding all all 0 text
+module _ (ds : List Dimension) (IsKey : List ℕ → List ℕ → Type 0) (all : List (List ℕ)) where
+  pub so_far_at_start : (text : List ℕ) → text ≡ [] → IsSoFar ds IsKey all all 0 text
   so_far_at_start text empty = record {
     lengths = λ h. h;
     output = λ more h. rw empty h;
@@ -30,13 +29,13 @@ module _ (ds : List Dimension) (encoding : Encoding) (all : List (List ℕ)) whe
   }
 
   pub so_far_with_line : (rest : List (List ℕ)) (position : ℕ) (text : List ℕ) (index line : List ℕ) (rest_after : List (List ℕ)) (text_after : List ℕ)
-      → IsSoFar ds encoding all rest position text → rest ≡ index ∷ rest_after → HasLengthOf ds index → IsLine ds encoding index line
-      → text_after ≡ text ++ line → IsSoFar ds encoding all rest_after (position + 1) text_after
+      → IsSoFar ds IsKey all rest position text → rest ≡ index ∷ rest_after → HasLengthOf ds index → IsLine ds IsKey index line
+      → text_after ≡ text ++ line → IsSoFar ds IsKey all rest_after (position + 1) text_after
   so_far_with_line rest position text index line rest_after text_after so_far first has_length is_line longer = record {
     lengths = λ h. so_far.lengths (subst (AllByRecursion (HasLengthOf ds)) (sym first) (has_length, h));
     output = λ more h.
-        let said = so_far.output (line ++ more) (subst (λ r. IsOutput ds encoding r (line ++ more)) (sym first) (line, more, is_line, h, refl)) in
-        subst (IsOutput ds encoding all) (sym (append_assoc text line more) ∙ ap (λ t. t ++ more) (sym longer)) said;
+        let said = so_far.output (line ++ more) (subst (λ r. IsOutput ds IsKey r (line ++ more)) (sym first) (line, more, is_line, h, refl)) in
+        subst (IsOutput ds IsKey all) (sym (append_assoc text line more) ∙ ap (λ t. t ++ more) (sym longer)) said;
     wrong = λ n e h.
         let said = so_far.wrong (suc n) e (subst (λ r. IsFirstWrongLength ds r (suc n) e) (sym first) (has_length, h)) in
         let same : position + suc n ≡ position + 1 + n = omega arith in
@@ -44,16 +43,16 @@ module _ (ds : List Dimension) (encoding : Encoding) (all : List (List ℕ)) whe
   }
 
   pub wrong_length_is_first : (rest : List (List ℕ)) (position : ℕ) (text : List ℕ) (index : List ℕ) (rest_after : List (List ℕ)) (e : IncompatibleDimensionalityError)
-      → IsSoFar ds encoding all rest position text → rest ≡ index ∷ rest_after → length index ≢ length ds → TellsLengths (length index) (length ds) e
+      → IsSoFar ds IsKey all rest position text → rest ≡ index ∷ rest_after → length index ≢ length ds → TellsLengths (length index) (length ds) e
       → IsFirstWrongLength ds all position e
   wrong_length_is_first rest position text index rest_after e so_far first unequal tells =
       let said = so_far.wrong 0 e (subst (λ r. IsFirstWrongLength ds r 0 e) (sym first) (unequal, tells)) in
       let same : position + 0 ≡ position = omega arith in
       subst (λ p. IsFirstWrongLength ds all p e) same said
 
-  pub so_far_at_end : (rest : List (List ℕ)) (position : ℕ) (text : List ℕ) → IsSoFar ds encoding all rest position text → rest ≡ []
-      → AllByRecursion (HasLengthOf ds) all × IsOutput ds encoding all text
+  pub so_far_at_end : (rest : List (List ℕ)) (position : ℕ) (text : List ℕ) → IsSoFar ds IsKey all rest position text → rest ≡ []
+      → AllByRecursion (HasLengthOf ds) all × IsOutput ds IsKey all text
   so_far_at_end rest position text so_far empty = (
     so_far.lengths (subst (AllByRecursion (HasLengthOf ds)) (sym empty) tt),
-    subst (IsOutput ds encoding all) (append-nil text) (so_far.output [] (subst (λ r. IsOutput ds encoding r []) (sym empty) refl)),
+    subst (IsOutput ds IsKey all) (append-nil text) (so_far.output [] (subst (λ r. IsOutput ds IsKey r []) (sym empty) refl)),
   )

@@ -2,20 +2,20 @@
 use Rattle.std.specs.Prelude.{◌≡◌, ◌≢◌, ℕ, zero, suc, List, [], ◌∷◌, length}
 use Rattle.std.specs.List.{AllByRecursion}
 use Rattle.chunkwhere.specs.declared.run_fault.RunFault.{RunFault}
-use Rattle.chunkwhere.specs.declared.run_fault.RunFault.TheVariants.{Grid, Encoding as EncodingFault, Index}
+use Rattle.chunkwhere.specs.declared.run_fault.RunFault.TheVariants.{Grid as GridFault, Encoding as EncodingFault, Index}
 use Rattle.zarrs_chunk_base.specs.declared.incompatible_dimensionality_error.IncompatibleDimensionalityError.{IncompatibleDimensionalityError}
-use Rattle.zarrs_chunks.specs.GridNames.{IsGrid, IsGridFault, dimensions_in}
-use Rattle.zarrs_chunks.specs.declared.chunk_grid.named.ChunkGrid.{ChunkGrid}
-use Rattle.zarrs_chunk_keys.specs.ChunkKey.{Encoding}
-use Rattle.zarrs_chunk_keys.specs.KeyNames.{IsEncoding, IsEncodingFault}
+use Rattle.zarrs_chunk_base.specs.Grid.{Grid}
+use Rattle.zarrs_chunks.specs.GridKinds.{IsGrid, IsGridFault}
+use Rattle.zarrs_chunk_keys.specs.ChunkKey.{Encoding, IsKey}
+use Rattle.zarrs_chunk_keys.specs.KeyKinds.{IsEncoding, IsEncodingFault}
 use Rattle.zarrs_chunk_base.specs.Dimension.{Dimension}
 use Rattle.chunkwhere.specs.Document.{Document}
 use Rattle.zarrs_chunk_base.specs.Refusal.{TellsLengths}
 use Rattle.chunkwhere.specs.Output.{IsOutput}
 
 -- the document's grid and encoding
-pub record HasParts (document : Document) (chunk_grid : ChunkGrid) (encoding : Encoding) : Type 0 where
-  pub grid : IsGrid document.chunk_grid document.shape chunk_grid
+pub record HasParts (document : Document) (grid : Grid) (encoding : Encoding) : Type 0 where
+  pub chunk_grid : IsGrid document.chunk_grid document.shape grid
   pub key_encoding : IsEncoding document.chunk_key_encoding encoding
 
 -- the index has a number for each dimension
@@ -35,17 +35,17 @@ IsIndexFault _ _ _ = ⊥
 
 -- the text that answers a document
 pub record IsAnswer (document : Document) (text : List ℕ) : Type 0 where
-  pub grid : ChunkGrid
+  pub grid : Grid
   pub encoding : Encoding
   pub parts : HasParts document grid encoding
-  pub lengths : AllByRecursion (HasLengthOf (dimensions_in grid)) document.indices
-  pub output : IsOutput (dimensions_in grid) encoding document.indices text
+  pub lengths : AllByRecursion (HasLengthOf grid.dimensions) document.indices
+  pub output : IsOutput grid.dimensions (IsKey encoding) document.indices text
 
 -- The first fault of a document that has no answer: the grid, the encoding, or the first index with a wrong length.
 abbrev pub IsAnswerFault : Document → RunFault → Type 0
-IsAnswerFault document (Grid fault) = IsGridFault document.chunk_grid document.shape fault
+IsAnswerFault document (GridFault fault) = IsGridFault document.chunk_grid document.shape fault
 IsAnswerFault document (EncodingFault fault) =
-    ((grid : ChunkGrid) × IsGrid document.chunk_grid document.shape grid) × IsEncodingFault document.chunk_key_encoding fault
+    ((grid : Grid) × IsGrid document.chunk_grid document.shape grid) × IsEncodingFault document.chunk_key_encoding fault
 IsAnswerFault document (Index position fault) =
-    (grid : ChunkGrid) × (encoding : Encoding) × HasParts document grid encoding × IsFirstWrongLength (dimensions_in grid) document.indices position fault
+    (grid : Grid) × (encoding : Encoding) × HasParts document grid encoding × IsFirstWrongLength grid.dimensions document.indices position fault
 IsAnswerFault document _ = ⊥

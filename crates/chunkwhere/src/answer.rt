@@ -2,8 +2,6 @@
 ghost use Rattle.std.specs.Prelude.{◌≡◌, ◌≢◌, ℕ, List, ◌++◌, codes, length, MatchResult, OnOk, string_bytes};
 ghost use Rattle.std.specs.List.{AllByRecursion};
 ghost use Rattle.chunkwhere.specs.Answer.{HasLengthOf, IsAnswer, IsAnswerFault, IsIndexFault};
-ghost use Rattle.zarrs_chunk_keys.specs.ChunkKey.{IsKey};
-ghost use Rattle.zarrs_chunk_keys.specs.seen.Encodings.{encoding_in};
 ghost use Rattle.chunkwhere.specs.Document.{document_of, lists_in};
 ghost use Rattle.zarrs_chunk_keys.specs.Numeral.{IsNumerals};
 ghost use Rattle.chunkwhere.specs.Output.{IsLine, IsOutput};
@@ -15,7 +13,7 @@ use crate::run_fault::RunFault;
 use serde_json::Value;
 use std::alloc::{AllocError, Global};
 use zarrs_chunk_base::{IncompatibleDimensionalityError, Refusal, read_list};
-use zarrs_chunk_keys::{ChunkKeyEncoding, append_numerals};
+use zarrs_chunk_keys::{ChunkKeyEncoding, ChunkKeyEncodingTraits, append_numerals};
 use zarrs_chunks::{ChunkGrid, ChunkGridTraits, Home};
 
 /// The whole text that answers a document, or the first fault.
@@ -31,15 +29,15 @@ pub(crate) fn answer(alloc: Global, document: Document) -> Result<String, RunFau
 }
 
 /// A line for each index list, which is given back once it is read.
-fn lines<G: ChunkGridTraits>(
+fn lines<G: ChunkGridTraits, E: ChunkKeyEncodingTraits>(
     alloc: Global,
     grid: &G,
-    encoding: &ChunkKeyEncoding,
+    encoding: &E,
     indices: Vec<Value>,
 ) -> Result<String, RunFault>
     ensures { MatchResult result
         (λ text. AllByRecursion (HasLengthOf (G.dimensions grid.now)) (lists_in indices.items)
-        × IsOutput (G.dimensions grid.now) (encoding_in encoding.now) (lists_in indices.items)
+        × IsOutput (G.dimensions grid.now) (E.is_key encoding.now) (lists_in indices.items)
         (string_bytes text))
         (OrMemory (IsIndexFault (G.dimensions grid.now) (lists_in indices.items))) }
 {
@@ -58,16 +56,16 @@ fn lines<G: ChunkGridTraits>(
 
 /// Appends the line of an index list: the key of its chunk and its place there, or `-` where no
 /// chunk holds it. `home` is for its memory alone.
-fn append_line<G: ChunkGridTraits>(
+fn append_line<G: ChunkGridTraits, E: ChunkKeyEncodingTraits>(
     text: &mut String,
     grid: &G,
-    encoding: &ChunkKeyEncoding,
+    encoding: &E,
     index: &[u64],
     home: &mut Home,
 ) -> Result<(), Refusal<IncompatibleDimensionalityError>>
     ensures { MatchResult result
         (λ _. HasLengthOf (G.dimensions grid.now) index.now
-        × (line : List ℕ) × IsLine (G.dimensions grid.now) (encoding_in encoding.now) index.now line
+        × (line : List ℕ) × IsLine (G.dimensions grid.now) (E.is_key encoding.now) index.now line
         × (string_bytes text.new ≡ string_bytes text.old ++ line))
         (λ refusal. IfRefused refusal (λ e. (length index.now ≢ length (G.dimensions grid.now))
         × TellsLengths (length index.now) (length (G.dimensions grid.now)) e)) }
@@ -81,13 +79,13 @@ fn append_line<G: ChunkGridTraits>(
 }
 
 /// Appends the key of a chunk and a place in it.
-fn append_key_and_place(
+fn append_key_and_place<E: ChunkKeyEncodingTraits>(
     text: &mut String,
-    encoding: &ChunkKeyEncoding,
+    encoding: &E,
     home: &Home,
 ) -> Result<(), AllocError>
     ensures { OnOk result ((key : List ℕ) × (numbers : List ℕ)
-        × IsKey (encoding_in encoding.now) home.now.chunk.items key
+        × E.is_key encoding.now home.now.chunk.items key
         × IsNumerals 32 home.now.element.items numbers × (string_bytes text.new
         ≡ string_bytes text.old ++ (key ++ numbers ++ codes "\n"))) }
 {

@@ -1,7 +1,6 @@
 use Rattle.std.proofs.Common.{◌≡◌, ◌≢◌, length, string_bytes, sym, ap, ◌∙◌, arith}
 use Rattle.std.proofs.lemmas.List.{map-id}
 use Rattle.std.proofs.lemmas.Result.{err_from_is_err_and}
-use Rattle.zarrs_chunk_keys.specs.seen.Encodings.{encoding_in}
 use Rattle.zarrs_chunk_base.specs.Refusal.{TellsLengths}
 use Rattle.zarrs_chunk_base.specs.declared.incompatible_dimensionality_error.IncompatibleDimensionalityError.{IncompatibleDimensionalityError}
 use Rattle.chunkwhere.specs.Answer.{IsFirstWrongLength}
@@ -28,7 +27,7 @@ returns-in_err-map_err g c =
     let wrong : (e : IncompatibleDimensionalityError) → (length c.deref.result.now ≢ length dimensions) → TellsLengths (length c.deref.result.now) (length dimensions) e
     → IsFirstWrongLength dimensions all c.in-Some.position e =
     λ e unequal tells.
-    rw position (wrong_length_is_first dimensions (encoding_in c.args.encoding.now) all _ _ (string_bytes c.loop-position.text) index _ e c.loop-position.invariant
+    rw position (wrong_length_is_first dimensions (g.E.ChunkKeyEncodingTraits.is_key c.args.encoding.now) all _ _ (string_bytes c.loop-position.text) index _ e c.loop-position.invariant
     (ap lists_in first) (rw read at unequal) (rw read at tells)) in
     let p = err_from_is_err_and c.from_residual-in_err-map_err.result c.from_residual-in_err-map_err.ensures.1 in
     rw (p.1, p.2) (grind (arith, wrong))
@@ -40,7 +39,7 @@ loop-position-preserved g c =
     let read : c.deref.result.now ≡ index = c.deref.ensures.value ∙ sym (map-id c.read_list.new.values.items) ∙ c.in_ok-read_list.ensures.values in
     let (has_length, line, is_line, text) =
     rw read at (value_is_kept _ _ _ _ _ _ c.append_line-appended.ensures c.map_err.ensures.cases c.map_err.ensures.variant c.in_ok-map_err.was) in
-    rw next (so_far_with_line (g.G.ChunkGridTraits.dimensions c.args.grid.now) (encoding_in c.args.encoding.now) (lists_in c.args.indices.items) _ _ (string_bytes c.loop-position.text) index line
+    rw next (so_far_with_line (g.G.ChunkGridTraits.dimensions c.args.grid.now) (g.E.ChunkKeyEncodingTraits.is_key c.args.encoding.now) (lists_in c.args.indices.items) _ _ (string_bytes c.loop-position.text) index line
     (lists_in c.next.new.self.iter.rest.items) (string_bytes c.append_line-appended.new.text) c.loop-position.invariant (ap lists_in first) has_length is_line text)
 
 pub returns : goal.returns

@@ -1,5 +1,4 @@
 use Rattle.std.proofs.Common.{string_bytes}
-use Rattle.zarrs_chunk_keys.specs.seen.Encodings.{encoding_in}
 use Rattle.chunkwhere.specs.Document.{lists_in}
 use Rattle.chunkwhere.proofs.Lines.{IsSoFar}
 use Rattle.chunkwhere.proofs.answer.lines.Given as goal
@@ -8,4 +7,4 @@ use Rattle.chunkwhere.proofs.answer.lines.Given as goal
 abbrev pub invariant-loop-position : goal.invariant-loop-position
 invariant-loop-position g l =
     let left = lists_in l.position-iterator.iter.rest.items in
-    IsSoFar (g.G.ChunkGridTraits.dimensions l.grid) (encoding_in l.encoding) (lists_in l.fn.indices.items) left l.position-iterator.count (string_bytes l.text)
+    IsSoFar (g.G.ChunkGridTraits.dimensions l.grid) (g.E.ChunkKeyEncodingTraits.is_key l.encoding) (lists_in l.fn.indices.items) left l.position-iterator.count (string_bytes l.text)

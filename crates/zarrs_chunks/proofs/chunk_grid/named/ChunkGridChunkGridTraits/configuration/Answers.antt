@@ -1,7 +1,7 @@
 use Rattle.zarrs_chunks.proofs.chunk_grid.named.ChunkGridChunkGridTraits.configuration.Goals as goal
 
 pub returns-in-Regular : goal.returns-in-Regular
-returns-in-Regular c = rw c.in-Regular.is c.configuration-in-Regular.ensures
+returns-in-Regular c = rw c.in-Regular.is c.configuration.ensures
 
 pub returns-in-RegularBounded : goal.returns-in-RegularBounded
 returns-in-RegularBounded c = rw c.in-RegularBounded.is c.configuration-in-RegularBounded.ensures
