@@ -129,7 +129,7 @@ impl<A: Axis + Drop> AxisGrid<A> {
     }
 
     /// Finds for each dimension the chunk that the index lies in, and how far after the chunk's start it lies, and leaves them in
-    /// two lists, whatever these held. `false` where there is no such chunk somewhere.
+    /// two lists, whatever these held; a list of a wrong length leaves them as they were. `false` where there is no such chunk somewhere.
     ///
     /// # Errors
     /// The list has another length than there are dimensions; or out of memory.
@@ -139,8 +139,10 @@ impl<A: Axis + Drop> AxisGrid<A> {
         chunk: &mut ArrayIndices,
         place: &mut ArrayIndices,
     ) -> Result<bool, Refusal<IncompatibleDimensionalityError>>
-        ensures { AnswersHome (dimensions_of self.now) indices.now result
+        ensures answers { AnswersHome (dimensions_of self.now) indices.now result
             chunk.new.items place.new.items }
+        ensures unchanged { IfErr result (λ refusal. IfRefused refusal
+            (λ _. (chunk.new ≡ chunk.old) × (place.new ≡ place.old))) }
     {
         if indices.len() != self.axes.len() {
             return Err(Refusal::Refused(IncompatibleDimensionalityError::new(

@@ -15,7 +15,7 @@ use turn::Turn;
 pub type ArrayIndicesTinyVec = SmallVec<u64, 4>;
 
 /// A walk through the lists of numbers below a shape, each of them once, in row-major order.
-#[derive(Drop)]
+#[derive(Debug, Drop)]
 pub struct RowMajorWalk<'a> {
     alloc: Global,
     shape: &'a [u64],

@@ -8,10 +8,11 @@ pub(crate) mod rectilinear;
 pub(crate) mod regular;
 pub(crate) mod regular_bounded;
 
-ghost use Rattle.std.specs.Prelude.{◌≡◌, ◌≢◌, ◌↔◌, ◌⊎◌, ℕ, ◌-◌, ◌<◌, IfOk, IsTrue, List, length, map, slice_index_or};
+ghost use Rattle.std.specs.Prelude.{◌≡◌, ◌≢◌, ◌↔◌, ◌⊎◌, ℕ, ◌-◌, ◌<◌, IfErr, IfOk, IsTrue, List, length, map, slice_index_or};
 ghost use Rattle.std.specs.List.{AllByRecursion};
 ghost use Rattle.zarrs_chunk_base.specs.ArraySubset.{IsEmptyBox};
 ghost use Rattle.zarrs_chunk_base.specs.Dimension.{Dimension, IsChain, array_sizes, grid_sizes};
+ghost use Rattle.zarrs_chunk_base.specs.Refusal.{IfRefused};
 ghost use Rattle.zarrs_chunk_axes.specs.InBounds.{AreBelow, AreInBounds};
 ghost use Rattle.zarrs_chunk_axes.specs.LookUp.{AnswersShape, AnswersShapeNumbers, AnswersOrigin, AnswersChunk, AnswersHome, AnswersPlace};
 ghost use Rattle.zarrs_chunks.specs.Subsets.{AnswersSubset, AnswersChunksSubset, AnswersCover, AnswersEmptyCover};
@@ -150,7 +151,7 @@ pub trait ChunkGridTraits: Sized + Drop {
 
     /// Finds where the element at these indices lies, and leaves it in `home`: for callers that look many elements up. The grids of
     /// this library use the memory that `home` has; this body gives it new lists. `false` where no chunk holds the element; `home` then
-    /// holds anything, as it does after an error.
+    /// holds anything, as it does where the call is out of memory; a list of a wrong length leaves it as it was.
     ///
     /// # Errors
     /// The list has another length than the grid has dimensions; or out of memory.
@@ -159,8 +160,9 @@ pub trait ChunkGridTraits: Sized + Drop {
         array_indices: &[u64],
         home: &mut Home,
     ) -> Result<bool, Refusal<IncompatibleDimensionalityError>>
-        ensures { AnswersHome (dimensions self.now) array_indices.now result
+        ensures answers { AnswersHome (dimensions self.now) array_indices.now result
             home.new.chunk.items home.new.element.items }
+        ensures unchanged { IfErr result (λ refusal. IfRefused refusal (λ _. home.new ≡ home.old)) }
     {
         let alloc = *home.chunk.allocator();
         let Some(chunk) = self.chunk_indices(alloc, array_indices)? else {

@@ -6,13 +6,13 @@
 //! |---|---|
 //! | An index lies in a chunk's box exactly where `chunk_indices` names that chunk | [`chunk_indices_names_the_home`] |
 //! | Two chunks share no index | [`chunks_share_no_index`] |
-//! | The key and the place of an element determine its index | [`key_and_place_determine_the_index`] |
+//! | The key and the place of an element determine its index | [`key_and_place_determine_the_index`]; of two answers of `locate` [`answers_of_locate_determine_the_index`] |
 //! | The cover of a box names exactly the chunks that meet it | [`the_cover_names_the_chunks_that_meet_a_box`] |
 //! | The box of a box of chunks is the union of their boxes | [`the_box_of_chunks_is_the_union_of_their_boxes`] |
 //! | The walk gives each chunk below the grid shape once, in row-major order | [`the_walk_gives_each_chunk_once`] |
 //! | Each element of the array lies in exactly one of them | [`each_element_lies_in_one_chunk_of_the_walk`] |
 //! | A chunk that is counted has a box exactly where it ends at 18446744073709551615 or before it; these are the boxes of the walks | [`the_boxes_of_a_walk_are_those_of_its_chunks`] |
-//! | A grid of run-length elements has the dimensions of one with the edges written out | [`the_edges_determine_the_dimensions`] |
+//! | A grid of run-length elements has the dimensions of one with the edges written out; two bounded grids of the same edges have the same | [`the_edges_determine_the_dimensions`] |
 //! | A bounded grid answers as its clipped edges, where no array size is 0 | [`a_bounded_dimension_is_that_of_its_edges`], [`grids_of_like_dimensions_answer_alike`] |
 //! | A [`ChunkGrid`] is made again of its metadata | [`a_grid_is_made_again_of_its_metadata`] |
 ghost use Rattle.std.specs.Prelude.{◌≡◌, ◌≢◌, ◌↔◌, ◌⊎◌, ℕ, ◌<◌, IfErr, IfOk, IfSome, IsTrue, List, Some, length, map, option_map};
@@ -24,6 +24,7 @@ ghost use Rattle.zarrs_chunk_axes.specs.Listed.{IsListed};
 ghost use Rattle.zarrs_chunk_axes.specs.Bounded.{AreBounded, IsBounded};
 ghost use Rattle.zarrs_chunk_base.specs.Refusal.{IfRefused};
 ghost use Rattle.zarrs_chunks.specs.GridKinds.{is_bounded};
+ghost use Rattle.zarrs_chunks.specs.Located.{IsLocated};
 ghost use Rattle.zarrs_chunks.specs.seen.Grids.{grid_in, kind_in};
 ghost use Rattle.zarrs_chunks.specs.Alike.{AnswerAlike, AreAlike, AreAllAlike};
 ghost use Rattle.zarrs_chunks.specs.Clipped.{AreClipped, AreClippedLists};
@@ -34,7 +35,7 @@ ghost use Rattle.zarrs_chunks.specs.Subsets.{AnswersChunksSubset, AnswersCover, 
 ghost use Rattle.zarrs_chunks.specs.Walks.{box_at, chunks_of, ends_within};
 ghost use Rattle.zarrs_chunks.specs.seen.Walks.{chunks_left};
 
-use crate::{ChunkGrid, ChunkGridTraits, ChunkIndices};
+use crate::{ChunkGrid, ChunkGridTraits, ChunkIndices, Located};
 use std::alloc::Global;
 use zarrs_chunk_base::{
     ArrayIndices, ArraySubset, IncompatibleDimensionalityError, PluginCreateError, Refusal,
@@ -120,6 +121,24 @@ pub fn key_and_place_determine_the_index<G: ChunkGridTraits, E: ChunkKeyEncoding
         → IsPlace (G.dimensions grid.now) chunk one place
         → IsPlace (G.dimensions grid.now) other_chunk other place → one ≡ other }
 {}
+
+/// What `locate` answers tells two elements apart: of one key and one place are those of one index.
+pub fn answers_of_locate_determine_the_index<G: ChunkGridTraits, E: ChunkKeyEncodingTraits>(
+    grid: &G,
+    encoding: &E,
+    one: &Located,
+    other: &Located,
+)
+    ensures { (index other_index : List ℕ)
+        → IsLocated (G.dimensions grid.now) (E.is_key encoding.now) index one.now
+        → IsLocated (G.dimensions grid.now) (E.is_key encoding.now) other_index other.now
+        → one.now.key ≡ other.now.key → one.now.element.items ≡ other.now.element.items
+        → index ≡ other_index }
+{
+    // The law is about 64-bit numbers, and the lists tell that they hold such.
+    let _chunk = one.chunk.as_slice();
+    let _other_chunk = other.chunk.as_slice();
+}
 
 /// The walk over chunk numbers gives each list below the grid shape, once, and each after those that come before it.
 pub fn the_walk_gives_each_chunk_once<G: ChunkGridTraits>(

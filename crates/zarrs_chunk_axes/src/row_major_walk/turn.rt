@@ -1,7 +1,7 @@
 //! Where a walk is.
 
 /// What the next step of a walk does.
-#[derive(Drop)]
+#[derive(Debug, Drop)]
 pub(crate) enum Turn {
     /// It goes to the first list.
     First,

@@ -7,7 +7,7 @@ use zarrs_chunk_axes::{ArrayIndicesTinyVec, RowMajorWalk};
 use zarrs_chunk_base::ArraySubset;
 
 /// A walk over the chunks that a grid counts and that end at 18446744073709551615 or before it.
-#[derive(Drop)]
+#[derive(Debug, Drop)]
 pub(crate) struct ChunkBoxes<'a, G> {
     alloc: Global,
     grid: &'a G,

@@ -8,7 +8,7 @@ use zarrs_chunk_axes::{ArrayIndicesTinyVec, RowMajorWalk};
 /// The numbers of all chunks that a grid counts, in row-major order: those of the last dimension change fastest.
 ///
 /// An item of up to four numbers takes no memory. After an `Err` or the end the walk gives nothing more.
-#[derive(Drop)]
+#[derive(Debug, Drop)]
 pub struct ChunkIndices<'a> {
     walk: RowMajorWalk<'a>,
 }

@@ -11,7 +11,7 @@ use zarrs_chunk_base::ArraySubset;
 /// 18446744073709551615 has no box, and is passed over.
 ///
 /// After an `Err` or the end the walk gives nothing more.
-#[derive(Drop)]
+#[derive(Debug, Drop)]
 pub struct ChunkIndicesAndSubsets<'a, G> {
     boxes: ChunkBoxes<'a, G>,
 }

@@ -10,7 +10,7 @@ use zarrs_chunk_base::ArraySubset;
 /// is passed over.
 ///
 /// After an `Err` or the end the walk gives nothing more.
-#[derive(Drop)]
+#[derive(Debug, Drop)]
 pub struct ChunkSubsets<'a, G> {
     boxes: ChunkBoxes<'a, G>,
 }
