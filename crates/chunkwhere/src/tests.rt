@@ -141,6 +141,25 @@ fn documents_are_answered(rt: HostRuntime) -> Result<(), Fail> {
     Ok(())
 }
 
+/// Twenty thousand elements in chunks of ten.
+#[test]
+fn long_documents_are_answered(rt: HostRuntime) -> Result<(), Fail> {
+    let alloc = rt.alloc();
+    let mut indices = String::from_str(alloc, "[[0]")?;
+    let mut lines = String::from_str(alloc, "c/0 0\n")?;
+    for index in 1..20000 {
+        let list = format!(in alloc; ",[{index}]")?;
+        indices.push_str(list.as_str())?;
+        let line = format!(in alloc; "c/{} {}\n", index / 10, index % 10)?;
+        lines.push_str(line.as_str())?;
+    }
+    indices.push_str("]")?;
+    let grid = r#"{"name":"regular","configuration":{"chunk_shape":[10]}}"#;
+    let input = document(alloc, "[20000]", grid, DEFAULT, indices.as_str())?;
+    check(&rt, input.as_bytes(), lines.as_str(), "")?;
+    Ok(())
+}
+
 /// An array's whole `zarr.json`, with `indices` added.
 const ZARR_JSON: &str = r#"{
     "zarr_format": 3,
