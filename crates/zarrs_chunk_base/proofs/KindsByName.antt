@@ -98,6 +98,7 @@ module _ {K G M : Type 0} (kind : K → Kind G M) where
       not_refused (kind k) (fits k) given made e fault (has_configuration (kind k) given made e is)
       (subst (λ j. IsFaultOf (kind j) e given fault) (sym same) refused)
 
+  -- and so what answers it is no refusal of its own
   pub accepted_again : (kinds : List K) → AreFound kinds → ((k : K) → Fits (kind k)) → {A : Type 0} (P : A → Type 0) (k : K) (given : G) (made : M) (e : Extension)
       (answer : Result A (Refusal PluginCreateError)) → IsMetadata (kind k) given made e
       → MatchResult answer P (λ refusal. IfRefused refusal (IsFault kind kinds e given)) → IfErr answer (λ refusal. IfRefused refusal (λ _. ⊥))

@@ -29,11 +29,12 @@ one_encoding default encoding other x is also = also ∙ sym is
 one_encoding v2 encoding other x is also = also ∙ sym is
 one_encoding default_suffix encoding other x is also = also ∙ sym is
 
+-- the encoding that is made of the metadata of an encoding is the same
 pub is_again : {A : Type 0} (seen : A → Encoding) (encoding : Encoding) (e : Extension) (answer : Result A (Refusal PluginCreateError))
     → IsMetadata (key_kind (kind_of encoding)) tt encoding e
     → MatchResult answer (λ again. IsEncoding e (seen again)) (λ refusal. IfRefused refusal (IsEncodingFault e))
     → IfOk answer (λ again. seen again ≡ encoding)
 is_again seen encoding e (Ok again) is (kind, made) =
-    let (same, (x, makes, makes_again)) = made_again key_kind key_kinds found (kind_of encoding) kind tt encoding (seen again) e is made in
+    let (_, (x, makes, makes_again)) = made_again key_kind key_kinds found (kind_of encoding) kind tt encoding (seen again) e is made in
     one_encoding (kind_of encoding) encoding (seen again) x makes makes_again
 is_again seen encoding e (Err _) is made = tt
