@@ -109,11 +109,7 @@ pub trait AxisFrom<C>: Axis {
 /// An axis that is made of the edges of its chunks.
 pub trait FromEdges: Axis {
     /// The axis of an array size and of edges that reach over the array.
-    fn from_edges(
-        alloc: Global,
-        array_size: u64,
-        edges: &[NonZeroU64],
-    ) -> Result<Self, AllocError>
+    fn from_edges(alloc: Global, array_size: u64, edges: &[NonZeroU64]) -> Result<Self, AllocError>
         requires covers { array_size ≤ sum (map non_zero_u64_get edges.now) }
         requires fits { sum (map non_zero_u64_get edges.now) ≤ greatest }
         ensures made { IfOk result (λ axis. IsListed (Self.dimension axis) array_size

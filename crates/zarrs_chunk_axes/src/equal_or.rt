@@ -181,9 +181,7 @@ impl<A: FromRunLengths> AxisFrom<ChunkEdgeLengths> for EqualOr<A> {
     fn configuration(&self, alloc: Global) -> Result<ChunkEdgeLengths, AllocError> {
         Ok(match self {
             EqualOr::Equal(axis) => ChunkEdgeLengths::Scalar(axis.configuration(alloc)?),
-            EqualOr::Other(axis) => {
-                ChunkEdgeLengths::Varying(axis.to_run_lengths(alloc)?)
-            }
+            EqualOr::Other(axis) => { ChunkEdgeLengths::Varying(axis.to_run_lengths(alloc)?) }
         })
     }
 }

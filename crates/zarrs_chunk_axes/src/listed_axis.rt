@@ -31,11 +31,7 @@ impl ListedAxis {
     ghost use Rattle.zarrs_chunk_axes.specs.lemmas.Running.{IsAfter};
 
     /// The dimension of an array size and the edges of its chunks.
-    fn new(
-        alloc: Global,
-        array_size: u64,
-        edges: Vec<NonZeroU64>,
-    ) -> Result<ListedAxis, AllocError>
+    fn new(alloc: Global, array_size: u64, edges: Vec<NonZeroU64>) -> Result<ListedAxis, AllocError>
         requires covers { array_size ≤ sum (map non_zero_u64_get edges.items) }
         requires fits { sum (map non_zero_u64_get edges.items) ≤ greatest }
         ensures made { IfOk result (λ axis. IsListed (listed_of axis) array_size

@@ -30,6 +30,7 @@ pub use chunk_key_encoding::ChunkKeyEncodingTraits;
 pub use chunk_key_encoding::default::DefaultChunkKeyEncoding;
 pub use chunk_key_encoding::default_suffix::DefaultSuffixChunkKeyEncoding;
 pub use chunk_key_encoding::named::ChunkKeyEncoding;
+pub use chunk_key_encoding::of_kind::EncodingOfKind;
 pub use chunk_key_encoding::v2::V2ChunkKeyEncoding;
 pub use chunk_key_suffix_error::ChunkKeySuffixError;
 pub use numerals::append_numerals;

@@ -98,10 +98,10 @@ spans_or_none ds first last start origin shape chunks (Some b) agree some is_fir
   (
     λ empty. absurd (some empty),
     λ _. record {
-          is_box = is_box;
-          start = rw (is_first, at) starts;
-          end = rw (is_last, end) (is_end ds last origin shape last_starts long);
-        },
+      is_box = is_box;
+      start = rw (is_first, at) starts;
+      end = rw (is_last, end) (is_end ds last origin shape last_starts long);
+    },
   ),
 )
 spans_or_none ds first last start origin shape chunks None agree some is_first is_last starts last_starts long past =

@@ -135,9 +135,16 @@ pub fn answers_of_locate_determine_the_index<G: ChunkGridTraits, E: ChunkKeyEnco
         → one.now.key ≡ other.now.key → one.now.element.items ≡ other.now.element.items
         → index ≡ other_index }
 {
-    // The law is about 64-bit numbers, and the lists tell that they hold such.
-    let _chunk = one.chunk.as_slice();
-    let _other_chunk = other.chunk.as_slice();
+    // The law of encodings is about 64-bit numbers.
+    numbers_fit(&one.chunk);
+    numbers_fit(&other.chunk);
+}
+
+/// The numbers of a list are 64-bit numbers.
+fn numbers_fit(numbers: &[u64])
+    ensures { AllFit numbers.now }
+{
+    let _first = numbers.first();
 }
 
 /// The walk over chunk numbers gives each list below the grid shape, once, and each after those that come before it.

@@ -16,7 +16,7 @@ ghost use Rattle.zarrs_chunk_keys.specs.ChunkKey.{default_keys};
 ghost use Rattle.zarrs_chunk_keys.specs.KeyKinds as kinds;
 ghost use Rattle.zarrs_chunk_keys.specs.seen.Encodings.{default_of};
 
-use crate::chunk_key_encoding::of_kind::OfKind;
+use crate::chunk_key_encoding::of_kind::{EncodingOfKind, OfKind};
 use crate::numerals::append_numerals;
 use std::alloc::{AllocError, Global};
 use zarrs_chunk_base::{
@@ -70,11 +70,13 @@ impl DefaultChunkKeyEncoding {
     }
 }
 
-impl OfKind for DefaultChunkKeyEncoding {
+impl EncodingOfKind for DefaultChunkKeyEncoding {
     ghost kind = { kinds.default };
 
     ghost encoding = { default_of };
+}
 
+impl OfKind for DefaultChunkKeyEncoding {
     fn of_metadata(
         alloc: Global,
         metadata: &MetadataV3,

@@ -18,7 +18,7 @@ ghost use Rattle.zarrs_chunk_keys.specs.KeyKinds as kinds;
 ghost use Rattle.zarrs_chunk_keys.specs.seen.Encodings.{suffixed_of};
 
 use crate::chunk_key_encoding::default::DefaultChunkKeyEncoding;
-use crate::chunk_key_encoding::of_kind::OfKind;
+use crate::chunk_key_encoding::of_kind::{EncodingOfKind, OfKind};
 use crate::chunk_key_suffix_error::ChunkKeySuffixError;
 use std::alloc::{AllocError, Global};
 use zarrs_chunk_base::{
@@ -75,11 +75,13 @@ impl DefaultSuffixChunkKeyEncoding {
     }
 }
 
-impl OfKind for DefaultSuffixChunkKeyEncoding {
+impl EncodingOfKind for DefaultSuffixChunkKeyEncoding {
     ghost kind = { kinds.default_suffix };
 
     ghost encoding = { suffixed_of };
+}
 
+impl OfKind for DefaultSuffixChunkKeyEncoding {
     fn of_metadata(
         alloc: Global,
         metadata: &MetadataV3,

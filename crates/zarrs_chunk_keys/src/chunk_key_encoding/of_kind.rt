@@ -14,24 +14,27 @@ use crate::numerals::room_for;
 use std::alloc::{AllocError, Global};
 use zarrs_chunk_base::{Configuration, MetadataV3, PluginCreateError, Refusal, StoreKey};
 
-/// An encoding of one kind.
-pub(crate) trait OfKind: Sized + Drop {
-    /// Its kind.
+/// An encoding of one of this library's kinds: which kind, and what a value of it means.
+pub trait EncodingOfKind {
+    /// The kind of encoding.
     ghost kind: { KeyKind };
 
-    /// What its value means.
+    /// The encoding of chunk numbers as keys.
     ghost encoding: { Self → Encoding };
+}
 
+/// How an encoding of one kind is made, and how it writes keys.
+pub(crate) trait OfKind: EncodingOfKind + Sized + Drop {
     /// The encoding that the configuration in an extension's metadata says.
     fn of_metadata(alloc: Global, metadata: &MetadataV3) -> Result<Self, Refusal<PluginCreateError>>
         ensures { MatchResult result
-            (λ made. IsMadeOf (key_kind kind) (extension_of metadata.now) tt (encoding made))
-            (λ refusal. IfRefused refusal (IsFaultOf (key_kind kind)
+            (λ made. IsMadeOf (key_kind Self.kind) (extension_of metadata.now) tt (Self.encoding made))
+            (λ refusal. IfRefused refusal (IsFaultOf (key_kind Self.kind)
             (extension_of metadata.now) tt)) };
 
     /// Its configuration, in the form in which one is written.
     fn to_configuration(&self, alloc: Global) -> Result<Configuration, AllocError>
-        ensures { IfOk result (λ c. IsConfigurationOf (key_kind kind) tt (encoding self.now)
+        ensures { IfOk result (λ c. IsConfigurationOf (key_kind Self.kind) tt (Self.encoding self.now)
             (members_view c.entries)) };
 
     /// How many bytes a key has at most beside its numerals, each with a separator.
@@ -42,7 +45,7 @@ pub(crate) trait OfKind: Sized + Drop {
     /// Appends the key of a chunk to a text. It is a store key.
     fn append(&self, text: &mut String, chunk_indices: &[u64]) -> Result<(), AllocError>
         ensures appended { OnOk result ((key : List ℕ)
-            × IsKey (encoding self.now) chunk_indices.now key × (¬ EndsInSlash key)
+            × IsKey (Self.encoding self.now) chunk_indices.now key × (¬ EndsInSlash key)
             × (string_bytes text.new ≡ string_bytes text.old ++ key)) }
         ensures kept { (rest : List ℕ) × (string_bytes text.new ≡ string_bytes text.old ++ rest) };
 }

@@ -16,7 +16,7 @@ ghost use Rattle.zarrs_chunk_keys.specs.ChunkKey.{v2_keys};
 ghost use Rattle.zarrs_chunk_keys.specs.KeyKinds as kinds;
 ghost use Rattle.zarrs_chunk_keys.specs.seen.Encodings.{v2_of};
 
-use crate::chunk_key_encoding::of_kind::OfKind;
+use crate::chunk_key_encoding::of_kind::{EncodingOfKind, OfKind};
 use crate::numerals::{append_numeral, append_numerals};
 use std::alloc::{AllocError, Global};
 use zarrs_chunk_base::{
@@ -63,11 +63,13 @@ impl V2ChunkKeyEncoding {
     }
 }
 
-impl OfKind for V2ChunkKeyEncoding {
+impl EncodingOfKind for V2ChunkKeyEncoding {
     ghost kind = { kinds.v2 };
 
     ghost encoding = { v2_of };
+}
 
+impl OfKind for V2ChunkKeyEncoding {
     fn of_metadata(
         alloc: Global,
         metadata: &MetadataV3,

@@ -10,7 +10,7 @@ returns-in_ok-from_str-in_default-clause-made c =
     let is = c.name.ensures in
     name_unsupported _ refl (c.in_ok-from_str-in_default.ensures.ok ∙ is)
     (unnamed grid_kind grid_kinds _ (elim [
-      regular ↦ λ e. c.in_default.not-regular (is ∙ e)
+      | regular ↦ λ e. c.in_default.not-regular (is ∙ e)
       | regular_bounded ↦ λ e. c.in_default.not-text (is ∙ e)
       | rectangular ↦ λ e. c.in_default.not-rectangular (is ∙ e)
       | rectilinear ↦ λ e. c.in_default.not-rectilinear (is ∙ e)
