@@ -59,12 +59,16 @@ pub fn are_one_element<G: ChunkGridTraits, E: ChunkKeyEncodingTraits>(
 ) -> Result<bool, Refusal<IncompatibleDimensionalityError>>
     ensures { IfOk result (λ same. IsTrue same → one.now ≡ other.now) }
 {
-    let one = locate(alloc, grid, encoding, one)?;
-    let other = locate(alloc, grid, encoding, other)?;
-    let (Some(one), Some(other)) = (one, other) else {
+    let Some(found) = locate(alloc, grid, encoding, one)? else {
         return Ok(false);
     };
+    let Some(also) = locate(alloc, grid, encoding, other)? else {
+        return Ok(false);
+    };
+    if found.key.as_str() != also.key.as_str() || found.element != also.element {
+        return Ok(false);
+    }
     // The law: one key and one place are those of one index.
-    answers_of_locate_determine_the_index(grid, encoding, &one, &other);
-    Ok(one.key == other.key && one.element == other.element)
+    answers_of_locate_determine_the_index(grid, encoding, &found, &also);
+    Ok(true)
 }

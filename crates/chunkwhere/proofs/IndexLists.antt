@@ -6,7 +6,7 @@ use Rattle.serde_json.specs.Find.{get}
 use Rattle.serde_json.specs.View.{items_view, view}
 use Rattle.serde_json.specs.declared.value.Value.{Value, Array}
 use Rattle.serde_json.proofs.Views.{view-Array}
-use Rattle.chunkwhere.specs.Document.{indices_of, lists_in}
+use Rattle.chunkwhere.specs.Document.{indices_in, lists_in}
 use Rattle.zarrs_chunk_base.specs.Json.{each_of, list_of, size_of}
 
 -- the tree is a list of sizes
@@ -54,7 +54,7 @@ one_is_not (t ∷ trees) (suc i) tree within at none = after_first (list_of size
 
 -- the index lists of a document whose member is a list of trees
 pub indices_are : (d : Data) (member : Value) (trees : Vec Value Global) → Some (view member) ≡ get (codes "indices") d → Array trees ≡ member
-    → indices_of d ≡ each_of (list_of size_of) (items_view trees.items)
+    → indices_in d ≡ each_of (list_of size_of) (items_view trees.items)
 indices_are d member trees there is =
     ap (option_and_then (list_of (list_of size_of))) (sym there) ∙ ap (λ v. list_of (list_of size_of) (view v)) (sym is)
     ∙ ap (list_of (list_of size_of)) (view-Array trees)

@@ -43,12 +43,12 @@ document_of d = record {
 }
 
 -- `shape`: a list of sizes
-abbrev pub shape_of : Data → Option (List ℕ)
-shape_of d = option_and_then (list_of size_of) (get (codes "shape") d)
+abbrev pub shape_in : Data → Option (List ℕ)
+shape_in d = option_and_then (list_of size_of) (get (codes "shape") d)
 
 -- `indices`: a list of lists of sizes
-abbrev pub indices_of : Data → Option (List (List ℕ))
-indices_of d = option_and_then (list_of (list_of size_of)) (get (codes "indices") d)
+abbrev pub indices_in : Data → Option (List (List ℕ))
+indices_in d = option_and_then (list_of (list_of size_of)) (get (codes "indices") d)
 
 -- the member is an extension's metadata
 abbrev pub HasExtension : Data → List ℕ → Extension → Type 0
@@ -63,10 +63,10 @@ HasMetadataFault d field fault = (m : Data) × (get field d ≡ Some m) × IsMet
 
 -- the document that a tree stands for
 pub record IsDocument (d : Data) (document : Document) : Type 0 where
-  pub shape : shape_of d ≡ Some document.shape
+  pub shape : shape_in d ≡ Some document.shape
   pub chunk_grid : HasExtension d (codes "chunk_grid") document.chunk_grid
   pub chunk_key_encoding : HasExtension d (codes "chunk_key_encoding") document.chunk_key_encoding
-  pub indices : indices_of d ≡ Some document.indices
+  pub indices : indices_in d ≡ Some document.indices
 
 -- the members that have to be there, in the order in which a missing one is reported
 abbrev pub document_members : List (List ℕ)
@@ -93,11 +93,11 @@ IsFormFault d NotObject = as_object d ≡ None
 IsFormFault d (Missing field) = IsSome (as_object d) × IsFirst (λ name. get name d ≡ None) document_members field.now
 IsFormFault d (WrongValue field) =
     HasMembers d
-    × (((field.now ≡ codes "shape") × (shape_of d ≡ None))
-    ⊎ ((field.now ≡ codes "indices") × IsSome (shape_of d) × HasSomeExtension d (codes "chunk_grid")
-    × HasSomeExtension d (codes "chunk_key_encoding") × (indices_of d ≡ None)))
+    × (((field.now ≡ codes "shape") × (shape_in d ≡ None))
+    ⊎ ((field.now ≡ codes "indices") × IsSome (shape_in d) × HasSomeExtension d (codes "chunk_grid")
+    × HasSomeExtension d (codes "chunk_key_encoding") × (indices_in d ≡ None)))
 IsFormFault d (Metadata field fault) =
-    HasMembers d × IsSome (shape_of d)
+    HasMembers d × IsSome (shape_in d)
     × (((field.now ≡ codes "chunk_grid") × HasMetadataFault d (codes "chunk_grid") fault)
     ⊎ ((field.now ≡ codes "chunk_key_encoding") × HasSomeExtension d (codes "chunk_grid")
     × HasMetadataFault d (codes "chunk_key_encoding") fault))

@@ -3,7 +3,7 @@ ghost use Rattle.std.specs.Prelude.{◌≡◌, IfOk, MatchResult, Some, option_m
 ghost use Rattle.serde_json.specs.Data.{Data};
 ghost use Rattle.serde_json.specs.Find.{get};
 ghost use Rattle.serde_json.specs.View.{view};
-ghost use Rattle.chunkwhere.specs.Document.{document_of, indices_of, lists_in, IsTreeOf, IsDocument, IsMissingFault, IsExtensionFault, IsFormFault, IsInputFault};
+ghost use Rattle.chunkwhere.specs.Document.{document_of, indices_in, lists_in, IsTreeOf, IsDocument, IsMissingFault, IsExtensionFault, IsFormFault, IsInputFault};
 ghost use Rattle.zarrs_chunk_base.specs.Metadata.{extension_of, IsExtension};
 ghost use Rattle.chunkwhere.specs.RunFault.{OrMemory};
 
@@ -67,7 +67,7 @@ fn document_from(alloc: Global, tree: Value) -> Result<Document, RunFault>
 /// The index lists of a document's tree; `None` where they aren't lists of sizes.
 fn take_indices(alloc: Global, mut tree: Value) -> Result<Option<Vec<Value>>, AllocError>
     ensures { IfOk result (λ o. option_map (λ lists. lists_in lists.items) o
-        ≡ indices_of (view tree)) }
+        ≡ indices_in (view tree)) }
 {
     let Some(indices) = tree.get_mut("indices") else {
         return Ok(None);

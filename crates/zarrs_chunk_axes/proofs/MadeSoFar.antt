@@ -3,7 +3,7 @@ use Rattle.std.proofs.Common.{◌≡◌, ◌≢◌, ◌↔◌, ℕ, suc, ap, Lis
 use Rattle.std.specs.List.{AllZip}
 use Rattle.zarrs_chunk_base.specs.Refusal.{IfRefused}
 use Rattle.zarrs_chunk_base.specs.declared.refusal.Refusal.{Refusal}
-use Rattle.zarrs_chunk_base.proofs.Refusals.{IsMadeOf, refused_through}
+use Rattle.zarrs_chunk_base.proofs.Refusals.{IsMapped, refused_through}
 use Rattle.zarrs_chunk_base.specs.Dimension.{Dimension, InEach}
 use Rattle.zarrs_chunk_base.specs.DimensionEdges.{DimensionEdges}
 
@@ -79,7 +79,7 @@ any_accepted f (a ∷ shape) (c ∷ configurations) =
 
 -- so a refusal that was made of theirs tells unequal lengths
 pub unequal_lengths : {C E X Y : Type 0} (f : C → E) (shape : List ℕ) (configurations : List C) (R : X → Y → Type 0) (r : Refusal X) (s : Refusal Y)
-    → IsMadeOf R r s → IfRefused r (λ _. ¬ AllZip (λ _ _. Unit {0}) shape (map f configurations)) → IfRefused s (λ _. length configurations ≢ length shape)
+    → IsMapped R r s → IfRefused r (λ _. ¬ AllZip (λ _ _. Unit {0}) shape (map f configurations)) → IfRefused s (λ _. length configurations ≢ length shape)
 unequal_lengths f shape configurations R r s is h =
     refused_through R r s (λ _. ¬ AllZip (λ _ _. Unit {0}) shape (map f configurations)) (λ _. length configurations ≢ length shape) is h
     (λ x y made not same. not ((any_accepted f shape configurations).1 same))

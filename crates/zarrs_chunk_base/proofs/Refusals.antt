@@ -6,18 +6,18 @@ use Rattle.zarrs_chunk_base.specs.declared.refusal.Refusal.TheVariants.{Refused,
 
 module _ {E F : Type 0} (R : E → F → Type 0) where
   -- the second is made of the first one
-  abbrev pub IsMadeOf : Refusal E → Refusal F → Type 0
-  IsMadeOf r s = MatchRefusal r (λ e. IsRefusedAnd s (R e)) (λ error. s ≡ Memory error)
+  abbrev pub IsMapped : Refusal E → Refusal F → Type 0
+  IsMapped r s = MatchRefusal r (λ e. IsRefusedAnd s (R e)) (λ error. s ≡ Memory error)
 
   -- what holds of the call's own
-  pub refused_through : (r : Refusal E) (s : Refusal F) (P : E → Type 0) (Q : F → Type 0) → IsMadeOf r s → IfRefused r P → ((e : E) (f : F) → R e f → P e → Q f)
+  pub refused_through : (r : Refusal E) (s : Refusal F) (P : E → Type 0) (Q : F → Type 0) → IsMapped r s → IfRefused r P → ((e : E) (f : F) → R e f → P e → Q f)
       → IfRefused s Q
   refused_through (Refused e) (Refused f) P Q is h follows = follows e f is h
   refused_through (Refused e) (Memory b) P Q is h follows = absurd is
   refused_through (Memory a) s P Q is h follows = rw is tt
 
   -- both are the call's own, or neither is
-  pub own_through : (r : Refusal E) (s : Refusal F) → IsMadeOf r s → IsOwn r → IsOwn s
+  pub own_through : (r : Refusal E) (s : Refusal F) → IsMapped r s → IsOwn r → IsOwn s
   own_through (Refused e) (Refused f) is h = tt
   own_through (Refused e) (Memory b) is h = absurd is
   own_through (Memory a) s is h = absurd h

@@ -1,10 +1,10 @@
 //! Values that a JSON tree may stand for: sizes, edges, texts, and lists of them.
-ghost use Rattle.std.specs.Prelude.{◌≡◌, IfOk, List, OnOk, Option, Some, [], ◌∷◌, is_some, map, option_map, slice_index, string_bytes, unwrap_or, ℕ};
+ghost use Rattle.std.specs.Prelude.{◌≡◌, IfOk, List, OnOk, Option, Some, [], ◌∷◌, is_some, map, option_map, slice_index, string_bytes, unwrap_or, ℕ, OnErr, if◌then◌else◌, None};
 ghost use Rattle.std.specs.Int.NonZero.{non_zero_u64_get};
 ghost use Rattle.serde_json.specs.Data.{Data, string};
 ghost use Rattle.serde_json.specs.Find.{as_str};
-ghost use Rattle.serde_json.specs.View.{view};
-ghost use Rattle.zarrs_chunk_base.specs.Json.{size_of, edge_of, list_of, pair_of, size_tree, list_tree};
+ghost use Rattle.serde_json.specs.View.{view, items_view};
+ghost use Rattle.zarrs_chunk_base.specs.Json.{size_of, edge_of, list_of, pair_of, size_tree, list_tree, each_of};
 
 use serde_json::Value;
 use std::alloc::{AllocError, Global};
@@ -131,7 +131,7 @@ impl<T: TreeForm> TreeForm for Vec<T> {
 /// tree isn't of the form; then no value is left.
 ///
 /// # Errors
-/// Out of memory.
+/// Out of memory; no value is left then either.
 pub fn read_list<T: TreeForm>(
     alloc: Global,
     tree: &Value,
@@ -140,15 +140,36 @@ pub fn read_list<T: TreeForm>(
     ensures is_list { IfOk result (λ is. is ≡ is_some (list_of T.form (view tree.now))) }
     ensures values { OnOk result (map T.seen values.new.items
         ≡ unwrap_or (list_of T.form (view tree.now)) []) }
+    ensures emptied { OnErr result (values.new.items ≡ []) }
 {
     values.clear();
     let Some(elements) = tree.as_array() else {
         return Ok(false);
     };
+    let read = read_elements(alloc, elements, values);
+    if !matches!(&read, Ok(true)) {
+        values.clear();
+    }
+    read
+}
+
+/// Reads the values that elements stand for into an empty list. `false` where one of them isn't of the form; the list then holds some of
+/// the others.
+///
+/// # Errors
+/// Out of memory.
+fn read_elements<T: TreeForm>(
+    alloc: Global,
+    elements: &[Value],
+    values: &mut Vec<T>,
+) -> Result<bool, AllocError>
+    requires { values.old.items ≡ [] }
+    ensures { IfOk result (λ is. each_of T.form (items_view elements.now)
+        ≡ (if is then Some (map T.seen values.new.items) else None)) }
+{
     values.reserve_exact(elements.len())?;
     for element in elements {
         let Some(value) = T::from_tree(alloc, element)? else {
-            values.clear();
             return Ok(false);
         };
         values.push(value)?;

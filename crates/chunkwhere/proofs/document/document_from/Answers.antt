@@ -1,7 +1,7 @@
 use Rattle.std.proofs.Common.{◌≡◌, None, Some, is_some, option_map, refl, sym, ap, ◌∙◌, inr}
 use Rattle.std.proofs.lemmas.Result.{err_from_is_err_and}
 use Rattle.serde_json.specs.View.{view}
-use Rattle.chunkwhere.specs.Document.{shape_of, indices_of, lists_in}
+use Rattle.chunkwhere.specs.Document.{shape_in, indices_in, lists_in}
 use Rattle.zarrs_chunk_base.specs.Metadata.{extension_of}
 use Rattle.chunkwhere.proofs.DocumentMembers.{numbers, shape_is, has_members, encoding_fault}
 use Rattle.chunkwhere.proofs.document.document_from.Goals as goal
@@ -10,7 +10,7 @@ pub returns-in_err-chunk_key_encoding-2 : goal.returns-in_err-chunk_key_encoding
 returns-in_err-chunk_key_encoding-2 c =
     let p = err_from_is_err_and c.from_residual-in_err-chunk_key_encoding-2.result c.from_residual-in_err-chunk_key_encoding-2.ensures.1 in
     let tree = view c.args.tree in
-    let shape : shape_of tree ≡ Some c.in-Some.shape.items = shape_is tree _ c.in_ok-shape-2.field-0 c.in_ok-shape.ensures c.in_ok-shape-2.ensures ∙ ap (option_map numbers) c.in-Some.is in
+    let shape : shape_in tree ≡ Some c.in-Some.shape.items = shape_is tree _ c.in_ok-shape-2.field-0 c.in_ok-shape.ensures c.in_ok-shape-2.ensures ∙ ap (option_map numbers) c.in-Some.is in
     rw (p.1, p.2) (encoding_fault tree (view c.in_ok-chunk_key_encoding.chunk_key_encoding.now) _ c.in_ok-chunk_key_encoding.ensures
     (has_members _ _ _ _ _ c.in_ok-shape.ensures c.in_ok-chunk_grid.ensures c.in_ok-chunk_key_encoding.ensures c.in_ok-required_member.ensures)
     (ap is_some shape) (extension_of c.in_ok-chunk_grid-2.chunk_grid, (view c.in_ok-chunk_grid.chunk_grid.now, c.in_ok-chunk_grid.ensures, c.in_ok-chunk_grid-2.ensures))
@@ -19,8 +19,8 @@ returns-in_err-chunk_key_encoding-2 c =
 pub returns-in_default-2 : goal.returns-in_default-2
 returns-in_default-2 c =
     let tree = view c.args.tree in
-    let shape : shape_of tree ≡ Some c.in-Some.shape.items = shape_is tree _ c.in_ok-shape-2.field-0 c.in_ok-shape.ensures c.in_ok-shape-2.ensures ∙ ap (option_map numbers) c.in-Some.is in
-    let no_indices : indices_of tree ≡ None = sym c.in_ok-indices.ensures ∙ ap (option_map (λ v. lists_in v.items)) c.in_default-2.is in
+    let shape : shape_in tree ≡ Some c.in-Some.shape.items = shape_is tree _ c.in_ok-shape-2.field-0 c.in_ok-shape.ensures c.in_ok-shape-2.ensures ∙ ap (option_map numbers) c.in-Some.is in
+    let no_indices : indices_in tree ≡ None = sym c.in_ok-indices.ensures ∙ ap (option_map (λ v. lists_in v.items)) c.in_default-2.is in
     inr (
       has_members _ _ _ _ _ c.in_ok-shape.ensures c.in_ok-chunk_grid.ensures c.in_ok-chunk_key_encoding.ensures c.in_ok-required_member.ensures,
       inr (
