@@ -2,7 +2,8 @@
 ghost use Rattle.std.specs.Prelude.{◌≡◌, IfOk, List, map};
 ghost use Rattle.std.specs.Int.NonZero.{non_zero_u64_get};
 ghost use Rattle.zarrs_chunk_base.specs.Dimension.{Dimension};
-ghost use Rattle.zarrs_chunk_axes.specs.EqualEdges.{AreEqualEdges};
+ghost use Rattle.zarrs_chunk_base.specs.DimensionEdges.{equal};
+ghost use Rattle.zarrs_chunk_axes.specs.EqualOrListed.{AreEqualOrListed};
 
 use std::alloc::Global;
 use std::num::NonZeroU64;
@@ -16,7 +17,8 @@ pub fn grid_sizes(
     chunk_shape: &[NonZeroU64],
 ) -> Result<ArrayShape, Refusal<ArrayShape>>
     ensures { IfOk result (λ sizes. (dimensions : List Dimension)
-        × AreEqualEdges dimensions array_shape.items (map non_zero_u64_get chunk_shape.now)
+        × AreEqualOrListed dimensions array_shape.items
+        (map (λ edge. equal (non_zero_u64_get edge)) chunk_shape.now)
         × (sizes.items ≡ map (λ d. d.grid_size) dimensions)) }
 {
     let axes = AxisGrid::<EqualAxis>::new(alloc, array_shape, chunk_shape)?;

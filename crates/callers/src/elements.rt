@@ -1,5 +1,5 @@
 //! Where an element lies, and under which key its chunk is stored: in any grid, under any encoding.
-ghost use Rattle.std.specs.Prelude.{◌≢◌, ◌↔◌, ◌⊎◌, ℕ, IfErr, IfOk, IsTrue, List, length};
+ghost use Rattle.std.specs.Prelude.{◌≡◌, ◌≢◌, ◌↔◌, ◌⊎◌, ℕ, IfErr, IfOk, IsTrue, List, length};
 ghost use Rattle.zarrs_chunk_base.specs.Dimension.{InBox};
 ghost use Rattle.zarrs_chunk_base.specs.Refusal.{AnswersOrMemory, IfRefused};
 ghost use Rattle.zarrs_chunks.specs.Subsets.{HasNoHome};
@@ -7,7 +7,7 @@ ghost use Rattle.zarrs_chunks.specs.Subsets.{HasNoHome};
 use std::alloc::Global;
 use zarrs_chunk_base::{IncompatibleDimensionalityError, Refusal, StoreKey};
 use zarrs_chunk_keys::ChunkKeyEncodingTraits;
-use zarrs_chunks::laws::chunks_share_no_index;
+use zarrs_chunks::laws::{answers_of_locate_determine_the_index, chunks_share_no_index};
 use zarrs_chunks::{ChunkGridTraits, locate};
 
 /// The key of the chunk that holds an element; `None` where no chunk does.
@@ -47,4 +47,24 @@ pub fn share_a_chunk<G: ChunkGridTraits>(
     let chunk = grid.chunk_indices(alloc, one)?;
     let same = grid.chunk_indices(alloc, other)?;
     Ok(chunk.is_some() && chunk == same)
+}
+
+/// Whether two elements are stored under one key and at one place, which makes them one element.
+pub fn are_one_element<G: ChunkGridTraits, E: ChunkKeyEncodingTraits>(
+    alloc: Global,
+    grid: &G,
+    encoding: &E,
+    one: &[u64],
+    other: &[u64],
+) -> Result<bool, Refusal<IncompatibleDimensionalityError>>
+    ensures { IfOk result (λ same. IsTrue same → one.now ≡ other.now) }
+{
+    let one = locate(alloc, grid, encoding, one)?;
+    let other = locate(alloc, grid, encoding, other)?;
+    let (Some(one), Some(other)) = (one, other) else {
+        return Ok(false);
+    };
+    // The law: one key and one place are those of one index.
+    answers_of_locate_determine_the_index(grid, encoding, &one, &other);
+    Ok(one.key == other.key && one.element == other.element)
 }

@@ -7,6 +7,7 @@
 //! | `dimensions` | a list of dimensions of one kind |
 //! | `keys` | the keys of chunks |
 //! | `grids` | a grid of each kind |
+//! | `known_kind` | what is known of a grid whose kind is known |
 //! | `elements` | where an element lies, and under which key its chunk is stored |
 //! | `subsets` | the keys of all chunks of a grid, and of those that a box of elements meets |
 //! | `stairs` | a grid of one's own |
@@ -17,15 +18,17 @@ mod dimensions;
 mod elements;
 mod grids;
 mod keys;
+mod known_kind;
 mod metadata;
 mod stairs;
 mod subsets;
 mod versioned;
 
 pub use dimensions::grid_sizes;
-pub use elements::{key_of_element, share_a_chunk};
+pub use elements::{are_one_element, key_of_element, share_a_chunk};
 pub use grids::{bounded, by_name, rectangular, rectilinear, regular};
 pub use keys::{append_keys, key_by_name};
+pub use known_kind::{is_in_bounds, metadata_of_regular};
 pub use metadata::{metadata_of, regular_metadata};
 pub use stairs::Stairs;
 pub use subsets::{keys_of_grid, keys_of_subset};

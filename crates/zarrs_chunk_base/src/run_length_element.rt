@@ -16,14 +16,11 @@ pub enum RunLengthElement {
 }
 
 impl RunLengthElement {
-    ghost use Rattle.std.specs.Prelude.{◌≡◌, IfOk};
+    ghost use Rattle.std.specs.Prelude.{◌≡◌, Ok};
 
-    /// The same element.
-    ///
-    /// # Errors
-    /// None comes: the answer is that of every part's `clone`.
+    /// The same element. It never fails: the answer has the form of every part's `clone`.
     pub fn clone(&self) -> Result<RunLengthElement, AllocError>
-        ensures { IfOk result (λ copy. copy ≡ self.now) }
+        ensures { result ≡ Ok self.now }
     {
         Ok(*self)
     }

@@ -9,17 +9,12 @@ use Rattle.serde_json.specs.Data.{Members}
 use Rattle.zarrs_chunk_base.specs.Configuration.{IsConfiguration}
 use Rattle.zarrs_chunk_base.specs.Dimension.{Dimension, InEach}
 use Rattle.zarrs_chunk_base.specs.DimensionEdges.{DimensionEdges, equal}
-use Rattle.zarrs_chunk_base.proofs.InEach.{length_numbers, length_values, numbers_are}
+use Rattle.zarrs_chunk_base.proofs.InEach.{length_numbers, length_values}
 use Rattle.zarrs_chunk_base.specs.Kinds.{IsConfigurationOf, Kind}
 use Rattle.zarrs_chunks.specs.GridKinds.{AreOfOneLength}
 
 module _ {X : Type 0} (R : Dimension → ℕ → X → Type 0) where
-  -- the array sizes of dimensions are the array shape, of which they were made by way of a copy
-  pub sizes_are : ((d : Dimension) (size : ℕ) (x : X) → R d size x → d.array_size ≡ size) → (ds : List Dimension) (copy shape : List ℕ) (xs : List X)
-      → InEach R ds copy xs → copy ≡ shape → map (λ d. d.array_size) ds ≡ shape
-  sizes_are sized ds copy shape xs made copied = sym (numbers_are R (λ d. d.array_size) sized ds copy xs made) ∙ copied
-
-  -- and they are as many as the values
+  -- the array shape, of which dimensions were made by way of a copy, is as long as the values
   pub are_of_one_length : (ds : List Dimension) (copy shape : List ℕ) (xs : List X) → InEach R ds copy xs → copy ≡ shape → length xs ≡ length shape
   are_of_one_length ds copy shape xs made copied = length_values R ds copy xs made ∙ sym (length_numbers R ds copy xs made) ∙ ap length copied
 

@@ -23,14 +23,11 @@ pub struct DefaultChunkKeyEncodingConfiguration {
 }
 
 impl DefaultChunkKeyEncodingConfiguration {
-    ghost use Rattle.std.specs.Prelude.{◌≡◌, IfOk};
+    ghost use Rattle.std.specs.Prelude.{◌≡◌, Ok};
 
-    /// The same configuration.
-    ///
-    /// # Errors
-    /// None comes: the answer is that of every configuration's `clone`.
+    /// The same configuration. It never fails: the answer has the form of every configuration's `clone`.
     pub fn clone(&self) -> Result<DefaultChunkKeyEncodingConfiguration, AllocError>
-        ensures { IfOk result (λ copy. copy ≡ self.now) }
+        ensures { result ≡ Ok self.now }
     {
         Ok(*self)
     }

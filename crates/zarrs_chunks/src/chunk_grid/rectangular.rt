@@ -38,6 +38,7 @@ pub struct RectangularChunkGrid {
 }
 
 impl RectangularChunkGrid {
+    ghost use Rattle.zarrs_chunk_base.specs.Dimension.{array_sizes};
     ghost use Rattle.std.specs.Prelude.{◌≡◌, IfOk, IfErr, map};
     ghost use Rattle.zarrs_chunk_base.specs.DimensionEdges.{rectangular_edges};
     ghost use Rattle.zarrs_chunk_base.specs.Refusal.{IfRefused};
@@ -58,6 +59,8 @@ impl RectangularChunkGrid {
     ) -> Result<RectangularChunkGrid, Refusal<RectangularChunkGridCreateError>>
         ensures accepted { IfOk result (λ _. AreRectangular array_shape.items
             (map rectangular_edges chunk_shape.now)) }
+        ensures sizes { IfOk result (λ grid. array_sizes (rectangular_of grid).dimensions
+            ≡ array_shape.items) }
         ensures made { IfOk result (λ grid. AreEqualOrListed
             (rectangular_of grid).dimensions
             array_shape.items (map rectangular_edges chunk_shape.now)) }

@@ -53,6 +53,7 @@ pub struct RectilinearChunkGrid {
 }
 
 impl RectilinearChunkGrid {
+    ghost use Rattle.zarrs_chunk_base.specs.Dimension.{array_sizes};
     ghost use Rattle.std.specs.Prelude.{◌≡◌, IfOk, IfErr, map};
     ghost use Rattle.std.specs.List.{AllZip};
     ghost use Rattle.zarrs_chunk_base.specs.Refusal.{IfRefused};
@@ -74,6 +75,8 @@ impl RectilinearChunkGrid {
     ) -> Result<RectilinearChunkGrid, Refusal<RectilinearChunkGridCreateError>>
         ensures accepted { IfOk result (λ _. AreRectilinear array_shape.items
             (map rectilinear_edges chunk_shapes.now)) }
+        ensures sizes { IfOk result (λ grid. array_sizes (rectilinear_of grid).dimensions
+            ≡ array_shape.items) }
         ensures made { IfOk result (λ grid. AreEqualOrListed
             (rectilinear_of grid).dimensions
             array_shape.items (map rectilinear_edges chunk_shapes.now)) }

@@ -39,6 +39,7 @@ pub struct RegularChunkGrid {
 }
 
 impl RegularChunkGrid {
+    ghost use Rattle.zarrs_chunk_base.specs.Dimension.{array_sizes};
     ghost use Rattle.std.specs.Prelude.{◌≡◌, ◌≢◌, IfErr, IfOk, length, map};
     ghost use Rattle.zarrs_chunk_base.specs.Refusal.{HasMemory, IfRefused};
     ghost use Rattle.zarrs_chunk_base.specs.DimensionEdges.{equal};
@@ -55,6 +56,8 @@ impl RegularChunkGrid {
         array_shape: ArrayShape,
         chunk_shape: ChunkShape,
     ) -> Result<RegularChunkGrid, Refusal<RegularChunkGridCreateError>>
+        ensures sizes { IfOk result (λ grid. array_sizes (regular_of grid).dimensions
+            ≡ array_shape.items) }
         ensures made { IfOk result (λ grid. AreEqualEdges
             (regular_of grid).dimensions
             array_shape.items (map non_zero_u64_get chunk_shape.items)) }

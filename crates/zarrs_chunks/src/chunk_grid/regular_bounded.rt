@@ -40,6 +40,7 @@ pub struct RegularBoundedChunkGrid {
 }
 
 impl RegularBoundedChunkGrid {
+    ghost use Rattle.zarrs_chunk_base.specs.Dimension.{array_sizes};
     ghost use Rattle.std.specs.Prelude.{◌≡◌, ◌≢◌, IfOk, IfErr, length, map};
     ghost use Rattle.std.specs.Int.NonZero.{non_zero_u64_get};
     ghost use Rattle.zarrs_chunk_base.specs.Refusal.{HasMemory, IfRefused, TellsLengths};
@@ -58,6 +59,8 @@ impl RegularBoundedChunkGrid {
         array_shape: ArrayShape,
         chunk_shape: ChunkShape,
     ) -> Result<RegularBoundedChunkGrid, Refusal<IncompatibleDimensionalityError>>
+        ensures sizes { IfOk result (λ grid. array_sizes (regular_bounded_of grid).dimensions
+            ≡ array_shape.items) }
         ensures made { IfOk result (λ grid. AreBounded
             (regular_bounded_of grid).dimensions
             array_shape.items (map non_zero_u64_get chunk_shape.items)) }

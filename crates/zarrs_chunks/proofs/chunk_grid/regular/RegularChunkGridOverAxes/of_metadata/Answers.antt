@@ -1,13 +1,8 @@
 use Rattle.std.proofs.Common.{map, rules}
 use Rattle.std.specs.Int.NonZero.{non_zero_u64_get}
 use Rattle.zarrs_chunk_axes.specs.EqualEdges.{IsEqualEdges}
-use Rattle.zarrs_chunks.proofs.Configured.{are_of_one_length, sizes_are}
+use Rattle.zarrs_chunks.proofs.Configured.{are_of_one_length}
 use Rattle.zarrs_chunks.proofs.chunk_grid.regular.RegularChunkGridOverAxes.of_metadata.Goals as goal
-
-pub returns-in-Ok-clause-shape : goal.returns-in-Ok-clause-shape
-returns-in-Ok-clause-shape c =
-    let copied = c.in_ok-array_shape.ensures.items_if_clones_equal (λ x y same. same) in
-    sizes_are IsEqualEdges (λ d size edge is. is.array_size) _ _ _ _ c.in-Ok.ensures.made copied
 
 pub returns-in-Ok-clause-made : goal.returns-in-Ok-clause-made
 returns-in-Ok-clause-made c =
