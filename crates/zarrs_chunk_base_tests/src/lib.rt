@@ -9,6 +9,8 @@
 //! | `subsets` | boxes |
 //! | `store_keys` | keys in a store |
 //! | `json` | configurations and metadata |
+//!
+//! By `printed` they compare what a value prints.
 #![tactic(auto)]
 
 #[cfg(test)]

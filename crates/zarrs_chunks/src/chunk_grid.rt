@@ -36,7 +36,7 @@ use zarrs_chunk_base::{
 ///
 /// Lists of numbers have one number for each dimension, in the order of the array's shape. Array sizes, indices, origins
 /// and edges count elements; chunk numbers count chunks from 0. An array size of 0 is taken as that of an unlimited
-/// dimension, as zarrs does: any index is in bounds there.
+/// dimension, as zarrs does: any index is in bounds there, except that along listed edges a chunk has to hold it.
 ///
 /// A look-up refuses a list of another length than the grid has dimensions, and otherwise can answer
 /// that it is out of memory; a grid without dimensions needs none, except for the box of a box of chunks and the cover.

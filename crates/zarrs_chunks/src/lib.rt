@@ -22,13 +22,13 @@
 //! | `chunk_grid` | the trait of all chunk grids |
 //! | `chunk_grid::regular`, `regular_bounded`, `rectangular`, `rectilinear` | the grids, and why there is no such grid |
 //! | `chunk_grid::named` | a grid of any of these kinds, by its extension's name |
-//! //! | `laws` | what holds of every chunk grid |
+//! | `chunk_grid::over_axes` | of which kind a grid is; the calls of the four grids, over their lists of axes |
+//! | `chunk_grid::boxes`, `edges` | boxes that are made of starts and sizes; edges as plain numbers |
 //! | `home` | where an element lies: its chunk, and its place there |
 //! | `location` | `locate`: where an element is stored: its chunk, the chunk's key, and its place there |
 //! | `walks` | the three walks over the chunks of a grid |
-//! | `chunk_grid::over_axes` | the calls of the four grids, over their lists of axes |
-//! //! | `chunk_grid::boxes`, `edges` | boxes that are made of starts and sizes; edges as plain numbers |
-//! //!
+//! | `laws` | what holds of every chunk grid and every encoding |
+//!
 //! One dimension, its kinds and the loops over dimensions stand in the crate `zarrs_chunk_axes`.
 #![tactic(auto)]
 
