@@ -1,7 +1,8 @@
 //! What is known of a grid whose kind is known.
-ghost use Rattle.std.specs.Prelude.{◌↔◌, IfOk, IsTrue, map};
+ghost use Rattle.std.specs.Prelude.{◌≡◌, ◌↔◌, IfOk, IsTrue, map};
 ghost use Rattle.std.specs.Int.NonZero.{non_zero_u64_get};
 ghost use Rattle.zarrs_chunk_base.specs.Dimension.{array_sizes};
+ghost use Rattle.zarrs_chunk_base.specs.DimensionEdges.{equal};
 ghost use Rattle.zarrs_chunk_base.specs.Grid.{Grid};
 ghost use Rattle.zarrs_chunk_base.specs.Kinds.{IsMetadata};
 ghost use Rattle.zarrs_chunk_base.specs.Metadata.{extension_of};
@@ -23,6 +24,7 @@ pub fn is_in_bounds(
 ) -> Result<bool, Refusal<RegularChunkGridCreateError>>
     ensures { IfOk result (λ within. (grid : Grid)
         × AreEqualEdges grid.dimensions array_shape.items (map non_zero_u64_get chunk_shape.items)
+        × (grid.edges ≡ map equal (map non_zero_u64_get chunk_shape.items))
         × (IsTrue within ↔ AreIndicesInBounds grid array_indices.now)) }
 {
     let grid = RegularChunkGrid::new(alloc, array_shape, chunk_shape)?;
@@ -30,10 +32,7 @@ pub fn is_in_bounds(
 }
 
 /// The metadata of a `regular` grid.
-pub fn metadata_of_regular(
-    alloc: Global,
-    grid: &RegularChunkGrid,
-) -> Result<MetadataV3, AllocError>
+pub fn metadata_of_regular(alloc: Global, grid: &RegularChunkGrid) -> Result<MetadataV3, AllocError>
     ensures { IfOk result (λ metadata. IsMetadata (grid_kind regular)
         (array_sizes (regular_of grid.now).dimensions) (regular_of grid.now)
         (extension_of metadata)) }

@@ -1,8 +1,8 @@
 //! Each caller with its answer, which was computed by hand.
 use callers::{
-    Stairs, Versioned, append_keys, bounded, by_name, grid_sizes, key_by_name, key_of_element,
-    keys_of_grid, keys_of_subset, metadata_of, rectangular, rectilinear, regular, regular_metadata,
-    share_a_chunk,
+    Stairs, Versioned, append_keys, are_one_element, bounded, by_name, grid_sizes, is_in_bounds,
+    key_by_name, key_of_element, keys_of_grid, keys_of_subset, metadata_of, metadata_of_regular,
+    rectangular, rectilinear, regular, regular_metadata, share_a_chunk,
 };
 use std::alloc::Global;
 use std::num::NonZeroU64;
@@ -110,9 +110,17 @@ fn elements(rt: HostRuntime) -> Result<(), Fail> {
     assert_eq!(rt; key.as_str(), "c/3/2/16");
     assert!(rt; share_a_chunk(alloc, &grid, &[3, 5, 50], &[3, 4, 48])?);
     assert!(rt; !share_a_chunk(alloc, &grid, &[3, 5, 50], &[3, 6, 50])?);
+    assert!(rt; are_one_element(alloc, &grid, &slash, &[3, 5, 50], &[3, 5, 50])?);
+    assert!(rt; !are_one_element(alloc, &grid, &slash, &[3, 5, 50], &[3, 5, 49])?);
+    let text = r#"{"configuration":{"chunk_shape":[1,2,3]},"name":"regular"}"#;
+    let tree = metadata_of_regular(alloc, &grid)?.to_tree(alloc)?;
+    assert_eq!(rt; tree.to_string(alloc)?.as_str(), text);
     let grid = bounded(alloc, [7].to_vec(alloc)?, edges(alloc, &[3])?)?;
     assert!(rt; key_of_element(alloc, &grid, &slash, &[7])?.is_none());
     assert!(rt; !share_a_chunk(alloc, &grid, &[7], &[7])?);
+    let shape = [7].to_vec(alloc)?;
+    assert!(rt; is_in_bounds(alloc, shape.clone()?, edges(alloc, &[3])?, &[6])?);
+    assert!(rt; !is_in_bounds(alloc, shape, edges(alloc, &[3])?, &[7])?);
     Ok(())
 }
 
@@ -211,6 +219,9 @@ fn an_encoding_of_ones_own(rt: HostRuntime) -> Result<(), Fail> {
     assert_eq!(rt; located.chunk.as_slice(), [3, 2, 16].as_slice());
     assert_eq!(rt; located.key.as_str(), "c.3.2.16.v1");
     assert_eq!(rt; located.element.as_slice(), [0, 1, 2].as_slice());
+    let mut text = String::from_str(alloc, "key ")?;
+    encoding.append_key(&mut text, &located.chunk)?;
+    assert_eq!(rt; text.as_str(), "key c.3.2.16.v1");
     key_and_place_determine_the_index(&grid, &encoding);
     Ok(())
 }

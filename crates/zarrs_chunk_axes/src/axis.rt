@@ -87,6 +87,9 @@ pub trait AxisFrom<C>: Axis {
         ensures { IsTrue result ↔ accepted array_size (tells configuration.now) };
 
     /// The axis of such a dimension.
+    ///
+    /// # Errors
+    /// Out of memory.
     fn new(alloc: Global, array_size: u64, configuration: &C) -> Result<Self, AllocError>
         requires { accepted array_size (tells configuration.now) }
         ensures made { IfOk result (λ axis. is_made_of (Self.dimension axis) array_size
@@ -108,7 +111,10 @@ pub trait AxisFrom<C>: Axis {
 
 /// An axis that is made of the edges of its chunks.
 pub trait FromEdges: Axis {
-    /// The axis of an array size and of edges that reach over the array.
+    /// The axis of an array size and of edges that reach over the array, and not past 18446744073709551615.
+    ///
+    /// # Errors
+    /// Out of memory.
     fn from_edges(alloc: Global, array_size: u64, edges: &[NonZeroU64]) -> Result<Self, AllocError>
         requires covers { array_size ≤ sum (map non_zero_u64_get edges.now) }
         requires fits { sum (map non_zero_u64_get edges.now) ≤ greatest }
@@ -128,7 +134,10 @@ pub trait FromEdges: Axis {
 
 /// An axis that is made of run-length elements.
 pub trait FromRunLengths: Axis {
-    /// The axis of an array size and of elements whose edges reach over the array.
+    /// The axis of an array size and of elements whose edges reach over the array, and not past 18446744073709551615.
+    ///
+    /// # Errors
+    /// Out of memory.
     fn from_run_lengths(
         alloc: Global,
         array_size: u64,
