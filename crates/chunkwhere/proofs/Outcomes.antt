@@ -27,14 +27,7 @@ leaves_first : (input held : List ℕ) (fault : RunFault) (s : Streams) → IsFi
 leaves_first input held Read s first end written = absurd (no_read first)
 leaves_first input held Memory s first end written = absurd (no_memory first)
 leaves_first input held Write s first end written = absurd (no_write first)
-leaves_first input held NotJson s first end written = (end, first, written)
-leaves_first input held NotObject s first end written = (end, first, written)
-leaves_first input held (Missing field) s first end written = (end, first, written)
-leaves_first input held (WrongValue field) s first end written = (end, first, written)
-leaves_first input held (Metadata field e) s first end written = (end, first, written)
-leaves_first input held (Grid e) s first end written = (end, first, written)
-leaves_first input held (Encoding e) s first end written = (end, first, written)
-leaves_first input held (Index position e) s first end written = (end, first, written)
+leaves_first input held _ s first end written = (end, first, written)
 
 -- ---- after everything was read
 
@@ -43,14 +36,13 @@ pub after_fault : (left left_after holds : Option (List ℕ)) (read_before read_
     → IfSome left (λ input. (bytes ≡ input) × (left_after ≡ Some [])) → read_after ≡ read_before → OrMemory (IsFirstFault bytes) fault
     → IfSome left (λ input. IfSome holds (λ held. read_before ≡ false → write ≡ false
     → RunLeaves input held (Err fault) (record { left = left_after; read_failed = read_after; holds = holds; write_failed = write })))
-after_fault None left_after holds read_before read_after write bytes fault read same why = tt
-after_fault (Some input) left_after None read_before read_after write bytes fault read same why = tt
 after_fault (Some input) left_after (Some held) read_before read_after write bytes fault read same why = λ not_read not_written.
     let s : Streams = record { left = left_after; read_failed = read_after; holds = Some held; write_failed = write } in
     ⊎_elim
     (λ is_memory. subst (λ f. RunLeaves input held (Err f) s) (sym is_memory) (same ∙ not_read, (refl, not_written)))
     (λ first. leaves_first input held fault s (subst (λ b. IsFirstFault b fault) read.0 first) (read.1, same ∙ not_read) (refl, not_written))
     why
+after_fault _ left_after _ read_before read_after write bytes fault read same why = tt
 
 -- the text was written, or a beginning of it
 pub after_writing : (left left_after holds holds_after : Option (List ℕ)) (read_before read_after write_before write_after : Bool) (bytes text : List ℕ)
@@ -61,8 +53,6 @@ pub after_writing : (left left_after holds holds_after : Option (List ℕ)) (rea
     → IfErr r (λ fault. (fault ≡ Write) × (write_after ≡ true))
     → IfSome left (λ input. IfSome holds (λ held. read_before ≡ false → write_before ≡ false
     → RunLeaves input held r (record { left = left_after; read_failed = read_after; holds = holds_after; write_failed = write_after })))
-after_writing None left_after holds holds_after read_before read_after write_before write_after bytes text r read same is_text ok unfailed err failed = tt
-after_writing (Some input) left_after None holds_after read_before read_after write_before write_after bytes text r read same is_text ok unfailed err failed = tt
 after_writing (Some input) left_after (Some held) holds_after read_before read_after write_before write_after bytes text (Ok u) read same is_text ok unfailed err failed =
     λ not_read not_written.
     ((read.1, same ∙ not_read), text, subst (λ b. IsTextFor b text) read.0 is_text, (ok, unfailed ∙ not_written))
@@ -72,6 +62,7 @@ after_writing (Some input) left_after (Some held) holds_after read_before read_a
     let (written, rest, whole, is_held) = err in
     subst (λ f. RunLeaves input held (Err f) s) (sym failed.0)
     ((read.1, same ∙ not_read), text, written, rest, subst (λ b. IsTextFor b text) read.0 is_text, whole, is_held, failed.1)
+after_writing _ left_after _ holds_after read_before read_after write_before write_after bytes text r read same is_text ok unfailed err failed = tt
 
 -- ---- the status
 
@@ -79,6 +70,5 @@ pub with_status : (left holds : Option (List ℕ)) (read_failed write_failed : B
     → IfSome left (λ input. IfSome holds (λ held. read_failed ≡ false → write_failed ≡ false → RunLeaves input held outcome s))
     → MatchResult outcome (λ _. status ≡ 0) (λ _. status ≡ 1)
     → IfSome left (λ input. IfSome holds (λ held. read_failed ≡ false → write_failed ≡ false → RunEndsWith input held status s))
-with_status None holds read_failed write_failed outcome status s leaves is = tt
-with_status (Some input) None read_failed write_failed outcome status s leaves is = tt
 with_status (Some input) (Some held) read_failed write_failed outcome status s leaves is = λ not_read not_written. (outcome, leaves not_read not_written, is)
+with_status _ _ read_failed write_failed outcome status s leaves is = tt

@@ -1,17 +1,11 @@
 -- What is known of the look-ups in each axis, for the dimensions of the axes.
-use Rattle.std.proofs.Common.{◌≡◌, ◌≢◌, ℕ, List, [], ◌∷◌, map, IsTrue, Option, Some, None, MatchOption, Result, Ok, Err, ⊎_elim}
+use Rattle.std.proofs.Common.{◌≡◌, ◌≢◌, ℕ, List, [], ◌∷◌, map, IsTrue, Option, Some, None, Result, Ok, Err, ⊎_elim}
 use Rattle.zarrs_chunk_base.specs.declared.incompatible_dimensionality_error.IncompatibleDimensionalityError.{IncompatibleDimensionalityError}
 use Rattle.zarrs_chunk_base.specs.declared.refusal.Refusal.{Refusal}
 use Rattle.zarrs_chunk_base.specs.declared.refusal.Refusal.TheVariants.{Refused, Memory}
 use Rattle.zarrs_chunk_base.specs.Dimension.{Dimension, InEach, IsChunk}
 use Rattle.zarrs_chunk_base.specs.Refusal.{Answers, AnswersStoring}
 use Rattle.zarrs_chunk_axes.specs.lemmas.LookUpEach.{EachGives, SomeGivesNone, IsFound, IsNotFound}
-
--- what a look-up of a list answers, where the lengths agree
-pub answers_of : {X : Type 0} (given expected : ℕ) (Found : X → Type 0) (Absent : Type 0) (o : Option X) → given ≡ expected → MatchOption o Absent Found
-    → Answers given expected Found Absent (Ok o)
-answers_of given expected Found Absent None same h = (same, h)
-answers_of given expected Found Absent (Some x) same h = (same, h)
 
 -- an answer that says more says less
 pub answers_storing_weaker : {X : Type 0} (Stores : ℕ → Type 0) (given n m : ℕ) (Found Sought : X → Type 0) (Absent Missing : Type 0)
@@ -36,10 +30,7 @@ module _ {A X : Type 0} (dimension : A → Dimension) where
     related : (axes : List A) (numbers : List ℕ) (found : List X) → EachGives gives axes numbers found → InEach R (map dimension axes) numbers found
     related [] [] [] h = tt
     related (a ∷ axes) (n ∷ numbers) (x ∷ found) h = (sound a n x h.0, related axes numbers found h.1)
-    related [] [] (_ ∷ _) h = absurd h
-    related [] (_ ∷ _) _ h = absurd h
-    related (_ ∷ _) [] _ h = absurd h
-    related (_ ∷ _) (_ ∷ _) [] h = absurd h
+    related _ _ _ h = absurd h
 
   -- where nothing is found, nothing is related in each dimension
   pub none_in_each : {Y : Type 0} (R : Dimension → ℕ → Y → Type 0) {gives : A → ℕ → Option X → Type 0} {axes : List A} {numbers : List ℕ} (ys : List Y)
@@ -48,12 +39,10 @@ module _ {A X : Type 0} (dimension : A → Dimension) where
     refuted : (axes : List A) (numbers : List ℕ) (ys : List Y) → SomeGivesNone gives axes numbers → InEach R (map dimension axes) numbers ys → ⊥
     refuted (a ∷ axes) (n ∷ numbers) (y ∷ ys) some each = ⊎_elim (λ none. sound a n y none each.0) (λ rest. refuted axes numbers ys rest each.1) some
     refuted (a ∷ axes) (n ∷ numbers) [] some each = absurd each
-    refuted [] _ _ some each = absurd some
-    refuted (_ ∷ _) [] _ some each = absurd some
+    refuted _ _ _ some each = absurd some
 
 -- each number of a chunk has one
 pub has_each : (ds : List Dimension) (chunk : List ℕ) → IsChunk ds chunk → InEach (λ d c x. IsTrue (d.has_chunk c)) ds chunk chunk
 has_each [] [] h = tt
 has_each (d ∷ ds) (c ∷ chunk) h = (h.0, has_each ds chunk h.1)
-has_each [] (_ ∷ _) h = absurd h
-has_each (_ ∷ _) [] h = absurd h
+has_each _ _ h = absurd h

@@ -10,9 +10,6 @@ module _ {A X : Type 0} (gives : A → ℕ → Option X → Type 0) where
     pub none : SomeGivesNone gives axes_left numbers_left → SomeGivesNone gives axes numbers
 
   module _ (axes : List A) (numbers : List ℕ) where
-    pub at_start : length axes ≡ length numbers → EachSoFar axes numbers axes numbers []
-    at_start same = record { lengths = same; all = λ more h. h; none = λ h. h }
-
     pub one_more : (a : A) (n : ℕ) (x : X) (axes_left : List A) (numbers_left : List ℕ) (found : List X)
         → EachSoFar axes numbers (a ∷ axes_left) (n ∷ numbers_left) found → gives a n (Some x) → EachSoFar axes numbers axes_left numbers_left (found ++ x ∷ [])
     one_more a n x axes_left numbers_left found so_far given = record {

@@ -71,11 +71,10 @@ module _ {C A : Type 0} (accepted : ℕ → C → Type 0) (dimension : A → Dim
 pub any_accepted : {C E : Type 0} (f : C → E) (shape : List ℕ) (configurations : List C)
     → AllZip (λ _ _. Unit {0}) shape (map f configurations) ↔ length configurations ≡ length shape
 any_accepted f [] [] = (λ _. refl, λ _. tt)
-any_accepted f [] (_ ∷ _) = (λ h. absurd h, λ same. absurd (omega arith))
-any_accepted f (_ ∷ _) [] = (λ h. absurd h, λ same. absurd (omega arith))
 any_accepted f (a ∷ shape) (c ∷ configurations) =
     let rest = any_accepted f shape configurations in
     (λ h. ap suc (rest.0 h.1), λ same. (tt, rest.1 (omega arith)))
+any_accepted f _ _ = (λ h. absurd h, λ same. absurd (omega arith))
 
 -- so a refusal that was made of theirs tells unequal lengths
 pub unequal_lengths : {C E X Y : Type 0} (f : C → E) (shape : List ℕ) (configurations : List C) (R : X → Y → Type 0) (r : Refusal X) (s : Refusal Y)
@@ -88,8 +87,7 @@ unequal_lengths f shape configurations R r s is h =
 pub edges_accepted : {C E : Type 0} (f : C → E) (accepted : ℕ → E → Type 0) (shape : List ℕ) (configurations : List C)
     → AllZip (λ size c. accepted size (f c)) shape configurations ↔ AllZip accepted shape (map f configurations)
 edges_accepted f accepted [] [] = (λ h. h, λ h. h)
-edges_accepted f accepted [] (_ ∷ _) = (λ h. h, λ h. h)
-edges_accepted f accepted (_ ∷ _) [] = (λ h. h, λ h. h)
 edges_accepted f accepted (a ∷ shape) (c ∷ configurations) =
     let rest = edges_accepted f accepted shape configurations in
     (λ h. (h.0, rest.0 h.1), λ h. (h.0, rest.1 h.1))
+edges_accepted f accepted _ _ = (λ h. h, λ h. h)

@@ -41,10 +41,9 @@ all_below (size ∷ shape) =
 pub all_after_below : (shape numbers : List ℕ) → AreBelow shape numbers → AllByRecursion (AreBelow shape) (after shape numbers)
 unfolding after
 all_after_below [] [] below = tt
-all_after_below [] (_ ∷ _) below = absurd below
-all_after_below (_ ∷ _) [] below = absurd below
 all_after_below (size ∷ shape) (n ∷ numbers) below =
     let here : n < size = below.0 in
     all_of_both (AreBelow (size ∷ shape)) (map (λ others. n ∷ others) (after shape numbers)) (rows (n + 1) (size - (n + 1)) (row_major shape))
     (all_beginning (AreBelow shape) (AreBelow (size ∷ shape)) n (λ others h. (here, h)) (after shape numbers) (all_after_below shape numbers below.1))
     (all_in_rows (AreBelow shape) (AreBelow (size ∷ shape)) (n + 1) (size - (n + 1)) (λ m others low high h. (omega arith, h)) (row_major shape) (all_below shape))
+all_after_below _ _ below = absurd below

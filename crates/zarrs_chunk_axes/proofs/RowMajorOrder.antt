@@ -47,9 +47,8 @@ in_rows first (suc count) n others numbers low high has =
 has_all : (shape numbers : List ℕ) → AreBelow shape numbers → Contains (row_major shape) numbers
 unfolding row_major
 has_all [] [] below = (zero, omega arith, refl)
-has_all [] (_ ∷ _) below = absurd below
-has_all (_ ∷ _) [] below = absurd below
 has_all (size ∷ shape) (n ∷ numbers) below = in_rows 0 size n (row_major shape) numbers (omega arith) (omega (arith, below.0)) (has_all shape numbers below.1)
+has_all _ _ below = absurd below
 
 -- they are the lists below the shape
 pub are_those_below : (shape numbers : List ℕ) → Contains (row_major shape) numbers ↔ AreBelow shape numbers
@@ -76,11 +75,9 @@ module _ {X : Type 0} (R : X → X → Type 0) where
 
   all_pairs : (xs : List X) → IsOrdered xs → AllPairs R xs
   unfolding IsOrdered
-  all_pairs [] ordered i j d before within = absurd (omega arith)
-  all_pairs (x ∷ xs) ordered zero zero d before within = absurd (omega arith)
   all_pairs (x ∷ xs) ordered zero (suc j) d before within = at_place (R x) xs j d ordered.0 (omega arith)
-  all_pairs (x ∷ xs) ordered (suc i) zero d before within = absurd (omega arith)
   all_pairs (x ∷ xs) ordered (suc i) (suc j) d before within = all_pairs xs ordered.1 i j d (omega arith) (omega arith)
+  all_pairs _ ordered _ _ d before within = absurd (omega arith)
 
 anything : (others : List (List ℕ)) → AllByRecursion (λ _. Unit {0}) others
 anything [] = tt

@@ -1,5 +1,5 @@
 -- The run-length form of a list of edges, run by run.
-use Rattle.std.proofs.Common.{◌≡◌, ◌≢◌, ℕ, zero, suc, ◌+◌, List, [], ◌∷◌, ◌++◌, replicate, append_assoc, append-nil, add-one, refl, sym, ap, ◌∙◌}
+use Rattle.std.proofs.Common.{◌≡◌, ◌≢◌, ℕ, List, [], ◌∷◌, ◌++◌, replicate, append_assoc, append-nil, sym, ap, ◌∙◌}
 use Rattle.std.specs.List.{AllByRecursion}
 use Rattle.zarrs_chunk_base.specs.RunLength.{AreApart, Element, IsNoPairOfOne, IsRunLengthForm, edge_in, edges_of_element, joined}
 
@@ -20,27 +20,11 @@ apart_one_more [] x y apart other = (other, tt)
 apart_one_more (e ∷ []) x y apart other = (apart.0, (other, tt))
 apart_one_more (e ∷ f ∷ elements) x y apart other = (apart.0, apart_one_more (f ∷ elements) x y apart.1 other)
 
-replicate_one_more : (count edge : ℕ) (rest : List ℕ) → replicate count edge ++ edge ∷ rest ≡ replicate (suc count) edge ++ rest
-replicate_one_more zero edge rest = refl
-replicate_one_more (suc count) edge rest = ap (λ more. edge ∷ more) (replicate_one_more count edge rest)
-
 -- The elements so far, a run of equal edges behind them, and the edges that are left are all edges; and with an element of the run
 -- the elements are in run-length form.
 pub record SoFar (all : List ℕ) (elements : List Element) (edge count : ℕ) (left : List ℕ) : Type 0 where
   pub are_all : joined elements ++ (replicate count edge ++ left) ≡ all
   pub form : (x : Element) → edge_in x ≡ edge → IsNoPairOfOne x → IsRunLengthForm (elements ++ x ∷ [])
-
--- the first edge
-pub at_first : (edge : ℕ) (left : List ℕ) → SoFar (edge ∷ left) [] edge 1 left
-at_first edge left = record { are_all = refl; form = λ x is no_pair. record { no_pair_of_one = (no_pair, tt); apart = tt } }
-
--- an edge that the run has
-pub same_run : (all : List ℕ) (elements : List Element) (edge count : ℕ) (left : List ℕ) → SoFar all elements edge count (edge ∷ left)
-    → SoFar all elements edge (count + 1) left
-same_run all elements edge count left so_far = record {
-  are_all = rw add-one (ap (λ rest. joined elements ++ rest) (sym (replicate_one_more count edge left)) ∙ so_far.are_all);
-  form = so_far.form;
-}
 
 -- an edge that it hasn't begins another
 pub next_run : (all : List ℕ) (elements : List Element) (edge count next : ℕ) (left : List ℕ) (x : Element) → SoFar all elements edge count (next ∷ left)

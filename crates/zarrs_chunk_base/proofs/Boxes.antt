@@ -19,48 +19,43 @@ zero_is_box n = record { lengths = refl; fits = zeros_fit n }
 pub fits_push : (start shape : List ℕ) (first size : ℕ) → length start ≡ length shape → first + size ≤ greatest
     → AllFit (ends start shape) → AllFit (ends (start ++ first ∷ []) (shape ++ size ∷ []))
 fits_push [] [] first size e h f = (h, tt)
-fits_push [] (n ∷ shape) first size e h f = absurd (omega arith)
-fits_push (s ∷ start) [] first size e h f = absurd (omega arith)
 fits_push (s ∷ start) (n ∷ shape) first size e h f = (f.0, fits_push start shape first size (omega arith) h f.1)
+fits_push _ _ first size e h f = absurd (omega arith)
 
 -- ---- ends
 
 pub ends_saturated : (start shape : List ℕ) → AllFit (ends start shape)
     → map (λ p. min (p.0 + p.1) (2 ^ 64 - 1)) (zip start shape) ≡ ends start shape
-ends_saturated [] shape f = refl
-ends_saturated (s ∷ start) [] f = refl
 ends_saturated (s ∷ start) (n ∷ shape) f =
     let fits : s + n ≤ greatest = f.0 in
     let head : min (s + n) (2 ^ 64 - 1) ≡ s + n = omega arith in
     let tail = ends_saturated start shape f.1 in
     cc
+ends_saturated _ _ f = refl
 
 pub lasts_saturated : (start shape : List ℕ) → AllFit (ends start shape)
     → map (λ p. min (p.0 + (p.1 - 1)) (2 ^ 64 - 1)) (zip start shape) ≡ lasts start shape
-lasts_saturated [] shape f = refl
-lasts_saturated (s ∷ start) [] f = refl
 lasts_saturated (s ∷ start) (n ∷ shape) f =
     let fits : s + n ≤ greatest = f.0 in
     let head : min (s + (n - 1)) (2 ^ 64 - 1) ≡ s + (n - 1) = omega arith in
     let tail = lasts_saturated start shape f.1 in
     cc
+lasts_saturated _ _ f = refl
 
 -- ---- the first end that is past the greatest number
 
 none_past : (start shape : List ℕ) → AllWithin (λ p. p.0 + p.1 ≤ greatest) (zip start shape) 0 (length (zip start shape))
     → AllFit (ends start shape)
-none_past [] shape w = tt
-none_past (s ∷ start) [] w = tt
 none_past (s ∷ start) (n ∷ shape) w =
     (w 0 (0, 0) (omega arith) (omega arith), none_past start shape (λ k d _ l. w (suc k) d (omega arith) (omega arith)))
+none_past _ _ w = tt
 
 end_at : (start shape : List ℕ) (k : ℕ) → k < length (zip start shape)
     → (P : ℕ → Type 0) → HoldsAt (λ p. P (p.0 + p.1)) (zip start shape) k → (k < length (ends start shape)) × P (slice_index (ends start shape) k)
-end_at [] shape k l P h = absurd (omega arith)
-end_at (s ∷ start) [] k l P h = absurd (omega arith)
 end_at (s ∷ start) (n ∷ shape) zero l P h = (omega arith, h (0, 0))
 end_at (s ∷ start) (n ∷ shape) (suc k) l P h =
     let rest = end_at start shape k (omega arith) P h in (omega (arith, rest.0), rest.1)
+end_at _ _ k l P h = absurd (omega arith)
 
 first_past : (start shape : List ℕ) (i : ℕ) → (i < length (zip start shape))
     → HoldsAt (λ p. greatest < p.0 + p.1) (zip start shape) i
@@ -90,30 +85,23 @@ In p = (p.0.0 ≤ p.1) × (p.1 < p.0.0 + p.0.1)
 
 pub within_lengths : (start shape index : List ℕ) → AreWithin start shape index → length index ≡ length start
 within_lengths [] [] [] w = refl
-within_lengths [] [] (i ∷ index) w = absurd w
-within_lengths [] (n ∷ shape) index w = absurd w
-within_lengths (s ∷ start) [] index w = absurd w
-within_lengths (s ∷ start) (n ∷ shape) [] w = absurd w
 within_lengths (s ∷ start) (n ∷ shape) (i ∷ index) w = ap suc (within_lengths start shape index w.2)
+within_lengths _ _ _ w = absurd w
 
 within_from_all : (start shape index : List ℕ) → length start ≡ length shape → length index ≡ length start
     → AllWithin In (zip (zip start shape) index) 0 (length (zip (zip start shape) index)) → AreWithin start shape index
 within_from_all [] [] [] e d w = tt
-within_from_all [] [] (i ∷ index) e d w = absurd (omega arith)
-within_from_all [] (n ∷ shape) index e d w = absurd (omega arith)
-within_from_all (s ∷ start) [] index e d w = absurd (omega arith)
-within_from_all (s ∷ start) (n ∷ shape) [] e d w = absurd (omega arith)
 within_from_all (s ∷ start) (n ∷ shape) (i ∷ index) e d w =
     let here : In ((s, n), i) = w 0 ((0, 0), 0) (omega arith) (omega arith) in
     (here.0, here.1, within_from_all start shape index (omega arith) (omega arith) (λ k x _ l. w (suc k) x (omega arith) (omega arith)))
+within_from_all _ _ _ e d w = absurd (omega arith)
 
 within_at : (start shape index : List ℕ) → AreWithin start shape index → (k : ℕ) → k < length (zip (zip start shape) index)
     → HoldsAt In (zip (zip start shape) index) k
-within_at [] shape index w k l = absurd (omega arith)
-within_at (s ∷ start) [] index w k l = absurd w
-within_at (s ∷ start) (n ∷ shape) [] w k l = absurd w
 within_at (s ∷ start) (n ∷ shape) (i ∷ index) w zero l = λ _. (w.0, w.1)
 within_at (s ∷ start) (n ∷ shape) (i ∷ index) w (suc k) l = within_at start shape index w.2 k (omega arith)
+within_at [] shape index w k l = absurd (omega arith)
+within_at (s ∷ start) _ _ w k l = absurd w
 
 pub tells_within : (r : Bool) (start shape index : List ℕ) → length start ≡ length shape → length index ≡ length start
     → MatchBool r (AllWithin In (zip (zip start shape) index) 0 (length (zip (zip start shape) index)))

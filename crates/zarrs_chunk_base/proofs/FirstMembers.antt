@@ -12,10 +12,10 @@ use Rattle.zarrs_chunk_base.specs.declared.configuration_fault.ConfigurationFaul
 use Rattle.zarrs_chunk_base.specs.declared.configuration_fault.ConfigurationFault.TheVariants.{UnknownField, MissingField, WrongValue}
 use Rattle.zarrs_chunk_base.specs.lemmas.Members.{IsFirstMissing, IsValueFault}
 
-Less≢Greater : (o : Ordering) → o ≡ Less → o ≢ Greater
+pub Less≢Greater : (o : Ordering) → o ≡ Less → o ≢ Greater
 Less≢Greater o e h = cc
 
-Equal≢Greater : (o : Ordering) → o ≡ Equal → o ≢ Greater
+pub Equal≢Greater : (o : Ordering) → o ≡ Equal → o ≢ Greater
 Equal≢Greater o e h = cc
 
 -- what a list contains is its first, or the rest contains it
@@ -116,20 +116,18 @@ least_wrong table members m order first =
 -- the first name that is missing is a configuration's first fault, where each name is known
 pub missing_is_first : (table : Table) (members : Members) (fault : ConfigurationFault) → AreInOrder table.members → HasNoUnknown (names_of table.members) members
     → IsFirstMissing (required_names_of table.members) members fault → IsConfigurationFault table members fault
-missing_is_first table _ (UnknownField field listed) order known first = absurd first
 missing_is_first table members (MissingField field) order known first = (known, least_missing table.members members field.now order first)
-missing_is_first table _ (WrongValue field) order known first = absurd first
+missing_is_first table _ _ order known first = absurd first
 
 -- the first value that isn't of its form is, where besides no name is missing
 pub wrong_is_first : (table : Table) (members : Members) (fault : ConfigurationFault) → AreInOrder table.members → HasNoUnknown (names_of table.members) members
     → HasRequired table.members members → IsFirstWrong table.members members fault → IsConfigurationFault table members fault
-wrong_is_first table _ (UnknownField field listed) order known there first = absurd first
-wrong_is_first table _ (MissingField field) order known there first = absurd first
 wrong_is_first table members (WrongValue field) order known there (m, named, first) = (
   known,
   none_missing table.members members there,
   subst (IsLeastName (IsWrong table.members members)) (sym named) (least_wrong table.members members m order first),
 )
+wrong_is_first table _ _ order known there first = absurd first
 
 -- ---- tables, member by member
 
@@ -139,18 +137,16 @@ module _ {X : Type 0} (form : Data → Option X) (m : Member) (rest : List Membe
 
   -- a value that isn't of the form of the table's first member is the first that isn't
   pub first_wrong : (fault : ConfigurationFault) → IsValueFault m.name form members fault → IsFirstWrong (m ∷ rest) members fault
-  first_wrong (UnknownField field listed) wrong = absurd wrong
-  first_wrong (MissingField field) wrong = absurd wrong
   first_wrong (WrongValue field) (named, d, there, none) = (m, named, inl ((d, there, misformed d none), refl))
+  first_wrong _ wrong = absurd wrong
 
   -- where that member's value is of its form, the first is one of the rest
   later : ((d : Data) → get_member m.name members ≡ Some d → is_some (form d) ≡ true) → (fault : ConfigurationFault) → IsFirstWrong rest members fault
       → IsFirstWrong (m ∷ rest) members fault
-  later formed (UnknownField field listed) wrong = absurd wrong
-  later formed (MissingField field) wrong = absurd wrong
   later formed (WrongValue field) (other, named, first) = (other, named, inr (not_here, first)) where
     not_here : ¬ HasWrongValue members m
     not_here (d, there, wrong) = true≢false (sym (of_form d ∙ formed d there) ∙ wrong)
+  later formed _ wrong = absurd wrong
 
   pub later_wrong : (x : X) → value_of m.name form members ≡ Some x → (fault : ConfigurationFault) → IsFirstWrong rest members fault
       → IsFirstWrong (m ∷ rest) members fault

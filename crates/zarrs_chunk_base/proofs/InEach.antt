@@ -10,10 +10,7 @@ pub by_dimension : {X : Type 0} (R : Dimension → ℕ → X → Type 0) (P : Li
     → (ds : List Dimension) (chunk : List ℕ) (xs : List X) → InEach R ds chunk xs → P ds chunk xs
 by_dimension R P none more [] [] [] h = none
 by_dimension R P none more (d ∷ ds) (c ∷ chunk) (x ∷ xs) h = more d c x ds chunk xs h.0 (by_dimension R P none more ds chunk xs h.1)
-by_dimension R P none more [] [] (_ ∷ _) h = absurd h
-by_dimension R P none more [] (_ ∷ _) _ h = absurd h
-by_dimension R P none more (_ ∷ _) [] _ h = absurd h
-by_dimension R P none more (_ ∷ _) (_ ∷ _) [] h = absurd h
+by_dimension R P none more _ _ _ h = absurd h
 
 -- the same of two lists of values, which are both related to the dimensions and to one list of numbers
 pub by_dimension_twice : {X Y : Type 0} (R : Dimension → ℕ → X → Type 0) (S : Dimension → ℕ → Y → Type 0)
@@ -40,11 +37,6 @@ module _ {X : Type 0} (R : Dimension → ℕ → X → Type 0) where
   -- and as many values
   pub length_values : (ds : List Dimension) (chunk : List ℕ) (xs : List X) → InEach R ds chunk xs → length xs ≡ length ds
   length_values = by_dimension R (λ ds chunk xs. length xs ≡ length ds) refl (λ d c x ds chunk xs here rest. ap suc rest)
-
-  -- what follows in each dimension follows for the lists
-  pub implied : (S : Dimension → ℕ → X → Type 0) → ((d : Dimension) (c : ℕ) (x : X) → R d c x → S d c x)
-      → (ds : List Dimension) (chunk : List ℕ) (xs : List X) → InEach R ds chunk xs → InEach S ds chunk xs
-  implied S follows = by_dimension R (InEach S) tt (λ d c x ds chunk xs here rest. (follows d c x here, rest))
 
   -- a number that the dimension determines
   pub numbers_are : (f : Dimension → ℕ) → ((d : Dimension) (c : ℕ) (x : X) → R d c x → f d ≡ c)

@@ -16,7 +16,7 @@ use Rattle.serde_json.specs.Find.{get_member}
 use Rattle.serde_json.specs.View.{view, members_view}
 use Rattle.serde_json.specs.declared.value.Value.{Value}
 use Rattle.zarrs_chunk_base.specs.Configuration.{HasNoUnknown, IsConfiguration, IsLeastName, IsUnknown, Table, names_of}
-use Rattle.zarrs_chunk_base.proofs.FirstMembers.{contained}
+use Rattle.zarrs_chunk_base.proofs.FirstMembers.{Equal≢Greater, Less≢Greater, contained}
 
 abbrev pub Entry : Type 0
 Entry = String Global × Value
@@ -97,12 +97,6 @@ none_unknown known (e ∷ es) none name unknown =
     (member_cases (slice_cmp nat_cmp name (string_bytes e.0)) (view e.1) _ unknown.0)
 
 -- ---- the first unknown
-
-Less≢Greater : (o : Ordering) → o ≡ Less → o ≢ Greater
-Less≢Greater o e h = cc
-
-Equal≢Greater : (o : Ordering) → o ≡ Equal → o ≢ Greater
-Equal≢Greater o e h = cc
 
 pub first_unknown : (known : List (Bor (List ℕ))) (es : List Entry) (k : String Global) → IsStrictlySortedBy string_cmp (keys_of es)
     → find (is_unknown_key known) (keys_of es) ≡ Some k → IsLeastName (IsUnknown (texts known) (members_view es)) (string_bytes k)

@@ -1,5 +1,6 @@
 -- Grids of like dimensions answer alike.
 use Rattle.std.proofs.Common.{◌≡◌, ◌∙◌, ℕ, ◌+◌, ◌-◌, ◌&&◌, ◌<◌, ◌≤◌, Bool, true, false, cond, List, [], ◌∷◌, length, map, nat_le, suc, Some, None, Result, Ok, Err, sym, refl, ap, ap₂, subst, arith, ⊎_elim, inl, inr}
+use Rattle.std.proofs.lemmas.List.Elements.{length_all_zip}
 use Rattle.std.specs.List.{AllByRecursion}
 use Rattle.zarrs_chunk_base.specs.ArraySubset.{Box, lasts, zero_box}
 use Rattle.zarrs_chunk_base.specs.declared.refusal.Refusal.TheVariants.{Refused, Memory}
@@ -10,6 +11,7 @@ use Rattle.zarrs_chunk_axes.specs.LookUp.{AnswersHome}
 use Rattle.zarrs_chunk_axes.specs.RowMajor.{row_major}
 use Rattle.zarrs_chunk_base.specs.declared.incompatible_dimensionality_error.IncompatibleDimensionalityError.{IncompatibleDimensionalityError}
 use Rattle.zarrs_chunk_base.specs.declared.refusal.Refusal.{Refusal}
+use Rattle.zarrs_chunk_base.proofs.Copies.{all_equal}
 use Rattle.zarrs_chunk_axes.proofs.RowMajor.{all_below}
 use Rattle.zarrs_chunk_axes.proofs.EachAxis.{answers_storing_weaker, answers_weaker}
 use Rattle.zarrs_chunks.specs.Alike.{AnswerAlike, AreAlike, AreAllAlike, chunk_and_box, chunks_and_boxes}
@@ -30,39 +32,27 @@ alike_back d e alike = record {
 all_back : (ds es : List Dimension) → AreAllAlike ds es → AreAllAlike es ds
 all_back [] [] alike = tt
 all_back (d ∷ ds) (e ∷ es) alike = (alike_back d e alike.0, all_back ds es alike.1)
-all_back [] (_ ∷ _) alike = absurd alike
-all_back (_ ∷ _) [] alike = absurd alike
+all_back _ _ alike = absurd alike
 
 -- ---- what is so of the one list is so of the other
 
 same_length : (ds es : List Dimension) → AreAllAlike ds es → length ds ≡ length es
-same_length [] [] alike = refl
-same_length (d ∷ ds) (e ∷ es) alike = ap suc (same_length ds es alike.1)
-same_length [] (_ ∷ _) alike = absurd alike
-same_length (_ ∷ _) [] alike = absurd alike
+same_length = length_all_zip AreAlike
 
 -- sizes that like dimensions share
-sizes_alike : (size : Dimension → ℕ) → ((d e : Dimension) → AreAlike d e → size d ≡ size e) → (ds es : List Dimension) → AreAllAlike ds es → map size ds ≡ map size es
-sizes_alike size each [] [] alike = refl
-sizes_alike size each (d ∷ ds) (e ∷ es) alike = ap₂ (λ n ns. n ∷ ns) (each d e alike.0) (sizes_alike size each ds es alike.1)
-sizes_alike size each [] (_ ∷ _) alike = absurd alike
-sizes_alike size each (_ ∷ _) [] alike = absurd alike
-
 array_shapes_alike : (ds es : List Dimension) → AreAllAlike ds es → array_sizes ds ≡ array_sizes es
-array_shapes_alike = sizes_alike (λ d. d.array_size) (λ d e alike. alike.array_size)
+array_shapes_alike ds es alike = sym (all_equal (λ d. d.array_size) AreAlike (λ d e alike. sym alike.array_size) ds es alike)
 
 grid_shapes_alike : (ds es : List Dimension) → AreAllAlike ds es → grid_sizes ds ≡ grid_sizes es
-grid_shapes_alike = sizes_alike (λ d. d.grid_size) (λ d e alike. alike.grid_size)
+grid_shapes_alike ds es alike = sym (all_equal (λ d. d.grid_size) AreAlike (λ d e alike. sym alike.grid_size) ds es alike)
 
 -- what is so in each dimension
 each_alike : {X : Type 0} (R : Dimension → ℕ → X → Type 0) → ((d e : Dimension) (c : ℕ) (x : X) → AreAlike d e → R d c x → R e c x)
     → (ds es : List Dimension) → AreAllAlike ds es → (chunk : List ℕ) (xs : List X) → InEach R ds chunk xs → InEach R es chunk xs
 each_alike R each [] [] alike chunk xs h = h
 each_alike R each (d ∷ ds) (e ∷ es) alike (c ∷ chunk) (x ∷ xs) h = (each d e c x alike.0 h.0, each_alike R each ds es alike.1 chunk xs h.1)
-each_alike R each (d ∷ ds) (e ∷ es) alike [] xs h = absurd h
-each_alike R each (d ∷ ds) (e ∷ es) alike (_ ∷ _) [] h = absurd h
-each_alike R each [] (_ ∷ _) alike chunk xs h = absurd alike
-each_alike R each (_ ∷ _) [] alike chunk xs h = absurd alike
+each_alike R each (d ∷ ds) (e ∷ es) alike _ _ h = absurd h
+each_alike R each _ _ alike chunk xs h = absurd alike
 
 module _ (ds es : List Dimension) (alike : AreAllAlike ds es) where
   box_alike : (chunk index : List ℕ) → InBox ds chunk index → InBox es chunk index
@@ -112,8 +102,7 @@ chunk_alike : (ds es : List Dimension) → AreAllAlike ds es → (chunk : List �
 chunk_alike [] [] alike chunk h = h
 chunk_alike (d ∷ ds) (e ∷ es) alike (c ∷ chunk) h = ((alike.0.chunks c).0 h.0, chunk_alike ds es alike.1 chunk h.1)
 chunk_alike (d ∷ ds) (e ∷ es) alike [] h = absurd h
-chunk_alike [] (_ ∷ _) alike chunk h = absurd alike
-chunk_alike (_ ∷ _) [] alike chunk h = absurd alike
+chunk_alike _ _ alike chunk h = absurd alike
 
 -- a place in a chunk that holds the index
 place_alike : (ds es : List Dimension) → AreAllAlike ds es → (chunk index place : List ℕ) → InBox ds chunk index → IsPlace ds chunk index place
@@ -121,11 +110,8 @@ place_alike : (ds es : List Dimension) → AreAllAlike ds es → (chunk index pl
 place_alike [] [] alike chunk index place box h = h
 place_alike (d ∷ ds) (e ∷ es) alike (c ∷ chunk) (i ∷ index) (p ∷ place) box h =
     (subst (λ n. n + p ≡ i) (alike.0.start c box.0.chunk) h.0, place_alike ds es alike.1 chunk index place box.1 h.1)
-place_alike (d ∷ ds) (e ∷ es) alike [] index place box h = absurd h
-place_alike (d ∷ ds) (e ∷ es) alike (_ ∷ _) [] place box h = absurd h
-place_alike (d ∷ ds) (e ∷ es) alike (_ ∷ _) (_ ∷ _) [] box h = absurd h
-place_alike [] (_ ∷ _) alike chunk index place box h = absurd alike
-place_alike (_ ∷ _) [] alike chunk index place box h = absurd alike
+place_alike (d ∷ ds) (e ∷ es) alike _ _ _ box h = absurd h
+place_alike _ _ alike chunk index place box h = absurd alike
 
 no_home_alike : (ds es : List Dimension) → AreAllAlike ds es → (index : List ℕ) → HasNoHome ds index → HasNoHome es index
 no_home_alike ds es alike index none chunk box = none chunk (box_alike es ds (all_back ds es alike) chunk index box)
@@ -173,8 +159,7 @@ boxed_alike (d ∷ ds) (e ∷ es) alike chains (c ∷ chunk) below =
       within = ap₂ (λ n b. nat_le n greatest && b) end rest.within;
     }
 boxed_alike (d ∷ ds) (e ∷ es) alike chains [] below = absurd below
-boxed_alike [] (_ ∷ _) alike chains chunk below = absurd alike
-boxed_alike (_ ∷ _) [] alike chains chunk below = absurd alike
+boxed_alike _ _ alike chains chunk below = absurd alike
 
 -- so the chunks that have a box are the same, and so is each with its box
 module _ (ds es : List Dimension) (alike : AreAllAlike ds es) (chains : AllByRecursion IsChain ds) where

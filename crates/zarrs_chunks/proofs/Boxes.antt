@@ -58,11 +58,6 @@ same_index [] [] [] [] [] first second = refl
 same_index (d ∷ ds) (c ∷ chunk) (i ∷ one) (j ∷ other) (p ∷ place) first second =
     let here : i ≡ j = let one_is = first.0 in let other_is = second.0 in omega arith in
     ap₂ (λ x xs. x ∷ xs) here (same_index ds chunk one other place first.1 second.1)
-same_index [] (_ ∷ _) one other place first second = absurd first
-same_index [] [] (_ ∷ _) other place first second = absurd first
 same_index [] [] [] (_ ∷ _) place first second = absurd second
-same_index [] [] [] [] (_ ∷ _) first second = absurd first
-same_index (_ ∷ _) [] one other place first second = absurd first
-same_index (_ ∷ _) (_ ∷ _) [] other place first second = absurd first
-same_index (_ ∷ _) (_ ∷ _) (_ ∷ _) other [] first second = absurd first
 same_index (_ ∷ _) (_ ∷ _) (_ ∷ _) [] (_ ∷ _) first second = absurd second
+same_index _ _ _ _ _ first second = absurd first

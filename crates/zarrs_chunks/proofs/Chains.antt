@@ -6,23 +6,6 @@ use Rattle.zarrs_chunk_base.specs.Dimension.{Dimension, Holds, IsChain, InBox}
 use Rattle.zarrs_chunk_base.proofs.InEach.{by_dimension_twice, turned}
 use Rattle.zarrs_chunk_axes.specs.LookUp.{Looked, AnswersChunk}
 
--- a chunk ends before a later one starts
-ends_before : (d : Dimension) → IsChain d → (c m : ℕ) → c ≤ m → IsTrue (d.has_chunk (m + 1)) → d.end c ≤ d.start (m + 1)
-ends_before d chain c zero below has =
-    let first : c ≡ zero = omega arith in
-    let gap = chain.no_gap zero has in
-    subst (λ k. d.end k ≤ d.start (zero + 1)) (sym first) (omega (arith, gap.1))
-ends_before d chain c (suc m) below has =
-    let gap = chain.no_gap (suc m) has in
-    let holds_something : d.start (suc m) < d.end (suc m) = chain.not_empty (suc m) gap.0 in
-    ⊎_elim
-    (λ (before : c < suc m).
-    let rest : d.end c ≤ d.start (m + 1) = ends_before d chain c m (omega arith) (rw (add-one) gap.0) in
-    let same : d.start (m + 1) ≡ d.start (suc m) = ap d.start (add-one m) in
-    omega (arith, gap.1))
-    (λ (after : suc m ≤ c). let same : c ≡ suc m = omega arith in subst (λ k. d.end k ≤ d.start (suc m + 1)) (sym same) (omega (arith, gap.1)))
-    (cases_lt c (suc m))
-
 -- what comes before a chunk is a chunk
 pub earlier_has : (d : Dimension) → IsChain d → (c m : ℕ) → c ≤ m → IsTrue (d.has_chunk m) → IsTrue (d.has_chunk c)
 earlier_has d chain c zero below has = let first : c ≡ zero = omega arith in subst (λ k. IsTrue (d.has_chunk k)) (sym first) has
@@ -36,18 +19,14 @@ earlier_has d chain c (suc m) below has =
 pub apart : (d : Dimension) → IsChain d → (c m : ℕ) → c < m → IsTrue (d.has_chunk m) → d.end c ≤ d.start m
 apart d chain c zero before has = absurd (omega arith)
 apart d chain c (suc m) before has =
-    let same : d.start (m + 1) ≡ d.start (suc m) = ap d.start (add-one m) in
-    let ended : d.end c ≤ d.start (m + 1) = ends_before d chain c m (omega arith) (rw add-one has) in
-    omega arith
-
--- a chunk starts before a later one ends
-pub starts_before_end : (d : Dimension) → IsChain d → (c m : ℕ) → c ≤ m → IsTrue (d.has_chunk m) → d.start c < d.end m
-starts_before_end d chain c m below has =
-    let first : d.start c < d.end c = chain.not_empty c (earlier_has d chain c m below has) in
-    let last : d.start m < d.end m = chain.not_empty m has in
+    let gap = chain.no_gap m (rw add-one has) in
+    let next : d.start (m + 1) ≡ d.start (suc m) = ap d.start (add-one m) in
     ⊎_elim
-    (λ (before : c < m). let ended : d.end c ≤ d.start m = apart d chain c m before has in omega arith)
-    (λ (after : m ≤ c). let same : c ≡ m = omega arith in subst (λ k. d.start k < d.end m) (sym same) last)
+    (λ (earlier : c < m).
+    let ended : d.end c ≤ d.start m = apart d chain c m earlier gap.0 in
+    let some : d.start m < d.end m = chain.not_empty m gap.0 in
+    omega (arith, gap.1))
+    (λ (not_earlier : m ≤ c). let same : c ≡ m = omega arith in let end : d.end c ≡ d.end m = ap d.end same in omega (arith, gap.1))
     (cases_lt c m)
 
 -- a chunk's number is at most the index at which it starts
@@ -62,14 +41,10 @@ at_most_start d chain (suc c) has =
 
 -- no index lies in a chunk and in a later one
 not_later : (d : Dimension) → IsChain d → (c e i : ℕ) → Holds d c i → Holds d e i → c < e → ⊥
-not_later d chain c zero i first second before = absurd (omega arith)
-not_later d chain c (suc m) i first second before =
-    let has : IsTrue (d.has_chunk (m + 1)) = rw add-one second.chunk in
-    let apart : d.end c ≤ d.start (m + 1) = ends_before d chain c m (omega arith) has in
-    let same : d.start (m + 1) ≡ d.start (suc m) = ap d.start (add-one m) in
+not_later d chain c e i first second before =
     let low = first.below in
     let high = second.from in
-    absurd (omega arith)
+    absurd (omega (arith, apart d chain c e before second.chunk))
 
 same_chunk : (d : Dimension) → IsChain d → (c e i : ℕ) → Holds d c i → Holds d e i → c ≡ e
 same_chunk d chain c e i first second =

@@ -99,11 +99,8 @@ all_bounded_are_listed (b ∷ bounded) (l ∷ listed) (size ∷ sizes) (edge ∷
   all_bounded_are_listed bounded listed sizes edges first.1 second.1,
 )
 all_bounded_are_listed [] (_ ∷ _) [] [] first second = absurd second
-all_bounded_are_listed [] listed [] (_ ∷ _) first second = absurd first
-all_bounded_are_listed [] listed (_ ∷ _) edges first second = absurd first
-all_bounded_are_listed (_ ∷ _) listed [] edges first second = absurd first
-all_bounded_are_listed (_ ∷ _) listed (_ ∷ _) [] first second = absurd first
 all_bounded_are_listed (_ ∷ _) [] (_ ∷ _) (_ ∷ _) first second = absurd second
+all_bounded_are_listed _ listed _ _ first second = absurd first
 
 -- there is such a list for every size and edge that aren't 0
 pub has_clipped : (size edge : ℕ) → 0 < size → 0 < edge → (edges : List ℕ) × AreClipped size edge edges

@@ -38,10 +38,7 @@ pub unmapped : {X Y : Type 0} (f : X → Y) (R : Dimension → ℕ → Y → Typ
     → InEach R ds numbers (map f xs) → InEach (λ d n x. R d n (f x)) ds numbers xs
 unmapped f R [] [] [] h = tt
 unmapped f R (d ∷ ds) (n ∷ numbers) (x ∷ xs) h = (h.0, unmapped f R ds numbers xs h.1)
-unmapped f R [] [] (_ ∷ _) h = absurd h
-unmapped f R [] (_ ∷ _) _ h = absurd h
-unmapped f R (_ ∷ _) [] _ h = absurd h
-unmapped f R (_ ∷ _) (_ ∷ _) [] h = absurd h
+unmapped f R _ _ _ h = absurd h
 
 -- dimensions that are made of array sizes and equal edges, from the edges that a grid tells
 pub of_one_edge : (R : Dimension → ℕ → DimensionEdges → Type 0) (ds : List Dimension) (shape edges : List ℕ) (told : List DimensionEdges)

@@ -18,8 +18,7 @@ use Rattle.zarrs_chunks.proofs.Chains.{apart, at_most_start, earlier_has}
 pub firsts_before_lasts : (start shape : List ℕ) → length start ≡ length shape → AllZip ◌≤◌ start (lasts start shape)
 firsts_before_lasts [] [] same = tt
 firsts_before_lasts (s ∷ start) (n ∷ shape) same = (omega arith, firsts_before_lasts start shape (omega arith))
-firsts_before_lasts [] (_ ∷ _) same = absurd (omega arith)
-firsts_before_lasts (_ ∷ _) [] same = absurd (omega arith)
+firsts_before_lasts _ _ same = absurd (omega arith)
 
 -- chunks start before later ones, or with them
 pub starts_in_order : (ds : List Dimension) (first last origin last_origin : List ℕ) → AllByRecursion IsChain ds → AllZip ◌≤◌ first last
@@ -59,22 +58,24 @@ in_order ds first last low high chains order f l =
 pub length_lasts : (start shape : List ℕ) → length start ≡ length shape → length (lasts start shape) ≡ length start
 length_lasts [] [] same = refl
 length_lasts (s ∷ start) (n ∷ shape) same = ap suc (length_lasts start shape (omega arith))
-length_lasts [] (_ ∷ _) same = absurd (omega arith)
-length_lasts (_ ∷ _) [] same = absurd (omega arith)
+length_lasts _ _ same = absurd (omega arith)
+
+-- a list without a 0 begins with none
+pub head_some : (n : ℕ) (shape : List ℕ) → (¬ Contains (n ∷ shape) 0) → 0 < n
+head_some n shape some = ⊎_elim (λ (below : 0 < n). below) (λ (none : n ≤ 0). let is : n ≡ 0 = omega arith in absurd (some (0, omega arith, is))) (cases_lt 0 n)
+
+pub tail_some : (n : ℕ) (shape : List ℕ) → (¬ Contains (n ∷ shape) 0) → ¬ Contains shape 0
+tail_some n shape some (k, within, is) = some (suc k, omega arith, is)
 
 -- the last numbers of a box are below its ends, which fit
 pub lasts_small : (start shape : List ℕ) → length start ≡ length shape → AllFit (ends start shape) → (¬ Contains shape 0)
     → AllByRecursion (λ n. n < greatest) (lasts start shape)
 lasts_small [] [] same fit some = tt
 lasts_small (s ∷ start) (n ∷ shape) same fit some =
-    (last, lasts_small start shape (omega arith) fit.1 (λ (k, within, is). some (suc k, omega arith, is))) where
-      holds : n ≡ 0 → ⊥
-      holds is = some (0, omega arith, is)
-
-      last : s + (n - 1) < greatest
-      last = ⊎_elim (λ (below : 0 < n). let end : s + n ≤ greatest = fit.0 in omega arith) (λ (none : n ≤ 0). absurd (holds (omega arith))) (cases_lt 0 n)
-lasts_small [] (_ ∷ _) same fit some = absurd (omega arith)
-lasts_small (_ ∷ _) [] same fit some = absurd (omega arith)
+    let any : 0 < n = head_some n shape some in
+    let end : s + n ≤ greatest = fit.0 in
+    (omega arith, lasts_small start shape (omega arith) fit.1 (tail_some n shape some))
+lasts_small _ _ same fit some = absurd (omega arith)
 
 -- a chunk that holds an index below the greatest number has a smaller number still
 pub chunks_small : (ds : List Dimension) (chunk index : List ℕ) → AllByRecursion IsChain ds → InBox ds chunk index
@@ -108,9 +109,8 @@ lasts_are (s ∷ start) (n ∷ shape) (l ∷ last) same order end =
       not_here here le some (zero, within, is) = absurd (omega arith)
       not_here here le some (suc k, within, is) = some (k, omega arith, is)
 lasts_are [] [] (_ ∷ _) same order end = absurd order
-lasts_are [] (_ ∷ _) _ same order end = absurd (omega arith)
-lasts_are (_ ∷ _) [] _ same order end = absurd (omega arith)
 lasts_are (_ ∷ _) (_ ∷ _) [] same order end = absurd order
+lasts_are _ _ _ same order end = absurd (omega arith)
 
 pub is_cover : (ds : List Dimension) (b cover : Box) (first last : List ℕ) → IsBox cover → cover.start ≡ first
     → ends cover.start cover.shape ≡ map (λ n. n + 1) last → AllZip ◌≤◌ first last

@@ -38,11 +38,8 @@ lengths_are (d ∷ ds) (c ∷ chunk) (s ∷ start) (n ∷ shape) same from to =
     let edge : n ≡ d.end c - d.start c = omega arith in
     ap₂ (λ x xs. x ∷ xs) edge (lengths_are ds chunk start shape (omega arith) from.1 to.1)
 lengths_are [] [] [] (_ ∷ _) same from to = absurd (omega arith)
-lengths_are [] [] (_ ∷ _) shape same from to = absurd from
-lengths_are [] (_ ∷ _) start shape same from to = absurd from
-lengths_are (_ ∷ _) [] start shape same from to = absurd from
-lengths_are (_ ∷ _) (_ ∷ _) [] shape same from to = absurd from
 lengths_are (_ ∷ _) (_ ∷ _) (_ ∷ _) [] same from to = absurd (omega arith)
+lengths_are _ _ _ shape same from to = absurd from
 
 pub box_is : (ds : List Dimension) (chunk : List ℕ) (b : Box) → Spans ds chunk chunk b → b ≡ box_at ds chunk
 box_is ds chunk b spans =
@@ -67,8 +64,6 @@ parts : (ds : List Dimension) (chunk : List ℕ) → AllByRecursion IsChain ds �
     → IsOrigin ds chunk (starts_at ds chunk) × IsEnd ds chunk (ends (starts_at ds chunk) (lengths_at ds chunk))
     × (length (starts_at ds chunk) ≡ length (lengths_at ds chunk)) × AllFit (ends (starts_at ds chunk) (lengths_at ds chunk))
 parts [] [] chains below fit = (tt, tt, refl, tt)
-parts [] (_ ∷ _) chains below fit = absurd below
-parts (_ ∷ _) [] chains below fit = absurd below
 parts (d ∷ ds) (c ∷ chunk) chains below fit =
     let both = and_true (nat_le (d.end c) greatest) (ends_within ds chunk) fit in
     let (starts, finish, same, all) = parts ds chunk chains.1 below.1 both.1 in
@@ -76,6 +71,7 @@ parts (d ∷ ds) (c ∷ chunk) chains below fit =
     let some : d.start c < d.end c = chains.0.not_empty c has in
     let here : d.end c ≤ greatest = leb-true (d.end c) greatest both.0 in
     ((record { chunk = has; start = refl }, starts), (record { chunk = has; end = omega arith }, finish), ap suc same, (omega arith, all))
+parts _ _ chains below fit = absurd below
 
 pub has_box : (ds : List Dimension) (chunk : List ℕ) → AllByRecursion IsChain ds → AreBelow (map (λ d. d.grid_size) ds) chunk → ends_within ds chunk ≡ true
     → Spans ds chunk chunk (box_at ds chunk)
@@ -100,16 +96,14 @@ ends_later d chain c e low counted =
 
 later_fits : (ds : List Dimension) (chunk later : List ℕ) → AllByRecursion IsChain ds → AreBelow (map (λ d. d.grid_size) ds) later
     → AreAtLeast chunk later → ends_within ds later ≡ true → ends_within ds chunk ≡ true
-later_fits [] [] later chains below low fit = refl
-later_fits [] (_ ∷ _) later chains below low fit = refl
-later_fits (_ ∷ _) [] later chains below low fit = refl
-later_fits (_ ∷ _) (_ ∷ _) [] chains below low fit = absurd below
 later_fits (d ∷ ds) (c ∷ chunk) (e ∷ later) chains below low fit =
     let both = and_true (nat_le (d.end e) greatest) (ends_within ds later) fit in
     let here : d.end e ≤ greatest = leb-true (d.end e) greatest both.0 in
     let order : d.end c ≤ d.end e = ends_later d chains.0 c e low.0 below.0 in
     let first : d.end c ≤ greatest = omega arith in
     ap₂ (λ a b. a && b) (le-leb (d.end c) greatest first) (later_fits ds chunk later chains.1 below.1 low.1 both.1)
+later_fits (_ ∷ _) (_ ∷ _) [] chains below low fit = absurd below
+later_fits _ _ later chains below low fit = refl
 
 none_later : (ds : List Dimension) (chunk later : List ℕ) → AllByRecursion IsChain ds → AreBelow (map (λ d. d.grid_size) ds) later
     → AreAtLeast chunk later → ends_within ds chunk ≡ false → ends_within ds later ≡ false
@@ -131,8 +125,7 @@ counted_home (d ∷ ds) (i ∷ index) chains below =
     let (c, counted, here) = chains.0.reaches i below.0 in
     let (chunk, all, box) = counted_home ds index chains.1 below.1 in
     (c ∷ chunk, (counted, all), (here, box))
-counted_home [] (_ ∷ _) chains below = absurd below
-counted_home (_ ∷ _) [] chains below = absurd below
+counted_home _ _ chains below = absurd below
 
 -- ---- a walk on its way to a chunk that has a box
 
@@ -183,15 +176,6 @@ module _ (ds : List Dimension) (chains : AllByRecursion IsChain ds) (walk : RowM
         let low = by.fewer in
         omega arith;
   }
-
--- fewer are left behind those that are passed over
-pub fewer_left : (walk : RowMajorWalk) (found : Bool) (new : RowMajorWalk) (passed : List (List ℕ)) → IsPassing walk found new passed
-    → length (lists_from found new) < length (lists_from true walk)
-fewer_left walk found new passed is =
-    let shorter = ap length is.all in
-    let sum = length-append passed (lists_from found new) in
-    let some = is.some in
-    omega arith
 
 -- a chunk that has a box is the next of those that do
 pub gives_box : (ds : List Dimension) (old new : RowMajorWalk) (b : Box) → ComesBy ds old true new → Spans ds (numbers_at new) (numbers_at new) b

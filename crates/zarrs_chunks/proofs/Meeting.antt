@@ -8,6 +8,7 @@ use Rattle.zarrs_chunk_base.specs.Dimension.{Dimension, Holds, IsChain, InBox, I
 use Rattle.zarrs_chunk_base.proofs.InEach.{length_numbers, length_values}
 use Rattle.zarrs_chunks.specs.Subsets.{AnswersCover, AnswersChunksSubset, IsCover, LookedBox, Spans}
 use Rattle.zarrs_chunks.proofs.Chains.{apart, earlier_has}
+use Rattle.zarrs_chunks.proofs.Covers.{head_some, tail_some}
 
 -- what holds without dimensions, and of one more wherever it holds, holds of a range of chunks and a range of indices in each dimension
 by_ranges : (P : List Dimension → List ℕ → List ℕ → List ℕ → List ℕ → Type 0) → P [] [] [] [] []
@@ -18,23 +19,9 @@ by_ranges : (P : List Dimension → List ℕ → List ℕ → List ℕ → List 
 by_ranges P none more [] [] [] [] [] e f g h = none
 by_ranges P none more (d ∷ ds) (a ∷ first) (n ∷ sizes) (i ∷ low) (m ∷ counts) e f g h =
     more d a n i m ds first sizes low counts (by_ranges P none more ds first sizes low counts (omega arith) (omega arith) (omega arith) (omega arith))
-by_ranges P none more [] [] [] [] (_ ∷ _) e f g h = absurd (omega arith)
-by_ranges P none more [] [] [] (_ ∷ _) _ e f g h = absurd (omega arith)
-by_ranges P none more [] [] (_ ∷ _) _ _ e f g h = absurd (omega arith)
-by_ranges P none more [] (_ ∷ _) _ _ _ e f g h = absurd (omega arith)
-by_ranges P none more (_ ∷ _) [] _ _ _ e f g h = absurd (omega arith)
-by_ranges P none more (_ ∷ _) (_ ∷ _) [] _ _ e f g h = absurd (omega arith)
-by_ranges P none more (_ ∷ _) (_ ∷ _) (_ ∷ _) [] _ e f g h = absurd (omega arith)
-by_ranges P none more (_ ∷ _) (_ ∷ _) (_ ∷ _) (_ ∷ _) [] e f g h = absurd (omega arith)
+by_ranges P none more _ _ _ _ _ e f g h = absurd (omega arith)
 
 -- ---- the cover
-
--- a list without a 0 begins with none
-head_some : (n : ℕ) (shape : List ℕ) → (¬ Contains (n ∷ shape) 0) → 0 < n
-head_some n shape some = ⊎_elim (λ (below : 0 < n). below) (λ (none : n ≤ 0). let is : n ≡ 0 = omega arith in absurd (some (0, omega arith, is))) (cases_lt 0 n)
-
-tail_some : (n : ℕ) (shape : List ℕ) → (¬ Contains (n ∷ shape) 0) → ¬ Contains shape 0
-tail_some n shape some (k, within, is) = some (suc k, omega arith, is)
 
 -- a chunk from the first to the last one that meet a range holds some of it
 meets : (d : Dimension) → IsChain d → (first size low count c : ℕ) → 0 < size → 0 < count → Holds d first low → Holds d (first + (size - 1)) (low + (count - 1))
@@ -124,8 +111,7 @@ cover_meets ds b cover chains is_box some is =
 pub answered_cover_meets : (ds : List Dimension) (b : Box) → AllByRecursion IsChain ds → IsBox b → (¬ IsEmptyBox b) → (r : LookedBox) → AnswersCover ds b r
     → IfOk r (λ found. IfSome found (λ cover. (chunk : List ℕ) → IsInside cover chunk ↔ ((index : List ℕ) × InBox ds chunk index × IsInside b index)))
 answered_cover_meets ds b chains is_box some (Ok (Some cover)) h = cover_meets ds b cover chains is_box some h.1
-answered_cover_meets ds b chains is_box some (Ok None) h = tt
-answered_cover_meets ds b chains is_box some (Err e) h = tt
+answered_cover_meets ds b chains is_box some _ h = tt
 
 -- ---- the box of a box of chunks
 
@@ -224,5 +210,4 @@ is_union ds chunks b chains is_box some spans =
 pub answered_union : (ds : List Dimension) (chunks : Box) → AllByRecursion IsChain ds → IsBox chunks → (¬ IsEmptyBox chunks) → (r : LookedBox) → AnswersChunksSubset ds chunks r
     → IfOk r (λ found. IfSome found (λ b. (index : List ℕ) → IsInside b index ↔ ((chunk : List ℕ) × IsInside chunks chunk × InBox ds chunk index)))
 answered_union ds chunks chains is_box some (Ok (Some b)) h = is_union ds chunks b chains is_box some (h.1.1 some)
-answered_union ds chunks chains is_box some (Ok None) h = tt
-answered_union ds chunks chains is_box some (Err e) h = tt
+answered_union ds chunks chains is_box some _ h = tt

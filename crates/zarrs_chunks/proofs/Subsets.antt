@@ -18,9 +18,8 @@ use Rattle.zarrs_chunk_base.proofs.InEach.{by_dimension, by_dimension_twice, len
 -- no start is past an end
 pub starts_fit : (start shape : List ℕ) → length start ≡ length shape → AllFit (ends start shape) → AllFit start
 starts_fit [] [] same fit = tt
-starts_fit [] (_ ∷ _) same fit = absurd (omega arith)
-starts_fit (_ ∷ _) [] same fit = absurd (omega arith)
 starts_fit (s ∷ start) (n ∷ shape) same fit = (let here : s + n ≤ greatest = fit.0 in omega arith, starts_fit start shape (omega arith) fit.1)
+starts_fit _ _ same fit = absurd (omega arith)
 
 -- what starts somewhere is a chunk
 pub is_chunk : (ds : List Dimension) (chunk origin : List ℕ) → IsOrigin ds chunk origin → IsChunk ds chunk

@@ -12,10 +12,9 @@ use Rattle.zarrs_chunks.proofs.Subsets.{fits_at}
 
 -- an end that is past the greatest number keeps the ends from fitting
 pub past_at : (start shape : List ℕ) (k : ℕ) → length shape ≡ length start → k < length start → greatest < get_or start k 0 + get_or shape k 0 → ¬ AllFit (ends start shape)
-past_at [] shape k same within past fit = absurd (omega arith)
-past_at (s ∷ start) [] k same within past fit = absurd (omega arith)
 past_at (s ∷ start) (n ∷ shape) zero same within past fit = let low : s + n ≤ greatest = fit.0 in absurd (omega arith)
 past_at (s ∷ start) (n ∷ shape) (suc k) same within past fit = past_at start shape k (omega arith) (omega arith) past fit.1
+past_at _ _ k same within past fit = absurd (omega arith)
 
 -- sizes from starts on reach to the same ends
 pub reaches : (start last_start last_shape shape : List ℕ) → AllZip ◌≤◌ start last_start → length last_shape ≡ length last_start → length shape ≡ length last_shape
@@ -27,17 +26,8 @@ reaches (s ∷ start) (l ∷ last_start) (n ∷ last_shape) (m ∷ shape) before
     let size : m ≡ l - s + n = each 0 (omega arith) in
     let here : s + m ≡ l + n = omega arith in
     ap₂ (λ x xs. x ∷ xs) here (reaches start last_start last_shape shape before.1 (omega arith) (omega arith) (λ k within. each (suc k) (omega arith)))
-reaches [] (_ ∷ _) last_shape shape before same as_many each = absurd before
-reaches (_ ∷ _) [] last_shape shape before same as_many each = absurd before
-reaches (_ ∷ _) (_ ∷ _) [] shape before same as_many each = absurd (omega arith)
-reaches (_ ∷ _) (_ ∷ _) (_ ∷ _) [] before same as_many each = absurd (omega arith)
-
--- as many starts as there are other starts
-pub as_many : (R : ℕ → ℕ → Type 0) (xs ys : List ℕ) → AllZip R xs ys → length xs ≡ length ys
-as_many R [] [] all = refl
-as_many R (x ∷ xs) (y ∷ ys) all = ap suc (as_many R xs ys all.1)
-as_many R [] (_ ∷ _) all = absurd all
-as_many R (_ ∷ _) [] all = absurd all
+reaches (_ ∷ _) (_ ∷ _) _ _ before same as_many each = absurd (omega arith)
+reaches _ _ last_shape shape before same as_many each = absurd before
 
 -- the box of a start and such sizes, or none, where an end is past the greatest number
 pub made_up_to : (start shape last_start last_shape : List ℕ) (made : Result Box ArraySubsetError) → length shape ≡ length start → ends start shape ≡ ends last_start last_shape

@@ -2,10 +2,7 @@
 use Rattle.std.specs.Prelude.{◌≡◌, Bool, List, [], ◌∷◌, map, refl}
 use Rattle.zarrs_chunk_base.specs.Dimension.{Dimension, array_sizes}
 use Rattle.zarrs_chunk_base.specs.DimensionEdges.{DimensionEdges}
-use Rattle.zarrs_chunk_axes.specs.declared.equal_or.EqualOr.{EqualOr}
-use Rattle.zarrs_chunk_axes.specs.declared.equal_or.EqualOr.TheVariants.{Equal, Other}
 use Rattle.zarrs_chunk_axes.specs.seen.DimensionFrom.{dimension_from, dimensions_from}
-use Rattle.zarrs_chunk_axes.specs.seen.EqualOr.{equal_or, equal_or_edges}
 
 module _ {A : Type 0} (dimension : A → Dimension) (edges : A → DimensionEdges) (bounded : Bool) where
   -- the dimension is that of the array size and the edges

@@ -1,5 +1,5 @@
 -- How an axis of one edge is seen as a dimension, and that it is a chain.
-use Rattle.std.specs.Prelude.{◌≡◌, ℕ, ◌+◌, ◌*◌, ◌/◌, ◌<◌, true, refl}
+use Rattle.std.specs.Prelude.{ℕ, ◌+◌, ◌*◌, ◌/◌, ◌<◌, true, refl}
 use Rattle.std.proofs.Common.{arith}
 use Rattle.std.proofs.Math.Nat.{div-mul-le_self}
 use Rattle.std.proofs.lemmas.Grind.{div_ceil_times}
