@@ -1,7 +1,7 @@
 -- The outcomes of a run, put together from its steps.
-use Rattle.std.proofs.Common.{◌≡◌, ℕ, Bool, true, false, List, [], ◌++◌, Option, None, Some, Result, Ok, Err, IfSome, IfErr, MatchResult, OnOk, OnErr, refl, sym, ◌∙◌, subst, ⊎_elim}
+use Rattle.std.proofs.Common.{◌≡◌, ℕ, Bool, true, false, List, [], ◌++◌, Option, Some, Result, Ok, Err, IfSome, IfErr, MatchResult, OnOk, OnErr, refl, sym, ◌∙◌, subst, ⊎_elim}
 use Rattle.chunkwhere.specs.declared.run_fault.RunFault.{RunFault}
-use Rattle.chunkwhere.specs.declared.run_fault.RunFault.TheVariants.{Read, NotJson, NotObject, Missing, WrongValue, Metadata, Grid, Encoding, Index, Write, Memory}
+use Rattle.chunkwhere.specs.declared.run_fault.RunFault.TheVariants.{Read, Write, Memory}
 use Rattle.chunkwhere.specs.Document.{not_json, not_of_form}
 use Rattle.chunkwhere.specs.Run.{IsFirstFault, no_document, no_answer, IsTextFor, IsWritten, IsReadToEnd, RunEndsWith, RunLeaves, Streams}
 use Rattle.chunkwhere.specs.RunFault.{OrMemory}

@@ -1,5 +1,5 @@
 -- What is known of the dimensions of each kind of grid, and that a grid is made again of its metadata.
-use Rattle.std.proofs.Common.{◌≡◌, ℕ, List, Some, Result, Ok, Err, IfErr, IfOk, MatchResult, true, false, refl, sym, ap, ◌∙◌}
+use Rattle.std.proofs.Common.{◌≡◌, ℕ, List, Result, Ok, Err, IfErr, IfOk, MatchResult, true, false, refl, sym, ap, ◌∙◌}
 use Rattle.zarrs_chunk_base.specs.Dimension.{InEach, array_sizes}
 use Rattle.zarrs_chunk_base.specs.Grid.{Grid}
 use Rattle.zarrs_chunk_base.specs.Kinds.{IsMetadata, IsOf}
@@ -14,7 +14,7 @@ use Rattle.zarrs_chunk_axes.specs.EqualOrListed.{IsEqualOrListed}
 use Rattle.zarrs_chunk_axes.specs.declared.equal_or.EqualOr.{EqualOr}
 use Rattle.zarrs_chunk_axes.specs.declared.equal_or.EqualOr.TheVariants.{Equal, Other}
 use Rattle.zarrs_chunk_axes.specs.declared.listed_axis.ListedAxis.{ListedAxis}
-use Rattle.zarrs_chunk_base.specs.DimensionEdges.{DimensionEdges, listed}
+use Rattle.zarrs_chunk_base.specs.DimensionEdges.{listed}
 use Rattle.zarrs_chunk_axes.specs.lemmas.AllFromEdges.{IsFromEdges}
 use Rattle.zarrs_chunk_axes.specs.seen.AxisGrid.{from_edges, made_of}
 use Rattle.zarrs_chunk_axes.specs.seen.BoundedAxis.{bounded_is_made}

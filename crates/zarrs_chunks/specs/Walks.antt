@@ -1,6 +1,6 @@
 -- The chunks that a grid counts, one after another, their boxes, and what a walk gives of them.
 -- Source: Zarr V3 core, chunk grids and row-major ("C") order; the walks are this library's own.
-use Rattle.std.specs.Prelude.{◌≡◌, ℕ, ◌-◌, ◌&&◌, Bool, true, List, [], ◌∷◌, map, nat_le, Option, Some, None, Result, Ok, Err}
+use Rattle.std.specs.Prelude.{◌≡◌, ℕ, ◌-◌, ◌&&◌, Bool, true, List, [], ◌∷◌, nat_le, Option, Some, None, Result, Ok, Err}
 use Rattle.std.specs.List.{filter}
 use Rattle.std.specs.declared.alloc.AllocError.{AllocError}
 use Rattle.zarrs_chunk_base.specs.ArraySubset.{Box}
