@@ -89,11 +89,5 @@ pub fn finish<T, W: Write>(outcome: &Result<T, RunFault>, errors: &mut W) -> u8
     ensures status { MatchResult outcome.now (λ _. result ≡ 0) (λ _. result ≡ 1) }
     ensures silent { OnOk outcome.now (Keeps (W.contents errors.old) (W.contents errors.new)) }
 {
-    match outcome {
-        Ok(_) => 0,
-        Err(fault) => {
-            let _ = writeln!(errors, "chunkcalls: {fault}");
-            1
-        }
-    }
+    programs::finish("chunkcalls", outcome, errors)
 }

@@ -45,6 +45,7 @@ fn lines<G: ChunkGridTraits, E: ChunkKeyEncodingTraits>(
     let mut index = Vec::new(alloc);
     let mut home = Home::new(alloc);
     for (position, list) in indices.into_iter().enumerate() {
+        index.clear();
         // It is a list of sizes, as its document has seen.
         read_list(alloc, &list, &mut index)?;
         drop(list);

@@ -77,6 +77,7 @@ fn take_indices(alloc: Global, mut tree: Value) -> Result<Option<Vec<Value>>, Al
     };
     let mut numbers = Vec::new(alloc);
     for list in &lists {
+        numbers.clear();
         if !read_list::<u64>(alloc, list, &mut numbers)? {
             return Ok(None);
         }

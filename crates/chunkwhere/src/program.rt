@@ -83,11 +83,5 @@ pub fn finish<W: Write>(outcome: &Result<(), RunFault>, errors: &mut W) -> u8
     ensures status { MatchResult outcome.now (λ _. result ≡ 0) (λ _. result ≡ 1) }
     ensures silent { OnOk outcome.now (Keeps (W.contents errors.old) (W.contents errors.new)) }
 {
-    match outcome {
-        Ok(()) => 0,
-        Err(fault) => {
-            let _ = writeln!(errors, "chunkwhere: {fault}");
-            1
-        }
-    }
+    programs::finish("chunkwhere", outcome, errors)
 }

@@ -3,6 +3,7 @@
 use crate::program::{finish, run, run_to_status};
 use crate::run_fault::RunFault;
 use crate::watched::Watched;
+use programs::{FailingReader, FailingWriter};
 use std::alloc::{AllocError, Global};
 use std::io;
 use std::io::{ErrorKind, Read, Write};
@@ -299,57 +300,6 @@ fn lengths_are_refused(rt: HostRuntime) -> Result<(), Fail> {
     Ok(())
 }
 
-/// A reader that gives at most 16 bytes at once, and fails after so many reads.
-#[derive(Drop)]
-struct FailingReader<'a> {
-    rest: &'a [u8],
-    reads: usize,
-}
-
-impl Read for FailingReader<'_> {
-    fn read(&mut self, buf: &mut [u8]) -> io::Result<usize> {
-        if self.reads == 0 {
-            return Err(io::Error::from(ErrorKind::Interrupted));
-        }
-        self.reads -= 1;
-        let end = buf.len().min(16);
-        Read::read(&mut self.rest, &mut buf[..end])
-    }
-}
-
-/// A writer that takes one byte at once, and after so many writes fails or takes nothing.
-#[derive(Drop)]
-struct FailingWriter {
-    taken: Vec<u8>,
-    writes: usize,
-    fault: Option<ErrorKind>,
-    flush_fails: bool,
-}
-
-impl Write for FailingWriter {
-    fn write(&mut self, buf: &[u8]) -> io::Result<usize> {
-        if self.writes == 0 {
-            return match self.fault {
-                Some(kind) => Err(io::Error::from(kind)),
-                None => Ok(0),
-            };
-        }
-        let Some(first) = buf.first() else {
-            return Ok(0);
-        };
-        self.writes -= 1;
-        self.taken.push(*first)?;
-        Ok(1)
-    }
-
-    fn flush(&mut self) -> io::Result<()> {
-        if self.flush_fails {
-            return Err(io::Error::from(ErrorKind::Other));
-        }
-        Ok(())
-    }
-}
-
 #[test]
 fn a_failed_read_is_told(rt: HostRuntime) -> Result<(), Fail> {
     let input = document(rt.alloc(), SHAPE, REGULAR, DEFAULT, INDICES)?;
@@ -358,6 +308,7 @@ fn a_failed_read_is_told(rt: HostRuntime) -> Result<(), Fail> {
         let mut reader = Watched::new(FailingReader {
             rest: input.as_bytes(),
             reads,
+            fault: ErrorKind::Interrupted,
         });
         let mut writer = Watched::new(Vec::new(rt.alloc()));
         let result = run(rt.alloc(), &mut reader, &mut writer);

@@ -1,5 +1,5 @@
 //! Values that a JSON tree may stand for: sizes, edges, texts, and lists of them.
-ghost use Rattle.std.specs.Prelude.{◌≡◌, IfOk, List, OnOk, Option, Some, [], ◌∷◌, is_some, map, option_map, slice_index, string_bytes, unwrap_or, ℕ, OnErr, if◌then◌else◌, None};
+ghost use Rattle.std.specs.Prelude.{◌≡◌, ◌++◌, IfOk, List, OnOk, Option, Some, [], ◌∷◌, is_some, length, map, option_map, slice_index, string_bytes, take, unwrap_or, ℕ, OnErr, if◌then◌else◌, None};
 ghost use Rattle.std.specs.Int.NonZero.{non_zero_u64_get};
 ghost use Rattle.serde_json.specs.Data.{Data, string};
 ghost use Rattle.serde_json.specs.Find.{as_str};
@@ -127,11 +127,10 @@ impl<T: TreeForm> TreeForm for Vec<T> {
     }
 }
 
-/// Reads the values that a tree stands for, a list of one form, and leaves them in the memory of other values. `false` where the
-/// tree isn't of the form; then no value is left.
+/// Appends the values that a tree stands for, a list of one form. `false` where the tree isn't of the form; then nothing is appended.
 ///
 /// # Errors
-/// Out of memory; no value is left then either.
+/// Out of memory; nothing is appended then either.
 pub fn read_list<T: TreeForm>(
     alloc: Global,
     tree: &Value,
@@ -139,33 +138,33 @@ pub fn read_list<T: TreeForm>(
 ) -> Result<bool, AllocError>
     ensures is_list { IfOk result (λ is. is ≡ is_some (list_of T.form (view tree.now))) }
     ensures values { OnOk result (map T.seen values.new.items
-        ≡ unwrap_or (list_of T.form (view tree.now)) []) }
-    ensures emptied { OnErr result (values.new.items ≡ []) }
+        ≡ map T.seen values.old.items ++ unwrap_or (list_of T.form (view tree.now)) []) }
+    ensures kept { OnErr result (values.new.items ≡ values.old.items) }
 {
-    values.clear();
     let Some(elements) = tree.as_array() else {
         return Ok(false);
     };
+    let before = values.len();
     let read = read_elements(alloc, elements, values);
     if !matches!(&read, Ok(true)) {
-        values.clear();
+        values.truncate(before);
     }
     read
 }
 
-/// Reads the values that elements stand for into an empty list. `false` where one of them isn't of the form; the list then holds some of
-/// the others.
+/// Appends the values that elements stand for. `false` where one of them isn't of the form; then some of the others may be appended.
 ///
 /// # Errors
-/// Out of memory.
+/// Out of memory; some may be appended then too.
 fn read_elements<T: TreeForm>(
     alloc: Global,
     elements: &[Value],
     values: &mut Vec<T>,
 ) -> Result<bool, AllocError>
-    requires { values.old.items ≡ [] }
-    ensures { IfOk result (λ is. each_of T.form (items_view elements.now)
+    ensures values { IfOk result (λ is. option_map (λ rest. map T.seen values.old.items ++ rest)
+        (each_of T.form (items_view elements.now))
         ≡ (if is then Some (map T.seen values.new.items) else None)) }
+    ensures kept { take (length values.old.items) values.new.items ≡ values.old.items }
 {
     values.reserve_exact(elements.len())?;
     for element in elements {

@@ -21,7 +21,7 @@ pub returns-in_err-map_err : goal.returns-in_err-map_err
 returns-in_err-map_err g c =
     let ((first, _), position, _, _) = c.in-Some.ensures.steps in
     let index = sizes_in c.in-Some.list in
-    let read : c.deref.result.now ≡ index = c.deref.ensures.value ∙ sym (map-id c.read_list.new.values.items) ∙ c.in_ok-read_list.ensures.values in
+    let read : c.deref.result.now ≡ index = c.deref.ensures.value ∙ sym (map-id c.read_list.new.values.items) ∙ rw c.clear.ensures.items at c.in_ok-read_list.ensures.values in
     let dimensions = g.G.ChunkGridTraits.dimensions c.args.grid.now in
     let all = lists_in c.args.indices.items in
     let wrong : (e : IncompatibleDimensionalityError) → (length c.deref.result.now ≢ length dimensions) → TellsLengths (length c.deref.result.now) (length dimensions) e
@@ -36,7 +36,7 @@ pub loop-position-preserved : goal.loop-position-preserved
 loop-position-preserved g c =
     let ((first, _), _, next, _) = c.in-Some.ensures.steps in
     let index = sizes_in c.in-Some.list in
-    let read : c.deref.result.now ≡ index = c.deref.ensures.value ∙ sym (map-id c.read_list.new.values.items) ∙ c.in_ok-read_list.ensures.values in
+    let read : c.deref.result.now ≡ index = c.deref.ensures.value ∙ sym (map-id c.read_list.new.values.items) ∙ rw c.clear.ensures.items at c.in_ok-read_list.ensures.values in
     let (has_length, line, is_line, text) =
     rw read at (value_is_kept _ _ _ _ _ _ c.append_line-appended.ensures c.map_err.ensures.cases c.map_err.ensures.variant c.in_ok-map_err.was) in
     rw next (so_far_with_line (g.G.ChunkGridTraits.dimensions c.args.grid.now) (g.E.ChunkKeyEncodingTraits.is_key c.args.encoding.now) (lists_in c.args.indices.items) _ _ (string_bytes c.loop-position.text) index line
