@@ -1,0 +1,3 @@
+pub mod Comparisons
+pub mod Place
+pub mod RunEdges
