@@ -6,7 +6,6 @@ ghost use Rattle.zarrs_chunk_base.specs.Greatest.{greatest};
 
 use crate::axis::{Axis, AxisFrom, FromEdges, FromRunLengths};
 use crate::equal_axis::EqualAxis;
-use crate::run_lengths;
 use std::alloc::{AllocError, Global};
 use std::num::NonZeroU64;
 use zarrs_chunk_base::{ChunkEdgeLengths, RectangularChunkGridDimensionConfiguration};
@@ -155,7 +154,7 @@ impl<A: FromRunLengths> AxisFrom<ChunkEdgeLengths> for EqualOr<A> {
     fn accepts(array_size: u64, lengths: &ChunkEdgeLengths) -> bool {
         match lengths {
             ChunkEdgeLengths::Scalar(_) => true,
-            ChunkEdgeLengths::Varying(elements) => match run_lengths::total(elements) {
+            ChunkEdgeLengths::Varying(elements) => match zarrs_chunk_runs::total(elements) {
                 // No edge is 0, so only an empty list has the sum 0.
                 Some(sum) => sum > 0 && array_size <= sum,
                 None => false,

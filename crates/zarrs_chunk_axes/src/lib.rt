@@ -20,7 +20,7 @@
 //! | `axis_grid` | the list of dimensions |
 //! | `in_bounds` | numbers in bounds of sizes |
 //! | `row_major`, `row_major_walk` | counting through the lists of numbers below a shape, and a walk that does so |
-//! | `run_lengths` | run-length elements: their sum, their edges one by one, and the run-length form of edges |
+//! | `run_lengths` | run-length elements: their edges one by one, and the run-length form of edges |
 #![tactic(auto)]
 
 mod axis;

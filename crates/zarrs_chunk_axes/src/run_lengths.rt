@@ -1,6 +1,5 @@
-//! Run-length elements: their sum, and the edges that they stand for.
-ghost use Rattle.std.specs.Prelude.{◌≡◌, ◌++◌, ◌≤◌, IfOk, OnOk, SomeIff, length, map, min, replicate};
-ghost use Rattle.std.specs.List.{sum};
+//! Run-length elements: the edges that they stand for, and the run-length form of edges.
+ghost use Rattle.std.specs.Prelude.{◌≡◌, ◌++◌, IfOk, OnOk, length, map, min, replicate};
 ghost use Rattle.std.specs.Int.NonZero.{non_zero_u64_get};
 ghost use Rattle.zarrs_chunk_base.specs.Greatest.{greatest};
 ghost use Rattle.zarrs_chunk_base.specs.RunLength.{edge_in, edges_of_element, element_edges, element_of, expansion, IsNoPairOfOne, IsRunLengthForm};
@@ -8,29 +7,6 @@ ghost use Rattle.zarrs_chunk_base.specs.RunLength.{edge_in, edges_of_element, el
 use std::alloc::{AllocError, Global};
 use std::num::NonZeroU64;
 use zarrs_chunk_base::RunLengthElement;
-
-/// The sum of the edges that the elements stand for, where it is at most the greatest `u64`.
-pub(crate) fn total(elements: &[RunLengthElement]) -> Option<u64>
-    ensures { SomeIff result (sum (expansion elements.now) ≤ greatest)
-        (sum (expansion elements.now)) }
-{
-    let mut total = 0u64;
-    for element in elements {
-        total = total.checked_add(element_sum(element)?)?;
-    }
-    Some(total)
-}
-
-/// The sum of the edges that an element stands for, where it is at most the greatest `u64`.
-fn element_sum(element: &RunLengthElement) -> Option<u64>
-    ensures { SomeIff result (sum (element_edges element.now) ≤ greatest)
-        (sum (element_edges element.now)) }
-{
-    match element {
-        RunLengthElement::Single(edge) => Some(edge.get()),
-        RunLengthElement::Repeated([edge, count]) => edge.get().checked_mul(count.get()),
-    }
-}
 
 /// The edges that the elements stand for.
 pub(crate) fn expand(

@@ -42,7 +42,7 @@ fn run(element: &RunLengthElement) -> (NonZeroU64, NonZeroU64)
     }
 }
 
-/// The runs of the edges that elements stand for, as few as there can be.
+/// The runs of the edges that elements stand for, no two of which stand side by side and have one edge.
 pub(crate) fn merge(
     alloc: Global,
     elements: &[RunLengthElement],

@@ -1,5 +1,5 @@
 //! Edges of chunks, kept as runs of equal ones.
-ghost use Rattle.std.specs.Prelude.{◌≡◌, ◌≤◌, ◌<◌, ℕ, IfOk, MatchOption, length, map, slice_index_or, take, IfErr};
+ghost use Rattle.std.specs.Prelude.{◌≡◌, ◌-◌, ◌<◌, ◌≤◌, ℕ, IfErr, IfOk, MatchOption, length, map, slice_index_or, take};
 ghost use Rattle.std.specs.List.{sum};
 ghost use Rattle.std.specs.Int.NonZero.{non_zero_u64_get};
 ghost use Rattle.zarrs_chunk_base.specs.Greatest.{greatest};
@@ -124,14 +124,14 @@ impl RunEdges {
     pub fn chunks(&self) -> u64
         ensures { result ≡ length (expanded self.now) }
     {
-        self.chunk_ends.last().copied().unwrap_or(0)
+        last_or_zero(&self.chunk_ends)
     }
 
     /// The sum of the edges.
     pub fn total(&self) -> u64
         ensures { result ≡ sum (expanded self.now) }
     {
-        self.ends.last().copied().unwrap_or(0)
+        last_or_zero(&self.ends)
     }
 
     /// The edge of a chunk; `None` where there is no such chunk.
@@ -197,4 +197,11 @@ impl RunEdges {
             start: self.ends[run] - edge.get() * count.get(),
         })
     }
+}
+
+/// The last of running sums, or 0 where there are none.
+fn last_or_zero(sums: &[u64]) -> u64
+    ensures { result ≡ slice_index_or sums.now (length sums.now - 1) 0 }
+{
+    sums.last().copied().unwrap_or(0)
 }
