@@ -5,6 +5,7 @@
 //! |---|---|
 //! | `metadata` | the metadata of a grid, read from a text and written as a tree |
 //! | `dimensions` | a list of dimensions of one kind |
+//! | `runs` | the chunk of an index among the edges of run-length elements |
 //! | `keys` | the keys of chunks |
 //! | `grids` | a grid of each kind |
 //! | `known_kind` | what is known of a grid whose kind is known |
@@ -20,6 +21,7 @@ mod grids;
 mod keys;
 mod known_kind;
 mod metadata;
+mod runs;
 mod stairs;
 mod subsets;
 mod versioned;
@@ -30,6 +32,7 @@ pub use grids::{bounded, by_name, rectangular, rectilinear, regular};
 pub use keys::{append_keys, key_by_name};
 pub use known_kind::{is_in_bounds, metadata_of_regular};
 pub use metadata::{metadata_of, regular_metadata};
+pub use runs::chunk_of_index;
 pub use stairs::Stairs;
 pub use subsets::{keys_of_grid, keys_of_subset};
 pub use versioned::Versioned;

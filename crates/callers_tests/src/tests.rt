@@ -1,14 +1,14 @@
 //! Each caller with its answer, which was computed by hand.
 use callers::{
-    Stairs, Versioned, append_keys, are_one_element, bounded, by_name, grid_sizes, is_in_bounds,
-    key_by_name, key_of_element, keys_of_grid, keys_of_subset, metadata_of, metadata_of_regular,
-    rectangular, rectilinear, regular, regular_metadata, share_a_chunk,
+    Stairs, Versioned, append_keys, are_one_element, bounded, by_name, chunk_of_index, grid_sizes,
+    is_in_bounds, key_by_name, key_of_element, keys_of_grid, keys_of_subset, metadata_of,
+    metadata_of_regular, rectangular, rectilinear, regular, regular_metadata, share_a_chunk,
 };
 use std::alloc::Global;
 use std::num::NonZeroU64;
 use std::process::Abort;
 use std::test::Fail;
-use zarrs_chunk_base::{ArraySubset, ChunkShape, MetadataV3, Refusal, StoreKey};
+use zarrs_chunk_base::{ArraySubset, ChunkShape, MetadataV3, Refusal, RunLengthElement, StoreKey};
 use zarrs_chunk_keys::{ChunkKeyEncoding, ChunkKeyEncodingTraits, DefaultChunkKeyEncoding};
 use zarrs_chunks::laws::{chunk_indices_names_the_home, key_and_place_determine_the_index};
 use zarrs_chunks::{ChunkGridTraits, RegularChunkGrid, locate};
@@ -60,6 +60,12 @@ fn metadata_and_dimensions(rt: HostRuntime) -> Result<(), Fail> {
     assert!(rt; metadata_of(alloc, "5")?.is_none() && metadata_of(alloc, "{")?.is_none());
     let sizes = grid_sizes(alloc, [5, 7, 52].to_vec(alloc)?, &edges(alloc, &[1, 2, 3])?)?;
     assert_eq!(rt; sizes.as_slice(), [5, 4, 18].as_slice());
+    let elements = [
+        RunLengthElement::Repeated([non_zero(5)?, non_zero(3)?]),
+        RunLengthElement::Single(non_zero(20)?),
+    ];
+    assert_eq!(rt; chunk_of_index(alloc, &elements, 15)?, Some(3));
+    assert_eq!(rt; chunk_of_index(alloc, &elements, 35)?, None);
     Ok(())
 }
 

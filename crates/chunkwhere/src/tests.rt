@@ -28,6 +28,10 @@ const RECTANGULAR: &str =
 const RECTILINEAR: &str =
     r#"{"name":"rectilinear","configuration":{"kind":"inline","chunk_shapes":[[[4,3]],3]}}"#;
 
+/// It has 8589934590 chunks along its second dimension.
+const WIDE: &str =
+    r#"{"name":"rectilinear","configuration":{"kind":"inline","chunk_shapes":[[[5,3],[15,2],20,35],[[4294967296,4294967295],[1,4294967295]]]}}"#;
+
 /// The edges of its first dimension add up to one more than the greatest number.
 const TOO_LONG: &str =
     r#"{"name":"rectilinear","configuration":{"kind":"inline","chunk_shapes":[[[2,9223372036854775808]],3]}}"#;
@@ -126,6 +130,13 @@ fn documents_are_answered(rt: HostRuntime) -> Result<(), Fail> {
             SUFFIXED,
             "[[5,5],[12,0]]",
             "c.1.1.tiff 1 2\n-\n",
+        ),
+        (
+            "[100,18446744073709551615]",
+            WIDE,
+            DEFAULT,
+            "[[17,18446744069414584319],[17,18446744069414584320],[17,18446744073709551615]]",
+            "c/3/4294967294 2 4294967295\nc/3/4294967295 2 0\n-\n",
         ),
         (
             "[18446744073709551615]",

@@ -3,11 +3,12 @@ use Rattle.std.proofs.Common.{◌≡◌, ℕ, zero, suc, ◌+◌, ◌<◌, ◌�
 use Rattle.std.proofs.lemmas.Bool.{cases_lt}
 use Rattle.std.specs.List.{sum}
 use Rattle.std.proofs.lemmas.List.{length-map}
+use Rattle.std.proofs.lemmas.List.Sums.{sum_by-take-le}
 use Rattle.std.specs.Int.NonZero.{non_zero_u64_get}
 use Rattle.std.specs.declared.num.NonZeroU64.{NonZeroU64}
 use Rattle.zarrs_chunk_base.specs.Dimension.{Holds, HasEdge, StartsAt}
 use Rattle.zarrs_chunk_base.specs.Greatest.{greatest}
-use Rattle.zarrs_chunk_axes.specs.seen.ListedAxis.{listed_from, end_is}
+use Rattle.zarrs_chunk_axes.specs.seen.ListedEdges.{listed_from, end_is}
 use Rattle.zarrs_chunk_axes.specs.lemmas.Running.{starts_from, IsAfter, take_next}
 use Rattle.std.specs.List.{AllWithin}
 use Rattle.std.specs.List.Sorted.{IsNonDecreasingBy}
@@ -109,3 +110,7 @@ edge_told size edges chunk (Some s) (within, at) =
     let lengths = length-map edges non_zero_u64_get in
     let counted : chunk < length (map non_zero_u64_get edges) = omega arith in
     record { chunk = lt-ltb chunk _ counted; edge = omega (arith, end_is (map non_zero_u64_get edges) chunk counted, edge_at edges chunk s within at) }
+
+-- an index in a chunk is below the sum of the edges
+pub below_sum : (size : ℕ) (edges : List ℕ) (i c : ℕ) → Holds (listed_from size edges) c i → i < sum edges
+below_sum size edges i c holds = let below = holds.below in omega (arith, sum_by-take-le (λ x. x) edges (c + 1))

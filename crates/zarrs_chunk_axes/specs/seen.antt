@@ -5,4 +5,6 @@ pub mod DimensionFrom
 pub mod EqualAxis
 pub mod EqualOr
 pub mod ListedAxis
+pub mod ListedEdges
 pub mod RowMajorWalk
+pub mod RunsAxis

@@ -1,17 +1,13 @@
 //! One dimension of a chunk grid, and what it is made of.
-ghost use Rattle.std.specs.Prelude.{◌≡◌, ◌↔◌, ℕ, ◌+◌, ◌<◌, ◌≤◌, IfOk, IsTrue, MatchOption, map};
-ghost use Rattle.std.specs.List.{sum};
+ghost use Rattle.std.specs.Prelude.{◌≡◌, ◌↔◌, ℕ, ◌+◌, ◌<◌, IfOk, IsTrue, MatchOption};
 ghost use Rattle.std.specs.Int.NonZero.{non_zero_u64_get};
 ghost use Rattle.zarrs_chunk_base.specs.Dimension.{Dimension, Holds, HasEdge, IsChain, StartsAt};
-ghost use Rattle.zarrs_chunk_base.specs.DimensionEdges.{DimensionEdges, listed};
+ghost use Rattle.zarrs_chunk_base.specs.DimensionEdges.{DimensionEdges};
 ghost use Rattle.zarrs_chunk_base.specs.Greatest.{greatest};
-ghost use Rattle.zarrs_chunk_base.specs.RunLength.{element_of, expansion, IsRunLengthForm};
 ghost use Rattle.zarrs_chunk_axes.specs.InBounds.{IsIndexInBounds};
-ghost use Rattle.zarrs_chunk_axes.specs.Listed.{IsListed};
 
 use std::alloc::{AllocError, Global};
 use std::num::NonZeroU64;
-use zarrs_chunk_base::RunLengthElement;
 
 /// One dimension of a chunk grid, with its look-ups on single numbers.
 pub trait Axis: Sized {
@@ -107,55 +103,4 @@ pub trait AxisFrom<C>: Axis {
     /// The array size is the dimension's.
     ghost sized: { (d : Dimension) (size : ℕ) (edges : DimensionEdges) → is_made_of d size edges
         → d.array_size ≡ size };
-}
-
-/// An axis that is made of the edges of its chunks.
-pub trait FromEdges: Axis {
-    /// The axis of an array size and of edges that reach over the array, and not past 18446744073709551615.
-    ///
-    /// # Errors
-    /// Out of memory.
-    fn from_edges(alloc: Global, array_size: u64, edges: &[NonZeroU64]) -> Result<Self, AllocError>
-        requires covers { array_size ≤ sum (map non_zero_u64_get edges.now) }
-        requires fits { sum (map non_zero_u64_get edges.now) ≤ greatest }
-        ensures made { IfOk result (λ axis. IsListed (Self.dimension axis) array_size
-            (map non_zero_u64_get edges.now)) }
-        ensures edges { IfOk result (λ axis. Self.edges axis
-            ≡ listed (map non_zero_u64_get edges.now)) };
-
-    /// The edges of its chunks.
-    ///
-    /// # Errors
-    /// Out of memory.
-    fn to_edges(&self, alloc: Global) -> Result<Vec<NonZeroU64>, AllocError>
-        ensures { IfOk result (λ edges. listed (map non_zero_u64_get edges.items)
-            ≡ Self.edges self.now) };
-}
-
-/// An axis that is made of run-length elements.
-pub trait FromRunLengths: Axis {
-    /// The axis of an array size and of elements whose edges reach over the array, and not past 18446744073709551615.
-    ///
-    /// # Errors
-    /// Out of memory.
-    fn from_run_lengths(
-        alloc: Global,
-        array_size: u64,
-        elements: &[RunLengthElement],
-    ) -> Result<Self, AllocError>
-        requires covers { array_size ≤ sum (expansion elements.now) }
-        requires fits { sum (expansion elements.now) ≤ greatest }
-        ensures made { IfOk result (λ axis. IsListed (Self.dimension axis) array_size
-            (expansion elements.now)) }
-        ensures edges { IfOk result (λ axis. Self.edges axis ≡ listed (expansion elements.now)) };
-
-    /// The elements of its edges, in run-length form.
-    ///
-    /// # Errors
-    /// Out of memory.
-    fn to_run_lengths(&self, alloc: Global) -> Result<Vec<RunLengthElement>, AllocError>
-        ensures edges { IfOk result (λ elements. listed (expansion elements.items)
-            ≡ Self.edges self.now) }
-        ensures form { IfOk result (λ elements. IsRunLengthForm
-            (map element_of elements.items)) };
 }

@@ -4,8 +4,10 @@ ghost use Rattle.std.specs.List.{sum};
 ghost use Rattle.std.specs.Int.NonZero.{non_zero_u64_get};
 ghost use Rattle.zarrs_chunk_base.specs.Greatest.{greatest};
 
-use crate::axis::{Axis, AxisFrom, FromEdges, FromRunLengths};
+use crate::axis::{Axis, AxisFrom};
 use crate::equal_axis::EqualAxis;
+use crate::listed_axis::ListedAxis;
+use crate::runs_axis::RunsAxis;
 use std::alloc::{AllocError, Global};
 use std::num::NonZeroU64;
 use zarrs_chunk_base::{ChunkEdgeLengths, RectangularChunkGridDimensionConfiguration};
@@ -75,7 +77,7 @@ impl<A: Axis> Axis for EqualOr<A> {
 }
 
 /// A dimension of a `rectangular` grid.
-impl<A: FromEdges> AxisFrom<RectangularChunkGridDimensionConfiguration> for EqualOr<A> {
+impl AxisFrom<RectangularChunkGridDimensionConfiguration> for EqualOr<ListedAxis> {
     ghost use Rattle.zarrs_chunk_base.specs.DimensionEdges.{rectangular_edges};
     ghost use Rattle.zarrs_chunk_axes.specs.EqualOrListed.{IsEqualOrListed};
     ghost use Rattle.zarrs_chunk_axes.specs.lemmas.EqualOrListedSizes.{equal_or_listed_size};
@@ -107,13 +109,13 @@ impl<A: FromEdges> AxisFrom<RectangularChunkGridDimensionConfiguration> for Equa
         alloc: Global,
         array_size: u64,
         configuration: &RectangularChunkGridDimensionConfiguration,
-    ) -> Result<EqualOr<A>, AllocError> {
+    ) -> Result<EqualOr<ListedAxis>, AllocError> {
         Ok(match configuration {
             RectangularChunkGridDimensionConfiguration::Fixed(edge) => {
                 EqualOr::Equal(EqualAxis::new(alloc, array_size, edge)?)
             }
             RectangularChunkGridDimensionConfiguration::Varying(edges) => {
-                EqualOr::Other(A::from_edges(alloc, array_size, edges)?)
+                EqualOr::Other(ListedAxis::new(alloc, array_size, edges.to_vec(alloc)?)?)
             }
         })
     }
@@ -127,14 +129,14 @@ impl<A: FromEdges> AxisFrom<RectangularChunkGridDimensionConfiguration> for Equa
                 RectangularChunkGridDimensionConfiguration::Fixed(axis.configuration(alloc)?)
             }
             EqualOr::Other(axis) => {
-                RectangularChunkGridDimensionConfiguration::Varying(axis.to_edges(alloc)?)
+                RectangularChunkGridDimensionConfiguration::Varying(axis.edges(alloc)?)
             }
         })
     }
 }
 
 /// A dimension of a `rectilinear` grid.
-impl<A: FromRunLengths> AxisFrom<ChunkEdgeLengths> for EqualOr<A> {
+impl AxisFrom<ChunkEdgeLengths> for EqualOr<RunsAxis> {
     ghost use Rattle.zarrs_chunk_base.specs.RunLength.{rectilinear_edges, lengths_of, IsWrittenLengths};
     ghost use Rattle.zarrs_chunk_axes.specs.EqualOrListed.{IsEqualOrListed};
     ghost use Rattle.zarrs_chunk_axes.specs.lemmas.EqualOrListedSizes.{equal_or_listed_size};
@@ -166,13 +168,13 @@ impl<A: FromRunLengths> AxisFrom<ChunkEdgeLengths> for EqualOr<A> {
         alloc: Global,
         array_size: u64,
         lengths: &ChunkEdgeLengths,
-    ) -> Result<EqualOr<A>, AllocError> {
+    ) -> Result<EqualOr<RunsAxis>, AllocError> {
         Ok(match lengths {
             ChunkEdgeLengths::Scalar(edge) => {
                 EqualOr::Equal(EqualAxis::new(alloc, array_size, edge)?)
             }
             ChunkEdgeLengths::Varying(elements) => {
-                EqualOr::Other(A::from_run_lengths(alloc, array_size, elements)?)
+                EqualOr::Other(RunsAxis::new(alloc, array_size, elements)?)
             }
         })
     }
@@ -180,7 +182,7 @@ impl<A: FromRunLengths> AxisFrom<ChunkEdgeLengths> for EqualOr<A> {
     fn configuration(&self, alloc: Global) -> Result<ChunkEdgeLengths, AllocError> {
         Ok(match self {
             EqualOr::Equal(axis) => ChunkEdgeLengths::Scalar(axis.configuration(alloc)?),
-            EqualOr::Other(axis) => { ChunkEdgeLengths::Varying(axis.to_run_lengths(alloc)?) }
+            EqualOr::Other(axis) => ChunkEdgeLengths::Varying(axis.elements(alloc)?),
         })
     }
 }

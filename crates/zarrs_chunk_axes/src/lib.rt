@@ -16,11 +16,11 @@
 //! | Module | What it holds |
 //! |---|---|
 //! | `axis` | one dimension, and what it is made of |
-//! | `equal_axis`, `bounded_axis`, `listed_axis`, `equal_or` | the kinds of dimension |
+//! | `equal_axis`, `bounded_axis`, `listed_axis`, `runs_axis`, `equal_or` | the kinds of dimension |
 //! | `axis_grid` | the list of dimensions |
 //! | `in_bounds` | numbers in bounds of sizes |
 //! | `row_major`, `row_major_walk` | counting through the lists of numbers below a shape, and a walk that does so |
-//! | `run_lengths` | run-length elements: their edges one by one, and the run-length form of edges |
+//! | `run_lengths` | the run-length form of edges that are kept as runs |
 #![tactic(auto)]
 
 mod axis;
@@ -33,8 +33,9 @@ mod listed_axis;
 pub mod row_major;
 mod row_major_walk;
 mod run_lengths;
+mod runs_axis;
 
-pub use axis::{Axis, AxisFrom, FromEdges, FromRunLengths};
+pub use axis::{Axis, AxisFrom};
 pub use axis_grid::AxisGrid;
 pub use bounded_axis::BoundedAxis;
 pub use equal_axis::EqualAxis;
@@ -42,3 +43,4 @@ pub use equal_or::EqualOr;
 pub use in_bounds::are_in_bounds;
 pub use listed_axis::ListedAxis;
 pub use row_major_walk::{ArrayIndicesTinyVec, RowMajorWalk};
+pub use runs_axis::RunsAxis;

@@ -5,12 +5,10 @@ ghost use Rattle.std.specs.Int.NonZero.{non_zero_u64_get};
 ghost use Rattle.zarrs_chunk_base.specs.Greatest.{greatest};
 ghost use Rattle.zarrs_chunk_axes.specs.lemmas.Running.{starts_from};
 
-use crate::axis::{Axis, FromEdges, FromRunLengths};
+use crate::axis::Axis;
 use crate::in_bounds::is_in_bounds;
-use crate::run_lengths::{expand, run_length_form};
 use std::alloc::{AllocError, Global};
 use std::num::NonZeroU64;
-use zarrs_chunk_base::RunLengthElement;
 
 /// One dimension of an array, cut into chunks with the edges of a list, which reach over the array.
 #[derive(Debug, Drop)]
@@ -30,8 +28,12 @@ impl ListedAxis {
     ghost use Rattle.zarrs_chunk_axes.specs.seen.ListedAxis.{edges_in, listed_of};
     ghost use Rattle.zarrs_chunk_axes.specs.lemmas.Running.{IsAfter};
 
-    /// The dimension of an array size and the edges of its chunks.
-    fn new(alloc: Global, array_size: u64, edges: Vec<NonZeroU64>) -> Result<ListedAxis, AllocError>
+    /// The dimension of an array size and of edges that reach over the array, and not past 18446744073709551615.
+    pub(crate) fn new(
+        alloc: Global,
+        array_size: u64,
+        edges: Vec<NonZeroU64>,
+    ) -> Result<ListedAxis, AllocError>
         requires covers { array_size ≤ sum (map non_zero_u64_get edges.items) }
         requires fits { sum (map non_zero_u64_get edges.items) ≤ greatest }
         ensures made { IfOk result (λ axis. IsListed (listed_of axis) array_size
@@ -44,6 +46,13 @@ impl ListedAxis {
             edges,
             starts,
         })
+    }
+
+    /// The edges of its chunks.
+    pub(crate) fn edges(&self, alloc: Global) -> Result<Vec<NonZeroU64>, AllocError>
+        ensures { IfOk result (λ edges. map non_zero_u64_get edges.items ≡ edges_in self.now) }
+    {
+        self.edges.to_vec(alloc)
     }
 
     /// How many chunks start at the index or before it.
@@ -99,34 +108,6 @@ impl Axis for ListedAxis {
             edges: self.edges.clone()?,
             starts: self.starts.clone()?,
         })
-    }
-}
-
-impl FromEdges for ListedAxis {
-    fn from_edges(
-        alloc: Global,
-        array_size: u64,
-        edges: &[NonZeroU64],
-    ) -> Result<ListedAxis, AllocError> {
-        ListedAxis::new(alloc, array_size, edges.to_vec(alloc)?)
-    }
-
-    fn to_edges(&self, alloc: Global) -> Result<Vec<NonZeroU64>, AllocError> {
-        self.edges.to_vec(alloc)
-    }
-}
-
-impl FromRunLengths for ListedAxis {
-    fn from_run_lengths(
-        alloc: Global,
-        array_size: u64,
-        elements: &[RunLengthElement],
-    ) -> Result<ListedAxis, AllocError> {
-        ListedAxis::new(alloc, array_size, expand(alloc, elements)?)
-    }
-
-    fn to_run_lengths(&self, alloc: Global) -> Result<Vec<RunLengthElement>, AllocError> {
-        run_length_form(alloc, &self.edges)
     }
 }
 

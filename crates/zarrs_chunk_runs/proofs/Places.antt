@@ -1,9 +1,9 @@
 -- What running sums tell of the chunks in a run.
-use Rattle.std.proofs.Common.{◌≡◌, ℕ, zero, suc, ◌+◌, ◌-◌, ◌*◌, ◌/◌, ◌<◌, ◌≤◌, List, [], ◌∷◌, ◌++◌, length, map, take, replicate, get_or, refl, sym, ap, ◌∙◌, append_assoc, add-one, subst, drop, arith}
+use Rattle.std.proofs.Common.{◌≡◌, ℕ, zero, suc, ◌+◌, ◌-◌, ◌*◌, ◌/◌, ◌%◌, ◌<◌, ◌≤◌, List, [], ◌∷◌, ◌++◌, length, map, take, replicate, get_or, refl, sym, ap, ◌∙◌, append_assoc, add-one, subst, drop, arith}
 use Rattle.std.specs.List.{sum}
 use Rattle.std.specs.Int.NonZero.{non_zero_u64_get}
 use Rattle.std.specs.declared.num.NonZeroU64.{NonZeroU64}
-use Rattle.std.proofs.Math.Nat.{div-mul-le_self, lt-div-mul-add, lt_of_mul-lt-mul_right}
+use Rattle.std.proofs.Math.Nat.{div-mul-le_self, lt-div-mul-add, lt_of_mul-lt-mul_right, mod-add-div'}
 use Rattle.std.proofs.Math.Seq.{drop-cons, take-append-add, take-length}
 use Rattle.std.proofs.lemmas.List.{get_or-replicate, length-append, length-replicate, take-append-le, take-replicate}
 use Rattle.std.proofs.lemmas.List.Concat.{get_or-flat_map}
@@ -166,6 +166,19 @@ chunk_found runs i k is within positive =
       from = omega arith;
       below = rw same (omega arith);
     }
+
+-- and how far after the chunk's start the index lies
+pub home_found : (runs : List (ℕ × ℕ)) (i k : ℕ) → IsFirstAbove (ends_of runs) i k → k < length runs → 0 < (get_or runs k (0, 0)).0
+    → IsChunkOf (edges_of_runs runs) i (length (edges_of_runs (take k runs)) + (i - sum (edges_of_runs (take k runs))) / (get_or runs k (0, 0)).0)
+    × (sum (take (length (edges_of_runs (take k runs)) + (i - sum (edges_of_runs (take k runs))) / (get_or runs k (0, 0)).0) (edges_of_runs runs))
+    + (i - sum (edges_of_runs (take k runs))) % (get_or runs k (0, 0)).0 ≡ i)
+home_found runs i k is within positive =
+    let run = get_or runs k (0, 0) in
+    let start = sum (edges_of_runs (take k runs)) in
+    let from : start ≤ i = starts_before runs i k is (omega arith) in
+    let rest = i - start in
+    let own : rest / run.0 < run.1 = own_chunk runs i k is within positive in
+    (chunk_found runs i k is within positive, omega (arith, start_within runs k within (rest / run.0) (omega arith), mod-add-div' rest run.0))
 
 -- the run that a chunk lies in
 pub run_found : (runs : List (ℕ × ℕ)) (c k : ℕ) → IsFirstAbove (chunk_ends_of runs) c k → k < length runs → IsRunOf runs c k

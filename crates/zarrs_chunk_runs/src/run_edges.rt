@@ -1,5 +1,5 @@
 //! Edges of chunks, kept as runs of equal ones.
-ghost use Rattle.std.specs.Prelude.{◌≡◌, ◌-◌, ◌<◌, ◌≤◌, ℕ, IfErr, IfOk, MatchOption, length, map, slice_index_or, take};
+ghost use Rattle.std.specs.Prelude.{◌≡◌, ◌+◌, ◌-◌, ◌<◌, ◌≤◌, ℕ, IfErr, IfOk, MatchOption, length, map, slice_index_or, take};
 ghost use Rattle.std.specs.List.{sum};
 ghost use Rattle.std.specs.Int.NonZero.{non_zero_u64_get};
 ghost use Rattle.zarrs_chunk_base.specs.Greatest.{greatest};
@@ -158,8 +158,20 @@ impl RunEdges {
         ensures { MatchOption result (sum (expanded self.now) ≤ index)
             (IsChunkOf (expanded self.now) index) }
     {
+        Some(self.find_home(index, comparisons)?.0)
+    }
+
+    /// The chunk that an index lies in, and how far after the chunk's start it lies; `None` where it lies in none. Each
+    /// comparison with a running sum is counted.
+    pub fn find_home(&self, index: u64, comparisons: &mut Comparisons) -> Option<(u64, u64)>
+        ensures { MatchOption result (sum (expanded self.now) ≤ index)
+            (λ home. IsChunkOf (expanded self.now) index home.0
+            × (sum (take home.0 (expanded self.now)) + home.1 ≡ index)) }
+    {
         let place = self.place(first_above(&self.ends, index, comparisons))?;
-        Some(place.first + (index - place.start) / place.edge.get())
+        let rest = index - place.start;
+        let edge = place.edge.get();
+        Some((place.first + rest / edge, rest % edge))
     }
 
     /// The run that a chunk lies in, counted from 0; `None` where there is no such chunk. Each comparison with a running sum is

@@ -14,6 +14,7 @@ use Rattle.zarrs_chunk_axes.specs.EqualOrListed.{IsEqualOrListed}
 use Rattle.zarrs_chunk_axes.specs.declared.equal_or.EqualOr.{EqualOr}
 use Rattle.zarrs_chunk_axes.specs.declared.equal_or.EqualOr.TheVariants.{Equal, Other}
 use Rattle.zarrs_chunk_axes.specs.declared.listed_axis.ListedAxis.{ListedAxis}
+use Rattle.zarrs_chunk_axes.specs.declared.runs_axis.RunsAxis.{RunsAxis}
 use Rattle.zarrs_chunk_base.specs.DimensionEdges.{listed}
 use Rattle.zarrs_chunk_axes.specs.lemmas.AllFromEdges.{IsFromEdges}
 use Rattle.zarrs_chunk_axes.specs.seen.AxisGrid.{from_edges, made_of}
@@ -22,6 +23,7 @@ use Rattle.zarrs_chunk_axes.specs.seen.DimensionFrom.{dimensions_from}
 use Rattle.zarrs_chunk_axes.specs.seen.EqualAxis.{equal_is_made}
 use Rattle.zarrs_chunk_axes.specs.seen.EqualOr.{equal_or, equal_or_edges, equal_or_is_made}
 use Rattle.zarrs_chunk_axes.specs.seen.ListedAxis.{edges_in, listed_is_made, listed_of}
+use Rattle.zarrs_chunk_axes.specs.seen.RunsAxis.{run_edges_in, runs_dimension, runs_is_made}
 use Rattle.zarrs_chunks.specs.GridKinds.{GridKind, IsGridFault, grid_kind, grid_kinds, is_bounded, rectangular, rectilinear, regular, regular_bounded}
 use Rattle.zarrs_chunks.specs.seen.Grids.{grid_in, kind_in, rectangular_of, rectilinear_of, regular_bounded_of, regular_of}
 use Rattle.zarrs_chunks.specs.declared.chunk_grid.named.ChunkGrid.{ChunkGrid}
@@ -46,7 +48,7 @@ rectangular_made grid = made_of IsEqualOrListed (equal_or_is_made listed_of (λ 
 
 pub rectilinear_made : (grid : RectilinearChunkGrid)
     → InEach IsEqualOrListed (rectilinear_of grid).dimensions (array_sizes (rectilinear_of grid).dimensions) (rectilinear_of grid).edges
-rectilinear_made grid = made_of IsEqualOrListed (equal_or_is_made listed_of (λ axis. listed (edges_in axis)) listed_is_made) grid.axes
+rectilinear_made grid = made_of IsEqualOrListed (equal_or_is_made runs_dimension (λ axis. listed (run_edges_in axis)) runs_is_made) grid.axes
 
 -- ---- and determined by them
 
@@ -54,12 +56,16 @@ listed_from_edges : (axis : EqualOr ListedAxis) → IsFromEdges (equal_or listed
 listed_from_edges (Equal axis) = refl
 listed_from_edges (Other axis) = refl
 
+runs_from_edges : (axis : EqualOr RunsAxis) → IsFromEdges (equal_or runs_dimension) (equal_or_edges (λ a. listed (run_edges_in a))) false axis
+runs_from_edges (Equal axis) = refl
+runs_from_edges (Other axis) = refl
+
 dimensions_are : (grid : ChunkGrid)
     → (grid_in grid).dimensions ≡ dimensions_from (is_bounded (kind_in grid)) (array_sizes (grid_in grid).dimensions) (grid_in grid).edges
 dimensions_are (Regular grid) = from_edges false (λ axis. refl) grid.axes
 dimensions_are (RegularBounded grid) = from_edges true (λ axis. refl) grid.axes
 dimensions_are (Rectangular grid) = from_edges false listed_from_edges grid.axes
-dimensions_are (Rectilinear grid) = from_edges false listed_from_edges grid.axes
+dimensions_are (Rectilinear grid) = from_edges false runs_from_edges grid.axes
 
 pub same_dimensions : (grid other : ChunkGrid) → is_bounded (kind_in grid) ≡ is_bounded (kind_in other)
     → array_sizes (grid_in grid).dimensions ≡ array_sizes (grid_in other).dimensions → (grid_in grid).edges ≡ (grid_in other).edges

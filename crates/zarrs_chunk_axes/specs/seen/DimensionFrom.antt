@@ -4,7 +4,7 @@ use Rattle.zarrs_chunk_base.specs.Dimension.{Dimension}
 use Rattle.zarrs_chunk_base.specs.DimensionEdges.{DimensionEdges, equal, listed}
 use Rattle.zarrs_chunk_axes.specs.seen.BoundedAxis.{bounded_from}
 use Rattle.zarrs_chunk_axes.specs.seen.EqualAxis.{equal_from}
-use Rattle.zarrs_chunk_axes.specs.seen.ListedAxis.{listed_from}
+use Rattle.zarrs_chunk_axes.specs.seen.ListedEdges.{listed_from}
 
 -- by whether chunks of one edge end with the array
 abbrev pub dimension_from : Bool → ℕ → DimensionEdges → Dimension

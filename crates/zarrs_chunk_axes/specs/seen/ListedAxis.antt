@@ -1,25 +1,12 @@
 -- How an axis of listed edges is seen as a dimension, and that it is a chain.
-use Rattle.std.specs.Prelude.{◌≡◌, ℕ, zero, suc, ◌+◌, ◌-◌, ◌<◌, ◌≤◌, nat_lt, List, [], ◌∷◌, length, map, take, refl}
-use Rattle.std.proofs.Common.{get_or, add-one, ⊎_elim, arith, ltb-true, lt-ltb}
-use Rattle.std.proofs.lemmas.Bool.{cases_lt}
-use Rattle.std.proofs.lemmas.List.Sums.{sum_by_more}
-use Rattle.std.specs.List.{sum}
+use Rattle.std.specs.Prelude.{ℕ, zero, suc, ◌<◌, List, [], ◌∷◌, length, map}
+use Rattle.std.proofs.Common.{get_or, arith}
 use Rattle.std.specs.Int.NonZero.{non_zero_u64_get}
 use Rattle.std.specs.declared.num.NonZeroU64.{NonZeroU64}
-use Rattle.zarrs_chunk_axes.specs.lemmas.Running.{sum_next, take_next}
-use Rattle.zarrs_chunk_axes.specs.declared.listed_axis.ListedAxis.{ListedAxis}
-use Rattle.zarrs_chunk_base.specs.Dimension.{Dimension, Holds, IsChain}
+use Rattle.zarrs_chunk_base.specs.Dimension.{Dimension, IsChain}
 use Rattle.zarrs_chunk_axes.specs.Listed.{IsListed}
-
--- the dimension of an array size and a list of edges
-abbrev pub listed_from : ℕ → List ℕ → Dimension
-listed_from size edges = record {
-  array_size = size;
-  grid_size = length edges;
-  has_chunk = λ c. nat_lt c (length edges);
-  start = λ c. sum (take c edges);
-  end = λ c. sum (take (c + 1) edges);
-}
+use Rattle.zarrs_chunk_axes.specs.declared.listed_axis.ListedAxis.{ListedAxis}
+use Rattle.zarrs_chunk_axes.specs.seen.ListedEdges.{listed_from, listed_from_is_chain, listed_from_is_made}
 
 -- how many elements each chunk has
 abbrev pub edges_in : ListedAxis → List ℕ
@@ -29,55 +16,14 @@ edges_in axis = map non_zero_u64_get axis.edges.items
 abbrev pub listed_of : ListedAxis → Dimension
 listed_of axis = listed_from axis.array_size (edges_in axis)
 
--- a chunk is as long as its edge
-pub end_is : (edges : List ℕ) (c : ℕ) → c < length edges → sum (take (c + 1) edges) ≡ sum (take c edges) + get_or edges c 0
-end_is edges c within = sum_by_more (λ x. x) edges c 0 within
-
 -- an edge isn't 0
-pub positive_edge : (edges : List NonZeroU64) (c : ℕ) → c < length (map non_zero_u64_get edges) → 0 < get_or (map non_zero_u64_get edges) c 0
+positive_edge : (edges : List NonZeroU64) (c : ℕ) → c < length (map non_zero_u64_get edges) → 0 < get_or (map non_zero_u64_get edges) c 0
 positive_edge [] c within = absurd (omega arith)
 positive_edge (edge ∷ edges) zero within = edge.ok
 positive_edge (edge ∷ edges) (suc c) within = positive_edge edges c (omega arith)
 
--- an index below the sum of the edges lies between two running sums
-between : (edges : List ℕ) (i : ℕ) → i < sum edges → (c : ℕ) × (c < length edges) × (sum (take c edges) ≤ i) × (i < sum (take (suc c) edges))
-between [] i within = absurd (omega arith)
-between (edge ∷ edges) i within =
-    ⊎_elim (λ (first : i < edge). (zero, omega arith, omega arith, omega (arith, take_next edge edges zero)))
-    (λ (later : edge ≤ i).
-    let (c, counted, from, below) = between edges (i - edge) (omega (arith, sum_next edge edges)) in
-    (suc c, omega arith, omega (arith, take_next edge edges c), omega (arith, take_next edge edges (suc c))))
-    (cases_lt i edge)
-
--- and so in a chunk
-pub reached : (size : ℕ) (edges : List ℕ) (i : ℕ) → i < sum edges → (c : ℕ) × (c < length edges) × Holds (listed_from size edges) c i
-reached size edges i within =
-    let (c, counted, from, below) = between edges i within in
-    (c, counted, record { chunk = lt-ltb c (length edges) counted; from = from; below = rw add-one below })
-
 pub listed_is_chain : (axis : ListedAxis) → IsChain (listed_of axis)
-listed_is_chain axis =
-    let edges = map non_zero_u64_get axis.edges.items in
-    record {
-      from_zero = λ _. refl;
-      not_empty = λ c has.
-          let within : c < length edges = ltb-true c (length edges) has in
-          let positive = positive_edge axis.edges.items c within in
-          omega (arith, end_is edges c within);
-      no_gap = λ c has.
-          let later : c + 1 < length edges = ltb-true (c + 1) (length edges) has in
-          (lt-ltb c (length edges) (omega arith), refl);
-      counted = λ c below. lt-ltb c (length edges) below;
-      reaches = λ i within. reached axis.array_size edges i (let covers = axis.covers in omega arith);
-    }
+listed_is_chain axis = listed_from_is_chain axis.array_size (edges_in axis) (positive_edge axis.edges.items) axis.covers
 
 pub listed_is_made : (axis : ListedAxis) → IsListed (listed_of axis) axis.array_size (edges_in axis)
-listed_is_made axis =
-    let edges = map non_zero_u64_get axis.edges.items in
-    record {
-      array_size = refl;
-      grid_size = refl;
-      chunks = λ c. (ltb-true c (length edges), lt-ltb c (length edges));
-      start = λ c _. refl;
-      end = λ c _. refl;
-    }
+listed_is_made axis = listed_from_is_made axis.array_size (edges_in axis)

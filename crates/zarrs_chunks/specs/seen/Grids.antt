@@ -7,6 +7,7 @@ use Rattle.zarrs_chunk_axes.specs.seen.BoundedAxis.{bounded_is_chain}
 use Rattle.zarrs_chunk_axes.specs.seen.EqualAxis.{equal_is_chain}
 use Rattle.zarrs_chunk_axes.specs.seen.EqualOr.{equal_or_is_chain}
 use Rattle.zarrs_chunk_axes.specs.seen.ListedAxis.{listed_is_chain, listed_of}
+use Rattle.zarrs_chunk_axes.specs.seen.RunsAxis.{runs_dimension, runs_is_chain}
 use Rattle.zarrs_chunks.specs.GridKinds.{GridKind, rectangular, rectilinear, regular, regular_bounded}
 use Rattle.zarrs_chunks.specs.declared.chunk_grid.named.ChunkGrid.{ChunkGrid}
 use Rattle.zarrs_chunks.specs.declared.chunk_grid.named.ChunkGrid.TheVariants.{Rectangular, Rectilinear, Regular, RegularBounded}
@@ -54,7 +55,7 @@ pub rectangular_chained : (grid : RectangularChunkGrid) → AllByRecursion IsCha
 rectangular_chained grid = chains_of (equal_or_is_chain listed_of listed_is_chain) grid.axes
 
 pub rectilinear_chained : (grid : RectilinearChunkGrid) → AllByRecursion IsChain (rectilinear_of grid).dimensions
-rectilinear_chained grid = chains_of (equal_or_is_chain listed_of listed_is_chain) grid.axes
+rectilinear_chained grid = chains_of (equal_or_is_chain runs_dimension runs_is_chain) grid.axes
 
 pub chained_in : (grid : ChunkGrid) → AllByRecursion IsChain (grid_in grid).dimensions
 chained_in (Regular grid) = regular_chained grid

@@ -20,7 +20,7 @@
 //! | Accepted | as many items as dimensions; a list isn't empty, and its sum is at least the array size and at most 18446744073709551615 |
 //! | Chunks | of one edge: every number; of a list: one for each edge, and each is counted |
 //! | In bounds | an index below the array size (any index, where that is 0); where edges are listed, a chunk has to hold it too |
-//! | Memory | 16 bytes for each edge of a list, even where a pair stands for many |
+//! | Memory | 32 bytes for each run of equal edges, however many chunks it counts |
 //! | Differs from zarrs | `kind` has to be there; the sum is exact, and taken before anything is expanded |
 ghost use Rattle.std.specs.Prelude.{◌≡◌, map};
 ghost use Rattle.zarrs_chunk_base.specs.RunLength.{edges_of_lengths, rectilinear_edges};
@@ -34,7 +34,7 @@ use super::over_axes::{GridOfKind, OverAxes, write_incompatible};
 use std::alloc::{AllocError, Global};
 use std::error::Error;
 use std::fmt;
-use zarrs_chunk_axes::{AxisGrid, EqualOr, ListedAxis};
+use zarrs_chunk_axes::{AxisGrid, EqualOr, RunsAxis};
 use zarrs_chunk_base::{
     ArrayShape, ChunkEdgeLengths, Configuration, ConfigurationForm, MetadataV3, PluginCreateError,
     RectilinearChunkGridConfiguration, Refusal,
@@ -48,7 +48,7 @@ use zarrs_chunk_base::{
 /// Source: the `rectilinear` extension of zarr-extensions.
 #[derive(Debug, Drop)]
 pub struct RectilinearChunkGrid {
-    axes: AxisGrid<EqualOr<ListedAxis>>,
+    axes: AxisGrid<EqualOr<RunsAxis>>,
     ghost accepted: { AreRectilinear (array_sizes (dimensions_of axes)) (edges_of axes) } by { are_rectilinear_once _ _ },
 }
 
@@ -123,13 +123,13 @@ impl GridOfKind for RectilinearChunkGrid {
 }
 
 impl OverAxes for RectilinearChunkGrid {
-    type Dimension = EqualOr<ListedAxis>;
+    type Dimension = EqualOr<RunsAxis>;
 
     ghost use Rattle.zarrs_chunks.specs.seen.Grids.{rectilinear_chained};
 
     ghost axes_chained = { rectilinear_chained };
 
-    fn axes(&self) -> &AxisGrid<EqualOr<ListedAxis>> {
+    fn axes(&self) -> &AxisGrid<EqualOr<RunsAxis>> {
         &self.axes
     }
 

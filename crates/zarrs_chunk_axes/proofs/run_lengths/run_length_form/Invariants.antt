@@ -1,12 +1,13 @@
-use Rattle.std.proofs.Common.{◌+◌, ◌≤◌, drop, map}
-use Rattle.std.specs.Int.NonZero.{non_zero_u64_get}
+use Rattle.std.proofs.Common.{◌-◌, length, map}
 use Rattle.zarrs_chunk_base.specs.RunLength.{element_of}
+use Rattle.zarrs_chunk_runs.specs.seen.RunEdges.{runs_of}
 use Rattle.zarrs_chunk_axes.proofs.RunLengthForms.{SoFar}
 use Rattle.zarrs_chunk_axes.proofs.run_lengths.run_length_form.Given as goal
 
--- the elements so far, the run behind them and the edges that are left are all; the run isn't longer than what was looked at
+-- there is an element for each of the first runs
 abbrev pub invariant-loop-edge : goal.invariant-loop-edge
-invariant-loop-edge l =
-    SoFar (map non_zero_u64_get l.edges) (map element_of l.elements.items) (non_zero_u64_get l.run.0) (non_zero_u64_get l.run.1)
-    (map non_zero_u64_get (drop l.edge-index l.rest))
-    × (non_zero_u64_get l.run.1 ≤ l.edge-index + 1)
+invariant-loop-edge l = SoFar (runs_of l.edges) (map element_of l.elements.items)
+
+-- the runs that are left
+abbrev pub decreases-loop-edge : goal.decreases-loop-edge
+decreases-loop-edge l = length (runs_of l.edges) - length l.elements.items
