@@ -25,7 +25,7 @@ pub trait Axis: Sized {
     fn grid_size(&self) -> u64
         ensures { result ≡ (dimension self.now).grid_size };
 
-    /// The chunk that an index lies in.
+    /// The chunk that an index lies in; `None` where it lies in none.
     fn chunk_of(&self, index: u64) -> Option<u64>
         ensures { MatchOption result ((c : ℕ) → ¬ Holds (dimension self.now) c index)
             (λ c. Holds (dimension self.now) c index) };
@@ -35,7 +35,7 @@ pub trait Axis: Sized {
         ensures { MatchOption result ((o : ℕ) → StartsAt (dimension self.now) chunk o
             → greatest < o) (StartsAt (dimension self.now) chunk) };
 
-    /// The chunk that an index lies in, and how far after the chunk's start it lies.
+    /// The chunk that an index lies in, and how far after the chunk's start it lies; `None` where it lies in none.
     fn home_of(&self, index: u64) -> Option<(u64, u64)>
         ensures { MatchOption result ((c : ℕ) → ¬ Holds (dimension self.now) c index)
             (λ home. Holds (dimension self.now) home.0 index
@@ -46,16 +46,19 @@ pub trait Axis: Sized {
         Some((chunk, index - origin))
     }
 
-    /// How many elements long a chunk is.
+    /// How many elements long a chunk is; `None` where there is no such chunk.
     fn edge_of(&self, chunk: u64) -> Option<NonZeroU64>
         ensures { MatchOption result (¬ IsTrue ((dimension self.now).has_chunk chunk))
             (λ s. HasEdge (dimension self.now) chunk (non_zero_u64_get s)) };
 
-    /// Whether an index is in bounds: below the array size, or that is 0; and where the edges are listed, a chunk holds it too.
+    /// Whether an index is in bounds: below the array size, or the array size is 0; and where the edges are listed, a chunk holds it too.
     fn is_in_bounds(&self, index: u64) -> bool
         ensures { IsTrue result ↔ IsIndexInBounds (dimension self.now) index (edges self.now) };
 
     /// An axis of the same dimension, made with the same edges.
+    ///
+    /// # Errors
+    /// Out of memory.
     fn clone(&self) -> Result<Self, AllocError>
         ensures dimension { IfOk result (λ axis. dimension axis ≡ dimension self.now) }
         ensures edges { IfOk result (λ axis. edges axis ≡ edges self.now) };

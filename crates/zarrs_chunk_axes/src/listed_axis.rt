@@ -29,6 +29,9 @@ impl ListedAxis {
     ghost use Rattle.zarrs_chunk_axes.specs.lemmas.Running.{IsAfter};
 
     /// The dimension of an array size and of edges that reach over the array, and not past 18446744073709551615.
+    ///
+    /// # Errors
+    /// Out of memory.
     pub(crate) fn new(
         alloc: Global,
         array_size: u64,
@@ -49,6 +52,9 @@ impl ListedAxis {
     }
 
     /// The edges of its chunks.
+    ///
+    /// # Errors
+    /// Out of memory.
     pub(crate) fn edges(&self, alloc: Global) -> Result<Vec<NonZeroU64>, AllocError>
         ensures { IfOk result (λ edges. map non_zero_u64_get edges.items ≡ edges_in self.now) }
     {

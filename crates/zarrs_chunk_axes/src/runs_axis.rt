@@ -12,8 +12,8 @@ use std::num::NonZeroU64;
 use zarrs_chunk_base::{Refusal, RunLengthElement};
 use zarrs_chunk_runs::{Comparisons, RunEdges};
 
-/// One dimension of an array, cut into chunks whose edges reach over the array. However many chunks a run counts, it costs no
-/// more time or memory than one.
+/// One dimension of an array, cut into chunks whose edges reach over the array. A run of many chunks costs no more time or memory
+/// than a run of one.
 #[derive(Debug, Drop)]
 pub struct RunsAxis {
     /// How many elements the array has.
@@ -30,7 +30,10 @@ impl RunsAxis {
     ghost use Rattle.zarrs_chunk_axes.specs.Rectilinear.{IsRectilinear};
     ghost use Rattle.zarrs_chunk_axes.specs.seen.RunsAxis.{run_edges_in, runs_dimension};
 
-    /// The dimension of an array size and of run-length elements of which there is a `rectilinear` one.
+    /// The dimension of an array size and of run-length elements that a `rectilinear` grid accepts.
+    ///
+    /// # Errors
+    /// Out of memory.
     pub(crate) fn new(
         alloc: Global,
         array_size: u64,
@@ -49,6 +52,9 @@ impl RunsAxis {
     }
 
     /// The elements of its edges, in run-length form.
+    ///
+    /// # Errors
+    /// Out of memory.
     pub(crate) fn elements(&self, alloc: Global) -> Result<Vec<RunLengthElement>, AllocError>
         ensures edges { IfOk result (λ elements. expansion elements.items
             ≡ run_edges_in self.now) }

@@ -22,7 +22,7 @@ edges_of_run run = replicate run.1 run.0
 abbrev pub edges_of_runs : List (ℕ × ℕ) → List ℕ
 edges_of_runs = flat_map edges_of_run
 
--- no two runs that stand side by side have one edge
+-- no two runs that stand side by side have the same edge
 abbrev pub AreMerged : List (ℕ × ℕ) → Type 0
 AreMerged runs = (k : ℕ) → k + 1 < length runs → (slice_index_or runs k (0, 0)).0 ≢ (slice_index_or runs (k + 1) (0, 0)).0
 
@@ -38,12 +38,12 @@ pub record IsRunOf (runs : List (ℕ × ℕ)) (c k : ℕ) : Type 0 where
   pub from : length (edges_of_runs (take k runs)) ≤ c
   pub below : c < length (edges_of_runs (take (k + 1) runs))
 
--- elements make edges: there are some, and the sum of their edges is at most the greatest number
+-- elements are accepted: there are some, and the sum of their edges is at most the greatest number
 pub record AreAccepted (elements : List RunLengthElement) : Type 0 where
   pub some : elements ≢ []
   pub fits : sum (expansion elements) ≤ greatest
 
--- why elements make none: there are none; or there are some, and their sum is too large
+-- why elements are refused: there are none; or there are some, and the sum of their edges is too large
 abbrev pub IsRunEdgesFault : List RunLengthElement → RunEdgesError → Type 0
 IsRunEdgesFault elements NoElements = elements ≡ []
 IsRunEdgesFault elements SumTooLarge = (elements ≢ []) × (greatest < sum (expansion elements))

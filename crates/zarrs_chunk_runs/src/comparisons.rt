@@ -1,6 +1,6 @@
 //! How often searches compare.
 
-/// How many comparisons of a sought number with a running sum have been made; 18446744073709551615 stands for more, too.
+/// How many comparisons of a sought number with a running sum have been made; 18446744073709551615 means that many or more.
 #[derive(Debug, Drop)]
 pub struct Comparisons {
     count: u64,

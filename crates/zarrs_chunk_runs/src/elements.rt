@@ -42,7 +42,7 @@ fn run(element: &RunLengthElement) -> (NonZeroU64, NonZeroU64)
     }
 }
 
-/// The runs of the edges that elements stand for, no two of which stand side by side and have one edge.
+/// The runs of the edges that elements stand for; no two that stand side by side have the same edge.
 pub(crate) fn merge(
     alloc: Global,
     elements: &[RunLengthElement],

@@ -11,6 +11,6 @@ pub record IsPlaceOf (runs : List (ℕ × ℕ)) (k : ℕ) (place : Place) : Type
   pub edge : non_zero_u64_get place.edge ≡ (slice_index_or runs k (0, 0)).0
   pub first : place.first ≡ length (edges_of_runs (take k runs))
   pub start : place.start ≡ sum (edges_of_runs (take k runs))
-  -- its own chunks end within the numbers
+  -- its chunks and its elements end at the greatest number or before
   pub counted : place.first + (slice_index_or runs k (0, 0)).1 ≤ greatest
   pub fits : place.start + (slice_index_or runs k (0, 0)).0 * (slice_index_or runs k (0, 0)).1 ≤ greatest
