@@ -3,7 +3,10 @@
 //! | Module | What it tests |
 //! |---|---|
 //! | `runs` | rows of edges, wide counts, texts of faults |
+//! | `probes` | the search by halving |
 #![tactic(auto)]
 
+#[cfg(test)]
+mod probes;
 #[cfg(test)]
 mod runs;

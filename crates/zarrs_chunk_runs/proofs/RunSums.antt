@@ -1,12 +1,15 @@
 -- What running sums tell of the edges that runs stand for.
-use Rattle.std.proofs.Common.{◌≡◌, ℕ, zero, suc, ◌+◌, ◌<◌, ◌≤◌, List, [], ◌∷◌, ◌++◌, length, map, take, get_or, refl, sym, ap, ◌∙◌, append_assoc, arith}
+use Rattle.std.proofs.Common.{◌≡◌, ℕ, zero, suc, ◌+◌, ◌<◌, ◌≤◌, List, [], ◌∷◌, ◌++◌, length, map, take, get_or, refl, sym, ap, ◌∙◌, append_assoc, ⊎_elim, ltb-true, lt-ltb, arith}
 use Rattle.std.specs.List.{sum}
 use Rattle.std.specs.List.Sorted.{IsNonDecreasingBy}
+use Rattle.std.proofs.lemmas.Bool.{cases_lt}
 use Rattle.std.proofs.lemmas.List.{take-map, length-append, length-map, length-replicate}
 use Rattle.std.proofs.lemmas.List.Sums.{sum_by-append, sum_by-cons}
 use Rattle.std.proofs.lemmas.List.Folds.{sum_by-replicate}
 use Rattle.zarrs_chunk_runs.specs.Runs.{edges_of_run, edges_of_runs}
-use Rattle.zarrs_chunk_runs.specs.lemmas.Running.{running, size_of, count_of_run, ends_of, chunk_ends_of}
+use Rattle.zarrs_chunk_runs.specs.lemmas.Running.{IsFirstAbove, running, size_of, count_of_run, ends_of, chunk_ends_of}
+use Rattle.zarrs_chunk_runs.specs.Search.{IsFirstTrue, StaysTrue}
+use Rattle.zarrs_chunk_runs.specs.seen.RunningSums.{compared}
 
 -- the sum of the edges is that of the runs' sizes
 pub sum_of_edges : (runs : List (ℕ × ℕ)) → sum (edges_of_runs runs) ≡ sum (map size_of runs)
@@ -71,3 +74,19 @@ one_run_more (run ∷ runs) zero d within = append_nil_both (edges_of_run run) w
 one_run_more (run ∷ runs) (suc k) d within =
     ap (λ rest. edges_of_run run ++ rest) (one_run_more runs k d (omega arith))
     ∙ sym (append_assoc (edges_of_run run) (edges_of_runs (take k runs)) (edges_of_run (get_or runs k d)))
+
+module _ (sums : List ℕ) (sought : ℕ) (rises : IsNonDecreasingBy (λ x. x) sums) where
+  -- those after a greater one are greater
+  pub stays_above : StaysTrue (length sums) (compared sums sought)
+  stays_above j k order within above =
+      let greater : sought < get_or sums j 0 = ltb-true sought (get_or sums j 0) above in
+      lt-ltb sought (get_or sums k 0) (omega (arith, rises j k 0 order within))
+
+  -- the first greater one, by what is asked at each place
+  pub is_first_above : (place : ℕ) → IsFirstTrue (length sums) (compared sums sought) place → IsFirstAbove sums sought place
+  is_first_above place first = record {
+    bound = first.bound;
+    low = λ k below. ⊎_elim (λ (greater : sought < get_or sums k 0). absurd (first.before k below (lt-ltb sought (get_or sums k 0) greater))) (λ h. h)
+        (cases_lt sought (get_or sums k 0));
+    high = λ k past within. ltb-true sought (get_or sums k 0) (stays_above place k past within (first.at (omega arith)));
+  }

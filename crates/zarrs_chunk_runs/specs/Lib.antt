@@ -1,3 +1,5 @@
+pub mod Forms
 pub mod Runs
+pub mod Search
 pub mod lemmas
 pub mod seen

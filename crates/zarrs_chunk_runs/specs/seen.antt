@@ -1,3 +1,4 @@
 pub mod Comparisons
 pub mod Place
 pub mod RunEdges
+pub mod RunningSums

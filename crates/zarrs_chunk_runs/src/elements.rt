@@ -1,5 +1,5 @@
 //! Run-length elements: their sum, and the runs that they make.
-ghost use Rattle.std.specs.Prelude.{◌≡◌, ◌+◌, ◌++◌, ◌≤◌, IfOk, OnOk, SomeIff, length, map, replicate};
+ghost use Rattle.std.specs.Prelude.{◌≡◌, ◌+◌, ◌++◌, ◌<◌, ◌≤◌, IfOk, OnOk, SomeIff, length, map, replicate};
 ghost use Rattle.std.specs.List.{sum};
 ghost use Rattle.std.specs.Int.NonZero.{non_zero_u64_get};
 ghost use Rattle.zarrs_chunk_base.specs.Greatest.{greatest};
@@ -51,6 +51,7 @@ pub(crate) fn merge(
     ensures edges { IfOk result (λ runs. edges_of_runs (map run_of runs.items)
         ≡ expansion elements.now) }
     ensures merged { IfOk result (λ runs. AreMerged (map run_of runs.items)) }
+    ensures some { 0 < length elements.now → IfOk result (λ runs. 0 < length runs.items) }
 {
     let mut runs = Vec::with_capacity(alloc, elements.len())?;
     for element in elements {
@@ -73,6 +74,7 @@ fn append(
         ++ replicate (non_zero_u64_get count) (non_zero_u64_get edge)) }
     ensures merged { AreMerged (map run_of runs.old.items)
         → OnOk result (AreMerged (map run_of runs.new.items)) }
+    ensures some { OnOk result (0 < length runs.new.items) }
 {
     let Some(last) = runs.last_mut() else {
         runs.push((edge, count))?;

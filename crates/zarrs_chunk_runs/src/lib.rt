@@ -1,8 +1,8 @@
 //! The edges of chunks kept as runs of equal ones.
 //!
 //! A run is an edge and how many chunks in a row have it. [`RunEdges`] answers as the list of all edges does, one for each
-//! chunk, and never makes that list: 18446744073709551615 chunks of one edge take as much room as one. Its two searches halve
-//! the runs and count in [`Comparisons`] how often they compare.
+//! chunk, and never makes that list: 18446744073709551615 chunks of one edge take as much room as one. A search halves the runs
+//! ([`first_above`]) and counts in [`Comparisons`] how often it compares: at most as often as the number of runs has binary digits.
 //!
 //! ```text
 //! elements [5,1], [5,2], 15, 15, [20,1], 35
@@ -18,7 +18,8 @@
 //! | `run_edges_error` | why they can't be made |
 //! | `elements` | run-length elements: their sum, and the runs that they make |
 //! | `laws` | what holds of all such edges |
-//! | `search`, `comparisons` | the search in running sums, and how often it compares |
+//! | `search` | the search by halving, over truths that are asked for one at a time |
+//! | `running_sums`, `comparisons` | running sums that are compared with a number, and how often they are |
 #![tactic(auto)]
 
 mod comparisons;
@@ -26,9 +27,11 @@ mod elements;
 pub mod laws;
 mod run_edges;
 mod run_edges_error;
+mod running_sums;
 mod search;
 
 pub use comparisons::Comparisons;
 pub use elements::total;
 pub use run_edges::RunEdges;
 pub use run_edges_error::RunEdgesError;
+pub use search::{Probe, first_above};

@@ -6,12 +6,14 @@ ghost use Rattle.zarrs_chunk_base.specs.Greatest.{greatest};
 ghost use Rattle.zarrs_chunk_base.specs.Refusal.{MatchRefusal};
 ghost use Rattle.zarrs_chunk_base.specs.RunLength.{expansion};
 ghost use Rattle.zarrs_chunk_runs.specs.Runs.{AreAccepted, AreMerged, IsChunkOf, IsRunEdgesFault, IsRunOf, edges_of_runs, run_of};
+ghost use Rattle.zarrs_chunk_runs.specs.Search.{IsCounted};
 ghost use Rattle.zarrs_chunk_runs.specs.lemmas.Running.{chunk_ends_of, ends_of};
+ghost use Rattle.zarrs_chunk_runs.specs.seen.Comparisons.{count_of};
 
 use crate::comparisons::Comparisons;
 use crate::elements::{merge, total};
 use crate::run_edges_error::RunEdgesError;
-use crate::search::first_above;
+use crate::running_sums::first_greater;
 use std::alloc::{AllocError, Global};
 use std::num::NonZeroU64;
 use zarrs_chunk_base::{Refusal, RunLengthElement};
@@ -27,6 +29,7 @@ pub struct RunEdges {
     ends: Vec<u64>,
     /// How many chunks there are up to the end of each run.
     chunk_ends: Vec<u64>,
+    ghost some: { 0 < length runs.items },
     ghost merged: { AreMerged (map run_of runs.items) },
     ghost summed: { ends.items ≡ ends_of (map run_of runs.items) },
     ghost counted: { chunk_ends.items ≡ chunk_ends_of (map run_of runs.items) },
@@ -67,8 +70,9 @@ impl RunEdges {
         Ok(RunEdges::from_runs(alloc, runs)?)
     }
 
-    /// The edges of runs, no two of which stand side by side and have one edge.
+    /// The edges of some runs; no two that stand side by side have the same edge.
     fn from_runs(alloc: Global, runs: Vec<(NonZeroU64, NonZeroU64)>) -> Result<RunEdges, AllocError>
+        requires some { 0 < length runs.items }
         requires merged { AreMerged (map run_of runs.items) }
         requires fits { sum (edges_of_runs (map run_of runs.items)) ≤ greatest }
         ensures { IfOk result (λ edges. runs_of edges ≡ map run_of runs.items) }
@@ -155,8 +159,10 @@ impl RunEdges {
 
     /// The chunk that an index lies in; `None` where it lies in none. Each comparison with a running sum is counted.
     pub fn find_index(&self, index: u64, comparisons: &mut Comparisons) -> Option<u64>
-        ensures { MatchOption result (sum (expanded self.now) ≤ index)
+        ensures found { MatchOption result (sum (expanded self.now) ≤ index)
             (IsChunkOf (expanded self.now) index) }
+        ensures counted { IsCounted (length (runs_of self.now))
+            (count_of comparisons.old) (count_of comparisons.new) }
     {
         Some(self.find_home(index, comparisons)?.0)
     }
@@ -164,11 +170,13 @@ impl RunEdges {
     /// The chunk that an index lies in, and how far after the chunk's start it lies; `None` where it lies in none. Each
     /// comparison with a running sum is counted.
     pub fn find_home(&self, index: u64, comparisons: &mut Comparisons) -> Option<(u64, u64)>
-        ensures { MatchOption result (sum (expanded self.now) ≤ index)
+        ensures found { MatchOption result (sum (expanded self.now) ≤ index)
             (λ home. IsChunkOf (expanded self.now) index home.0
             × (sum (take home.0 (expanded self.now)) + home.1 ≡ index)) }
+        ensures counted { IsCounted (length (runs_of self.now))
+            (count_of comparisons.old) (count_of comparisons.new) }
     {
-        let place = self.place(first_above(&self.ends, index, comparisons))?;
+        let place = self.place(first_greater(&self.ends, index, comparisons))?;
         let rest = index - place.start;
         let edge = place.edge.get();
         Some((place.first + rest / edge, rest % edge))
@@ -177,10 +185,12 @@ impl RunEdges {
     /// The run that a chunk lies in, counted from 0; `None` where there is no such chunk. Each comparison with a running sum is
     /// counted.
     pub fn find_chunk(&self, chunk: u64, comparisons: &mut Comparisons) -> Option<usize>
-        ensures { MatchOption result (length (expanded self.now) ≤ chunk)
+        ensures found { MatchOption result (length (expanded self.now) ≤ chunk)
             (IsRunOf (runs_of self.now) chunk) }
+        ensures counted { IsCounted (length (runs_of self.now))
+            (count_of comparisons.old) (count_of comparisons.new) }
     {
-        let run = first_above(&self.chunk_ends, chunk, comparisons);
+        let run = first_greater(&self.chunk_ends, chunk, comparisons);
         if run < self.runs.len() {
             Some(run)
         } else {

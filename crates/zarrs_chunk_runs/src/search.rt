@@ -1,35 +1,53 @@
-//! The search in running sums.
-ghost use Rattle.std.specs.Prelude.{◌≡◌, ◌↔◌, ◌+◌, ◌<◌, IsTrue, min};
-ghost use Rattle.std.specs.List.Sorted.{IsNonDecreasingBy};
+//! The search by halving.
+ghost use Rattle.std.specs.Prelude.{◌≡◌, ◌+◌, ◌<◌, ℕ, Bool, min};
 ghost use Rattle.zarrs_chunk_base.specs.Greatest.{greatest};
-ghost use Rattle.zarrs_chunk_runs.specs.lemmas.Running.{IsFirstAbove};
-ghost use Rattle.zarrs_chunk_runs.specs.seen.Comparisons.{count_of};
+ghost use Rattle.zarrs_chunk_runs.specs.Search.{IsCounted, IsFirstTrue, StaysTrue};
 
 use crate::comparisons::Comparisons;
 
-/// The place of the first sum that is greater than a number, or how many sums there are where none is.
-pub(crate) fn first_above(sums: &[u64], sought: u64, comparisons: &mut Comparisons) -> usize
-    requires { IsNonDecreasingBy (λ x. x) sums.now }
-    ensures { IsFirstAbove sums.now sought result }
+/// Truths at places that are numbered from 0 on. They are asked for one at a time, and the questions are counted.
+pub trait Probe {
+    /// How many places there are.
+    ghost extent: { Self → ℕ };
+
+    /// The truth at each place.
+    ghost truth: { Self → ℕ → Bool };
+
+    /// How many questions have been counted; the greatest number stands for more, too.
+    ghost asked: { Self → ℕ };
+
+    /// How many places there are.
+    fn places(&self) -> usize
+        ensures { result ≡ extent self.now };
+
+    /// The truth at a place, which counts as one question.
+    fn above(&mut self, place: usize) -> bool
+        requires { place < extent self.old }
+        ensures answer { result ≡ truth self.old place }
+        ensures places { extent self.new ≡ extent self.old }
+        ensures truths { truth self.new ≡ truth self.old }
+        ensures counted { asked self.new ≡ min (asked self.old + 1) greatest };
+}
+
+/// The first place whose truth is true, or how many places there are where none is.
+///
+/// It halves the places that are left with each question.
+pub fn first_above<P: Probe>(probe: &mut P) -> usize
+    requires { StaysTrue (P.extent probe.old) (P.truth probe.old) }
+    ensures found { IsFirstTrue (P.extent probe.old) (P.truth probe.old) result }
+    ensures places { P.extent probe.new ≡ P.extent probe.old }
+    ensures truths { P.truth probe.new ≡ P.truth probe.old }
+    ensures counted { IsCounted (P.extent probe.old) (P.asked probe.old) (P.asked probe.new) }
 {
     let mut low = 0;
-    let mut high = sums.len();
+    let mut high = probe.places();
     while low < high {
         let middle = low + (high - low) / 2;
-        if is_above(sums[middle], sought, comparisons) {
+        if probe.above(middle) {
             high = middle;
         } else {
             low = middle + 1;
         }
     }
     low
-}
-
-/// Whether a running sum is greater than the sought number, which is counted as one comparison.
-fn is_above(sum: u64, sought: u64, comparisons: &mut Comparisons) -> bool
-    ensures compared { IsTrue result ↔ sought < sum }
-    ensures counted { count_of comparisons.new ≡ min (count_of comparisons.old + 1) greatest }
-{
-    comparisons.add_one();
-    sought < sum
 }

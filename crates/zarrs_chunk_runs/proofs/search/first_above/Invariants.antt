@@ -1,12 +1,13 @@
-use Rattle.std.proofs.Common.{◌-◌, ◌<◌, ◌≤◌, ℕ, length, slice_index_or}
+use Rattle.std.proofs.Common.{◌≡◌, ◌-◌}
+use Rattle.zarrs_chunk_runs.proofs.Halving.{SoFar}
 use Rattle.zarrs_chunk_runs.proofs.search.first_above.Given as goal
 
--- the sums below `low` aren't greater than the sought number, and those from `high` on are
+-- no truth has changed, and those that were asked for leave the places between `low` and `high`
 abbrev pub invariant-loop-low : goal.invariant-loop-low
-invariant-loop-low l =
-    (l.low ≤ l.high) × (l.high ≤ length l.sums)
-    × ((k : ℕ) → k < l.low → slice_index_or l.sums k 0 ≤ l.sought)
-    × ((k : ℕ) → l.high ≤ k → k < length l.sums → l.sought < slice_index_or l.sums k 0)
+invariant-loop-low g l =
+    let begun = l.fn.probe in
+    (g.P.Probe.extent l.probe ≡ g.P.Probe.extent begun) × (g.P.Probe.truth l.probe ≡ g.P.Probe.truth begun)
+    × SoFar (g.P.Probe.extent begun) (g.P.Probe.truth begun) (g.P.Probe.asked begun) l.low l.high (g.P.Probe.asked l.probe)
 
 abbrev pub decreases-loop-low : goal.decreases-loop-low
-decreases-loop-low l = l.high - l.low
+decreases-loop-low g l = l.high - l.low
