@@ -5,6 +5,7 @@ use Rattle.std.proofs.lemmas.Grind.{flat_map-append}
 use Rattle.std.specs.List.{AllByRecursion}
 use Rattle.zarrs_chunk_base.specs.RunLength.{AreApart, Element, IsNoPairOfOne, IsRunLengthForm, edge_in, edges_of_element, joined}
 use Rattle.zarrs_chunk_runs.specs.Runs.{AreMerged, edges_of_run, edges_of_runs}
+use Rattle.zarrs_chunk_runs.proofs.Forms.{later_merged}
 
 -- the edge of a run
 abbrev pub edge_of_run : ℕ × ℕ → ℕ
@@ -55,10 +56,7 @@ apart (e ∷ f ∷ elements) (r ∷ []) own merged = absurd (let lengths : suc (
 apart (e ∷ f ∷ elements) (r ∷ s ∷ runs) own merged =
     let first : edge_in e ≡ r.0 = ap (λ edges. get_or edges 0 0) own in
     let second : edge_in f ≡ s.0 = ap (λ edges. get_or edges 1 0) own in
-    let later : AreMerged (s ∷ runs) = λ k within same.
-    let next : suc (k + 1) ≡ suc k + 1 = omega arith in
-    merged (suc k) (omega arith) (same ∙ ap (λ n. (get_or (r ∷ s ∷ runs) n (0, 0)).0) next) in
-    (λ same. merged 0 (omega arith) (sym first ∙ same ∙ second), apart (f ∷ elements) (s ∷ runs) (ap (drop 1) own) later)
+    (λ same. merged 0 (omega arith) (sym first ∙ same ∙ second), apart (f ∷ elements) (s ∷ runs) (ap (drop 1) own) (later_merged r (s ∷ runs) merged))
 
 module _ (runs : List (ℕ × ℕ)) (elements : List Element) (so_far : SoFar runs elements) (last : length runs ≤ length elements) where
   -- after the last run the elements have all edges

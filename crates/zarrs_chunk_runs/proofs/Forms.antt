@@ -196,7 +196,7 @@ there_is_one (edge ∷ edges) =
 -- ---- and it is as long as the runs that are kept
 
 -- the runs behind the first one
-later_merged : (run : ℕ × ℕ) (runs : List (ℕ × ℕ)) → AreMerged (run ∷ runs) → AreMerged runs
+pub later_merged : (run : ℕ × ℕ) (runs : List (ℕ × ℕ)) → AreMerged (run ∷ runs) → AreMerged runs
 later_merged run runs merged k within same =
     let next : suc (k + 1) ≡ suc k + 1 = omega arith in
     merged (suc k) (omega arith) (same ∙ ap (λ n. (get_or (run ∷ runs) n (0, 0)).0) next)
