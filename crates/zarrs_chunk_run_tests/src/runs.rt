@@ -17,10 +17,7 @@ fn repeated(edge: u64, count: u64) -> Result<RunLengthElement, Fail> {
 
 /// Edges that aren't refused.
 fn edges(alloc: Global, elements: &[RunLengthElement]) -> Result<RunEdges, Fail> {
-    match RunEdges::new(alloc, elements) {
-        Ok(edges) => Ok(edges),
-        Err(_) => Err("the edges are refused".into()),
-    }
+    Ok(RunEdges::new(alloc, elements)?)
 }
 
 #[test]
