@@ -17,7 +17,7 @@
 //! | `run_edges` | edges as runs |
 //! | `run_edges_error` | why they can't be made |
 //! | `elements` | run-length elements: their sum, and the runs that they make |
-//! | `laws` | what holds of all such edges |
+//! | `laws` | what holds of edges and their runs, and of binary digits |
 //! | `search` | the search by halving, over truths that are asked for one at a time |
 //! | `running_sums`, `comparisons` | running sums that are compared with a number, and how often they are |
 #![tactic(auto)]

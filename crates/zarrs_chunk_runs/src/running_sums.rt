@@ -16,6 +16,7 @@ pub(crate) fn first_greater(sums: &[u64], sought: u64, comparisons: &mut Compari
     ensures counted { IsCounted (length sums.now)
         (count_of comparisons.old) (count_of comparisons.new) }
 {
+    // The probe takes the counter and gives it back: of one that it only borrows, nothing would be known after the search.
     let mut probe = RunningSums {
         sums,
         sought,

@@ -3,8 +3,6 @@ ghost use Rattle.std.specs.Prelude.{◌≡◌, ◌+◌, ◌<◌, ℕ, Bool, min}
 ghost use Rattle.zarrs_chunk_base.specs.Greatest.{greatest};
 ghost use Rattle.zarrs_chunk_runs.specs.Search.{IsCounted, IsFirstTrue, StaysTrue};
 
-use crate::comparisons::Comparisons;
-
 /// Truths at places that are numbered from 0 on. They are asked for one at a time, and the questions are counted.
 pub trait Probe {
     /// How many places there are.
@@ -13,7 +11,7 @@ pub trait Probe {
     /// The truth at each place.
     ghost truth: { Self → ℕ → Bool };
 
-    /// How many questions have been counted; the greatest number stands for more, too.
+    /// How many questions have been counted; 18446744073709551615 means that many or more.
     ghost asked: { Self → ℕ };
 
     /// How many places there are.

@@ -20,8 +20,8 @@
 //! | Accepted | as many items as dimensions; a list isn't empty, and its sum is at least the array size and at most 18446744073709551615 |
 //! | Chunks | of one edge: every number; of a list: one for each edge, and each is counted |
 //! | In bounds | an index below the array size (any index, where that is 0); where edges are listed, a chunk has to hold it too |
-//! | Memory | 32 bytes for each run of equal edges, however many chunks it counts |
-//! | Differs from zarrs | `kind` has to be there; the sum is exact, and taken before anything is expanded |
+//! | Memory | at most 32 bytes for each edge and each pair of a list, however many chunks a pair counts |
+//! | Differs from zarrs | `kind` has to be there; the sum is exact; nothing is expanded |
 ghost use Rattle.std.specs.Prelude.{◌≡◌, map};
 ghost use Rattle.zarrs_chunk_base.specs.RunLength.{edges_of_lengths, rectilinear_edges};
 ghost use Rattle.zarrs_chunk_base.specs.GridConfigurations.{rectilinear_lengths};
