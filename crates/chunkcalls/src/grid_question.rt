@@ -5,10 +5,10 @@ use crate::located::located_tree;
 use crate::question::{numbers, required_member};
 use crate::start_shape::{StartShape, box_tree, numbers_tree};
 use crate::walk_items::first_items;
-use serde_json::Value;
-use std::alloc::Global;
+use serde_json::{Map, Value};
+use std::alloc::{AllocError, Global};
 use zarrs_chunk_base::{ArraySubset, IncompatibleDimensionalityError, Refusal, TreeForm};
-use zarrs_chunks::{ChunkGrid, ChunkGridTraits, locate};
+use zarrs_chunks::{ChunkGrid, ChunkGridTraits, Comparisons, RectilinearChunkGrid, locate};
 
 /// A call of the chunk grid of an array with this shape.
 #[derive(Drop)]
@@ -28,7 +28,8 @@ impl GridQuestion<'_> {
     ///
     /// # Errors
     /// The first that applies: there is no such call; the call takes an argument, and that is missing or isn't of its form; the
-    /// grid can't be made; the call is asked of a box or an encoding that can't be made; the call refuses. Or out of memory.
+    /// grid can't be made; it has no such call; the call is asked of a box or an encoding that can't be made; the call refuses. Or
+    /// out of memory.
     pub(crate) fn answer(&self, alloc: Global) -> Result<Value, Refusal<LineFault>> {
         match self.call {
             "dimensionality" => Ok(Value::from(self.grid(alloc)?.dimensionality())),
@@ -95,7 +96,7 @@ impl GridQuestion<'_> {
         }
     }
 
-    /// The first items of a walk. There is no further call.
+    /// The first items of a walk, or the answer of another call.
     fn answer_of_walk(&self, alloc: Global) -> Result<Value, Refusal<LineFault>> {
         match self.call {
             "iter_chunk_indices" => {
@@ -111,10 +112,28 @@ impl GridQuestion<'_> {
                 let walk = grid.iter_chunk_indices_and_subsets(alloc);
                 Ok(first_items(alloc, walk, most)?)
             }
-            name => {
-                let name = String::from_str(alloc, name)?;
-                Err(Refusal::Refused(LineFault::NoCall(name)))
+            _ => self.answer_of_rectilinear(alloc),
+        }
+    }
+
+    /// The answer of a call that a `rectilinear` grid alone has. There is no further call.
+    fn answer_of_rectilinear(&self, alloc: Global) -> Result<Value, Refusal<LineFault>> {
+        match self.call {
+            "runs" => {
+                let dimension = self.number(alloc, "of")?;
+                let grid = self.rectilinear_grid(alloc)?;
+                let runs = usize::try_from(dimension).ok().and_then(|d| grid.runs(d));
+                Ok(runs.map_or(Value::Null, Value::from))
             }
+            "chunk_indices_counted" => {
+                let index = numbers(alloc, self.tree)?;
+                let grid = self.rectilinear_grid(alloc)?;
+                let mut comparisons = Comparisons::new();
+                let chunk = grid.chunk_indices_counted(alloc, &index, &mut comparisons);
+                let answer = list_or_null(alloc, chunk)?;
+                Ok(counted_tree(alloc, answer, &comparisons)?)
+            }
+            _ => Err(self.no_call(alloc)?),
         }
     }
 
@@ -128,6 +147,20 @@ impl GridQuestion<'_> {
             Some(located) => Ok(located_tree(alloc, &located)?),
             None => Ok(Value::Null),
         }
+    }
+
+    /// The grid, of which the call is one where it is `rectilinear`.
+    fn rectilinear_grid(&self, alloc: Global) -> Result<RectilinearChunkGrid, Refusal<LineFault>> {
+        match self.grid(alloc)? {
+            ChunkGrid::Rectilinear(grid) => Ok(grid),
+            _ => Err(self.no_call(alloc)?),
+        }
+    }
+
+    /// That there is no such call.
+    fn no_call(&self, alloc: Global) -> Result<Refusal<LineFault>, AllocError> {
+        let name = String::from_str(alloc, self.call)?;
+        Ok(Refusal::Refused(LineFault::NoCall(name)))
     }
 
     /// The grid.
@@ -152,9 +185,13 @@ impl GridQuestion<'_> {
 
     /// How many items of a walk are given at most, and the grid.
     fn items_and_grid(&self, alloc: Global) -> Result<(u64, ChunkGrid), Refusal<LineFault>> {
-        let most = u64::from_tree(alloc, required_member(self.tree, "items")?)?;
-        let most = most.ok_or(Refusal::Refused(LineFault::WrongValue("items")))?;
-        Ok((most, self.grid(alloc)?))
+        Ok((self.number(alloc, "items")?, self.grid(alloc)?))
+    }
+
+    /// A member that is a number.
+    fn number(&self, alloc: Global, field: &'static str) -> Result<u64, Refusal<LineFault>> {
+        let number = u64::from_tree(alloc, required_member(self.tree, field)?)?;
+        number.ok_or(Refusal::Refused(LineFault::WrongValue(field)))
     }
 }
 
@@ -167,6 +204,19 @@ fn list_or_null<T: TreeForm>(
         Some(list) => Ok(list.to_tree(alloc)?),
         None => Ok(Value::Null),
     }
+}
+
+/// The tree of an answer and of how many comparisons it took: `{"answer":..,"comparisons":n}`.
+fn counted_tree(
+    alloc: Global,
+    answer: Value,
+    comparisons: &Comparisons,
+) -> Result<Value, AllocError> {
+    let mut members = Map::new(alloc);
+    serde_json::put(&mut members, alloc, "answer", answer)?;
+    let count = Value::from(comparisons.count());
+    serde_json::put(&mut members, alloc, "comparisons", count)?;
+    Ok(Value::Object(members))
 }
 
 /// The tree of an answer that is a box, or `null` where there is none.

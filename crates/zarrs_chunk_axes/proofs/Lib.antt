@@ -1,4 +1,5 @@
 pub mod Bounds
+pub mod CountedSoFar
 pub mod EachAxis
 pub mod EachSoFar
 pub mod EqualAxes

@@ -1,4 +1,5 @@
 pub mod Bounded
+pub mod Counted
 pub mod EqualEdges
 pub mod EqualOrListed
 pub mod InBounds

@@ -1,4 +1,6 @@
 //! The dimensions of a grid, and the loops over them that all grids share.
+mod counted;
+
 ghost use Rattle.std.specs.Prelude.{◌≡◌, ◌↔◌, ℕ, IfErr, IfOk, IsOk, IsTrue, List, MatchOption, cond, length, map};
 ghost use Rattle.std.specs.List.{AllByRecursion, AllZip};
 ghost use Rattle.zarrs_chunk_base.specs.Dimension.{InBox, InEach, IsPlace, array_sizes, grid_sizes};

@@ -1,7 +1,12 @@
 //! One dimension of an array that is cut into chunks whose edges are kept as runs of equal ones.
-ghost use Rattle.std.specs.Prelude.{◌≡◌, ◌≤◌, IfOk};
+ghost use Rattle.std.specs.Prelude.{◌≡◌, ◌+◌, ◌≤◌, ℕ, IfOk, MatchOption, min};
 ghost use Rattle.std.specs.List.{sum};
+ghost use Rattle.zarrs_chunk_base.specs.Dimension.{Holds};
+ghost use Rattle.zarrs_chunk_base.specs.Greatest.{greatest};
 ghost use Rattle.zarrs_chunk_base.specs.RunLength.{element_of, expansion, IsRunLengthForm};
+ghost use Rattle.zarrs_chunk_axes.specs.Counted.{IsMost};
+ghost use Rattle.zarrs_chunk_runs.specs.Forms.{HasRuns};
+ghost use Rattle.zarrs_chunk_runs.specs.seen.Comparisons.{count_of};
 ghost use Rattle.zarrs_chunk_runs.specs.seen.RunEdges.{expanded};
 
 use crate::axis::Axis;
@@ -28,7 +33,7 @@ impl RunsAxis {
     ghost use Rattle.zarrs_chunk_base.specs.DimensionEdges.{listed};
     ghost use Rattle.zarrs_chunk_axes.specs.Listed.{IsListed};
     ghost use Rattle.zarrs_chunk_axes.specs.Rectilinear.{IsRectilinear};
-    ghost use Rattle.zarrs_chunk_axes.specs.seen.RunsAxis.{run_edges_in, runs_dimension};
+    ghost use Rattle.zarrs_chunk_axes.specs.seen.RunsAxis.{run_edges_in, runs_dimension, runs_edges};
 
     /// The dimension of an array size and of run-length elements that a `rectilinear` grid accepts.
     ///
@@ -63,15 +68,35 @@ impl RunsAxis {
     {
         run_length_form(alloc, &self.edges)
     }
+
+    /// How many runs its edges have.
+    pub(crate) fn runs(&self) -> usize
+        ensures { HasRuns (run_edges_in self.now) result }
+    {
+        self.edges.runs()
+    }
+
+    /// The chunk that an index lies in; `None` where it lies in none. Each comparison with a running sum is counted.
+    pub(crate) fn chunk_of_counted(&self, index: u64, comparisons: &mut Comparisons) -> Option<u64>
+        ensures found { MatchOption result ((c : ℕ) → ¬ Holds (runs_dimension self.now) c index)
+            (λ c. Holds (runs_dimension self.now) c index) }
+        ensures at_most { (most : ℕ) → IsMost (runs_edges self.now) most
+            → count_of comparisons.new ≤ count_of comparisons.old + most }
+        ensures at_least { min (count_of comparisons.old + 1) greatest
+            ≤ count_of comparisons.new }
+        ensures stays { count_of comparisons.old ≡ greatest
+            → count_of comparisons.new ≡ greatest }
+    {
+        self.edges.find_index(index, comparisons)
+    }
 }
 
 impl Axis for RunsAxis {
-    ghost use Rattle.zarrs_chunk_base.specs.DimensionEdges.{listed};
-    ghost use Rattle.zarrs_chunk_axes.specs.seen.RunsAxis.{run_edges_in, runs_dimension, runs_is_chain};
+    ghost use Rattle.zarrs_chunk_axes.specs.seen.RunsAxis.{runs_dimension, runs_edges, runs_is_chain};
 
     ghost dimension = { runs_dimension };
 
-    ghost edges = { λ axis. listed (run_edges_in axis) };
+    ghost edges = { runs_edges };
 
     ghost chained = { runs_is_chain };
 
@@ -84,7 +109,7 @@ impl Axis for RunsAxis {
     }
 
     fn chunk_of(&self, index: u64) -> Option<u64> {
-        self.edges.find_index(index, &mut Comparisons::new())
+        self.chunk_of_counted(index, &mut Comparisons::new())
     }
 
     fn origin_of(&self, chunk: u64) -> Option<u64> {

@@ -4,7 +4,7 @@ use Rattle.std.proofs.lemmas.Bool.{cases_eq, eq-eqb, ne_eqb}
 use Rattle.zarrs_chunk_base.specs.RunLength.{AreApart, Element, IsNoPairOfOne, IsRunLengthForm, edge_in, edges_of_element, joined, repeated, single}
 use Rattle.std.specs.Int.NonZero.{non_zero_u64_get}
 use Rattle.std.specs.declared.num.NonZeroU64.{NonZeroU64}
-use Rattle.zarrs_chunk_runs.specs.Forms.{IsFormOf}
+use Rattle.zarrs_chunk_runs.specs.Forms.{HasRuns, IsFormOf}
 use Rattle.zarrs_chunk_runs.specs.Runs.{AreMerged, edges_of_runs, run_of}
 use Rattle.zarrs_chunk_runs.specs.declared.run_edges.RunEdges.{RunEdges}
 use Rattle.zarrs_chunk_runs.specs.seen.RunEdges.{expanded, runs_of}
@@ -221,3 +221,11 @@ pub kept_runs : (edges : RunEdges) (form : List Element) → IsFormOf (expanded 
 kept_runs edges form is =
     let same : runs_in (joined form) ≡ runs_in (expanded edges) = ap runs_in is.same in
     omega (arith, as_many_as_runs form is.form, same, as_many_as_kept edges.runs.items edges.merged)
+
+-- so the run-length form of kept edges has as many elements
+pub has_kept_runs : (edges : RunEdges) → HasRuns (expanded edges) (length (runs_of edges))
+has_kept_runs edges = let (form, is) = there_is_one (expanded edges) in (form, is, kept_runs edges form is)
+
+-- and no other number of them
+pub no_other_runs : (edges : RunEdges) (count : ℕ) → HasRuns (expanded edges) count → count ≡ length (runs_of edges)
+no_other_runs edges count (form, is, counts) = sym counts ∙ kept_runs edges form is

@@ -9,3 +9,4 @@ pub mod Meeting
 pub mod SeenGrids
 pub mod Subsets
 pub mod UpTo
+pub mod WrittenLengths

@@ -1,6 +1,6 @@
 //! What holds of every chunk grid and every encoding, whoever wrote them. It follows from the contracts of [`ChunkGridTraits`] and
 //! [`ChunkKeyEncodingTraits`] and from their laws: each dimension is a chain, and equal keys of equally long lists come from equal lists.
-//! The last three lines of the table are about the grids of this library.
+//! The last five lines of the table are about the grids of this library.
 //!
 //! | What holds | The function whose contract says it |
 //! |---|---|
@@ -15,8 +15,11 @@
 //! | A grid of run-length elements has the dimensions of one with the edges written out; two bounded grids of the same edges have the same | [`the_edges_determine_the_dimensions`] |
 //! | A bounded grid answers as its clipped edges, where no array size is 0 | [`a_bounded_dimension_is_that_of_its_edges`], [`grids_of_like_dimensions_answer_alike`] |
 //! | A [`ChunkGrid`] is made again of its metadata | [`a_grid_is_made_again_of_its_metadata`] |
+//! | `rectilinear` grids have equal configurations exactly where they have equal edges | [`equal_edges_are_written_alike`] |
+//! | A search among runs makes at most as many comparisons as their number has binary digits | [`RectilinearChunkGrid::chunk_indices_counted`] |
 ghost use Rattle.std.specs.Prelude.{◌≡◌, ◌≢◌, ◌↔◌, ◌⊎◌, ℕ, ◌<◌, IfErr, IfOk, IfSome, IsTrue, List, Some, length, map, option_map};
 ghost use Rattle.std.specs.List.{AllPairs, Contains};
+ghost use Rattle.serde_json.specs.View.{members_view};
 ghost use Rattle.zarrs_chunk_base.specs.ArraySubset.{Box, IsEmptyBox, IsInside};
 ghost use Rattle.zarrs_chunk_base.specs.Dimension.{Dimension, InBox, IsPlace, array_sizes, grid_sizes};
 ghost use Rattle.zarrs_chunk_base.specs.Greatest.{AllFit};
@@ -25,7 +28,7 @@ ghost use Rattle.zarrs_chunk_axes.specs.Bounded.{AreBounded, IsBounded};
 ghost use Rattle.zarrs_chunk_base.specs.Refusal.{IfRefused};
 ghost use Rattle.zarrs_chunks.specs.GridKinds.{is_bounded};
 ghost use Rattle.zarrs_chunks.specs.Located.{IsLocated};
-ghost use Rattle.zarrs_chunks.specs.seen.Grids.{grid_in, kind_in};
+ghost use Rattle.zarrs_chunks.specs.seen.Grids.{grid_in, kind_in, rectilinear_of};
 ghost use Rattle.zarrs_chunks.specs.Alike.{AnswerAlike, AreAlike, AreAllAlike};
 ghost use Rattle.zarrs_chunks.specs.Clipped.{AreClipped, AreClippedLists};
 ghost use Rattle.zarrs_chunk_axes.specs.InBounds.{AreBelow};
@@ -35,10 +38,11 @@ ghost use Rattle.zarrs_chunks.specs.Subsets.{AnswersChunksSubset, AnswersCover, 
 ghost use Rattle.zarrs_chunks.specs.Walks.{box_at, chunks_of, ends_within};
 ghost use Rattle.zarrs_chunks.specs.seen.Walks.{chunks_left};
 
-use crate::{ChunkGrid, ChunkGridTraits, ChunkIndices, Located};
-use std::alloc::Global;
+use crate::{ChunkGrid, ChunkGridTraits, ChunkIndices, Located, RectilinearChunkGrid};
+use std::alloc::{AllocError, Global};
 use zarrs_chunk_base::{
-    ArrayIndices, ArraySubset, IncompatibleDimensionalityError, PluginCreateError, Refusal,
+    ArrayIndices, ArraySubset, Configuration, IncompatibleDimensionalityError, PluginCreateError,
+    Refusal,
 };
 use zarrs_chunk_keys::ChunkKeyEncodingTraits;
 
@@ -217,6 +221,22 @@ pub fn grids_of_like_dimensions_answer_alike<G: ChunkGridTraits, H: ChunkGridTra
     ensures { AreAllAlike (G.dimensions grid.now) (H.dimensions other.now)
         → AnswerAlike (G.dimensions grid.now) (H.dimensions other.now) }
 {}
+
+/// The configurations of two `rectilinear` grids are equal exactly where the grids were made with the same edges, however the run-length
+/// elements were given. So one that is made again of its configuration has the same configuration.
+///
+/// # Errors
+/// Out of memory.
+pub fn equal_edges_are_written_alike(
+    alloc: Global,
+    grid: &RectilinearChunkGrid,
+    other: &RectilinearChunkGrid,
+) -> Result<(Configuration, Configuration), AllocError>
+    ensures { IfOk result (λ both. (members_view both.0.entries ≡ members_view both.1.entries)
+        ↔ ((rectilinear_of grid.now).edges ≡ (rectilinear_of other.now).edges)) }
+{
+    Ok((grid.configuration(alloc)?, other.configuration(alloc)?))
+}
 
 /// A grid is made again of its metadata and its array shape: one of the same kind, with the same dimensions and edges.
 ///

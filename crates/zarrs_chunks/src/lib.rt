@@ -51,3 +51,4 @@ pub use walks::chunk_indices::ChunkIndices;
 pub use walks::chunk_indices_and_subsets::ChunkIndicesAndSubsets;
 pub use walks::chunk_subsets::ChunkSubsets;
 pub use zarrs_chunk_axes::ArrayIndicesTinyVec;
+pub use zarrs_chunk_runs::Comparisons;

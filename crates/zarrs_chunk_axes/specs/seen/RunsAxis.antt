@@ -1,6 +1,7 @@
 -- How an axis of edges kept as runs is seen as a dimension, and that it is a chain.
 use Rattle.std.specs.Prelude.{ℕ, List}
 use Rattle.zarrs_chunk_base.specs.Dimension.{Dimension, IsChain}
+use Rattle.zarrs_chunk_base.specs.DimensionEdges.{DimensionEdges, listed}
 use Rattle.zarrs_chunk_runs.specs.lemmas.Positive.{edges_are_positive}
 use Rattle.zarrs_chunk_runs.specs.seen.RunEdges.{expanded}
 use Rattle.zarrs_chunk_axes.specs.Listed.{IsListed}
@@ -10,6 +11,10 @@ use Rattle.zarrs_chunk_axes.specs.seen.ListedEdges.{listed_from, listed_from_is_
 -- how many elements each chunk has
 abbrev pub run_edges_in : RunsAxis → List ℕ
 run_edges_in axis = expanded axis.edges
+
+-- the edges that it was made with
+abbrev pub runs_edges : RunsAxis → DimensionEdges
+runs_edges axis = listed (run_edges_in axis)
 
 -- an axis as a dimension
 abbrev pub runs_dimension : RunsAxis → Dimension

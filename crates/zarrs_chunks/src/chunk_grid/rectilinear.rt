@@ -22,7 +22,7 @@
 //! | In bounds | an index below the array size (any index, where that is 0); where edges are listed, a chunk has to hold it too |
 //! | Memory | at most 32 bytes for each edge and each pair of a list, however many chunks a pair counts |
 //! | Differs from zarrs | `kind` has to be there; the sum is exact; nothing is expanded |
-ghost use Rattle.std.specs.Prelude.{◌≡◌, map};
+ghost use Rattle.std.specs.Prelude.{◌≡◌, IfErr, IfOk, IfSome, map, slice_get};
 ghost use Rattle.zarrs_chunk_base.specs.RunLength.{edges_of_lengths, rectilinear_edges};
 ghost use Rattle.zarrs_chunk_base.specs.GridConfigurations.{rectilinear_lengths};
 ghost use Rattle.zarrs_chunk_axes.specs.Rectilinear.{AreRectilinear};
@@ -36,9 +36,11 @@ use std::error::Error;
 use std::fmt;
 use zarrs_chunk_axes::{AxisGrid, EqualOr, RunsAxis};
 use zarrs_chunk_base::{
-    ArrayShape, ChunkEdgeLengths, Configuration, ConfigurationForm, MetadataV3, PluginCreateError,
+    ArrayIndices, ArrayShape, ChunkEdgeLengths, Configuration, ConfigurationForm,
+    IncompatibleDimensionalityError, MetadataV3, PluginCreateError,
     RectilinearChunkGridConfiguration, Refusal,
 };
+use zarrs_chunk_runs::Comparisons;
 
 /// A grid whose chunks have one edge or listed edges in each dimension, where a list may say that so many chunks
 /// in a row have one edge. Listed edges reach over the array and may reach past it; there are no other chunks in that
@@ -54,12 +56,14 @@ pub struct RectilinearChunkGrid {
 
 impl RectilinearChunkGrid {
     ghost use Rattle.zarrs_chunk_base.specs.Dimension.{array_sizes};
-    ghost use Rattle.std.specs.Prelude.{◌≡◌, IfOk, IfErr, map};
     ghost use Rattle.std.specs.List.{AllZip};
     ghost use Rattle.zarrs_chunk_base.specs.Refusal.{IfRefused};
     ghost use Rattle.zarrs_chunk_base.specs.RunLength.{rectilinear_edges, IsSameChunkEdgeLengths};
+    ghost use Rattle.zarrs_chunk_axes.specs.Counted.{AreCounted, IsEachCounted, TellsRuns};
     ghost use Rattle.zarrs_chunk_axes.specs.EqualOrListed.{AreEqualOrListed};
+    ghost use Rattle.zarrs_chunk_axes.specs.LookUp.{AnswersChunk};
     ghost use Rattle.zarrs_chunk_axes.specs.Rectilinear.{AreRectilinear};
+    ghost use Rattle.zarrs_chunk_runs.specs.seen.Comparisons.{count_of};
     ghost use Rattle.zarrs_chunks.specs.seen.Grids.{rectilinear_of};
 
     /// The grid of an array with these sizes, in elements, and with these edges, one item a dimension.
@@ -96,6 +100,40 @@ impl RectilinearChunkGrid {
                 RectilinearChunkGridCreateError::new(alloc, array_shape, chunk_shapes)
             })),
         }
+    }
+
+    /// How many runs of equal edges a dimension has, dimensions being counted from 0; `None` where it has one edge for all chunks, or
+    /// there is no such dimension. The configuration has as many elements there.
+    pub fn runs(&self, dimension: usize) -> Option<usize>
+        ensures { TellsRuns (slice_get (rectilinear_of self.now).edges dimension) result }
+    {
+        self.axes.runs(dimension)
+    }
+
+    /// For each dimension the chunk that holds the index, as `chunk_indices` answers. Each comparison of an index with a running sum of
+    /// edges is counted: in a dimension of listed edges at most as many as its number of runs has binary digits, and at least one where
+    /// the answer is a chunk; none where one edge is that of all chunks.
+    ///
+    /// # Errors
+    /// The list has another length than there are dimensions; or out of memory. Nothing is counted then.
+    pub fn chunk_indices_counted(
+        &self,
+        alloc: Global,
+        array_indices: &[u64],
+        comparisons: &mut Comparisons,
+    ) -> Result<Option<ArrayIndices>, Refusal<IncompatibleDimensionalityError>>
+        ensures answers { AnswersChunk (rectilinear_of self.now).dimensions
+            array_indices.now result }
+        ensures counted { AreCounted (rectilinear_of self.now).edges
+            (count_of comparisons.old) (count_of comparisons.new) }
+        ensures each { IfOk result (λ found. IfSome found (λ _.
+            IsEachCounted (rectilinear_of self.now).edges
+            (count_of comparisons.old) (count_of comparisons.new))) }
+        ensures unchanged { IfErr result (λ _. count_of comparisons.new
+            ≡ count_of comparisons.old) }
+    {
+        self.axes
+            .chunk_indices_counted(alloc, array_indices, comparisons)
     }
 
     /// A copy.
@@ -171,7 +209,6 @@ fn chunk_shapes_in(configuration: &RectilinearChunkGridConfiguration) -> &[Chunk
 pub struct RectilinearChunkGridCreateError(pub ArrayShape, pub Vec<ChunkEdgeLengths>);
 
 impl RectilinearChunkGridCreateError {
-    ghost use Rattle.std.specs.Prelude.{◌≡◌, IfOk};
     ghost use Rattle.std.specs.List.{AllZip};
     ghost use Rattle.zarrs_chunk_base.specs.RunLength.{IsSameChunkEdgeLengths};
 
