@@ -42,10 +42,9 @@ all_same (x ∷ xs) [] form form' same = absurd (let no : length (x ∷ xs) ≡ 
 pub written_alike : (shape other_shape : List ℕ) (grid other : Grid) (members others : Members)
     → IsConfigurationOf (grid_kind rectilinear) shape grid members → IsConfigurationOf (grid_kind rectilinear) other_shape other others
     → (members ≡ others) ↔ (grid.edges ≡ other.edges)
-written_alike shape other_shape grid other ms others (x, accepted, made, form, written, is) (y, accepted', made', form', written', is') =
-    (
-      (λ same.
-          let value : Some x ≡ Some y = sym is.1 ∙ ap (grid_kind rectilinear).value same ∙ is'.1 in
-          made.1 ∙ ap (λ found. map edges_of_lengths (unwrap_or found [])) value ∙ sym made'.1),
-      (λ same. written ∙ ap (grid_kind rectilinear).written (all_same x y form form' (sym made.1 ∙ same ∙ made'.1)) ∙ sym written'),
-    )
+written_alike shape other_shape grid other ms others (x, accepted, made, form, written, is) (y, accepted', made', form', written', is') = (
+  (λ same.
+      let value : Some x ≡ Some y = sym is.1 ∙ ap (grid_kind rectilinear).value same ∙ is'.1 in
+      made.1 ∙ ap (λ found. map edges_of_lengths (unwrap_or found [])) value ∙ sym made'.1),
+  (λ same. written ∙ ap (grid_kind rectilinear).written (all_same x y form form' (sym made.1 ∙ same ∙ made'.1)) ∙ sym written'),
+)

@@ -89,11 +89,7 @@ fn find_chunks(
 }
 
 /// The chunk of a dimension that an index lies in; `None` where it lies in none. Each comparison with a running sum is counted.
-fn find_chunk(
-    axis: &EqualOr<RunsAxis>,
-    index: u64,
-    comparisons: &mut Comparisons,
-) -> Option<u64>
+fn find_chunk(axis: &EqualOr<RunsAxis>, index: u64, comparisons: &mut Comparisons) -> Option<u64>
     ensures found { MatchOption result
         ((c : ℕ) → ¬ Holds (equal_or runs_dimension axis.now) c index)
         (λ c. Holds (equal_or runs_dimension axis.now) c index) }
