@@ -149,7 +149,7 @@ impl GridQuestion<'_> {
         }
     }
 
-    /// The grid, of which the call is one where it is `rectilinear`.
+    /// The grid, where it is `rectilinear`; no other grid has this call.
     fn rectilinear_grid(&self, alloc: Global) -> Result<RectilinearChunkGrid, Refusal<LineFault>> {
         match self.grid(alloc)? {
             ChunkGrid::Rectilinear(grid) => Ok(grid),

@@ -19,7 +19,7 @@ pub(crate) enum LineFault {
     /// A member of the line isn't of its form.
     #[error("unreadable: wrong value in field `{0}`")]
     WrongValue(&'static str),
-    /// No call has this name.
+    /// No call has this name, or the grid is of a kind that hasn't it.
     #[error("unreadable: there is no call `{0}`")]
     NoCall(String),
     /// The chunk grid or the chunk key encoding is no extension's metadata.

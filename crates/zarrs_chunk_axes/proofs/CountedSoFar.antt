@@ -5,7 +5,7 @@ use Rattle.std.specs.List.{AllZip, sum}
 use Rattle.zarrs_chunk_base.specs.Dimension.{Holds}
 use Rattle.zarrs_chunk_base.specs.DimensionEdges.{DimensionEdges, equal, listed}
 use Rattle.zarrs_chunk_base.specs.Greatest.{greatest}
-use Rattle.zarrs_chunk_axes.specs.Counted.{AreCounted, IsEachCounted, IsMost, varying}
+use Rattle.zarrs_chunk_axes.specs.Counted.{AreCounted, HasOneForEach, IsSearchBound, listed_dimensions}
 use Rattle.zarrs_chunk_axes.specs.declared.equal_or.EqualOr.{EqualOr}
 use Rattle.zarrs_chunk_axes.specs.declared.runs_axis.RunsAxis.{RunsAxis}
 use Rattle.zarrs_chunk_axes.specs.seen.EqualOr.{equal_or}
@@ -17,40 +17,43 @@ Finds axis index answer = MatchOption answer ((c : ℕ) → ¬ Holds (equal_or r
 
 -- the count so far, and what the rests can add
 pub record CountedSoFar (edges left : List DimensionEdges) (before now : ℕ) : Type 0 where
-  pub at_most : (most : List ℕ) → AllZip IsMost edges most → (rest : List ℕ) × AllZip IsMost left rest × (now + sum rest ≤ before + sum most)
-  pub at_least : min (before + varying edges) greatest ≤ now + varying left
+  pub grows : before ≤ now
+  pub at_most : (most : List ℕ) → AllZip IsSearchBound edges most → (rest : List ℕ) × AllZip IsSearchBound left rest × (now + sum rest ≤ before + sum most)
+  pub at_least : min (before + listed_dimensions edges) greatest ≤ now + listed_dimensions left
   pub stays : before ≡ greatest → now ≡ greatest
 
 pub none_yet : (edges : List DimensionEdges) (before : ℕ) → CountedSoFar edges edges before before
-none_yet edges before = record { at_most = λ most h. (most, h, omega arith); at_least = omega arith; stays = λ h. h }
+none_yet edges before = record { grows = omega arith; at_most = λ most h. (most, h, omega arith); at_least = omega arith; stays = λ h. h }
 
 module _ (edges : List DimensionEdges) (before : ℕ) where
   -- one dimension more
   pub one_more : (e : DimensionEdges) (left : List DimensionEdges) (now next : ℕ) → CountedSoFar edges (e ∷ left) before now
-      → ((most : ℕ) → IsMost e most → next ≤ now + most) → IsEachCounted (e ∷ []) now next → (now ≡ greatest → next ≡ greatest)
+      → now ≤ next → ((most : ℕ) → IsSearchBound e most → next ≤ now + most) → HasOneForEach (e ∷ []) now next → (now ≡ greatest → next ≡ greatest)
       → CountedSoFar edges left before next
-  one_more e left now next so_far at_most at_least stays = record {
+  one_more e left now next so_far grows at_most at_least stays = record {
+    grows = omega (arith, so_far.grows, grows);
     at_most = λ most h. more (sum most) (so_far.at_most most h);
     at_least = let own = split e in omega (arith, so_far.at_least, own, at_least);
     stays = λ h. stays (so_far.stays h);
   } where
-    more : (most : ℕ) → (rest : List ℕ) × AllZip IsMost (e ∷ left) rest × (now + sum rest ≤ before + most)
-        → (rest : List ℕ) × AllZip IsMost left rest × (next + sum rest ≤ before + most)
+    more : (most : ℕ) → (rest : List ℕ) × AllZip IsSearchBound (e ∷ left) rest × (now + sum rest ≤ before + most)
+        → (rest : List ℕ) × AllZip IsSearchBound left rest × (next + sum rest ≤ before + most)
     more most ([], each, bound) = absurd each
     more most (m ∷ rest, each, bound) = (rest, each.1, omega (arith, at_most m each.0, bound, sum_by-cons (λ x. x) m rest))
 
-    split : (e : DimensionEdges) → varying (e ∷ left) ≡ varying (e ∷ []) + varying left
+    split : (e : DimensionEdges) → listed_dimensions (e ∷ left) ≡ listed_dimensions (e ∷ []) + listed_dimensions left
     split (equal edge) = omega arith
     split (listed es) = omega arith
 
   -- what was counted is within the bound, whatever is left
   pub within : (left : List DimensionEdges) (now : ℕ) → CountedSoFar edges left before now → AreCounted edges before now
   within left now so_far = record {
+    grows = so_far.grows;
     at_most = λ most h. let (rest, each, bound) = so_far.at_most most h in omega (arith, bound);
     stays = so_far.stays;
   }
 
   -- at the end each dimension is counted
-  pub all : (left : List DimensionEdges) (now : ℕ) → length left ≡ 0 → CountedSoFar edges left before now → IsEachCounted edges before now
+  pub all : (left : List DimensionEdges) (now : ℕ) → length left ≡ 0 → CountedSoFar edges left before now → HasOneForEach edges before now
   all [] now none so_far = omega (arith, so_far.at_least)
   all (e ∷ left) now none so_far = absurd (omega arith)

@@ -6,29 +6,31 @@ use Rattle.zarrs_chunk_base.specs.Greatest.{greatest}
 use Rattle.zarrs_chunk_runs.specs.Forms.{HasRuns}
 use Rattle.zarrs_chunk_runs.specs.Search.{HasDigits}
 
--- how many runs a dimension has: those of its listed edges; where its edges are equal, or there is no such dimension, none are told
+-- How many runs a dimension has: those of its listed edges. Where one edge is that of all chunks, or there is no such dimension, none are told.
 abbrev pub TellsRuns : Option DimensionEdges → Option ℕ → Type 0
 TellsRuns (Some (listed edges)) (Some runs) = HasRuns edges runs
 TellsRuns (Some (listed edges)) None = ⊥
 TellsRuns _ (Some runs) = ⊥
 TellsRuns _ None = Unit {0}
 
--- the most comparisons in one dimension: 0 where its edges are equal, else the binary digits of the number of runs
-abbrev pub IsMost : DimensionEdges → ℕ → Type 0
-IsMost (equal edge) most = most ≡ 0
-IsMost (listed edges) most = (runs : ℕ) × HasRuns edges runs × HasDigits runs most
+-- the most comparisons of a search in one dimension: the binary digits of the number of its runs; 0 where one edge is that of all chunks
+abbrev pub IsSearchBound : DimensionEdges → ℕ → Type 0
+IsSearchBound (equal edge) most = most ≡ 0
+IsSearchBound (listed edges) most = (runs : ℕ) × HasRuns edges runs × HasDigits runs most
 
 -- how many dimensions have listed edges
-abbrev pub varying : List DimensionEdges → ℕ
-varying [] = 0
-varying (equal edge ∷ all) = varying all
-varying (listed edges ∷ all) = varying all + 1
+abbrev pub listed_dimensions : List DimensionEdges → ℕ
+listed_dimensions [] = 0
+listed_dimensions (equal edge ∷ all) = listed_dimensions all
+listed_dimensions (listed edges ∷ all) = listed_dimensions all + 1
 
--- A count before and after a look-up: it grows at most by the most of all dimensions, added up. At its end, the greatest number, it stays.
+-- A count before and after a look-up: it doesn't fall, and grows at most by the bounds of all dimensions, added up. At its end, the greatest
+-- number, it stays.
 pub record AreCounted (edges : List DimensionEdges) (before after : ℕ) : Type 0 where
-  pub at_most : (most : List ℕ) → AllZip IsMost edges most → after ≤ before + sum most
+  pub grows : before ≤ after
+  pub at_most : (most : List ℕ) → AllZip IsSearchBound edges most → after ≤ before + sum most
   pub stays : before ≡ greatest → after ≡ greatest
 
--- it grows at least by one for each dimension of listed edges, up to the greatest number
-abbrev pub IsEachCounted : List DimensionEdges → ℕ → ℕ → Type 0
-IsEachCounted edges before after = min (before + varying edges) greatest ≤ after
+-- it grows at least by as many as there are dimensions of listed edges, up to the greatest number
+abbrev pub HasOneForEach : List DimensionEdges → ℕ → ℕ → Type 0
+HasOneForEach edges before after = min (before + listed_dimensions edges) greatest ≤ after

@@ -4,7 +4,7 @@ ghost use Rattle.std.specs.List.{sum};
 ghost use Rattle.zarrs_chunk_base.specs.Dimension.{Holds};
 ghost use Rattle.zarrs_chunk_base.specs.Greatest.{greatest};
 ghost use Rattle.zarrs_chunk_base.specs.RunLength.{element_of, expansion, IsRunLengthForm};
-ghost use Rattle.zarrs_chunk_axes.specs.Counted.{IsMost};
+ghost use Rattle.zarrs_chunk_axes.specs.Counted.{IsSearchBound};
 ghost use Rattle.zarrs_chunk_runs.specs.Forms.{HasRuns};
 ghost use Rattle.zarrs_chunk_runs.specs.seen.Comparisons.{count_of};
 ghost use Rattle.zarrs_chunk_runs.specs.seen.RunEdges.{expanded};
@@ -80,7 +80,8 @@ impl RunsAxis {
     pub(crate) fn chunk_of_counted(&self, index: u64, comparisons: &mut Comparisons) -> Option<u64>
         ensures found { MatchOption result ((c : ℕ) → ¬ Holds (runs_dimension self.now) c index)
             (λ c. Holds (runs_dimension self.now) c index) }
-        ensures at_most { (most : ℕ) → IsMost (runs_edges self.now) most
+        ensures grows { count_of comparisons.old ≤ count_of comparisons.new }
+        ensures at_most { (most : ℕ) → IsSearchBound (runs_edges self.now) most
             → count_of comparisons.new ≤ count_of comparisons.old + most }
         ensures at_least { min (count_of comparisons.old + 1) greatest
             ≤ count_of comparisons.new }

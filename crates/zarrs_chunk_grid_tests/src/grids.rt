@@ -17,7 +17,7 @@ use zarrs_chunks::laws::{
     the_cover_names_the_chunks_that_meet_a_box, the_edges_determine_the_dimensions,
 };
 use zarrs_chunks::{
-    ChunkGrid, ChunkGridTraits, Home, RectangularChunkGrid, RectilinearChunkGrid,
+    ChunkGrid, ChunkGridTraits, Comparisons, Home, RectangularChunkGrid, RectilinearChunkGrid,
     RegularBoundedChunkGrid, RegularChunkGrid,
 };
 
@@ -257,6 +257,23 @@ fn a_copy_of_as_many_edges_as_there_are_numbers_finds_room(rt: HostRuntime) -> R
     lengths.push(ChunkEdgeLengths::Varying(elements))?;
     let grid = RectilinearChunkGrid::new(alloc, [MAX].to_vec(alloc)?, &lengths)?.clone()?;
     assert_eq!(rt; grid.grid_shape(), [MAX].as_slice());
+    Ok(())
+}
+
+#[test]
+fn a_refused_look_up_counts_no_comparison(rt: HostRuntime) -> Result<(), Fail> {
+    let alloc = rt.alloc();
+    let text = r#"{"name":"x","configuration":{"kind":"inline",
+        "chunk_shapes":[[[5,3],[15,2],20,35],[[10,10]]]}}"#;
+    let metadata = metadata(alloc, text)?;
+    let grid = RectilinearChunkGrid::create(alloc, &metadata, &[100, 100])?;
+    let mut comparisons = Comparisons::new();
+    let chunk = grid.chunk_indices_counted(alloc, &[17, 17], &mut comparisons)?;
+    assert_eq!(rt; chunk.ok_or("no chunk")?.as_slice(), [3, 1].as_slice());
+    assert_eq!(rt; comparisons.count(), 4);
+    let refused = grid.chunk_indices_counted(alloc, &[17], &mut comparisons);
+    assert!(rt; refused.is_err());
+    assert_eq!(rt; comparisons.count(), 4);
     Ok(())
 }
 

@@ -1,5 +1,6 @@
 -- The run-length form of a list of edges: there is one, and it is the shortest.
 use Rattle.std.proofs.Common.{◌≡◌, ◌≢◌, ℕ, zero, suc, ◌+◌, ◌<◌, ◌≤◌, List, [], ◌∷◌, ◌++◌, length, replicate, get_or, drop, cond, map, nat_eq, refl, sym, ap, ◌∙◌, subst, ⊎_elim, arith}
+use Rattle.std.proofs.lemmas.List.{length-map}
 use Rattle.std.proofs.lemmas.Bool.{cases_eq, eq-eqb, ne_eqb}
 use Rattle.zarrs_chunk_base.specs.RunLength.{AreApart, Element, IsNoPairOfOne, IsRunLengthForm, edge_in, edges_of_element, joined, repeated, single}
 use Rattle.std.specs.Int.NonZero.{non_zero_u64_get}
@@ -222,7 +223,11 @@ kept_runs edges form is =
     let same : runs_in (joined form) ≡ runs_in (expanded edges) = ap runs_in is.same in
     omega (arith, as_many_as_runs form is.form, same, as_many_as_kept edges.runs.items edges.merged)
 
--- so the run-length form of kept edges has as many elements
+-- there is a run
+pub has_some : (edges : RunEdges) → 0 < length (runs_of edges)
+has_some edges = let some = edges.some in omega (arith, length-map edges.runs.items run_of)
+
+-- the run-length form of kept edges has as many elements as there are runs
 pub has_kept_runs : (edges : RunEdges) → HasRuns (expanded edges) (length (runs_of edges))
 has_kept_runs edges = let (form, is) = there_is_one (expanded edges) in (form, is, kept_runs edges form is)
 

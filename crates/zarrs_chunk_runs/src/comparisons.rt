@@ -1,14 +1,16 @@
 //! How often searches compare.
+ghost use Rattle.std.specs.Prelude.{◌≤◌};
+ghost use Rattle.zarrs_chunk_base.specs.Greatest.{greatest};
 
 /// How many comparisons of a sought number with a running sum have been made; 18446744073709551615 means that many or more.
 #[derive(Debug, Drop)]
 pub struct Comparisons {
     count: u64,
+    ghost fits: { count ≤ greatest },
 }
 
 impl Comparisons {
     ghost use Rattle.std.specs.Prelude.{◌≡◌, ◌+◌, min};
-    ghost use Rattle.zarrs_chunk_base.specs.Greatest.{greatest};
     ghost use Rattle.zarrs_chunk_runs.specs.seen.Comparisons.{count_of};
 
     /// None yet.

@@ -1,6 +1,6 @@
 //! What holds of every chunk grid and every encoding, whoever wrote them. It follows from the contracts of [`ChunkGridTraits`] and
 //! [`ChunkKeyEncodingTraits`] and from their laws: each dimension is a chain, and equal keys of equally long lists come from equal lists.
-//! The last five lines of the table are about the grids of this library.
+//! The last five lines of the table are about the grids of this library; the very last is no law but the contract of a call.
 //!
 //! | What holds | The function whose contract says it |
 //! |---|---|
@@ -16,19 +16,21 @@
 //! | A bounded grid answers as its clipped edges, where no array size is 0 | [`a_bounded_dimension_is_that_of_its_edges`], [`grids_of_like_dimensions_answer_alike`] |
 //! | A [`ChunkGrid`] is made again of its metadata | [`a_grid_is_made_again_of_its_metadata`] |
 //! | `rectilinear` grids have equal configurations exactly where they have equal edges | [`equal_edges_are_written_alike`] |
-//! | A search among runs makes at most as many comparisons as their number has binary digits | [`RectilinearChunkGrid::chunk_indices_counted`] |
+//! | A look-up in runs makes, over all dimensions, at most as many comparisons as the numbers of runs have binary digits | [`chunk_indices_counted`](crate::RectilinearChunkGrid::chunk_indices_counted) |
 ghost use Rattle.std.specs.Prelude.{◌≡◌, ◌≢◌, ◌↔◌, ◌⊎◌, ℕ, ◌<◌, IfErr, IfOk, IfSome, IsTrue, List, Some, length, map, option_map};
 ghost use Rattle.std.specs.List.{AllPairs, Contains};
-ghost use Rattle.serde_json.specs.View.{members_view};
+ghost use Rattle.serde_json.specs.Data.{Members};
 ghost use Rattle.zarrs_chunk_base.specs.ArraySubset.{Box, IsEmptyBox, IsInside};
 ghost use Rattle.zarrs_chunk_base.specs.Dimension.{Dimension, InBox, IsPlace, array_sizes, grid_sizes};
 ghost use Rattle.zarrs_chunk_base.specs.Greatest.{AllFit};
 ghost use Rattle.zarrs_chunk_axes.specs.Listed.{IsListed};
 ghost use Rattle.zarrs_chunk_axes.specs.Bounded.{AreBounded, IsBounded};
+ghost use Rattle.zarrs_chunk_base.specs.Grid.{Grid};
+ghost use Rattle.zarrs_chunk_base.specs.Kinds.{IsConfigurationOf};
 ghost use Rattle.zarrs_chunk_base.specs.Refusal.{IfRefused};
-ghost use Rattle.zarrs_chunks.specs.GridKinds.{is_bounded};
+ghost use Rattle.zarrs_chunks.specs.GridKinds.{grid_kind, is_bounded, rectilinear};
 ghost use Rattle.zarrs_chunks.specs.Located.{IsLocated};
-ghost use Rattle.zarrs_chunks.specs.seen.Grids.{grid_in, kind_in, rectilinear_of};
+ghost use Rattle.zarrs_chunks.specs.seen.Grids.{grid_in, kind_in};
 ghost use Rattle.zarrs_chunks.specs.Alike.{AnswerAlike, AreAlike, AreAllAlike};
 ghost use Rattle.zarrs_chunks.specs.Clipped.{AreClipped, AreClippedLists};
 ghost use Rattle.zarrs_chunk_axes.specs.InBounds.{AreBelow};
@@ -38,11 +40,10 @@ ghost use Rattle.zarrs_chunks.specs.Subsets.{AnswersChunksSubset, AnswersCover, 
 ghost use Rattle.zarrs_chunks.specs.Walks.{box_at, chunks_of, ends_within};
 ghost use Rattle.zarrs_chunks.specs.seen.Walks.{chunks_left};
 
-use crate::{ChunkGrid, ChunkGridTraits, ChunkIndices, Located, RectilinearChunkGrid};
-use std::alloc::{AllocError, Global};
+use crate::{ChunkGrid, ChunkGridTraits, ChunkIndices, Located};
+use std::alloc::Global;
 use zarrs_chunk_base::{
-    ArrayIndices, ArraySubset, Configuration, IncompatibleDimensionalityError, PluginCreateError,
-    Refusal,
+    ArrayIndices, ArraySubset, IncompatibleDimensionalityError, PluginCreateError, Refusal,
 };
 use zarrs_chunk_keys::ChunkKeyEncodingTraits;
 
@@ -222,21 +223,14 @@ pub fn grids_of_like_dimensions_answer_alike<G: ChunkGridTraits, H: ChunkGridTra
         → AnswerAlike (G.dimensions grid.now) (H.dimensions other.now) }
 {}
 
-/// The configurations of two `rectilinear` grids are equal exactly where the grids were made with the same edges, however the run-length
-/// elements were given. So one that is made again of its configuration has the same configuration.
-///
-/// # Errors
-/// Out of memory.
-pub fn equal_edges_are_written_alike(
-    alloc: Global,
-    grid: &RectilinearChunkGrid,
-    other: &RectilinearChunkGrid,
-) -> Result<(Configuration, Configuration), AllocError>
-    ensures { IfOk result (λ both. (members_view both.0.entries ≡ members_view both.1.entries)
-        ↔ ((rectilinear_of grid.now).edges ≡ (rectilinear_of other.now).edges)) }
-{
-    Ok((grid.configuration(alloc)?, other.configuration(alloc)?))
-}
+/// The configurations of two `rectilinear` grids, as `configuration` answers them, are equal exactly where the grids were made with the same
+/// edges, however their run-length elements were given.
+pub fn equal_edges_are_written_alike()
+    ensures { (shape other_shape : List ℕ) (grid other : Grid) (members others : Members)
+        → IsConfigurationOf (grid_kind rectilinear) shape grid members
+        → IsConfigurationOf (grid_kind rectilinear) other_shape other others
+        → (members ≡ others) ↔ (grid.edges ≡ other.edges) }
+{}
 
 /// A grid is made again of its metadata and its array shape: one of the same kind, with the same dimensions and edges.
 ///

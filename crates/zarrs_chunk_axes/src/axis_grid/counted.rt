@@ -3,7 +3,7 @@ ghost use Rattle.std.specs.Prelude.{◌≡◌, ◌+◌, ◌≤◌, ℕ, IfErr, I
 ghost use Rattle.std.specs.List.{AllZip, sum};
 ghost use Rattle.zarrs_chunk_base.specs.Dimension.{InBox, Holds};
 ghost use Rattle.zarrs_chunk_base.specs.Greatest.{greatest};
-ghost use Rattle.zarrs_chunk_axes.specs.Counted.{AreCounted, IsEachCounted, IsMost, TellsRuns};
+ghost use Rattle.zarrs_chunk_axes.specs.Counted.{AreCounted, HasOneForEach, IsSearchBound, TellsRuns};
 ghost use Rattle.zarrs_chunk_axes.specs.LookUp.{AnswersChunk};
 ghost use Rattle.zarrs_chunk_axes.specs.seen.EqualOr.{equal_or, equal_or_edges};
 ghost use Rattle.zarrs_chunk_axes.specs.seen.RunsAxis.{runs_dimension, runs_edges};
@@ -43,7 +43,7 @@ impl AxisGrid<EqualOr<RunsAxis>> {
         ensures answers { AnswersChunk (dimensions_of self.now) indices.now result }
         ensures counted { AreCounted (edges_of self.now)
             (count_of comparisons.old) (count_of comparisons.new) }
-        ensures each { IfOk result (λ found. IfSome found (λ _. IsEachCounted (edges_of self.now)
+        ensures each { IfOk result (λ found. IfSome found (λ _. HasOneForEach (edges_of self.now)
             (count_of comparisons.old) (count_of comparisons.new))) }
         ensures unchanged { IfErr result (λ _. count_of comparisons.new
             ≡ count_of comparisons.old) }
@@ -72,7 +72,7 @@ fn find_chunks(
     ensures counted { AreCounted (map (equal_or_edges runs_edges) axes.now)
         (count_of comparisons.old) (count_of comparisons.new) }
     ensures each { IfOk result (λ found. IfSome found (λ _.
-        IsEachCounted (map (equal_or_edges runs_edges) axes.now)
+        HasOneForEach (map (equal_or_edges runs_edges) axes.now)
         (count_of comparisons.old) (count_of comparisons.new))) }
     ensures unchanged { IfErr result (λ _. count_of comparisons.new
         ≡ count_of comparisons.old) }
@@ -93,9 +93,10 @@ fn find_chunk(axis: &EqualOr<RunsAxis>, index: u64, comparisons: &mut Comparison
     ensures found { MatchOption result
         ((c : ℕ) → ¬ Holds (equal_or runs_dimension axis.now) c index)
         (λ c. Holds (equal_or runs_dimension axis.now) c index) }
-    ensures at_most { (most : ℕ) → IsMost (equal_or_edges runs_edges axis.now) most
+    ensures grows { count_of comparisons.old ≤ count_of comparisons.new }
+    ensures at_most { (most : ℕ) → IsSearchBound (equal_or_edges runs_edges axis.now) most
         → count_of comparisons.new ≤ count_of comparisons.old + most }
-    ensures each { IsEachCounted (equal_or_edges runs_edges axis.now ∷ [])
+    ensures each { HasOneForEach (equal_or_edges runs_edges axis.now ∷ [])
         (count_of comparisons.old) (count_of comparisons.new) }
     ensures stays { count_of comparisons.old ≡ greatest
         → count_of comparisons.new ≡ greatest }

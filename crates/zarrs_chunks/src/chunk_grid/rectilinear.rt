@@ -59,7 +59,7 @@ impl RectilinearChunkGrid {
     ghost use Rattle.std.specs.List.{AllZip};
     ghost use Rattle.zarrs_chunk_base.specs.Refusal.{IfRefused};
     ghost use Rattle.zarrs_chunk_base.specs.RunLength.{rectilinear_edges, IsSameChunkEdgeLengths};
-    ghost use Rattle.zarrs_chunk_axes.specs.Counted.{AreCounted, IsEachCounted, TellsRuns};
+    ghost use Rattle.zarrs_chunk_axes.specs.Counted.{AreCounted, HasOneForEach, TellsRuns};
     ghost use Rattle.zarrs_chunk_axes.specs.EqualOrListed.{AreEqualOrListed};
     ghost use Rattle.zarrs_chunk_axes.specs.LookUp.{AnswersChunk};
     ghost use Rattle.zarrs_chunk_axes.specs.Rectilinear.{AreRectilinear};
@@ -127,7 +127,7 @@ impl RectilinearChunkGrid {
         ensures counted { AreCounted (rectilinear_of self.now).edges
             (count_of comparisons.old) (count_of comparisons.new) }
         ensures each { IfOk result (λ found. IfSome found (λ _.
-            IsEachCounted (rectilinear_of self.now).edges
+            HasOneForEach (rectilinear_of self.now).edges
             (count_of comparisons.old) (count_of comparisons.new))) }
         ensures unchanged { IfErr result (λ _. count_of comparisons.new
             ≡ count_of comparisons.old) }

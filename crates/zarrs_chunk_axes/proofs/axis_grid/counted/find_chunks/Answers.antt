@@ -34,7 +34,7 @@ returns-in_default-clause-counted c =
     let (axes, numbers) = c.in-Some.ensures.steps in
     let (_, so_far, _) = rw (axes, numbers) at c.loop-axis.invariant in
     let ensures = c.in_default.ensures in
-    within _ _ _ _ (one_more _ _ _ _ _ _ so_far ensures.at_most ensures.each ensures.stays)
+    within _ _ _ _ (one_more _ _ _ _ _ _ so_far ensures.grows ensures.at_most ensures.each ensures.stays)
 
 pub loop-axis-preserved : goal.loop-axis-preserved
 loop-axis-preserved c =
@@ -43,7 +43,7 @@ loop-axis-preserved c =
     let ensures = c.in-Some-find_chunk.ensures in
     rw c.push_reserved.ensures.items (
       each.one_more Finds _ _ c.in-Some.axis.now c.in-Some.index.now c.in-Some-find_chunk.number _ _ _ so_far ensures.found,
-      one_more _ _ _ _ _ _ counted ensures.at_most ensures.each ensures.stays,
+      one_more _ _ _ _ _ _ counted ensures.grows ensures.at_most ensures.each ensures.stays,
       (let capacity = c.push_reserved.ensures.capacity in omega (arith, length-append c.loop-axis.chunk.items (c.in-Some-find_chunk.number ∷ []))),
     )
 
@@ -52,3 +52,6 @@ returns-clause-found c =
     let (so_far, _, _) = c.loop-axis.invariant in
     let none : length c.loop-axis.axis-iterator.a.rest.now ≡ 0 = grind (arith, c.in-None.ensures.steps, so_far.lengths) in
     in_box _ _ _ (each.at_end _ _ _ _ _ _ none so_far)
+
+pub returns-clause-counted : goal.returns-clause-counted
+returns-clause-counted c = let (_, counted, _) = c.loop-axis.invariant in within _ _ _ _ counted
