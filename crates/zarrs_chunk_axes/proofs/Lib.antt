@@ -5,10 +5,11 @@ pub mod EachSoFar
 pub mod EqualAxes
 pub mod Expansions
 pub mod FirstList
-pub mod HomeSoFar
+pub mod PairsFound
 pub mod ListedAxes
 pub mod MadeSoFar
 pub mod Passing
+pub mod Ranges
 pub mod RowMajor
 pub mod RowMajorOrder
 pub mod RunLengthForms

@@ -1,15 +1,28 @@
 -- What the look-ups of a chunk grid answer, over its dimensions.
 -- Sources: Zarr V3 core, chunk grids and the regular grid; ZEP 3, variable chunks.
-use Rattle.std.specs.Prelude.{◌≡◌, ◌≢◌, ℕ, Bool, true, false, List, length, map, Option, Result, Ok, Err, Vec}
+use Rattle.std.specs.Prelude.{◌≡◌, ◌≢◌, ℕ, ◌+◌, ◌≤◌, Bool, true, false, List, length, map, Option, Result, Ok, Err, Vec}
 use Rattle.std.specs.Int.NonZero.{non_zero_u64_get}
 use Rattle.std.specs.declared.alloc.Global.{Global}
 use Rattle.std.specs.declared.num.NonZeroU64.{NonZeroU64}
 use Rattle.zarrs_chunk_base.specs.declared.incompatible_dimensionality_error.IncompatibleDimensionalityError.{IncompatibleDimensionalityError}
 use Rattle.zarrs_chunk_base.specs.declared.refusal.Refusal.{Refusal}
 use Rattle.zarrs_chunk_base.specs.declared.refusal.Refusal.TheVariants.{Refused, Memory}
-use Rattle.zarrs_chunk_base.specs.Dimension.{Dimension, InBox, IsChunk, IsOrigin, IsPlace, IsShape}
-use Rattle.zarrs_chunk_base.specs.Greatest.{AllFit}
+use Rattle.zarrs_chunk_base.specs.ArraySubset.{ends}
+use Rattle.zarrs_chunk_base.specs.Dimension.{Dimension, HasEdge, Holds, InBox, IsChunk, IsOrigin, IsPlace, IsShape, StartsAt}
+use Rattle.zarrs_chunk_base.specs.Greatest.{AllFit, greatest}
 use Rattle.zarrs_chunk_base.specs.Refusal.{Answers, TellsLengths}
+
+-- the index lies at place p of the chunk that holds it
+pub record LiesAt (d : Dimension) (i p : ℕ) : Type 0 where
+  pub chunk : ℕ
+  pub holds : Holds d chunk i
+  pub behind : d.start chunk + p ≡ i
+
+-- chunk c starts at a number, is so many elements long, and ends at the greatest number or before
+pub record HasRange (d : Dimension) (c : ℕ) (range : ℕ × ℕ) : Type 0 where
+  pub start : StartsAt d c range.0
+  pub edge : HasEdge d c range.1
+  pub fits : range.0 + range.1 ≤ greatest
 
 -- a look-up's result: a list of numbers, none, or why it is refused
 abbrev pub Looked : Type 0 → Type 0
@@ -37,6 +50,18 @@ abbrev pub AnswersPlace : List Dimension → List ℕ → Looked ℕ → Type 0
 AnswersPlace ds index =
     Answers (length index) (length ds) (λ place. (chunk : List ℕ) × InBox ds chunk index × IsPlace ds chunk index place.items)
     ((chunk : List ℕ) → ¬ InBox ds chunk index)
+
+-- where a chunk starts and how many elements long it is, in each dimension, where it ends at the greatest number or before
+pub record AreRanges (ds : List Dimension) (chunk starts sizes : List ℕ) : Type 0 where
+  pub origin : IsOrigin ds chunk starts
+  pub shape : IsShape ds chunk sizes
+  pub fits : AllFit (ends starts sizes)
+
+-- the two lists; none where the list names no chunk or one that ends past the
+-- greatest number
+abbrev pub AnswersRanges : List Dimension → List ℕ → Result (Option (Vec ℕ Global × Vec ℕ Global)) (Refusal IncompatibleDimensionalityError) → Type 0
+AnswersRanges ds chunk =
+    Answers (length chunk) (length ds) (λ ranges. AreRanges ds chunk ranges.0.items ranges.1.items) ((starts sizes : List ℕ) → ¬ AreRanges ds chunk starts sizes)
 
 -- The chunk whose box holds the index and the index's place in it, as two lists hold them after the call; `false` where no box does.
 abbrev pub AnswersHome : List Dimension → List ℕ → Result Bool (Refusal IncompatibleDimensionalityError) → (chunk place : List ℕ) → Type 0

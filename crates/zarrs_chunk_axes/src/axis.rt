@@ -5,6 +5,7 @@ ghost use Rattle.zarrs_chunk_base.specs.Dimension.{Dimension, Holds, HasEdge, Is
 ghost use Rattle.zarrs_chunk_base.specs.DimensionEdges.{DimensionEdges};
 ghost use Rattle.zarrs_chunk_base.specs.Greatest.{greatest};
 ghost use Rattle.zarrs_chunk_axes.specs.InBounds.{IsIndexInBounds};
+ghost use Rattle.zarrs_chunk_axes.specs.LookUp.{HasRange, LiesAt};
 
 use std::alloc::{AllocError, Global};
 use std::num::NonZeroU64;
@@ -46,10 +47,29 @@ pub trait Axis: Sized {
         Some((chunk, index - origin))
     }
 
+    /// How far after the start of its chunk an index lies; `None` where it lies in none.
+    fn place_of(&self, index: u64) -> Option<u64>
+        ensures { MatchOption result ((c : ℕ) → ¬ Holds (dimension self.now) c index)
+            (LiesAt (dimension self.now) index) }
+    {
+        Some(self.home_of(index)?.1)
+    }
+
     /// How many elements long a chunk is; `None` where there is no such chunk.
     fn edge_of(&self, chunk: u64) -> Option<NonZeroU64>
         ensures { MatchOption result (¬ IsTrue ((dimension self.now).has_chunk chunk))
             (λ s. HasEdge (dimension self.now) chunk (non_zero_u64_get s)) };
+
+    /// Where a chunk starts, and how many elements long it is; `None` where there is no such chunk, or it ends past the greatest `u64`.
+    fn range_of(&self, chunk: u64) -> Option<(u64, u64)>
+        ensures { MatchOption result ((range : ℕ × ℕ) → ¬ HasRange (dimension self.now) chunk range)
+            (HasRange (dimension self.now) chunk) }
+    {
+        let start = self.origin_of(chunk)?;
+        let edge = self.edge_of(chunk)?.get();
+        start.checked_add(edge)?;
+        Some((start, edge))
+    }
 
     /// Whether an index is in bounds: below the array size, or the array size is 0; and where the edges are listed, a chunk holds it too.
     fn is_in_bounds(&self, index: u64) -> bool

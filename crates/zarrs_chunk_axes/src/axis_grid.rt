@@ -1,13 +1,14 @@
 //! The dimensions of a grid, and the loops over them that all grids share.
 mod counted;
 
-ghost use Rattle.std.specs.Prelude.{◌≡◌, ◌↔◌, ℕ, IfErr, IfOk, IsOk, IsTrue, List, MatchOption, cond, length, map};
+ghost use Rattle.std.specs.Prelude.{◌≡◌, ◌↔◌, ◌≤◌, ℕ, [], IfErr, IfOk, IsOk, IsTrue, List, MatchOption, MatchResult, cond, length, map};
 ghost use Rattle.std.specs.List.{AllByRecursion, AllZip};
+ghost use Rattle.std.specs.Vec.{vec_capacity};
 ghost use Rattle.zarrs_chunk_base.specs.Dimension.{InBox, InEach, IsPlace, array_sizes, grid_sizes};
-ghost use Rattle.zarrs_chunk_base.specs.Refusal.{Answers, HasMemory, IfRefused};
+ghost use Rattle.zarrs_chunk_base.specs.Refusal.{Answers, HasMemory, IfRefused, RefusesLength};
 ghost use Rattle.zarrs_chunk_axes.specs.InBounds.{AreBelow, AreInBounds, AreIndicesInBounds, IsIndexInBounds};
-ghost use Rattle.zarrs_chunk_axes.specs.LookUp.{AnswersShape, AnswersOrigin, AnswersChunk, AnswersHome};
-ghost use Rattle.zarrs_chunk_axes.specs.lemmas.LookUpEach.{ByReference, IsFound, IsNotFound};
+ghost use Rattle.zarrs_chunk_axes.specs.LookUp.{AnswersShape, AnswersOrigin, AnswersChunk, AnswersHome, AnswersPlace, AnswersRanges};
+ghost use Rattle.zarrs_chunk_axes.specs.lemmas.LookUpEach.{AreFound, ByReference, IsFound, IsNotFound};
 
 use crate::axis::{Axis, AxisFrom};
 use std::alloc::{AllocError, Global};
@@ -130,6 +131,20 @@ impl<A: Axis + Drop> AxisGrid<A> {
         self.look_up(alloc, indices, A::chunk_of)
     }
 
+    /// For each dimension how far after the start of its chunk the index lies.
+    ///
+    /// # Errors
+    /// The list has another length than there are dimensions; or out of memory.
+    pub fn chunk_element_indices(
+        &self,
+        alloc: Global,
+        indices: &[u64],
+    ) -> Result<Option<ArrayIndices>, Refusal<IncompatibleDimensionalityError>>
+        ensures { AnswersPlace (dimensions_of self.now) indices.now result }
+    {
+        self.look_up(alloc, indices, A::place_of)
+    }
+
     /// Finds for each dimension the chunk that the index lies in, and how far after the chunk's start it lies, and leaves them in
     /// two lists, whatever these held; a list of a wrong length leaves them as they were. `false` where there is no such chunk somewhere.
     ///
@@ -146,13 +161,33 @@ impl<A: Axis + Drop> AxisGrid<A> {
         ensures unchanged { IfErr result (λ refusal. IfRefused refusal
             (λ _. (chunk.new ≡ chunk.old) × (place.new ≡ place.old))) }
     {
-        if indices.len() != self.axes.len() {
-            return Err(Refusal::Refused(IncompatibleDimensionalityError::new(
-                indices.len(),
-                self.axes.len(),
-            )));
+        self.expect_length(indices)?;
+        chunk.clear();
+        place.clear();
+        chunk.reserve(self.axes.len())?;
+        place.reserve(self.axes.len())?;
+        Ok(find_each(&self.axes, indices, chunk, place, A::home_of))
+    }
+
+    /// For each dimension where a chunk starts, and how many elements long it is.
+    ///
+    /// # Errors
+    /// The list has another length than there are dimensions; or out of memory.
+    pub fn chunk_ranges(
+        &self,
+        alloc: Global,
+        chunk: &[u64],
+    ) -> Result<Option<(ArrayIndices, ArrayShape)>, Refusal<IncompatibleDimensionalityError>>
+        ensures { AnswersRanges (dimensions_of self.now) chunk.now result }
+    {
+        self.expect_length(chunk)?;
+        let mut starts = Vec::with_capacity(alloc, self.axes.len())?;
+        let mut sizes = Vec::with_capacity(alloc, self.axes.len())?;
+        if find_each(&self.axes, chunk, &mut starts, &mut sizes, A::range_of) {
+            Ok(Some((starts, sizes)))
+        } else {
+            Ok(None)
         }
-        Ok(find_each(&self.axes, indices, chunk, place)?)
     }
 
     /// Whether there is an index for each dimension, and each is in bounds there.
@@ -195,6 +230,21 @@ impl<A: Axis + Drop> AxisGrid<A> {
         })
     }
 
+    /// Nothing, where a list has a number for each dimension.
+    ///
+    /// # Errors
+    /// It has another length.
+    fn expect_length(&self, numbers: &[u64]) -> Result<(), Refusal<IncompatibleDimensionalityError>>
+        ensures { MatchResult result
+            (λ _. length numbers.now ≡ length self.now.axes.items)
+            (RefusesLength (length numbers.now) (length self.now.axes.items)) }
+    {
+        if numbers.len() == self.axes.len() {
+            return Ok(());
+        }
+        Err(Refusal::Refused(IncompatibleDimensionalityError::new(numbers.len(), self.axes.len())))
+    }
+
     /// Looks each number up in its dimension; `None` where one of the look-ups finds nothing.
     fn look_up<T: Drop, F: Fn(&A, u64) -> Option<T>>(
         &self,
@@ -207,12 +257,7 @@ impl<A: Axis + Drop> AxisGrid<A> {
             (λ v. IsFound (ByReference (F.post look_up)) self.now.axes.items numbers.now v.items)
             (IsNotFound (ByReference (F.post look_up)) self.now.axes.items numbers.now) result }
     {
-        if numbers.len() != self.axes.len() {
-            return Err(Refusal::Refused(IncompatibleDimensionalityError::new(
-                numbers.len(),
-                self.axes.len(),
-            )));
-        }
+        self.expect_length(numbers)?;
         Ok(look_up_each(alloc, &self.axes, numbers, look_up)?)
     }
 }
@@ -252,37 +297,39 @@ fn look_up_each<A: Axis, T: Drop, F: Fn(&A, u64) -> Option<T>>(
         let Some(value) = look_up(axis, *number) else {
             return Ok(None);
         };
-        found.push(value)?;
+        found.push_reserved(value);
     }
     Ok(Some(found))
 }
 
-/// Finds each index in its dimension: the chunk that it lies in, and how far after the chunk's start.
-fn find_each<A: Axis>(
+/// Looks each number up in its dimension, where two numbers are found, and puts these into two empty lists that have room for them;
+/// `false` where one of the look-ups finds nothing.
+fn find_each<A: Axis, F: Fn(&A, u64) -> Option<(u64, u64)>>(
     axes: &[A],
-    indices: &[u64],
-    chunk: &mut ArrayIndices,
-    place: &mut ArrayIndices,
-) -> Result<bool, AllocError>
-    requires { length axes.now ≡ length indices.now }
-    ensures found { IfOk result (λ found. cond found
-        (InBox (map A.dimension axes.now) chunk.new.items indices.now
-        × IsPlace (map A.dimension axes.now) chunk.new.items indices.now place.new.items)
-        ((c : List ℕ) → ¬ InBox (map A.dimension axes.now) c indices.now)) }
-    ensures stores_nothing { length axes.now ≡ 0 → IsOk result }
+    numbers: &[u64],
+    firsts: &mut Vec<u64>,
+    seconds: &mut Vec<u64>,
+    look_up: F,
+) -> bool
+    requires callable { F.IsAlwaysCallable look_up }
+    requires lengths { length axes.now ≡ length numbers.now }
+    requires empty { firsts.old.items ≡ [] }
+    requires also_empty { seconds.old.items ≡ [] }
+    requires room { length axes.now ≤ vec_capacity firsts.old }
+    requires also_room { length axes.now ≤ vec_capacity seconds.old }
+    ensures { cond result
+        (AreFound (ByReference (F.post look_up)) axes.now numbers.now
+        firsts.new.items seconds.new.items)
+        (IsNotFound (ByReference (F.post look_up)) axes.now numbers.now) }
 {
-    chunk.clear();
-    place.clear();
-    chunk.reserve(axes.len())?;
-    place.reserve(axes.len())?;
-    for (axis, index) in axes.iter().zip(indices) {
-        let Some((number, behind)) = axis.home_of(*index) else {
-            return Ok(false);
+    for (axis, number) in axes.iter().zip(numbers) {
+        let Some((first, second)) = look_up(axis, *number) else {
+            return false;
         };
-        chunk.push(number)?;
-        place.push(behind)?;
+        firsts.push_reserved(first);
+        seconds.push_reserved(second);
     }
-    Ok(true)
+    true
 }
 
 /// Whether there are as many indices as axes, and each is in bounds.

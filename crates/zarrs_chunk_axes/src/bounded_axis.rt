@@ -49,6 +49,15 @@ impl Axis for BoundedAxis {
         }
     }
 
+    fn home_of(&self, index: u64) -> Option<(u64, u64)> {
+        if index < self.array_size {
+            let edge = self.edge.get();
+            Some((index / edge, index % edge))
+        } else {
+            None
+        }
+    }
+
     fn edge_of(&self, chunk: u64) -> Option<NonZeroU64> {
         let array_size = self.array_size;
         let start = chunk.checked_mul(self.edge.get())?;

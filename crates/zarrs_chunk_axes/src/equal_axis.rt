@@ -40,6 +40,11 @@ impl Axis for EqualAxis {
         chunk.checked_mul(self.edge.get())
     }
 
+    fn home_of(&self, index: u64) -> Option<(u64, u64)> {
+        let edge = self.edge.get();
+        Some((index / edge, index % edge))
+    }
+
     fn edge_of(&self, _chunk: u64) -> Option<NonZeroU64> {
         Some(self.edge)
     }

@@ -60,8 +60,16 @@ impl<A: Axis> Axis for EqualOr<A> {
         inside!(self, axis => axis.home_of(index))
     }
 
+    fn place_of(&self, index: u64) -> Option<u64> {
+        inside!(self, axis => axis.place_of(index))
+    }
+
     fn edge_of(&self, chunk: u64) -> Option<NonZeroU64> {
         inside!(self, axis => axis.edge_of(chunk))
+    }
+
+    fn range_of(&self, chunk: u64) -> Option<(u64, u64)> {
+        inside!(self, axis => axis.range_of(chunk))
     }
 
     fn is_in_bounds(&self, index: u64) -> bool {

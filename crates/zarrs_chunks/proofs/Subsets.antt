@@ -11,7 +11,7 @@ use Rattle.zarrs_chunk_base.specs.ArraySubset.{Box, IsBox, IsEmptyBox, ends, las
 use Rattle.zarrs_chunk_base.specs.ArraySubsetError.{IsBoxFault}
 use Rattle.zarrs_chunk_base.specs.Dimension.{Dimension, EndsAt, IsChunk, IsEnd, IsOrigin, IsShape, HasEdge, StartsAt}
 use Rattle.zarrs_chunk_base.specs.Greatest.{greatest, AllFit}
-use Rattle.zarrs_chunk_axes.specs.LookUp.{AnswersOrigin}
+use Rattle.zarrs_chunk_axes.specs.LookUp.{AnswersOrigin, AreRanges}
 use Rattle.zarrs_chunks.specs.Subsets.{AnswersChunksSubset, AnswersSubset, HasNoBox}
 use Rattle.zarrs_chunk_base.proofs.InEach.{by_dimension, by_dimension_twice, length_values, same_values}
 
@@ -41,6 +41,27 @@ no_origin ds chunk none b spans = none b.start spans.start (starts_fit b.start b
 -- what is no chunk has no box
 pub no_chunk : (ds : List Dimension) (chunk : List ℕ) → (¬ IsChunk ds chunk) → HasNoBox ds chunk
 no_chunk ds chunk none b spans = none (is_chunk ds chunk b.start spans.start)
+
+-- a chunk is as long as from its start to its end
+pub is_shape : (ds : List Dimension) (chunk origin shape : List ℕ) → length origin ≡ length shape → IsOrigin ds chunk origin → IsEnd ds chunk (ends origin shape)
+    → IsShape ds chunk shape
+is_shape [] [] [] [] same starts ended = tt
+is_shape (d ∷ ds) (c ∷ chunk) (o ∷ origin) (s ∷ shape) same starts ended =
+    let start = starts.0.start in
+    let end = ended.0.end in
+    (record { chunk = starts.0.chunk; edge = omega arith }, is_shape ds chunk origin shape (omega arith) starts.1 ended.1)
+is_shape [] [] [] (_ ∷ _) same starts ended = absurd (omega arith)
+is_shape _ _ (_ ∷ _) [] same starts ended = absurd (omega arith)
+is_shape (_ ∷ _) (_ ∷ _) [] _ same starts ended = absurd starts
+is_shape (_ ∷ _) [] _ _ same starts ended = absurd starts
+is_shape [] (_ ∷ _) _ _ same starts ended = absurd starts
+is_shape [] [] (_ ∷ _) _ same starts ended = absurd starts
+
+-- without ranges that end at the greatest number or before there is no box
+pub no_ranges : (ds : List Dimension) (chunk : List ℕ) → ((starts sizes : List ℕ) → ¬ AreRanges ds chunk starts sizes) → HasNoBox ds chunk
+no_ranges ds chunk none b spans =
+    none b.start b.shape
+    (record { origin = spans.start; shape = is_shape ds chunk b.start b.shape spans.is_box.lengths spans.start spans.end; fits = spans.is_box.fits })
 
 -- a chunk has one end
 pub same_end : (ds : List Dimension) (chunk xs ys : List ℕ) → IsEnd ds chunk xs → IsEnd ds chunk ys → xs ≡ ys

@@ -1,5 +1,5 @@
 -- What a look-up in each of a list of axes answers.
-use Rattle.std.specs.Prelude.{◌≡◌, ◌⊎◌, ℕ, List, [], ◌∷◌, Option, Some, None}
+use Rattle.std.specs.Prelude.{◌≡◌, ◌⊎◌, ℕ, List, [], ◌∷◌, map, Option, Some, None}
 use Rattle.std.specs.Borrow.{Bor}
 
 -- what a look-up by reference gives for the axis behind it
@@ -20,6 +20,13 @@ SomeGivesNone gives _ _ = ⊥
 -- what was found: the values of all look-ups
 pub record IsFound {A X : Type 0} (gives : A → ℕ → Option X → Type 0) (axes : List A) (numbers : List ℕ) (found : List X) : Type 0 where
   pub each : EachGives gives axes numbers found
+
+-- what was found, where each look-up gives two numbers: the first ones and the second ones
+pub record AreFound {A : Type 0} (gives : A → ℕ → Option (ℕ × ℕ) → Type 0) (axes : List A) (numbers firsts seconds : List ℕ) : Type 0 where
+  pub pairs : List (ℕ × ℕ)
+  pub each : EachGives gives axes numbers pairs
+  pub firsts_are : firsts ≡ map (λ pair. pair.0) pairs
+  pub seconds_are : seconds ≡ map (λ pair. pair.1) pairs
 
 -- nothing was found, since one of the look-ups gives nothing
 pub record IsNotFound {A X : Type 0} (gives : A → ℕ → Option X → Type 0) (axes : List A) (numbers : List ℕ) : Type 0 where

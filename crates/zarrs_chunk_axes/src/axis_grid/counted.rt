@@ -48,12 +48,7 @@ impl AxisGrid<EqualOr<RunsAxis>> {
         ensures unchanged { IfErr result (λ _. count_of comparisons.new
             ≡ count_of comparisons.old) }
     {
-        if indices.len() != self.axes.len() {
-            return Err(Refusal::Refused(IncompatibleDimensionalityError::new(
-                indices.len(),
-                self.axes.len(),
-            )));
-        }
+        self.expect_length(indices)?;
         Ok(find_chunks(alloc, &self.axes, indices, comparisons)?)
     }
 }

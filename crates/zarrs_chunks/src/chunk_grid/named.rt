@@ -27,8 +27,8 @@ use super::regular_bounded::RegularBoundedChunkGrid;
 use crate::{ChunkGridTraits, Home};
 use std::alloc::{AllocError, Global};
 use zarrs_chunk_base::{
-    ArrayIndices, ChunkShape, Configuration, IncompatibleDimensionalityError, MetadataV3,
-    PluginCreateError, Refusal,
+    ArrayIndices, ArraySubset, ChunkShape, Configuration, IncompatibleDimensionalityError,
+    MetadataV3, PluginCreateError, Refusal,
 };
 
 const REGULAR: &str = "regular";
@@ -223,12 +223,36 @@ impl ChunkGridTraits for ChunkGrid {
         inside!(self, grid => grid.chunk_indices(alloc, array_indices))
     }
 
+    fn chunk_element_indices(
+        &self,
+        alloc: Global,
+        array_indices: &[u64],
+    ) -> Result<Option<ArrayIndices>, Refusal<IncompatibleDimensionalityError>> {
+        inside!(self, grid => grid.chunk_element_indices(alloc, array_indices))
+    }
+
     fn find_home(
         &self,
         array_indices: &[u64],
         home: &mut Home,
     ) -> Result<bool, Refusal<IncompatibleDimensionalityError>> {
         inside!(self, grid => grid.find_home(array_indices, home))
+    }
+
+    fn subset(
+        &self,
+        alloc: Global,
+        chunk_indices: &[u64],
+    ) -> Result<Option<ArraySubset>, Refusal<IncompatibleDimensionalityError>> {
+        inside!(self, grid => grid.subset(alloc, chunk_indices))
+    }
+
+    fn chunks_in_array_subset(
+        &self,
+        alloc: Global,
+        array_subset: &ArraySubset,
+    ) -> Result<Option<ArraySubset>, Refusal<IncompatibleDimensionalityError>> {
+        inside!(self, grid => grid.chunks_in_array_subset(alloc, array_subset))
     }
 
     fn array_indices_inbounds(&self, array_indices: &[u64]) -> bool

@@ -18,7 +18,7 @@ use std::fmt;
 use std::fmt::Display;
 use zarrs_chunk_axes::{Axis, AxisGrid};
 use zarrs_chunk_base::{
-    ArrayIndices, ArrayShape, ChunkShape, Configuration, InBrackets,
+    ArrayIndices, ArrayShape, ArraySubset, ChunkShape, Configuration, InBrackets,
     IncompatibleDimensionalityError, MetadataV3, PluginCreateError, Refusal,
 };
 
@@ -114,6 +114,7 @@ impl<G: OverAxes> ChunkGridTraits for G {
         self.axes().chunk_shape(alloc, chunk_indices)
     }
 
+    #[inline(always)]
     fn chunk_origin(
         &self,
         alloc: Global,
@@ -122,12 +123,22 @@ impl<G: OverAxes> ChunkGridTraits for G {
         self.axes().chunk_origin(alloc, chunk_indices)
     }
 
+    #[inline(always)]
     fn chunk_indices(
         &self,
         alloc: Global,
         array_indices: &[u64],
     ) -> Result<Option<ArrayIndices>, Refusal<IncompatibleDimensionalityError>> {
         self.axes().chunk_indices(alloc, array_indices)
+    }
+
+    #[inline(always)]
+    fn chunk_element_indices(
+        &self,
+        alloc: Global,
+        array_indices: &[u64],
+    ) -> Result<Option<ArrayIndices>, Refusal<IncompatibleDimensionalityError>> {
+        self.axes().chunk_element_indices(alloc, array_indices)
     }
 
     fn find_home(
@@ -137,6 +148,17 @@ impl<G: OverAxes> ChunkGridTraits for G {
     ) -> Result<bool, Refusal<IncompatibleDimensionalityError>> {
         self.axes()
             .find_home(array_indices, &mut home.chunk, &mut home.element)
+    }
+
+    fn subset(
+        &self,
+        alloc: Global,
+        chunk_indices: &[u64],
+    ) -> Result<Option<ArraySubset>, Refusal<IncompatibleDimensionalityError>> {
+        let Some((start, shape)) = self.axes().chunk_ranges(alloc, chunk_indices)? else {
+            return Ok(None);
+        };
+        Ok(ArraySubset::new_with_start_shape(start, shape).ok())
     }
 
     fn array_indices_inbounds(&self, array_indices: &[u64]) -> bool

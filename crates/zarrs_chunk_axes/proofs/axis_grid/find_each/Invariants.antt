@@ -1,8 +1,13 @@
-use Rattle.std.proofs.Common.{map}
-use Rattle.zarrs_chunk_axes.proofs.HomeSoFar.{HomeSoFar}
+use Rattle.std.proofs.Common.{◌+◌, ◌≤◌, length}
+use Rattle.std.specs.Vec.{vec_capacity}
+use Rattle.zarrs_chunk_axes.specs.lemmas.LookUpEach.{ByReference}
+use Rattle.zarrs_chunk_axes.proofs.PairsFound.{PairsSoFar}
 use Rattle.zarrs_chunk_axes.proofs.axis_grid.find_each.Given as goal
 
--- what the rests answer decides what all answer
+-- what the rests answer decides what all answer, and there is room for it
 abbrev pub invariant-loop-axis : goal.invariant-loop-axis
 invariant-loop-axis g l =
-    HomeSoFar (map g.A.Axis.dimension l.axes) l.indices (map g.A.Axis.dimension l.axis-iterator.a.rest.now) l.axis-iterator.b.rest.now l.chunk.items l.place.items
+    let rest = l.axis-iterator.a.rest.now in
+    PairsSoFar (ByReference (goal.F-post g l.look_up)) l.axes l.numbers rest l.axis-iterator.b.rest.now l.firsts.items l.seconds.items
+    × (length l.firsts.items + length rest ≤ vec_capacity l.firsts)
+    × (length l.seconds.items + length rest ≤ vec_capacity l.seconds)
