@@ -1,11 +1,11 @@
 //! The dimensions of a grid, and the loops over them that all grids share.
 mod counted;
 
-ghost use Rattle.std.specs.Prelude.{◌≡◌, ◌↔◌, ◌≤◌, ℕ, [], IfErr, IfOk, IsOk, IsTrue, List, MatchOption, MatchResult, cond, length, map};
+ghost use Rattle.std.specs.Prelude.{◌≡◌, ◌↔◌, ◌≤◌, ℕ, [], IfErr, IfOk, IsOk, IsTrue, List, MatchOption, cond, length, map};
 ghost use Rattle.std.specs.List.{AllByRecursion, AllZip};
 ghost use Rattle.std.specs.Vec.{vec_capacity};
 ghost use Rattle.zarrs_chunk_base.specs.Dimension.{InBox, InEach, IsPlace, array_sizes, grid_sizes};
-ghost use Rattle.zarrs_chunk_base.specs.Refusal.{Answers, HasMemory, IfRefused, RefusesLength};
+ghost use Rattle.zarrs_chunk_base.specs.Refusal.{Answers, HasMemory, IfRefused, IsRefusedAnd, TellsLengths};
 ghost use Rattle.zarrs_chunk_axes.specs.InBounds.{AreBelow, AreInBounds, AreIndicesInBounds, IsIndexInBounds};
 ghost use Rattle.zarrs_chunk_axes.specs.LookUp.{AnswersShape, AnswersOrigin, AnswersChunk, AnswersHome, AnswersPlace, AnswersRanges};
 ghost use Rattle.zarrs_chunk_axes.specs.lemmas.LookUpEach.{AreFound, ByReference, IsFound, IsNotFound};
@@ -107,6 +107,7 @@ impl<A: Axis + Drop> AxisGrid<A> {
     ///
     /// # Errors
     /// The list has another length than there are dimensions; or out of memory.
+    #[inline(always)]
     pub fn chunk_origin(
         &self,
         alloc: Global,
@@ -121,6 +122,7 @@ impl<A: Axis + Drop> AxisGrid<A> {
     ///
     /// # Errors
     /// The list has another length than there are dimensions; or out of memory.
+    #[inline(always)]
     pub fn chunk_indices(
         &self,
         alloc: Global,
@@ -135,6 +137,7 @@ impl<A: Axis + Drop> AxisGrid<A> {
     ///
     /// # Errors
     /// The list has another length than there are dimensions; or out of memory.
+    #[inline(always)]
     pub fn chunk_element_indices(
         &self,
         alloc: Global,
@@ -161,7 +164,9 @@ impl<A: Axis + Drop> AxisGrid<A> {
         ensures unchanged { IfErr result (λ refusal. IfRefused refusal
             (λ _. (chunk.new ≡ chunk.old) × (place.new ≡ place.old))) }
     {
-        self.expect_length(indices)?;
+        if indices.len() != self.axes.len() {
+            return Err(self.other_length(indices));
+        }
         chunk.clear();
         place.clear();
         chunk.reserve(self.axes.len())?;
@@ -180,7 +185,9 @@ impl<A: Axis + Drop> AxisGrid<A> {
     ) -> Result<Option<(ArrayIndices, ArrayShape)>, Refusal<IncompatibleDimensionalityError>>
         ensures { AnswersRanges (dimensions_of self.now) chunk.now result }
     {
-        self.expect_length(chunk)?;
+        if chunk.len() != self.axes.len() {
+            return Err(self.other_length(chunk));
+        }
         let mut starts = Vec::with_capacity(alloc, self.axes.len())?;
         let mut sizes = Vec::with_capacity(alloc, self.axes.len())?;
         if find_each(&self.axes, chunk, &mut starts, &mut sizes, A::range_of) {
@@ -230,22 +237,17 @@ impl<A: Axis + Drop> AxisGrid<A> {
         })
     }
 
-    /// Nothing, where a list has a number for each dimension.
-    ///
-    /// # Errors
-    /// It has another length.
-    fn expect_length(&self, numbers: &[u64]) -> Result<(), Refusal<IncompatibleDimensionalityError>>
-        ensures { MatchResult result
-            (λ _. length numbers.now ≡ length self.now.axes.items)
-            (RefusesLength (length numbers.now) (length self.now.axes.items)) }
+    /// The refusal of a list that has another length than there are dimensions.
+    #[cold]
+    fn other_length(&self, numbers: &[u64]) -> Refusal<IncompatibleDimensionalityError>
+        ensures { IsRefusedAnd result
+            (TellsLengths (length numbers.now) (length self.now.axes.items)) }
     {
-        if numbers.len() == self.axes.len() {
-            return Ok(());
-        }
-        Err(Refusal::Refused(IncompatibleDimensionalityError::new(numbers.len(), self.axes.len())))
+        Refusal::Refused(IncompatibleDimensionalityError::new(numbers.len(), self.axes.len()))
     }
 
     /// Looks each number up in its dimension; `None` where one of the look-ups finds nothing.
+    #[inline(always)]
     fn look_up<T: Drop, F: Fn(&A, u64) -> Option<T>>(
         &self,
         alloc: Global,
@@ -257,7 +259,9 @@ impl<A: Axis + Drop> AxisGrid<A> {
             (λ v. IsFound (ByReference (F.post look_up)) self.now.axes.items numbers.now v.items)
             (IsNotFound (ByReference (F.post look_up)) self.now.axes.items numbers.now) result }
     {
-        self.expect_length(numbers)?;
+        if numbers.len() != self.axes.len() {
+            return Err(self.other_length(numbers));
+        }
         Ok(look_up_each(alloc, &self.axes, numbers, look_up)?)
     }
 }
@@ -279,6 +283,8 @@ fn are_accepted<A: AxisFrom<C>, C>(array_shape: &[u64], configurations: &[C]) ->
 }
 
 /// Looks each number up in its dimension; `None` where one of the look-ups finds nothing.
+// With the calls above it is inlined into the grids' look-ups, so that no function is called for each axis.
+#[inline(always)]
 fn look_up_each<A: Axis, T: Drop, F: Fn(&A, u64) -> Option<T>>(
     alloc: Global,
     axes: &[A],

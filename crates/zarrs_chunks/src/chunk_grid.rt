@@ -250,10 +250,10 @@ pub trait ChunkGridTraits: Sized + Drop {
         ensures answers { (¬ IsEmptyBox array_subset.now) ⊎ (length (dimensions self.now) ≡ 0)
             → AnswersCover (dimensions self.now) array_subset.now result }
     {
-        if array_subset.is_empty() && self.dimensionality() > 0 {
-            return Ok(Some(ArraySubset::new_empty(alloc, self.dimensionality())?));
-        }
         if array_subset.dimensionality() != self.dimensionality() {
+            if array_subset.is_empty() && self.dimensionality() > 0 {
+                return Ok(Some(ArraySubset::new_empty(alloc, self.dimensionality())?));
+            }
             return Err(Refusal::Refused(IncompatibleDimensionalityError::new(
                 array_subset.dimensionality(),
                 self.dimensionality(),
@@ -261,8 +261,7 @@ pub trait ChunkGridTraits: Sized + Drop {
         }
         let start = array_subset.start();
         let Some(mut last_element) = array_subset.end_inc(alloc)? else {
-            // Never: a box that isn't empty has a last element.
-            return Ok(None);
+            return Ok(Some(ArraySubset::new_empty(alloc, self.dimensionality())?));
         };
         let Some(first) = self.chunk_indices(alloc, start)? else {
             return Ok(None);

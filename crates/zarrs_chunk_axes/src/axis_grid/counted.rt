@@ -48,7 +48,9 @@ impl AxisGrid<EqualOr<RunsAxis>> {
         ensures unchanged { IfErr result (λ _. count_of comparisons.new
             ≡ count_of comparisons.old) }
     {
-        self.expect_length(indices)?;
+        if indices.len() != self.axes.len() {
+            return Err(self.other_length(indices));
+        }
         Ok(find_chunks(alloc, &self.axes, indices, comparisons)?)
     }
 }

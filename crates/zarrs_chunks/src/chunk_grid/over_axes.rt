@@ -114,6 +114,7 @@ impl<G: OverAxes> ChunkGridTraits for G {
         self.axes().chunk_shape(alloc, chunk_indices)
     }
 
+    // The look-ups that a grid is asked most often are inlined where the kind of grid is known.
     #[inline(always)]
     fn chunk_origin(
         &self,

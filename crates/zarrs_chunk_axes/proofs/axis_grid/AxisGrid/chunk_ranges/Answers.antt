@@ -18,7 +18,7 @@ pub returns-then-find_each : goal.returns-then-find_each
 returns-then-find_each g c =
     let dimension = g.A.Axis.dimension in
     let found = rw (c.if-find_each.true, c.deref.ensures.value) at c.find_each.ensures in (
-      grind (arith, c.in_ok-expect_length.ensures, length-map c.args.self.now.axes.items dimension),
+      grind (arith, c.if-chunk-len.false, c.len.ensures, length-map c.args.self.now.axes.items dimension),
       are_ranges dimension _ _ _ _ _ (λ a c range (at, is, has). rw (← is) has) found,
     )
 
@@ -26,7 +26,7 @@ pub returns-else-find_each : goal.returns-else-find_each
 returns-else-find_each g c =
     let dimension = g.A.Axis.dimension in
     let none = rw (c.if-find_each.false, c.deref.ensures.value) at c.find_each.ensures in (
-      grind (arith, c.in_ok-expect_length.ensures, length-map c.args.self.now.axes.items dimension),
+      grind (arith, c.if-chunk-len.false, c.len.ensures, length-map c.args.self.now.axes.items dimension),
       λ starts sizes are.
           let (pairs, each) = each_range _ _ starts sizes are in
           none_in_each dimension HasRange pairs none each (λ a n range (at, is, absent). rw (← is) (absent range)),

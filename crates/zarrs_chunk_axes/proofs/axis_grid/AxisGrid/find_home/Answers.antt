@@ -24,5 +24,5 @@ answer dimension gives axes index chunk place false same some none h = (
 pub returns-clause-answers : goal.returns-clause-answers
 returns-clause-answers g c =
     let found = rw c.deref.ensures.value at c.find_each.ensures in
-    answer g.A.Axis.dimension _ c.args.self.now.axes.items _ _ _ c.find_each.result (grind (arith, c.in_ok-expect_length.ensures))
+    answer g.A.Axis.dimension _ c.args.self.now.axes.items _ _ _ c.find_each.result (grind (arith, c.if-indices-len.false, c.len.ensures))
     (λ a i home (at, is, h). rw (← is) h) (λ a i c (at, is, absent). rw (← is) (absent c)) found

@@ -16,4 +16,4 @@ pub returns-clause-answers : goal.returns-clause-answers
 returns-clause-answers c =
     let same = length-map c.args.self.now.axes.items (equal_or runs_dimension) in
     let found = rw c.deref.ensures.value at c.in_ok-find_chunks.ensures.found in
-    found_is_answer _ _ _ (grind (arith, c.in_ok-expect_length.ensures, same)) found
+    found_is_answer _ _ _ (grind (arith, c.if-indices-len.false, c.len.ensures, same)) found
