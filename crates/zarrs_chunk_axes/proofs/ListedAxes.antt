@@ -1,29 +1,50 @@
--- What a search in running sums of edges tells of the chunks.
-use Rattle.std.proofs.Common.{◌≡◌, ℕ, zero, suc, ◌+◌, ◌<◌, ◌≤◌, List, [], ◌∷◌, length, map, take, get_or, Option, Some, None, MatchOption, IsTrue, nat_lt, ap, refl, ⊎_elim, true, false, leb, leb-true, leb-false, arith, ltb-true, lt-ltb}
-use Rattle.std.proofs.lemmas.Bool.{cases_lt}
-use Rattle.std.specs.List.{sum}
-use Rattle.std.proofs.lemmas.List.{length-map}
+-- What running sums of edges tell of the chunks.
+use Rattle.std.proofs.Common.{◌≡◌, ℕ, zero, suc, ◌+◌, ◌-◌, ◌<◌, ◌≤◌, List, [], ◌∷◌, length, map, take, get_or, Option, Some, None, MatchOption, add-one, ap, refl, subst, sym, true, false, leb, leb-true, leb-false, arith, ltb-true, lt-ltb}
+use Rattle.std.specs.List.{AllWithin, sum}
+use Rattle.std.specs.List.Sorted.{IsNonDecreasingBy}
 use Rattle.std.proofs.lemmas.List.Sums.{sum_by-take-le}
 use Rattle.std.specs.Int.NonZero.{non_zero_u64_get}
 use Rattle.std.specs.declared.num.NonZeroU64.{NonZeroU64}
-use Rattle.zarrs_chunk_base.specs.Dimension.{Holds, HasEdge, StartsAt}
-use Rattle.zarrs_chunk_base.specs.Greatest.{greatest}
+use Rattle.zarrs_chunk_base.specs.Dimension.{Holds, HasEdge}
+use Rattle.zarrs_chunk_axes.specs.seen.ListedAxis.{positive_edge}
 use Rattle.zarrs_chunk_axes.specs.seen.ListedEdges.{listed_from, end_is}
-use Rattle.zarrs_chunk_axes.specs.lemmas.Running.{starts_from, IsAfter, take_next}
-use Rattle.std.specs.List.{AllWithin}
-use Rattle.std.specs.List.Sorted.{IsNonDecreasingBy}
+use Rattle.zarrs_chunk_axes.specs.lemmas.Running.{AreBounds, IsFirstPast, Rises, edges_between, ends_from, take_next}
 
-pub length_starts : (start : ℕ) (edges : List ℕ) → length (starts_from start edges) ≡ length edges
-length_starts start [] = refl
-length_starts start (edge ∷ edges) = omega (arith, length_starts (start + edge) edges)
+pub length_between : (start : ℕ) (ends : List ℕ) → length (edges_between start ends) ≡ length ends
+length_between start [] = refl
+length_between start (end ∷ ends) = omega (arith, length_between end ends)
 
--- a chunk starts after the edges before it
-pub start_at : (start : ℕ) (edges : List ℕ) (c d : ℕ) → c < length edges → get_or (starts_from start edges) c d ≡ start + sum (take c edges)
-start_at start [] c d within = absurd (omega arith)
-start_at start (edge ∷ edges) zero d within = omega arith
-start_at start (edge ∷ edges) (suc c) d within =
-    let rest : get_or (starts_from start (edge ∷ edges)) (suc c) d ≡ start + edge + sum (take c edges) = start_at (start + edge) edges c d (omega arith) in
-    omega (arith, take_next edge edges c)
+pub length_ends : (start : ℕ) (edges : List ℕ) → length (ends_from start edges) ≡ length edges
+length_ends start [] = refl
+length_ends start (edge ∷ edges) = omega (arith, length_ends (start + edge) edges)
+
+-- numbers that rise are the running sums of what lies between them
+pub ends_are : (start : ℕ) (ends : List ℕ) → Rises start ends → ends_from start (edges_between start ends) ≡ ends
+ends_are start [] rises = refl
+ends_are start (end ∷ ends) rises =
+    let first = rises.0 in
+    let at : start + (end - start) ≡ end = omega arith in
+    rw at (ap (λ rest. end ∷ rest) (ends_are end ends rises.1))
+
+-- edges are what lies between their running sums
+pub between_are : (start : ℕ) (edges : List ℕ) → edges_between start (ends_from start edges) ≡ edges
+between_are start [] = refl
+between_are start (edge ∷ edges) =
+    let at : start + edge - start ≡ edge = omega arith in
+    rw (at, between_are (start + edge) edges) refl
+
+-- no edge is 0, so their running sums rise
+pub ends_rise : (start : ℕ) (edges : List NonZeroU64) → Rises start (ends_from start (map non_zero_u64_get edges))
+ends_rise start [] = tt
+ends_rise start (edge ∷ edges) = let positive = edge.ok in (omega arith, ends_rise (start + non_zero_u64_get edge) edges)
+
+-- a chunk ends after its edge and the edges before it
+pub end_at : (start : ℕ) (edges : List ℕ) (c d : ℕ) → c < length edges → get_or (ends_from start edges) c d ≡ start + sum (take (suc c) edges)
+end_at start [] c d within = absurd (omega arith)
+end_at start (edge ∷ edges) zero d within = omega (arith, take_next edge edges zero)
+end_at start (edge ∷ edges) (suc c) d within =
+    let rest : get_or (ends_from start (edge ∷ edges)) (suc c) d ≡ start + edge + sum (take (suc c) edges) = end_at (start + edge) edges c d (omega arith) in
+    omega (arith, take_next edge edges (suc c))
 
 -- running sums rise
 pub sums_rise : (edges : List ℕ) (b c : ℕ) → b ≤ c → sum (take b edges) ≤ sum (take c edges)
@@ -32,84 +53,86 @@ sums_rise edges (suc b) zero h = absurd (omega arith)
 sums_rise [] (suc b) (suc c) h = omega arith
 sums_rise (edge ∷ edges) (suc b) (suc c) h = omega (arith, take_next edge edges b, take_next edge edges c, sums_rise edges b c (omega arith))
 
--- so do the starts
-pub starts_rise : (edges : List ℕ) → IsNonDecreasingBy (λ x. x) (starts_from 0 edges)
-starts_rise edges i j d below within =
-    let lengths = length_starts 0 edges in
-    omega (arith, start_at 0 edges i d (omega arith), start_at 0 edges j d (omega arith), sums_rise edges i j below)
+-- so the ends are in order
+pub ends_are_in_order : (edges : List ℕ) → IsNonDecreasingBy (λ x. x) (ends_from 0 edges)
+ends_are_in_order edges i j d below within =
+    let lengths = length_ends 0 edges in
+    omega (arith, end_at 0 edges i d (omega arith), end_at 0 edges j d (omega arith), sums_rise edges (suc i) (suc j) (omega arith))
 
--- where the starts are split at an index
-pub is_after : (edges : List ℕ) (index after : ℕ) → after ≤ length (starts_from 0 edges)
-    → AllWithin (λ y. leb y index ≡ true) (starts_from 0 edges) 0 after
-    → AllWithin (λ y. leb y index ≡ false) (starts_from 0 edges) after (length (starts_from 0 edges)) → IsAfter edges index after
-is_after edges index after bound low high =
-    let lengths = length_starts 0 edges in
+-- where the ends are split at an index
+pub is_first_past : (edges : List ℕ) (index first : ℕ) → first ≤ length (ends_from 0 edges)
+    → AllWithin (λ y. leb y index ≡ true) (ends_from 0 edges) 0 first
+    → AllWithin (λ y. leb y index ≡ false) (ends_from 0 edges) first (length (ends_from 0 edges)) → IsFirstPast edges index first
+is_first_past edges index first bound low high =
+    let lengths = length_ends 0 edges in
     record {
       bound = omega arith;
-      low = λ c below. let at : get_or (starts_from 0 edges) c 0 ≤ index = leb-true _ index (low c 0 (omega arith) below) in
-          omega (arith, start_at 0 edges c 0 (omega arith));
-      high = λ c after within. let at : index < get_or (starts_from 0 edges) c 0 = leb-false _ index (high c 0 after (omega arith)) in
-          omega (arith, start_at 0 edges c 0 within);
+      low = λ c below. let at : get_or (ends_from 0 edges) c 0 ≤ index = leb-true _ index (low c 0 (omega arith) below) in
+          omega (arith, end_at 0 edges c 0 (omega arith));
+      high = λ c after within. let at : index < get_or (ends_from 0 edges) c 0 = leb-false _ index (high c 0 after (omega arith)) in
+          omega (arith, end_at 0 edges c 0 within);
     }
 
-module _ (size : ℕ) (edges : List ℕ) (index after : ℕ) (is : IsAfter edges index after) where
-  -- where even the first chunk starts past the index, there is none
-  pub no_chunk : after ≡ 0 → (c : ℕ) → ¬ Holds (listed_from size edges) c index
-  no_chunk none c holds =
+module _ (size : ℕ) (edges : List ℕ) (index : ℕ) where
+  -- the chunks before the first that ends past the index end at it or before
+  starts_before : (first : ℕ) → IsFirstPast edges index first → sum (take first edges) ≤ index
+  starts_before zero is = omega arith
+  starts_before (suc c) is = is.low c (omega arith)
+
+  -- so that one holds it
+  pub first_holds : (first : ℕ) → IsFirstPast edges index first → first < length edges → Holds (listed_from size edges) first index
+  first_holds first is within =
+      record { chunk = lt-ltb first (length edges) within; from = starts_before first is; below = rw add-one (is.high first (omega arith) within) }
+
+  -- and where there is none, no chunk does
+  pub none_holds : (first : ℕ) → IsFirstPast edges index first → length edges ≤ first → (c : ℕ) → ¬ Holds (listed_from size edges) c index
+  none_holds first is all c holds =
       let within : c < length edges = ltb-true c (length edges) holds.chunk in
-      let past : index < sum (take zero edges) = is.high zero (omega arith) (omega arith) in
-      absurd (omega arith)
-
-  -- the last chunk that starts at the index or before holds it, where it reaches past it
-  pub last_holds : (c : ℕ) → after ≡ c + 1 → index < sum (take c edges) + get_or edges c 0 → Holds (listed_from size edges) c index
-  last_holds c last reaches =
-      let within : c < length edges = let bound = is.bound in omega arith in
-      record { chunk = lt-ltb c (length edges) within; from = is.low c (omega arith); below = omega (arith, end_is edges c within) }
-
-  -- where it ends before, no chunk holds it
-  pub none_holds : (c : ℕ) → after ≡ c + 1 → sum (take c edges) + get_or edges c 0 ≤ index → (b : ℕ) → ¬ Holds (listed_from size edges) b index
-  none_holds c last ends b holds =
-      let bound = is.bound in
-      let within : b < length edges = ltb-true b (length edges) holds.chunk in
-      let from = holds.from in
+      let ends = is.low c (omega arith) in
       let below = holds.below in
-      ⊎_elim
-      (λ (before : b < c + 1). let rise : sum (take (b + 1) edges) ≤ sum (take (c + 1) edges) = sums_rise edges (b + 1) (c + 1) (omega arith) in
-      absurd (omega (arith, end_is edges c (omega arith))))
-      (λ (later : c + 1 ≤ b). let past : index < sum (take b edges) = is.high b (omega arith) within in absurd (omega arith)) (cases_lt b (c + 1))
+      absurd (omega (arith, ap (λ k. sum (take k edges)) (add-one c)))
 
--- what a look-up among the starts tells of a chunk's origin
-pub origin_told : (size : ℕ) (edges : List ℕ) (chunk : ℕ) (r : Option ℕ)
-    → MatchOption r (length (starts_from 0 edges) ≤ chunk) (λ x. (chunk < length (starts_from 0 edges)) × (get_or (starts_from 0 edges) chunk x ≡ x))
-    → MatchOption r ((o : ℕ) → StartsAt (listed_from size edges) chunk o → greatest < o) (StartsAt (listed_from size edges) chunk)
-origin_told size edges chunk None past = λ o starts.
-    let lengths = length_starts 0 edges in
-    let within : chunk < length edges = ltb-true chunk (length edges) starts.chunk in
-    absurd (omega arith)
-origin_told size edges chunk (Some x) (within, at) =
-    let lengths = length_starts 0 edges in
-    record { chunk = lt-ltb chunk (length edges) (omega arith); start = omega (arith, start_at 0 edges chunk x (omega arith)) }
+-- a number of those that rise is the sum of the edges up to its own
+ends_sum : (ends : List ℕ) → Rises 0 ends → (c d : ℕ) → c < length ends → get_or ends c d ≡ sum (take (suc c) (edges_between 0 ends))
+ends_sum ends rises c d within =
+    let at = rw (ends_are 0 ends rises) at (end_at 0 (edges_between 0 ends) c d (omega (arith, length_between 0 ends))) in
+    omega (arith, at)
 
--- an edge as a number
-pub edge_at : (edges : List NonZeroU64) (chunk : ℕ) (s : NonZeroU64) → chunk < length edges → get_or edges chunk s ≡ s
-    → get_or (map non_zero_u64_get edges) chunk 0 ≡ non_zero_u64_get s
-edge_at [] chunk s within at = absurd (omega arith)
-edge_at (edge ∷ edges) zero s within at = ap non_zero_u64_get at
-edge_at (edge ∷ edges) (suc chunk) s within at = edge_at edges chunk s (omega arith) at
+-- a chunk after another begins where that ends
+pub bounds_after : (ends : List ℕ) → Rises 0 ends → (chunk before : ℕ) (bounds : ℕ × ℕ) → before + 1 ≡ chunk → chunk < length ends
+    → get_or ends before bounds.0 ≡ bounds.0 → get_or ends chunk bounds.1 ≡ bounds.1 → AreBounds (edges_between 0 ends) chunk bounds
+bounds_after ends rises chunk before bounds next within start end =
+    let at : suc before ≡ chunk = omega arith in
+    record {
+      counted = omega (arith, length_between 0 ends);
+      start = omega (arith, ends_sum ends rises before bounds.0 (omega arith), ap (λ k. sum (take k (edges_between 0 ends))) at);
+      end = omega (arith, ends_sum ends rises chunk bounds.1 within);
+    }
 
--- what a look-up among the edges tells of a chunk's edge
-pub edge_told : (size : ℕ) (edges : List NonZeroU64) (chunk : ℕ) (r : Option NonZeroU64)
-    → MatchOption r (length edges ≤ chunk) (λ s. (chunk < length edges) × (get_or edges chunk s ≡ s))
-    → MatchOption r (¬ IsTrue (nat_lt chunk (length (map non_zero_u64_get edges))))
-    (λ s. HasEdge (listed_from size (map non_zero_u64_get edges)) chunk (non_zero_u64_get s))
-edge_told size edges chunk None past = λ has.
-    let lengths = length-map edges non_zero_u64_get in
-    let within : chunk < length (map non_zero_u64_get edges) = ltb-true chunk _ has in
-    absurd (omega arith)
-edge_told size edges chunk (Some s) (within, at) =
-    let lengths = length-map edges non_zero_u64_get in
-    let counted : chunk < length (map non_zero_u64_get edges) = omega arith in
-    record { chunk = lt-ltb chunk _ counted; edge = omega (arith, end_is (map non_zero_u64_get edges) chunk counted, edge_at edges chunk s within at) }
+-- a chunk ends past its start
+pub in_order : (ends : List ℕ) → Rises 0 ends → (chunk : ℕ) (bounds : ℕ × ℕ) → AreBounds (edges_between 0 ends) chunk bounds → bounds.0 < bounds.1
+in_order ends rises chunk bounds are =
+    let start = are.start in
+    let end = are.end in
+    let edges = edges_between 0 ends in
+    omega (arith, positive_edge 0 ends rises chunk are.counted, end_is edges chunk are.counted, ap (λ k. sum (take k edges)) (add-one chunk))
+
+-- and its edge is what lies between
+pub is_edge : (size : ℕ) (edges : List ℕ) (chunk : ℕ) (bounds : ℕ × ℕ) → AreBounds edges chunk bounds
+    → HasEdge (listed_from size edges) chunk (bounds.1 - bounds.0)
+is_edge size edges chunk bounds are =
+    let start = are.start in
+    let end = are.end in
+    record {
+      chunk = lt-ltb chunk (length edges) are.counted;
+      edge = omega (arith, end_is edges chunk are.counted, ap (λ k. sum (take k edges)) (add-one chunk));
+    }
+
+-- a number that isn't 0 is taken as an edge
+pub edge_taken : (Q : ℕ → Type 0) (gap : ℕ) (P : Type 0) (taken : Option NonZeroU64) → 0 < gap → Q gap
+    → MatchOption taken (gap ≡ 0) (λ edge. non_zero_u64_get edge ≡ gap) → MatchOption taken P (λ edge. Q (non_zero_u64_get edge))
+edge_taken Q gap P None positive is nothing = absurd (omega arith)
+edge_taken Q gap P (Some edge) positive is at = subst Q (sym at) is
 
 -- an index in a chunk is below the sum of the edges
 pub below_sum : (size : ℕ) (edges : List ℕ) (i c : ℕ) → Holds (listed_from size edges) c i → i < sum edges

@@ -123,7 +123,7 @@ impl AxisFrom<RectangularChunkGridDimensionConfiguration> for EqualOr<ListedAxis
                 EqualOr::Equal(EqualAxis::new(alloc, array_size, edge)?)
             }
             RectangularChunkGridDimensionConfiguration::Varying(edges) => {
-                EqualOr::Other(ListedAxis::new(alloc, array_size, edges.to_vec(alloc)?)?)
+                EqualOr::Other(ListedAxis::new(alloc, array_size, edges)?)
             }
         })
     }
