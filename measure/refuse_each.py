@@ -7,34 +7,54 @@ PROGRAM is one that the kit built: `out/chunkwhere` of its crate, or the tests o
 the number of allocations of a whole run, and for each kind of ending how many runs had it: the status, and the last line of what the run printed.
 """
 import collections
+import concurrent.futures
 import os
 import pathlib
 import subprocess
 import sys
 import tempfile
 
-HERE = pathlib.Path(__file__).resolve().parent
+SOURCE = pathlib.Path(__file__).resolve().with_name("refuse.c")
+
+
+class Refusing:
+    """Runs of programs of which one allocation is refused. It needs a C compiler, and a folder that is removed afterwards."""
+
+    def __init__(self, folder):
+        self.folder = pathlib.Path(folder)
+        self.library = self.folder / "refuse.so"
+        subprocess.run(["cc", "-O1", "-shared", "-fPIC", "-o", self.library, SOURCE, "-ldl"], check=True)
+
+    def run(self, command, given, **settings):
+        environment = {**os.environ, "LD_PRELOAD": str(self.library), **settings}
+        return subprocess.run(command, input=given, env=environment, stdout=subprocess.PIPE, stderr=subprocess.PIPE)
+
+    def whole(self, command, given):
+        """A run of which nothing is refused, and the number of its allocations."""
+        with tempfile.NamedTemporaryFile(dir=self.folder) as counted:
+            ended = self.run(command, given, COUNT_FILE=counted.name)
+            return ended, int(pathlib.Path(counted.name).read_text() or 0)
+
+    def each(self, command, given, allocations):
+        """The runs of which the first allocation is refused, the second, and so on."""
+        with concurrent.futures.ThreadPoolExecutor(os.cpu_count()) as pool:
+            yield from pool.map(lambda number: self.run(command, given, FAIL_AT=str(number)), range(1, allocations + 1))
+
+
+def last_line(ended):
+    """The last line in which a run speaks of memory; where none does, its last line."""
+    lines = (ended.stdout + ended.stderr).decode(errors="replace").splitlines()
+    of_memory = [line for line in lines if "memory" in line or "Alloc" in line or "Memory" in line]
+    return (of_memory or lines or [""])[-1]
 
 
 def main():
     command, given = sys.argv[1:], b"" if sys.stdin.isatty() else sys.stdin.buffer.read()
     with tempfile.TemporaryDirectory() as folder:
-        library, counted = os.path.join(folder, "refuse.so"), os.path.join(folder, "count")
-        subprocess.run(["cc", "-O1", "-shared", "-fPIC", "-o", library, HERE / "refuse.c", "-ldl"], check=True)
-
-        def run(**settings):
-            environment = {**os.environ, "LD_PRELOAD": library, **settings}
-            return subprocess.run(command, input=given, env=environment, stdout=subprocess.PIPE, stderr=subprocess.PIPE)
-
-        run(COUNT_FILE=counted)
-        allocations = int(pathlib.Path(counted).read_text())
+        refusing = Refusing(folder)
+        _, allocations = refusing.whole(command, given)
         print(f"{allocations} allocations")
-        endings = collections.Counter()
-        for number in range(1, allocations + 1):
-            ended = run(FAIL_AT=str(number))
-            lines = (ended.stdout + ended.stderr).decode(errors="replace").splitlines()
-            errors = [line for line in lines if "memory" in line or "Alloc" in line or "Memory" in line]
-            endings[ended.returncode, (errors or lines or [""])[-1]] += 1
+        endings = collections.Counter((ended.returncode, last_line(ended)) for ended in refusing.each(command, given, allocations))
         for (status, line), runs in endings.most_common():
             print(f"{runs:6} runs: status {status}, {line}")
 
