@@ -2,6 +2,7 @@
 mod turn;
 
 ghost use Rattle.std.specs.Prelude.{◌≡◌, ◌∷◌, ℕ, IfOk, List, OnErr, OnOk, []};
+ghost use Rattle.std.specs.Cow.{cow_slice_items};
 ghost use Rattle.zarrs_chunk_axes.specs.InBounds.{AreBelow};
 ghost use Rattle.zarrs_chunk_axes.specs.lemmas.BelowOnce.{are_below_if_once};
 ghost use Rattle.zarrs_chunk_axes.specs.declared.row_major_walk.turn.Turn.TheVariants.{Next};
@@ -9,6 +10,7 @@ ghost use Rattle.zarrs_chunk_axes.specs.declared.row_major_walk.turn.Turn.TheVar
 use crate::row_major::{advance, pass_over};
 use smallvec::SmallVec;
 use std::alloc::{AllocError, Global};
+use std::borrow::CowSlice;
 use turn::Turn;
 
 /// Chunk numbers, of which up to four need no memory.
@@ -18,10 +20,10 @@ pub type ArrayIndicesTinyVec = SmallVec<u64, 4>;
 #[derive(Debug, Drop)]
 pub struct RowMajorWalk<'a> {
     alloc: Global,
-    shape: &'a [u64],
+    shape: CowSlice<'a, u64>,
     numbers: ArrayIndicesTinyVec,
     turn: Turn,
-    ghost below: { turn ≡ Next → AreBelow shape.now numbers.items } by { are_below_if_once shape.now numbers.items },
+    ghost below: { turn ≡ Next → AreBelow (cow_slice_items shape) numbers.items } by { are_below_if_once (cow_slice_items shape) numbers.items },
 }
 
 impl<'a> RowMajorWalk<'a> {
@@ -35,7 +37,20 @@ impl<'a> RowMajorWalk<'a> {
     {
         RowMajorWalk {
             alloc,
-            shape,
+            shape: CowSlice::Borrowed(shape),
+            numbers: SmallVec::new(alloc),
+            turn: Turn::First,
+        }
+    }
+
+    /// The same of a shape that the walk keeps.
+    pub fn owning(alloc: Global, shape: Vec<u64>) -> RowMajorWalk<'a>
+        ensures shape { shape_of result ≡ shape.items }
+        ensures left { lists_left result ≡ row_major shape.items }
+    {
+        RowMajorWalk {
+            alloc,
+            shape: CowSlice::Owned(shape),
             numbers: SmallVec::new(alloc),
             turn: Turn::First,
         }
@@ -80,7 +95,7 @@ impl<'a> RowMajorWalk<'a> {
         match self.turn {
             Turn::First => self.begin(),
             Turn::Next => {
-                let found = advance(self.shape, self.numbers.as_mut_slice());
+                let found = advance(self.shape.as_slice(), self.numbers.as_mut_slice());
                 if !found {
                     self.turn = Turn::Over;
                 }
@@ -98,7 +113,7 @@ impl<'a> RowMajorWalk<'a> {
         ensures stands { Stands result self.new }
         ensures shape { shape_of self.new ≡ shape_of self.old }
     {
-        let found = pass_over(self.shape, self.numbers.as_mut_slice());
+        let found = pass_over(self.shape.as_slice(), self.numbers.as_mut_slice());
         if !found {
             self.turn = Turn::Over;
         }
@@ -123,7 +138,7 @@ impl<'a> RowMajorWalk<'a> {
         ensures shape { shape_of self.new ≡ shape_of self.old }
     {
         self.turn = Turn::Over;
-        if self.shape.contains(&0) {
+        if self.shape.as_slice().contains(&0) {
             return Ok(false);
         }
         self.numbers = SmallVec::from_elem(self.alloc, 0, self.shape.len())?;

@@ -1,5 +1,6 @@
 -- Where a walk through the lists below a shape stands, and what is left of it.
 use Rattle.std.specs.Prelude.{◌≡◌, ℕ, ◌<◌, Bool, true, false, List, [], ◌∷◌, ◌++◌, length}
+use Rattle.std.specs.Cow.{cow_slice_items}
 use Rattle.std.specs.List.{AllByRecursion}
 use Rattle.zarrs_chunk_axes.specs.declared.row_major_walk.RowMajorWalk.{RowMajorWalk}
 use Rattle.zarrs_chunk_axes.specs.declared.row_major_walk.turn.Turn.{Turn}
@@ -10,7 +11,7 @@ use Rattle.zarrs_chunk_axes.specs.seen.Counting.{AreAtLeast, after}
 
 -- the shape below which the lists are
 abbrev pub shape_of : RowMajorWalk → List ℕ
-shape_of walk = walk.shape.now
+shape_of walk = cow_slice_items walk.shape
 
 -- the list at which the walk stands, if it does at one
 abbrev pub numbers_at : RowMajorWalk → List ℕ
