@@ -109,7 +109,7 @@ pub in_order : (shape : List ℕ) → AllPairs IsBefore (row_major shape)
 in_order shape = all_pairs IsBefore (row_major shape) (all_ordered shape)
 
 -- a list doesn't come before itself
-not_before_itself : (numbers : List ℕ) → ¬ IsBefore numbers numbers
+pub not_before_itself : (numbers : List ℕ) → ¬ IsBefore numbers numbers
 not_before_itself [] before = before
 not_before_itself (n ∷ numbers) before = ⊎_elim (λ (less : n < n). absurd (omega arith)) (λ rest. not_before_itself numbers rest.1) before
 

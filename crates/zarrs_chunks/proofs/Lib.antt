@@ -1,6 +1,7 @@
 pub mod Alike
 pub mod Boxes
 pub mod Chains
+pub mod ChunksInBoxes
 pub mod ClippedEdges
 pub mod Configured
 pub mod Covers

@@ -108,13 +108,6 @@ cover_meets ds b cover chains is_box some is =
     by_ranges AreThoseThatMeet none_meet one_more_meets ds cover.start cover.shape b.start b.shape (length_numbers Holds ds cover.start b.start is.first)
     is.is_box.lengths (length_values Holds ds cover.start b.start is.first) is_box.lengths chains is.some some is.first is.last
 
-pub answered_cover_meets : (ds : List Dimension) (b : Box) → AllByRecursion IsChain ds → IsBox b → (¬ IsEmptyBox b) → (r : LookedBox) → AnswersCover ds b r
-    → IfOk r (λ found. IfSome found (λ cover. (chunk : List ℕ) → IsInside cover chunk ↔ ((index : List ℕ) × InBox ds chunk index × IsInside b index)))
-answered_cover_meets ds b chains is_box some (Ok (Some cover)) h = cover_meets ds b cover chains is_box some h.1
-answered_cover_meets ds b chains is_box some _ h = tt
-
--- ---- the box of a box of chunks
-
 -- an index from where one chunk starts to where a later one ends lies in a chunk from the one to the other
 lies_between : (d : Dimension) → IsChain d → (first k i : ℕ) → IsTrue (d.has_chunk (first + k)) → d.start first ≤ i → i < d.end (first + k)
     → (c : ℕ) × (first ≤ c) × (c ≤ first + k) × Holds d c i
@@ -132,6 +125,41 @@ lies_between d chain first (suc k) i has from below =
     (c, low, omega arith, here))
     (λ (after : d.end (first + k) ≤ i). (first + suc k, omega arith, omega arith, record { chunk = has; from = omega arith; below = below }))
     (cases_lt i (d.end (first + k)))
+
+-- each element of a box lies in one of the chunks from that of its first element to that of its last
+abbrev HaveHomes : List Dimension → List ℕ → List ℕ → List ℕ → List ℕ → Type 0
+HaveHomes ds first sizes low counts = AllByRecursion IsChain ds → (¬ Contains sizes 0) → InBox ds first low → InBox ds (lasts first sizes) (lasts low counts)
+    → (index : List ℕ) → AreWithin low counts index → (chunk : List ℕ) × AreWithin first sizes chunk × InBox ds chunk index
+
+one_more_has_home : (d : Dimension) (a n i m : ℕ) (ds : List Dimension) (first sizes low counts : List ℕ) → HaveHomes ds first sizes low counts
+    → HaveHomes (d ∷ ds) (a ∷ first) (n ∷ sizes) (i ∷ low) (m ∷ counts)
+one_more_has_home d a n i m ds first sizes low counts rest chains some f l [] within = absurd within
+one_more_has_home d a n i m ds first sizes low counts rest chains some f l (j ∷ index) within =
+    let (chunk, between, box) = rest chains.1 (tail_some n sizes some) f.1 l.1 index within.2 in
+    let any : 0 < n = head_some n sizes some in
+    let low_in = f.0.from in
+    let high_in = l.0.below in
+    let from : i ≤ j = within.0 in
+    let below : j < i + m = within.1 in
+    let (c, low_c, high_c, here) = lies_between d chains.0 a (n - 1) j l.0.chunk (omega arith) (omega arith) in
+    (c ∷ chunk, (low_c, omega arith, between), (here, box))
+
+-- so each element of a box lies in a chunk of its cover
+pub cover_holds : (ds : List Dimension) (b cover : Box) → AllByRecursion IsChain ds → IsBox b → IsCover ds b cover
+    → (index : List ℕ) → IsInside b index → (chunk : List ℕ) × IsInside cover chunk × InBox ds chunk index
+cover_holds ds b cover chains is_box is =
+    by_ranges HaveHomes none_has_home one_more_has_home ds cover.start cover.shape b.start b.shape (length_numbers Holds ds cover.start b.start is.first)
+    is.is_box.lengths (length_values Holds ds cover.start b.start is.first) is_box.lengths chains is.some is.first is.last where
+      none_has_home : HaveHomes [] [] [] [] []
+      none_has_home chains some f l [] within = ([], tt, tt)
+      none_has_home chains some f l (_ ∷ _) within = absurd within
+
+pub answered_cover_meets : (ds : List Dimension) (b : Box) → AllByRecursion IsChain ds → IsBox b → (¬ IsEmptyBox b) → (r : LookedBox) → AnswersCover ds b r
+    → IfOk r (λ found. IfSome found (λ cover. (chunk : List ℕ) → IsInside cover chunk ↔ ((index : List ℕ) × InBox ds chunk index × IsInside b index)))
+answered_cover_meets ds b chains is_box some (Ok (Some cover)) h = cover_meets ds b cover chains is_box some h.1
+answered_cover_meets ds b chains is_box some _ h = tt
+
+-- ---- the box of a box of chunks
 
 -- an index of a chunk between two lies from where the one starts to where the other ends
 lies_within : (d : Dimension) → IsChain d → (first last c i : ℕ) → IsTrue (d.has_chunk last) → first ≤ c → c ≤ last → Holds d c i

@@ -1,6 +1,6 @@
 -- The chunks that a grid counts, one after another, their boxes, and what a walk gives of them.
 -- Source: Zarr V3 core, chunk grids and row-major ("C") order; the walks are this library's own.
-use Rattle.std.specs.Prelude.{◌≡◌, ℕ, ◌-◌, ◌&&◌, Bool, true, List, [], ◌∷◌, nat_le, Option, Some, None, Result, Ok, Err}
+use Rattle.std.specs.Prelude.{◌≡◌, ℕ, ◌+◌, ◌-◌, ◌&&◌, Bool, true, List, [], ◌∷◌, map, nat_le, Option, Some, None, Result, Ok, Err}
 use Rattle.std.specs.List.{filter}
 use Rattle.std.specs.declared.alloc.AllocError.{AllocError}
 use Rattle.zarrs_chunk_base.specs.ArraySubset.{Box}
@@ -11,6 +11,15 @@ use Rattle.zarrs_chunk_axes.specs.RowMajor.{row_major}
 -- the chunks that are counted, in row-major order
 abbrev pub chunks_of : List Dimension → List (List ℕ)
 chunks_of ds = row_major (grid_sizes ds)
+
+-- numbers that are counted from a start, as they are from 0
+abbrev pub counted_from : List ℕ → List ℕ → List ℕ
+counted_from (first ∷ start) (n ∷ numbers) = (first + n) ∷ counted_from start numbers
+counted_from _ _ = []
+
+-- the chunks in a box of chunk numbers, in row-major order
+abbrev pub chunks_in : Box → List (List ℕ)
+chunks_in b = map (counted_from b.start) (row_major b.shape)
 
 -- the chunk ends at the greatest number or before it, in each dimension
 abbrev pub ends_within : List Dimension → List ℕ → Bool

@@ -11,6 +11,9 @@
 //! | The box of a box of chunks is the union of their boxes | [`the_box_of_chunks_is_the_union_of_their_boxes`] |
 //! | The walk gives each chunk below the grid shape once, in row-major order | [`the_walk_gives_each_chunk_once`] |
 //! | Each element of the array lies in exactly one of them | [`each_element_lies_in_one_chunk_of_the_walk`] |
+//! | The walk over the chunks in a box gives each that lies in it once, in row-major order | [`the_walk_over_a_box_gives_each_chunk_once`] |
+//! | Each element of a box that has a cover lies in a chunk of the cover | [`each_element_of_a_box_lies_in_a_chunk_of_its_cover`] |
+//! | A chunk of a cover has an origin, also where it ends past 18446744073709551615 | [`a_chunk_of_a_cover_has_an_origin`] |
 //! | A chunk that is counted has a box exactly where it ends at 18446744073709551615 or before it; these are the boxes of the walks | [`the_boxes_of_a_walk_are_those_of_its_chunks`] |
 //! | A grid of run-length elements has the dimensions of one with the edges written out; two bounded grids of the same edges have the same | [`the_edges_determine_the_dimensions`] |
 //! | A bounded grid answers as its clipped edges, where no array size is 0 | [`a_bounded_dimension_is_that_of_its_edges`], [`grids_of_like_dimensions_answer_alike`] |
@@ -21,7 +24,7 @@ ghost use Rattle.std.specs.Prelude.{◌≡◌, ◌≢◌, ◌↔◌, ◌⊎◌, 
 ghost use Rattle.std.specs.List.{AllPairs, Contains};
 ghost use Rattle.serde_json.specs.Data.{Members};
 ghost use Rattle.zarrs_chunk_base.specs.ArraySubset.{Box, IsEmptyBox, IsInside};
-ghost use Rattle.zarrs_chunk_base.specs.Dimension.{Dimension, InBox, IsPlace, array_sizes, grid_sizes};
+ghost use Rattle.zarrs_chunk_base.specs.Dimension.{Dimension, InBox, IsOrigin, IsPlace, array_sizes, grid_sizes};
 ghost use Rattle.zarrs_chunk_base.specs.Greatest.{AllFit};
 ghost use Rattle.zarrs_chunk_axes.specs.Listed.{IsListed};
 ghost use Rattle.zarrs_chunk_axes.specs.Bounded.{AreBounded, IsBounded};
@@ -36,12 +39,12 @@ ghost use Rattle.zarrs_chunks.specs.Clipped.{AreClipped, AreClippedLists};
 ghost use Rattle.zarrs_chunk_axes.specs.InBounds.{AreBelow};
 ghost use Rattle.zarrs_chunk_axes.specs.LookUp.{AnswersChunk};
 ghost use Rattle.zarrs_chunk_axes.specs.RowMajor.{IsBefore};
-ghost use Rattle.zarrs_chunks.specs.Subsets.{AnswersChunksSubset, AnswersCover, AnswersEmptyCover, Spans};
+ghost use Rattle.zarrs_chunks.specs.Subsets.{AnswersChunksSubset, AnswersCover, AnswersEmptyCover, IsCover, Spans};
 ghost use Rattle.zarrs_chunks.specs.Walks.{box_at, chunks_of, ends_within};
-ghost use Rattle.zarrs_chunks.specs.seen.Walks.{chunks_left};
+ghost use Rattle.zarrs_chunks.specs.seen.Walks.{chunks_in_left, chunks_left};
 
-use crate::{ChunkGrid, ChunkGridTraits, ChunkIndices, Located};
-use std::alloc::Global;
+use crate::{ChunkGrid, ChunkGridTraits, ChunkIndices, ChunkIndicesInSubset, Located};
+use std::alloc::{AllocError, Global};
 use zarrs_chunk_base::{
     ArrayIndices, ArraySubset, IncompatibleDimensionalityError, PluginCreateError, Refusal,
 };
@@ -177,6 +180,50 @@ pub fn each_element_lies_in_one_chunk_of_the_walk<G: ChunkGridTraits>(
         → InBox (G.dimensions grid.now) other index → chunk ≡ other }
 {
     grid.iter_chunk_indices(alloc)
+}
+
+/// The walk over the chunks in a box gives each chunk that lies in it, once, and each after those that come before it.
+///
+/// # Errors
+/// Out of memory.
+pub fn the_walk_over_a_box_gives_each_chunk_once(
+    alloc: Global,
+    chunks: ArraySubset,
+) -> Result<ChunkIndicesInSubset, AllocError>
+    ensures each { IfOk result (λ walk. (chunk : List ℕ)
+        → Contains (chunks_in_left walk) chunk ↔ IsInside chunks chunk) }
+    ensures in_order { IfOk result (λ walk. AllPairs IsBefore (chunks_in_left walk)) }
+    ensures once { IfOk result
+        (λ walk. AllPairs (λ one other. one ≢ other) (chunks_in_left walk)) }
+{
+    // As above.
+    let _start = chunks.start();
+    ChunkIndicesInSubset::new(alloc, chunks)
+}
+
+/// Each element of a box that has a cover lies in a chunk of the cover.
+pub fn each_element_of_a_box_lies_in_a_chunk_of_its_cover<G: ChunkGridTraits>(
+    grid: &G,
+    array_subset: &ArraySubset,
+)
+    ensures { (cover : Box) → IsCover (G.dimensions grid.now) array_subset.now cover
+        → (index : List ℕ) → IsInside array_subset.now index → (chunk : List ℕ)
+        × IsInside cover chunk × InBox (G.dimensions grid.now) chunk index }
+{
+    // As above.
+    let _start = array_subset.start();
+}
+
+/// A chunk of the cover of a box that isn't empty has an origin of 64-bit numbers: it starts at an element of the box or before one. It may
+/// end past 18446744073709551615, and then has no box.
+pub fn a_chunk_of_a_cover_has_an_origin<G: ChunkGridTraits>(grid: &G, array_subset: &ArraySubset)
+    ensures { (¬ IsEmptyBox array_subset.now) → (cover : Box)
+        → IsCover (G.dimensions grid.now) array_subset.now cover → (chunk : List ℕ)
+        → IsInside cover chunk → (origin : List ℕ)
+        × IsOrigin (G.dimensions grid.now) chunk origin × AllFit origin }
+{
+    // As above.
+    let _start = array_subset.start();
 }
 
 /// A chunk that is counted has a box exactly where it ends at 18446744073709551615 or before it: the one by which the contracts of the

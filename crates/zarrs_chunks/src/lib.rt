@@ -26,7 +26,7 @@
 //! | `chunk_grid::boxes`, `edges` | boxes that are made of starts and sizes; edges as plain numbers |
 //! | `home` | where an element lies: its chunk, and its place there |
 //! | `location` | `locate`: where an element is stored: its chunk, the chunk's key, and its place there |
-//! | `walks` | the three walks over the chunks of a grid |
+//! | `walks` | the three walks over the chunks of a grid, and the one over the chunks in a box of chunk numbers |
 //! | `laws` | what holds of every chunk grid and every encoding |
 //!
 //! One dimension, its kinds and the loops over dimensions stand in the crate `zarrs_chunk_axes`.
@@ -49,6 +49,7 @@ pub use home::Home;
 pub use location::{Located, locate};
 pub use walks::chunk_indices::ChunkIndices;
 pub use walks::chunk_indices_and_subsets::ChunkIndicesAndSubsets;
+pub use walks::chunk_indices_in_subset::ChunkIndicesInSubset;
 pub use walks::chunk_subsets::ChunkSubsets;
 pub use zarrs_chunk_axes::ArrayIndicesTinyVec;
 pub use zarrs_chunk_runs::Comparisons;

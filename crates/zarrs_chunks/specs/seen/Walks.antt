@@ -7,12 +7,20 @@ use Rattle.zarrs_chunk_axes.specs.seen.RowMajorWalk.{lists_left, numbers_at, sha
 use Rattle.zarrs_chunks.specs.declared.walks.chunk_boxes.ChunkBoxes.{ChunkBoxes}
 use Rattle.zarrs_chunks.specs.declared.walks.chunk_indices.ChunkIndices.{ChunkIndices}
 use Rattle.zarrs_chunks.specs.declared.walks.chunk_indices_and_subsets.ChunkIndicesAndSubsets.{ChunkIndicesAndSubsets}
+use Rattle.zarrs_chunks.specs.declared.walks.chunk_indices_in_subset.ChunkIndicesInSubset.{ChunkIndicesInSubset}
 use Rattle.zarrs_chunks.specs.declared.walks.chunk_subsets.ChunkSubsets.{ChunkSubsets}
-use Rattle.zarrs_chunks.specs.Walks.{box_at, boxed}
+use Rattle.zarrs_chunks.specs.Walks.{box_at, boxed, counted_from}
 
 -- the chunks that are still to come
 abbrev pub chunks_left : ChunkIndices → List (List ℕ)
 chunks_left walk = lists_left walk.walk
+
+-- those of a walk over a box of chunk numbers, counted from the first one of the box; and as they are
+abbrev pub offsets_left : ChunkIndicesInSubset → List (List ℕ)
+offsets_left walk = lists_left walk.offsets
+
+abbrev pub chunks_in_left : ChunkIndicesInSubset → List (List ℕ)
+chunks_in_left walk = map (counted_from walk.chunks.start) (offsets_left walk)
 
 -- over a grid, whose dimensions are known by a function of it
 module _ {G : Type 0} (dimensions : G → List Dimension) where
