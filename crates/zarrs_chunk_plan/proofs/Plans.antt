@@ -1,0 +1,303 @@
+-- The parts of a plan: which elements they have, and that they differ.
+use Rattle.std.proofs.Common.{◌≡◌, ◌≢◌, ◌↔◌, ◌⊎◌, ◌∙◌, ℕ, zero, suc, ◌+◌, ◌<◌, ◌≤◌, List, [], ◌∷◌, Contains, get_or, length, refl, ap, ap₂, subst, sym, inl, inr, ⊎_elim, arith}
+use Rattle.std.proofs.lemmas.Bool.{cases_lt}
+use Rattle.std.specs.List.{AllByRecursion, AllPairs, AllZip}
+use Rattle.zarrs_chunk_base.specs.ArraySubset.{AreWithin, Box, IsBox, IsEmptyBox, IsInside, ends, zero_box}
+use Rattle.zarrs_chunk_base.specs.Dimension.{Dimension, Holds, InBox, IsChain, IsOrigin, IsPlace, StartsAt}
+use Rattle.zarrs_chunk_base.specs.Greatest.{AllFit}
+use Rattle.zarrs_chunk_base.proofs.Boxes.{within_lengths}
+use Rattle.zarrs_chunk_base.proofs.InEach.{by_dimension, length_numbers, length_values}
+use Rattle.zarrs_chunk_axes.specs.InBounds.{AreBelow}
+use Rattle.zarrs_chunk_axes.specs.RowMajor.{row_major}
+use Rattle.zarrs_chunks.specs.Subsets.{IsCover}
+use Rattle.zarrs_chunks.specs.Walks.{chunks_in, counted_from}
+use Rattle.zarrs_chunks.proofs.Chains.{same_box}
+use Rattle.zarrs_chunks.proofs.ChunksInBoxes.{are_those_inside, chunks_once, inside_fits, length_below, lie_within, offset_of}
+use Rattle.zarrs_chunks.proofs.Covers.{none_is_not_empty}
+use Rattle.zarrs_chunks.proofs.Meeting.{cover_holds}
+use Rattle.zarrs_chunk_plan.specs.Plan.{AreShared, HasElement, IsCommon, IsPart, IsPlan, Meets}
+use Rattle.zarrs_chunk_plan.specs.declared.part.Part.{Part}
+
+-- ---- the chunks of a plan
+
+empty_or_some : (shape : List ℕ) → Contains shape 0 ⊎ (¬ Contains shape 0)
+empty_or_some [] = inr (λ (k, within, is). absurd (omega arith))
+empty_or_some (zero ∷ shape) = inl (zero, omega arith, refl)
+empty_or_some (suc n ∷ shape) = ⊎_elim (λ (k, within, is). inl (suc k, omega arith, is)) (λ some. inr (not_here some)) (empty_or_some shape) where
+  not_here : (¬ Contains shape 0) → ¬ Contains (suc n ∷ shape) 0
+  not_here some (zero, within, is) = absurd (omega arith)
+  not_here some (suc k, within, is) = some (k, omega arith, is)
+
+-- the box of ranges from 0 to 0 has no chunks
+pub none_in_zeros : (n : ℕ) → n ≢ 0 → chunks_in (zero_box n) ≡ []
+unfolding row_major
+none_in_zeros zero some = absurd (some refl)
+none_in_zeros (suc n) some = refl
+
+module _ {X : Type 0} where
+  all_of_each : (P : X → Type 0) (xs : List X) → ((x : X) → Contains xs x → P x) → AllByRecursion P xs
+  all_of_each P [] each = tt
+  all_of_each P (x ∷ xs) each = (each x (zero, omega arith, refl), all_of_each P xs (λ y (k, within, is). each y (suc k, omega arith, is)))
+
+-- each chunk of the cover that was found holds some element of the box
+pub covered_meet : (ds : List Dimension) (b cover : Box) → IsBox b → (IsEmptyBox b → length ds ≢ 0 → cover ≡ zero_box (length ds))
+    → ((¬ IsEmptyBox b) ⊎ (length ds ≡ 0) → (length b.start ≡ length ds) × IsCover ds b cover)
+    → ((¬ IsEmptyBox b) → (chunk : List ℕ) → IsInside cover chunk ↔ ((index : List ℕ) × InBox ds chunk index × IsInside b index))
+    → AllByRecursion (Meets ds b) (chunks_in cover)
+covered_meet ds b cover is_box if_empty if_some meets = ⊎_elim of_empty of_some (empty_or_some b.shape) where
+  of_some : (¬ IsEmptyBox b) → AllByRecursion (Meets ds b) (chunks_in cover)
+  of_some some =
+      all_of_each (Meets ds b) (chunks_in cover)
+      (λ chunk has. (meets some chunk).0 ((are_those_inside cover (if_some (inl some)).1.is_box chunk).0 has))
+
+  of_empty : IsEmptyBox b → AllByRecursion (Meets ds b) (chunks_in cover)
+  of_empty empty =
+      ⊎_elim
+      (λ (some : 0 < length ds).
+      let none : length ds ≢ 0 = λ same. absurd (omega arith) in
+      subst (AllByRecursion (Meets ds b)) (sym (ap chunks_in (if_empty empty none) ∙ none_in_zeros (length ds) none)) tt)
+      (λ (le : length ds ≤ 0).
+      let none : length ds ≡ 0 = omega arith in
+      let same = (if_some (inr none)).0 in
+      absurd (none_is_not_empty b is_box (omega arith) empty))
+      (cases_lt 0 (length ds))
+
+-- ---- numbers counted from starts
+
+added : (a b c : List ℕ) → counted_from a (counted_from b c) ≡ counted_from (counted_from a b) c
+added (x ∷ a) (y ∷ b) (z ∷ c) = let here : x + (y + z) ≡ (x + y) + z = omega arith in ap₂ (λ n ns. n ∷ ns) here (added a b c)
+added [] [] c = refl
+added [] (_ ∷ _) [] = refl
+added [] (_ ∷ _) (_ ∷ _) = refl
+added (_ ∷ _) [] c = refl
+added (_ ∷ _) (_ ∷ _) [] = refl
+
+counted_once : (start one other : List ℕ) → length one ≡ length start → length other ≡ length start → counted_from start one ≡ counted_from start other → one ≡ other
+counted_once [] [] [] a b same = refl
+counted_once (s ∷ start) (m ∷ one) (n ∷ other) a b same =
+    let here : s + m ≡ s + n = cc in
+    let rest : counted_from start one ≡ counted_from start other = cc in
+    let first : m ≡ n = omega arith in
+    ap₂ (λ x xs. x ∷ xs) first (counted_once start one other (omega arith) (omega arith) rest)
+counted_once _ _ _ a b same = absurd (omega arith)
+
+length_counted : (start numbers : List ℕ) → length numbers ≡ length start → length (counted_from start numbers) ≡ length start
+length_counted [] [] same = refl
+length_counted (s ∷ start) (n ∷ numbers) same = ap suc (length_counted start numbers (omega arith))
+length_counted _ _ same = absurd (omega arith)
+
+-- a place is what is counted from the chunk's origin
+place_from_origin : (ds : List Dimension) (chunk origin place : List ℕ) → IsOrigin ds chunk origin → length place ≡ length ds
+    → IsPlace ds chunk (counted_from origin place) place
+place_from_origin ds chunk origin place is same =
+    by_dimension StartsAt (λ ds chunk origin. (place : List ℕ) → length place ≡ length ds → IsPlace ds chunk (counted_from origin place) place)
+    none more ds chunk origin is place same where
+      none : (place : List ℕ) → length place ≡ length {A = Dimension} [] → IsPlace [] [] (counted_from [] place) place
+      none [] same = tt
+      none (_ ∷ _) same = absurd (omega arith)
+
+      more : (d : Dimension) (c o : ℕ) (ds : List Dimension) (chunk origin : List ℕ) → StartsAt d c o
+          → ((place : List ℕ) → length place ≡ length ds → IsPlace ds chunk (counted_from origin place) place)
+          → (place : List ℕ) → length place ≡ length (d ∷ ds) → IsPlace (d ∷ ds) (c ∷ chunk) (counted_from (o ∷ origin) place) place
+      more d c o ds chunk origin starts rest [] same = absurd (omega arith)
+      more d c o ds chunk origin starts rest (p ∷ place) same = let start = starts.start in (omega arith, rest place (omega arith))
+
+-- a list that has something below it in each place has no 0
+not_empty_if_inside : (start shape index : List ℕ) → AreWithin start shape index → ¬ Contains shape 0
+not_empty_if_inside [] [] [] within (k, counted, is) = absurd (omega arith)
+not_empty_if_inside (s ∷ start) (n ∷ shape) (i ∷ index) within (zero, counted, is) =
+    let from : s ≤ i = within.0 in
+    let below : i < s + n = within.1 in
+    absurd (omega arith)
+not_empty_if_inside (s ∷ start) (n ∷ shape) (i ∷ index) within (suc k, counted, is) = not_empty_if_inside start shape index within.2 (k, omega arith, is)
+not_empty_if_inside _ _ _ within h = absurd within
+
+-- ---- one part
+
+-- the part of a chunk has an element that chunk and box share
+takes : (ds : List Dimension) (IsKey : List ℕ → List ℕ → Type 0) (b : Box) (chunk : List ℕ) (part : Part) (index : List ℕ) → IsPart ds IsKey b chunk part
+    → IsCommon ds b chunk index → (place : List ℕ) × HasElement b part index place
+takes ds IsKey b chunk part index is common =
+    let boxes = is.boxes in
+    let (steps, below, counts) = offset_of boxes.shared.start boxes.shared.shape index ((boxes.elements index).1 common) in (
+      counted_from part.in_chunk.start steps,
+      record {
+        steps = steps;
+        below = subst (λ shape. AreBelow shape steps) boxes.from_chunk.shape below;
+        place_is = refl;
+        index_is = sym counts ∙ ap (λ start. counted_from start steps) boxes.from_subset.start ∙ sym (added b.start part.in_subset.start steps);
+      },
+    )
+
+-- what it has is what they share
+has_common : (ds : List Dimension) (IsKey : List ℕ → List ℕ → Type 0) (b : Box) (chunk : List ℕ) (part : Part) (index place : List ℕ) → IsPart ds IsKey b chunk part
+    → HasElement b part index place → IsCommon ds b chunk index
+has_common ds IsKey b chunk part index place is has =
+    let boxes = is.boxes in
+    let shared = boxes.shared in
+    let below : AreBelow shared.shape has.steps = subst (λ shape. AreBelow shape has.steps) (sym boxes.from_chunk.shape) has.below in
+    let counts : counted_from shared.start has.steps ≡ index =
+    ap (λ start. counted_from start has.steps) boxes.from_subset.start ∙ sym (added b.start part.in_subset.start has.steps) ∙ sym has.index_is
+    in
+    (boxes.elements index).0 (subst (AreWithin shared.start shared.shape) counts (lie_within shared.start shared.shape has.steps boxes.is_box.lengths below))
+
+-- at its place in the chunk
+pub has_place : (ds : List Dimension) (IsKey : List ℕ → List ℕ → Type 0) (b : Box) (chunk : List ℕ) (part : Part) (index place : List ℕ) → IsPart ds IsKey b chunk part
+    → HasElement b part index place → InBox ds chunk index × IsPlace ds chunk index place
+has_place ds IsKey b chunk part index place is has =
+    let boxes = is.boxes in
+    let common = has_common ds IsKey b chunk part index place is has in
+    let from_origin : index ≡ counted_from boxes.origin place =
+    has.index_is ∙ added b.start part.in_subset.start has.steps ∙ ap (λ start. counted_from start has.steps) (sym boxes.from_subset.start ∙ boxes.from_chunk.start)
+    ∙ sym (added boxes.origin part.in_chunk.start has.steps) ∙ ap (counted_from boxes.origin) (sym has.place_is)
+    in
+    let steps_many : length has.steps ≡ length part.in_chunk.start = length_below _ _ has.below ∙ sym boxes.from_chunk.is_box.lengths in
+    let place_many : length place ≡ length part.in_chunk.start = ap length has.place_is ∙ length_counted _ _ steps_many in
+    let shared_many : length boxes.shared.start ≡ length part.in_chunk.start =
+    boxes.is_box.lengths ∙ ap length boxes.from_chunk.shape ∙ sym boxes.from_chunk.is_box.lengths
+    in
+    let index_many : length index ≡ length boxes.shared.start = within_lengths _ _ _ ((boxes.elements index).1 common) in
+    let dimensions : length index ≡ length ds = length_values Holds ds chunk index common.0 in
+    (common.0, subst (λ i. IsPlace ds chunk i place) (sym from_origin) (place_from_origin ds chunk boxes.origin place boxes.is_origin (omega arith)))
+
+-- ---- parts and chunks, place by place
+
+module _ {X Y : Type 0} (R : X → Y → Type 0) where
+  pair_of : (xs : List X) (ys : List Y) → AllZip R xs ys → (x : X) → Contains xs x → (y : Y) × Contains ys y × R x y
+  pair_of (z ∷ xs) (y ∷ ys) zipped x (zero, within, is) = (y, (zero, omega arith, refl), subst (λ w. R w y) is zipped.0)
+  pair_of (z ∷ xs) (y ∷ ys) zipped x (suc k, within, is) =
+      let (found, (j, below, same), related) = pair_of xs ys zipped.1 x (k, omega arith, is) in
+      (found, (suc j, omega arith, same), related)
+  pair_of [] ys zipped x (k, within, is) = absurd (omega arith)
+  pair_of (_ ∷ _) [] zipped x has = absurd zipped
+
+  source_of : (xs : List X) (ys : List Y) → AllZip R xs ys → (y : Y) → Contains ys y → (x : X) × Contains xs x × R x y
+  source_of (x ∷ xs) (z ∷ ys) zipped y (zero, within, is) = (x, (zero, omega arith, refl), subst (R x) is zipped.0)
+  source_of (x ∷ xs) (z ∷ ys) zipped y (suc k, within, is) =
+      let (found, (j, below, same), related) = source_of xs ys zipped.1 y (k, omega arith, is) in
+      (found, (suc j, omega arith, same), related)
+  source_of xs [] zipped y (k, within, is) = absurd (omega arith)
+  source_of [] (_ ∷ _) zipped y has = absurd zipped
+
+  at_place : (xs : List X) (ys : List Y) → AllZip R xs ys → (k : ℕ) → k < length ys → (d : Y)
+      → (x : X) × (k < length xs) × ((e : X) → get_or xs k e ≡ x) × R x (get_or ys k d)
+  at_place (x ∷ xs) (y ∷ ys) zipped zero within d = (x, omega arith, λ e. refl, zipped.0)
+  at_place (x ∷ xs) (y ∷ ys) zipped (suc k) within d =
+      let (z, counted, is, related) = at_place xs ys zipped.1 k (omega arith) d in
+      (z, omega arith, is, related)
+  at_place xs [] zipped k within d = absurd (omega arith)
+  at_place [] (_ ∷ _) zipped k within d = absurd zipped
+
+  -- what holds of two parts of chunks that differ holds of each two parts
+  pub pairs_of : (Q : Y → Y → Type 0) (xs : List X) (ys : List Y) → AllZip R xs ys → AllPairs (λ one other. one ≢ other) xs
+      → ((one other : X) (y z : Y) → Contains xs one → Contains xs other → one ≢ other → R one y → R other z → Q y z) → AllPairs Q ys
+  pairs_of Q xs ys zipped once follows i j d before within =
+      let (one, counted, is, related) = at_place xs ys zipped i (omega arith) d in
+      let (other, also, is_other, also_related) = at_place xs ys zipped j within d in
+      follows one other (get_or ys i d) (get_or ys j d) (i, counted, is one) (j, also, is_other other)
+      (λ same. once i j one before also (is one ∙ same ∙ sym (is_other one))) related also_related
+
+-- ---- the plan
+
+module _ (ds : List Dimension) (IsKey : List ℕ → List ℕ → Type 0) (b : Box) where
+  -- each element of the box lies in some part
+  pub some_part : AllByRecursion IsChain ds → IsBox b → (parts : List Part) → IsPlan ds IsKey b parts → (index : List ℕ) → IsInside b index
+      → (part : Part) × Contains parts part × ((place : List ℕ) × HasElement b part index place)
+  some_part chains is_box parts plan index inside =
+      let (chunk, within, box) = cover_holds ds b plan.cover chains is_box plan.is_cover index inside in
+      let (part, among, is) = pair_of (IsPart ds IsKey b) (chunks_in plan.cover) parts plan.are_parts chunk
+      ((are_those_inside plan.cover plan.is_cover.is_box chunk).1 within)
+      in
+      (part, among, takes ds IsKey b chunk part index is (box, inside))
+
+  -- and in no other
+  pub no_other_part : AllByRecursion IsChain ds → (parts : List Part) → IsPlan ds IsKey b parts
+      → AllPairs (λ part other. (index place also : List ℕ) → HasElement b part index place → HasElement b other index also → ⊥) parts
+  no_other_part chains parts plan =
+      pairs_of (IsPart ds IsKey b) (λ part other. (index place also : List ℕ) → HasElement b part index place → HasElement b other index also → ⊥)
+      (chunks_in plan.cover) parts plan.are_parts (chunks_once plan.cover plan.is_cover.is_box)
+      (λ one other part next _ _ differ is is_other index place also has has_other.
+      differ (same_box ds one other index chains (has_common ds IsKey b one part index place is has).0
+      (has_common ds IsKey b other next index also is_other has_other).0))
+
+  -- chunks of a plan that have one key are one
+  pub keys_differ : ((chunk other key : List ℕ) → AllFit chunk → AllFit other → length chunk ≡ length other → IsKey chunk key → IsKey other key → chunk ≡ other)
+      → (parts : List Part) → IsPlan ds IsKey b parts → AllPairs (λ part other. part.key ≢ other.key) parts
+  keys_differ exact parts plan =
+      let cover = plan.cover in
+      let is_box = plan.is_cover.is_box in
+      pairs_of (IsPart ds IsKey b) (λ part other. part.key ≢ other.key) (chunks_in cover) parts plan.are_parts (chunks_once cover is_box)
+      (λ one other part next among also differ is is_other same.
+      let inside = (are_those_inside cover is_box one).0 among in
+      let other_inside = (are_those_inside cover is_box other).0 also in
+      differ (exact one other part.key (inside_fits cover.start cover.shape one is_box.fits inside)
+      (inside_fits cover.start cover.shape other is_box.fits other_inside)
+      (within_lengths _ _ _ inside ∙ sym (within_lengths _ _ _ other_inside)) is.key (subst (IsKey other) (sym same) is_other.key)))
+
+  -- what lies in a part's box is an element that the part has
+  has_at : (chunk : List ℕ) (part : Part) (place : List ℕ) → IsPart ds IsKey b chunk part → IsInside part.in_subset place
+      → (at : List ℕ) × HasElement b part (counted_from b.start place) at
+  has_at chunk part place is inside =
+      let boxes = is.boxes in
+      let (steps, below, counts) = offset_of part.in_subset.start part.in_subset.shape place inside in (
+        counted_from part.in_chunk.start steps,
+        record {
+          steps = steps;
+          below = subst (λ shape. AreBelow shape steps) (sym boxes.from_subset.shape ∙ boxes.from_chunk.shape) below;
+          place_is = refl;
+          index_is = ap (counted_from b.start) (sym counts);
+        },
+      )
+
+  pub tiles_all : AllByRecursion IsChain ds → IsBox b → (parts : List Part) → IsPlan ds IsKey b parts → (place : List ℕ)
+      → AreBelow b.shape place ↔ ((part : Part) × Contains parts part × IsInside part.in_subset place)
+  tiles_all chains is_box parts plan place = (find, λ (part, among, inside). lies part among inside) where
+    find : AreBelow b.shape place → (part : Part) × Contains parts part × IsInside part.in_subset place
+    find below =
+        let index = counted_from b.start place in
+        let (part, among, (at, has)) = some_part chains is_box parts plan index (lie_within b.start b.shape place is_box.lengths below) in
+        let (chunk, _, is) = source_of (IsPart ds IsKey b) (chunks_in plan.cover) parts plan.are_parts part among in
+        let boxes = is.boxes in
+        let box = boxes.from_subset.is_box in
+        let below_part : AreBelow part.in_subset.shape has.steps =
+        subst (λ shape. AreBelow shape has.steps) (sym boxes.from_chunk.shape ∙ boxes.from_subset.shape) has.below
+        in
+        let steps_many : length has.steps ≡ length part.in_subset.start = length_below _ _ below_part ∙ sym box.lengths in
+        let counted = counted_from part.in_subset.start has.steps in
+        let counted_many : length counted ≡ length part.in_subset.start = length_counted _ _ steps_many in
+        let shared_many : length boxes.shared.start ≡ length part.in_subset.start = boxes.is_box.lengths ∙ ap length boxes.from_subset.shape ∙ sym box.lengths in
+        let common = has_common ds IsKey b chunk part index at is has in
+        let index_many : length index ≡ length boxes.shared.start = within_lengths _ _ _ ((boxes.elements index).1 common) in
+        let also_many : length index ≡ length b.start = within_lengths _ _ _ common.1 in
+        let place_many : length place ≡ length b.start = length_below _ _ below ∙ sym is_box.lengths in
+        let same : place ≡ counted = counted_once b.start place counted place_many (omega arith) has.index_is in
+        (part, among, subst (AreWithin part.in_subset.start part.in_subset.shape) (sym same) (lie_within _ _ _ box.lengths below_part))
+
+    lies : (part : Part) → Contains parts part → IsInside part.in_subset place → AreBelow b.shape place
+    lies part among inside =
+        let (chunk, _, is) = source_of (IsPart ds IsKey b) (chunks_in plan.cover) parts plan.are_parts part among in
+        let boxes = is.boxes in
+        let index = counted_from b.start place in
+        let (at, has) = has_at chunk part place is inside in
+        let common = has_common ds IsKey b chunk part index at is has in
+        let (steps, below, counts) = offset_of b.start b.shape index common.1 in
+        let steps_many : length steps ≡ length b.start = length_below _ _ below ∙ sym is_box.lengths in
+        let in_part : length place ≡ length part.in_subset.start = within_lengths _ _ _ inside in
+        let shared_many : length boxes.shared.start ≡ length part.in_subset.start =
+        boxes.is_box.lengths ∙ ap length boxes.from_subset.shape ∙ sym boxes.from_subset.is_box.lengths
+        in
+        let index_many : length index ≡ length boxes.shared.start = within_lengths _ _ _ ((boxes.elements index).1 common) in
+        let also_many : length index ≡ length b.start = within_lengths _ _ _ common.1 in
+        let same : steps ≡ place = counted_once b.start steps place steps_many (omega arith) counts in
+        subst (AreBelow b.shape) same below
+
+  pub tiles_apart : AllByRecursion IsChain ds → (parts : List Part) → IsPlan ds IsKey b parts
+      → AllPairs (λ part other. (place : List ℕ) → IsInside part.in_subset place → IsInside other.in_subset place → ⊥) parts
+  tiles_apart chains parts plan =
+      pairs_of (IsPart ds IsKey b) (λ part other. (place : List ℕ) → IsInside part.in_subset place → IsInside other.in_subset place → ⊥)
+      (chunks_in plan.cover) parts plan.are_parts (chunks_once plan.cover plan.is_cover.is_box)
+      (λ one other part next _ _ differ is is_other place inside also.
+      let (at, has) = has_at one part place is inside in
+      let (at_other, has_other) = has_at other next place is_other also in
+      differ (same_box ds one other (counted_from b.start place) chains (has_common ds IsKey b one part _ at is has).0
+      (has_common ds IsKey b other next _ at_other is_other has_other).0))

@@ -1,0 +1,62 @@
+-- What is left of a walk over the parts of a box of elements.
+use Rattle.std.specs.Prelude.{◌≡◌, ◌≢◌, ◌⊎◌, ℕ, List, [], length, Option, Some, None, Result, Ok, Err}
+use Rattle.std.specs.List.{AllByRecursion}
+use Rattle.std.specs.declared.alloc.AllocError.{AllocError}
+use Rattle.zarrs_chunk_base.specs.ArraySubset.{Box, lasts}
+use Rattle.zarrs_chunk_base.specs.Dimension.{Dimension}
+use Rattle.zarrs_chunk_base.specs.Refusal.{AnswersOrMemory}
+use Rattle.zarrs_chunk_base.specs.declared.incompatible_dimensionality_error.IncompatibleDimensionalityError.{IncompatibleDimensionalityError}
+use Rattle.zarrs_chunk_base.specs.declared.refusal.Refusal.{Refusal}
+use Rattle.zarrs_chunk_base.specs.declared.refusal.Refusal.TheVariants.{Refused, Memory}
+use Rattle.zarrs_chunks.specs.Subsets.{HasNoHome, IsCover}
+use Rattle.zarrs_chunks.specs.Walks.{Gives, chunks_in}
+use Rattle.zarrs_chunks.specs.seen.Walks.{chunks_in_left, offsets_left}
+use Rattle.zarrs_chunk_plan.specs.Plan.{IsPart, Meets}
+use Rattle.zarrs_chunk_plan.specs.declared.part.Part.{Part}
+use Rattle.zarrs_chunk_plan.specs.declared.walk.Parts.{Parts}
+
+module _ {G E : Type 0} where
+  -- the chunks of which the parts are still to come; and they, counted from the first chunk of the cover
+  abbrev pub chunks_to_come : Parts G E → List (List ℕ)
+  chunks_to_come walk = chunks_in_left walk.chunks
+
+  abbrev pub offsets_to_come : Parts G E → List (List ℕ)
+  offsets_to_come walk = offsets_left walk.chunks
+
+  -- the walk is over this grid, this encoding and this box of elements
+  pub record IsAbout (grid : G) (encoding : E) (subset : Box) (walk : Parts G E) : Type 0 where
+    pub same_grid : walk.grid.now ≡ grid
+    pub same_encoding : walk.encoding.now ≡ encoding
+    pub same_subset : walk.array_subset.now ≡ subset
+
+  -- what `parts` answers where the box isn't empty: the parts of the chunks of its cover, and none where it has none
+  abbrev pub AnswersParts : List Dimension → Box → Result (Option (Parts G E)) (Refusal IncompatibleDimensionalityError) → Type 0
+  AnswersParts ds b =
+      AnswersOrMemory (length b.start) (length ds) (λ walk. (cover : Box) × IsCover ds b cover × (chunks_to_come walk ≡ chunks_in cover))
+      (HasNoHome ds b.start ⊎ HasNoHome ds (lasts b.start b.shape))
+
+  -- where it is empty: no parts
+  abbrev pub AnswersNoParts : Result (Option (Parts G E)) (Refusal IncompatibleDimensionalityError) → Type 0
+  AnswersNoParts (Ok (Some walk)) = chunks_to_come walk ≡ []
+  AnswersNoParts (Ok None) = ⊥
+  AnswersNoParts (Err (Refused _)) = ⊥
+  AnswersNoParts (Err (Memory _)) = Unit {0}
+
+  -- each chunk to come holds some element of the box
+  abbrev pub MeetSubset : (G → List Dimension) → Parts G E → Type 0
+  MeetSubset dimensions walk = AllByRecursion (Meets (dimensions walk.grid.now) walk.array_subset.now) (chunks_to_come walk)
+
+-- what holds of a part, where `next` gave one
+abbrev pub IfPart : (Part → Type 0) → Option (Result Part AllocError) → Type 0
+IfPart P (Some (Ok part)) = P part
+IfPart P (Some (Err _)) = Unit {0}
+IfPart P None = Unit {0}
+
+-- `next` gives the part of the first chunk to come, and the others are to come then; nothing, at the end; or out of memory. The walk is
+-- over the same as before.
+pub record GivesPart {G E : Type 0} (dimensions : G → List Dimension) (is_key : E → List ℕ → List ℕ → Type 0) (before : Parts G E)
+    (given : Option (Result Part AllocError)) (after : Parts G E) : Type 0 where
+  pub gives : Gives offsets_to_come chunks_to_come (λ part. part.chunk.items) (λ offsets. offsets ≢ []) before given after
+  pub part : IfPart (λ part. IsPart (dimensions before.grid.now) (is_key before.encoding.now) before.array_subset.now part.chunk.items part) given
+  pub about : IsAbout before.grid.now before.encoding.now before.array_subset.now after
+  pub meet : MeetSubset dimensions after

@@ -1,0 +1,47 @@
+//! A part of a box of elements: what one chunk holds of it.
+ghost use Rattle.std.specs.Prelude.{IfOk};
+ghost use Rattle.zarrs_chunk_plan.specs.Plan.{IsPart, Meets};
+
+use crate::shared::shared_boxes;
+use std::alloc::{AllocError, Global};
+use zarrs_chunk_base::{ArraySubset, StoreKey};
+use zarrs_chunk_keys::ChunkKeyEncodingTraits;
+use zarrs_chunks::{ArrayIndicesTinyVec, ChunkGridTraits};
+
+/// What one chunk holds of a box of elements. The two boxes have one shape: the first element of the one is the first of the other, and so on.
+#[derive(Debug, Drop)]
+pub struct Part {
+    /// The key under which the chunk is stored.
+    pub key: StoreKey,
+    /// The numbers of the chunk.
+    pub chunk: ArrayIndicesTinyVec,
+    /// The part's box, counted from the chunk's first element.
+    pub in_chunk: ArraySubset,
+    /// The part's box, counted from the first element of the box that was asked for.
+    pub in_subset: ArraySubset,
+}
+
+/// What a chunk holds of a box of elements, of which it holds some.
+///
+/// # Errors
+/// Out of memory.
+pub(crate) fn part_of<G: ChunkGridTraits, E: ChunkKeyEncodingTraits>(
+    alloc: Global,
+    grid: &G,
+    encoding: &E,
+    array_subset: &ArraySubset,
+    chunk: ArrayIndicesTinyVec,
+) -> Result<Part, AllocError>
+    requires { Meets (G.dimensions grid.now) array_subset.now chunk.items }
+    ensures { IfOk result (IsPart (G.dimensions grid.now) (E.is_key encoding.now)
+        array_subset.now chunk.items) }
+{
+    let (in_chunk, in_subset) = shared_boxes(alloc, grid, array_subset, chunk.as_slice())?;
+    let key = encoding.encode(alloc, chunk.as_slice())?;
+    Ok(Part {
+        key,
+        chunk,
+        in_chunk,
+        in_subset,
+    })
+}

@@ -1,0 +1,110 @@
+//! The elements that a chunk and a box share, counted from either.
+ghost use Rattle.std.specs.Prelude.{◌≡◌, ◌+◌, ◌-◌, IfOk, Ok, Some, max, min};
+ghost use Rattle.zarrs_chunk_base.specs.ArraySubset.{IsBox};
+ghost use Rattle.zarrs_chunk_base.specs.Greatest.{greatest};
+ghost use Rattle.zarrs_chunk_plan.specs.Plan.{AreShared, Meets};
+ghost use Rattle.zarrs_chunk_plan.specs.seen.Shared.{IsFoundOrMemory, distances, shared_sizes};
+
+use std::alloc::{AllocError, Global};
+use zarrs_chunk_base::{
+    ArrayIndices, ArrayShape, ArraySubset, IncompatibleDimensionalityError, Refusal,
+};
+use zarrs_chunks::ChunkGridTraits;
+
+/// The elements that a chunk shares with a box of elements, of which it holds some: counted from the chunk's first element, and from the
+/// first of the box. The chunk may end past 18446744073709551615; what the two share doesn't.
+///
+/// # Errors
+/// Out of memory.
+pub(crate) fn shared_boxes<G: ChunkGridTraits>(
+    alloc: Global,
+    grid: &G,
+    array_subset: &ArraySubset,
+    chunk: &[u64],
+) -> Result<(ArraySubset, ArraySubset), AllocError>
+    requires { Meets (G.dimensions grid.now) array_subset.now chunk.now }
+    ensures { IfOk result (λ boxes. AreShared (G.dimensions grid.now) array_subset.now
+        chunk.now boxes.0 boxes.1) }
+{
+    let start = array_subset.start();
+    let origin = found(grid.chunk_origin(alloc, chunk))?;
+    let edges = found(grid.chunk_shape_u64(alloc, chunk))?;
+    let shape = sizes_shared(alloc, &origin, &edges, array_subset)?;
+    let in_chunk = box_of(steps_to(alloc, &origin, start)?, shape.clone()?);
+    let in_subset = box_of(steps_to(alloc, start, &origin)?, shape);
+    Ok((in_chunk, in_subset))
+}
+
+/// What a look-up finds, of which it is known that it finds something, unless it is out of memory.
+///
+/// # Errors
+/// Out of memory.
+fn found<T: Drop>(
+    answer: Result<Option<T>, Refusal<IncompatibleDimensionalityError>>,
+) -> Result<T, AllocError>
+    requires { IsFoundOrMemory answer }
+    ensures { IfOk result (λ value. answer ≡ Ok (Some value)) }
+{
+    match answer {
+        Ok(Some(value)) => Ok(value),
+        Err(Refusal::Memory(error)) => Err(error),
+        Ok(None) | Err(Refusal::Refused(_)) => unreachable!(),
+    }
+}
+
+/// For each dimension how far after the one index the other lies; 0 where it lies before.
+///
+/// # Errors
+/// Out of memory.
+fn steps_to(alloc: Global, from: &[u64], to: &[u64]) -> Result<ArrayIndices, AllocError>
+    ensures { IfOk result (λ v. v.items ≡ distances from.now to.now) }
+{
+    let mut steps = Vec::with_capacity(alloc, from.len())?;
+    let pairs = from.iter().zip(to);
+    steps.extend(pairs.map(|(first, last)| last.saturating_sub(*first)))?;
+    Ok(steps)
+}
+
+/// For each dimension how many indices the ranges of a chunk and of a box share.
+///
+/// # Errors
+/// Out of memory.
+fn sizes_shared(
+    alloc: Global,
+    origin: &[u64],
+    edges: &[u64],
+    array_subset: &ArraySubset,
+) -> Result<ArrayShape, AllocError>
+    ensures { IfOk result (λ v. v.items ≡ shared_sizes origin.now edges.now
+        array_subset.now.start array_subset.now.shape) }
+{
+    let mut sizes = Vec::with_capacity(alloc, origin.len())?;
+    let ranges = origin.iter().zip(edges);
+    let others = array_subset.start().iter().zip(array_subset.shape());
+    sizes.extend(
+        ranges.zip(others).map(|((first, count), (start, size))| {
+            size_shared(*first, *count, *start, *size)
+        }),
+    )?;
+    Ok(sizes)
+}
+
+/// How many indices two ranges share, which are given by their first index and how many they hold. An index past
+/// 18446744073709551615 doesn't count.
+fn size_shared(first: u64, count: u64, start: u64, size: u64) -> u64
+    ensures { result ≡ min (first + count) (min (start + size) greatest) - max first start }
+{
+    let end = first.saturating_add(count).min(start.saturating_add(size));
+    end.saturating_sub(first.max(start))
+}
+
+/// The box of a start and a shape that make one.
+fn box_of(start: ArrayIndices, shape: ArrayShape) -> ArraySubset
+    requires { IsBox (record { start = start.items; shape = shape.items }) }
+    ensures { result ≡ record { start = start.items; shape = shape.items } }
+{
+    match ArraySubset::new_with_start_shape(start, shape) {
+        Ok(subset) => subset,
+        Err(_) => unreachable!(),
+    }
+}

@@ -1,0 +1,79 @@
+//! The walk over the parts of a box of elements.
+use crate::part::{Part, part_of};
+use std::alloc::{AllocError, Global};
+use zarrs_chunk_base::ArraySubset;
+use zarrs_chunk_keys::ChunkKeyEncodingTraits;
+use zarrs_chunks::{ChunkGridTraits, ChunkIndicesInSubset};
+
+/// The parts of a box of elements: one for each chunk of its cover, in row-major order of the chunks.
+///
+/// A part is made when it is asked for, so the first one comes without a walk over the others. After an `Err` or the end the walk gives
+/// nothing more.
+#[derive(Debug, Drop)]
+pub struct Parts<'a, G, E> {
+    alloc: Global,
+    grid: &'a G,
+    encoding: &'a E,
+    array_subset: &'a ArraySubset,
+    chunks: ChunkIndicesInSubset,
+}
+
+impl<'a, G: ChunkGridTraits, E: ChunkKeyEncodingTraits> Parts<'a, G, E> {
+    ghost use Rattle.std.specs.Prelude.{◌≡◌, IfOk};
+    ghost use Rattle.zarrs_chunks.specs.Walks.{chunks_in};
+    ghost use Rattle.zarrs_chunk_plan.specs.seen.Parts.{IsAbout, chunks_to_come};
+
+    /// A walk over the parts that the chunks in a box of chunk numbers hold.
+    ///
+    /// # Errors
+    /// Out of memory.
+    pub(crate) fn new(
+        alloc: Global,
+        grid: &'a G,
+        encoding: &'a E,
+        array_subset: &'a ArraySubset,
+        chunks: ArraySubset,
+    ) -> Result<Parts<'a, G, E>, AllocError>
+        ensures left { IfOk result (λ walk. chunks_to_come walk ≡ chunks_in chunks) }
+        ensures about { IfOk result (IsAbout grid.now encoding.now array_subset.now) }
+    {
+        Ok(Parts {
+            alloc,
+            grid,
+            encoding,
+            array_subset,
+            chunks: ChunkIndicesInSubset::new(alloc, chunks)?,
+        })
+    }
+}
+
+impl<G: ChunkGridTraits, E: ChunkKeyEncodingTraits> Iterator for Parts<'_, G, E> {
+    ghost use Rattle.std.specs.Iterator.{item_count};
+    ghost use Rattle.zarrs_chunk_plan.specs.seen.Parts.{GivesPart, MeetSubset, offsets_to_come};
+
+    type Item = Result<Part, AllocError>;
+
+    ghost can_next = { MeetSubset G.dimensions };
+
+    ghost next_gives = { GivesPart G.dimensions E.is_key };
+
+    ghost remaining = { item_count offsets_to_come };
+
+    fn next(&mut self) -> Option<Result<Part, AllocError>> {
+        let chunk = match self.chunks.next()? {
+            Ok(chunk) => chunk,
+            Err(error) => return Some(Err(error)),
+        };
+        let part = part_of(
+            self.alloc,
+            self.grid,
+            self.encoding,
+            self.array_subset,
+            chunk,
+        );
+        if part.is_err() {
+            self.chunks.end();
+        }
+        Some(part)
+    }
+}
