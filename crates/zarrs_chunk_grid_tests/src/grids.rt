@@ -229,6 +229,12 @@ fn refused_edges_are_handed_back(rt: HostRuntime) -> Result<(), Fail> {
         Err(Refusal::Memory(error)) => return Err(error.into()),
         Ok(_) => return Err("the edges were accepted".into()),
     }
+    Ok(())
+}
+
+#[test]
+fn refused_run_lengths_are_handed_back(rt: HostRuntime) -> Result<(), Fail> {
+    let alloc = rt.alloc();
     let mut elements = Vec::new(alloc);
     elements.push(RunLengthElement::Repeated([non_zero(5)?, non_zero(3)?]))?;
     elements.push(RunLengthElement::Single(non_zero(20)?))?;

@@ -1,0 +1,65 @@
+#!/usr/bin/env python3
+"""Runs the gate, and prints how many processor minutes each crate took of it: its proofs, its tests, and the edits that have to be refused.
+
+    python3 gate.py [COMMAND ..]        .ci/run where there is none
+
+It is meant for a fresh clone, with nothing beside. It looks twice a second at what the kit's compiler and its helpers have used so far, so of each of
+them the last half second is missing. On Linux.
+"""
+import collections
+import os
+import pathlib
+import subprocess
+import sys
+import time
+
+TICKS = os.sysconf("SC_CLK_TCK") * 60
+KINDS = ("proofs", "tests", "edits")
+
+
+def processes():
+    """Each process: its number and start, the processor minutes that it has used, its words, and where it runs."""
+    for folder in pathlib.Path("/proc").iterdir():
+        if not folder.name.isdigit():
+            continue
+        try:
+            fields = (folder / "stat").read_text().rpartition(")")[2].split()
+            words = (folder / "cmdline").read_bytes().decode(errors="replace").split("\0")
+            where = os.readlink(folder / "cwd")
+        except OSError:
+            continue
+        yield (folder.name, fields[19]), (int(fields[11]) + int(fields[12])) / TICKS, words, where
+
+
+def belongs_to(words, where):
+    """The crate that a run of the compiler is about, and what it does with it."""
+    if "--crate-name" not in words:
+        return None
+    crate = words[words.index("--crate-name") + 1]
+    if "rt-edit" in where:
+        return crate, "edits"
+    return crate, "tests" if "--test" in words else "proofs"
+
+
+def main():
+    gate = subprocess.Popen(sys.argv[1:] or [".ci/run"])
+    began = time.monotonic()
+    used = {}
+    while gate.poll() is None:
+        for process, minutes, words, where in processes():
+            about = belongs_to(words, where)
+            if about:
+                used[process] = (about, minutes)
+        time.sleep(0.5)
+    totals = collections.defaultdict(collections.Counter)
+    for (crate, kind), minutes in used.values():
+        totals[crate][kind] += minutes
+    print(f"{'processor minutes':24}" + "".join(f"{kind:>8}" for kind in KINDS))
+    for crate, spent in sorted(totals.items(), key=lambda row: -row[1].total()):
+        print(f"{crate:24}" + "".join(f"{spent[kind]:8.1f}" for kind in KINDS))
+    print(f"{sum(spent.total() for spent in totals.values()):.0f} processor minutes in {(time.monotonic() - began) / 60:.0f} minutes")
+    sys.exit(gate.returncode)
+
+
+if __name__ == "__main__":
+    main()
