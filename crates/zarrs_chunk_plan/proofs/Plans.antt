@@ -2,11 +2,11 @@
 use Rattle.std.proofs.Common.{◌≡◌, ◌≢◌, ◌↔◌, ◌⊎◌, ◌∙◌, ℕ, zero, suc, ◌+◌, ◌<◌, ◌≤◌, List, [], ◌∷◌, Contains, get_or, length, refl, ap, ap₂, subst, sym, inl, inr, ⊎_elim, arith}
 use Rattle.std.proofs.lemmas.Bool.{cases_lt}
 use Rattle.std.specs.List.{AllByRecursion, AllPairs, AllZip}
-use Rattle.zarrs_chunk_base.specs.ArraySubset.{AreWithin, Box, IsBox, IsEmptyBox, IsInside, ends, zero_box}
+use Rattle.zarrs_chunk_base.specs.ArraySubset.{AreWithin, Box, IsBox, IsEmptyBox, IsInside, zero_box}
 use Rattle.zarrs_chunk_base.specs.Dimension.{Dimension, Holds, InBox, IsChain, IsOrigin, IsPlace, StartsAt}
 use Rattle.zarrs_chunk_base.specs.Greatest.{AllFit}
 use Rattle.zarrs_chunk_base.proofs.Boxes.{within_lengths}
-use Rattle.zarrs_chunk_base.proofs.InEach.{by_dimension, length_numbers, length_values}
+use Rattle.zarrs_chunk_base.proofs.InEach.{by_dimension, length_values}
 use Rattle.zarrs_chunk_axes.specs.InBounds.{AreBelow}
 use Rattle.zarrs_chunk_axes.specs.RowMajor.{row_major}
 use Rattle.zarrs_chunks.specs.Subsets.{IsCover}
@@ -15,7 +15,7 @@ use Rattle.zarrs_chunks.proofs.Chains.{same_box}
 use Rattle.zarrs_chunks.proofs.ChunksInBoxes.{are_those_inside, chunks_once, inside_fits, length_below, lie_within, offset_of}
 use Rattle.zarrs_chunks.proofs.Covers.{none_is_not_empty}
 use Rattle.zarrs_chunks.proofs.Meeting.{cover_holds}
-use Rattle.zarrs_chunk_plan.specs.Plan.{AreShared, HasElement, IsCommon, IsPart, IsPlan, Meets}
+use Rattle.zarrs_chunk_plan.specs.Plan.{HasElement, IsCommon, IsPart, IsPlan, Meets}
 use Rattle.zarrs_chunk_plan.specs.declared.part.Part.{Part}
 
 -- ---- the chunks of a plan

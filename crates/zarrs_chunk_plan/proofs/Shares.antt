@@ -1,5 +1,5 @@
 -- What ranges share, in one dimension and in all of them.
-use Rattle.std.proofs.Common.{◌≡◌, ◌↔◌, ℕ, suc, ◌+◌, ◌-◌, ◌<◌, ◌≤◌, List, [], ◌∷◌, length, max, min, Option, Some, None, Ok, Err, refl, ap, ap₂, subst, sym, ◌∙◌, arith}
+use Rattle.std.proofs.Common.{◌≡◌, ◌↔◌, ℕ, suc, ◌+◌, ◌-◌, ◌<◌, ◌≤◌, List, [], ◌∷◌, length, max, min, Some, None, Ok, Err, refl, ap, ap₂, subst, sym, ◌∙◌, arith}
 use Rattle.zarrs_chunk_base.specs.ArraySubset.{AreWithin, Box, IsBox, ends}
 use Rattle.zarrs_chunk_base.specs.Dimension.{Dimension, HasEdge, Holds, InBox, IsChunk, IsOrigin, IsShape, StartsAt}
 use Rattle.zarrs_chunk_base.specs.Greatest.{greatest, AllFit}

@@ -1,22 +1,62 @@
-//! What holds of every plan, over any grid and encoding. It follows from the laws of [`zarrs_chunks::laws`] and from that of encodings. What
-//! [`parts`](crate::parts) gives, one after another, is a plan.
+//! What holds of every plan, over any grid and encoding. It follows from the laws of [`zarrs_chunks::laws`] and from that of encodings.
 //!
 //! | What holds | The function whose contract says it |
 //! |---|---|
+//! | What [`parts`] gives of a box that isn't empty, one after another, is a plan of the box | [`the_walk_gives_the_plan`] |
 //! | Each element of the box lies in exactly one part, at its place in that part's chunk | [`each_element_lies_in_one_part`] |
 //! | No two parts have one key | [`no_two_parts_have_one_key`] |
 //! | The parts' boxes tile the box: each place in it lies in exactly one of them, and they reach nowhere else | [`the_parts_tile_the_box`] |
-ghost use Rattle.std.specs.Prelude.{◌≢◌, ◌↔◌, ℕ, List};
+ghost use Rattle.std.specs.Prelude.{◌≢◌, ◌↔◌, ℕ, IfOk, IfSome, List};
 ghost use Rattle.std.specs.List.{AllPairs, Contains};
 ghost use Rattle.zarrs_chunk_axes.specs.InBounds.{AreBelow};
-ghost use Rattle.zarrs_chunk_base.specs.ArraySubset.{IsInside};
+ghost use Rattle.zarrs_chunk_base.specs.ArraySubset.{IsEmptyBox, IsInside};
 ghost use Rattle.zarrs_chunk_base.specs.Dimension.{InBox, IsPlace};
 ghost use Rattle.zarrs_chunk_plan.specs.Plan.{HasElement, IsPart, IsPlan};
-ghost use Rattle.zarrs_chunk_plan.specs.declared.part.Part.{Part};
+ghost use Rattle.zarrs_chunk_plan.specs.seen.Parts.{ArePartsToCome, MeetSubset};
 
-use zarrs_chunk_base::ArraySubset;
+use crate::{Part, Parts, parts};
+use std::alloc::{AllocError, Global};
+use zarrs_chunk_base::{ArraySubset, IncompatibleDimensionalityError, Refusal};
 use zarrs_chunk_keys::ChunkKeyEncodingTraits;
 use zarrs_chunks::ChunkGridTraits;
+
+/// The parts that the walk over a box gives, one after another, are a plan of the box: one for each chunk of its cover, in order.
+///
+/// # Errors
+/// As `parts`, which this calls; or out of memory for the list.
+pub fn the_walk_gives_the_plan<G: ChunkGridTraits, E: ChunkKeyEncodingTraits>(
+    alloc: Global,
+    grid: &G,
+    encoding: &E,
+    array_subset: &ArraySubset,
+) -> Result<Option<Vec<Part>>, Refusal<IncompatibleDimensionalityError>>
+    ensures { (¬ IsEmptyBox array_subset.now) → IfOk result (λ found. IfSome found
+        (λ all. IsPlan (G.dimensions grid.now) (E.is_key encoding.now) array_subset.now
+        all.items)) }
+{
+    match parts(alloc, grid, encoding, array_subset)? {
+        Some(walk) => Ok(Some(all_parts(alloc, walk)?)),
+        None => Ok(None),
+    }
+}
+
+/// The parts that a walk has left.
+///
+/// # Errors
+/// Out of memory.
+fn all_parts<G: ChunkGridTraits, E: ChunkKeyEncodingTraits>(
+    alloc: Global,
+    walk: Parts<'_, G, E>,
+) -> Result<Vec<Part>, AllocError>
+    requires { MeetSubset G.dimensions walk }
+    ensures { IfOk result (λ all. ArePartsToCome G.dimensions E.is_key walk.entry all.items) }
+{
+    let mut all = Vec::new(alloc);
+    for part in walk {
+        all.push(part?)?;
+    }
+    Ok(all)
+}
 
 /// Each element of the box lies in exactly one part of the plan. The part's chunk holds the element, and the place that the part has it at is the
 /// one that `chunk_element_indices` answers.

@@ -1,6 +1,6 @@
 -- What is left of a walk over the parts of a box of elements.
 use Rattle.std.specs.Prelude.{◌≡◌, ◌≢◌, ◌⊎◌, ℕ, List, [], length, Option, Some, None, Result, Ok, Err}
-use Rattle.std.specs.List.{AllByRecursion}
+use Rattle.std.specs.List.{AllByRecursion, AllZip}
 use Rattle.std.specs.declared.alloc.AllocError.{AllocError}
 use Rattle.zarrs_chunk_base.specs.ArraySubset.{Box, lasts}
 use Rattle.zarrs_chunk_base.specs.Dimension.{Dimension}
@@ -45,6 +45,11 @@ module _ {G E : Type 0} where
   -- each chunk to come holds some element of the box
   abbrev pub MeetSubset : (G → List Dimension) → Parts G E → Type 0
   MeetSubset dimensions walk = AllByRecursion (Meets (dimensions walk.grid.now) walk.array_subset.now) (chunks_to_come walk)
+
+  -- the parts that the walk has to give: one for each chunk to come
+  abbrev pub ArePartsToCome : (G → List Dimension) → (E → List ℕ → List ℕ → Type 0) → Parts G E → List Part → Type 0
+  ArePartsToCome dimensions is_key walk =
+      AllZip (IsPart (dimensions walk.grid.now) (is_key walk.encoding.now) walk.array_subset.now) (chunks_to_come walk)
 
 -- what holds of a part, where `next` gave one
 abbrev pub IfPart : (Part → Type 0) → Option (Result Part AllocError) → Type 0

@@ -1,8 +1,7 @@
-use Rattle.std.proofs.Common.{◌≡◌, ◌∙◌, ℕ, List, length, refl, ap, subst, sym, arith, rules}
+use Rattle.std.proofs.Common.{◌≡◌}
 use Rattle.std.proofs.lemmas.List.Elements.{same_from_all_zip}
-use Rattle.zarrs_chunk_base.specs.Dimension.{HasEdge, Holds, IsOrigin, IsShape, StartsAt}
-use Rattle.zarrs_chunk_base.specs.Greatest.{AllFit}
-use Rattle.zarrs_chunk_base.proofs.InEach.{length_numbers, length_values}
+use Rattle.zarrs_chunk_base.specs.Dimension.{Holds, IsOrigin, IsShape}
+use Rattle.zarrs_chunk_base.proofs.InEach.{length_numbers}
 use Rattle.zarrs_chunks.proofs.Boxes.{has_origin}
 use Rattle.zarrs_chunks.proofs.ChunksInBoxes.{inside_fits}
 use Rattle.zarrs_chunks.proofs.Subsets.{is_chunk}
