@@ -8,13 +8,14 @@ use crate::walk_items::first_items;
 use serde_json::{Map, Value};
 use std::alloc::{AllocError, Global};
 use zarrs_chunk_base::{ArraySubset, IncompatibleDimensionalityError, Refusal, TreeForm};
+use zarrs_chunk_plan::parts;
 use zarrs_chunks::{ChunkGrid, ChunkGridTraits, Comparisons, RectilinearChunkGrid, locate};
 
 /// A call of the chunk grid of an array with this shape.
 #[derive(Drop)]
 pub(crate) struct GridQuestion<'t> {
     /// The line's tree. What the call is asked of is its member `of`; how many items of a walk are given, its member `items`;
-    /// `locate` takes its member `chunk_key_encoding` too.
+    /// `locate` and `parts` take its member `chunk_key_encoding` too.
     pub(crate) tree: &'t Value,
     pub(crate) shape: Vec<u64>,
     pub(crate) chunk_grid: &'t Value,
@@ -38,6 +39,7 @@ impl GridQuestion<'_> {
             "configuration" => Ok(Value::Object(self.grid(alloc)?.configuration(alloc)?)),
             "metadata" => Ok(self.grid(alloc)?.metadata(alloc)?.to_tree(alloc)?),
             "locate" => self.locate(alloc),
+            "parts" => self.first_parts(alloc),
             _ => self.answer_of_numbers(alloc),
         }
     }
@@ -146,6 +148,19 @@ impl GridQuestion<'_> {
         match located.map_err(|refusal| refusal.map(LineFault::Lengths))? {
             Some(located) => Ok(located_tree(alloc, &located)?),
             None => Ok(Value::Null),
+        }
+    }
+
+    /// The first parts of the plan of reading a box of elements of the grid's array.
+    fn first_parts(&self, alloc: Global) -> Result<Value, Refusal<LineFault>> {
+        let encoding = required_member(self.tree, "chunk_key_encoding")?;
+        let most = self.number(alloc, "items")?;
+        let (elements, grid) = self.box_and_grid(alloc)?;
+        let encoding = make_encoding(alloc, encoding)?;
+        match parts(alloc, &grid, &encoding, &elements) {
+            Ok(Some(walk)) => Ok(first_items(alloc, walk, most)?),
+            Ok(None) => Ok(Value::Null),
+            Err(refusal) => Err(refusal.map(LineFault::Lengths)),
         }
     }
 

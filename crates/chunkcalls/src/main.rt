@@ -2,7 +2,7 @@
 //!
 //! Each line of standard input is a JSON object: the `shape` of an array and its `chunk_grid`, as
 //! in its `zarr.json`, the name of a `call`, and what it is asked `of`, where it takes something; for a walk, how many
-//! `items` to give; for `locate`, a `chunk_key_encoding`. The call `encode` takes a `chunk_key_encoding` and the numbers of a chunk
+//! `items` to give; for `locate` and `parts`, a `chunk_key_encoding`. The call `encode` takes a `chunk_key_encoding` and the numbers of a chunk
 //! alone.
 //! For each line one line is printed: the answer as compact JSON, why the library refused, or why
 //! the line can't be read.

@@ -5,6 +5,7 @@ use crate::start_shape::{box_tree, numbers_tree};
 use serde_json::{Map, Value};
 use std::alloc::{AllocError, Global};
 use zarrs_chunk_base::ArraySubset;
+use zarrs_chunk_plan::Part;
 use zarrs_chunks::ArrayIndicesTinyVec;
 
 /// An item of a walk.
@@ -34,6 +35,21 @@ impl WalkItem for (ArrayIndicesTinyVec, ArraySubset) {
         both.push(self.0.to_tree(alloc)?)?;
         both.push(self.1.to_tree(alloc)?)?;
         Ok(Value::Array(both))
+    }
+}
+
+/// A part of a box of elements: `{"chunk":[..],"in_chunk":[start,shape],"in_subset":[start,shape],"key":".."}`.
+impl WalkItem for Part {
+    fn to_tree(&self, alloc: Global) -> Result<Value, AllocError> {
+        let mut members = Map::new(alloc);
+        serde_json::put(&mut members, alloc, "chunk", self.chunk.to_tree(alloc)?)?;
+        let in_chunk = box_tree(alloc, &self.in_chunk)?;
+        serde_json::put(&mut members, alloc, "in_chunk", in_chunk)?;
+        let in_subset = box_tree(alloc, &self.in_subset)?;
+        serde_json::put(&mut members, alloc, "in_subset", in_subset)?;
+        let key = Value::try_from_str(alloc, self.key.as_str())?;
+        serde_json::put(&mut members, alloc, "key", key)?;
+        Ok(Value::Object(members))
     }
 }
 

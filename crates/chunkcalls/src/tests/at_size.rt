@@ -56,7 +56,7 @@ fn add_grid(
 }
 
 /// A thousand dimensions of five elements, in chunks of three and of what is left.
-const THOUSAND_DIMENSIONS: [Row; 20] = [
+const THOUSAND_DIMENSIONS: [Row; 21] = [
     ("dimensionality", "0", "1000"),
     ("array_shape", "0", "FIVES"),
     ("grid_shape", "0", "TWOS"),
@@ -95,6 +95,11 @@ const THOUSAND_DIMENSIONS: [Row; 20] = [
         "locate",
         "FOURS",
         r#"{"chunk": ONES ,"element": ONES ,"key":"c KEY "}"#,
+    ),
+    (
+        "parts",
+        "[ FOURS , ONES ]",
+        r#"{"items":[{"chunk": ONES ,"in_chunk":[ ONES , ONES ],"in_subset":[ ZEROS , ONES ],"key":"c KEY "}],"more":false}"#,
     ),
     ("encode", "ONES", r#""c KEY ""#),
 ];
@@ -156,7 +161,7 @@ fn grids_of_a_thousand_dimensions_answer(rt: HostRuntime) -> Result<(), Fail> {
 }
 
 /// The edges 1 to 10000, which add up to 50005000.
-const TEN_THOUSAND_EDGES: [Row; 19] = [
+const TEN_THOUSAND_EDGES: [Row; 20] = [
     ("dimensionality", "0", "1"),
     ("array_shape", "0", "[50005000]"),
     ("grid_shape", "0", "[10000]"),
@@ -195,6 +200,11 @@ const TEN_THOUSAND_EDGES: [Row; 19] = [
         "locate",
         "[49995003]",
         r#"{"chunk":[9999],"element":[3],"key":"c/9999"}"#,
+    ),
+    (
+        "parts",
+        "[[49995003],[2]]",
+        r#"{"items":[{"chunk":[9999],"in_chunk":[[3],[2]],"in_subset":[[0],[2]],"key":"c/9999"}],"more":false}"#,
     ),
 ];
 
