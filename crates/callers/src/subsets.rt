@@ -2,7 +2,7 @@
 use std::alloc::{AllocError, Global};
 use zarrs_chunk_base::{ArraySubset, IncompatibleDimensionalityError, Refusal, StoreKey};
 use zarrs_chunk_keys::ChunkKeyEncodingTraits;
-use zarrs_chunks::{ChunkGridTraits, ChunkIndices};
+use zarrs_chunks::{ChunkGridTraits, ChunkIndicesInSubset};
 
 /// The keys of all chunks that a grid counts, in row-major order of the chunks.
 pub fn keys_of_grid<G: ChunkGridTraits, E: ChunkKeyEncodingTraits>(
@@ -29,13 +29,8 @@ pub fn keys_of_subset<G: ChunkGridTraits, E: ChunkKeyEncodingTraits>(
         return Ok(None);
     };
     let mut keys = Vec::new(alloc);
-    for offset in ChunkIndices::new(alloc, cover.shape()) {
-        let mut chunk = offset?;
-        for (number, first) in chunk.as_mut_slice().iter_mut().zip(cover.start()) {
-            // No sum is cut off, since no box ends past u64::MAX.
-            *number = number.saturating_add(*first);
-        }
-        keys.push(encoding.encode(alloc, chunk.as_slice())?)?;
+    for chunk in ChunkIndicesInSubset::new(alloc, cover)? {
+        keys.push(encoding.encode(alloc, chunk?.as_slice())?)?;
     }
     Ok(Some(keys))
 }
