@@ -14,7 +14,7 @@ use Rattle.zarrs_chunks.specs.Walks.{chunks_in, counted_from}
 use Rattle.zarrs_chunks.proofs.Chains.{same_box}
 use Rattle.zarrs_chunks.proofs.ChunksInBoxes.{are_those_inside, chunks_once, inside_fits, length_below, lie_within, offset_of}
 use Rattle.zarrs_chunks.proofs.Covers.{none_is_not_empty}
-use Rattle.zarrs_chunks.proofs.Meeting.{cover_holds}
+use Rattle.zarrs_chunks.proofs.Meeting.{cover_holds, cover_meets}
 use Rattle.zarrs_chunk_plan.specs.Plan.{HasElement, IsCommon, IsPart, IsPlan, Meets}
 use Rattle.zarrs_chunk_plan.specs.declared.part.Part.{Part}
 
@@ -301,3 +301,13 @@ module _ (ds : List Dimension) (IsKey : List ℕ → List ℕ → Type 0) (b : B
       let (at_other, has_other) = has_at other next place is_other also in
       differ (same_box ds one other (counted_from b.start place) chains (has_common ds IsKey b one part _ at is has).0
       (has_common ds IsKey b other next _ at_other is_other has_other).0))
+
+  -- no part of a box that isn't empty is empty
+  pub none_empty : AllByRecursion IsChain ds → IsBox b → (¬ IsEmptyBox b) → (parts : List Part) → IsPlan ds IsKey b parts
+      → (part : Part) → Contains parts part → ¬ IsEmptyBox part.in_subset
+  none_empty chains is_box some parts plan part among =
+      let (chunk, has, is) = source_of (IsPart ds IsKey b) (chunks_in plan.cover) parts plan.are_parts part among in
+      let inside = (are_those_inside plan.cover plan.is_cover.is_box chunk).0 has in
+      let (index, box, also) = (cover_meets ds b plan.cover chains is_box some plan.is_cover chunk).0 inside in
+      let boxes = is.boxes in
+      subst (λ shape. ¬ Contains shape 0) boxes.from_subset.shape (not_empty_if_inside _ _ index ((boxes.elements index).1 (box, also)))

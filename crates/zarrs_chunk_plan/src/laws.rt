@@ -5,7 +5,7 @@
 //! | What [`parts`] gives of a box that isn't empty, one after another, is a plan of the box | [`the_walk_gives_the_plan`] |
 //! | Each element of the box lies in exactly one part, at its place in that part's chunk | [`each_element_lies_in_one_part`] |
 //! | No two parts have one key | [`no_two_parts_have_one_key`] |
-//! | The parts' boxes tile the box: each place in it lies in exactly one of them, and they reach nowhere else | [`the_parts_tile_the_box`] |
+//! | The parts' boxes tile the box: each place in it lies in exactly one of them, they reach nowhere else, and none is empty | [`the_parts_tile_the_box`] |
 ghost use Rattle.std.specs.Prelude.{◌≢◌, ◌↔◌, ℕ, IfOk, IfSome, List};
 ghost use Rattle.std.specs.List.{AllPairs, Contains};
 ghost use Rattle.zarrs_chunk_axes.specs.InBounds.{AreBelow};
@@ -96,7 +96,8 @@ pub fn no_two_parts_have_one_key<G: ChunkGridTraits, E: ChunkKeyEncodingTraits>(
         → AllPairs (λ part other. part.key ≢ other.key) parts }
 {}
 
-/// A place in the box lies in the box of exactly one part of the plan, and the parts' boxes reach nowhere else.
+/// A place in the box lies in the box of exactly one part of the plan, and the parts' boxes reach nowhere else. None of them is empty, unless
+/// the box is.
 pub fn the_parts_tile_the_box<G: ChunkGridTraits, E: ChunkKeyEncodingTraits>(
     grid: &G,
     encoding: &E,
@@ -110,6 +111,9 @@ pub fn the_parts_tile_the_box<G: ChunkGridTraits, E: ChunkKeyEncodingTraits>(
         → IsPlan (G.dimensions grid.now) (E.is_key encoding.now) array_subset.now parts
         → AllPairs (λ part other. (place : List ℕ) → IsInside part.in_subset place
         → IsInside other.in_subset place → ⊥) parts }
+    ensures not_empty { (¬ IsEmptyBox array_subset.now) → (parts : List Part)
+        → IsPlan (G.dimensions grid.now) (E.is_key encoding.now) array_subset.now parts
+        → (part : Part) → Contains parts part → ¬ IsEmptyBox part.in_subset }
 {
     // As above.
     let _start = array_subset.start();

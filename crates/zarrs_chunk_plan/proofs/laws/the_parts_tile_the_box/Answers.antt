@@ -1,4 +1,4 @@
-use Rattle.zarrs_chunk_plan.proofs.Plans.{tiles_all, tiles_apart}
+use Rattle.zarrs_chunk_plan.proofs.Plans.{none_empty, tiles_all, tiles_apart}
 use Rattle.zarrs_chunk_plan.proofs.laws.the_parts_tile_the_box.Goals as goal
 
 pub returns-clause-all : goal.returns-clause-all
@@ -6,3 +6,6 @@ returns-clause-all g c = tiles_all _ _ _ (g.met.G.ChunkGridTraits.chained c.args
 
 pub returns-clause-apart : goal.returns-clause-apart
 returns-clause-apart g c = tiles_apart _ _ _ (g.met.G.ChunkGridTraits.chained c.args.grid.now)
+
+pub returns-clause-not_empty : goal.returns-clause-not_empty
+returns-clause-not_empty g c = none_empty _ _ _ (g.met.G.ChunkGridTraits.chained c.args.grid.now) c.start-start.ensures.is_box
