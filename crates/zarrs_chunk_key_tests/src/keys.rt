@@ -8,7 +8,7 @@ use zarrs_chunk_keys::laws::{
 };
 use zarrs_chunk_keys::{
     ChunkKeyEncoding, ChunkKeyEncodingTraits, ChunkKeySuffixError, DefaultChunkKeyEncoding,
-    DefaultSuffixChunkKeyEncoding, V2ChunkKeyEncoding,
+    DefaultSuffixChunkKeyEncoding, V2ChunkKeyEncoding, read_numbers,
 };
 
 /// A row of encodings: an encoding, its key of the chunk `[1, 23]`, and its name.
@@ -117,5 +117,41 @@ fn keys_of_a_thousand_dimensions_are_written(rt: HostRuntime) -> Result<(), Fail
         .clone()?
         .encode(rt.alloc(), &chunk)?;
     assert_eq!(rt; key.as_str().len(), 21001);
+    Ok(())
+}
+
+/// The numerals between slashes are those of these numbers.
+fn check_read(
+    rt: &(impl Abort + AllocGlobal),
+    text: &str,
+    numbers: &[u64],
+) -> Result<(), Fail> {
+    let slash = ChunkKeySeparator::Slash;
+    let read = read_numbers(rt.alloc(), slash, numbers.len(), text.as_bytes())?;
+    assert_eq!(rt; read.ok_or("no numbers")?.as_slice(), numbers);
+    Ok(())
+}
+
+#[test]
+fn numerals_are_read(rt: HostRuntime) -> Result<(), Fail> {
+    check_read(&rt, "3/2/16", &[3, 2, 16])?;
+    check_read(&rt, "0", &[0])?;
+    check_read(&rt, "18446744073709551615/10", &[u64::MAX, 10])?;
+    Ok(())
+}
+
+#[test]
+fn what_is_no_numeral_is_not_read(rt: HostRuntime) -> Result<(), Fail> {
+    let slash = ChunkKeySeparator::Slash;
+    let texts = [
+        "", "01", "00", "1/", "/1", "1.2", "1//2", "+1", "-1", " 1", "1a", "18446744073709551616",
+        "28446744073709551615", "100000000000000000000",
+    ];
+    for text in texts {
+        let read = read_numbers(rt.alloc(), slash, 1, text.as_bytes())?;
+        assert!(rt; read.is_none(), "{text}");
+    }
+    let read = read_numbers(rt.alloc(), slash, usize::MAX, b"1")?;
+    assert!(rt; read.is_none());
     Ok(())
 }

@@ -1,5 +1,7 @@
 pub mod KeyEnds
 pub mod KeysByName
 pub mod Keys
+pub mod NumeralDigits
 pub mod NumeralLemmas
+pub mod NumeralParts
 mod OneKey

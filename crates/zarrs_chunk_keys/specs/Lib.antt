@@ -1,4 +1,5 @@
 pub mod ChunkKey
+pub mod Decoded
 pub mod KeyKinds
 pub mod Numeral
 pub mod lemmas

@@ -18,6 +18,7 @@
 //! | `chunk_key_encoding::named` | an encoding of any of these kinds, by its extension's name |
 //! | `chunk_key_suffix_error` | a text that is no suffix |
 //! | `numerals` | numbers as decimal text |
+//! | `read_numerals` | numbers that are read from decimal text |
 //! | `laws` | what holds of the encodings |
 #![tactic(auto)]
 
@@ -25,6 +26,7 @@ mod chunk_key_encoding;
 mod chunk_key_suffix_error;
 pub mod laws;
 mod numerals;
+mod read_numerals;
 
 pub use chunk_key_encoding::ChunkKeyEncodingTraits;
 pub use chunk_key_encoding::default::DefaultChunkKeyEncoding;
@@ -34,3 +36,4 @@ pub use chunk_key_encoding::of_kind::EncodingOfKind;
 pub use chunk_key_encoding::v2::V2ChunkKeyEncoding;
 pub use chunk_key_suffix_error::ChunkKeySuffixError;
 pub use numerals::append_numerals;
+pub use read_numerals::read_numbers;

@@ -10,7 +10,7 @@ use Rattle.zarrs_chunk_keys.specs.lemmas.Numerals.{numeral_is_high, same_number}
 use Rattle.zarrs_chunk_keys.specs.lemmas.Parts.{not_alone, same_front, same_parts}
 
 -- a separator is no digit
-low : (separator : ChunkKeySeparator) → separator_byte separator < 48
+pub low : (separator : ChunkKeySeparator) → separator_byte separator < 48
 low Slash = omega arith
 low Dot = omega arith
 

@@ -18,7 +18,7 @@ numeral_is_high n text (more_digits {n = m} {d = d} {front = front} before posit
     rw is (high_pushed front (digit d) (numeral_is_high m front before) (omega arith))
 
 -- the number that digits stand for, after those that stand for n
-abbrev read_from : ℕ → List ℕ → ℕ
+abbrev pub read_from : ℕ → List ℕ → ℕ
 read_from n [] = n
 read_from n (c ∷ text) = read_from (10 * n + (c - 48)) text
 
@@ -26,7 +26,7 @@ read_pushed : (n : ℕ) (front : List ℕ) (c : ℕ) → read_from n (front ++ c
 read_pushed n [] c = refl
 read_pushed n (x ∷ front) c = read_pushed (10 * n + (x - 48)) front c
 
-reads_back : (n : ℕ) (text : List ℕ) → IsNumeral n text → read_from 0 text ≡ n
+pub reads_back : (n : ℕ) (text : List ℕ) → IsNumeral n text → read_from 0 text ≡ n
 reads_back n text (one_digit small is) = ap (read_from 0) is ∙ omega arith
 reads_back n text (more_digits {n = m} {d = d} {front = front} before positive small value is) =
     let rest = reads_back m front before in

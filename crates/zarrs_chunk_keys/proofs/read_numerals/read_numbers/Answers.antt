@@ -1,0 +1,94 @@
+use Rattle.std.proofs.Common.{◌∙◌, [], ap, eqb, get_or, length, subst, sym, take, rules, arith}
+use Rattle.std.proofs.lemmas.Iterator.Consumers.{YieldsList-at, YieldsList-end, YieldsList-turn}
+use Rattle.std.proofs.lemmas.Iterator.Splits.{YieldsList-from_slice_split}
+use Rattle.std.proofs.lemmas.List.{length_push, length-take-le, take_all, take_more}
+use Rattle.std.proofs.lemmas.Slice.Zip.{AllZip-long}
+use Rattle.std.specs.List.{AllZip}
+use borrow.Author.Tests.{tests}
+use Rattle.zarrs_chunk_base.specs.ChunkKeySeparator.{separator_byte}
+use Rattle.zarrs_chunk_keys.specs.Numeral.{IsNumeral}
+use Rattle.zarrs_chunk_keys.specs.lemmas.ExactKeys.{low}
+use Rattle.zarrs_chunk_keys.proofs.NumeralParts.{is_part, no_numbers, numerals_of_parts, parts_at, parts_of_numerals, pushed}
+use Rattle.zarrs_chunk_keys.proofs.read_numerals.read_numbers.Goals as goal
+
+pub returns-then-count_parts-count : goal.returns-then-count_parts-count
+returns-then-count_parts-count c = λ numbers fit lengths are.
+    let text = c.args.text.now in
+    let b = separator_byte c.args.separator in
+    let parts = parts_of_numerals b numbers text (low c.args.separator) are in
+    c.if-count_parts-count.true
+    (c.count_parts.ensures ∙ ap (λ byte. length (parts_at byte text)) c.as_char.ensures ∙ AllZip-long IsNumeral numbers (parts_at b text) parts ∙ lengths)
+
+pub loop-part-init : goal.loop-part-init
+loop-part-init c = record {
+  numerals = subst (λ numbers. AllZip IsNumeral numbers []) (sym c.in_ok-numbers.ensures.items) tt;
+  room = let exact = c.in_ok-numbers.ensures.exact in omega arith;
+}
+
+pub returns-in_default : goal.returns-in_default
+returns-in_default c =
+    let text = c.args.text.now in
+    let b = separator_byte c.args.separator in
+    let turn = YieldsList-turn (YieldsList-at c.into_iter-part-iterator.ensures.into_iter_gives
+    (YieldsList-from_slice_split _ (λ byte. eqb byte c.as_char.result) text c.split-part-items.ensures.rest c.split-part-items.ensures.done
+    c.split-part-items.ensures.closure (λ x is q k. search (rules, tests))))
+    c.loop-part.yielded _ c.loop-part.yielded_by _ _ c.in-Some.part c.in-Some.is c.next.ensures.steps
+    in
+    let at = is_part c.as_char.result b text (length c.loop-part.yielded) c.in-Some.part.now c.as_char.ensures turn in
+    λ numbers fit lengths are.
+    no_numbers (parts_at b text) (length c.loop-part.yielded) c.in-Some.part.now c.in-Some.part.now at.within at.is c.in_default.ensures numbers fit
+    (parts_of_numerals b numbers text (low c.args.separator) are)
+
+pub push_reserved-requires : goal.push_reserved-requires
+push_reserved-requires c =
+    let text = c.args.text.now in
+    let b = separator_byte c.args.separator in
+    let turn = YieldsList-turn (YieldsList-at c.into_iter-part-iterator.ensures.into_iter_gives
+    (YieldsList-from_slice_split _ (λ byte. eqb byte c.as_char.result) text c.split-part-items.ensures.rest c.split-part-items.ensures.done
+    c.split-part-items.ensures.closure (λ x is q k. search (rules, tests))))
+    c.loop-part.yielded _ c.loop-part.yielded_by _ _ c.in-Some.part c.in-Some.is c.next.ensures.steps
+    in
+    let at = is_part c.as_char.result b text (length c.loop-part.yielded) c.in-Some.part.now c.as_char.ensures turn in
+    let invariant = c.loop-part.invariant in
+    let count = c.count_parts.ensures ∙ ap (λ byte. length (parts_at byte text)) c.as_char.ensures in
+    let so_far = length-take-le (length c.loop-part.yielded) (parts_at b text) (omega arith) in
+    let numbers = AllZip-long IsNumeral c.loop-part.numbers.items (take (length c.loop-part.yielded) (parts_at b text)) invariant.numerals in
+    omega arith
+
+pub loop-part-preserved : goal.loop-part-preserved
+loop-part-preserved c =
+    let text = c.args.text.now in
+    let b = separator_byte c.args.separator in
+    let turn = YieldsList-turn (YieldsList-at c.into_iter-part-iterator.ensures.into_iter_gives
+    (YieldsList-from_slice_split _ (λ byte. eqb byte c.as_char.result) text c.split-part-items.ensures.rest c.split-part-items.ensures.done
+    c.split-part-items.ensures.closure (λ x is q k. search (rules, tests))))
+    c.loop-part.yielded _ c.loop-part.yielded_by _ _ c.in-Some.part c.in-Some.is c.next.ensures.steps
+    in
+    let at = is_part c.as_char.result b text (length c.loop-part.yielded) c.in-Some.part.now c.as_char.ensures turn in
+    let k = length c.loop-part.yielded in
+    let part = subst (IsNumeral c.in-Some-number_of.number) at.is c.in-Some-number_of.ensures in
+    let more = pushed c.loop-part.numbers.items (take k (parts_at b text)) c.in-Some-number_of.number (get_or (parts_at b text) k c.in-Some.part.now)
+    c.loop-part.invariant.numerals part
+    in
+    let parts = take_more (parts_at b text) k c.in-Some.part.now at.within in
+    record {
+      numerals = rw (length_push c.loop-part.yielded c.in-Some.part, parts, c.push_reserved.ensures.items) more;
+      room = let capacity = c.push_reserved.ensures.capacity in let room = c.loop-part.invariant.room in omega arith;
+    }
+
+pub returns : goal.returns
+returns c =
+    let text = c.args.text.now in
+    let b = separator_byte c.args.separator in
+    let end = YieldsList-end (YieldsList-at c.into_iter-part-iterator.ensures.into_iter_gives
+    (YieldsList-from_slice_split _ (λ byte. eqb byte c.as_char.result) text c.split-part-items.ensures.rest c.split-part-items.ensures.done
+    c.split-part-items.ensures.closure (λ x is q k. search (rules, tests))))
+    c.loop-part.yielded _ c.loop-part.yielded_by _ _ c.in-None.is c.next.ensures.steps
+    in
+    let all = end.1 ∙ ap (λ byte. length (parts_at byte text)) c.as_char.ensures in
+    let count = c.count_parts.ensures ∙ ap (λ byte. length (parts_at byte text)) c.as_char.ensures in
+    let numerals = subst (AllZip IsNumeral c.loop-part.numbers.items) (take_all (length c.loop-part.yielded) (parts_at b text) (omega arith))
+    c.loop-part.invariant.numerals
+    in
+    let numbers = AllZip-long IsNumeral c.loop-part.numbers.items (parts_at b text) numerals in
+    (omega arith, numerals_of_parts b c.loop-part.numbers.items text numerals)

@@ -1,0 +1,86 @@
+//! Numbers that are read from decimal text.
+ghost use Rattle.std.specs.Prelude.{◌≡◌, ◌≢◌, ◌∷◌, ◌<◌, ◌≤◌, ◌+◌, ◌*◌, ◌==◌, ℕ, IfOk, MatchOption, length};
+ghost use Rattle.std.specs.List.{slice_split};
+ghost use Rattle.zarrs_chunk_base.specs.ChunkKeySeparator.{separator_byte};
+ghost use Rattle.zarrs_chunk_base.specs.Greatest.{greatest};
+ghost use Rattle.zarrs_chunk_keys.specs.Decoded.{IsDecoded};
+ghost use Rattle.zarrs_chunk_keys.specs.Numeral.{IsNumeral, IsNumerals, digit};
+
+use std::alloc::{AllocError, Global};
+use zarrs_chunk_base::{ArrayIndices, ChunkKeySeparator};
+
+/// The numbers of which the numerals stand in a text with the separator between them: `[3, 2, 16]` of `3/2/16`. `None` where the text
+/// isn't that of so many 64-bit numbers. A numeral has no leading zero.
+///
+/// # Errors
+/// Out of memory. A text with another number of separators needs none.
+///
+/// Source: Zarr V3 core, chunk key encodings.
+pub fn read_numbers(
+    alloc: Global,
+    separator: ChunkKeySeparator,
+    count: usize,
+    text: &[u8],
+) -> Result<Option<ArrayIndices>, AllocError>
+    ensures { IfOk result (IsDecoded (λ numbers. IsNumerals (separator_byte separator) numbers
+        (separator_byte separator ∷ text.now)) count) }
+{
+    let byte = separator.as_char() as u8;
+    if count_parts(byte, text) != count {
+        return Ok(None);
+    }
+    let mut numbers = Vec::with_capacity(alloc, count)?;
+    for part in text.split(|other| *other == byte) {
+        let Some(number) = number_of(part) else {
+            return Ok(None);
+        };
+        numbers.push_reserved(number);
+    }
+    Ok(Some(numbers))
+}
+
+/// How many parts a separator cuts a text into: one at least.
+fn count_parts(separator: u8, text: &[u8]) -> usize
+    ensures { result ≡ length (slice_split (λ byte. byte == separator) text.now) }
+{
+    text.iter().filter(|byte| **byte == separator).count() + 1
+}
+
+/// The number that has this numeral; `None` where no 64-bit number has it.
+fn number_of(numeral: &[u8]) -> Option<u64>
+    ensures { MatchOption result ((n : ℕ) → n ≤ greatest → ¬ IsNumeral n numeral.now)
+        (λ n. IsNumeral n numeral.now) }
+{
+    let (first, others) = numeral.split_first()?;
+    let mut number = digit_of(*first)?;
+    // No numeral of more than one digit begins with 0.
+    if number == 0 && !others.is_empty() {
+        return None;
+    }
+    for byte in others {
+        number = with_digit(number, *byte)?;
+    }
+    Some(number)
+}
+
+/// The number of which the numeral has one more digit, this byte; `None` where the byte is no digit or the number would be
+/// past 64 bits.
+fn with_digit(number: u64, byte: u8) -> Option<u64>
+    ensures { MatchOption result
+        ((d : ℕ) → d < 10 → byte ≡ digit d → greatest < 10 * number + d)
+        (λ longer. (d : ℕ) × (d < 10) × (byte ≡ digit d) × (longer ≡ 10 * number + d)) }
+{
+    number.checked_mul(10)?.checked_add(digit_of(byte)?)
+}
+
+/// The number below ten of which this byte is the digit.
+fn digit_of(byte: u8) -> Option<u64>
+    ensures { MatchOption result ((d : ℕ) → d < 10 → byte ≢ digit d)
+        (λ d. (d < 10) × (byte ≡ digit d)) }
+{
+    if byte.is_ascii_digit() {
+        Some(u64::from(byte - b'0'))
+    } else {
+        None
+    }
+}
