@@ -121,11 +121,7 @@ fn keys_of_a_thousand_dimensions_are_written(rt: HostRuntime) -> Result<(), Fail
 }
 
 /// The numerals between slashes are those of these numbers.
-fn check_read(
-    rt: &(impl Abort + AllocGlobal),
-    text: &str,
-    numbers: &[u64],
-) -> Result<(), Fail> {
+fn check_read(rt: &(impl Abort + AllocGlobal), text: &str, numbers: &[u64]) -> Result<(), Fail> {
     let slash = ChunkKeySeparator::Slash;
     let read = read_numbers(rt.alloc(), slash, numbers.len(), text.as_bytes())?;
     assert_eq!(rt; read.ok_or("no numbers")?.as_slice(), numbers);
@@ -144,8 +140,20 @@ fn numerals_are_read(rt: HostRuntime) -> Result<(), Fail> {
 fn what_is_no_numeral_is_not_read(rt: HostRuntime) -> Result<(), Fail> {
     let slash = ChunkKeySeparator::Slash;
     let texts = [
-        "", "01", "00", "1/", "/1", "1.2", "1//2", "+1", "-1", " 1", "1a", "18446744073709551616",
-        "28446744073709551615", "100000000000000000000",
+        "",
+        "01",
+        "00",
+        "1/",
+        "/1",
+        "1.2",
+        "1//2",
+        "+1",
+        "-1",
+        " 1",
+        "1a",
+        "18446744073709551616",
+        "28446744073709551615",
+        "100000000000000000000",
     ];
     for text in texts {
         let read = read_numbers(rt.alloc(), slash, 1, text.as_bytes())?;
