@@ -1,7 +1,9 @@
 //! An encoding of one's own.
 
 use std::alloc::{AllocError, Global};
-use zarrs_chunk_base::{Configuration, MetadataV3, PluginCreateError, Refusal, StoreKey};
+use zarrs_chunk_base::{
+    ArrayIndices, Configuration, MetadataV3, PluginCreateError, Refusal, StoreKey,
+};
 use zarrs_chunk_keys::ChunkKeyEncodingTraits;
 
 /// The keys of another encoding, each with a version after it.
@@ -36,6 +38,21 @@ impl<E: ChunkKeyEncodingTraits> ChunkKeyEncodingTraits for Versioned<E> {
             Ok(key) => Ok(key),
             // Never: the text ends in a digit.
             Err(_) => Err(AllocError),
+        }
+    }
+
+    fn decode(
+        &self,
+        alloc: Global,
+        dimensionality: usize,
+        key: &StoreKey,
+    ) -> Result<Option<ArrayIndices>, AllocError> {
+        let Some(front) = key.as_str().strip_suffix(".v1") else {
+            return Ok(None);
+        };
+        match StoreKey::new(String::from_str(alloc, front)?) {
+            Ok(front) => self.0.decode(alloc, dimensionality, &front),
+            Err(_) => Ok(None),
         }
     }
 }

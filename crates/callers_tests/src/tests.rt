@@ -228,6 +228,14 @@ fn an_encoding_of_ones_own(rt: HostRuntime) -> Result<(), Fail> {
     let mut text = String::from_str(alloc, "key ")?;
     encoding.append_key(&mut text, &located.chunk)?;
     assert_eq!(rt; text.as_str(), "key c.3.2.16.v1");
+    let read = encoding.decode(alloc, 3, &located.key)?.ok_or("no key")?;
+    assert_eq!(rt; read.as_slice(), [3, 2, 16].as_slice());
+    for text in ["c.3.2.16", "c.3.2.v1", "c.3.2.16/.v1"] {
+        let Ok(key) = StoreKey::new(String::from_str(alloc, text)?) else {
+            return Err("no store key".into());
+        };
+        assert!(rt; encoding.decode(alloc, 3, &key)?.is_none(), "{text}");
+    }
     key_and_place_determine_the_index(&grid, &encoding);
     Ok(())
 }

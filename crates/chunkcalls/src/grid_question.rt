@@ -2,7 +2,7 @@
 use crate::extensions::{make_encoding, make_grid};
 use crate::line_fault::LineFault;
 use crate::located::located_tree;
-use crate::question::{numbers, required_member};
+use crate::question::{number, numbers, required_member};
 use crate::start_shape::{StartShape, box_tree, numbers_tree};
 use crate::walk_items::first_items;
 use serde_json::{Map, Value};
@@ -122,7 +122,7 @@ impl GridQuestion<'_> {
     fn answer_of_rectilinear(&self, alloc: Global) -> Result<Value, Refusal<LineFault>> {
         match self.call {
             "runs" => {
-                let dimension = self.number(alloc, "of")?;
+                let dimension = number(alloc, self.tree, "of")?;
                 let grid = self.rectilinear_grid(alloc)?;
                 let runs = usize::try_from(dimension).ok().and_then(|d| grid.runs(d));
                 Ok(runs.map_or(Value::Null, Value::from))
@@ -154,7 +154,7 @@ impl GridQuestion<'_> {
     /// The first parts of the plan of reading a box of elements of the grid's array.
     fn first_parts(&self, alloc: Global) -> Result<Value, Refusal<LineFault>> {
         let encoding = required_member(self.tree, "chunk_key_encoding")?;
-        let most = self.number(alloc, "items")?;
+        let most = number(alloc, self.tree, "items")?;
         let (elements, grid) = self.box_and_grid(alloc)?;
         let encoding = make_encoding(alloc, encoding)?;
         match parts(alloc, &grid, &encoding, &elements) {
@@ -200,13 +200,7 @@ impl GridQuestion<'_> {
 
     /// How many items of a walk are given at most, and the grid.
     fn items_and_grid(&self, alloc: Global) -> Result<(u64, ChunkGrid), Refusal<LineFault>> {
-        Ok((self.number(alloc, "items")?, self.grid(alloc)?))
-    }
-
-    /// A member that is a number.
-    fn number(&self, alloc: Global, field: &'static str) -> Result<u64, Refusal<LineFault>> {
-        let number = u64::from_tree(alloc, required_member(self.tree, field)?)?;
-        number.ok_or(Refusal::Refused(LineFault::WrongValue(field)))
+        Ok((number(alloc, self.tree, "items")?, self.grid(alloc)?))
     }
 }
 

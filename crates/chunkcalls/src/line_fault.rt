@@ -2,6 +2,7 @@
 use thiserror::Error;
 use zarrs_chunk_base::{
     ArraySubsetError, IncompatibleDimensionalityError, MetadataError, PluginCreateError,
+    StoreKeyError,
 };
 
 /// Why a line has no answer: it can't be read, or the library refuses.
@@ -31,6 +32,9 @@ pub(crate) enum LineFault {
     /// The box that the call is asked of can't be made.
     #[error("refused: {0}")]
     Box(ArraySubsetError),
+    /// The text that the call is asked of is no store key.
+    #[error("refused: {0}")]
+    Key(StoreKeyError),
     /// What the call is asked of has another number of dimensions than the grid.
     #[error("refused: {0}")]
     Lengths(IncompatibleDimensionalityError),

@@ -4,20 +4,21 @@ use crate::grid_question::GridQuestion;
 use crate::line_fault::LineFault;
 use serde_json::Value;
 use std::alloc::Global;
-use zarrs_chunk_base::{Refusal, TreeForm};
+use zarrs_chunk_base::{Refusal, StoreKey, TreeForm};
 use zarrs_chunk_keys::ChunkKeyEncodingTraits;
 
 /// The tree of the answer to a line's tree. What else the tree has says nothing.
 ///
 /// # Errors
-/// The tree is no object; or, where the call is `encode`, a fault of [`key_of_chunk`], and else one of [`ask_grid`]. Or out of
-/// memory.
+/// The tree is no object; or, where the call is `encode` or `decode`, a fault of [`key_of_chunk`] or [`chunk_of_key`], and else one
+/// of [`ask_grid`]. Or out of memory.
 pub(crate) fn answer_question(alloc: Global, tree: &Value) -> Result<Value, Refusal<LineFault>> {
     if !tree.is_object() {
         return Err(Refusal::Refused(LineFault::NotObject));
     }
     match tree.get("call").and_then(|call| call.as_str()) {
         Some("encode") => key_of_chunk(alloc, tree),
+        Some("decode") => chunk_of_key(alloc, tree),
         _ => ask_grid(alloc, tree),
     }
 }
@@ -33,6 +34,28 @@ fn key_of_chunk(alloc: Global, tree: &Value) -> Result<Value, Refusal<LineFault>
     let encoding = make_encoding(alloc, chunk_key_encoding)?;
     let key = encoding.encode(alloc, &chunk)?;
     Ok(Value::try_from_str(alloc, key.as_str())?)
+}
+
+/// The chunk of so many numbers of which a text is the key in a chunk key encoding, or `null`.
+///
+/// # Errors
+/// The first that applies: `chunk_key_encoding` is missing; `of` is missing or no text; `dimensionality` is missing or no size; the
+/// encoding can't be made; the text is no store key. Or out of memory.
+fn chunk_of_key(alloc: Global, tree: &Value) -> Result<Value, Refusal<LineFault>> {
+    let chunk_key_encoding = required_member(tree, "chunk_key_encoding")?;
+    let Some(text) = String::from_tree(alloc, required_member(tree, "of")?)? else {
+        return Err(Refusal::Refused(LineFault::WrongValue("of")));
+    };
+    let dimensionality = number(alloc, tree, "dimensionality")? as usize;
+    let encoding = make_encoding(alloc, chunk_key_encoding)?;
+    let key = match StoreKey::new(text) {
+        Ok(key) => key,
+        Err(error) => return Err(Refusal::Refused(LineFault::Key(error))),
+    };
+    match encoding.decode(alloc, dimensionality, &key)? {
+        Some(chunk) => Ok(chunk.to_tree(alloc)?),
+        None => Ok(Value::Null),
+    }
 }
 
 /// What a call of a chunk grid answers.
@@ -72,4 +95,14 @@ pub(crate) fn required_member<'t>(
 pub(crate) fn numbers(alloc: Global, tree: &Value) -> Result<Vec<u64>, Refusal<LineFault>> {
     let numbers = Vec::from_tree(alloc, required_member(tree, "of")?)?;
     numbers.ok_or(Refusal::Refused(LineFault::WrongValue("of")))
+}
+
+/// A member that is a number.
+pub(crate) fn number(
+    alloc: Global,
+    tree: &Value,
+    field: &'static str,
+) -> Result<u64, Refusal<LineFault>> {
+    let number = u64::from_tree(alloc, required_member(tree, field)?)?;
+    number.ok_or(Refusal::Refused(LineFault::WrongValue(field)))
 }

@@ -1,30 +1,53 @@
 -- The lines so far, and what they leave to say of the indices that are left.
-use Rattle.std.proofs.Common.{◌≡◌, ◌≢◌, ℕ, suc, ◌+◌, List, [], ◌∷◌, ◌++◌, length, refl, sym, ap, ◌∙◌, subst, append_assoc, append-nil, arith}
+use Rattle.std.proofs.Common.{◌≡◌, ◌≢◌, ℕ, suc, ◌+◌, List, [], ◌∷◌, ◌++◌, length, map, String, Global, string_bytes, refl, sym, ap, ◌∙◌, subst, append_assoc, append-nil, arith}
 use Rattle.std.specs.List.{AllByRecursion}
 use Rattle.zarrs_chunk_base.specs.declared.incompatible_dimensionality_error.IncompatibleDimensionalityError.{IncompatibleDimensionalityError}
 use Rattle.serde_json.specs.declared.value.Value.{Value}
 use Rattle.chunkwhere.specs.Answer.{HasLengthOf, IsFirstWrongLength}
 use Rattle.chunkwhere.specs.Document.{lists_in}
 use Rattle.zarrs_chunk_base.specs.Dimension.{Dimension}
-use Rattle.chunkwhere.specs.Output.{IsLine, IsOutput}
+use Rattle.chunkwhere.specs.Output.{AreLines, IsLine}
 use Rattle.zarrs_chunk_base.specs.Refusal.{TellsLengths}
 
 pub none_left : (trees : List Value) → length trees ≡ 0 → lists_in trees ≡ []
 none_left [] none = refl
 none_left (t ∷ trees) none = absurd (omega arith)
 
+pub no_texts : (texts : List (String Global)) → length texts ≡ 0 → map string_bytes texts ≡ []
+no_texts [] none = refl
+no_texts (text ∷ texts) none = absurd (omega arith)
+
+-- the text has the lines of all lists before the rest: the lines of the rest, behind the text, are the lines of all
+pub record HasLines (IsOne : List ℕ → List ℕ → Type 0) (all rest : List (List ℕ)) (text : List ℕ) : Type 0 where
+  pub followed : (more : List ℕ) → AreLines IsOne rest more → AreLines IsOne all (text ++ more)
+
+module _ (IsOne : List ℕ → List ℕ → Type 0) (all : List (List ℕ)) where
+  pub lines_at_start : (text : List ℕ) → text ≡ [] → HasLines IsOne all all text
+  lines_at_start text empty = record { followed = λ more h. rw empty h }
+
+  pub lines_with_one : (rest : List (List ℕ)) (text x line : List ℕ) (rest_after : List (List ℕ)) (text_after : List ℕ) → HasLines IsOne all rest text
+      → rest ≡ x ∷ rest_after → IsOne x line → text_after ≡ text ++ line → HasLines IsOne all rest_after text_after
+  lines_with_one rest text x line rest_after text_after so_far first is_line longer = record {
+    followed = λ more h.
+        let said = so_far.followed (line ++ more) (subst (λ r. AreLines IsOne r (line ++ more)) (sym first) (line, more, is_line, h, refl)) in
+        subst (AreLines IsOne all) (sym (append_assoc text line more) ∙ ap (λ t. t ++ more) (sym longer)) said;
+  }
+
+  pub lines_at_end : (rest : List (List ℕ)) (text : List ℕ) → HasLines IsOne all rest text → rest ≡ [] → AreLines IsOne all text
+  lines_at_end rest text so_far empty = subst (AreLines IsOne all) (append-nil text) (so_far.followed [] (subst (λ r. AreLines IsOne r []) (sym empty) refl))
+
 -- The text has the lines of all indices before the rest, which begins at the position: what holds of the
 -- rest holds, after the text, of all.
 pub record IsSoFar (ds : List Dimension) (IsKey : List ℕ → List ℕ → Type 0) (all rest : List (List ℕ)) (position : ℕ) (text : List ℕ) : Type 0 where
   pub lengths : AllByRecursion (HasLengthOf ds) rest → AllByRecursion (HasLengthOf ds) all
-  pub output : (more : List ℕ) → IsOutput ds IsKey rest more → IsOutput ds IsKey all (text ++ more)
+  pub lines : HasLines (IsLine ds IsKey) all rest text
   pub wrong : (n : ℕ) (e : IncompatibleDimensionalityError) → IsFirstWrongLength ds rest n e → IsFirstWrongLength ds all (position + n) e
 
 module _ (ds : List Dimension) (IsKey : List ℕ → List ℕ → Type 0) (all : List (List ℕ)) where
   pub so_far_at_start : (text : List ℕ) → text ≡ [] → IsSoFar ds IsKey all all 0 text
   so_far_at_start text empty = record {
     lengths = λ h. h;
-    output = λ more h. rw empty h;
+    lines = lines_at_start (IsLine ds IsKey) all text empty;
     wrong = λ n e h. let same : 0 + n ≡ n = omega arith in rw same h;
   }
 
@@ -33,9 +56,7 @@ module _ (ds : List Dimension) (IsKey : List ℕ → List ℕ → Type 0) (all :
       → text_after ≡ text ++ line → IsSoFar ds IsKey all rest_after (position + 1) text_after
   so_far_with_line rest position text index line rest_after text_after so_far first has_length is_line longer = record {
     lengths = λ h. so_far.lengths (subst (AllByRecursion (HasLengthOf ds)) (sym first) (has_length, h));
-    output = λ more h.
-        let said = so_far.output (line ++ more) (subst (λ r. IsOutput ds IsKey r (line ++ more)) (sym first) (line, more, is_line, h, refl)) in
-        subst (IsOutput ds IsKey all) (sym (append_assoc text line more) ∙ ap (λ t. t ++ more) (sym longer)) said;
+    lines = lines_with_one (IsLine ds IsKey) all rest text index line rest_after text_after so_far.lines first is_line longer;
     wrong = λ n e h.
         let said = so_far.wrong (suc n) e (subst (λ r. IsFirstWrongLength ds r (suc n) e) (sym first) (has_length, h)) in
         let same : position + suc n ≡ position + 1 + n = omega arith in
@@ -51,8 +72,8 @@ module _ (ds : List Dimension) (IsKey : List ℕ → List ℕ → Type 0) (all :
       subst (λ p. IsFirstWrongLength ds all p e) same said
 
   pub so_far_at_end : (rest : List (List ℕ)) (position : ℕ) (text : List ℕ) → IsSoFar ds IsKey all rest position text → rest ≡ []
-      → AllByRecursion (HasLengthOf ds) all × IsOutput ds IsKey all text
+      → AllByRecursion (HasLengthOf ds) all × AreLines (IsLine ds IsKey) all text
   so_far_at_end rest position text so_far empty = (
     so_far.lengths (subst (AllByRecursion (HasLengthOf ds)) (sym empty) tt),
-    subst (IsOutput ds IsKey all) (append-nil text) (so_far.output [] (subst (λ r. IsOutput ds IsKey r []) (sym empty) refl)),
+    lines_at_end (IsLine ds IsKey) all rest text so_far.lines empty,
   )

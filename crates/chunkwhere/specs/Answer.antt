@@ -39,7 +39,7 @@ pub record IsAnswer (document : Document) (text : List ℕ) : Type 0 where
   pub encoding : Encoding
   pub parts : HasParts document grid encoding
   pub lengths : AllByRecursion (HasLengthOf grid.dimensions) document.indices
-  pub output : IsOutput grid.dimensions (IsKey encoding) document.indices text
+  pub output : IsOutput grid.dimensions (IsKey encoding) document.indices document.keys text
 
 -- The first fault of a document that has no answer: the grid, the encoding, or the first index with a wrong length.
 abbrev pub IsAnswerFault : Document → RunFault → Type 0

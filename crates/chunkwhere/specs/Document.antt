@@ -1,9 +1,9 @@
 -- The program's document: a JSON object with the members `shape`, `chunk_grid`, `chunk_key_encoding`
--- and `indices`; what else it has says nothing.
-use Rattle.std.specs.Prelude.{◌≡◌, ◌⊎◌, ℕ, List, [], ◌∷◌, map, Contains, IsSome, Option, Some, None, option_and_then, unwrap_or, IsUtf8, codes}
+-- and `indices`, and where it has one, `keys`; what else it has says nothing.
+use Rattle.std.specs.Prelude.{◌≡◌, ◌⊎◌, ℕ, List, [], ◌∷◌, map, Contains, IsSome, Option, Some, None, option_and_then, unwrap_or, IsUtf8, codes, string_bytes}
 use Rattle.serde_json.specs.Data.{Data}
 use Rattle.serde_json.specs.Read.{read}
-use Rattle.serde_json.specs.Find.{get, as_object}
+use Rattle.serde_json.specs.Find.{get, as_object, as_str}
 use Rattle.serde_json.specs.View.{view}
 use Rattle.serde_json.specs.declared.value.Value.{Value}
 use Rattle.chunkwhere.specs.declared.document.Document.{Document as DocumentValue}
@@ -24,6 +24,7 @@ pub record Document : Type 0 where
   pub chunk_grid : Extension
   pub chunk_key_encoding : Extension
   pub indices : List (List ℕ)
+  pub keys : List (List ℕ)
 
 -- the sizes that a tree is a list of; the empty list where it is none
 abbrev pub sizes_in : Value → List ℕ
@@ -40,6 +41,7 @@ document_of d = record {
   chunk_grid = extension_of d.chunk_grid;
   chunk_key_encoding = extension_of d.chunk_key_encoding;
   indices = lists_in d.indices.items;
+  keys = map string_bytes d.keys.items;
 }
 
 -- `shape`: a list of sizes
@@ -49,6 +51,15 @@ shape_in d = option_and_then (list_of size_of) (get (codes "shape") d)
 -- `indices`: a list of lists of sizes
 abbrev pub indices_in : Data → Option (List (List ℕ))
 indices_in d = option_and_then (list_of (list_of size_of)) (get (codes "indices") d)
+
+-- the texts of a member; none where it is absent
+abbrev pub texts_of : Option Data → Option (List (List ℕ))
+texts_of None = Some []
+texts_of (Some texts) = list_of as_str texts
+
+-- `keys`: a list of texts, which may be absent
+abbrev pub keys_in : Data → Option (List (List ℕ))
+keys_in d = texts_of (get (codes "keys") d)
 
 -- the member is an extension's metadata
 abbrev pub HasExtension : Data → List ℕ → Extension → Type 0
@@ -67,6 +78,7 @@ pub record IsDocument (d : Data) (document : Document) : Type 0 where
   pub chunk_grid : HasExtension d (codes "chunk_grid") document.chunk_grid
   pub chunk_key_encoding : HasExtension d (codes "chunk_key_encoding") document.chunk_key_encoding
   pub indices : indices_in d ≡ Some document.indices
+  pub keys : keys_in d ≡ Some document.keys
 
 -- the members that have to be there, in the order in which a missing one is reported
 abbrev pub document_members : List (List ℕ)
@@ -87,7 +99,7 @@ IsExtensionFault value name (Metadata field fault) = (field.now ≡ name) × IsM
 IsExtensionFault _ _ _ = ⊥
 
 -- The first fault of a tree that is no document: it is no object; a member is missing; a member isn't
--- of its form, of `shape`, `chunk_grid`, `chunk_key_encoding` and `indices` the first.
+-- of its form, of `shape`, `chunk_grid`, `chunk_key_encoding`, `indices` and `keys` the first.
 abbrev pub IsFormFault : Data → RunFault → Type 0
 IsFormFault d NotObject = as_object d ≡ None
 IsFormFault d (Missing field) = IsSome (as_object d) × IsFirst (λ name. get name d ≡ None) document_members field.now
@@ -95,7 +107,9 @@ IsFormFault d (WrongValue field) =
     HasMembers d
     × (((field.now ≡ codes "shape") × (shape_in d ≡ None))
     ⊎ ((field.now ≡ codes "indices") × IsSome (shape_in d) × HasSomeExtension d (codes "chunk_grid")
-    × HasSomeExtension d (codes "chunk_key_encoding") × (indices_in d ≡ None)))
+    × HasSomeExtension d (codes "chunk_key_encoding") × (indices_in d ≡ None))
+    ⊎ ((field.now ≡ codes "keys") × IsSome (shape_in d) × HasSomeExtension d (codes "chunk_grid")
+    × HasSomeExtension d (codes "chunk_key_encoding") × IsSome (indices_in d) × (keys_in d ≡ None)))
 IsFormFault d (Metadata field fault) =
     HasMembers d × IsSome (shape_in d)
     × (((field.now ≡ codes "chunk_grid") × HasMetadataFault d (codes "chunk_grid") fault)

@@ -1,10 +1,10 @@
 //! The text that answers a document.
-ghost use Rattle.std.specs.Prelude.{◌≡◌, ◌≢◌, ℕ, List, ◌++◌, codes, length, MatchResult, OnOk, string_bytes};
+ghost use Rattle.std.specs.Prelude.{◌≡◌, ◌≢◌, ℕ, List, ◌++◌, codes, length, map, IfOk, MatchOption, MatchResult, OnOk, string_bytes};
 ghost use Rattle.std.specs.List.{AllByRecursion};
 ghost use Rattle.chunkwhere.specs.Answer.{HasLengthOf, IsAnswer, IsAnswerFault, IsIndexFault};
 ghost use Rattle.chunkwhere.specs.Document.{document_of, lists_in};
 ghost use Rattle.zarrs_chunk_keys.specs.Numeral.{IsNumerals};
-ghost use Rattle.chunkwhere.specs.Output.{IsLine, IsOutput};
+ghost use Rattle.chunkwhere.specs.Output.{AreLines, IsKeyLine, IsKeyOf, IsLine};
 ghost use Rattle.zarrs_chunk_base.specs.Refusal.{IfRefused, TellsLengths};
 ghost use Rattle.chunkwhere.specs.RunFault.{OrMemory};
 
@@ -12,8 +12,10 @@ use crate::document::Document;
 use crate::run_fault::RunFault;
 use serde_json::Value;
 use std::alloc::{AllocError, Global};
-use zarrs_chunk_base::{IncompatibleDimensionalityError, Refusal, read_list};
-use zarrs_chunk_keys::{ChunkKeyEncoding, ChunkKeyEncodingTraits, append_numerals};
+use zarrs_chunk_base::{
+    ArrayIndices, IncompatibleDimensionalityError, Refusal, StoreKey, read_list,
+};
+use zarrs_chunk_keys::{ChunkKeyEncoding, ChunkKeyEncodingTraits, append_joined, append_numerals};
 use zarrs_chunks::{ChunkGrid, ChunkGridTraits, Home};
 
 /// The whole text that answers a document, or the first fault.
@@ -25,7 +27,15 @@ pub(crate) fn answer(alloc: Global, document: Document) -> Result<String, RunFau
     let grid = grid.map_err(|refusal| refusal.map(RunFault::Grid))?;
     let encoding = ChunkKeyEncoding::from_metadata(alloc, &document.chunk_key_encoding);
     let encoding = encoding.map_err(|refusal| refusal.map(RunFault::Encoding))?;
-    lines(alloc, &grid, &encoding, document.indices)
+    let mut text = lines(alloc, &grid, &encoding, document.indices)?;
+    append_key_lines(
+        alloc,
+        &mut text,
+        &encoding,
+        grid.dimensionality(),
+        document.keys,
+    )?;
+    Ok(text)
 }
 
 /// A line for each index list, which is given back once it is read.
@@ -37,8 +47,8 @@ fn lines<G: ChunkGridTraits, E: ChunkKeyEncodingTraits>(
 ) -> Result<String, RunFault>
     ensures { MatchResult result
         (λ text. AllByRecursion (HasLengthOf (G.dimensions grid.now)) (lists_in indices.items)
-        × IsOutput (G.dimensions grid.now) (E.is_key encoding.now) (lists_in indices.items)
-        (string_bytes text))
+        × AreLines (IsLine (G.dimensions grid.now) (E.is_key encoding.now))
+        (lists_in indices.items) (string_bytes text))
         (OrMemory (IsIndexFault (G.dimensions grid.now) (lists_in indices.items))) }
 {
     let mut text = String::new(alloc);
@@ -94,4 +104,60 @@ fn append_key_and_place<E: ChunkKeyEncodingTraits>(
     append_numerals(text, ' ', &home.element)?;
     text.push_str("\n")?;
     Ok(())
+}
+
+/// Appends a line for each key: the numbers of its chunk, or `-` where it is the key of no chunk with so many numbers.
+fn append_key_lines<E: ChunkKeyEncodingTraits>(
+    alloc: Global,
+    text: &mut String,
+    encoding: &E,
+    dimensionality: usize,
+    keys: Vec<String>,
+) -> Result<(), AllocError>
+    ensures { OnOk result ((lines : List ℕ)
+        × AreLines (IsKeyLine dimensionality (E.is_key encoding.now))
+        (map string_bytes keys.items) lines
+        × (string_bytes text.new ≡ string_bytes text.old ++ lines)) }
+{
+    for key in keys {
+        append_key_line(alloc, text, encoding, dimensionality, key)?;
+    }
+    Ok(())
+}
+
+/// Appends the line of a key.
+fn append_key_line<E: ChunkKeyEncodingTraits>(
+    alloc: Global,
+    text: &mut String,
+    encoding: &E,
+    dimensionality: usize,
+    key: String,
+) -> Result<(), AllocError>
+    ensures { OnOk result ((line : List ℕ)
+        × IsKeyLine dimensionality (E.is_key encoding.now) (string_bytes key) line
+        × (string_bytes text.new ≡ string_bytes text.old ++ line)) }
+{
+    match chunk_of_key(alloc, encoding, dimensionality, key)? {
+        Some(chunk) => append_joined(text, ' ', &chunk)?,
+        None => text.push_str("-")?,
+    }
+    text.push_str("\n")?;
+    Ok(())
+}
+
+/// The chunk of so many numbers of which a text is the key. A text that is no store key is that of none.
+fn chunk_of_key<E: ChunkKeyEncodingTraits>(
+    alloc: Global,
+    encoding: &E,
+    dimensionality: usize,
+    key: String,
+) -> Result<Option<ArrayIndices>, AllocError>
+    ensures { IfOk result (λ found. MatchOption found
+        ((chunk : List ℕ) → ¬ IsKeyOf (E.is_key encoding.now) dimensionality (string_bytes key) chunk)
+        (λ chunk. IsKeyOf (E.is_key encoding.now) dimensionality (string_bytes key) chunk.items)) }
+{
+    match StoreKey::new(key) {
+        Ok(key) => encoding.decode(alloc, dimensionality, &key),
+        Err(_) => Ok(None),
+    }
 }

@@ -1,9 +1,9 @@
 //! The program's document.
-ghost use Rattle.std.specs.Prelude.{◌≡◌, IfOk, MatchResult, Some, option_map};
+ghost use Rattle.std.specs.Prelude.{◌≡◌, IfOk, MatchResult, Some, map, option_map, string_bytes};
 ghost use Rattle.serde_json.specs.Data.{Data};
 ghost use Rattle.serde_json.specs.Find.{get};
 ghost use Rattle.serde_json.specs.View.{view};
-ghost use Rattle.chunkwhere.specs.Document.{document_of, indices_in, lists_in, IsTreeOf, IsDocument, IsMissingFault, IsExtensionFault, IsFormFault, IsInputFault};
+ghost use Rattle.chunkwhere.specs.Document.{document_of, indices_in, keys_in, lists_in, IsTreeOf, IsDocument, IsMissingFault, IsExtensionFault, IsFormFault, IsInputFault};
 ghost use Rattle.zarrs_chunk_base.specs.Metadata.{extension_of, IsExtension};
 ghost use Rattle.chunkwhere.specs.RunFault.{OrMemory};
 
@@ -12,7 +12,7 @@ use serde_json::Value;
 use std::alloc::{AllocError, Global};
 use zarrs_chunk_base::{MetadataV3, TreeForm, read_list};
 
-/// An array's metadata, and the indices of the elements to look up.
+/// An array's metadata, the indices of the elements to look up, and the keys to read back.
 #[derive(Drop)]
 pub(crate) struct Document {
     pub(crate) shape: Vec<u64>,
@@ -20,6 +20,8 @@ pub(crate) struct Document {
     pub(crate) chunk_key_encoding: MetadataV3,
     /// The index lists, as they stand in the tree of the document.
     pub(crate) indices: Vec<Value>,
+    /// The texts that may be keys of chunks.
+    pub(crate) keys: Vec<String>,
 }
 
 /// The document that an input is the text of, or the first fault.
@@ -53,15 +55,31 @@ fn document_from(alloc: Global, tree: Value) -> Result<Document, RunFault>
     };
     let chunk_grid = member_metadata(alloc, chunk_grid, "chunk_grid")?;
     let chunk_key_encoding = member_metadata(alloc, chunk_key_encoding, "chunk_key_encoding")?;
+    let keys = read_keys(alloc, &tree)?;
     let Some(indices) = take_indices(alloc, tree)? else {
         return Err(RunFault::WrongValue("indices"));
+    };
+    let Some(keys) = keys else {
+        return Err(RunFault::WrongValue("keys"));
     };
     Ok(Document {
         shape,
         chunk_grid,
         chunk_key_encoding,
         indices,
+        keys,
     })
+}
+
+/// The keys of a document's tree, which may have none; `None` where they aren't texts.
+fn read_keys(alloc: Global, tree: &Value) -> Result<Option<Vec<String>>, AllocError>
+    ensures { IfOk result (λ o. option_map (λ keys. map string_bytes keys.items) o
+        ≡ keys_in (view tree.now)) }
+{
+    match tree.get("keys") {
+        Some(keys) => Vec::from_tree(alloc, keys),
+        None => Ok(Some(Vec::new(alloc))),
+    }
 }
 
 /// The index lists of a document's tree; `None` where they aren't lists of sizes.

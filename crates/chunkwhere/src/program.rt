@@ -40,12 +40,13 @@ pub fn run_to_status<R: Read, W: Write, E: Write>(
 
 /// Reads a document to its end and writes where the elements of its `indices` are stored: a line
 /// for each, in order, with the key of the chunk and the place in the chunk, or `-` where no chunk
-/// holds the element. Nothing is written before the whole text stands.
+/// holds the element. Behind them stands a line for each of its `keys`, if it has any: the numbers of
+/// the chunk of which it is the key, or `-`. Nothing is written before the whole text stands.
 ///
 /// # Errors
 /// The first fault; or out of memory. A failed read comes first, then a text that is no JSON, then
 /// a document that isn't of its form (all members have to be there before the form of one is looked
-/// at, in the order `shape`, `chunk_grid`, `chunk_key_encoding`, `indices`), then a grid or an
+/// at, in the order `shape`, `chunk_grid`, `chunk_key_encoding`, `indices`, `keys`), then a grid or an
 /// encoding that can't be made, then an index list of a wrong length, then a failed write.
 pub fn run<R: Read, W: Write>(
     alloc: Global,

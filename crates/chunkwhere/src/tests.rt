@@ -145,6 +145,27 @@ fn documents_are_answered(rt: HostRuntime) -> Result<(), Fail> {
             "[[18446744073709551615]]",
             "c/9223372036854775807 1\n",
         ),
+        (
+            SHAPE,
+            REGULAR,
+            DEFAULT,
+            r#"[[3,5,50]],"keys":["c/3/2/16","c/3/2","c/03/2/16","c/"]"#,
+            "c/3/2/16 0 1 2\n3 2 16\n-\n-\n-\n",
+        ),
+        (
+            "[]",
+            NO_DIMENSIONS,
+            r#""default""#,
+            r#"[[]],"keys":["c","c/1"]"#,
+            "c\n\n-\n",
+        ),
+        (
+            "[6,6]",
+            RECTILINEAR,
+            SUFFIXED,
+            r#"[],"keys":["c.1.18446744073709551615.tiff","c.1.1",""]"#,
+            "1 18446744073709551615\n-\n-\n",
+        ),
     ];
     for (shape, grid, encoding, indices, output) in rows {
         let input = document(rt.alloc(), shape, grid, encoding, indices)?;
@@ -237,6 +258,14 @@ fn members_are_refused(rt: HostRuntime) -> Result<(), Fail> {
         (
             (SHAPE, REGULAR, DEFAULT, r#"[[3,5,"50"]]"#),
             "wrong value in field `indices`",
+        ),
+        (
+            (SHAPE, r#""hexagonal""#, DEFAULT, r#"5,"keys":5"#),
+            "wrong value in field `indices`",
+        ),
+        (
+            (SHAPE, r#""hexagonal""#, DEFAULT, r#"[],"keys":["c",5]"#),
+            "wrong value in field `keys`",
         ),
         (grid("5"), "field `chunk_grid`: not an extension"),
         (

@@ -1,11 +1,16 @@
 -- What lists of starts and sizes have to do with their ends and with an index, dimension by dimension.
-use Rattle.std.proofs.Common.{◌≡◌, ℕ, zero, suc, ◌+◌, ◌-◌, ◌^◌, ◌<◌, ◌≤◌, min, Bool, true, false, IsTrue, ◌↔◌, Option, Some, None, MatchOption, List, [], ◌∷◌, ◌++◌, length, map, zip, replicate, refl, sym, ap, arith, true≢false}
+use Rattle.std.proofs.Common.{◌≡◌, ℕ, zero, suc, ◌+◌, ◌-◌, ◌^◌, ◌<◌, ◌≤◌, min, Bool, true, false, IsTrue, ◌↔◌, Option, Some, None, MatchOption, List, [], ◌∷◌, ◌++◌, length, map, zip, replicate, get_or, refl, sym, ap, arith, true≢false}
 use Rattle.std.specs.Bool.{MatchBool}
 use Rattle.std.specs.List.{AllWithin, HoldsAt}
 use Rattle.std.specs.Prelude.{slice_index}
 use Rattle.zarrs_chunk_base.specs.ArraySubset.{IsBox, AreWithin, ends, lasts, zero_box}
 use Rattle.zarrs_chunk_base.specs.ArraySubsetError.{IsFirstPast}
 use Rattle.zarrs_chunk_base.specs.Greatest.{greatest, AllFit}
+
+-- the numbers of a list of u64 fit
+pub fits : (xs : List ℕ) → ((k : ℕ) → get_or xs k 0 < 2 ^ 64) → AllFit xs
+fits [] each = tt
+fits (x ∷ xs) each = (let first : x < 2 ^ 64 = each 0 in omega arith, fits xs (λ k. each (suc k)))
 
 -- ---- boxes that are made
 

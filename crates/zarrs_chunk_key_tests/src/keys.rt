@@ -1,10 +1,11 @@
 //! Chunk key encodings: that each call and each law succeeds with ample memory, and keys of many dimensions.
-use std::alloc::{AllocError, Global};
+use std::alloc::Global;
 use std::process::Abort;
 use std::test::Fail;
 use zarrs_chunk_base::ChunkKeySeparator;
 use zarrs_chunk_keys::laws::{
-    a_chunk_has_one_key, a_default_key_names_one_chunk, an_encoding_is_made_again_of_its_metadata,
+    a_chunk_has_one_key, a_default_key_names_one_chunk, a_key_is_read_back,
+    an_encoding_is_made_again_of_its_metadata, keys_read_as_one_chunk_are_equal,
 };
 use zarrs_chunk_keys::{
     ChunkKeyEncoding, ChunkKeyEncodingTraits, ChunkKeySuffixError, DefaultChunkKeyEncoding,
@@ -26,12 +27,12 @@ fn suffixed(
     }
 }
 
-/// The key of a chunk is this text, and is appended as such.
+/// The key of a chunk is this text, is appended as such, and is read back.
 fn check_key(
     rt: &(impl Abort + AllocGlobal),
     encoding: &ChunkKeyEncoding,
     key: &str,
-) -> Result<(), AllocError> {
+) -> Result<(), Fail> {
     let encoded = encoding.encode(rt.alloc(), &[1, 23])?;
     assert_eq!(rt; encoded.as_str(), key);
     let mut text = String::from_str(rt.alloc(), "key ")?;
@@ -40,6 +41,16 @@ fn check_key(
         text.as_str().strip_prefix("key ") == Some(key),
         "{text} for {key}"
     );
+    let read = a_key_is_read_back(rt.alloc(), encoding, &[1, 23])?.ok_or("no chunk")?;
+    assert_eq!(rt; read.as_slice(), [1, 23].as_slice());
+    let (one, other) = keys_read_as_one_chunk_are_equal(
+        rt.alloc(),
+        encoding,
+        2,
+        &encoded,
+        &encoded,
+    )?;
+    assert!(rt; one.is_some() && one == other);
     Ok(())
 }
 
@@ -104,19 +115,24 @@ fn a_suffix_that_ends_in_a_slash_is_handed_back(rt: HostRuntime) -> Result<(), F
 }
 
 #[test]
-fn keys_of_a_thousand_dimensions_are_written(rt: HostRuntime) -> Result<(), Fail> {
-    let chunk = vec![in rt.alloc(); u64::MAX; 1000]?;
-    let encoding = suffixed(rt.alloc(), ChunkKeySeparator::Slash, ".x")?.clone()?;
-    let key = encoding.encode(rt.alloc(), &chunk)?;
-    assert_eq!(rt; key.as_str().len(), 21003);
-    let key = V2ChunkKeyEncoding::new_dot()
-        .clone()?
-        .encode(rt.alloc(), &chunk)?;
-    assert_eq!(rt; key.as_str().len(), 20999);
-    let key = DefaultChunkKeyEncoding::new_dot()
-        .clone()?
-        .encode(rt.alloc(), &chunk)?;
-    assert_eq!(rt; key.as_str().len(), 21001);
+fn keys_of_a_thousand_dimensions_are_written_and_read(rt: HostRuntime) -> Result<(), Fail> {
+    let alloc = rt.alloc();
+    let encodings: [(ChunkKeyEncoding, usize); 3] = [
+        (
+            suffixed(alloc, ChunkKeySeparator::Slash, ".x")?.into(),
+            21003,
+        ),
+        (V2ChunkKeyEncoding::new_dot().into(), 20999),
+        (DefaultChunkKeyEncoding::new_dot().into(), 21001),
+    ];
+    let chunk = vec![in alloc; u64::MAX; 1000]?;
+    for (encoding, length) in &encodings {
+        let key = encoding.encode(alloc, &chunk)?;
+        assert_eq!(rt; key.as_str().len(), *length);
+        let read = encoding.decode(alloc, 1000, &key)?.ok_or("no chunk")?;
+        assert_eq!(rt; read.as_slice(), chunk.as_slice());
+        assert!(rt; encoding.decode(alloc, 999, &key)?.is_none());
+    }
     Ok(())
 }
 

@@ -4,4 +4,5 @@ pub mod Keys
 pub mod NumeralDigits
 pub mod NumeralLemmas
 pub mod NumeralParts
-mod OneKey
+pub mod OneKey
+pub mod ReadKeys

@@ -72,6 +72,10 @@ pushed [] (other ∷ parts) n part are is = absurd are
 pushed (m ∷ numbers) [] n part are is = absurd are
 pushed (m ∷ numbers) (other ∷ parts) n part are is = (are.0, pushed numbers parts n part are.1 is)
 
+pub fit_pushed : (numbers : List ℕ) (n : ℕ) → AllFit numbers → n ≤ greatest → AllFit (numbers ++ n ∷ [])
+fit_pushed [] n fit fits = (fits, tt)
+fit_pushed (m ∷ numbers) n fit fits = (fit.0, fit_pushed numbers n fit.1 fits)
+
 -- the part that is met after so many others
 pub record IsPartAt (b : ℕ) (text : List ℕ) (k : ℕ) (part : List ℕ) : Type 0 where
   pub within : k < length (parts_at b text)

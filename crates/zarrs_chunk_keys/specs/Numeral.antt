@@ -17,3 +17,8 @@ abbrev pub IsNumerals : ℕ → List ℕ → List ℕ → Type 0
 IsNumerals before [] text = text ≡ []
 IsNumerals before (n ∷ ns) text =
     (numeral : List ℕ) × (rest : List ℕ) × IsNumeral n numeral × IsNumerals before ns rest × (text ≡ before ∷ numeral ++ rest)
+
+-- the numbers' numerals with a byte between them
+abbrev pub AreJoined : ℕ → List ℕ → List ℕ → Type 0
+AreJoined between [] text = text ≡ []
+AreJoined between (n ∷ ns) text = IsNumerals between (n ∷ ns) (between ∷ text)

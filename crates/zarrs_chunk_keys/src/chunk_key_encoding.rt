@@ -7,9 +7,12 @@ pub(crate) mod v2;
 
 ghost use Rattle.std.specs.Prelude.{◌≡◌, ◌++◌, ℕ, IfOk, List, OnOk, length, string_bytes};
 ghost use Rattle.zarrs_chunk_base.specs.Greatest.{AllFit};
+ghost use Rattle.zarrs_chunk_keys.specs.Decoded.{IsDecoded};
 
 use std::alloc::{AllocError, Global};
-use zarrs_chunk_base::{Configuration, MetadataV3, PluginCreateError, Refusal, StoreKey};
+use zarrs_chunk_base::{
+    ArrayIndices, Configuration, MetadataV3, PluginCreateError, Refusal, StoreKey,
+};
 
 /// A chunk key encoding: under which key each chunk of an array is stored.
 ///
@@ -52,6 +55,19 @@ pub trait ChunkKeyEncodingTraits: Sized + Drop {
         let key = self.encode(*text.allocator(), chunk_indices)?;
         text.push_str(key.as_str())
     }
+
+    /// The chunk of so many numbers, one a dimension, of which this is the key; `None` where it is that of no such chunk. The chunk
+    /// may lie outside of the grid.
+    ///
+    /// # Errors
+    /// Out of memory.
+    fn decode(
+        &self,
+        alloc: Global,
+        dimensionality: usize,
+        key: &StoreKey,
+    ) -> Result<Option<ArrayIndices>, AllocError>
+        ensures { IfOk result (IsDecoded (λ chunk. is_key self.now chunk key.now) dimensionality) };
 
     /// Equal keys of equally long lists of 64-bit numbers come from equal lists.
     ghost exact: { (encoding : Self) (chunk other key : List ℕ) → AllFit chunk → AllFit other

@@ -1,14 +1,15 @@
 //! What holds of the library's chunk key encodings. What every encoding has to prove, one of another crate too, is the law of
 //! [`ChunkKeyEncodingTraits`](crate::ChunkKeyEncodingTraits).
-ghost use Rattle.std.specs.Prelude.{◌≡◌, ℕ, IfErr, IfOk, List};
+ghost use Rattle.std.specs.Prelude.{◌≡◌, ℕ, IfErr, IfOk, List, Some, option_map};
 ghost use Rattle.zarrs_chunk_base.specs.declared.chunk_key_separator.ChunkKeySeparator.{ChunkKeySeparator};
 ghost use Rattle.zarrs_chunk_base.specs.Refusal.{IfRefused};
 ghost use Rattle.zarrs_chunk_keys.specs.ChunkKey.{Encoding, IsKey, default_keys, suffixed_keys};
+ghost use Rattle.zarrs_chunk_keys.specs.Decoded.{IsDecoded};
 ghost use Rattle.zarrs_chunk_keys.specs.seen.Encodings.{encoding_in};
 
-use crate::ChunkKeyEncoding;
-use std::alloc::Global;
-use zarrs_chunk_base::{PluginCreateError, Refusal};
+use crate::{ChunkKeyEncoding, ChunkKeyEncodingTraits};
+use std::alloc::{AllocError, Global};
+use zarrs_chunk_base::{ArrayIndices, PluginCreateError, Refusal, StoreKey};
 
 /// Under one separator, and one suffix where there is one, a key of the `default` encoding is that of one list of numbers, whatever its length.
 pub fn a_default_key_names_one_chunk()
@@ -25,6 +26,46 @@ pub fn a_chunk_has_one_key()
     ensures { (encoding : Encoding) (chunk key other : List ℕ) → IsKey encoding chunk key
         → IsKey encoding chunk other → key ≡ other }
 {}
+
+/// What `encode` writes of a chunk, `decode` reads as that chunk. This is so of every encoding, one of another crate too.
+///
+/// # Errors
+/// Out of memory.
+pub fn a_key_is_read_back<E: ChunkKeyEncodingTraits>(
+    alloc: Global,
+    encoding: &E,
+    chunk_indices: &[u64],
+) -> Result<Option<ArrayIndices>, AllocError>
+    ensures { IfOk result (λ read. option_map (λ chunk. chunk.items) read
+        ≡ Some chunk_indices.now) }
+{
+    let key = encoding.encode(alloc, chunk_indices)?;
+    encoding.decode(alloc, chunk_indices.len(), &key)
+}
+
+/// Two keys that are read as one chunk are equal.
+///
+/// # Errors
+/// Out of memory.
+pub fn keys_read_as_one_chunk_are_equal(
+    alloc: Global,
+    encoding: &ChunkKeyEncoding,
+    dimensionality: usize,
+    one: &StoreKey,
+    other: &StoreKey,
+) -> Result<(Option<ArrayIndices>, Option<ArrayIndices>), AllocError>
+    ensures one { IfOk result (λ read. IsDecoded
+        (λ chunk. IsKey (encoding_in encoding.now) chunk one.now) dimensionality read.0) }
+    ensures other { IfOk result (λ read. IsDecoded
+        (λ chunk. IsKey (encoding_in encoding.now) chunk other.now) dimensionality read.1) }
+    ensures equal { IfOk result (λ read. (chunk : List ℕ)
+        → option_map (λ v. v.items) read.0 ≡ Some chunk
+        → option_map (λ v. v.items) read.1 ≡ Some chunk → one.now ≡ other.now) }
+{
+    let chunk = encoding.decode(alloc, dimensionality, one)?;
+    let other_chunk = encoding.decode(alloc, dimensionality, other)?;
+    Ok((chunk, other_chunk))
+}
 
 /// An encoding is made again of its metadata.
 ///

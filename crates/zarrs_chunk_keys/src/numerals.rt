@@ -1,6 +1,6 @@
 //! Numbers as decimal text.
 ghost use Rattle.std.specs.Prelude.{◌≡◌, ◌++◌, ◌<◌, List, ℕ, OnErr, OnOk, string_bytes};
-ghost use Rattle.zarrs_chunk_keys.specs.Numeral.{IsNumeral, IsNumerals};
+ghost use Rattle.zarrs_chunk_keys.specs.Numeral.{AreJoined, IsNumeral, IsNumerals};
 
 use std::alloc::AllocError;
 
@@ -16,7 +16,7 @@ pub(crate) fn room_for(numbers: &[u64], beside: usize) -> usize {
 ///
 /// # Errors
 /// Out of memory.
-pub(crate) fn append_numeral(text: &mut String, number: u64) -> Result<(), AllocError>
+fn append_numeral(text: &mut String, number: u64) -> Result<(), AllocError>
     ensures appended { OnOk result ((numeral : List ℕ) × IsNumeral number numeral
         × (string_bytes text.new ≡ string_bytes text.old ++ numeral)) }
     ensures unchanged { OnErr result (string_bytes text.new ≡ string_bytes text.old) }
@@ -39,6 +39,23 @@ pub fn append_numerals(text: &mut String, before: char, numbers: &[u64]) -> Resu
     for number in numbers {
         text.push(before)?;
         text.push_str(buffer.format(*number))?;
+    }
+    Ok(())
+}
+
+/// Appends to a text the digits of each number, with the ASCII character between them.
+///
+/// # Errors
+/// Out of memory; the text then has what it had, and after it what was written by then.
+pub fn append_joined(text: &mut String, between: char, numbers: &[u64]) -> Result<(), AllocError>
+    requires { between < 128 }
+    ensures appended { OnOk result ((joined : List ℕ) × AreJoined between numbers.now joined
+        × (string_bytes text.new ≡ string_bytes text.old ++ joined)) }
+    ensures kept { (rest : List ℕ) × (string_bytes text.new ≡ string_bytes text.old ++ rest) }
+{
+    if let Some((first, others)) = numbers.split_first() {
+        append_numeral(text, *first)?;
+        append_numerals(text, between, others)?;
     }
     Ok(())
 }

@@ -9,6 +9,33 @@ ghost use Rattle.zarrs_chunk_keys.specs.Numeral.{IsNumeral, IsNumerals, digit};
 use std::alloc::{AllocError, Global};
 use zarrs_chunk_base::{ArrayIndices, ChunkKeySeparator};
 
+/// The numbers of which the numerals stand in a text, each after the separator: `[3, 2, 16]` of `/3/2/16`. `None` where the text isn't
+/// that of so many 64-bit numbers.
+///
+/// # Errors
+/// Out of memory. A text with another number of separators needs none.
+pub(crate) fn read_numerals(
+    alloc: Global,
+    separator: ChunkKeySeparator,
+    count: usize,
+    text: &[u8],
+) -> Result<Option<ArrayIndices>, AllocError>
+    ensures { IfOk result (IsDecoded (λ numbers. IsNumerals (separator_byte separator) numbers text.now)
+        count) }
+{
+    let Some((first, numerals)) = text.split_first() else {
+        return Ok(if count == 0 {
+            Some(Vec::new(alloc))
+        } else {
+            None
+        });
+    };
+    if *first != separator.as_char() as u8 {
+        return Ok(None);
+    }
+    read_numbers(alloc, separator, count, numerals)
+}
+
 /// The numbers of which the numerals stand in a text with the separator between them: `[3, 2, 16]` of `3/2/16`. `None` where the text
 /// isn't that of so many 64-bit numbers. A numeral has no leading zero.
 ///
@@ -49,7 +76,7 @@ fn count_parts(separator: u8, text: &[u8]) -> usize
 /// The number that has this numeral; `None` where no 64-bit number has it.
 fn number_of(numeral: &[u8]) -> Option<u64>
     ensures { MatchOption result ((n : ℕ) → n ≤ greatest → ¬ IsNumeral n numeral.now)
-        (λ n. IsNumeral n numeral.now) }
+        (λ n. (n ≤ greatest) × IsNumeral n numeral.now) }
 {
     let (first, others) = numeral.split_first()?;
     let mut number = digit_of(*first)?;
@@ -68,7 +95,8 @@ fn number_of(numeral: &[u8]) -> Option<u64>
 fn with_digit(number: u64, byte: u8) -> Option<u64>
     ensures { MatchOption result
         ((d : ℕ) → d < 10 → byte ≡ digit d → greatest < 10 * number + d)
-        (λ longer. (d : ℕ) × (d < 10) × (byte ≡ digit d) × (longer ≡ 10 * number + d)) }
+        (λ longer. (longer ≤ greatest)
+        × ((d : ℕ) × (d < 10) × (byte ≡ digit d) × (longer ≡ 10 * number + d))) }
 {
     number.checked_mul(10)?.checked_add(digit_of(byte)?)
 }

@@ -8,11 +8,6 @@ use Rattle.zarrs_chunk_base.specs.Greatest.{greatest, AllFit}
 use Rattle.zarrs_chunk_base.proofs.InEach.{by_dimension, by_dimension_twice, length_numbers}
 use Rattle.zarrs_chunk_axes.specs.LookUp.{AnswersHome, AnswersOrigin}
 
--- the numbers of a list of u64 fit
-pub fits : (xs : List ℕ) → ((k : ℕ) → get_or xs k 0 < 2 ^ 64) → AllFit xs
-fits [] each = tt
-fits (x ∷ xs) each = (let first : x < 2 ^ 64 = each 0 in omega arith, fits xs (λ k. each (suc k)))
-
 -- a chunk whose box holds an index that fits has an origin that fits
 pub has_origin : (ds : List Dimension) (chunk index : List ℕ) → InBox ds chunk index → AllFit index
     → (origin : List ℕ) × IsOrigin ds chunk origin × AllFit origin

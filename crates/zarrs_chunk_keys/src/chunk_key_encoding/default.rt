@@ -18,10 +18,11 @@ ghost use Rattle.zarrs_chunk_keys.specs.seen.Encodings.{default_of};
 
 use crate::chunk_key_encoding::of_kind::{EncodingOfKind, OfKind};
 use crate::numerals::append_numerals;
+use crate::read_numerals::read_numerals;
 use std::alloc::{AllocError, Global};
 use zarrs_chunk_base::{
-    ChunkKeySeparator, Configuration, ConfigurationForm, DefaultChunkKeyEncodingConfiguration,
-    MetadataV3, PluginCreateError, Refusal,
+    ArrayIndices, ChunkKeySeparator, Configuration, ConfigurationForm,
+    DefaultChunkKeyEncodingConfiguration, MetadataV3, PluginCreateError, Refusal,
 };
 
 /// The `default` encoding with a separator. The key of a chunk is `c`, and for each of its numbers the separator and the
@@ -94,6 +95,18 @@ impl OfKind for DefaultChunkKeyEncoding {
         text.push('c')?;
         append_numerals(text, self.separator.as_char(), chunk_indices)?;
         Ok(())
+    }
+
+    fn read(
+        &self,
+        alloc: Global,
+        dimensionality: usize,
+        key: &[u8],
+    ) -> Result<Option<ArrayIndices>, AllocError> {
+        match key.strip_prefix(b"c".as_slice()) {
+            Some(numerals) => read_numerals(alloc, self.separator, dimensionality, numerals),
+            None => Ok(None),
+        }
     }
 }
 

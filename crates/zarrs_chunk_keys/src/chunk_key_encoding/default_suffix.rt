@@ -22,7 +22,7 @@ use crate::chunk_key_encoding::of_kind::{EncodingOfKind, OfKind};
 use crate::chunk_key_suffix_error::ChunkKeySuffixError;
 use std::alloc::{AllocError, Global};
 use zarrs_chunk_base::{
-    ChunkKeySeparator, Configuration, ConfigurationForm,
+    ArrayIndices, ChunkKeySeparator, Configuration, ConfigurationForm,
     DefaultSuffixChunkKeyEncodingConfiguration, MetadataV3, PluginCreateError, Refusal, StoreKey,
     StoreKeyError,
 };
@@ -115,5 +115,17 @@ impl OfKind for DefaultSuffixChunkKeyEncoding {
         self.keys.append(text, chunk_indices)?;
         text.push_str(self.suffix.as_str())?;
         Ok(())
+    }
+
+    fn read(
+        &self,
+        alloc: Global,
+        dimensionality: usize,
+        key: &[u8],
+    ) -> Result<Option<ArrayIndices>, AllocError> {
+        match key.strip_suffix(self.suffix.as_str().as_bytes()) {
+            Some(front) => self.keys.read(alloc, dimensionality, front),
+            None => Ok(None),
+        }
     }
 }

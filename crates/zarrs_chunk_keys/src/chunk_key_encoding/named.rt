@@ -24,7 +24,9 @@ use crate::chunk_key_encoding::default::DefaultChunkKeyEncoding;
 use crate::chunk_key_encoding::default_suffix::DefaultSuffixChunkKeyEncoding;
 use crate::chunk_key_encoding::v2::V2ChunkKeyEncoding;
 use std::alloc::{AllocError, Global};
-use zarrs_chunk_base::{Configuration, MetadataV3, PluginCreateError, Refusal, StoreKey};
+use zarrs_chunk_base::{
+    ArrayIndices, Configuration, MetadataV3, PluginCreateError, Refusal, StoreKey,
+};
 
 const DEFAULT: &str = "default";
 
@@ -157,6 +159,15 @@ impl ChunkKeyEncodingTraits for ChunkKeyEncoding {
 
     fn append_key(&self, text: &mut String, chunk_indices: &[u64]) -> Result<(), AllocError> {
         inside!(self, encoding => encoding.append_key(text, chunk_indices))
+    }
+
+    fn decode(
+        &self,
+        alloc: Global,
+        dimensionality: usize,
+        key: &StoreKey,
+    ) -> Result<Option<ArrayIndices>, AllocError> {
+        inside!(self, encoding => encoding.decode(alloc, dimensionality, key))
     }
 }
 

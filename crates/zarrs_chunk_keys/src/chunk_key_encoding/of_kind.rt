@@ -6,13 +6,16 @@ ghost use Rattle.zarrs_chunk_base.specs.Metadata.{extension_of};
 ghost use Rattle.zarrs_chunk_base.specs.Refusal.{IfRefused};
 ghost use Rattle.zarrs_chunk_base.specs.StoreKey.{EndsInSlash};
 ghost use Rattle.zarrs_chunk_keys.specs.ChunkKey.{Encoding, IsKey};
+ghost use Rattle.zarrs_chunk_keys.specs.Decoded.{IsDecoded};
 ghost use Rattle.zarrs_chunk_keys.specs.KeyKinds.{KeyKind, key_kind};
 ghost use Rattle.zarrs_chunk_keys.specs.lemmas.ExactKeys as keys;
 
 use crate::ChunkKeyEncodingTraits;
 use crate::numerals::room_for;
 use std::alloc::{AllocError, Global};
-use zarrs_chunk_base::{Configuration, MetadataV3, PluginCreateError, Refusal, StoreKey};
+use zarrs_chunk_base::{
+    ArrayIndices, Configuration, MetadataV3, PluginCreateError, Refusal, StoreKey,
+};
 
 /// An encoding of one of this library's kinds: which kind, and what a value of it means.
 pub trait EncodingOfKind {
@@ -48,6 +51,16 @@ pub(crate) trait OfKind: EncodingOfKind + Sized + Drop {
             × IsKey (Self.encoding self.now) chunk_indices.now key × (¬ EndsInSlash key)
             × (string_bytes text.new ≡ string_bytes text.old ++ key)) }
         ensures kept { (rest : List ℕ) × (string_bytes text.new ≡ string_bytes text.old ++ rest) };
+
+    /// The chunk of so many numbers of which this text is the key.
+    fn read(
+        &self,
+        alloc: Global,
+        dimensionality: usize,
+        key: &[u8],
+    ) -> Result<Option<ArrayIndices>, AllocError>
+        ensures { IfOk result (IsDecoded (λ chunk. IsKey (Self.encoding self.now) chunk key.now)
+            dimensionality) };
 }
 
 impl<E: OfKind> ChunkKeyEncodingTraits for E {
@@ -81,5 +94,14 @@ impl<E: OfKind> ChunkKeyEncodingTraits for E {
 
     fn append_key(&self, text: &mut String, chunk_indices: &[u64]) -> Result<(), AllocError> {
         self.append(text, chunk_indices)
+    }
+
+    fn decode(
+        &self,
+        alloc: Global,
+        dimensionality: usize,
+        key: &StoreKey,
+    ) -> Result<Option<ArrayIndices>, AllocError> {
+        self.read(alloc, dimensionality, key.as_str().as_bytes())
     }
 }

@@ -17,11 +17,12 @@ ghost use Rattle.zarrs_chunk_keys.specs.KeyKinds as kinds;
 ghost use Rattle.zarrs_chunk_keys.specs.seen.Encodings.{v2_of};
 
 use crate::chunk_key_encoding::of_kind::{EncodingOfKind, OfKind};
-use crate::numerals::{append_numeral, append_numerals};
+use crate::numerals::append_joined;
+use crate::read_numerals::read_numbers;
 use std::alloc::{AllocError, Global};
 use zarrs_chunk_base::{
-    ChunkKeySeparator, Configuration, ConfigurationForm, MetadataV3, PluginCreateError, Refusal,
-    V2ChunkKeyEncodingConfiguration,
+    ArrayIndices, ChunkKeySeparator, Configuration, ConfigurationForm, MetadataV3,
+    PluginCreateError, Refusal, V2ChunkKeyEncodingConfiguration,
 };
 
 /// The `v2` encoding with a separator. The key of a chunk is its numbers in decimal digits, with the separator between
@@ -84,13 +85,28 @@ impl OfKind for V2ChunkKeyEncoding {
     }
 
     fn append(&self, text: &mut String, chunk_indices: &[u64]) -> Result<(), AllocError> {
-        let Some((first, others)) = chunk_indices.split_first() else {
+        if chunk_indices.is_empty() {
             text.push('0')?;
             return Ok(());
-        };
-        append_numeral(text, *first)?;
-        append_numerals(text, self.separator.as_char(), others)?;
+        }
+        append_joined(text, self.separator.as_char(), chunk_indices)?;
         Ok(())
+    }
+
+    fn read(
+        &self,
+        alloc: Global,
+        dimensionality: usize,
+        key: &[u8],
+    ) -> Result<Option<ArrayIndices>, AllocError> {
+        if dimensionality > 0 {
+            return read_numbers(alloc, self.separator, dimensionality, key);
+        }
+        if key == b"0".as_slice() {
+            Ok(Some(Vec::new(alloc)))
+        } else {
+            Ok(None)
+        }
     }
 }
 

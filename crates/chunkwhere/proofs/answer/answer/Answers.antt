@@ -1,13 +1,12 @@
-use Rattle.std.proofs.Common.{Result, Ok, Err, MatchResult, String, Global, string_bytes, ⊎_elim, inl, inr, arith}
-use Rattle.std.specs.List.{AllByRecursion}
+use Rattle.std.proofs.Common.{string_bytes, subst, ⊎_elim, inl, inr, arith}
 use Rattle.std.proofs.lemmas.Result.{err_from_is_err_and}
-use Rattle.chunkwhere.specs.Answer.{HasLengthOf, HasParts, IsAnswer, IsAnswerFault, IsIndexFault}
+use Rattle.chunkwhere.specs.Answer.{HasParts, IsAnswerFault, IsIndexFault}
 use Rattle.zarrs_chunk_base.specs.Grid.{Grid}
 use Rattle.zarrs_chunks.specs.GridKinds.{IsGrid}
 use Rattle.zarrs_chunks.specs.seen.Grids.{grid_in, kind_in}
-use Rattle.zarrs_chunk_keys.specs.KeyKinds.{IsEncodingFault}
+use Rattle.zarrs_chunk_keys.specs.KeyKinds.{IsEncoding, IsEncodingFault}
 use Rattle.chunkwhere.specs.Document.{Document, document_of}
-use Rattle.chunkwhere.specs.Output.{IsOutput}
+use Rattle.chunkwhere.specs.Output.{AreLines, IsKeyLine}
 use Rattle.zarrs_chunk_keys.specs.ChunkKey.{Encoding, IsKey}
 use Rattle.zarrs_chunk_keys.specs.seen.Encodings.{encoding_in}
 use Rattle.chunkwhere.specs.RunFault.{OrMemory, fault_of}
@@ -41,24 +40,41 @@ index_fault : (document : Document) (grid : Grid) (encoding : Encoding) (fault :
 index_fault document grid encoding (Index position e) parts wrong = (grid, encoding, parts, wrong)
 index_fault document grid encoding _ parts wrong = absurd wrong
 
--- the lines of a document that has a grid and an encoding answer it, or an index of a wrong length is its first fault
-abbrev IsLined : Document → Grid → Encoding → Result (String Global) RunFault → Type 0
-IsLined document grid encoding r =
-    MatchResult r
-    (λ text. AllByRecursion (HasLengthOf grid.dimensions) document.indices × IsOutput grid.dimensions (IsKey encoding) document.indices (string_bytes text))
-    (λ fault. OrMemory (IsIndexFault grid.dimensions document.indices) fault)
+-- the document has the grid and the encoding that were made
+parts_of : (document : Document) (grid : Grid) (encoding : Encoding) → IsGrid document.chunk_grid document.shape grid
+    → IsEncoding document.chunk_key_encoding encoding → HasParts document grid encoding
+parts_of document grid encoding is also = record { chunk_grid = is; key_encoding = also }
 
-answered : (document : Document) (grid : Grid) (encoding : Encoding) (r : Result (String Global) RunFault) → HasParts document grid encoding
-    → IsLined document grid encoding r → MatchResult r (λ text. IsAnswer document (string_bytes text)) (OrMemory (IsAnswerFault document))
-answered document grid encoding (Ok text) parts (lengths, output) =
-    record { grid = grid; encoding = encoding; parts = parts; lengths = lengths; output = output }
-answered document grid encoding (Err fault) parts lined = ⊎_elim inl (λ wrong. inr (index_fault document grid encoding fault parts wrong)) lined
+pub returns-in_err-text : goal.returns-in_err-text
+returns-in_err-text c =
+    let p = err_from_is_err_and c.from_residual-in_err-text.result c.from_residual-in_err-text.ensures.1 in
+    let document = document_of c.args.document in
+    let grid = grid_in c.in_ok-grid.grid in
+    let encoding = encoding_in c.in_ok-encoding.encoding in
+    let made = rw c.deref.ensures.value at (value_is_kept _ _ _ _ _ _ c.from_metadata-grid.ensures.made c.map_err.ensures.cases c.map_err.ensures.variant c.in_ok-grid.was) in
+    let also = value_is_kept _ _ _ _ _ _ c.from_metadata-encoding.ensures c.map_err-2.ensures.cases c.map_err-2.ensures.variant c.in_ok-encoding.was in
+    rw (p.1, p.2)
+    (⊎_elim inl (λ wrong. inr (index_fault document grid encoding _ (parts_of document grid encoding (kind_in c.in_ok-grid.grid, made) also) wrong)) c.in_err-text.ensures)
 
 pub returns : goal.returns
 returns c =
     let document = document_of c.args.document in
+    let grid = grid_in c.in_ok-grid.grid in
+    let encoding = encoding_in c.in_ok-encoding.encoding in
     let made = rw c.deref.ensures.value at (value_is_kept _ _ _ _ _ _ c.from_metadata-grid.ensures.made c.map_err.ensures.cases c.map_err.ensures.variant c.in_ok-grid.was) in
-    let encoding =
-    value_is_kept _ _ _ _ _ _ c.from_metadata-encoding.ensures c.map_err-2.ensures.cases c.map_err-2.ensures.variant c.in_ok-encoding.was in
-    answered document (grid_in c.in_ok-grid.grid) (encoding_in c.in_ok-encoding.encoding) c.lines.result
-    (record { chunk_grid = (kind_in c.in_ok-grid.grid, made); key_encoding = encoding }) c.lines.ensures
+    let also = value_is_kept _ _ _ _ _ _ c.from_metadata-encoding.ensures c.map_err-2.ensures.cases c.map_err-2.ensures.variant c.in_ok-encoding.was in
+    let (lengths, index_lines) = c.in_ok-text.ensures in
+    let (lines, key_lines, both) = c.in_ok-append_key_lines.ensures in
+    record {
+      grid = grid;
+      encoding = encoding;
+      parts = parts_of document grid encoding (kind_in c.in_ok-grid.grid, made) also;
+      lengths = lengths;
+      output = record {
+        index_lines = string_bytes c.in_ok-text.text;
+        key_lines = lines;
+        indices_are = index_lines;
+        keys_are = subst (λ dimensionality. AreLines (IsKeyLine dimensionality (IsKey encoding)) document.keys lines) c.dimensionality.ensures key_lines;
+        both = both;
+      };
+    }

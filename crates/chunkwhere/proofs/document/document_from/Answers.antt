@@ -1,7 +1,7 @@
-use Rattle.std.proofs.Common.{◌≡◌, None, Some, is_some, option_map, refl, sym, ap, ◌∙◌, inr}
+use Rattle.std.proofs.Common.{◌≡◌, None, Some, is_some, map, option_map, string_bytes, refl, sym, ap, ◌∙◌, inl, inr}
 use Rattle.std.proofs.lemmas.Result.{err_from_is_err_and}
 use Rattle.serde_json.specs.View.{view}
-use Rattle.chunkwhere.specs.Document.{shape_in, indices_in, lists_in}
+use Rattle.chunkwhere.specs.Document.{shape_in, indices_in, keys_in, lists_in}
 use Rattle.zarrs_chunk_base.specs.Metadata.{extension_of}
 use Rattle.chunkwhere.proofs.DocumentMembers.{numbers, shape_is, has_members, encoding_fault}
 use Rattle.chunkwhere.proofs.document.document_from.Goals as goal
@@ -23,7 +23,7 @@ returns-in_default-2 c =
     let no_indices : indices_in tree ≡ None = sym c.in_ok-indices.ensures ∙ ap (option_map (λ v. lists_in v.items)) c.in_default-2.is in
     inr (
       has_members _ _ _ _ _ c.in_ok-shape.ensures c.in_ok-chunk_grid.ensures c.in_ok-chunk_key_encoding.ensures c.in_ok-required_member.ensures,
-      inr (
+      inr (inl (
         refl,
         ap is_some shape,
         (extension_of c.in_ok-chunk_grid-2.chunk_grid, (view c.in_ok-chunk_grid.chunk_grid.now, c.in_ok-chunk_grid.ensures, c.in_ok-chunk_grid-2.ensures)),
@@ -32,7 +32,28 @@ returns-in_default-2 c =
           (view c.in_ok-chunk_key_encoding.chunk_key_encoding.now, c.in_ok-chunk_key_encoding.ensures, c.in_ok-chunk_key_encoding-2.ensures),
         ),
         no_indices,
-      ),
+      )),
+    )
+
+pub returns-in_default-keys : goal.returns-in_default-keys
+returns-in_default-keys c =
+    let tree = view c.args.tree in
+    let shape : shape_in tree ≡ Some c.in-Some.shape.items = shape_is tree _ c.in_ok-shape-2.field-0 c.in_ok-shape.ensures c.in_ok-shape-2.ensures ∙ ap (option_map numbers) c.in-Some.is in
+    let indices : indices_in tree ≡ Some (lists_in c.in-Some-2.indices.items) = sym c.in_ok-indices.ensures ∙ ap (option_map (λ v. lists_in v.items)) c.in-Some-2.is in
+    let no_keys : keys_in tree ≡ None = sym c.in_ok-keys.ensures ∙ ap (option_map (λ v. map string_bytes v.items)) c.in_default-keys.is in
+    inr (
+      has_members _ _ _ _ _ c.in_ok-shape.ensures c.in_ok-chunk_grid.ensures c.in_ok-chunk_key_encoding.ensures c.in_ok-required_member.ensures,
+      inr (inr (
+        refl,
+        ap is_some shape,
+        (extension_of c.in_ok-chunk_grid-2.chunk_grid, (view c.in_ok-chunk_grid.chunk_grid.now, c.in_ok-chunk_grid.ensures, c.in_ok-chunk_grid-2.ensures)),
+        (
+          extension_of c.in_ok-chunk_key_encoding-2.chunk_key_encoding,
+          (view c.in_ok-chunk_key_encoding.chunk_key_encoding.now, c.in_ok-chunk_key_encoding.ensures, c.in_ok-chunk_key_encoding-2.ensures),
+        ),
+        ap is_some indices,
+        no_keys,
+      )),
     )
 
 pub returns : goal.returns
@@ -43,4 +64,5 @@ returns c =
       chunk_grid = (view c.in_ok-chunk_grid.chunk_grid.now, c.in_ok-chunk_grid.ensures, c.in_ok-chunk_grid-2.ensures);
       chunk_key_encoding = (view c.in_ok-chunk_key_encoding.chunk_key_encoding.now, c.in_ok-chunk_key_encoding.ensures, c.in_ok-chunk_key_encoding-2.ensures);
       indices = sym c.in_ok-indices.ensures ∙ ap (option_map (λ v. lists_in v.items)) c.in-Some-2.is;
+      keys = sym c.in_ok-keys.ensures ∙ ap (option_map (λ v. map string_bytes v.items)) c.in-Some-keys.is;
     }

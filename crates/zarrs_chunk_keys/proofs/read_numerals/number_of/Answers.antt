@@ -25,6 +25,7 @@ pub loop-byte-init : goal.loop-byte-init
 loop-byte-init c =
     let first = c.in_ok-number.ensures in
     record {
+      fits = omega arith;
       is_numeral = rw c.in_ok-first.ensures.cases.0 (one_digit first.0 (ap (λ c. c ∷ []) first.1));
       positive = elim c.else-number-eq0.branch [
         | else-number-eq0-via-then-number-eq0+else-not-is_empty w ↦ λ some.
@@ -54,15 +55,18 @@ loop-byte-preserved c =
     let i = c.loop-byte.byte-index in
     let text = c.args.numeral.now in
     let within : i < length others = omega arith in
-    let (d, small, is_digit, value) = c.in_ok-number-2.ensures in
+    let (d, small, is_digit, value) = c.in_ok-number-2.ensures.1 in
     let some : 0 < c.loop-byte.number = c.loop-byte.invariant.positive (omega arith) in
     let cut = cut_behind text c.in_ok-first.first.now others i c.in_ok-first.ensures.cases.0 within in
     record {
+      fits = c.in_ok-number-2.ensures.0;
       is_numeral = more_digits c.loop-byte.invariant.is_numeral some small value (cut ∙ ap (λ c. take (i + 1) text ++ c ∷ []) is_digit);
       positive = λ more. omega arith;
     }
 
 pub returns : goal.returns
 returns c =
-    let lengths = ap length c.in_ok-first.ensures.cases.0 in
-    subst (IsNumeral c.loop-byte.number) (take_all (c.loop-byte.byte-index + 1) c.args.numeral.now (omega arith)) c.loop-byte.invariant.is_numeral
+    let lengths = ap length c.in_ok-first.ensures.cases.0 in (
+      c.loop-byte.invariant.fits,
+      subst (IsNumeral c.loop-byte.number) (take_all (c.loop-byte.byte-index + 1) c.args.numeral.now (omega arith)) c.loop-byte.invariant.is_numeral,
+    )

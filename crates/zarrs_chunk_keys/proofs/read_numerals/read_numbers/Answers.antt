@@ -6,9 +6,10 @@ use Rattle.std.proofs.lemmas.Slice.Zip.{AllZip-long}
 use Rattle.std.specs.List.{AllZip}
 use borrow.Author.Tests.{tests}
 use Rattle.zarrs_chunk_base.specs.ChunkKeySeparator.{separator_byte}
+use Rattle.zarrs_chunk_base.specs.Greatest.{AllFit}
 use Rattle.zarrs_chunk_keys.specs.Numeral.{IsNumeral}
 use Rattle.zarrs_chunk_keys.specs.lemmas.ExactKeys.{low}
-use Rattle.zarrs_chunk_keys.proofs.NumeralParts.{is_part, no_numbers, numerals_of_parts, parts_at, parts_of_numerals, pushed}
+use Rattle.zarrs_chunk_keys.proofs.NumeralParts.{fit_pushed, is_part, no_numbers, numerals_of_parts, parts_at, parts_of_numerals, pushed}
 use Rattle.zarrs_chunk_keys.proofs.read_numerals.read_numbers.Goals as goal
 
 pub returns-then-count_parts-count : goal.returns-then-count_parts-count
@@ -21,6 +22,7 @@ returns-then-count_parts-count c = λ numbers fit lengths are.
 
 pub loop-part-init : goal.loop-part-init
 loop-part-init c = record {
+  fit = subst AllFit (sym c.in_ok-numbers.ensures.items) tt;
   numerals = subst (λ numbers. AllZip IsNumeral numbers []) (sym c.in_ok-numbers.ensures.items) tt;
   room = let exact = c.in_ok-numbers.ensures.exact in omega arith;
 }
@@ -66,12 +68,13 @@ loop-part-preserved c =
     in
     let at = is_part c.as_char.result b text (length c.loop-part.yielded) c.in-Some.part.now c.as_char.ensures turn in
     let k = length c.loop-part.yielded in
-    let part = subst (IsNumeral c.in-Some-number_of.number) at.is c.in-Some-number_of.ensures in
+    let part = subst (IsNumeral c.in-Some-number_of.number) at.is c.in-Some-number_of.ensures.1 in
     let more = pushed c.loop-part.numbers.items (take k (parts_at b text)) c.in-Some-number_of.number (get_or (parts_at b text) k c.in-Some.part.now)
     c.loop-part.invariant.numerals part
     in
     let parts = take_more (parts_at b text) k c.in-Some.part.now at.within in
     record {
+      fit = rw c.push_reserved.ensures.items (fit_pushed c.loop-part.numbers.items c.in-Some-number_of.number c.loop-part.invariant.fit c.in-Some-number_of.ensures.0);
       numerals = rw (length_push c.loop-part.yielded c.in-Some.part, parts, c.push_reserved.ensures.items) more;
       room = let capacity = c.push_reserved.ensures.capacity in let room = c.loop-part.invariant.room in omega arith;
     }
@@ -91,4 +94,4 @@ returns c =
     c.loop-part.invariant.numerals
     in
     let numbers = AllZip-long IsNumeral c.loop-part.numbers.items (parts_at b text) numerals in
-    (omega arith, numerals_of_parts b c.loop-part.numbers.items text numerals)
+    (omega arith, c.loop-part.invariant.fit, numerals_of_parts b c.loop-part.numbers.items text numerals)

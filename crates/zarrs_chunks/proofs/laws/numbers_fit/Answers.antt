@@ -1,5 +1,5 @@
 use Rattle.std.proofs.Common.{arith}
-use Rattle.zarrs_chunks.proofs.Boxes.{fits}
+use Rattle.zarrs_chunk_base.proofs.Boxes.{fits}
 use Rattle.zarrs_chunks.proofs.laws.numbers_fit.Goals as goal
 
 pub returns : goal.returns

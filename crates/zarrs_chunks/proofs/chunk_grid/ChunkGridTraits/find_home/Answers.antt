@@ -3,7 +3,8 @@ use Rattle.std.proofs.lemmas.Result.{err_from_is_err_and}
 use Rattle.zarrs_chunk_base.specs.Dimension.{StartsAt}
 use Rattle.zarrs_chunk_axes.specs.LookUp.{AnswersOrigin}
 use Rattle.zarrs_chunk_base.proofs.InEach.{length_values}
-use Rattle.zarrs_chunks.proofs.Boxes.{fits, has_origin, home_refused, is_place}
+use Rattle.zarrs_chunk_base.proofs.Boxes.{fits}
+use Rattle.zarrs_chunks.proofs.Boxes.{has_origin, home_refused, is_place}
 use Rattle.zarrs_chunks.proofs.chunk_grid.ChunkGridTraits.find_home.Goals as goal
 
 pub returns-in_default-2-clause-answers : goal.returns-in_default-2-clause-answers
