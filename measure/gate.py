@@ -3,8 +3,8 @@
 
     python3 gate.py [COMMAND ..]        .ci/run where there is none
 
-It is meant for a fresh clone, with nothing beside. It looks twice a second at what the kit's compiler and its helpers have used so far, so of each of
-them the last half second is missing. On Linux.
+It is meant for a fresh clone, with nothing beside; what runs beside isn't counted, but slows the gate down. It looks twice a second at what the kit's
+compiler and its helpers have used so far, so of each of them the last half second is missing. On Linux.
 """
 import collections
 import os
@@ -18,7 +18,7 @@ KINDS = ("proofs", "tests", "edits")
 
 
 def processes():
-    """Each process: its number and start, the processor minutes that it has used, its words, and where it runs."""
+    """Each process: its number and start, its parent's number, the processor minutes that it has used, its words, and where it runs."""
     for folder in pathlib.Path("/proc").iterdir():
         if not folder.name.isdigit():
             continue
@@ -28,7 +28,15 @@ def processes():
             where = os.readlink(folder / "cwd")
         except OSError:
             continue
-        yield (folder.name, fields[19]), (int(fields[11]) + int(fields[12])) / TICKS, words, where
+        yield (folder.name, fields[19]), fields[1], (int(fields[11]) + int(fields[12])) / TICKS, words, where
+
+
+def descends(process, parents, ancestor):
+    while process in parents:
+        process = parents[process]
+        if process == ancestor:
+            return True
+    return False
 
 
 def belongs_to(words, where):
@@ -46,9 +54,11 @@ def main():
     began = time.monotonic()
     used = {}
     while gate.poll() is None:
-        for process, minutes, words, where in processes():
+        running = list(processes())
+        parents = {process[0]: parent for process, parent, *_ in running}
+        for process, _, minutes, words, where in running:
             about = belongs_to(words, where)
-            if about:
+            if about and descends(process[0], parents, str(gate.pid)):
                 used[process] = (about, minutes)
         time.sleep(0.5)
     totals = collections.defaultdict(collections.Counter)

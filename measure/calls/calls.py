@@ -7,7 +7,7 @@ RUST is `rust.rs`, built by `rustc --edition 2024 -O -C lto=fat -C codegen-units
 keeps it out of the gate, which would prove it each time; in a copy of the repository, put it at `crates/calls/src/main.rt`, and add to
 `crates.txt` the line
 
-    calls: zarrs_chunk_base zarrs_chunk_keys zarrs_chunks serde_json
+    calls: zarrs_chunk_base zarrs_chunk_keys zarrs_chunk_plan zarrs_chunks serde_json
 
 Then `rt run < /dev/null` in `crates/calls` builds `out/calls`. A figure is the difference of two runs, of so many calls and of twice as many,
 by their number: `valgrind --tool=callgrind` counts the same each time, whatever else runs. Asking takes some 60 instructions of each figure, on
@@ -21,7 +21,7 @@ import sys
 COUNT = 5000
 EDGES = [3, 5, 2, 7, 4, 9, 1, 8, 6, 5, 5] * 91
 RUNS = [[25, 4], [10, 200], [3, 1000], 500, [4, 975]]
-CALLS = ["chunk_indices", "chunk_element_indices", "chunk_origin", "subset", "cover", "encode", "locate", "walk"]
+CALLS = ["chunk_indices", "chunk_element_indices", "chunk_origin", "subset", "cover", "encode", "decode", "locate", "walk", "parts"]
 
 
 def expanded(elements):

@@ -165,6 +165,23 @@ fn encode(chunk: &[u64]) -> String {
     key
 }
 
+/// The chunk of so many numbers of which a text is the key in this encoding.
+fn decode(key: &str, dimensionality: usize) -> Option<Vec<u64>> {
+    let numbers = key.strip_prefix('c')?;
+    if numbers.is_empty() {
+        return (dimensionality == 0).then(Vec::new);
+    }
+    let chunk: Vec<u64> = numbers.strip_prefix('/')?.split('/').map(number_of).collect::<Option<_>>()?;
+    (chunk.len() == dimensionality).then_some(chunk)
+}
+
+/// A number has no sign and no leading zero.
+fn number_of(text: &str) -> Option<u64> {
+    let digits = text.bytes().all(|byte| byte.is_ascii_digit());
+    let leading_zero = text.len() > 1 && text.starts_with('0');
+    if digits && !leading_zero { text.parse().ok() } else { None }
+}
+
 fn spread(at: &mut [u64], shape: &[u64], k: u64) {
     let mut x = k.wrapping_add(1).wrapping_mul(0x9E37_79B9_7F4A_7C15);
     for (index, size) in at.iter_mut().zip(shape) {
@@ -176,6 +193,17 @@ fn spread(at: &mut [u64], shape: &[u64], k: u64) {
 fn add(sum: &mut u64, list: &[u64]) {
     for number in list {
         *sum = sum.wrapping_mul(31).wrapping_add(*number);
+    }
+}
+
+/// Goes on to the next chunk in row-major order.
+fn next(chunk: &mut [u64], shape: &[u64]) {
+    for (number, size) in chunk.iter_mut().zip(shape).rev() {
+        *number += 1;
+        if *number < *size {
+            break;
+        }
+        *number = 0;
     }
 }
 
@@ -235,17 +263,41 @@ fn ask(grid: &dyn Grid, shape: &[u64], call: &str, count: u64) -> Option<u64> {
                 add(&mut sum, &element);
             }
         }
+        "decode" => {
+            let mut keys = Vec::new();
+            for k in 0..100 {
+                spread(&mut at, grid.grid_shape(), k);
+                keys.push(encode(&at));
+            }
+            for k in 0..count {
+                add(&mut sum, &decode(&keys[(k % 100) as usize], shape.len())?);
+            }
+        }
+        "parts" => {
+            let mut chunk = vec![0; shape.len()];
+            for _ in 0..count {
+                // The box begins at 1 in each dimension, and ends where the array does.
+                let origin = grid.chunk_origin(&chunk).ok()??;
+                let edges = grid.chunk_shape(&chunk).ok()??;
+                let first: Vec<u64> = origin.iter().map(|start| (*start).max(1)).collect();
+                let ends = origin.iter().zip(&edges).zip(shape).map(|((start, edge), size)| (start + edge).min(*size));
+                let sizes: Vec<u64> = ends.zip(&first).map(|(end, first)| end - first).collect();
+                let in_chunk: Vec<u64> = first.iter().zip(&origin).map(|(first, start)| first - start).collect();
+                let in_subset: Vec<u64> = first.iter().map(|first| first - 1).collect();
+                let part = (chunk.clone(), encode(&chunk), (in_chunk, sizes.clone()), (in_subset, sizes));
+                add(&mut sum, &part.0);
+                add(&mut sum, &[part.1.len() as u64]);
+                add(&mut sum, &part.2.0);
+                add(&mut sum, &part.2.1);
+                add(&mut sum, &part.3.0);
+                next(&mut chunk, grid.grid_shape());
+            }
+        }
         "walk" => {
             let mut chunk = vec![0; shape.len()];
             for _ in 0..count {
                 add(&mut sum, &chunk.clone());
-                for (number, size) in chunk.iter_mut().zip(grid.grid_shape()).rev() {
-                    *number += 1;
-                    if *number < *size {
-                        break;
-                    }
-                    *number = 0;
-                }
+                next(&mut chunk, grid.grid_shape());
             }
         }
         _ => return None,

@@ -11,6 +11,7 @@
 //! | `known_kind` | what is known of a grid whose kind is known |
 //! | `elements` | where an element lies, and under which key its chunk is stored |
 //! | `subsets` | the keys of all chunks of a grid, and of those that a box of elements meets |
+//! | `reading` | the elements of a box, read from a store |
 //! | `stairs` | a grid of one's own |
 //! | `versioned` | an encoding of one's own |
 #![tactic(auto)]
@@ -21,6 +22,7 @@ mod grids;
 mod keys;
 mod known_kind;
 mod metadata;
+mod reading;
 mod runs;
 mod stairs;
 mod subsets;
@@ -32,6 +34,7 @@ pub use grids::{bounded, by_name, rectangular, rectilinear, regular};
 pub use keys::{append_keys, key_by_name};
 pub use known_kind::{is_in_bounds, metadata_of_regular};
 pub use metadata::{metadata_of, regular_metadata};
+pub use reading::{ChunkStore, Piece, read_box};
 pub use runs::chunk_of_index;
 pub use stairs::Stairs;
 pub use subsets::{keys_of_grid, keys_of_subset};

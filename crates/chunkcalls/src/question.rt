@@ -36,7 +36,7 @@ fn key_of_chunk(alloc: Global, tree: &Value) -> Result<Value, Refusal<LineFault>
     Ok(Value::try_from_str(alloc, key.as_str())?)
 }
 
-/// The chunk of so many numbers of which a text is the key in a chunk key encoding, or `null`.
+/// The chunk with this many numbers that has a key in a chunk key encoding, or `null`.
 ///
 /// # Errors
 /// The first that applies: `chunk_key_encoding` is missing; `of` is missing or no text; `dimensionality` is missing or no size; the

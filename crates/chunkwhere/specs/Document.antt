@@ -52,7 +52,7 @@ shape_in d = option_and_then (list_of size_of) (get (codes "shape") d)
 abbrev pub indices_in : Data → Option (List (List ℕ))
 indices_in d = option_and_then (list_of (list_of size_of)) (get (codes "indices") d)
 
--- the texts of a member; none where it is absent
+-- the texts of a list; no texts where there is no list; nothing where it is no list of texts
 abbrev pub texts_of : Option Data → Option (List (List ℕ))
 texts_of None = Some []
 texts_of (Some texts) = list_of as_str texts

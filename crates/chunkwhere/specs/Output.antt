@@ -11,14 +11,14 @@ pub data IsLine (dimensions : List Dimension) (IsKey : List ℕ → List ℕ →
       → IsNumerals 32 place numbers → line ≡ key ++ numbers ++ codes "\n" → IsLine dimensions IsKey index line
   absent : ((chunk : List ℕ) → ¬ InBox dimensions chunk index) → line ≡ codes "-\n" → IsLine dimensions IsKey index line
 
--- the text is a store key, and that of a chunk of so many numbers
+-- the text is a store key, and the key of a chunk with this many numbers
 pub record IsKeyOf (IsKey : List ℕ → List ℕ → Type 0) (dimensionality : ℕ) (key chunk : List ℕ) : Type 0 where
   pub long : length chunk ≡ dimensionality
   pub fit : AllFit chunk
   pub no_slash : ¬ EndsInSlash key
   pub is_key : IsKey chunk key
 
--- The line of a key: the numbers of its chunk with a space between them, or `-` where it is that of none. The chunk may lie outside of the grid.
+-- The line of a key: the numbers of its chunk with a space between them, or `-` if there is no such chunk. The chunk may lie outside of the grid.
 pub data IsKeyLine (dimensionality : ℕ) (IsKey : List ℕ → List ℕ → Type 0) (key line : List ℕ) : Type 0 where
   read : (chunk numbers : List ℕ) → IsKeyOf IsKey dimensionality key chunk → AreJoined 32 chunk numbers → line ≡ numbers ++ codes "\n"
       → IsKeyLine dimensionality IsKey key line

@@ -106,7 +106,7 @@ fn append_key_and_place<E: ChunkKeyEncodingTraits>(
     Ok(())
 }
 
-/// Appends a line for each key: the numbers of its chunk, or `-` where it is the key of no chunk with so many numbers.
+/// Appends a line for each key: the numbers of its chunk, or `-` if no chunk with this many numbers has it.
 fn append_key_lines<E: ChunkKeyEncodingTraits>(
     alloc: Global,
     text: &mut String,
@@ -145,7 +145,7 @@ fn append_key_line<E: ChunkKeyEncodingTraits>(
     Ok(())
 }
 
-/// The chunk of so many numbers of which a text is the key. A text that is no store key is that of none.
+/// The chunk with this many numbers whose key a text is; `None` if there is none. A text that is no store key is the key of none.
 fn chunk_of_key<E: ChunkKeyEncodingTraits>(
     alloc: Global,
     encoding: &E,

@@ -71,7 +71,7 @@ fn document_from(alloc: Global, tree: Value) -> Result<Document, RunFault>
     })
 }
 
-/// The keys of a document's tree, which may have none; `None` where they aren't texts.
+/// The keys of a document's tree, which may have no such member; `None` where that isn't a list of texts.
 fn read_keys(alloc: Global, tree: &Value) -> Result<Option<Vec<String>>, AllocError>
     ensures { IfOk result (λ o. option_map (λ keys. map string_bytes keys.items) o
         ≡ keys_in (view tree.now)) }

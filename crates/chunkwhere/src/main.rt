@@ -2,7 +2,8 @@
 //!
 //! It reads one JSON document on standard input: an array's `shape`, `chunk_grid` and
 //! `chunk_key_encoding`, as in its `zarr.json`, and the `indices` to look up. For each index
-//! list it prints the key of the chunk that holds the element, and the element's place in it.
+//! list it prints the key of the chunk that holds the element, and the element's place in it. For
+//! each of its `keys`, if it has any, it prints the numbers of the chunk that has the key.
 //!
 //! | Module | What it holds |
 //! |---|---|

@@ -41,7 +41,7 @@ pub fn run_to_status<R: Read, W: Write, E: Write>(
 /// Reads a document to its end and writes where the elements of its `indices` are stored: a line
 /// for each, in order, with the key of the chunk and the place in the chunk, or `-` where no chunk
 /// holds the element. Behind them stands a line for each of its `keys`, if it has any: the numbers of
-/// the chunk of which it is the key, or `-`. Nothing is written before the whole text stands.
+/// the chunk that has the key, or `-`. Nothing is written before the whole text stands.
 ///
 /// # Errors
 /// The first fault; or out of memory. A failed read comes first, then a text that is no JSON, then

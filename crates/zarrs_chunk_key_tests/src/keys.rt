@@ -9,7 +9,7 @@ use zarrs_chunk_keys::laws::{
 };
 use zarrs_chunk_keys::{
     ChunkKeyEncoding, ChunkKeyEncodingTraits, ChunkKeySuffixError, DefaultChunkKeyEncoding,
-    DefaultSuffixChunkKeyEncoding, V2ChunkKeyEncoding, read_numbers,
+    DefaultSuffixChunkKeyEncoding, V2ChunkKeyEncoding,
 };
 
 /// A row of encodings: an encoding, its key of the chunk `[1, 23]`, and its name.
@@ -41,8 +41,9 @@ fn check_key(
         text.as_str().strip_prefix("key ") == Some(key),
         "{text} for {key}"
     );
-    let read = a_key_is_read_back(rt.alloc(), encoding, &[1, 23])?.ok_or("no chunk")?;
-    assert_eq!(rt; read.as_slice(), [1, 23].as_slice());
+    let (same, read) = a_key_is_read_back(rt.alloc(), encoding, &[1, 23])?;
+    assert_eq!(rt; same.as_str(), key);
+    assert_eq!(rt; read.ok_or("no chunk")?.as_slice(), [1, 23].as_slice());
     let (one, other) = keys_read_as_one_chunk_are_equal(
         rt.alloc(),
         encoding,
@@ -133,49 +134,5 @@ fn keys_of_a_thousand_dimensions_are_written_and_read(rt: HostRuntime) -> Result
         assert_eq!(rt; read.as_slice(), chunk.as_slice());
         assert!(rt; encoding.decode(alloc, 999, &key)?.is_none());
     }
-    Ok(())
-}
-
-/// The numerals between slashes are those of these numbers.
-fn check_read(rt: &(impl Abort + AllocGlobal), text: &str, numbers: &[u64]) -> Result<(), Fail> {
-    let slash = ChunkKeySeparator::Slash;
-    let read = read_numbers(rt.alloc(), slash, numbers.len(), text.as_bytes())?;
-    assert_eq!(rt; read.ok_or("no numbers")?.as_slice(), numbers);
-    Ok(())
-}
-
-#[test]
-fn numerals_are_read(rt: HostRuntime) -> Result<(), Fail> {
-    check_read(&rt, "3/2/16", &[3, 2, 16])?;
-    check_read(&rt, "0", &[0])?;
-    check_read(&rt, "18446744073709551615/10", &[u64::MAX, 10])?;
-    Ok(())
-}
-
-#[test]
-fn what_is_no_numeral_is_not_read(rt: HostRuntime) -> Result<(), Fail> {
-    let slash = ChunkKeySeparator::Slash;
-    let texts = [
-        "",
-        "01",
-        "00",
-        "1/",
-        "/1",
-        "1.2",
-        "1//2",
-        "+1",
-        "-1",
-        " 1",
-        "1a",
-        "18446744073709551616",
-        "28446744073709551615",
-        "100000000000000000000",
-    ];
-    for text in texts {
-        let read = read_numbers(rt.alloc(), slash, 1, text.as_bytes())?;
-        assert!(rt; read.is_none(), "{text}");
-    }
-    let read = read_numbers(rt.alloc(), slash, usize::MAX, b"1")?;
-    assert!(rt; read.is_none());
     Ok(())
 }

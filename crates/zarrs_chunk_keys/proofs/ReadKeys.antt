@@ -105,12 +105,11 @@ has_key HasKey dimensionality (Some found) chunk is same = let items : found.ite
 has_key HasKey dimensionality None chunk is same = cc
 
 -- where one list at most has the key, it is read
-pub read_back : {E : Type 0} (HasKey : List ℕ → Type 0) (chunk : List ℕ) (answer : Result (Option (Vec ℕ Global)) E)
+pub read_back : (HasKey : List ℕ → Type 0) (chunk : List ℕ) (read : Option (Vec ℕ Global))
     → ((other : List ℕ) → AllFit other → AllFit chunk → length other ≡ length chunk → HasKey other → HasKey chunk → other ≡ chunk) → AllFit chunk → HasKey chunk
-    → IfOk answer (IsDecoded HasKey (length chunk)) → IfOk answer (λ read. option_map (λ v. v.items) read ≡ Some chunk)
-read_back HasKey chunk (Ok (Some found)) one fit has (long, also_fit, also) = ap Some (one found.items also_fit fit long also has)
-read_back HasKey chunk (Ok None) one fit has none = absurd (none chunk fit refl has)
-read_back HasKey chunk (Err _) one fit has is = tt
+    → IsDecoded HasKey (length chunk) read → option_map (λ v. v.items) read ≡ Some chunk
+read_back HasKey chunk (Some found) one fit has (long, also_fit, also) = ap Some (one found.items also_fit fit long also has)
+read_back HasKey chunk None one fit has none = absurd (none chunk fit refl has)
 
 -- numerals of some numbers with the separator between them are a v2 key
 pub v2_of_joined : (separator : ChunkKeySeparator) (chunk key : List ℕ) → 0 < length chunk → AreJoined (separator_byte separator) chunk key

@@ -6,7 +6,7 @@ use Rattle.std.specs.Prelude.{◌≡◌, ℕ, ◌+◌, ◌*◌, ◌<◌, List, [
 abbrev pub digit : ℕ → ℕ
 digit d = 48 + d
 
--- a digit is the numeral of its value, and one more digit after the numeral of n, which isn't 0, is that of 10 * n + d
+-- a number below ten has its digit; a number past that has the numeral of its tens, and then the digit of its ones
 pub data IsNumeral : ℕ → List ℕ → Type 0 where
   one_digit : {n : ℕ} {text : List ℕ} → n < 10 → text ≡ digit n ∷ [] → IsNumeral n text
   more_digits : {n d m : ℕ} {front text : List ℕ} → IsNumeral n front → 0 < n → d < 10 → m ≡ 10 * n + d → text ≡ front ++ digit d ∷ []

@@ -56,8 +56,8 @@ pub trait ChunkKeyEncodingTraits: Sized + Drop {
         text.push_str(key.as_str())
     }
 
-    /// The chunk of so many numbers, one a dimension, of which this is the key; `None` where it is that of no such chunk. The chunk
-    /// may lie outside of the grid.
+    /// The chunk with this many numbers, one a dimension, whose key this is; `None` if there is none. The chunk may lie outside of the
+    /// grid.
     ///
     /// # Errors
     /// Out of memory.

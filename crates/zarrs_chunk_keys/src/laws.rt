@@ -1,6 +1,6 @@
 //! What holds of the library's chunk key encodings. What every encoding has to prove, one of another crate too, is the law of
 //! [`ChunkKeyEncodingTraits`](crate::ChunkKeyEncodingTraits).
-ghost use Rattle.std.specs.Prelude.{◌≡◌, ℕ, IfErr, IfOk, List, Some, option_map};
+ghost use Rattle.std.specs.Prelude.{◌≡◌, ℕ, IfErr, IfOk, List, Some, length, option_map};
 ghost use Rattle.zarrs_chunk_base.specs.declared.chunk_key_separator.ChunkKeySeparator.{ChunkKeySeparator};
 ghost use Rattle.zarrs_chunk_base.specs.Refusal.{IfRefused};
 ghost use Rattle.zarrs_chunk_keys.specs.ChunkKey.{Encoding, IsKey, default_keys, suffixed_keys};
@@ -27,7 +27,8 @@ pub fn a_chunk_has_one_key()
         → IsKey encoding chunk other → key ≡ other }
 {}
 
-/// What `encode` writes of a chunk, `decode` reads as that chunk. This is so of every encoding, one of another crate too.
+/// The key that `encode` writes of a chunk, and what `decode` reads it as: that chunk. This is so of every encoding, one of another crate
+/// too.
 ///
 /// # Errors
 /// Out of memory.
@@ -35,12 +36,16 @@ pub fn a_key_is_read_back<E: ChunkKeyEncodingTraits>(
     alloc: Global,
     encoding: &E,
     chunk_indices: &[u64],
-) -> Result<Option<ArrayIndices>, AllocError>
-    ensures { IfOk result (λ read. option_map (λ chunk. chunk.items) read
+) -> Result<(StoreKey, Option<ArrayIndices>), AllocError>
+    ensures key { IfOk result (λ both. E.is_key encoding.now chunk_indices.now both.0) }
+    ensures read { IfOk result (λ both. IsDecoded (λ chunk. E.is_key encoding.now chunk both.0)
+        (length chunk_indices.now) both.1) }
+    ensures same { IfOk result (λ both. option_map (λ chunk. chunk.items) both.1
         ≡ Some chunk_indices.now) }
 {
     let key = encoding.encode(alloc, chunk_indices)?;
-    encoding.decode(alloc, chunk_indices.len(), &key)
+    let chunk = encoding.decode(alloc, chunk_indices.len(), &key)?;
+    Ok((key, chunk))
 }
 
 /// Two keys that are read as one chunk are equal.

@@ -1,6 +1,6 @@
 //! Chunk key encodings: under which key each chunk of an array is stored.
 //!
-//! [`ChunkKeyEncodingTraits`] says what every encoding answers, the key of a chunk and the chunk of a key, and proves that equal keys of
+//! [`ChunkKeyEncodingTraits`] says what every encoding answers, the key of a chunk and the chunk of a key; each proves that equal keys of
 //! equally long lists of chunk numbers come from equal lists. A call that makes a new value in memory takes the allocator; `clone` doesn't. Every call that needs
 //! memory can answer that there is none. `CALLING.md` has callers.
 //!
@@ -36,4 +36,3 @@ pub use chunk_key_encoding::of_kind::EncodingOfKind;
 pub use chunk_key_encoding::v2::V2ChunkKeyEncoding;
 pub use chunk_key_suffix_error::ChunkKeySuffixError;
 pub use numerals::{append_joined, append_numerals};
-pub use read_numerals::read_numbers;

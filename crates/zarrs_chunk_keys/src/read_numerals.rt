@@ -9,8 +9,8 @@ ghost use Rattle.zarrs_chunk_keys.specs.Numeral.{IsNumeral, IsNumerals, digit};
 use std::alloc::{AllocError, Global};
 use zarrs_chunk_base::{ArrayIndices, ChunkKeySeparator};
 
-/// The numbers of which the numerals stand in a text, each after the separator: `[3, 2, 16]` of `/3/2/16`. `None` where the text isn't
-/// that of so many 64-bit numbers.
+/// The numbers whose numerals stand in a text, each after the separator: `[3, 2, 16]` of `/3/2/16`. `None` if they aren't this many 64-bit
+/// numbers.
 ///
 /// # Errors
 /// Out of memory. A text with another number of separators needs none.
@@ -36,14 +36,14 @@ pub(crate) fn read_numerals(
     read_numbers(alloc, separator, count, numerals)
 }
 
-/// The numbers of which the numerals stand in a text with the separator between them: `[3, 2, 16]` of `3/2/16`. `None` where the text
-/// isn't that of so many 64-bit numbers. A numeral has no leading zero.
+/// The numbers whose numerals stand in a text with the separator between them: `[3, 2, 16]` of `3/2/16`. `None` if they aren't this many
+/// 64-bit numbers, and of no numbers. A numeral has no leading zero.
 ///
 /// # Errors
 /// Out of memory. A text with another number of separators needs none.
 ///
 /// Source: Zarr V3 core, chunk key encodings.
-pub fn read_numbers(
+pub(crate) fn read_numbers(
     alloc: Global,
     separator: ChunkKeySeparator,
     count: usize,

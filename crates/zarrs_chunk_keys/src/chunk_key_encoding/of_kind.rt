@@ -26,7 +26,7 @@ pub trait EncodingOfKind {
     ghost encoding: { Self → Encoding };
 }
 
-/// How an encoding of one kind is made, and how it writes keys.
+/// How an encoding of one kind is made, and how it writes and reads keys.
 pub(crate) trait OfKind: EncodingOfKind + Sized + Drop {
     /// The encoding that the configuration in an extension's metadata says.
     fn of_metadata(alloc: Global, metadata: &MetadataV3) -> Result<Self, Refusal<PluginCreateError>>
@@ -52,7 +52,10 @@ pub(crate) trait OfKind: EncodingOfKind + Sized + Drop {
             × (string_bytes text.new ≡ string_bytes text.old ++ key)) }
         ensures kept { (rest : List ℕ) × (string_bytes text.new ≡ string_bytes text.old ++ rest) };
 
-    /// The chunk of so many numbers of which this text is the key.
+    /// The chunk with this many numbers whose key this text is; `None` if there is none.
+    ///
+    /// # Errors
+    /// Out of memory.
     fn read(
         &self,
         alloc: Global,

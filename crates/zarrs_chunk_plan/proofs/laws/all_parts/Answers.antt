@@ -1,55 +1,5 @@
-use Rattle.std.proofs.Common.{◌≡◌, ◌∙◌, ℕ, List, [], ◌∷◌, ◌++◌, Some, None, Ok, append_assoc, append-nil, ap, subst, sym}
-use Rattle.std.specs.List.{AllZip}
-use Rattle.zarrs_chunk_base.specs.Dimension.{Dimension}
-use Rattle.zarrs_chunk_plan.specs.Plan.{IsPart}
-use Rattle.zarrs_chunk_plan.specs.declared.part.Part.{Part}
-use Rattle.zarrs_chunk_plan.specs.declared.walk.Parts.{Parts}
-use Rattle.zarrs_chunk_plan.specs.seen.Parts.{ArePartsToCome, GivesPart, IsAbout, MeetSubset, chunks_to_come}
+use Rattle.zarrs_chunk_plan.proofs.Walked.{at_first, at_last, one_more}
 use Rattle.zarrs_chunk_plan.proofs.laws.all_parts.Goals as goal
-
-pushed : {X Y : Type 0} (R : X → Y → Type 0) (xs : List X) (ys : List Y) (x : X) (y : Y) → AllZip R xs ys → R x y → AllZip R (xs ++ x ∷ []) (ys ++ y ∷ [])
-pushed R [] [] x y are also = (also, tt)
-pushed R (a ∷ xs) (b ∷ ys) x y are also = (are.0, pushed R xs ys x y are.1 also)
-pushed R [] (_ ∷ _) x y are also = absurd are
-pushed R (_ ∷ _) [] x y are also = absurd are
-
-module _ {G E : Type 0} (dimensions : G → List Dimension) (is_key : E → List ℕ → List ℕ → Type 0) (begin : Parts G E) where
-  abbrev IsPartOf : List ℕ → Part → Type 0
-  IsPartOf = IsPart (dimensions begin.grid.now) (is_key begin.encoding.now) begin.array_subset.now
-
-  -- these chunks came, of which these are the parts
-  abbrev HaveCome : Parts G E → List Part → Type 0
-  HaveCome now parts = (came : List (List ℕ)) × (chunks_to_come begin ≡ came ++ chunks_to_come now) × AllZip IsPartOf came parts
-      × IsAbout begin.grid.now begin.encoding.now begin.array_subset.now now × MeetSubset dimensions now
-
-  at_first : (now : Parts G E) (parts : List Part) → now ≡ begin → parts ≡ [] → MeetSubset dimensions begin → HaveCome now parts
-  at_first now parts same none meet = (
-    [],
-    ap chunks_to_come (sym same),
-    subst (AllZip IsPartOf []) (sym none) tt,
-    record { same_grid = ap (λ w. w.grid.now) same; same_encoding = ap (λ w. w.encoding.now) same; same_subset = ap (λ w. w.array_subset.now) same },
-    subst (MeetSubset dimensions) (sym same) meet,
-  )
-
-  one_more : (before after : Parts G E) (part : Part) (parts more : List Part) → HaveCome before parts → GivesPart dimensions is_key before (Some (Ok part)) after
-      → more ≡ parts ++ part ∷ [] → HaveCome after more
-  one_more before after part parts more (came, left, are, about, meet) gives is = (
-    came ++ part.chunk.items ∷ [],
-    left ∙ ap (λ xs. came ++ xs) gives.gives ∙ sym (append_assoc came (part.chunk.items ∷ []) (chunks_to_come after)),
-    subst (AllZip IsPartOf (came ++ part.chunk.items ∷ [])) (sym is)
-        (pushed IsPartOf came parts part.chunk.items part are (rw (← about.same_grid, ← about.same_encoding, ← about.same_subset) gives.part)),
-    record {
-      same_grid = gives.about.same_grid ∙ about.same_grid;
-      same_encoding = gives.about.same_encoding ∙ about.same_encoding;
-      same_subset = gives.about.same_subset ∙ about.same_subset;
-    },
-    gives.meet,
-  )
-
-  at_last : (before after : Parts G E) (parts : List Part) → HaveCome before parts → GivesPart dimensions is_key before None after
-      → ArePartsToCome dimensions is_key begin parts
-  at_last before after parts (came, left, are, about, meet) gives =
-      subst (λ chunks. AllZip IsPartOf chunks parts) (sym (left ∙ ap (λ xs. came ++ xs) gives.gives.0 ∙ append-nil came)) are
 
 pub loop-part-init : goal.loop-part-init
 loop-part-init g c =

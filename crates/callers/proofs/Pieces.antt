@@ -1,0 +1,140 @@
+-- Pieces that were read of the parts of a plan make up the box.
+use Rattle.std.proofs.Common.{◌≡◌, ◌∙◌, ℕ, zero, suc, ◌<◌, List, [], ◌∷◌, ◌++◌, length, get_or, map, ap, append_assoc, ◌↔◌, refl, sym, subst, arith}
+use Rattle.std.proofs.lemmas.Slice.Zip.{AllZip-long}
+use Rattle.std.specs.List.{AllByRecursion, AllPairs, AllZip, Contains}
+use Rattle.zarrs_chunk_axes.specs.InBounds.{AreBelow}
+use Rattle.zarrs_chunk_axes.specs.RowMajor.{row_major}
+use Rattle.zarrs_chunk_axes.proofs.RowMajor.{all_below}
+use Rattle.zarrs_chunk_base.specs.ArraySubset.{Box, IsInside}
+use Rattle.zarrs_chunk_base.specs.Dimension.{Dimension, InBox, IsPlace}
+use Rattle.zarrs_chunk_plan.proofs.Walked.{pushed}
+use Rattle.zarrs_chunk_plan.specs.Plan.{HasElement, IsPart, IsPlan}
+use Rattle.zarrs_chunk_plan.specs.declared.part.Part.{Part}
+use Rattle.zarrs_chunks.specs.Walks.{chunks_in, counted_from}
+use Rattle.callers.specs.Reading.{ArePieces, HasElements, HoldsArray, IsRead}
+use Rattle.callers.specs.declared.reading.Piece.{Piece}
+
+-- the law of plans: a part has each element at its place in the chunk
+abbrev pub HavePlaces : List Dimension → (List ℕ → List ℕ → Type 0) → Box → Type 0
+HavePlaces ds IsKey subset =
+    (chunk : List ℕ) (part : Part) (index place : List ℕ) → IsPart ds IsKey subset chunk part → HasElement subset part index place
+    → InBox ds chunk index × IsPlace ds chunk index place
+
+-- what is read step by step is what the array has there
+by_step : (answers : List ℕ → ℕ → Type 0) (array : List ℕ → ℕ) (shape first other : List ℕ) (steps : List (List ℕ)) (elements : List ℕ)
+    → ((step : List ℕ) (element : ℕ) → AreBelow shape step → answers (counted_from first step) element → element ≡ array (counted_from other step))
+    → AllByRecursion (AreBelow shape) steps → AllZip answers (map (counted_from first) steps) elements
+    → AllZip (λ place element. element ≡ array place) (map (counted_from other) steps) elements
+by_step answers array shape first other [] [] same below read = tt
+by_step answers array shape first other [] (_ ∷ _) same below read = absurd read
+by_step answers array shape first other (step ∷ steps) [] same below read = absurd read
+by_step answers array shape first other (step ∷ steps) (element ∷ elements) same below read =
+    (same step element below.0 read.0, by_step answers array shape first other steps elements same below.1 read.1)
+
+has_elements : (ds : List Dimension) (IsKey : List ℕ → List ℕ → Type 0) (subset : Box) (answers : List ℕ → List ℕ → ℕ → Type 0) (array : List ℕ → ℕ)
+    (chunk : List ℕ) (part : Part) (piece : Piece) → HavePlaces ds IsKey subset → HoldsArray ds IsKey answers array → IsPart ds IsKey subset chunk part
+    → IsRead answers part piece → HasElements array subset piece
+has_elements ds IsKey subset answers array chunk part piece places stored is (box, read) =
+    let shape = part.in_chunk.shape in
+    let same_shape : shape ≡ part.in_subset.shape = sym is.boxes.from_chunk.shape ∙ is.boxes.from_subset.shape in
+    let elements = by_step (answers part.key) (λ place. array (counted_from subset.start place)) shape part.in_chunk.start part.in_subset.start (row_major shape)
+    piece.elements.items
+    (λ step element below found.
+    let index = counted_from subset.start (counted_from part.in_subset.start step) in
+    let place = counted_from part.in_chunk.start step in
+    let lies = places chunk part index place is (record { steps = step; below = below; place_is = refl; index_is = refl }) in
+    stored index chunk part.key place element lies.0 is.key lies.1 found) (all_below shape) read
+    in
+    subst (λ b. AllZip (λ place element. element ≡ array (counted_from subset.start place)) (chunks_in b) piece.elements.items) (sym box)
+    (subst (λ sizes. AllZip (λ place element. element ≡ array (counted_from subset.start place)) (map (counted_from part.in_subset.start) (row_major sizes)) piece.elements.items)
+    same_shape elements)
+
+each_has : (ds : List Dimension) (IsKey : List ℕ → List ℕ → Type 0) (subset : Box) (answers : List ℕ → List ℕ → ℕ → Type 0) (array : List ℕ → ℕ)
+    (chunks : List (List ℕ)) (parts : List Part) (pieces : List Piece) → HavePlaces ds IsKey subset → HoldsArray ds IsKey answers array
+    → AllZip (IsPart ds IsKey subset) chunks parts → AllZip (IsRead answers) parts pieces → AllByRecursion (HasElements array subset) pieces
+each_has ds IsKey subset answers array chunks [] [] places stored are read = tt
+each_has ds IsKey subset answers array chunks [] (_ ∷ _) places stored are read = absurd read
+each_has ds IsKey subset answers array chunks (_ ∷ _) [] places stored are read = absurd read
+each_has ds IsKey subset answers array [] (_ ∷ _) (_ ∷ _) places stored are read = absurd are
+each_has ds IsKey subset answers array (chunk ∷ chunks) (part ∷ parts) (piece ∷ pieces) places stored are read =
+    (has_elements ds IsKey subset answers array chunk part piece places stored are.0 read.0, each_has ds IsKey subset answers array chunks parts pieces places stored are.1 read.1)
+
+-- the piece that was read of a part, and the part of a piece
+piece_of : (answers : List ℕ → List ℕ → ℕ → Type 0) (parts : List Part) (pieces : List Piece) (part : Part) → AllZip (IsRead answers) parts pieces
+    → Contains parts part → (piece : Piece) × Contains pieces piece × (piece.in_subset ≡ part.in_subset)
+piece_of answers [] pieces part read (k, within, at) = absurd (omega arith)
+piece_of answers (_ ∷ _) [] part read (k, within, at) = absurd read
+piece_of answers (first ∷ parts) (piece ∷ pieces) part read (zero, within, at) = (piece, (zero, omega arith, refl), read.0.0 ∙ ap (λ p. p.in_subset) at)
+piece_of answers (first ∷ parts) (piece ∷ pieces) part read (suc k, within, at) =
+    let (found, (j, below, is), same) = piece_of answers parts pieces part read.1 (k, omega arith, at) in
+    (found, (suc j, omega arith, is), same)
+
+part_of : (answers : List ℕ → List ℕ → ℕ → Type 0) (parts : List Part) (pieces : List Piece) (piece : Piece) → AllZip (IsRead answers) parts pieces
+    → Contains pieces piece → (part : Part) × Contains parts part × (piece.in_subset ≡ part.in_subset)
+part_of answers parts [] piece read (k, within, at) = absurd (omega arith)
+part_of answers [] (_ ∷ _) piece read (k, within, at) = absurd read
+part_of answers (part ∷ parts) (first ∷ pieces) piece read (zero, within, at) = (part, (zero, omega arith, refl), ap (λ p. p.in_subset) (sym at) ∙ read.0.0)
+part_of answers (part ∷ parts) (first ∷ pieces) piece read (suc k, within, at) =
+    let (found, (j, below, is), same) = part_of answers parts pieces piece read.1 (k, omega arith, at) in
+    (found, (suc j, omega arith, is), same)
+
+-- the boxes are the same, one by one
+same_box : (answers : List ℕ → List ℕ → ℕ → Type 0) (parts : List Part) (pieces : List Piece) (i : ℕ) (part : Part) (piece : Piece)
+    → AllZip (IsRead answers) parts pieces → i < length pieces → (get_or pieces i piece).in_subset ≡ (get_or parts i part).in_subset
+same_box answers parts [] i part piece read within = absurd (omega arith)
+same_box answers [] (_ ∷ _) i part piece read within = absurd read
+same_box answers (_ ∷ _) (_ ∷ _) zero part piece read within = read.0.0
+same_box answers (_ ∷ parts) (_ ∷ pieces) (suc i) part piece read within = same_box answers parts pieces i part piece read.1 (omega arith)
+
+-- two pieces share no place, since two parts don't
+abbrev IsApart : Box → Box → Type 0
+IsApart one other = (place : List ℕ) → IsInside one place → IsInside other place → ⊥
+
+are_apart : (answers : List ℕ → List ℕ → ℕ → Type 0) (parts : List Part) (pieces : List Piece) → AllZip (IsRead answers) parts pieces
+    → AllPairs (λ part other. IsApart part.in_subset other.in_subset) parts → AllPairs (λ piece other. IsApart piece.in_subset other.in_subset) pieces
+are_apart answers [] pieces read apart = λ i j piece before within. let long = AllZip-long (IsRead answers) [] pieces read in absurd (omega arith)
+are_apart answers (part ∷ parts) pieces read apart =
+    λ i j piece before within.
+    let long = AllZip-long (IsRead answers) (part ∷ parts) pieces read in
+    let one = same_box answers (part ∷ parts) pieces i part piece read (omega arith) in
+    let other = same_box answers (part ∷ parts) pieces j part piece read within in
+    subst (λ b. IsApart b (get_or pieces j piece).in_subset) (sym one)
+    (subst (λ b. IsApart (get_or (part ∷ parts) i part).in_subset b) (sym other) (apart i j part before (omega arith)))
+
+pub are_pieces : (ds : List Dimension) (IsKey : List ℕ → List ℕ → Type 0) (subset : Box) (answers : List ℕ → List ℕ → ℕ → Type 0) (array : List ℕ → ℕ)
+    (parts : List Part) (pieces : List Piece) → HavePlaces ds IsKey subset → HoldsArray ds IsKey answers array
+    → ((place : List ℕ) → AreBelow subset.shape place ↔ ((part : Part) × Contains parts part × IsInside part.in_subset place))
+    → AllPairs (λ part other. IsApart part.in_subset other.in_subset) parts → IsPlan ds IsKey subset parts → AllZip (IsRead answers) parts pieces
+    → ArePieces array subset pieces
+are_pieces ds IsKey subset answers array parts pieces places stored tile apart plan read = record {
+  all = λ place. (
+    λ below.
+        let (part, is_among, inside) = (tile place).0 below in
+        let (piece, also_among, same) = piece_of answers parts pieces part read is_among in
+        (piece, also_among, subst (λ b. IsInside b place) (sym same) inside),
+    λ (piece, is_among, inside).
+        let (part, also_among, same) = part_of answers parts pieces piece read is_among in
+        (tile place).1 (part, also_among, subst (λ b. IsInside b place) same inside),
+  );
+  apart = are_apart answers parts pieces read apart;
+  each = each_has ds IsKey subset answers array (chunks_in plan.cover) parts pieces places stored plan.are_parts read;
+}
+
+-- of no parts there are no pieces
+pub no_pieces : (answers : List ℕ → List ℕ → ℕ → Type 0) (chunks : List (List ℕ)) (parts : List Part) (pieces : List Piece)
+    (IsOne : List ℕ → Part → Type 0) → chunks ≡ [] → AllZip IsOne chunks parts → AllZip (IsRead answers) parts pieces → pieces ≡ []
+no_pieces answers chunks [] [] IsOne none are read = refl
+no_pieces answers chunks [] (_ ∷ _) IsOne none are read = absurd read
+no_pieces answers chunks (_ ∷ _) [] IsOne none are read = refl
+no_pieces answers [] (_ ∷ _) (_ ∷ _) IsOne none are read = absurd are
+no_pieces answers (_ ∷ _) (_ ∷ _) (_ ∷ _) IsOne none are read = cc
+
+-- one more came, of those that were left
+pub one_more_came : (R : List ℕ → ℕ → Type 0) (all came before after : List (List ℕ)) (elements more : List ℕ) (place : List ℕ) (element : ℕ)
+    → all ≡ came ++ before → before ≡ place ∷ after → AllZip R came elements → R place element → more ≡ elements ++ element ∷ []
+    → (came_after : List (List ℕ)) × (all ≡ came_after ++ after) × AllZip R came_after more
+one_more_came R all came before after elements more place element all_are first are is longer = (
+  came ++ place ∷ [],
+  all_are ∙ ap (λ xs. came ++ xs) first ∙ sym (append_assoc came (place ∷ []) after),
+  subst (AllZip R (came ++ place ∷ [])) (sym longer) (pushed R came elements place element are is),
+)
