@@ -1,11 +1,11 @@
 -- Numerals with a byte between them are the parts into which that byte cuts their text.
-use Rattle.std.proofs.Common.{◌≡◌, ◌∙◌, ℕ, ◌≤◌, ◌<◌, false, List, [], ◌∷◌, ◌++◌, ap, append-nil, eq-eqb, eqb, get_or, length, refl, suc, sym, subst, zero, arith}
+use Rattle.std.proofs.Common.{◌≡◌, ◌∙◌, ℕ, ◌≤◌, ◌<◌, false, List, [], ◌∷◌, ◌++◌, ap, append-nil, eq-eqb, eqb, get_or, length, length-append, refl, suc, ◌*◌, sym, subst, zero, arith}
 use Rattle.std.proofs.lemmas.List.Splits.{join_with_byte-slice_split, length-slice_split, slice_split_at, slice_split_none}
 use Rattle.std.proofs.lemmas.Bool.{ne_eqb}
 use Rattle.std.specs.List.{AllZip, join_with_byte, slice_split}
 use Rattle.zarrs_chunk_base.specs.Greatest.{AllFit, greatest}
 use Rattle.zarrs_chunk_keys.specs.Numeral.{IsNumeral, IsNumerals}
-use Rattle.zarrs_chunk_keys.proofs.NumeralDigits.{AreDigits, numeral_is_digits}
+use Rattle.zarrs_chunk_keys.proofs.NumeralDigits.{AreDigits, numeral_is_digits, some_digit}
 
 tails : {x y : ℕ} {xs ys : List ℕ} → x ∷ xs ≡ y ∷ ys → xs ≡ ys
 tails same = cc
@@ -54,6 +54,16 @@ parts_of_some b n (m ∷ ns) text low (numeral, rest, is, (other, more, also, ar
 pub parts_of_numerals : (b : ℕ) (numbers text : List ℕ) → b < 48 → IsNumerals b numbers (b ∷ text) → AllZip IsNumeral numbers (parts_at b text)
 parts_of_numerals b [] text low none = let lengths = ap length none in absurd (omega arith)
 parts_of_numerals b (n ∷ ns) text low are = parts_of_some b n ns text low are
+
+-- so many numerals, each after a byte, take twice as many bytes at least
+pub long_enough : (b : ℕ) (numbers text : List ℕ) → IsNumerals b numbers text → 2 * length numbers ≤ length text
+long_enough b [] text none = omega arith
+long_enough b (n ∷ numbers) text ([], rest, is, are, same) = absurd (some_digit n is)
+long_enough b (n ∷ numbers) text (c ∷ numeral, rest, is, are, same) =
+    let others = long_enough b numbers rest are in
+    let lengths = ap length same in
+    let sum = length-append numeral rest in
+    omega arith
 
 -- a part that is the numeral of no number that fits is one of no numbers that do
 pub no_numbers : (parts : List (List ℕ)) (k : ℕ) (part other : List ℕ) → k < length parts → part ≡ get_or parts k other

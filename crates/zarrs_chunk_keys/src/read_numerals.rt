@@ -1,6 +1,5 @@
 //! Numbers that are read from decimal text.
-ghost use Rattle.std.specs.Prelude.{◌≡◌, ◌≢◌, ◌∷◌, ◌<◌, ◌≤◌, ◌+◌, ◌*◌, ◌==◌, ℕ, IfOk, MatchOption, length};
-ghost use Rattle.std.specs.List.{slice_split};
+ghost use Rattle.std.specs.Prelude.{◌≡◌, ◌≢◌, ◌∷◌, ◌<◌, ◌≤◌, ◌+◌, ◌*◌, ℕ, IfOk, MatchOption};
 ghost use Rattle.zarrs_chunk_base.specs.ChunkKeySeparator.{separator_byte};
 ghost use Rattle.zarrs_chunk_base.specs.Greatest.{greatest};
 ghost use Rattle.zarrs_chunk_keys.specs.Decoded.{IsDecoded};
@@ -13,7 +12,7 @@ use zarrs_chunk_base::{ArrayIndices, ChunkKeySeparator};
 /// numbers.
 ///
 /// # Errors
-/// Out of memory. A text with another number of separators needs none.
+/// Out of memory. Of a text that is too short for this many numbers it needs none.
 pub(crate) fn read_numerals(
     alloc: Global,
     separator: ChunkKeySeparator,
@@ -40,7 +39,7 @@ pub(crate) fn read_numerals(
 /// 64-bit numbers, and of no numbers. A numeral has no leading zero.
 ///
 /// # Errors
-/// Out of memory. A text with another number of separators needs none.
+/// Out of memory. Of a text that is too short for this many numbers it needs none.
 ///
 /// Source: Zarr V3 core, chunk key encodings.
 pub(crate) fn read_numbers(
@@ -52,25 +51,25 @@ pub(crate) fn read_numbers(
     ensures { IfOk result (IsDecoded (λ numbers. IsNumerals (separator_byte separator) numbers
         (separator_byte separator ∷ text.now)) count) }
 {
-    let byte = separator.as_char() as u8;
-    if count_parts(byte, text) != count {
+    // Each number has a digit.
+    if count > text.len() {
         return Ok(None);
     }
     let mut numbers = Vec::with_capacity(alloc, count)?;
+    let byte = separator.as_char() as u8;
     for part in text.split(|other| *other == byte) {
+        if numbers.len() == count {
+            return Ok(None);
+        }
         let Some(number) = number_of(part) else {
             return Ok(None);
         };
         numbers.push_reserved(number);
     }
+    if numbers.len() < count {
+        return Ok(None);
+    }
     Ok(Some(numbers))
-}
-
-/// How many parts a separator cuts a text into: one at least.
-fn count_parts(separator: u8, text: &[u8]) -> usize
-    ensures { result ≡ length (slice_split (λ byte. byte == separator) text.now) }
-{
-    text.iter().filter(|byte| **byte == separator).count() + 1
 }
 
 /// The number that has this numeral; `None` where no 64-bit number has it.
