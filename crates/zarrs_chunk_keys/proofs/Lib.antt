@@ -1,8 +1,8 @@
+pub mod FirstNumeral
 pub mod KeyEnds
 pub mod KeysByName
 pub mod Keys
 pub mod NumeralDigits
 pub mod NumeralLemmas
-pub mod NumeralParts
 pub mod OneKey
 pub mod ReadKeys

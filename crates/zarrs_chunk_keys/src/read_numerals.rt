@@ -1,9 +1,10 @@
 //! Numbers that are read from decimal text.
-ghost use Rattle.std.specs.Prelude.{◌≡◌, ◌≢◌, ◌∷◌, ◌<◌, ◌≤◌, ◌+◌, ◌*◌, ℕ, IfOk, MatchOption};
+ghost use Rattle.std.specs.Prelude.{◌≡◌, ◌≢◌, ◌∷◌, ◌++◌, ◌<◌, ◌≤◌, ◌+◌, ◌*◌, ℕ, IfOk, List, MatchOption};
 ghost use Rattle.zarrs_chunk_base.specs.ChunkKeySeparator.{separator_byte};
 ghost use Rattle.zarrs_chunk_base.specs.Greatest.{greatest};
 ghost use Rattle.zarrs_chunk_keys.specs.Decoded.{IsDecoded};
 ghost use Rattle.zarrs_chunk_keys.specs.Numeral.{IsNumeral, IsNumerals, digit};
+ghost use Rattle.zarrs_chunk_keys.specs.lemmas.Parts.{EndsBefore};
 
 use std::alloc::{AllocError, Global};
 use zarrs_chunk_base::{ArrayIndices, ChunkKeySeparator};
@@ -57,36 +58,47 @@ pub(crate) fn read_numbers(
     }
     let mut numbers = Vec::with_capacity(alloc, count)?;
     let byte = separator.as_char() as u8;
-    for part in text.split(|other| *other == byte) {
-        if numbers.len() == count {
-            return Ok(None);
-        }
-        let Some(number) = number_of(part) else {
+    let mut rest = text;
+    while numbers.len() < count {
+        let Some((number, behind)) = first_number(rest, byte) else {
             return Ok(None);
         };
         numbers.push_reserved(number);
+        let Some((_, others)) = behind.split_first() else {
+            return Ok(if numbers.len() == count {
+                Some(numbers)
+            } else {
+                None
+            });
+        };
+        rest = others;
     }
-    if numbers.len() < count {
-        return Ok(None);
-    }
-    Ok(Some(numbers))
+    Ok(None)
 }
 
-/// The number that has this numeral; `None` where no 64-bit number has it.
-fn number_of(numeral: &[u8]) -> Option<u64>
-    ensures { MatchOption result ((n : ℕ) → n ≤ greatest → ¬ IsNumeral n numeral.now)
-        (λ n. (n ≤ greatest) × IsNumeral n numeral.now) }
+/// The number whose numeral a text begins with, up to a separator or the end, and what stands behind the numeral; `None` where no 64-bit
+/// number has it.
+fn first_number(text: &[u8], separator: u8) -> Option<(u64, &[u8])>
+    requires { separator < 48 }
+    ensures { MatchOption result
+        ((n : ℕ) (numeral rest : List ℕ) → n ≤ greatest → IsNumeral n numeral
+        → text.now ≡ numeral ++ rest → ¬ EndsBefore separator rest)
+        (λ found. (found.0 ≤ greatest) × ((numeral : List ℕ) × IsNumeral found.0 numeral
+        × (text.now ≡ numeral ++ found.1.now) × EndsBefore separator found.1.now)) }
 {
-    let (first, others) = numeral.split_first()?;
+    let (first, others) = text.split_first()?;
     let mut number = digit_of(*first)?;
-    // No numeral of more than one digit begins with 0.
-    if number == 0 && !others.is_empty() {
-        return None;
-    }
-    for byte in others {
+    for (i, byte) in others.iter().enumerate() {
+        if *byte == separator {
+            return Some((number, &others[i..]));
+        }
+        // No numeral of more than one digit begins with 0.
+        if number == 0 {
+            return None;
+        }
         number = with_digit(number, *byte)?;
     }
-    Some(number)
+    Some((number, &others[others.len()..]))
 }
 
 /// The number of which the numeral has one more digit, this byte; `None` where the byte is no digit or the number would be

@@ -43,3 +43,8 @@ not_alone separator c (x ∷ front) behind low same =
     let lengths = ap length (tails same) in
     let sum = length-append front (separator ∷ behind) in
     absurd (omega arith)
+
+-- a text is empty or begins with the byte
+abbrev pub EndsBefore : ℕ → List ℕ → Type 0
+EndsBefore separator [] = Unit {0}
+EndsBefore separator (c ∷ rest) = c ≡ separator
