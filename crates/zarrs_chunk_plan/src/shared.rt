@@ -1,11 +1,13 @@
 //! The elements that a chunk and a box share, counted from either.
-ghost use Rattle.std.specs.Prelude.{◌≡◌, ◌+◌, ◌-◌, IfOk, Ok, Some, max, min};
+ghost use Rattle.std.specs.Prelude.{◌≡◌, ◌+◌, ◌-◌, IfOk, Ok, Some, map, max, min};
+ghost use Rattle.std.specs.Int.NonZero.{non_zero_u64_get};
 ghost use Rattle.zarrs_chunk_base.specs.ArraySubset.{IsBox};
 ghost use Rattle.zarrs_chunk_base.specs.Greatest.{greatest};
 ghost use Rattle.zarrs_chunk_plan.specs.Plan.{AreShared, Meets};
 ghost use Rattle.zarrs_chunk_plan.specs.seen.Shared.{IsFoundOrMemory, distances, shared_sizes};
 
 use std::alloc::{AllocError, Global};
+use std::num::NonZeroU64;
 use zarrs_chunk_base::{
     ArrayIndices, ArrayShape, ArraySubset, IncompatibleDimensionalityError, Refusal,
 };
@@ -28,7 +30,7 @@ pub(crate) fn shared_boxes<G: ChunkGridTraits>(
 {
     let start = array_subset.start();
     let origin = found(grid.chunk_origin(alloc, chunk))?;
-    let edges = found(grid.chunk_shape_u64(alloc, chunk))?;
+    let edges = found(grid.chunk_shape(alloc, chunk))?;
     let shape = sizes_shared(alloc, &origin, &edges, array_subset)?;
     let in_chunk = box_of(steps_to(alloc, &origin, start)?, shape.clone()?);
     let in_subset = box_of(steps_to(alloc, start, &origin)?, shape);
@@ -72,18 +74,18 @@ fn steps_to(alloc: Global, from: &[u64], to: &[u64]) -> Result<ArrayIndices, All
 fn sizes_shared(
     alloc: Global,
     origin: &[u64],
-    edges: &[u64],
+    edges: &[NonZeroU64],
     array_subset: &ArraySubset,
 ) -> Result<ArrayShape, AllocError>
-    ensures { IfOk result (λ v. v.items ≡ shared_sizes origin.now edges.now
+    ensures { IfOk result (λ v. v.items ≡ shared_sizes origin.now (map non_zero_u64_get edges.now)
         array_subset.now.start array_subset.now.shape) }
 {
     let mut sizes = Vec::with_capacity(alloc, origin.len())?;
     let ranges = origin.iter().zip(edges);
     let others = array_subset.start().iter().zip(array_subset.shape());
     sizes.extend(
-        ranges.zip(others).map(|((first, count), (start, size))| {
-            size_shared(*first, *count, *start, *size)
+        ranges.zip(others).map(|((first, edge), (start, size))| {
+            size_shared(*first, *edge, *start, *size)
         }),
     )?;
     Ok(sizes)
@@ -91,10 +93,13 @@ fn sizes_shared(
 
 /// How many indices two ranges share, which are given by their first index and how many they hold. An index past
 /// 18446744073709551615 doesn't count.
-fn size_shared(first: u64, count: u64, start: u64, size: u64) -> u64
-    ensures { result ≡ min (first + count) (min (start + size) greatest) - max first start }
+fn size_shared(first: u64, edge: NonZeroU64, start: u64, size: u64) -> u64
+    ensures { result ≡ min (first + non_zero_u64_get edge) (min (start + size) greatest)
+        - max first start }
 {
-    let end = first.saturating_add(count).min(start.saturating_add(size));
+    let end = first
+        .saturating_add(edge.get())
+        .min(start.saturating_add(size));
     end.saturating_sub(first.max(start))
 }
 
