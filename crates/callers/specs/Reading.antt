@@ -36,10 +36,11 @@ pub record ArePieces (array : List ℕ → ℕ) (subset : Box) (pieces : List Pi
   pub apart : AllPairs (λ piece other. (place : List ℕ) → IsInside piece.in_subset place → IsInside other.in_subset place → ⊥) pieces
   pub each : AllByRecursion (HasElements array subset) pieces
 
--- what is answered of a box that isn't empty: its pieces, and none where its first or its last element lies in no chunk
-abbrev pub AnswersPieces : List Dimension → (List ℕ → ℕ) → Box → Result (Option (Vec Piece Global)) (Refusal IncompatibleDimensionalityError) → Type 0
-AnswersPieces ds array b =
-    AnswersOrMemory (length b.start) (length ds) (λ pieces. ArePieces array b pieces.items) (HasNoHome ds b.start ⊎ HasNoHome ds (lasts b.start b.shape))
+-- what is answered of a box that isn't empty: its pieces, of each array that is held, and none where its first or its last element lies in no chunk
+abbrev pub AnswersPieces : List Dimension → ((List ℕ → ℕ) → Type 0) → Box → Result (Option (Vec Piece Global)) (Refusal IncompatibleDimensionalityError) → Type 0
+AnswersPieces ds IsHeld b =
+    AnswersOrMemory (length b.start) (length ds) (λ pieces. (array : List ℕ → ℕ) → IsHeld array → ArePieces array b pieces.items)
+    (HasNoHome ds b.start ⊎ HasNoHome ds (lasts b.start b.shape))
 
 -- and of an empty one: no pieces
 abbrev pub AnswersNoPieces : Result (Option (Vec Piece Global)) (Refusal IncompatibleDimensionalityError) → Type 0

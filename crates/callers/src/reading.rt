@@ -42,9 +42,9 @@ pub fn read_box<G: ChunkGridTraits, E: ChunkKeyEncodingTraits, S: ChunkStore>(
 ) -> Result<Option<Vec<Piece>>, Refusal<IncompatibleDimensionalityError>>
     ensures empty { IsEmptyBox array_subset.now → length (G.dimensions grid.now) ≢ 0
         → AnswersNoPieces result }
-    ensures answers { (¬ IsEmptyBox array_subset.now) → (array : List ℕ → ℕ)
-        → HoldsArray (G.dimensions grid.now) (E.is_key encoding.now) (S.answers store.now) array
-        → AnswersPieces (G.dimensions grid.now) array array_subset.now result }
+    ensures answers { (¬ IsEmptyBox array_subset.now) → AnswersPieces (G.dimensions grid.now)
+        (HoldsArray (G.dimensions grid.now) (E.is_key encoding.now) (S.answers store.now))
+        array_subset.now result }
 {
     // The laws: the parts tile the box, and a part has each element at its place in the chunk.
     the_parts_tile_the_box(grid, encoding, array_subset);

@@ -43,7 +43,7 @@ returns-clause-empty g c = λ is_empty some.
     (ap chunks_to_come c.into_iter-part-iterator.ensures.into_iter_gives ∙ none) parts are
 
 pub returns-clause-answers : goal.returns-clause-answers
-returns-clause-answers g c = λ some array stored.
+returns-clause-answers g c = λ some.
     let dimensions = g.G.ChunkGridTraits.dimensions in
     let is_key = g.E.ChunkKeyEncodingTraits.is_key in
     let grid = c.args.grid.now in
@@ -57,7 +57,7 @@ returns-clause-answers g c = λ some array stored.
     let parts = at_last dimensions is_key begin c.loop-part.part-iterator c.next.new.self came have c.in-None.ensures.steps in
     let plan = plan_of dimensions is_key grid encoding subset cover begin came about is (ap chunks_to_come same ∙ left) parts in (
       lengths,
-      are_pieces (dimensions grid) (is_key encoding) subset (g.S.ChunkStore.answers c.args.store.now) array came c.loop-part.pieces.items
+      λ array stored. are_pieces (dimensions grid) (is_key encoding) subset (g.S.ChunkStore.answers c.args.store.now) array came c.loop-part.pieces.items
           c.each_element_lies_in_one_part.ensures.place stored (c.the_parts_tile_the_box.ensures.all came plan)
           (c.the_parts_tile_the_box.ensures.apart came plan) plan are,
     )
