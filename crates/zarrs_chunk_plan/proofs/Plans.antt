@@ -20,7 +20,7 @@ use Rattle.zarrs_chunk_plan.specs.declared.part.Part.{Part}
 
 -- ---- the chunks of a plan
 
-empty_or_some : (shape : List ℕ) → Contains shape 0 ⊎ (¬ Contains shape 0)
+pub empty_or_some : (shape : List ℕ) → Contains shape 0 ⊎ (¬ Contains shape 0)
 empty_or_some [] = inr (λ (k, within, is). absurd (omega arith))
 empty_or_some (zero ∷ shape) = inl (zero, omega arith, refl)
 empty_or_some (suc n ∷ shape) = ⊎_elim (λ (k, within, is). inl (suc k, omega arith, is)) (λ some. inr (not_here some)) (empty_or_some shape) where
@@ -35,7 +35,7 @@ none_in_zeros zero some = absurd (some refl)
 none_in_zeros (suc n) some = refl
 
 module _ {X : Type 0} where
-  all_of_each : (P : X → Type 0) (xs : List X) → ((x : X) → Contains xs x → P x) → AllByRecursion P xs
+  pub all_of_each : (P : X → Type 0) (xs : List X) → ((x : X) → Contains xs x → P x) → AllByRecursion P xs
   all_of_each P [] each = tt
   all_of_each P (x ∷ xs) each = (each x (zero, omega arith, refl), all_of_each P xs (λ y (k, within, is). each y (suc k, omega arith, is)))
 
@@ -64,7 +64,7 @@ covered_meet ds b cover is_box if_empty if_some meets = ⊎_elim of_empty of_som
 
 -- ---- numbers counted from starts
 
-added : (a b c : List ℕ) → counted_from a (counted_from b c) ≡ counted_from (counted_from a b) c
+pub added : (a b c : List ℕ) → counted_from a (counted_from b c) ≡ counted_from (counted_from a b) c
 added (x ∷ a) (y ∷ b) (z ∷ c) = let here : x + (y + z) ≡ (x + y) + z = omega arith in ap₂ (λ n ns. n ∷ ns) here (added a b c)
 added [] [] c = refl
 added [] (_ ∷ _) [] = refl
@@ -72,7 +72,7 @@ added [] (_ ∷ _) (_ ∷ _) = refl
 added (_ ∷ _) [] c = refl
 added (_ ∷ _) (_ ∷ _) [] = refl
 
-counted_once : (start one other : List ℕ) → length one ≡ length start → length other ≡ length start → counted_from start one ≡ counted_from start other → one ≡ other
+pub counted_once : (start one other : List ℕ) → length one ≡ length start → length other ≡ length start → counted_from start one ≡ counted_from start other → one ≡ other
 counted_once [] [] [] a b same = refl
 counted_once (s ∷ start) (m ∷ one) (n ∷ other) a b same =
     let here : s + m ≡ s + n = cc in
@@ -81,7 +81,7 @@ counted_once (s ∷ start) (m ∷ one) (n ∷ other) a b same =
     ap₂ (λ x xs. x ∷ xs) first (counted_once start one other (omega arith) (omega arith) rest)
 counted_once _ _ _ a b same = absurd (omega arith)
 
-length_counted : (start numbers : List ℕ) → length numbers ≡ length start → length (counted_from start numbers) ≡ length start
+pub length_counted : (start numbers : List ℕ) → length numbers ≡ length start → length (counted_from start numbers) ≡ length start
 length_counted [] [] same = refl
 length_counted (s ∷ start) (n ∷ numbers) same = ap suc (length_counted start numbers (omega arith))
 length_counted _ _ same = absurd (omega arith)
@@ -103,7 +103,7 @@ place_from_origin ds chunk origin place is same =
       more d c o ds chunk origin starts rest (p ∷ place) same = let start = starts.start in (omega arith, rest place (omega arith))
 
 -- a list that has something below it in each place has no 0
-not_empty_if_inside : (start shape index : List ℕ) → AreWithin start shape index → ¬ Contains shape 0
+pub not_empty_if_inside : (start shape index : List ℕ) → AreWithin start shape index → ¬ Contains shape 0
 not_empty_if_inside [] [] [] within (k, counted, is) = absurd (omega arith)
 not_empty_if_inside (s ∷ start) (n ∷ shape) (i ∷ index) within (zero, counted, is) =
     let from : s ≤ i = within.0 in
@@ -115,7 +115,7 @@ not_empty_if_inside _ _ _ within h = absurd within
 -- ---- one part
 
 -- the part of a chunk has an element that chunk and box share
-takes : (ds : List Dimension) (IsKey : List ℕ → List ℕ → Type 0) (b : Box) (chunk : List ℕ) (part : Part) (index : List ℕ) → IsPart ds IsKey b chunk part
+pub takes : (ds : List Dimension) (IsKey : List ℕ → List ℕ → Type 0) (b : Box) (chunk : List ℕ) (part : Part) (index : List ℕ) → IsPart ds IsKey b chunk part
     → IsCommon ds b chunk index → (place : List ℕ) × HasElement b part index place
 takes ds IsKey b chunk part index is common =
     let boxes = is.boxes in
@@ -130,7 +130,7 @@ takes ds IsKey b chunk part index is common =
     )
 
 -- what it has is what they share
-has_common : (ds : List Dimension) (IsKey : List ℕ → List ℕ → Type 0) (b : Box) (chunk : List ℕ) (part : Part) (index place : List ℕ) → IsPart ds IsKey b chunk part
+pub has_common : (ds : List Dimension) (IsKey : List ℕ → List ℕ → Type 0) (b : Box) (chunk : List ℕ) (part : Part) (index place : List ℕ) → IsPart ds IsKey b chunk part
     → HasElement b part index place → IsCommon ds b chunk index
 has_common ds IsKey b chunk part index place is has =
     let boxes = is.boxes in
@@ -163,7 +163,7 @@ has_place ds IsKey b chunk part index place is has =
 -- ---- parts and chunks, place by place
 
 module _ {X Y : Type 0} (R : X → Y → Type 0) where
-  pair_of : (xs : List X) (ys : List Y) → AllZip R xs ys → (x : X) → Contains xs x → (y : Y) × Contains ys y × R x y
+  pub pair_of : (xs : List X) (ys : List Y) → AllZip R xs ys → (x : X) → Contains xs x → (y : Y) × Contains ys y × R x y
   pair_of (z ∷ xs) (y ∷ ys) zipped x (zero, within, is) = (y, (zero, omega arith, refl), subst (λ w. R w y) is zipped.0)
   pair_of (z ∷ xs) (y ∷ ys) zipped x (suc k, within, is) =
       let (found, (j, below, same), related) = pair_of xs ys zipped.1 x (k, omega arith, is) in
@@ -171,7 +171,7 @@ module _ {X Y : Type 0} (R : X → Y → Type 0) where
   pair_of [] ys zipped x (k, within, is) = absurd (omega arith)
   pair_of (_ ∷ _) [] zipped x has = absurd zipped
 
-  source_of : (xs : List X) (ys : List Y) → AllZip R xs ys → (y : Y) → Contains ys y → (x : X) × Contains xs x × R x y
+  pub source_of : (xs : List X) (ys : List Y) → AllZip R xs ys → (y : Y) → Contains ys y → (x : X) × Contains xs x × R x y
   source_of (x ∷ xs) (z ∷ ys) zipped y (zero, within, is) = (x, (zero, omega arith, refl), subst (R x) is zipped.0)
   source_of (x ∷ xs) (z ∷ ys) zipped y (suc k, within, is) =
       let (found, (j, below, same), related) = source_of xs ys zipped.1 y (k, omega arith, is) in

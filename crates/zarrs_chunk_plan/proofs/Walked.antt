@@ -18,19 +18,19 @@ pushed R (_ ∷ _) [] x y are also = absurd are
 
 module _ {G E : Type 0} (dimensions : G → List Dimension) (is_key : E → List ℕ → List ℕ → Type 0) (begin : Parts G E) where
   abbrev pub IsPartOf : List ℕ → Part → Type 0
-  IsPartOf = IsPart (dimensions begin.grid.now) (is_key begin.encoding.now) begin.array_subset.now
+  IsPartOf = IsPart (dimensions begin.grid.now) (is_key begin.encoding.now) begin.array_subset
 
   -- these chunks came, of which these are the parts
   abbrev pub HaveCome : Parts G E → List Part → Type 0
   HaveCome now parts = (came : List (List ℕ)) × (chunks_to_come begin ≡ came ++ chunks_to_come now) × AllZip IsPartOf came parts
-      × IsAbout begin.grid.now begin.encoding.now begin.array_subset.now now × MeetSubset dimensions now
+      × IsAbout begin.grid.now begin.encoding.now begin.array_subset now × MeetSubset dimensions now
 
   pub at_first : (now : Parts G E) (parts : List Part) → now ≡ begin → parts ≡ [] → MeetSubset dimensions begin → HaveCome now parts
   at_first now parts same none meet = (
     [],
     ap chunks_to_come (sym same),
     subst (AllZip IsPartOf []) (sym none) tt,
-    record { same_grid = ap (λ w. w.grid.now) same; same_encoding = ap (λ w. w.encoding.now) same; same_subset = ap (λ w. w.array_subset.now) same },
+    record { same_grid = ap (λ w. w.grid.now) same; same_encoding = ap (λ w. w.encoding.now) same; same_subset = ap (λ w. w.array_subset) same },
     subst (MeetSubset dimensions) (sym same) meet,
   )
 

@@ -20,12 +20,19 @@
 //! | `laws` | what holds of every plan |
 #![tactic(auto)]
 
+mod chunk_copies;
+mod copies_error;
 pub mod laws;
+mod overlap;
 mod part;
 mod plan;
+mod rechunking;
 mod shared;
 mod walk;
 
+pub use chunk_copies::{ChunkCopies, Copies};
+pub use copies_error::CopiesError;
 pub use part::Part;
 pub use plan::parts;
+pub use rechunking::copies;
 pub use walk::Parts;

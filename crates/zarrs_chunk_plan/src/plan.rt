@@ -22,7 +22,7 @@ pub fn parts<'a, G: ChunkGridTraits, E: ChunkKeyEncodingTraits>(
     alloc: Global,
     grid: &'a G,
     encoding: &'a E,
-    array_subset: &'a ArraySubset,
+    array_subset: &ArraySubset,
 ) -> Result<Option<Parts<'a, G, E>>, Refusal<IncompatibleDimensionalityError>>
     ensures empty { IsEmptyBox array_subset.now → length (G.dimensions grid.now) ≢ 0
         → AnswersNoParts result }
@@ -38,5 +38,5 @@ pub fn parts<'a, G: ChunkGridTraits, E: ChunkKeyEncodingTraits>(
     let Some(cover) = cover else {
         return Ok(None);
     };
-    Ok(Some(Parts::new(alloc, grid, encoding, array_subset, cover)?))
+    Ok(Some(Parts::new(alloc, grid, encoding, array_subset.clone()?, cover)?))
 }

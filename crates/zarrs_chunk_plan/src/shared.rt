@@ -41,7 +41,7 @@ pub(crate) fn shared_boxes<G: ChunkGridTraits>(
 ///
 /// # Errors
 /// Out of memory.
-fn found<T: Drop>(
+pub(crate) fn found<T: Drop>(
     answer: Result<Option<T>, Refusal<IncompatibleDimensionalityError>>,
 ) -> Result<T, AllocError>
     requires { IsFoundOrMemory answer }
@@ -85,26 +85,31 @@ fn sizes_shared(
     let others = array_subset.start().iter().zip(array_subset.shape());
     sizes.extend(
         ranges.zip(others).map(|((first, edge), (start, size))| {
-            size_shared(*first, *edge, *start, *size)
+            edge_shared(*first, *edge, *start, *size)
         }),
     )?;
     Ok(sizes)
 }
 
-/// How many indices two ranges share, which are given by their first index and how many they hold. An index past
-/// 18446744073709551615 doesn't count.
-fn size_shared(first: u64, edge: NonZeroU64, start: u64, size: u64) -> u64
+/// How many indices a chunk's range and another one share.
+fn edge_shared(first: u64, edge: NonZeroU64, start: u64, size: u64) -> u64
     ensures { result ≡ min (first + non_zero_u64_get edge) (min (start + size) greatest)
         - max first start }
 {
-    let end = first
-        .saturating_add(edge.get())
-        .min(start.saturating_add(size));
+    size_shared(first, edge.get(), start, size)
+}
+
+/// How many indices two ranges share, which are given by their first index and how many they hold. An index past
+/// 18446744073709551615 doesn't count.
+pub(crate) fn size_shared(first: u64, size: u64, start: u64, other: u64) -> u64
+    ensures { result ≡ min (first + size) (min (start + other) greatest) - max first start }
+{
+    let end = first.saturating_add(size).min(start.saturating_add(other));
     end.saturating_sub(first.max(start))
 }
 
 /// The box of a start and a shape that make one.
-fn box_of(start: ArrayIndices, shape: ArrayShape) -> ArraySubset
+pub(crate) fn box_of(start: ArrayIndices, shape: ArrayShape) -> ArraySubset
     requires { IsBox (record { start = start.items; shape = shape.items }) }
     ensures { result ≡ record { start = start.items; shape = shape.items } }
 {

@@ -14,14 +14,14 @@ pub struct Parts<'a, G, E> {
     alloc: Global,
     grid: &'a G,
     encoding: &'a E,
-    array_subset: &'a ArraySubset,
+    array_subset: ArraySubset,
     chunks: ChunkIndicesInSubset,
 }
 
 impl<'a, G: ChunkGridTraits, E: ChunkKeyEncodingTraits> Parts<'a, G, E> {
-    ghost use Rattle.std.specs.Prelude.{◌≡◌, IfOk};
+    ghost use Rattle.std.specs.Prelude.{◌≡◌, [], IfOk};
     ghost use Rattle.zarrs_chunks.specs.Walks.{chunks_in};
-    ghost use Rattle.zarrs_chunk_plan.specs.seen.Parts.{IsAbout, chunks_to_come};
+    ghost use Rattle.zarrs_chunk_plan.specs.seen.Parts.{IsAbout, chunks_to_come, offsets_to_come};
 
     /// A walk over the parts that the chunks in a box of chunk numbers hold.
     ///
@@ -31,11 +31,11 @@ impl<'a, G: ChunkGridTraits, E: ChunkKeyEncodingTraits> Parts<'a, G, E> {
         alloc: Global,
         grid: &'a G,
         encoding: &'a E,
-        array_subset: &'a ArraySubset,
+        array_subset: ArraySubset,
         chunks: ArraySubset,
     ) -> Result<Parts<'a, G, E>, AllocError>
         ensures left { IfOk result (λ walk. chunks_to_come walk ≡ chunks_in chunks) }
-        ensures about { IfOk result (IsAbout grid.now encoding.now array_subset.now) }
+        ensures about { IfOk result (IsAbout grid.now encoding.now array_subset) }
     {
         Ok(Parts {
             alloc,
@@ -44,6 +44,14 @@ impl<'a, G: ChunkGridTraits, E: ChunkKeyEncodingTraits> Parts<'a, G, E> {
             array_subset,
             chunks: ChunkIndicesInSubset::new(alloc, chunks)?,
         })
+    }
+
+    /// Leaves no part to come.
+    pub(crate) fn end(&mut self)
+        ensures none { (chunks_to_come self.new ≡ []) × (offsets_to_come self.new ≡ []) }
+        ensures about { IsAbout self.old.grid.now self.old.encoding.now self.old.array_subset self.new }
+    {
+        self.chunks.end();
     }
 }
 
@@ -68,7 +76,7 @@ impl<G: ChunkGridTraits, E: ChunkKeyEncodingTraits> Iterator for Parts<'_, G, E>
             self.alloc,
             self.grid,
             self.encoding,
-            self.array_subset,
+            &self.array_subset,
             chunk,
         );
         if part.is_err() {

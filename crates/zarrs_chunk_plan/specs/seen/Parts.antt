@@ -27,7 +27,7 @@ module _ {G E : Type 0} where
   pub record IsAbout (grid : G) (encoding : E) (subset : Box) (walk : Parts G E) : Type 0 where
     pub same_grid : walk.grid.now ≡ grid
     pub same_encoding : walk.encoding.now ≡ encoding
-    pub same_subset : walk.array_subset.now ≡ subset
+    pub same_subset : walk.array_subset ≡ subset
 
   -- what `parts` answers where the box isn't empty: the parts of the chunks of its cover, and none where it has none
   abbrev pub AnswersParts : List Dimension → Box → Result (Option (Parts G E)) (Refusal IncompatibleDimensionalityError) → Type 0
@@ -44,12 +44,12 @@ module _ {G E : Type 0} where
 
   -- each chunk to come holds some element of the box
   abbrev pub MeetSubset : (G → List Dimension) → Parts G E → Type 0
-  MeetSubset dimensions walk = AllByRecursion (Meets (dimensions walk.grid.now) walk.array_subset.now) (chunks_to_come walk)
+  MeetSubset dimensions walk = AllByRecursion (Meets (dimensions walk.grid.now) walk.array_subset) (chunks_to_come walk)
 
   -- the parts that the walk has to give: one for each chunk to come
   abbrev pub ArePartsToCome : (G → List Dimension) → (E → List ℕ → List ℕ → Type 0) → Parts G E → List Part → Type 0
   ArePartsToCome dimensions is_key walk =
-      AllZip (IsPart (dimensions walk.grid.now) (is_key walk.encoding.now) walk.array_subset.now) (chunks_to_come walk)
+      AllZip (IsPart (dimensions walk.grid.now) (is_key walk.encoding.now) walk.array_subset) (chunks_to_come walk)
 
 -- what holds of a part, where `next` gave one
 abbrev pub IfPart : (Part → Type 0) → Option (Result Part AllocError) → Type 0
@@ -62,6 +62,6 @@ IfPart P None = Unit {0}
 pub record GivesPart {G E : Type 0} (dimensions : G → List Dimension) (is_key : E → List ℕ → List ℕ → Type 0) (before : Parts G E)
     (given : Option (Result Part AllocError)) (after : Parts G E) : Type 0 where
   pub gives : Gives offsets_to_come chunks_to_come (λ part. part.chunk.items) (λ offsets. offsets ≢ []) before given after
-  pub part : IfPart (λ part. IsPart (dimensions before.grid.now) (is_key before.encoding.now) before.array_subset.now part.chunk.items part) given
-  pub about : IsAbout before.grid.now before.encoding.now before.array_subset.now after
+  pub part : IfPart (λ part. IsPart (dimensions before.grid.now) (is_key before.encoding.now) before.array_subset part.chunk.items part) given
+  pub about : IsAbout before.grid.now before.encoding.now before.array_subset after
   pub meet : MeetSubset dimensions after

@@ -15,6 +15,10 @@ abbrev pub shared_sizes : (origin edges start sizes : List ℕ) → List ℕ
 shared_sizes origin edges start sizes =
     map (λ p. min (p.0.0 + p.0.1) (min (p.1.0 + p.1.1) greatest) - max p.0.0 p.1.0) (zip (zip origin edges) (zip start sizes))
 
+-- the later of each two starts
+abbrev pub later_starts : List ℕ → List ℕ → List ℕ
+later_starts one other = map (λ p. max p.0 p.1) (zip one other)
+
 -- a look-up found something, or was out of memory
 abbrev pub IsFoundOrMemory : {X : Type 0} → Result (Option X) (Refusal IncompatibleDimensionalityError) → Type 0
 IsFoundOrMemory (Ok (Some _)) = Unit {0}

@@ -22,4 +22,4 @@ returns-clause-meet g c =
     (rw c.in-Some.is at c.in_ok-cover.ensures.answers) (rw c.in-Some.is at c.in_ok-cover.ensures.cover)
     in
     let left = subst (AllByRecursion (Meets ds c.args.array_subset.now)) (sym c.in_ok-new.ensures.left) meet in
-    rw (about.same_grid, about.same_subset) left
+    rw (about.same_grid, about.same_subset, c.in_ok-clone.ensures) left

@@ -1,0 +1,62 @@
+-- Lists that are made of other lists, one after another: what is in them, and what holds of each two of it.
+use Rattle.std.proofs.Common.{◌≡◌, ◌⊎◌, ℕ, zero, suc, ◌<◌, List, [], ◌∷◌, ◌++◌, Contains, get_or, length, map, refl, subst, sym, ⊎_elim, arith}
+use Rattle.std.specs.List.{All, AllPairs, flat_map}
+use Rattle.std.proofs.lemmas.List.Elements.{All-append, Contains-append_cases, Contains-append_left, Contains-append_right, Contains-get_or}
+use Rattle.std.proofs.lemmas.List.Kept.{AllPairs-cons}
+
+module _ {X : Type 0} where
+  deeper : (x : X) (xs : List X) (y : X) → Contains xs y → Contains (x ∷ xs) y
+  deeper x xs y (k, within, is) = (suc k, omega arith, is)
+
+  pairs_of_both : (Q : X → X → Type 0) (xs ys : List X) → AllPairs Q xs → AllPairs Q ys
+      → ((x y : X) → Contains xs x → Contains ys y → Q x y) → AllPairs Q (xs ++ ys)
+  pairs_of_both Q [] ys one other across = other
+  pairs_of_both Q (x ∷ xs) ys one other across =
+      AllPairs-cons Q x (xs ++ ys)
+      (All-append (Q x) xs ys (λ k d within. one zero (suc k) d (omega arith) (omega arith))
+      (λ k d within. across x (get_or ys k d) (zero, omega arith, refl) (Contains-get_or ys k d within)))
+      (pairs_of_both Q xs ys (λ i j d before within. one (suc i) (suc j) d (omega arith) (omega arith)) other
+      (λ y z among also. across y z (deeper x xs y among) also))
+
+module _ {X Y : Type 0} (f : X → Y) where
+  pub is_of : (xs : List X) (y : Y) → Contains (map f xs) y → (x : X) × Contains xs x × (f x ≡ y)
+  is_of [] y (k, within, is) = absurd (omega arith)
+  is_of (x ∷ xs) y (zero, within, is) = (x, (zero, omega arith, refl), is)
+  is_of (x ∷ xs) y (suc k, within, is) = let (z, among, same) = is_of xs y (k, omega arith, is) in (z, deeper x xs z among, same)
+
+  pub among_mapped : (xs : List X) (x : X) → Contains xs x → Contains (map f xs) (f x)
+  among_mapped [] x (k, within, is) = absurd (omega arith)
+  among_mapped (z ∷ xs) x (zero, within, is) = (zero, omega arith, λ i. f (is i))
+  among_mapped (z ∷ xs) x (suc k, within, is) = deeper (f z) (map f xs) (f x) (among_mapped xs x (k, omega arith, is))
+
+  pub pairs_mapped : (Q : Y → Y → Type 0) (xs : List X) → AllPairs (λ x z. Q (f x) (f z)) xs → AllPairs Q (map f xs)
+  pairs_mapped Q [] all = λ i j d before within. absurd (omega arith)
+  pairs_mapped Q (x ∷ xs) all =
+      AllPairs-cons Q (f x) (map f xs)
+      (λ k d within.
+      let (z, (j, counted, is), same) = is_of xs (get_or (map f xs) k d) (Contains-get_or (map f xs) k d within) in
+      subst (Q (f x)) same (subst (λ w. Q (f x) (f w)) is (all zero (suc j) z (omega arith) (omega arith))))
+      (pairs_mapped Q xs (λ i j d before within. all (suc i) (suc j) d (omega arith) (omega arith)))
+
+module _ {X Y : Type 0} (f : X → List Y) where
+  pub in_some : (xs : List X) (y : Y) → Contains (flat_map f xs) y → (x : X) × Contains xs x × Contains (f x) y
+  in_some [] y (k, within, is) = absurd (omega arith)
+  in_some (x ∷ xs) y has =
+      ⊎_elim (λ here. (x, (zero, omega arith, refl), here))
+      (λ there. let (z, among, in_z) = in_some xs y there in (z, deeper x xs z among, in_z))
+      (Contains-append_cases (f x) (flat_map f xs) y has)
+
+  pub in_joined : (xs : List X) (x : X) (y : Y) → Contains xs x → Contains (f x) y → Contains (flat_map f xs) y
+  in_joined [] x y (k, within, is) has = absurd (omega arith)
+  in_joined (z ∷ xs) x y (zero, within, is) has = Contains-append_left (f z) (flat_map f xs) y (subst (λ w. Contains (f w) y) (sym is) has)
+  in_joined (z ∷ xs) x y (suc k, within, is) has = Contains-append_right (f z) (flat_map f xs) y (in_joined xs x y (k, omega arith, is) has)
+
+  pub pairs_joined : (Q : Y → Y → Type 0) (xs : List X) → ((x : X) → Contains xs x → AllPairs Q (f x))
+      → AllPairs (λ x z. (y w : Y) → Contains (f x) y → Contains (f z) w → Q y w) xs → AllPairs Q (flat_map f xs)
+  pairs_joined Q [] each across = λ i j d before within. absurd (omega arith)
+  pairs_joined Q (x ∷ xs) each across =
+      pairs_of_both Q (f x) (flat_map f xs) (each x (zero, omega arith, refl))
+      (pairs_joined Q xs (λ z among. each z (deeper x xs z among)) (λ i j d before within. across (suc i) (suc j) d (omega arith) (omega arith)))
+      (λ y w has also.
+      let (z, (k, counted, is), in_z) = in_some xs w also in
+      across zero (suc k) z (omega arith) (omega arith) y w has (subst (λ v. Contains (f v) w) (sym is) in_z))

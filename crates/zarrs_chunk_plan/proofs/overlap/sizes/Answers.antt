@@ -1,0 +1,19 @@
+use Rattle.std.proofs.Common.{rules, ◌≡◌, ◌+◌, ◌-◌, map, max, min, tests, zip}
+use Rattle.std.proofs.lemmas.Iterator.{YieldsList-from_map, YieldsList-from_slice, YieldsList-from_zip}
+use Rattle.std.proofs.lemmas.Iterator.Adapters.{items_from_extend}
+use Rattle.std.proofs.lemmas.Iterator.Consumers.{YieldsList-at}
+use Rattle.zarrs_chunk_base.specs.Greatest.{greatest}
+use Rattle.zarrs_chunk_plan.specs.seen.Shared.{shared_sizes}
+use Rattle.zarrs_chunk_plan.proofs.overlap.sizes.Goals as goal
+
+pub returns : goal.returns
+returns c =
+    let one = c.args.one.now in
+    let other = c.args.other.now in
+    let pairs = YieldsList-from_zip {s = c.zip-ranges.result} (YieldsList-from_slice one.start (cc)) (YieldsList-from_slice one.shape (cc)) in
+    let others = YieldsList-from_zip {s = c.zip-others.result} (YieldsList-from_slice other.start (cc)) (YieldsList-from_slice other.shape (cc)) in
+    let both = YieldsList-from_zip {s = c.zip.result} (YieldsList-at c.zip.ensures.first pairs) (YieldsList-at c.zip.ensures.second others) in
+    let h = items_from_extend c.extend.result c.extend.ensures.ran
+    (YieldsList-from_map _ (λ p. min (p.0.0 + p.0.1) (min (p.1.0 + p.1.1) greatest) - max p.0.0 p.1.0) (YieldsList-at c.map.ensures.source both) c.map.ensures.closure (λ x r q k. search (rules, tests))) in
+    let e : c.extend.new.self.items ≡ shared_sizes one.start one.shape other.start other.shape = search rules in
+    e

@@ -1,0 +1,22 @@
+use Rattle.std.proofs.Common.{◌≡◌, ◌∙◌, ℕ, zero, suc, ◌+◌, ◌≤◌, List, [], ◌∷◌, ap₂, length, replicate, arith}
+use Rattle.std.proofs.lemmas.List.{length-replicate}
+use Rattle.zarrs_chunk_base.specs.ArraySubset.{ends}
+use Rattle.zarrs_chunk_base.specs.Greatest.{AllFit, greatest}
+use Rattle.zarrs_chunk_base.proofs.Boxes.{fits}
+use Rattle.zarrs_chunk_plan.proofs.rechunking.box_from_zero.Goals as goal
+
+ends_fit : (shape : List ℕ) → AllFit shape → AllFit (ends (replicate (length shape) 0) shape)
+ends_fit [] fit = tt
+ends_fit (n ∷ shape) fit = let here : n ≤ greatest = fit.0 in (omega arith, ends_fit shape fit.1)
+
+pub box_of-requires : goal.box_of-requires
+box_of-requires c =
+    let shape = c.args.shape.now in
+    let copied = c.in_ok-to_vec.ensures.items_if_clones_equal (λ x y same. same) in
+    rw (copied, c.in_ok-start.ensures)
+    (record { lengths = length-replicate (length shape) 0; fits = ends_fit shape (fits shape (λ k. omega (arith, c.type_inv.shape k))) })
+
+pub returns : goal.returns
+returns c =
+    let copied = c.in_ok-to_vec.ensures.items_if_clones_equal (λ x y same. same) in
+    c.box_of.ensures ∙ ap₂ (λ a b. record { start = a; shape = b }) c.in_ok-start.ensures copied

@@ -1,0 +1,67 @@
+-- What is left of a walk over what a rechunking copies.
+use Rattle.std.specs.Prelude.{◌≡◌, ◌≢◌, ◌⊎◌, ℕ, List, [], Option, Some, None, Result, Ok, Err}
+use Rattle.std.specs.declared.alloc.AllocError.{AllocError}
+use Rattle.zarrs_chunk_base.specs.ArraySubset.{Box}
+use Rattle.zarrs_chunk_base.specs.Dimension.{Dimension, array_sizes}
+use Rattle.zarrs_chunk_base.specs.Refusal.{TellsLengths}
+use Rattle.zarrs_chunks.specs.Subsets.{IsCover}
+use Rattle.zarrs_chunks.specs.Walks.{Gives, chunks_in}
+use Rattle.zarrs_chunk_plan.specs.Plan.{IsPart}
+use Rattle.zarrs_chunk_plan.specs.Rechunking.{array_box}
+use Rattle.zarrs_chunk_plan.specs.declared.chunk_copies.ChunkCopies.{ChunkCopies}
+use Rattle.zarrs_chunk_plan.specs.declared.chunk_copies.Copies.{Copies}
+use Rattle.zarrs_chunk_plan.specs.declared.copies_error.CopiesError.{CopiesError}
+use Rattle.zarrs_chunk_plan.specs.declared.copies_error.CopiesError.TheVariants.{ArrayShapes, Chunks}
+use Rattle.zarrs_chunk_plan.specs.declared.walk.Parts.{Parts}
+use Rattle.zarrs_chunk_plan.specs.seen.Parts.{IsAbout, MeetSubset, chunks_to_come, offsets_to_come}
+
+module _ {G E H F : Type 0} where
+  -- the chunks of the target into which the copies are still to come; and they, counted from the first one
+  abbrev pub targets_to_come : Copies G E H F → List (List ℕ)
+  targets_to_come walk = chunks_to_come walk.targets
+
+  abbrev pub target_offsets : Copies G E H F → List (List ℕ)
+  target_offsets walk = offsets_to_come walk.targets
+
+  -- the walk is from this grid and encoding to these, and over this box of elements
+  pub record IsAboutCopies (source : G) (source_encoding : E) (target : H) (target_encoding : F) (array : Box) (walk : Copies G E H F) : Type 0 where
+    pub same_source : walk.source.now ≡ source
+    pub same_source_encoding : walk.source_encoding.now ≡ source_encoding
+    pub targets : IsAbout target target_encoding array walk.targets
+
+  -- both grids are of one array, all of it is copied, and each chunk to come holds some of its elements
+  pub record CanCopy (source_dimensions : G → List Dimension) (target_dimensions : H → List Dimension) (walk : Copies G E H F) : Type 0 where
+    pub one_array : array_sizes (source_dimensions walk.source.now) ≡ array_sizes (target_dimensions walk.targets.grid.now)
+    pub whole : walk.targets.array_subset ≡ array_box (target_dimensions walk.targets.grid.now)
+    pub meet : MeetSubset target_dimensions walk.targets
+
+module _ {G E : Type 0} where
+  -- the walk has to give the plan of reading a box of elements
+  pub record IsPlanned (dimensions : G → List Dimension) (grid : G) (encoding : E) (subset : Box) (walk : Parts G E) : Type 0 where
+    pub about : IsAbout grid encoding subset walk
+    pub meet : MeetSubset dimensions walk
+    pub cover : Box
+    pub is_cover : IsCover (dimensions grid) subset cover
+    pub left : chunks_to_come walk ≡ chunks_in cover
+
+-- what holds of a group, where `next` gave one
+abbrev pub IfGroup : {T : Type 0} → (T → Type 0) → Option (Result T AllocError) → Type 0
+IfGroup P (Some (Ok group)) = P group
+IfGroup P (Some (Err _)) = Unit {0}
+IfGroup P None = Unit {0}
+
+-- `next` gives the group of the first chunk to come, and the others are to come then; nothing, at the end; or out of memory. The walk is
+-- over the same as before.
+pub record GivesCopies {G E H F : Type 0} (source_dimensions : G → List Dimension) (target_dimensions : H → List Dimension) (target_key : F → List ℕ → List ℕ → Type 0)
+    (before : Copies G E H F) (given : Option (Result (ChunkCopies G E) AllocError)) (after : Copies G E H F) : Type 0 where
+  pub gives : Gives target_offsets targets_to_come (λ group. group.to.chunk.items) (λ offsets. offsets ≢ []) before given after
+  pub to : IfGroup (λ group. IsPart (target_dimensions before.targets.grid.now) (target_key before.targets.encoding.now) before.targets.array_subset
+      group.to.chunk.items group.to) given
+  pub from : IfGroup (λ group. IsPlanned source_dimensions before.source.now before.source_encoding.now group.to.in_subset group.from) given
+  pub about : IsAboutCopies before.source.now before.source_encoding.now before.targets.grid.now before.targets.encoding.now before.targets.array_subset after
+  pub can : CanCopy source_dimensions target_dimensions after
+
+-- the fault says that the grids have different array shapes, or how many dimensions the box of chunks has and how many the target
+abbrev pub IsCopiesFault : List ℕ → List ℕ → ℕ → ℕ → CopiesError → Type 0
+IsCopiesFault source target given expected ArrayShapes = source ≢ target
+IsCopiesFault source target given expected (Chunks e) = (source ≡ target) × (given ≢ expected) × TellsLengths given expected e

@@ -1,0 +1,85 @@
+//! The walk over what a rechunking copies.
+use crate::part::Part;
+use crate::plan::parts;
+use crate::shared::found;
+use crate::walk::Parts;
+use std::alloc::{AllocError, Global};
+use zarrs_chunk_keys::ChunkKeyEncodingTraits;
+use zarrs_chunks::ChunkGridTraits;
+
+/// What is copied into one chunk of the target.
+#[derive(Debug, Drop)]
+pub struct ChunkCopies<'a, G, E> {
+    /// The chunk of the target, with the elements of the array that it holds: as a box of the chunk, and as a box of the array.
+    pub to: Part,
+    /// The parts of the source's chunks that have these elements. Each goes to the box of the target's chunk that it has as `in_subset`.
+    pub from: Parts<'a, G, E>,
+}
+
+/// What a rechunking copies, a chunk of the target after another, in row-major order of these chunks.
+///
+/// A group is made when it is asked for, and so is each of its parts. After an `Err` or the end the walk gives nothing more.
+#[derive(Debug, Drop)]
+pub struct Copies<'a, G, E, H, F> {
+    alloc: Global,
+    source: &'a G,
+    source_encoding: &'a E,
+    targets: Parts<'a, H, F>,
+}
+
+impl<'a, G, E, H, F> Copies<'a, G, E, H, F> {
+    ghost use Rattle.std.specs.Prelude.{◌≡◌};
+
+    /// A walk over what is copied into the chunks of the target that a walk over the whole array gives.
+    pub(crate) fn new(
+        alloc: Global,
+        source: &'a G,
+        source_encoding: &'a E,
+        targets: Parts<'a, H, F>,
+    ) -> Copies<'a, G, E, H, F>
+        ensures targets { result.targets ≡ targets.entry }
+        ensures same_source { result.source.now ≡ source.now }
+        ensures same_encoding { result.source_encoding.now ≡ source_encoding.now }
+    {
+        Copies {
+            alloc,
+            source,
+            source_encoding,
+            targets,
+        }
+    }
+}
+
+impl<
+    'a,
+    G: ChunkGridTraits,
+    E: ChunkKeyEncodingTraits,
+    H: ChunkGridTraits,
+    F: ChunkKeyEncodingTraits,
+> Iterator for Copies<'a, G, E, H, F> {
+    ghost use Rattle.std.specs.Iterator.{item_count};
+    ghost use Rattle.zarrs_chunk_plan.specs.seen.Copies.{CanCopy, GivesCopies, target_offsets};
+
+    type Item = Result<ChunkCopies<'a, G, E>, AllocError>;
+
+    ghost can_next = { CanCopy G.dimensions H.dimensions };
+
+    ghost next_gives = { GivesCopies G.dimensions H.dimensions F.is_key };
+
+    ghost remaining = { item_count target_offsets };
+
+    fn next(&mut self) -> Option<Result<ChunkCopies<'a, G, E>, AllocError>> {
+        let to = match self.targets.next()? {
+            Ok(to) => to,
+            Err(error) => return Some(Err(error)),
+        };
+        let from = parts(self.alloc, self.source, self.source_encoding, &to.in_subset);
+        match found(from) {
+            Ok(from) => Some(Ok(ChunkCopies { to, from })),
+            Err(error) => {
+                self.targets.end();
+                Some(Err(error))
+            }
+        }
+    }
+}

@@ -1,0 +1,142 @@
+//! The plan of a rechunking.
+ghost use Rattle.std.specs.Prelude.{◌≡◌, ◌≢◌, ◌↔◌, ℕ, IfErr, IfOk, IsTrue, List, length, replicate};
+ghost use Rattle.zarrs_chunk_base.specs.ArraySubset.{Box, IsInside};
+ghost use Rattle.zarrs_chunk_base.specs.Dimension.{array_sizes};
+ghost use Rattle.zarrs_chunk_base.specs.Refusal.{HasMemory, IfRefused};
+ghost use Rattle.zarrs_chunks.specs.Walks.{chunks_in};
+ghost use Rattle.zarrs_chunk_plan.specs.Plan.{Meets};
+ghost use Rattle.zarrs_chunk_plan.specs.Rechunking.{AreTargets, array_box};
+ghost use Rattle.zarrs_chunk_plan.specs.seen.Copies.{CanCopy, IsAboutCopies, IsCopiesFault, targets_to_come};
+
+use crate::chunk_copies::Copies;
+use crate::copies_error::CopiesError;
+use crate::overlap::overlap;
+use crate::shared::{box_of, found};
+use crate::walk::Parts;
+use std::alloc::{AllocError, Global};
+use zarrs_chunk_base::{ArraySubset, IncompatibleDimensionalityError, Refusal};
+use zarrs_chunk_keys::ChunkKeyEncodingTraits;
+use zarrs_chunks::ChunkGridTraits;
+use zarrs_chunks::laws::the_cover_names_the_chunks_that_meet_a_box;
+
+/// What a rechunking copies: for each chunk of the target which parts of which chunks of the source, under which keys, and where in the target's
+/// chunk each goes. It is about the chunks of the target in a box of chunk numbers, so that a rechunking can be shared out by such boxes; the box
+/// from 0 on of the target's grid shape is all of it. A chunk that holds no element of the array is left out, and so is a chunk number past
+/// the target's grid.
+///
+/// It takes the time and the memory of two covers, however much there is to copy.
+///
+/// # Errors
+/// The two grids are of arrays of different shapes; the box of chunks has another number of dimensions than the target; or out of memory.
+pub fn copies<
+    'a,
+    G: ChunkGridTraits,
+    E: ChunkKeyEncodingTraits,
+    H: ChunkGridTraits,
+    F: ChunkKeyEncodingTraits,
+>(
+    alloc: Global,
+    source: &'a G,
+    source_encoding: &'a E,
+    target: &'a H,
+    target_encoding: &'a F,
+    chunks: &ArraySubset,
+) -> Result<Copies<'a, G, E, H, F>, Refusal<CopiesError>>
+    ensures targets { IfOk result (λ walk. (targets : Box)
+        × AreTargets (H.dimensions target.now) chunks.now targets
+        × (targets_to_come walk ≡ chunks_in targets)) }
+    ensures about { IfOk result (IsAboutCopies source.now source_encoding.now target.now
+        target_encoding.now (array_box (H.dimensions target.now))) }
+    ensures can_next { IfOk result (CanCopy G.dimensions H.dimensions) }
+    ensures one_array { IfOk result (λ _. array_sizes (G.dimensions source.now)
+        ≡ array_sizes (H.dimensions target.now)) }
+    ensures lengths { IfOk result (λ _. length chunks.now.start
+        ≡ length (H.dimensions target.now)) }
+    ensures refused { IfErr result (λ refusal. IfRefused refusal (IsCopiesFault
+        (array_sizes (G.dimensions source.now)) (array_sizes (H.dimensions target.now))
+        (length chunks.now.start) (length (H.dimensions target.now)))) }
+    ensures shapes_first { array_sizes (G.dimensions source.now)
+        ≢ array_sizes (H.dimensions target.now) → HasMemory result }
+    ensures lengths_first { length chunks.now.start ≢ length (H.dimensions target.now)
+        → HasMemory result }
+{
+    if !are_of_one_array(source, target) {
+        return Err(Refusal::Refused(CopiesError::ArrayShapes));
+    }
+    if chunks.dimensionality() != target.dimensionality() {
+        return Err(Refusal::Refused(CopiesError::Chunks(IncompatibleDimensionalityError::new(
+            chunks.dimensionality(),
+            target.dimensionality(),
+        ))));
+    }
+    let array = whole_array(alloc, target)?;
+    let written = chunks_of_array(alloc, target, &array)?;
+    let wanted = overlap(alloc, &written, chunks)?;
+    let targets = Parts::new(alloc, target, target_encoding, array, wanted)?;
+    Ok(Copies::new(alloc, source, source_encoding, targets))
+}
+
+/// Whether two grids are of arrays of one shape.
+fn are_of_one_array<G: ChunkGridTraits, H: ChunkGridTraits>(source: &G, target: &H) -> bool
+    ensures { IsTrue result ↔ (array_sizes (G.dimensions source.now)
+        ≡ array_sizes (H.dimensions target.now)) }
+{
+    source.array_shape() == target.array_shape()
+}
+
+/// The box of the chunks that hold elements of a grid's array.
+///
+/// # Errors
+/// Out of memory.
+fn chunks_of_array<G: ChunkGridTraits>(
+    alloc: Global,
+    grid: &G,
+    array: &ArraySubset,
+) -> Result<ArraySubset, AllocError>
+    requires { array.now ≡ array_box (G.dimensions grid.now) }
+    ensures lengths { IfOk result (λ chunks. length chunks.start
+        ≡ length (G.dimensions grid.now)) }
+    ensures named { IfOk result (λ chunks. (chunk : List ℕ) → IsInside chunks chunk
+        ↔ Meets (G.dimensions grid.now) (array_box (G.dimensions grid.now)) chunk) }
+{
+    // The law is about a box, and its start tells that it is one.
+    let _start = array.start();
+    let cover = the_cover_names_the_chunks_that_meet_a_box(alloc, grid, array);
+    Ok(found(cover)?)
+}
+
+/// The box of all elements of a grid's array.
+///
+/// # Errors
+/// Out of memory.
+fn whole_array<G: ChunkGridTraits>(alloc: Global, grid: &G) -> Result<ArraySubset, AllocError>
+    ensures { IfOk result (λ array. array ≡ array_box (G.dimensions grid.now)) }
+{
+    box_from_zero(alloc, grid.array_shape())
+}
+
+/// The box of a shape that begins at 0.
+///
+/// # Errors
+/// Out of memory.
+fn box_from_zero(alloc: Global, shape: &[u64]) -> Result<ArraySubset, AllocError>
+    ensures { IfOk result (λ b. b ≡ record {
+      start = replicate (length shape.now) 0;
+      shape = shape.now;
+    }) }
+{
+    let start = zeros(alloc, shape.len())?;
+    Ok(box_of(start, shape.to_vec(alloc)?))
+}
+
+/// So many zeros.
+///
+/// # Errors
+/// Out of memory.
+fn zeros(alloc: Global, len: usize) -> Result<Vec<u64>, AllocError>
+    ensures { IfOk result (λ v. v.items ≡ replicate len 0) }
+{
+    let mut numbers = Vec::with_capacity(alloc, len)?;
+    numbers.resize(len, 0)?;
+    Ok(numbers)
+}
