@@ -1,21 +1,22 @@
 -- A walk over what a rechunking copies: that it can go on, and what it gives.
-use Rattle.std.proofs.Common.{◌≡◌, ◌∙◌, ℕ, List, ◌∷◌, Some, Ok, ap, length, refl, subst, sym}
+use Rattle.std.proofs.Common.{◌≡◌, ◌∙◌, ℕ, List, [], ◌∷◌, ◌++◌, Some, None, Ok, append_assoc, append-nil, ap, length, subst, sym}
 use Rattle.std.proofs.lemmas.List.{length-map}
-use Rattle.std.specs.List.{AllByRecursion}
+use Rattle.std.specs.List.{AllByRecursion, AllZip}
 use Rattle.zarrs_chunk_base.specs.ArraySubset.{Box, IsBox, IsEmptyBox, IsInside}
 use Rattle.zarrs_chunk_base.specs.Dimension.{Dimension, array_sizes}
 use Rattle.zarrs_chunk_axes.specs.InBounds.{AreBelow}
 use Rattle.zarrs_chunks.specs.Walks.{chunks_in}
 use Rattle.zarrs_chunk_plan.specs.Plan.{IsPart, Meets}
-use Rattle.zarrs_chunk_plan.specs.Rechunking.{array_box}
+use Rattle.zarrs_chunk_plan.specs.Rechunking.{AreCopiesInto, AreTargets, Group, IsRechunking, array_box}
 use Rattle.zarrs_chunk_plan.specs.declared.chunk_copies.ChunkCopies.{ChunkCopies}
 use Rattle.zarrs_chunk_plan.specs.declared.chunk_copies.Copies.{Copies}
 use Rattle.zarrs_chunk_plan.specs.declared.part.Part.{Part}
 use Rattle.zarrs_chunk_plan.specs.declared.walk.Parts.{Parts}
-use Rattle.zarrs_chunk_plan.specs.seen.Copies.{CanCopy, GivesCopies, IsPlanned}
-use Rattle.zarrs_chunk_plan.specs.seen.Parts.{GivesPart, IsAbout, MeetSubset, chunks_to_come}
+use Rattle.zarrs_chunk_plan.specs.seen.Copies.{AreGroupsToCome, CanCopy, GivesCopies, IsAboutCopies, IsPlanned, targets_to_come}
+use Rattle.zarrs_chunk_plan.specs.seen.Parts.{ArePartsToCome, GivesPart, IsAbout, MeetSubset, chunks_to_come}
 use Rattle.zarrs_chunk_plan.proofs.Plans.{not_empty_if_inside}
 use Rattle.zarrs_chunk_plan.proofs.Rechunkings.{below_array, has_those, starts_many, takes_those}
+use Rattle.zarrs_chunk_plan.proofs.Walked.{plan_of, pushed}
 
 -- the elements of a box lie in the array of a grid, and the box has some
 pub record LieInArray (ds : List Dimension) (b : Box) : Type 0 where
@@ -83,3 +84,87 @@ module _ {G E H F : Type 0} (source_dimensions : G → List Dimension) (target_d
             meet = subst (MeetSubset target_dimensions) (sym same_targets) steps.meet;
           };
         }
+
+-- ---- the groups that came of a walk, one for each chunk that came; at the end they are a rechunking
+
+module _ {G E H F : Type 0} (source_dimensions : G → List Dimension) (source_key : E → List ℕ → List ℕ → Type 0) (target_dimensions : H → List Dimension)
+    (target_key : F → List ℕ → List ℕ → Type 0) (begin : Copies G E H F) where
+  abbrev pub IsGroupOf : List ℕ → Group → Type 0
+  IsGroupOf =
+      AreCopiesInto (source_dimensions begin.source.now) (source_key begin.source_encoding.now) (target_dimensions begin.targets.grid.now)
+      (target_key begin.targets.encoding.now)
+
+  -- these chunks came, of which these are the groups
+  abbrev pub GroupsHaveCome : Copies G E H F → List Group → Type 0
+  GroupsHaveCome now groups = (came : List (List ℕ)) × (targets_to_come begin ≡ came ++ targets_to_come now) × AllZip IsGroupOf came groups
+      × IsAboutCopies begin.source.now begin.source_encoding.now begin.targets.grid.now begin.targets.encoding.now begin.targets.array_subset now
+      × CanCopy source_dimensions target_dimensions now
+
+  pub first_group : (now : Copies G E H F) (groups : List Group) → now ≡ begin → groups ≡ [] → CanCopy source_dimensions target_dimensions begin
+      → GroupsHaveCome now groups
+  first_group now groups same none can = (
+    [],
+    ap targets_to_come (sym same),
+    subst (AllZip IsGroupOf []) (sym none) tt,
+    record {
+      same_source = ap (λ w. w.source.now) same;
+      same_source_encoding = ap (λ w. w.source_encoding.now) same;
+      targets = record {
+        same_grid = ap (λ w. w.targets.grid.now) same;
+        same_encoding = ap (λ w. w.targets.encoding.now) same;
+        same_subset = ap (λ w. w.targets.array_subset) same;
+      };
+    },
+    subst (CanCopy source_dimensions target_dimensions) (sym same) can,
+  )
+
+  pub one_more_group : (before after : Copies G E H F) (group : ChunkCopies G E) (from : List Part) (groups more : List Group) → GroupsHaveCome before groups
+      → GivesCopies source_dimensions target_dimensions target_key before (Some (Ok group)) after → ArePartsToCome source_dimensions source_key group.from from
+      → more ≡ groups ++ (group.to, from) ∷ [] → GroupsHaveCome after more
+  one_more_group before after group from groups more (came, left, are, about, can) gives parts is =
+      let planned = gives.from in
+      let plan = plan_of source_dimensions source_key before.source.now before.source_encoding.now group.to.in_subset planned.cover group.from from planned.about
+      planned.is_cover planned.left parts in
+      let into : AreCopiesInto (source_dimensions before.source.now) (source_key before.source_encoding.now) (target_dimensions before.targets.grid.now)
+      (target_key before.targets.encoding.now) group.to.chunk.items (group.to, from) =
+      record {
+        to = subst (λ b. IsPart (target_dimensions before.targets.grid.now) (target_key before.targets.encoding.now) b group.to.chunk.items group.to) can.whole gives.to;
+        from = plan;
+      } in (
+        came ++ group.to.chunk.items ∷ [],
+        left ∙ ap (λ xs. came ++ xs) gives.gives ∙ sym (append_assoc came (group.to.chunk.items ∷ []) (targets_to_come after)),
+        subst (AllZip IsGroupOf (came ++ group.to.chunk.items ∷ [])) (sym is)
+            (pushed IsGroupOf came groups group.to.chunk.items (group.to, from) are
+            (rw (← about.same_source, ← about.same_source_encoding, ← about.targets.same_grid, ← about.targets.same_encoding) into)),
+        record {
+          same_source = gives.about.same_source ∙ about.same_source;
+          same_source_encoding = gives.about.same_source_encoding ∙ about.same_source_encoding;
+          targets = record {
+            same_grid = gives.about.targets.same_grid ∙ about.targets.same_grid;
+            same_encoding = gives.about.targets.same_encoding ∙ about.targets.same_encoding;
+            same_subset = gives.about.targets.same_subset ∙ about.targets.same_subset;
+          };
+        },
+        gives.can,
+      )
+
+  pub last_group : (before after : Copies G E H F) (groups : List Group) → GroupsHaveCome before groups
+      → GivesCopies source_dimensions target_dimensions target_key before None after
+      → AreGroupsToCome source_dimensions source_key target_dimensions target_key begin groups
+  last_group before after groups (came, left, are, about, can) gives =
+      subst (λ chunks. AllZip IsGroupOf chunks groups) (sym (left ∙ ap (λ xs. came ++ xs) gives.gives.0 ∙ append-nil came)) are
+
+-- the groups of all chunks that were to come are a rechunking
+pub rechunking_of : {G E H F : Type 0} (source_dimensions : G → List Dimension) (source_key : E → List ℕ → List ℕ → Type 0)
+    (target_dimensions : H → List Dimension) (target_key : F → List ℕ → List ℕ → Type 0) (source : G) (source_encoding : E) (target : H) (target_encoding : F)
+    (array chunks targets : Box) (walk : Copies G E H F) (groups : List Group) → IsAboutCopies source source_encoding target target_encoding array walk → IsBox targets
+    → AreTargets (target_dimensions target) chunks targets → targets_to_come walk ≡ chunks_in targets
+    → AreGroupsToCome source_dimensions source_key target_dimensions target_key walk groups
+    → IsRechunking (source_dimensions source) (source_key source_encoding) (target_dimensions target) (target_key target_encoding) chunks groups
+rechunking_of source_dimensions source_key target_dimensions target_key source source_encoding target target_encoding array chunks targets walk groups about is_box are
+    left come = record {
+      targets = targets;
+      is_box = is_box;
+      are_targets = are;
+      are_groups = rw (← left, ← about.same_source, ← about.same_source_encoding, ← about.targets.same_grid, ← about.targets.same_encoding) come;
+    }

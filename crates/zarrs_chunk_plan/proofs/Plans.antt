@@ -188,14 +188,19 @@ module _ {X Y : Type 0} (R : X → Y → Type 0) where
   at_place xs [] zipped k within d = absurd (omega arith)
   at_place [] (_ ∷ _) zipped k within d = absurd zipped
 
-  -- what holds of two parts of chunks that differ holds of each two parts
-  pub pairs_of : (Q : Y → Y → Type 0) (xs : List X) (ys : List Y) → AllZip R xs ys → AllPairs (λ one other. one ≢ other) xs
-      → ((one other : X) (y z : Y) → Contains xs one → Contains xs other → one ≢ other → R one y → R other z → Q y z) → AllPairs Q ys
-  pairs_of Q xs ys zipped once follows i j d before within =
+  -- what follows for two of these from what holds of each two of those that they are related to
+  pub pairs_by : (P : X → X → Type 0) (Q : Y → Y → Type 0) (xs : List X) (ys : List Y) → AllZip R xs ys → AllPairs P xs
+      → ((one other : X) (y z : Y) → Contains xs one → Contains xs other → P one other → R one y → R other z → Q y z) → AllPairs Q ys
+  pairs_by P Q xs ys zipped each follows i j d before within =
       let (one, counted, is, related) = at_place xs ys zipped i (omega arith) d in
       let (other, also, is_other, also_related) = at_place xs ys zipped j within d in
       follows one other (get_or ys i d) (get_or ys j d) (i, counted, is one) (j, also, is_other other)
-      (λ same. once i j one before also (is one ∙ same ∙ sym (is_other one))) related also_related
+      (subst (P one) (is_other one) (subst (λ x. P x (get_or xs j one)) (is one) (each i j one before also))) related also_related
+
+  -- what holds of two parts of chunks that differ holds of each two parts
+  pub pairs_of : (Q : Y → Y → Type 0) (xs : List X) (ys : List Y) → AllZip R xs ys → AllPairs (λ one other. one ≢ other) xs
+      → ((one other : X) (y z : Y) → Contains xs one → Contains xs other → one ≢ other → R one y → R other z → Q y z) → AllPairs Q ys
+  pairs_of = pairs_by (λ one other. one ≢ other)
 
 -- ---- the plan
 

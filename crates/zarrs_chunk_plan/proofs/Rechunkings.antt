@@ -1,19 +1,20 @@
 -- The copies of a rechunking: which elements they move, and that they differ.
-use Rattle.std.proofs.Common.{◌≡◌, ◌≢◌, ◌∙◌, ℕ, zero, suc, ◌+◌, ◌<◌, ◌≤◌, List, [], ◌∷◌, Contains, length, map, replicate, refl, ap, ap₂, subst, sym, arith}
-use Rattle.std.specs.List.{AllByRecursion, AllPairs, AllZip}
-use Rattle.zarrs_chunk_base.specs.ArraySubset.{AreWithin, Box, IsBox, IsInside}
+use Rattle.std.proofs.Common.{◌≡◌, ◌≢◌, ◌∙◌, ℕ, zero, suc, ◌+◌, List, [], ◌∷◌, Contains, length, map, replicate, refl, ap, ap₂, subst, sym, arith}
+use Rattle.std.specs.List.{AllByRecursion, AllPairs, AllZip, flat_map}
+use Rattle.zarrs_chunk_base.specs.ArraySubset.{AreWithin, Box, IsInside}
 use Rattle.zarrs_chunk_base.specs.Dimension.{Dimension, Holds, InBox, IsChain, IsOrigin, IsPlace, StartsAt, array_sizes}
 use Rattle.zarrs_chunk_base.proofs.Boxes.{within_lengths}
 use Rattle.zarrs_chunk_base.proofs.InEach.{length_values}
 use Rattle.zarrs_chunk_axes.specs.InBounds.{AreBelow}
 use Rattle.zarrs_chunks.specs.Walks.{chunks_in, counted_from}
 use Rattle.zarrs_chunks.proofs.Chains.{same_box}
-use Rattle.zarrs_chunks.proofs.ChunksInBoxes.{are_those_inside, chunks_once, length_below, offset_of}
-use Rattle.zarrs_chunk_plan.specs.Plan.{HasElement, IsCommon, IsPart, IsPlan, Meets}
-use Rattle.zarrs_chunk_plan.specs.Rechunking.{AreCopiesInto, AreTargets, Group, IsRechunking, Moves, array_box, copies_of}
+use Rattle.zarrs_chunks.proofs.ChunksInBoxes.{are_those_inside, chunks_once, length_below}
+use Rattle.zarrs_chunks.proofs.FittingChunks.{counted_home}
+use Rattle.zarrs_chunk_plan.specs.Plan.{HasElement, IsCommon, IsPart, Meets}
+use Rattle.zarrs_chunk_plan.specs.Rechunking.{AreCopiesInto, Group, IsRechunking, Moves, ShareOut, array_box, copies_of}
 use Rattle.zarrs_chunk_plan.specs.declared.part.Part.{Part}
 use Rattle.zarrs_chunk_plan.proofs.Joined.{among_mapped, in_joined, in_some, is_of, pairs_joined, pairs_mapped}
-use Rattle.zarrs_chunk_plan.proofs.Plans.{added, counted_once, has_common, has_place, length_counted, pair_of, pairs_of, some_part, source_of, takes}
+use Rattle.zarrs_chunk_plan.proofs.Plans.{counted_once, has_common, has_place, length_counted, pair_of, pairs_by, pairs_of, some_part, source_of, takes}
 
 -- ---- the whole array
 
@@ -262,3 +263,42 @@ module _ (source : List Dimension) (IsSourceKey : List ℕ → List ℕ → Type
   of_one_shape chunks groups plan copy among =
       let boxes = (origin_of chunks groups plan copy among).from.boxes in
       sym boxes.from_chunk.shape ∙ boxes.from_subset.shape
+
+  -- ---- rechunkings that share the target's chunks out
+
+  -- each element of the array is moved by some copy of one of them
+  pub some_copy_of_all : AllByRecursion IsChain source → AllByRecursion IsChain target → (boxes : List Box) (plans : List (List Group)) → ShareOut target boxes
+      → AllZip (IsRechunking source IsSourceKey target IsTargetKey) boxes plans → (index : List ℕ) → AreBelow (array_sizes target) index
+      → (copy : Part × Part) × Contains (flat_map copies_of plans) copy × ((steps : List ℕ) × Moves source target copy steps index)
+  some_copy_of_all chains also_chains boxes plans shared zipped index below =
+      let (chunk, _, box) = counted_home target index also_chains below in
+      let (b, in_boxes, inside) = shared.all chunk (index, box, lies_in_array target index below) in
+      let (groups, in_plans, plan) = pair_of (IsRechunking source IsSourceKey target IsTargetKey) boxes plans zipped b in_boxes in
+      let (copy, among, moved) = some_copy chains b groups plan index chunk below box inside in
+      (copy, in_joined copies_of plans groups copy in_plans among, moved)
+
+  -- and by no other
+  pub no_other_copy_of_all : AllByRecursion IsChain source → AllByRecursion IsChain target → (boxes : List Box) (plans : List (List Group)) → ShareOut target boxes
+      → AllZip (IsRechunking source IsSourceKey target IsTargetKey) boxes plans
+      → AllPairs (λ copy other. (steps also index : List ℕ) → Moves source target copy steps index → Moves source target other also index → ⊥)
+      (flat_map copies_of plans)
+  no_other_copy_of_all chains also_chains boxes plans shared zipped =
+      pairs_joined copies_of Apart plans
+      (λ groups among.
+      let (b, _, plan) = source_of (IsRechunking source IsSourceKey target IsTargetKey) boxes plans zipped groups among in
+      no_other_copy chains also_chains b groups plan)
+      (pairs_by (IsRechunking source IsSourceKey target IsTargetKey) (λ b other. (chunk : List ℕ) → IsInside b chunk → IsInside other chunk → ⊥)
+      (λ one other. (copy next : Part × Part) → Contains (copies_of one) copy → Contains (copies_of other) next → Apart copy next) boxes plans zipped shared.apart across)
+    where
+      Apart : Part × Part → Part × Part → Type 0
+      Apart copy other = (steps also index : List ℕ) → Moves source target copy steps index → Moves source target other also index → ⊥
+
+      across : (b other : Box) (groups more : List Group) → Contains boxes b → Contains boxes other
+          → ((chunk : List ℕ) → IsInside b chunk → IsInside other chunk → ⊥)
+          → IsRechunking source IsSourceKey target IsTargetKey b groups → IsRechunking source IsSourceKey target IsTargetKey other more
+          → (copy next : Part × Part) → Contains (copies_of groups) copy → Contains (copies_of more) next → Apart copy next
+      across b other groups more _ _ apart plan also_plan copy next among also_among steps also index moved again =
+          let (_, _, inside) = has_keys b groups plan copy among in
+          let (_, _, also_inside) = has_keys other more also_plan next also_among in
+          let same = same_box target copy.1.chunk.items next.1.chunk.items index also_chains moved.in_target again.in_target in
+          apart next.1.chunk.items (subst (IsInside b) same inside) also_inside

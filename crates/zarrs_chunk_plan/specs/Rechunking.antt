@@ -1,7 +1,7 @@
 -- What a rechunking copies: for each chunk of the target the elements that it takes, and the parts of the source's chunks that have them.
 -- Sources: Zarr V3 core, chunk grids and chunk key encodings; the plan is this library's own.
-use Rattle.std.specs.Prelude.{◌≡◌, ◌↔◌, ℕ, List, length, map, replicate}
-use Rattle.std.specs.List.{AllZip, flat_map}
+use Rattle.std.specs.Prelude.{◌↔◌, ℕ, List, length, map, replicate}
+use Rattle.std.specs.List.{AllPairs, AllZip, Contains, flat_map}
 use Rattle.zarrs_chunk_base.specs.ArraySubset.{Box, IsBox, IsInside}
 use Rattle.zarrs_chunk_base.specs.Dimension.{Dimension, InBox, IsPlace, array_sizes}
 use Rattle.zarrs_chunk_axes.specs.InBounds.{AreBelow}
@@ -46,3 +46,8 @@ pub record Moves (source target : List Dimension) (copy : Part × Part) (steps i
   pub from : IsPlace source copy.0.chunk.items index (counted_from copy.0.in_chunk.start steps)
   pub in_target : InBox target copy.1.chunk.items index
   pub to : IsPlace target copy.1.chunk.items index (counted_from copy.0.in_subset.start steps)
+
+-- Boxes of chunk numbers share the chunks out that hold elements of the array: each lies in one of the boxes, and in no other.
+pub record ShareOut (target : List Dimension) (boxes : List Box) : Type 0 where
+  pub all : (chunk : List ℕ) → Meets target (array_box target) chunk → (b : Box) × Contains boxes b × IsInside b chunk
+  pub apart : AllPairs (λ b other. (chunk : List ℕ) → IsInside b chunk → IsInside other chunk → ⊥) boxes

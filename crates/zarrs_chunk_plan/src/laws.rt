@@ -6,15 +6,20 @@
 //! | Each element of the box lies in exactly one part, at its place in that part's chunk | [`each_element_lies_in_one_part`] |
 //! | No two parts have one key | [`no_two_parts_have_one_key`] |
 //! | The parts' boxes tile the box: each place in it lies in exactly one of them, they reach nowhere else, and none is empty | [`the_parts_tile_the_box`] |
-ghost use Rattle.std.specs.Prelude.{◌≢◌, ◌↔◌, ℕ, IfOk, IfSome, List};
-ghost use Rattle.std.specs.List.{AllPairs, Contains};
+//! | What [`copies`] gives, one group after another, is a rechunking | [`the_walk_gives_the_rechunking`] |
+//! | Each element of the array whose target chunk is asked for is moved by exactly one copy: from its place in the source's chunk to that in the target's | [`each_element_is_copied_once`] |
+//! | Rechunkings that share the target's chunks out are together the whole one | [`rechunkings_that_share_out_are_the_whole_one`] |
+ghost use Rattle.std.specs.Prelude.{◌≡◌, ◌≢◌, ◌↔◌, ℕ, IfOk, IfSome, List};
+ghost use Rattle.std.specs.List.{AllPairs, AllZip, Contains, flat_map};
 ghost use Rattle.zarrs_chunk_axes.specs.InBounds.{AreBelow};
-ghost use Rattle.zarrs_chunk_base.specs.ArraySubset.{IsEmptyBox, IsInside};
-ghost use Rattle.zarrs_chunk_base.specs.Dimension.{InBox, IsPlace};
+ghost use Rattle.zarrs_chunk_base.specs.ArraySubset.{Box, IsEmptyBox, IsInside};
+ghost use Rattle.zarrs_chunk_base.specs.Dimension.{InBox, IsPlace, array_sizes};
 ghost use Rattle.zarrs_chunk_plan.specs.Plan.{HasElement, IsPart, IsPlan};
+ghost use Rattle.zarrs_chunk_plan.specs.Rechunking.{Group, IsRechunking, Moves, ShareOut, copies_of};
+ghost use Rattle.zarrs_chunk_plan.specs.seen.Copies.{AreGroupsToCome, CanCopy, groups_of};
 ghost use Rattle.zarrs_chunk_plan.specs.seen.Parts.{ArePartsToCome, MeetSubset};
 
-use crate::{Part, Parts, parts};
+use crate::{Copies, CopiesError, Part, Parts, copies, parts};
 use std::alloc::{AllocError, Global};
 use zarrs_chunk_base::{ArraySubset, IncompatibleDimensionalityError, Refusal};
 use zarrs_chunk_keys::ChunkKeyEncodingTraits;
@@ -118,3 +123,126 @@ pub fn the_parts_tile_the_box<G: ChunkGridTraits, E: ChunkKeyEncodingTraits>(
     // As above.
     let _start = array_subset.start();
 }
+
+/// What the walk over a rechunking gives, one group after another, each with all of its parts, is a rechunking into the chunks that were asked for.
+///
+/// # Errors
+/// As `copies`, which this calls; or out of memory for the lists.
+pub fn the_walk_gives_the_rechunking<
+    G: ChunkGridTraits,
+    E: ChunkKeyEncodingTraits,
+    H: ChunkGridTraits,
+    F: ChunkKeyEncodingTraits,
+>(
+    alloc: Global,
+    source: &G,
+    source_encoding: &E,
+    target: &H,
+    target_encoding: &F,
+    chunks: &ArraySubset,
+) -> Result<Vec<(Part, Vec<Part>)>, Refusal<CopiesError>>
+    ensures { IfOk result (λ all. IsRechunking (G.dimensions source.now)
+        (E.is_key source_encoding.now) (H.dimensions target.now) (F.is_key target_encoding.now)
+        chunks.now (groups_of all.items)) }
+{
+    let walk = copies(
+        alloc,
+        source,
+        source_encoding,
+        target,
+        target_encoding,
+        chunks,
+    )?;
+    Ok(all_groups(alloc, walk)?)
+}
+
+/// The groups that a walk has left, each with all of its parts.
+///
+/// # Errors
+/// Out of memory.
+fn all_groups<
+    G: ChunkGridTraits,
+    E: ChunkKeyEncodingTraits,
+    H: ChunkGridTraits,
+    F: ChunkKeyEncodingTraits,
+>(alloc: Global, walk: Copies<'_, G, E, H, F>) -> Result<Vec<(Part, Vec<Part>)>, AllocError>
+    requires { CanCopy G.dimensions H.dimensions walk }
+    ensures { IfOk result (λ all. AreGroupsToCome G.dimensions E.is_key H.dimensions F.is_key
+        walk.entry (groups_of all.items)) }
+{
+    let mut all = Vec::new(alloc);
+    for group in walk {
+        let group = group?;
+        let from = all_parts(alloc, group.from)?;
+        all.push((group.to, from))?;
+    }
+    Ok(all)
+}
+
+/// Each element of the array whose chunk of the target is asked for is moved by exactly one copy, from its place in the chunk of the source that
+/// holds it to its place in the chunk of the target that does. Each copy is under the keys of its two chunks, its two boxes have one shape, and
+/// it moves nothing but elements of the array.
+pub fn each_element_is_copied_once<
+    G: ChunkGridTraits,
+    E: ChunkKeyEncodingTraits,
+    H: ChunkGridTraits,
+    F: ChunkKeyEncodingTraits,
+>(source: &G, source_encoding: &E, target: &H, target_encoding: &F)
+    ensures one { (chunks : Box) (groups : List Group) → IsRechunking (G.dimensions source.now)
+        (E.is_key source_encoding.now) (H.dimensions target.now) (F.is_key target_encoding.now)
+        chunks groups → (index chunk : List ℕ)
+        → AreBelow (array_sizes (H.dimensions target.now)) index
+        → InBox (H.dimensions target.now) chunk index → IsInside chunks chunk
+        → (copy : Part × Part) × Contains (copies_of groups) copy × ((steps : List ℕ)
+        × Moves (G.dimensions source.now) (H.dimensions target.now) copy steps index) }
+    ensures no_other { (chunks : Box) (groups : List Group)
+        → IsRechunking (G.dimensions source.now)
+        (E.is_key source_encoding.now) (H.dimensions target.now) (F.is_key target_encoding.now)
+        chunks groups → AllPairs (λ copy other. (steps also index : List ℕ)
+        → Moves (G.dimensions source.now) (H.dimensions target.now) copy steps index
+        → Moves (G.dimensions source.now) (H.dimensions target.now) other also index → ⊥)
+        (copies_of groups) }
+    ensures nothing_else { (chunks : Box) (groups : List Group)
+        → IsRechunking (G.dimensions source.now)
+        (E.is_key source_encoding.now) (H.dimensions target.now) (F.is_key target_encoding.now)
+        chunks groups → (copy : Part × Part) → Contains (copies_of groups) copy
+        → (steps : List ℕ) → AreBelow copy.0.in_chunk.shape steps → (index : List ℕ)
+        × AreBelow (array_sizes (H.dimensions target.now)) index
+        × Moves (G.dimensions source.now) (H.dimensions target.now) copy steps index }
+    ensures keys { (chunks : Box) (groups : List Group) → IsRechunking (G.dimensions source.now)
+        (E.is_key source_encoding.now) (H.dimensions target.now) (F.is_key target_encoding.now)
+        chunks groups → (copy : Part × Part) → Contains (copies_of groups) copy
+        → E.is_key source_encoding.now copy.0.chunk.items copy.0.key
+        × F.is_key target_encoding.now copy.1.chunk.items copy.1.key
+        × IsInside chunks copy.1.chunk.items }
+    ensures one_shape { (chunks : Box) (groups : List Group)
+        → IsRechunking (G.dimensions source.now)
+        (E.is_key source_encoding.now) (H.dimensions target.now) (F.is_key target_encoding.now)
+        chunks groups → (copy : Part × Part) → Contains (copies_of groups) copy
+        → copy.0.in_chunk.shape ≡ copy.0.in_subset.shape }
+{}
+
+/// Rechunkings into boxes of chunks that share the target's chunks out are together the whole one: each element of the array is moved by exactly
+/// one copy of exactly one of them.
+pub fn rechunkings_that_share_out_are_the_whole_one<
+    G: ChunkGridTraits,
+    E: ChunkKeyEncodingTraits,
+    H: ChunkGridTraits,
+    F: ChunkKeyEncodingTraits,
+>(source: &G, source_encoding: &E, target: &H, target_encoding: &F)
+    ensures one { (boxes : List Box) (plans : List (List Group))
+        → ShareOut (H.dimensions target.now) boxes → AllZip
+        (IsRechunking (G.dimensions source.now) (E.is_key source_encoding.now)
+        (H.dimensions target.now) (F.is_key target_encoding.now)) boxes plans
+        → (index : List ℕ) → AreBelow (array_sizes (H.dimensions target.now)) index
+        → (copy : Part × Part) × Contains (flat_map copies_of plans) copy × ((steps : List ℕ)
+        × Moves (G.dimensions source.now) (H.dimensions target.now) copy steps index) }
+    ensures no_other { (boxes : List Box) (plans : List (List Group))
+        → ShareOut (H.dimensions target.now) boxes → AllZip
+        (IsRechunking (G.dimensions source.now) (E.is_key source_encoding.now)
+        (H.dimensions target.now) (F.is_key target_encoding.now)) boxes plans
+        → AllPairs (λ copy other. (steps also index : List ℕ)
+        → Moves (G.dimensions source.now) (H.dimensions target.now) copy steps index
+        → Moves (G.dimensions source.now) (H.dimensions target.now) other also index → ⊥)
+        (flat_map copies_of plans) }
+{}

@@ -1,6 +1,6 @@
 //! The plan of a rechunking.
 ghost use Rattle.std.specs.Prelude.{◌≡◌, ◌≢◌, ◌↔◌, ℕ, IfErr, IfOk, IsTrue, List, length, replicate};
-ghost use Rattle.zarrs_chunk_base.specs.ArraySubset.{Box, IsInside};
+ghost use Rattle.zarrs_chunk_base.specs.ArraySubset.{Box, IsBox, IsInside};
 ghost use Rattle.zarrs_chunk_base.specs.Dimension.{array_sizes};
 ghost use Rattle.zarrs_chunk_base.specs.Refusal.{HasMemory, IfRefused};
 ghost use Rattle.zarrs_chunks.specs.Walks.{chunks_in};
@@ -42,7 +42,7 @@ pub fn copies<
     target_encoding: &'a F,
     chunks: &ArraySubset,
 ) -> Result<Copies<'a, G, E, H, F>, Refusal<CopiesError>>
-    ensures targets { IfOk result (λ walk. (targets : Box)
+    ensures targets { IfOk result (λ walk. (targets : Box) × IsBox targets
         × AreTargets (H.dimensions target.now) chunks.now targets
         × (targets_to_come walk ≡ chunks_in targets)) }
     ensures about { IfOk result (IsAboutCopies source.now source_encoding.now target.now

@@ -1,5 +1,7 @@
 -- What is left of a walk over what a rechunking copies.
-use Rattle.std.specs.Prelude.{◌≡◌, ◌≢◌, ◌⊎◌, ℕ, List, [], Option, Some, None, Result, Ok, Err}
+use Rattle.std.specs.Prelude.{◌≡◌, ◌≢◌, ℕ, List, [], Option, Some, None, Result, Ok, Err, Vec, map}
+use Rattle.std.specs.List.{AllZip}
+use Rattle.std.specs.declared.alloc.Global.{Global}
 use Rattle.std.specs.declared.alloc.AllocError.{AllocError}
 use Rattle.zarrs_chunk_base.specs.ArraySubset.{Box}
 use Rattle.zarrs_chunk_base.specs.Dimension.{Dimension, array_sizes}
@@ -7,11 +9,12 @@ use Rattle.zarrs_chunk_base.specs.Refusal.{TellsLengths}
 use Rattle.zarrs_chunks.specs.Subsets.{IsCover}
 use Rattle.zarrs_chunks.specs.Walks.{Gives, chunks_in}
 use Rattle.zarrs_chunk_plan.specs.Plan.{IsPart}
-use Rattle.zarrs_chunk_plan.specs.Rechunking.{array_box}
+use Rattle.zarrs_chunk_plan.specs.Rechunking.{AreCopiesInto, Group, array_box}
 use Rattle.zarrs_chunk_plan.specs.declared.chunk_copies.ChunkCopies.{ChunkCopies}
 use Rattle.zarrs_chunk_plan.specs.declared.chunk_copies.Copies.{Copies}
 use Rattle.zarrs_chunk_plan.specs.declared.copies_error.CopiesError.{CopiesError}
 use Rattle.zarrs_chunk_plan.specs.declared.copies_error.CopiesError.TheVariants.{ArrayShapes, Chunks}
+use Rattle.zarrs_chunk_plan.specs.declared.part.Part.{Part}
 use Rattle.zarrs_chunk_plan.specs.declared.walk.Parts.{Parts}
 use Rattle.zarrs_chunk_plan.specs.seen.Parts.{IsAbout, MeetSubset, chunks_to_come, offsets_to_come}
 
@@ -60,6 +63,18 @@ pub record GivesCopies {G E H F : Type 0} (source_dimensions : G → List Dimens
   pub from : IfGroup (λ group. IsPlanned source_dimensions before.source.now before.source_encoding.now group.to.in_subset group.from) given
   pub about : IsAboutCopies before.source.now before.source_encoding.now before.targets.grid.now before.targets.encoding.now before.targets.array_subset after
   pub can : CanCopy source_dimensions target_dimensions after
+
+-- groups, without where they lie in memory
+abbrev pub groups_of : List (Part × Vec Part Global) → List Group
+groups_of = map (λ group. (group.0, group.1.items))
+
+-- the groups that the walk has to give: one for each chunk to come
+abbrev pub AreGroupsToCome : {G E H F : Type 0} → (G → List Dimension) → (E → List ℕ → List ℕ → Type 0) → (H → List Dimension) → (F → List ℕ → List ℕ → Type 0)
+    → Copies G E H F → List Group → Type 0
+AreGroupsToCome source_dimensions source_key target_dimensions target_key walk =
+    AllZip
+    (AreCopiesInto (source_dimensions walk.source.now) (source_key walk.source_encoding.now) (target_dimensions walk.targets.grid.now)
+    (target_key walk.targets.encoding.now)) (targets_to_come walk)
 
 -- the fault says that the grids have different array shapes, or how many dimensions the box of chunks has and how many the target
 abbrev pub IsCopiesFault : List ℕ → List ℕ → ℕ → ℕ → CopiesError → Type 0

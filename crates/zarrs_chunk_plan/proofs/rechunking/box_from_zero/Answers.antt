@@ -1,4 +1,4 @@
-use Rattle.std.proofs.Common.{◌≡◌, ◌∙◌, ℕ, zero, suc, ◌+◌, ◌≤◌, List, [], ◌∷◌, ap₂, length, replicate, arith}
+use Rattle.std.proofs.Common.{◌∙◌, ℕ, ◌≤◌, List, [], ◌∷◌, ap₂, length, replicate, arith}
 use Rattle.std.proofs.lemmas.List.{length-replicate}
 use Rattle.zarrs_chunk_base.specs.ArraySubset.{ends}
 use Rattle.zarrs_chunk_base.specs.Greatest.{AllFit, greatest}

@@ -1,5 +1,4 @@
 use Rattle.std.proofs.Common.{◌≡◌, ◌∙◌, ap, rules}
-use Rattle.std.specs.List.{AllByRecursion}
 use Rattle.zarrs_chunks.proofs.ChunksInBoxes.{are_those_inside}
 use Rattle.zarrs_chunks.specs.Walks.{chunks_in}
 use Rattle.zarrs_chunk_plan.specs.Plan.{Meets}
@@ -15,6 +14,7 @@ returns-clause-targets g c =
     let both = c.in_ok-wanted.ensures.common in
     let named = c.in_ok-written.ensures.named in (
       c.in_ok-wanted.wanted,
+      c.in_ok-wanted.ensures.is_box,
       λ chunk.
           (λ inside. (((both chunk).0 inside).1, (named chunk).0 ((both chunk).0 inside).0), λ (wanted, meets). (both chunk).1 ((named chunk).1 meets, wanted)),
       ap chunks_to_come c.new-3.ensures.targets ∙ c.in_ok-targets.ensures.left,

@@ -1,8 +1,4 @@
-use Rattle.std.proofs.Common.{◌≡◌, ◌∙◌, ap, length, replicate}
 use Rattle.std.proofs.lemmas.List.{length-map}
-use Rattle.std.specs.Result.{IfOk}
-use Rattle.zarrs_chunk_base.specs.Dimension.{array_sizes}
-use Rattle.zarrs_chunk_plan.specs.Rechunking.{array_box}
 use Rattle.zarrs_chunk_plan.proofs.rechunking.whole_array.Goals as goal
 
 pub returns : goal.returns
