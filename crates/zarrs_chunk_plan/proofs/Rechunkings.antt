@@ -2,7 +2,7 @@
 use Rattle.std.proofs.Common.{◌≡◌, ◌≢◌, ◌∙◌, ℕ, zero, suc, ◌+◌, List, [], ◌∷◌, Contains, length, map, replicate, refl, ap, ap₂, subst, sym, arith}
 use Rattle.std.specs.List.{AllByRecursion, AllPairs, AllZip, flat_map}
 use Rattle.zarrs_chunk_base.specs.ArraySubset.{AreWithin, Box, IsInside}
-use Rattle.zarrs_chunk_base.specs.Dimension.{Dimension, Holds, InBox, IsChain, IsOrigin, IsPlace, StartsAt, array_sizes}
+use Rattle.zarrs_chunk_base.specs.Dimension.{Dimension, Holds, InBox, IsChain, IsOrigin, IsPlace, StartsAt, array_sizes, grid_sizes}
 use Rattle.zarrs_chunk_base.proofs.Boxes.{within_lengths}
 use Rattle.zarrs_chunk_base.proofs.InEach.{length_values}
 use Rattle.zarrs_chunk_axes.specs.InBounds.{AreBelow}
@@ -11,7 +11,7 @@ use Rattle.zarrs_chunks.proofs.Chains.{same_box}
 use Rattle.zarrs_chunks.proofs.ChunksInBoxes.{are_those_inside, chunks_once, length_below}
 use Rattle.zarrs_chunks.proofs.FittingChunks.{counted_home}
 use Rattle.zarrs_chunk_plan.specs.Plan.{HasElement, IsCommon, IsPart, Meets}
-use Rattle.zarrs_chunk_plan.specs.Rechunking.{AreCopiesInto, Group, IsRechunking, Moves, ShareOut, array_box, copies_of}
+use Rattle.zarrs_chunk_plan.specs.Rechunking.{AreCopiesInto, Group, IsRechunking, Moves, ShareOut, all_chunks_box, array_box, copies_of}
 use Rattle.zarrs_chunk_plan.specs.declared.part.Part.{Part}
 use Rattle.zarrs_chunk_plan.proofs.Joined.{among_mapped, in_joined, in_some, is_of, pairs_joined, pairs_mapped}
 use Rattle.zarrs_chunk_plan.proofs.Plans.{counted_once, has_common, has_place, length_counted, pair_of, pairs_by, pairs_of, some_part, source_of, takes}
@@ -37,6 +37,19 @@ below_array [] [] within = tt
 below_array (d ∷ ds) (i ∷ index) within = let here = within.1 in (omega arith, below_array ds index within.2)
 below_array [] (i ∷ index) within = absurd within
 below_array (d ∷ ds) [] within = absurd within
+
+-- the same of the chunks that are counted
+lies_in_counted : (ds : List Dimension) (chunk : List ℕ) → AreBelow (grid_sizes ds) chunk → AreWithin (replicate (length ds) 0) (grid_sizes ds) chunk
+lies_in_counted [] [] below = tt
+lies_in_counted (d ∷ ds) (c ∷ chunk) below = let here = below.0 in (omega arith, omega arith, lies_in_counted ds chunk below.1)
+lies_in_counted [] (c ∷ chunk) below = absurd below
+lies_in_counted (d ∷ ds) [] below = absurd below
+
+-- a chunk that holds an element of the array is counted
+pub is_counted : (ds : List Dimension) → AllByRecursion IsChain ds → (chunk : List ℕ) → Meets ds (array_box ds) chunk → IsInside (all_chunks_box ds) chunk
+is_counted ds chains chunk (index, box, inside) =
+    let (home, counted, also) = counted_home ds index chains (below_array ds index inside) in
+    subst (IsInside (all_chunks_box ds)) (same_box ds home chunk index chains also box) (lies_in_counted ds home counted)
 
 -- ---- a chunk of the target
 

@@ -3,7 +3,7 @@
 use Rattle.std.specs.Prelude.{◌↔◌, ℕ, List, length, map, replicate}
 use Rattle.std.specs.List.{AllPairs, AllZip, Contains, flat_map}
 use Rattle.zarrs_chunk_base.specs.ArraySubset.{Box, IsBox, IsInside}
-use Rattle.zarrs_chunk_base.specs.Dimension.{Dimension, InBox, IsPlace, array_sizes}
+use Rattle.zarrs_chunk_base.specs.Dimension.{Dimension, InBox, IsPlace, array_sizes, grid_sizes}
 use Rattle.zarrs_chunk_axes.specs.InBounds.{AreBelow}
 use Rattle.zarrs_chunks.specs.Walks.{chunks_in, counted_from}
 use Rattle.zarrs_chunk_plan.specs.Plan.{IsPart, IsPlan, Meets}
@@ -12,6 +12,10 @@ use Rattle.zarrs_chunk_plan.specs.declared.part.Part.{Part}
 -- the box of all elements of the array
 abbrev pub array_box : List Dimension → Box
 array_box ds = record { start = replicate (length ds) 0; shape = array_sizes ds }
+
+-- the box of all chunk numbers that are counted
+abbrev pub all_chunks_box : List Dimension → Box
+all_chunks_box ds = record { start = replicate (length ds) 0; shape = grid_sizes ds }
 
 -- the chunks that are written: those of a box of chunk numbers that hold elements of the array
 abbrev pub AreTargets : List Dimension → Box → Box → Type 0

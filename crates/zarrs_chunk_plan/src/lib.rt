@@ -1,7 +1,8 @@
-//! The read planner: which parts of which chunks a box of elements is made of, and under which key each chunk is stored.
+//! Plans: which parts of which chunks a box of elements is made of, and what a rechunking copies from which chunk to which.
 //!
 //! [`parts`] takes a grid, an encoding and a box of elements, and gives a part for each chunk that holds some of the box, one after
-//! another. It asks the grid and the encoding by their traits alone, so they may be of other crates. `CALLING.md` has a caller.
+//! another. [`copies`] takes two grids of one array, each with an encoding, and gives for each chunk of the target the parts of the source's chunks
+//! that have its elements. Both ask grids and encodings by their traits alone, so these may be of other crates. `CALLING.md` has callers.
 //!
 //! ```text
 //! RegularChunkGrid, array shape [6, 6], chunk shape [4, 3], default keys with `/`, box [3..6, 2..4]
@@ -16,7 +17,12 @@
 //! | `part` | a part: a chunk, its key, and two boxes |
 //! | `plan` | `parts`: the plan of reading a box of elements |
 //! | `walk` | the walk over the parts |
+//! | `rechunking` | `copies`: the plan of a rechunking |
+//! | `chunk_copies` | the walk over what a rechunking copies, a chunk of the target after another |
+//! | `copies_error` | why a rechunking can't be planned |
+//! | `whole` | the box of all elements of an array, and that of all chunks of a grid |
 //! | `shared` | the elements that a chunk and a box share, counted from either |
+//! | `overlap` | what two boxes have in common |
 //! | `laws` | what holds of every plan |
 #![tactic(auto)]
 
@@ -29,6 +35,7 @@ mod plan;
 mod rechunking;
 mod shared;
 mod walk;
+mod whole;
 
 pub use chunk_copies::{ChunkCopies, Copies};
 pub use copies_error::CopiesError;
@@ -36,3 +43,4 @@ pub use part::Part;
 pub use plan::parts;
 pub use rechunking::copies;
 pub use walk::Parts;
+pub use whole::{all_chunks, whole_array};

@@ -1,5 +1,5 @@
 //! The plan of a rechunking.
-ghost use Rattle.std.specs.Prelude.{◌≡◌, ◌≢◌, ◌↔◌, ℕ, IfErr, IfOk, IsTrue, List, length, replicate};
+ghost use Rattle.std.specs.Prelude.{◌≡◌, ◌≢◌, ◌↔◌, ℕ, IfErr, IfOk, IsTrue, List, length};
 ghost use Rattle.zarrs_chunk_base.specs.ArraySubset.{Box, IsBox, IsInside};
 ghost use Rattle.zarrs_chunk_base.specs.Dimension.{array_sizes};
 ghost use Rattle.zarrs_chunk_base.specs.Refusal.{HasMemory, IfRefused};
@@ -11,8 +11,9 @@ ghost use Rattle.zarrs_chunk_plan.specs.seen.Copies.{CanCopy, IsAboutCopies, IsC
 use crate::chunk_copies::Copies;
 use crate::copies_error::CopiesError;
 use crate::overlap::overlap;
-use crate::shared::{box_of, found};
+use crate::shared::found;
 use crate::walk::Parts;
+use crate::whole::whole_array;
 use std::alloc::{AllocError, Global};
 use zarrs_chunk_base::{ArraySubset, IncompatibleDimensionalityError, Refusal};
 use zarrs_chunk_keys::ChunkKeyEncodingTraits;
@@ -103,40 +104,4 @@ fn chunks_of_array<G: ChunkGridTraits>(
     let _start = array.start();
     let cover = the_cover_names_the_chunks_that_meet_a_box(alloc, grid, array);
     Ok(found(cover)?)
-}
-
-/// The box of all elements of a grid's array.
-///
-/// # Errors
-/// Out of memory.
-fn whole_array<G: ChunkGridTraits>(alloc: Global, grid: &G) -> Result<ArraySubset, AllocError>
-    ensures { IfOk result (λ array. array ≡ array_box (G.dimensions grid.now)) }
-{
-    box_from_zero(alloc, grid.array_shape())
-}
-
-/// The box of a shape that begins at 0.
-///
-/// # Errors
-/// Out of memory.
-fn box_from_zero(alloc: Global, shape: &[u64]) -> Result<ArraySubset, AllocError>
-    ensures { IfOk result (λ b. b ≡ record {
-      start = replicate (length shape.now) 0;
-      shape = shape.now;
-    }) }
-{
-    let start = zeros(alloc, shape.len())?;
-    Ok(box_of(start, shape.to_vec(alloc)?))
-}
-
-/// So many zeros.
-///
-/// # Errors
-/// Out of memory.
-fn zeros(alloc: Global, len: usize) -> Result<Vec<u64>, AllocError>
-    ensures { IfOk result (λ v. v.items ≡ replicate len 0) }
-{
-    let mut numbers = Vec::with_capacity(alloc, len)?;
-    numbers.resize(len, 0)?;
-    Ok(numbers)
 }

@@ -1,5 +1,5 @@
 use Rattle.std.proofs.lemmas.List.{length-map}
-use Rattle.zarrs_chunk_plan.proofs.rechunking.whole_array.Goals as goal
+use Rattle.zarrs_chunk_plan.proofs.whole.whole_array.Goals as goal
 
 pub returns : goal.returns
 returns g c =

@@ -1,0 +1,5 @@
+pub mod Document
+pub mod Line
+pub mod Planned
+pub mod RunFault
+pub mod seen

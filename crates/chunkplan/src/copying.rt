@@ -1,0 +1,73 @@
+//! The lines of a plan, written as they are made.
+ghost use Rattle.std.specs.Prelude.{List, OnOk, option_map};
+ghost use Rattle.std.specs.List.{flat_map};
+ghost use Rattle.std.specs.Io.KnownBytes.{Appends};
+ghost use Rattle.zarrs_chunk_plan.specs.Rechunking.{Group};
+ghost use Rattle.zarrs_chunk_plan.specs.declared.part.Part.{Part as PartValue};
+ghost use Rattle.zarrs_chunk_plan.specs.seen.Copies.{AreGroupsToCome, CanCopy};
+ghost use Rattle.zarrs_chunk_plan.specs.seen.Parts.{ArePartsToCome, MeetSubset};
+ghost use Rattle.chunkplan.specs.Line.{copy_lines, line_for};
+
+use crate::line::line;
+use crate::run_fault::RunFault;
+use std::alloc::Global;
+use std::io::Write;
+use zarrs_chunk_keys::ChunkKeyEncodingTraits;
+use zarrs_chunk_plan::{ChunkCopies, Copies, Part, Parts};
+use zarrs_chunks::ChunkGridTraits;
+
+/// Writes a line for each part that a walk has left: of a read, or with the chunk of the target of what is copied into it.
+///
+/// # Errors
+/// A write failed, or out of memory. The lines that were written by then are the first ones.
+pub(crate) fn write_parts<G: ChunkGridTraits, E: ChunkKeyEncodingTraits, W: Write>(
+    alloc: Global,
+    walk: Parts<'_, G, E>,
+    to: Option<&Part>,
+    writer: &mut W,
+) -> Result<(), RunFault>
+    requires { MeetSubset G.dimensions walk }
+    ensures { OnOk result ((parts : List PartValue)
+        × ArePartsToCome G.dimensions E.is_key walk.entry parts
+        × Appends (W.contents writer.old) (W.contents writer.new)
+        (flat_map (line_for (option_map (λ t. t.now) to)) parts)) }
+{
+    for part in walk {
+        let line = line(alloc, &part?, to)?;
+        write_line(writer, &line)?;
+    }
+    Ok(())
+}
+
+/// Writes a line for each copy that a walk has left.
+///
+/// # Errors
+/// As `write_parts`.
+pub(crate) fn write_copies<
+    G: ChunkGridTraits,
+    E: ChunkKeyEncodingTraits,
+    H: ChunkGridTraits,
+    F: ChunkKeyEncodingTraits,
+    W: Write,
+>(alloc: Global, walk: Copies<'_, G, E, H, F>, writer: &mut W) -> Result<(), RunFault>
+    requires { CanCopy G.dimensions H.dimensions walk }
+    ensures { OnOk result ((groups : List Group)
+        × AreGroupsToCome G.dimensions E.is_key H.dimensions F.is_key walk.entry groups
+        × Appends (W.contents writer.old) (W.contents writer.new) (copy_lines groups)) }
+{
+    for group in walk {
+        let ChunkCopies { to, from } = group?;
+        write_parts(alloc, from, Some(&to), writer)?;
+    }
+    Ok(())
+}
+
+/// Writes a line.
+fn write_line<W: Write>(writer: &mut W, line: &[u8]) -> Result<(), RunFault>
+    ensures { OnOk result (Appends (W.contents writer.old) (W.contents writer.new) line.now) }
+{
+    match writer.write_all(line) {
+        Ok(()) => Ok(()),
+        Err(_) => Err(RunFault::Write),
+    }
+}

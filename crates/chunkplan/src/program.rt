@@ -1,0 +1,69 @@
+//! The program over any reader and writer.
+ghost use Rattle.std.specs.Prelude.{◌≡◌, ◌≤◌, ℕ, ◌++◌, IfOk, IfSome, List, MatchResult, OnOk, Some};
+ghost use Rattle.std.specs.Io.KnownBytes.{Keeps};
+ghost use Rattle.chunkplan.specs.Planned.{IsPlanOf};
+
+use crate::document::parse;
+use crate::plan::write_plan;
+use crate::run_fault::RunFault;
+use std::alloc::Global;
+use std::io::{BufWriter, Read, Write};
+
+/// Runs the program, tells its fault in one line, if it had one, and answers the status to end with:
+/// 0 where the run succeeded, and 1 after a fault.
+pub fn run_to_status<R: Read, W: Write + Drop, E: Write>(
+    alloc: Global,
+    reader: &mut R,
+    writer: W,
+    errors: &mut E,
+) -> u8
+    ensures silent { result ≡ 0 → Keeps (E.contents errors.old) (E.contents errors.new) }
+    ensures zero_or_one { result ≤ 1 }
+{
+    let outcome = run(alloc, reader, writer);
+    finish(&outcome, errors)
+}
+
+/// Reads a document to its end, writes the plan that it asks for, line by line as the lines are made, and gives the writer back.
+///
+/// # Errors
+/// The first fault: a failed read; a text that is no JSON, or no object; a member that is missing, then one that doesn't go with the others,
+/// then one that isn't of its form; a grid or an encoding that can't be made, then those of the target; a box with another number of
+/// dimensions; a box of elements that has no cover. Nothing has been written then. After a failed write, or where memory runs out, a
+/// beginning of the plan may have been written.
+pub fn run<R: Read, W: Write + Drop>(
+    alloc: Global,
+    reader: &mut R,
+    writer: W,
+) -> Result<W, RunFault>
+    ensures { IfOk result (λ written. IfSome (R.remaining reader.old) (λ input.
+        IfSome (W.contents writer) (λ held. (text : List ℕ) × IsPlanOf input text
+        × (W.contents written ≡ Some (held ++ text))))) }
+{
+    let mut input = Vec::new(alloc);
+    if let Err(error) = reader.read_to_end(&mut input) {
+        return Err(RunFault::from_read(error));
+    }
+    let document = parse(alloc, &input)?;
+    drop(input);
+    let Ok(mut lines) = BufWriter::new(alloc, writer) else {
+        return Err(RunFault::Memory);
+    };
+    write_plan(alloc, document, &mut lines)?;
+    let Ok(mut writer) = lines.into_inner() else {
+        return Err(RunFault::Write);
+    };
+    match writer.flush() {
+        Ok(()) => Ok(writer),
+        Err(_) => Err(RunFault::Write),
+    }
+}
+
+/// Tells a run's fault in one line, if it had one, and answers the status to end with: 0, or 1
+/// after a fault. That the line can't be written changes nothing.
+pub fn finish<T, W: Write>(outcome: &Result<T, RunFault>, errors: &mut W) -> u8
+    ensures status { MatchResult outcome.now (λ _. result ≡ 0) (λ _. result ≡ 1) }
+    ensures silent { OnOk outcome.now (Keeps (W.contents errors.old) (W.contents errors.new)) }
+{
+    programs::finish("chunkplan", outcome, errors)
+}
