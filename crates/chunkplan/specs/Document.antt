@@ -1,11 +1,11 @@
 -- The program's document: a JSON object with the members `shape`, `chunk_grid` and `chunk_key_encoding`, and either `subset`, which may be
 -- absent, or `target` and `chunks`, which may be absent; what else it has says nothing.
-use Rattle.std.specs.Prelude.{◌≡◌, ℕ, List, [], ◌∷◌, Option, Some, None, IsUtf8, codes, option_and_then, MatchOption}
+use Rattle.std.specs.Prelude.{◌≡◌, ℕ, List, Option, Some, None, IsUtf8, codes, option_and_then, MatchOption}
 use Rattle.serde_json.specs.Data.{Data}
 use Rattle.serde_json.specs.Read.{read}
 use Rattle.serde_json.specs.Find.{get}
 use Rattle.zarrs_chunk_base.specs.ArraySubset.{Box, IsBox}
-use Rattle.zarrs_chunk_base.specs.Json.{size_of, list_of}
+use Rattle.zarrs_chunk_base.specs.Json.{size_of, list_of, pair_of}
 use Rattle.zarrs_chunk_base.specs.Metadata.{Extension, extension_of, IsExtension}
 use Rattle.chunkplan.specs.declared.document.Document.{Document as DocumentValue}
 use Rattle.chunkplan.specs.declared.document.Stored.{Stored as StoredValue}
@@ -58,7 +58,7 @@ pub record HasStored (d : Data) (stored : Stored) : Type 0 where
 
 -- a list of two lists of sizes, which are the start and the shape of a box
 pub record IsBoxIn (d : Data) (b : Box) : Type 0 where
-  pub lists : list_of (list_of size_of) d ≡ Some (b.start ∷ b.shape ∷ [])
+  pub lists : pair_of (list_of size_of) d ≡ Some (b.start, b.shape)
   pub is_box : IsBox b
 
 -- the member is a box, or absent

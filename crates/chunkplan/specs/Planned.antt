@@ -15,8 +15,8 @@ use Rattle.chunkplan.specs.Line.{copy_lines, part_lines}
 
 -- the grid and the encoding by which an array of a shape is stored
 pub record IsStored (stored : Stored) (shape : List ℕ) (grid : Grid) (encoding : Encoding) : Type 0 where
-  pub grid : IsGrid stored.chunk_grid shape grid
-  pub encoding : IsEncoding stored.chunk_key_encoding encoding
+  pub is_grid : IsGrid stored.chunk_grid shape grid
+  pub is_encoding : IsEncoding stored.chunk_key_encoding encoding
 
 -- the plan of reading a box of elements; an empty box has no parts
 pub record IsReadPlan (ds : List Dimension) (IsKeyOf : List ℕ → List ℕ → Type 0) (subset : Box) (parts : List Part) : Type 0 where

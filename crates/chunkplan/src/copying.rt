@@ -1,5 +1,5 @@
 //! The lines of a plan, written as they are made.
-ghost use Rattle.std.specs.Prelude.{List, OnOk, option_map};
+ghost use Rattle.std.specs.Prelude.{List, OnOk, Some, option_map};
 ghost use Rattle.std.specs.List.{flat_map};
 ghost use Rattle.std.specs.Io.KnownBytes.{Appends};
 ghost use Rattle.zarrs_chunk_plan.specs.Rechunking.{Group};
@@ -30,7 +30,7 @@ pub(crate) fn write_parts<G: ChunkGridTraits, E: ChunkKeyEncodingTraits, W: Writ
     ensures { OnOk result ((parts : List PartValue)
         × ArePartsToCome G.dimensions E.is_key walk.entry parts
         × Appends (W.contents writer.old) (W.contents writer.new)
-        (flat_map (line_for (option_map (λ t. t.now) to)) parts)) }
+        (flat_map (line_for (option_map (λ t. t.now) to.entry)) parts)) }
 {
     for part in walk {
         let line = line(alloc, &part?, to)?;
@@ -56,10 +56,25 @@ pub(crate) fn write_copies<
         × Appends (W.contents writer.old) (W.contents writer.new) (copy_lines groups)) }
 {
     for group in walk {
-        let ChunkCopies { to, from } = group?;
-        write_parts(alloc, from, Some(&to), writer)?;
+        write_group(alloc, group?, writer)?;
     }
     Ok(())
+}
+
+/// Writes a line for each copy into one chunk of the target.
+fn write_group<G: ChunkGridTraits, E: ChunkKeyEncodingTraits, W: Write>(
+    alloc: Global,
+    group: ChunkCopies<'_, G, E>,
+    writer: &mut W,
+) -> Result<(), RunFault>
+    requires { MeetSubset G.dimensions group.from }
+    ensures { OnOk result ((from : List PartValue)
+        × ArePartsToCome G.dimensions E.is_key group.entry.from from
+        × Appends (W.contents writer.old) (W.contents writer.new)
+        (flat_map (line_for (Some group.entry.to)) from)) }
+{
+    let ChunkCopies { to, from } = group;
+    write_parts(alloc, from, Some(&to), writer)
 }
 
 /// Writes a line.

@@ -19,7 +19,7 @@ const LINE_LEN: usize = 192;
 /// # Errors
 /// Out of memory.
 pub(crate) fn line(alloc: Global, from: &Part, to: Option<&Part>) -> Result<Vec<u8>, AllocError>
-    ensures { IfOk result (λ line. line.items ≡ line_for (option_map (λ t. t.now) to) from.now) }
+    ensures { IfOk result (λ line. line.items ≡ line_for (option_map (λ t. t.now) to.entry) from.now) }
 {
     match to {
         Some(to) => copy_line(alloc, from, to),
@@ -81,16 +81,16 @@ fn write_place(
     name: &str,
     chunk: &[u64],
     in_chunk: &ArraySubset,
-    key: &StoreKey,
+    store_key: &StoreKey,
 ) -> Result<(), AllocError>
     ensures { OnOk result (Adds json.old json.new (key name.now
-        ∷ json_tokens (place_json chunk.now in_chunk.now key.now))) }
+        ∷ json_tokens (place_json chunk.now in_chunk.now store_key.now))) }
 {
     json.key(name)?;
     json.begin_object()?;
     write_numbers(json, "chunk", chunk)?;
     write_box(json, "in_chunk", in_chunk)?;
-    write_key(json, key)?;
+    write_key(json, store_key)?;
     json.end_object()?;
     Ok(())
 }

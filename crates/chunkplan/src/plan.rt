@@ -118,16 +118,18 @@ fn write_read<G: ChunkGridTraits, E: ChunkKeyEncodingTraits, W: Write>(
         × IsReadPlan (G.dimensions grid.now) (E.is_key encoding.now) subset.now parts
         × Appends (W.contents writer.old) (W.contents writer.new) (part_lines parts)) }
 {
-    if subset.dimensionality() != grid.dimensionality() {
+    let dimensionality = subset.start().len();
+    if dimensionality != grid.dimensionality() {
         return Err(RunFault::SubsetDimensionality(IncompatibleDimensionalityError::new(
-            subset.dimensionality(),
+            dimensionality,
             grid.dimensionality(),
         )));
     }
-    let walk = parts(alloc, grid, encoding, subset);
-    match walk.map_err(|refusal| refusal.map(RunFault::SubsetDimensionality))? {
-        Some(walk) => write_parts(alloc, walk, None, writer),
-        None => Err(RunFault::Uncovered),
+    match parts(alloc, grid, encoding, subset) {
+        Ok(Some(walk)) => write_parts(alloc, walk, None, writer),
+        Ok(None) => Err(RunFault::Uncovered),
+        Err(Refusal::Refused(error)) => Err(RunFault::SubsetDimensionality(error)),
+        Err(Refusal::Memory(_)) => Err(RunFault::Memory),
     }
 }
 
@@ -160,6 +162,9 @@ fn write_rechunking<
         target_encoding,
         chunks,
     );
-    let walk = walk.map_err(|refusal| refusal.map(RunFault::Copies))?;
-    write_copies(alloc, walk, writer)
+    match walk {
+        Ok(walk) => write_copies(alloc, walk, writer),
+        Err(Refusal::Refused(error)) => Err(RunFault::Copies(error)),
+        Err(Refusal::Memory(_)) => Err(RunFault::Memory),
+    }
 }

@@ -44,12 +44,10 @@ pub fn run<R: Read, W: Write + Drop>(
     if let Err(error) = reader.read_to_end(&mut input) {
         return Err(RunFault::from_read(error));
     }
-    let document = parse(alloc, &input)?;
-    drop(input);
     let Ok(mut lines) = BufWriter::new(alloc, writer) else {
         return Err(RunFault::Memory);
     };
-    write_plan(alloc, document, &mut lines)?;
+    answer(alloc, input, &mut lines)?;
     let Ok(mut writer) = lines.into_inner() else {
         return Err(RunFault::Write);
     };
@@ -57,6 +55,16 @@ pub fn run<R: Read, W: Write + Drop>(
         Ok(()) => Ok(writer),
         Err(_) => Err(RunFault::Write),
     }
+}
+
+/// Writes the plan that an input asks for.
+fn answer<W: Write>(alloc: Global, input: Vec<u8>, writer: &mut W) -> Result<(), RunFault>
+    ensures { OnOk result (IfSome (W.contents writer.old) (λ held. (text : List ℕ)
+        × IsPlanOf input.items text × (W.contents writer.new ≡ Some (held ++ text)))) }
+{
+    let document = parse(alloc, &input)?;
+    drop(input);
+    write_plan(alloc, document, writer)
 }
 
 /// Tells a run's fault in one line, if it had one, and answers the status to end with: 0, or 1

@@ -1,0 +1,4 @@
+pub mod Groups
+pub mod Kept
+pub mod ReadPlans
+pub mod Tokens
