@@ -461,8 +461,16 @@ def compare_with_zarr(arguments, tally):
         asked += whole_array(generator, numpy, Written(zarr, shape, edges, separator), grid, arguments, tally, source)
         asked += box_of_array(generator, numpy, Written(zarr, shape, edges, separator), grid)
     for (question, same, told), printed in zip(asked, ask(arguments.calls, [question for question, _, _ in asked])):
-        right = same(json.loads(printed)) if not printed.startswith(("refused", "unreadable")) else False
+        right = is_same(same, printed)
         tally.count(f"{source} and chunkcalls", question["call"], right, f"{json.dumps(question)}\n  store    {told}\n  found    {printed}")
+
+
+def is_same(same, printed):
+    """Whether a printed answer is what the store holds; one of another form isn't."""
+    try:
+        return bool(same(json.loads(printed)))
+    except (ValueError, TypeError, KeyError, IndexError):
+        return False
 
 
 def whole_array(generator, numpy, written, grid, arguments, tally, source):
