@@ -3,8 +3,9 @@
 
     python3 docs/check_callers.py
 
-Each block of Rattle or antt on the README, on a page of `docs/` or on the page of a crate has to be a whole file of `crates/callers`, and each
-file there but its root has to be on a page. It prints what isn't, and ends with the status 1 where it printed anything.
+Each block of Rattle or antt on a page of `docs/` or on the page of a crate has to be a whole file of `crates/callers`, and each file there but its
+root has to be on a page. A block of the README has to be lines of such a file that follow one another. It prints what isn't, and ends with the status 1 where
+it printed anything.
 """
 import pathlib
 import re
@@ -12,7 +13,8 @@ import sys
 
 ROOT = pathlib.Path(__file__).resolve().parent.parent
 CALLERS = ROOT / "crates" / "callers"
-PAGES = [ROOT / "README.md", *sorted(ROOT.glob("docs/*.md")), *sorted(ROOT.glob("crates/*/CALLING.md"))]
+README = ROOT / "README.md"
+PAGES = [README, *sorted(ROOT.glob("docs/*.md")), *sorted(ROOT.glob("crates/*/CALLING.md"))]
 # A block, whatever else its first line says, even where it is indented.
 BLOCK = re.compile(r"^ *```+ *(?:rust|rs|rt|rattle|antt)\b[^\n]*\n(.*?)^ *```+ *$", re.M | re.S | re.I)
 NOT_PRINTED = {"lib.rt", "Lib.antt"}
@@ -24,7 +26,8 @@ def main():
     blocks = [(page, block) for page in PAGES for block in BLOCK.findall(page.read_text())]
     faults = []
     for page, block in blocks:
-        if block not in texts.values():
+        is_part = page == README and any(f"\n{block}" in f"\n{text}" for text in texts.values())
+        if block not in texts.values() and not is_part:
             first = block.splitlines()[0] if block else "an empty one"
             faults.append(f"{page.relative_to(ROOT)}: no file of callers is this block: {first}")
     printed = {block for _, block in blocks}

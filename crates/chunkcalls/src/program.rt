@@ -1,6 +1,8 @@
 //! The program over any reader and writer.
-ghost use Rattle.std.specs.Prelude.{◌≡◌, ◌≤◌, ℕ, IfOk, IfSome, List, MatchResult, OnOk};
-ghost use Rattle.std.specs.Io.KnownBytes.{Appends, Keeps};
+ghost use Rattle.std.specs.Prelude.{◌≡◌, ◌<◌, ◌≤◌, ℕ, IfNone, IfOk, IfSome, List, MatchResult, OnOk, length};
+ghost use Rattle.std.specs.Io.BufRead.{DropsThrough};
+ghost use Rattle.std.specs.Io.Buffered.{reader_remaining};
+ghost use Rattle.std.specs.Io.KnownBytes.{Appends, IsAtEnd, Keeps};
 ghost use Rattle.chunkcalls.specs.Lines.{HasAnswered, IsOneLine};
 
 use crate::answer::answer;
@@ -46,29 +48,45 @@ pub fn run<R: Read + Drop, W: Write + Drop>(
     let Ok(mut writer) = answers.into_inner() else {
         return Err(RunFault::Write);
     };
-    match writer.flush() {
-        Ok(()) => Ok(writer),
-        Err(_) => Err(RunFault::Write),
-    }
+    flush(&mut writer)?;
+    Ok(writer)
 }
 
-/// Writes the answer to each line that a reader has left, in order.
-fn answer_lines<R: BufRead + Drop, W: Write>(
+/// Writes the answer to each line that a reader has left, in order. Whoever asks a line at a time gets each answer before asking again.
+fn answer_lines<R: Read + Drop, W: Write>(
     alloc: Global,
-    reader: R,
+    mut reader: BufReader<R>,
     writer: &mut W,
 ) -> Result<(), RunFault>
-    ensures { OnOk result (IfSome (R.remaining reader) (λ input.
+    ensures { OnOk result (IfSome (reader_remaining R.remaining reader) (λ input.
         IfSome (W.contents writer.old) (λ held.
         HasAnswered input held (W.contents writer.new)))) }
 {
-    for line in reader.split(alloc, b'\n') {
-        match line {
-            Ok(line) => answer_line(alloc, &line, writer)?,
-            Err(error) => return Err(RunFault::from_read(error)),
-        }
+    for _ in 0..u64::MAX {
+        let Some(line) = next_line(alloc, &mut reader)? else {
+            return Ok(());
+        };
+        answer_line(alloc, &line, writer)?;
+        flush_unless_line_waits(&reader, writer)?;
     }
-    Ok(())
+    // No input has so many lines.
+    Err(RunFault::Read)
+}
+
+/// The next line that a reader has left, with its line feed, if it has one; `None` at the end.
+fn next_line<B: BufRead>(alloc: Global, reader: &mut B) -> Result<Option<Vec<u8>>, RunFault>
+    ensures some { IfOk result (λ line. IfSome line (λ _. IfSome (B.remaining reader.old)
+        (λ left. 0 < length left))) }
+    ensures rest { IfOk result (λ line. IfSome line (λ _.
+        DropsThrough (B.remaining reader.old) (B.remaining reader.new) 10)) }
+    ensures end { IfOk result (λ line. IfNone line (IsAtEnd (B.remaining reader.old))) }
+{
+    let mut line = Vec::new(alloc);
+    match reader.read_until(b'\n', &mut line) {
+        Ok(0) => Ok(None),
+        Ok(_) => Ok(Some(line)),
+        Err(error) => Err(RunFault::from_read(error)),
+    }
 }
 
 /// Writes the answer to a line.
@@ -78,6 +96,29 @@ fn answer_line<W: Write>(alloc: Global, line: &[u8], writer: &mut W) -> Result<(
 {
     let answer = answer(alloc, line)?;
     match writer.write_all(&answer) {
+        Ok(()) => Ok(()),
+        Err(_) => Err(RunFault::Write),
+    }
+}
+
+/// Writes out what a writer holds back, unless another whole line has been read already.
+fn flush_unless_line_waits<R: Read, W: Write>(
+    reader: &BufReader<R>,
+    writer: &mut W,
+) -> Result<(), RunFault>
+    ensures { OnOk result (Keeps (W.contents writer.old) (W.contents writer.new)) }
+{
+    if reader.buffer().contains(&b'\n') {
+        return Ok(());
+    }
+    flush(writer)
+}
+
+/// Writes out what a writer holds back.
+fn flush<W: Write>(writer: &mut W) -> Result<(), RunFault>
+    ensures { OnOk result (Keeps (W.contents writer.old) (W.contents writer.new)) }
+{
+    match writer.flush() {
         Ok(()) => Ok(()),
         Err(_) => Err(RunFault::Write),
     }

@@ -137,7 +137,7 @@ fn a_failed_read_is_told(rt: HostRuntime) -> Result<(), Fail> {
 
 #[test]
 fn a_failed_write_is_told(rt: HostRuntime) -> Result<(), Fail> {
-    let input = joined(&rt, &[QUESTION, b"\n", QUESTION])?;
+    let input = joined(&rt, &[QUESTION, b"\n", QUESTION, b"\n"])?;
     let output = joined(&rt, &[ANSWER, ANSWER])?;
     let other = Some(ErrorKind::Other);
     for (fault, flush_fails) in [(other, false), (None, false), (other, true)] {
@@ -161,6 +161,31 @@ fn a_failed_write_is_told(rt: HostRuntime) -> Result<(), Fail> {
             let (taken, _) = output.as_slice().split_at(writes);
             assert_eq!(rt; writer.taken.as_slice(), taken, "after {writes} writes");
         }
+    }
+    Ok(())
+}
+
+#[test]
+fn an_answer_is_flushed_unless_a_line_waits(rt: HostRuntime) -> Result<(), Fail> {
+    let rows: [(&[&[u8]], &[&[u8]]); 3] = [
+        (&[QUESTION, b"\n", QUESTION, b"\n"], &[ANSWER, ANSWER]),
+        (&[QUESTION, b"\n", QUESTION], &[ANSWER]),
+        (&[QUESTION, b"\n"], &[ANSWER]),
+    ];
+    for (input, output) in rows {
+        let input = joined(&rt, input)?;
+        let output = joined(&rt, output)?;
+        // The first flush fails, so that no answer after it is written.
+        let mut writer = FailingWriter {
+            taken: Vec::new(rt.alloc()),
+            writes: 100,
+            fault: None,
+            flush_fails: true,
+        };
+        let mut errors = Vec::new(rt.alloc());
+        let status = run_to_status(rt.alloc(), input.as_slice(), &mut writer, &mut errors);
+        assert_eq!(rt; status, 1);
+        assert_eq!(rt; writer.taken.as_slice(), output.as_slice());
     }
     Ok(())
 }

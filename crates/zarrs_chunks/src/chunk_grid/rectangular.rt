@@ -4,6 +4,16 @@
 //! {"name": "rectangular", "configuration": {"chunk_shape": [[5, 5, 5, 15, 15, 20, 35], 10]}}
 //! ```
 //!
+//! ```text
+//! index    0  1   2  3  4  5   6  7  8   9     RectangularChunkGrid, array shape [9], chunk shape [[2, 4, 3]]
+//!        +------+------------+---------+
+//!        | a  a | a  a  a  a | a  a  a |       a  an element of the array
+//!        +------+------------+---------+
+//! chunk      0         1          2      -     chunk_indices; - where no chunk holds the index
+//! place    0  1   0  1  2  3   0  1  2   -     chunk_element_indices
+//! edge       2         4          3            chunk_shape: the edges add up to the array size
+//! ```
+//!
 //! | | |
 //! |---|---|
 //! | Standard | none yet: the draft [ZEP 3](https://zarr.dev/zeps/draft/ZEP0003.html), variable chunks |

@@ -1,7 +1,18 @@
 //! The `regular` grid: chunks that all have one shape.
 //!
 //! ```json
-//! {"name": "regular", "configuration": {"chunk_shape": [2, 3]}}
+//! {"name": "regular", "configuration": {"chunk_shape": [3]}}
+//! ```
+//!
+//! ```text
+//! index    0  1  2   3  4  5   6  7  8   9 ..     RegularChunkGrid, array shape [7], chunk shape [3]
+//!        +---------+---------+---------+---
+//!        | a  a  a | a  a  a | a  .  . | .        a  an element of the array
+//!        +---------+---------+---------+---       .  past the array, where chunks go on
+//! chunk       0         1         2      3 ..     chunk_indices
+//! place    0  1  2   0  1  2   0  1  2   0 ..     chunk_element_indices
+//! edge        3         3         3      3 ..     chunk_shape: edges aren't clipped
+//! bounds     yes       yes       yes     no       chunk_indices_inbounds: the grid shape is [3]
 //! ```
 //!
 //! | | |
