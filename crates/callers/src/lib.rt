@@ -12,6 +12,7 @@
 //! | `elements` | where an element lies, and under which key its chunk is stored |
 //! | `subsets` | the keys of all chunks of a grid, and of those that a box of elements meets |
 //! | `reading` | the elements of a box, read from a store |
+//! | `rechunking` | how many chunks of the source a chunk of the target is made of, at most |
 //! | `stairs` | a grid of one's own |
 //! | `versioned` | an encoding of one's own |
 #![tactic(auto)]
@@ -23,6 +24,7 @@ mod keys;
 mod known_kind;
 mod metadata;
 mod reading;
+mod rechunking;
 mod runs;
 mod stairs;
 mod subsets;
@@ -35,6 +37,7 @@ pub use keys::{append_keys, key_by_name};
 pub use known_kind::{is_in_bounds, metadata_of_regular};
 pub use metadata::{metadata_of, regular_metadata};
 pub use reading::{ChunkStore, Piece, read_box};
+pub use rechunking::most_sources;
 pub use runs::chunk_of_index;
 pub use stairs::Stairs;
 pub use subsets::{keys_of_grid, keys_of_subset};

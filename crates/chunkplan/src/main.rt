@@ -31,6 +31,8 @@ mod line;
 mod plan;
 mod program;
 mod run_fault;
+#[cfg(test)]
+mod tests;
 
 use program::run_to_status;
 use std::process::ExitCode;

@@ -5,7 +5,10 @@
 //! | Module | What it tests |
 //! |---|---|
 //! | `plans` | the parts of a box of elements, and the laws |
+//! | `rechunkings` | what a rechunking copies, what refuses it, and the laws |
 #![tactic(auto)]
 
 #[cfg(test)]
 mod plans;
+#[cfg(test)]
+mod rechunkings;
