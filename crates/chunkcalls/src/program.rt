@@ -1,12 +1,13 @@
 //! The program over any reader and writer.
 ghost use Rattle.std.specs.Prelude.{◌≡◌, ◌≤◌, ℕ, IfOk, IfSome, List, MatchResult, OnOk};
 ghost use Rattle.std.specs.Io.KnownBytes.{Appends, Keeps};
-ghost use Rattle.chunkcalls.specs.Lines.{HasAnswered, IsOneLine};
+ghost use Rattle.zarrs_chunk_questions.specs.Line.{IsOneLine};
+ghost use Rattle.chunkcalls.specs.Lines.{HasAnswered};
 
-use crate::answer::answer;
 use crate::run_fault::RunFault;
 use std::alloc::Global;
 use std::io::{BufRead, BufReader, BufWriter, Read, Write};
+use zarrs_chunk_questions::answer;
 
 /// Runs the program, tells its fault in one line, if it had one, and answers the status to end
 /// with: 0 where the run succeeded, and 1 after a fault.
