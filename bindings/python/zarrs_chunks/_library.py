@@ -81,13 +81,14 @@ def answer(question):
 def numbers(values, dimensionality=None):
     """Whole numbers as an array that the library reads: `uint64`, contiguous and aligned; a copy only where the array isn't that."""
     array = np.asarray(values)
-    if array.size == 0 and array.dtype == np.float64:
-        # An empty list has no numbers that tell its type.
-        array = array.astype(np.uint64)
+    kind = array.dtype
+    if kind == np.float64 and not isinstance(values, np.ndarray):
+        # A list without numbers, or with some from 2 ** 63 on, which numpy takes for floats.
+        array = np.asarray(values, object)
     if array.dtype == object and all(isinstance(value, int) and 0 <= value < 2**64 for value in array.flat):
         array = array.astype(np.uint64)
     if array.dtype.kind not in "iu":
-        raise TypeError(f"whole numbers are wanted, and the array is of {array.dtype}")
+        raise TypeError(f"whole numbers are wanted, and the array is of {kind}")
     if array.dtype.kind == "i" and array.size > 0 and array.min() < 0:
         raise ValueError("numbers below 0 are no indices")
     if dimensionality is not None and (array.ndim == 0 or array.shape[-1] != dimensionality):
