@@ -1,5 +1,5 @@
 -- Lists of one length, one after another, and the answers of a batch.
-use Rattle.std.proofs.Common.{◌≡◌, ◌≢◌, ◌⊎◌, ℕ, ◌+◌, ◌*◌, ◌<◌, ◌≤◌, Bool, true, false, List, length, drop, take, cond, slice_index_or, slice_set, inl, inr, ⊎_elim, refl, subst, arith, add-mul, mul-le-mul_right}
+use Rattle.std.proofs.Common.{◌≡◌, ℕ, ◌+◌, ◌*◌, ◌<◌, ◌≤◌, Bool, true, false, List, length, cond, slice_index_or, slice_set, inl, inr, ⊎_elim, refl, subst, arith, add-mul, mul-le-mul_right}
 use Rattle.std.proofs.lemmas.List.{drop-take, get_or-set_other, get_or-set_same}
 use Rattle.std.proofs.lemmas.Bool.{cases_lt}
 use Rattle.std.proofs.lemmas.Slice.{take-put_mid_below}

@@ -1,5 +1,5 @@
 -- The cover of any box, empty or not.
-use Rattle.std.proofs.Common.{◌≡◌, ◌≢◌, ◌⊎◌, ℕ, ◌<◌, List, [], ◌∷◌, length, Option, None, Some, Result, Ok, Err, IfOk, MatchOption, Bool, true, false, cond, inl, inr, refl, subst, arith}
+use Rattle.std.proofs.Common.{◌≡◌, ◌≢◌, ◌⊎◌, List, [], ◌∷◌, length, Option, None, Some, Result, Ok, Err, IfOk, MatchOption, Bool, true, false, cond, inl, inr, refl, subst, arith}
 use Rattle.zarrs_chunk_base.specs.ArraySubset.{Box, IsBox, IsEmptyBox}
 use Rattle.zarrs_chunk_base.specs.Dimension.{Dimension}
 use Rattle.zarrs_chunks.specs.Subsets.{AnswersCover, AnswersEmptyCover}

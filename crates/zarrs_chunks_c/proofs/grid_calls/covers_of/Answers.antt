@@ -1,6 +1,5 @@
 use Rattle.std.proofs.Common.{length, subst}
 use Rattle.std.proofs.lemmas.Result.{on_ok_weaker}
-use Rattle.zarrs_chunk_base.specs.ArraySubset.{Box}
 use Rattle.zarrs_chunks.specs.seen.Grids.{grid_in}
 use Rattle.zarrs_chunks_c.specs.Asked.{HasNoCover, IsCoverOf}
 use Rattle.zarrs_chunks_c.specs.Batch.{AreAnswered, list_at}

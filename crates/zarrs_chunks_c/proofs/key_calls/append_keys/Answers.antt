@@ -1,4 +1,4 @@
-use Rattle.std.proofs.Common.{◌≡◌, ℕ, ◌+◌, ◌-◌, ◌<◌, ◌++◌, length, string_bytes, arith}
+use Rattle.std.proofs.Common.{◌≡◌, ◌+◌, ◌-◌, ◌<◌, ◌++◌, length, string_bytes, arith}
 use Rattle.std.proofs.lemmas.List.{length-set}
 use Rattle.zarrs_chunks_c.proofs.Keys.{no_keys, one_key_more}
 use Rattle.zarrs_chunks_c.proofs.key_calls.append_keys.Goals as goal
