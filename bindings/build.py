@@ -3,8 +3,8 @@
 
     bindings/build.py
 
-`bindings/out/llvm` gets both as LLVM compiles them, `bindings/out/rattle` as Rattle's own compiler does. The crate is proved first, which takes some
-ten minutes the first time, and then seconds. It ends with the status 1 where the names that are exported aren't those of the header.
+`bindings/out/llvm` gets both as LLVM compiles them, `bindings/out/rattle` as Rattle's own compiler does. The crate is proved first, which takes
+longest the first time. It ends with the status 1 where the names that are exported aren't those of the header.
 """
 import pathlib
 import re
