@@ -1,20 +1,10 @@
--- Counting line feeds and lines.
-use Rattle.std.proofs.Common.{◌≡◌, ◌≢◌, ℕ, ◌+◌, ◌<◌, List, [], ◌∷◌, ◌++◌, length, refl, length-append, arith}
+-- Counting lines.
+use Rattle.std.proofs.Common.{◌≡◌, ℕ, ◌+◌, ◌<◌, List, [], ◌∷◌, ◌++◌, length, refl, length-append, arith}
 use Rattle.std.proofs.lemmas.Bool.Decides.{nat_tests}
 use Rattle.std.specs.Io.BufRead.{drop_through}
-use Rattle.chunkcalls.specs.Lines.{line_feeds, line_count, IsOneLine}
-
-pub line_feeds-append : (front back : List ℕ) → line_feeds (front ++ back) ≡ line_feeds front + line_feeds back
-line_feeds-append [] back = omega arith
-line_feeds-append (b ∷ front) back =
-    let rest = line_feeds-append front back in
-    omega arith
-
--- one byte more that is no line feed
-pub line_feeds-push : (front : List ℕ) (b : ℕ) → b ≢ 10 → line_feeds front ≡ 0 → line_feeds (front ++ b ∷ []) ≡ 0
-line_feeds-push front b other none =
-    let whole = line_feeds-append front (b ∷ []) in
-    grind (arith, nat_tests)
+use Rattle.zarrs_chunk_questions.specs.Line.{line_feeds, IsOneLine}
+use Rattle.zarrs_chunk_questions.proofs.LineFeeds.{line_feeds-append}
+use Rattle.chunkcalls.specs.Lines.{line_count}
 
 -- one line more is one line feed more
 pub line_feeds-line : (front line : List ℕ) → IsOneLine line → line_feeds (front ++ line) ≡ line_feeds front + 1

@@ -2,7 +2,8 @@
 use Rattle.std.proofs.Common.{◌≡◌, ◌≢◌, ℕ, ◌+◌, ◌<◌, List, [], ◌∷◌, ◌++◌, Option, None, Some, IfSome, length, length-append, refl, append_assoc, append-nil, arith}
 use Rattle.std.specs.Io.KnownBytes.{Appends, IsAtEnd, Keeps}
 use Rattle.std.specs.Io.BufRead.{take_through, drop_through, DropsThrough}
-use Rattle.chunkcalls.specs.Lines.{line_feeds, line_count, IsOneLine, HasAnswered}
+use Rattle.zarrs_chunk_questions.specs.Line.{line_feeds, IsOneLine}
+use Rattle.chunkcalls.specs.Lines.{line_count, HasAnswered}
 use Rattle.chunkcalls.proofs.Counts.{line_feeds-line, line_count-ended, line_count-rest}
 
 -- some bytes of the input are left, and the writer holds a line for each line before them

@@ -1,19 +1,11 @@
 -- Lines of bytes.
-use Rattle.std.specs.Prelude.{◌≡◌, ℕ, ◌+◌, ◌==◌, ◌||◌, if◌then◌else◌, List, [], ◌∷◌, ◌++◌, length, Option, Some, codes}
-
--- how many line feeds there are
-abbrev pub line_feeds : List ℕ → ℕ
-line_feeds [] = 0
-line_feeds (b ∷ bytes) = (if b == 10 then 1 else 0) + line_feeds bytes
+use Rattle.std.specs.Prelude.{◌≡◌, ℕ, ◌+◌, ◌==◌, ◌||◌, if◌then◌else◌, List, [], ◌∷◌, ◌++◌, length, Option, Some}
+use Rattle.zarrs_chunk_questions.specs.Line.{line_feeds}
 
 -- how many lines there are: each line feed ends one, and so does the last byte
 abbrev pub line_count : List ℕ → ℕ
 line_count [] = 0
 line_count (b ∷ bytes) = (if b == 10 || length bytes == 0 then 1 else 0) + line_count bytes
-
--- a text without a line feed, and then one line feed
-abbrev pub IsOneLine : List ℕ → Type 0
-IsOneLine line = (text : List ℕ) × (line_feeds text ≡ 0) × (line ≡ text ++ codes "\n")
 
 -- as many lines as the input has, and each of them ends in a line feed
 pub record AreLinesFor (input answers : List ℕ) : Type 0 where

@@ -15,29 +15,13 @@
 //! | Module | What it holds |
 //! |---|---|
 //! | `program` | the whole program over any reader and writers: `run`, and then `finish` |
-//! | `answer` | the line that answers a line |
-//! | `question` | what a line asks, and what answers it |
-//! | `grid_question` | the calls of a chunk grid, by their names, and what each answers |
-//! | `extensions` | the chunk grid and the chunk key encoding that a line gives |
-//! | `start_shape` | a box as a line writes it |
-//! | `located` | where an element is stored, as a line writes it |
-//! | `walk_items` | the first items of a walk, as a line writes them |
-//! | `line_fault` | why a line has no answer |
 //! | `run_fault` | why a run stops |
 #![tactic(auto)]
 
-mod answer;
-mod extensions;
-mod grid_question;
-mod line_fault;
-mod located;
 mod program;
-mod question;
 mod run_fault;
-mod start_shape;
 #[cfg(test)]
 mod tests;
-mod walk_items;
 
 use program::run_to_status;
 use std::process::ExitCode;

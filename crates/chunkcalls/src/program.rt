@@ -3,12 +3,13 @@ ghost use Rattle.std.specs.Prelude.{◌≡◌, ◌<◌, ◌≤◌, ℕ, IfNone, 
 ghost use Rattle.std.specs.Io.BufRead.{DropsThrough};
 ghost use Rattle.std.specs.Io.Buffered.{reader_remaining};
 ghost use Rattle.std.specs.Io.KnownBytes.{Appends, IsAtEnd, Keeps};
-ghost use Rattle.chunkcalls.specs.Lines.{HasAnswered, IsOneLine};
+ghost use Rattle.zarrs_chunk_questions.specs.Line.{IsOneLine};
+ghost use Rattle.chunkcalls.specs.Lines.{HasAnswered};
 
-use crate::answer::answer;
 use crate::run_fault::RunFault;
 use std::alloc::Global;
 use std::io::{BufRead, BufReader, BufWriter, Read, Write};
+use zarrs_chunk_questions::answer;
 
 /// Runs the program, tells its fault in one line, if it had one, and answers the status to end
 /// with: 0 where the run succeeded, and 1 after a fault.

@@ -1,7 +1,7 @@
 use Rattle.std.proofs.Common.{◌≢◌, arith}
 use Rattle.std.proofs.lemmas.Bool.Decides.{nat_tests}
-use Rattle.chunkcalls.proofs.Counts.{line_feeds-push}
-use Rattle.chunkcalls.proofs.answer.one_line.Goals as goal
+use Rattle.zarrs_chunk_questions.proofs.LineFeeds.{line_feeds-push}
+use Rattle.zarrs_chunk_questions.proofs.answer_line.one_line.Goals as goal
 
 pub loop-byte-preserved : goal.loop-byte-preserved
 loop-byte-preserved c =

@@ -1,6 +1,6 @@
 //! The line that answers a line.
 ghost use Rattle.std.specs.Prelude.{◌≡◌, ◌==◌, if◌then◌else◌, IfOk};
-ghost use Rattle.chunkcalls.specs.Lines.{IsOneLine};
+ghost use Rattle.zarrs_chunk_questions.specs.Line.{IsOneLine};
 
 use crate::line_fault::LineFault;
 use crate::question::answer_question;
@@ -12,7 +12,7 @@ use zarrs_chunk_base::Refusal;
 ///
 /// # Errors
 /// Out of memory.
-pub(crate) fn answer(alloc: Global, line: &[u8]) -> Result<Vec<u8>, AllocError>
+pub fn answer(alloc: Global, line: &[u8]) -> Result<Vec<u8>, AllocError>
     ensures { IfOk result (λ answer. IsOneLine answer.items) }
 {
     let text = match answer_tree(alloc, line) {

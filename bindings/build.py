@@ -1,0 +1,122 @@
+#!/usr/bin/env python3
+"""Builds the shared library `libzarrs_chunks.so` and its header's static library, by the kit alone: no other compiler or linker is needed.
+
+    bindings/build.py
+
+`bindings/out/llvm` gets both as LLVM compiles them, `bindings/out/rattle` as Rattle's own compiler does. The crate is proved first, which takes
+longest the first time. It ends with the status 1 where the names that are exported aren't those of the header.
+"""
+import pathlib
+import re
+import shutil
+import subprocess
+import sys
+
+HERE = pathlib.Path(__file__).resolve().parent
+CRATE = HERE.parent / "crates" / "zarrs_chunks_c"
+NAME = "libzarrs_chunks"
+# What the library asks of the C library. It opens no file and starts nothing.
+WANTED = {"malloc", "realloc", "free", "memcpy", "memmove", "memset", "memcmp", "bcmp"}
+
+
+def kit():
+    page = subprocess.run(["rt", "doc"], stdout=subprocess.PIPE, check=True).stdout.decode()
+    return pathlib.Path(page.split()[-1]).resolve().parent
+
+
+def build(backend, kit_folder):
+    """The library as one of the compilers makes it, in a folder of its own."""
+    flags = [] if backend == "llvm" else ["--backend", backend]
+    built = subprocess.run(["rt", "lib", *flags], cwd=CRATE, stdout=subprocess.PIPE, stderr=subprocess.STDOUT)
+    if built.returncode != 0:
+        sys.exit(built.stdout.decode() + f"bindings/build.py: rt lib ended with status {built.returncode}")
+    out = HERE / "out" / backend
+    out.mkdir(parents=True, exist_ok=True)
+    shared, runtime = out / f"{NAME}.so", kit_folder / "c" / "liblibc_c.a"
+    exported = out / "exported.map"
+    exported.write_text("{ global: zarrs_*; local: *; };\n")
+    shutil.copy(CRATE / "out" / "libzarrs_chunks_c.a", out / f"{NAME}.a")
+    shutil.copy(runtime, out / "liblibc_c.a")
+    toolchain = kit_folder / "toolchain"
+    subprocess.run(
+        [
+            toolchain / "bin" / "ld.lld", "-shared", "-soname", f"{NAME}.so", "-z", "defs", "-z", "text", "-z", "noexecstack", "--gc-sections",
+            "--version-script", exported, "--whole-archive", out / f"{NAME}.a", "--no-whole-archive", runtime, toolchain / "lib" / "libc.so.6",
+            "-o", shared,
+        ],
+        check=True,
+    )  # fmt: skip
+    return shared
+
+
+def declared():
+    """The calls of the header."""
+    return set(re.findall(r"^int32_t (\w+)\(", (HERE / "zarrs_chunks.h").read_text(), re.MULTILINE))
+
+
+def parameters(text, pattern):
+    """How many arguments each call takes in C, as the text declares them."""
+    found = {}
+    for name, inside in re.findall(pattern, text, re.DOTALL):
+        kinds = [kind for part in inside.split(",") if (kind := part.strip()) and not kind.startswith("alloc:")]
+        found[name] = kinds
+    return found
+
+
+def c_kinds():
+    """The parameters of the header, each as its type in C."""
+    rows = parameters((HERE / "zarrs_chunks.h").read_text(), r"int32_t (\w+)\((.*?)\);")
+    return {name: [re.sub(r"\w+$", "", kind).replace(" ", "") for kind in kinds] for name, kinds in rows.items()}
+
+
+def rattle_kinds():
+    """The parameters of the crate's exports, each as its type in C."""
+    crossing = {
+        "&[u64]": ["constuint64_t*", "size_t"], "&mut [u64]": ["uint64_t*", "size_t"], "&[u8]": ["constuint8_t*", "size_t"],
+        "&mut [u8]": ["uint8_t*", "size_t"], "&mut usize": ["size_t*"], "usize": ["size_t"], "u64": ["uint64_t"],
+    }  # fmt: skip
+    text = "".join(path.read_text() for path in sorted(CRATE.glob("src/*.rt")))
+    rows = parameters(text, r'pub extern "C" fn (\w+)\((.*?)\) -> i32')
+    return {name: [c for kind in kinds for c in crossing[kind.split(":")[1].strip()]] for name, kinds in rows.items()}
+
+
+def symbols(shared):
+    """The names that a shared library exports, and those that it wants of others, read from its table of dynamic symbols."""
+    data = shared.read_bytes()
+
+    def number(at, size):
+        return int.from_bytes(data[at : at + size], "little")
+
+    sections = [number(40, 8) + position * number(58, 2) for position in range(number(60, 2))]
+    # A section's type, place, size and the section that it links to; 11 is the table of dynamic symbols.
+    for section in sections:
+        if number(section + 4, 4) == 11:
+            start, size = number(section + 24, 8), number(section + 32, 8)
+            texts = number(sections[number(section + 40, 4)] + 24, 8)
+            for entry in range(start + 24, start + size, 24):
+                begin = texts + number(entry, 4)
+                yield data[begin : data.index(b"\0", begin)].decode(), number(entry + 6, 2) != 0
+
+
+def main():
+    kit_folder = kit()
+    faults = []
+    if c_kinds() != rattle_kinds():
+        for name in sorted(c_kinds() | rattle_kinds()):
+            if c_kinds().get(name) != rattle_kinds().get(name):
+                faults.append(f"{name}: the header has {c_kinds().get(name)}, and the crate {rattle_kinds().get(name)}")
+    for backend in ("llvm", "rattle"):
+        shared = build(backend, kit_folder)
+        exported = {name for name, here in symbols(shared) if here}
+        wanted = {name for name, here in symbols(shared) if not here}
+        if exported != declared():
+            faults.append(f"{shared}: exported and not in the header, or the other way round: {sorted(exported ^ declared())}")
+        if not wanted <= WANTED:
+            faults.append(f"{shared}: wants more of the C library: {sorted(wanted - WANTED)}")
+        print(f"{shared.relative_to(HERE.parent)}: {shared.stat().st_size} bytes, {len(exported)} calls")
+    print("\n".join(faults), end="\n" if faults else "")
+    sys.exit(1 if faults else 0)
+
+
+if __name__ == "__main__":
+    main()

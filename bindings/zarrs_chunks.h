@@ -1,0 +1,129 @@
+/* Zarr chunk grids and chunk keys: in which chunk of an array an element lies, and under which key that chunk is stored.
+ *
+ * A batch is n lists of d numbers, one after another in one array, where d is the number of dimensions. Numbers are uint64_t: sizes, indices,
+ * origins, shapes and places count elements, chunks are numbered from 0 along each dimension. An array is passed as a pointer and how many
+ * items it has; with 0 items the pointer may be null.
+ *
+ * A grid is the array's shape (d numbers) and the text of the member `chunk_grid` of its zarr.json; an encoding is the text of the member
+ * `chunk_key_encoding`. Texts are UTF-8 and end at their length, not at a zero byte. Each call makes its grid and its encoding anew and keeps
+ * nothing, so calls may run in several threads at once.
+ *
+ * Each call answers ZARRS_OK or one of the codes below. After another code than ZARRS_OK and ZARRS_SHORT_BUFFER the buffers that are written to
+ * hold anything, but nothing is written beside them.
+ *
+ * Where a call has `found`, an array of n bytes, the byte of a list becomes 1 where there is an answer to it, and 0 where there is none; the
+ * numbers of an answer that isn't there stay as they were.
+ *
+ * The caller sees to it that each pointer points to as many items as it says, that they are aligned to their type, and that what is written to
+ * overlaps no other buffer of the call. Nothing else is asked of it.
+ */
+#ifndef ZARRS_CHUNKS_H
+#define ZARRS_CHUNKS_H
+
+#include <stddef.h>
+#include <stdint.h>
+
+#ifdef __cplusplus
+extern "C" {
+#endif
+
+/* The call has answered. */
+#define ZARRS_OK 0
+/* Out of memory. */
+#define ZARRS_OUT_OF_MEMORY (-1)
+/* An array has more or fewer items than the others demand. */
+#define ZARRS_WRONG_LENGTH (-2)
+/* The metadata is no text of JSON. */
+#define ZARRS_NOT_JSON (-3)
+/* The metadata is JSON, and no extension's. */
+#define ZARRS_NOT_METADATA (-4)
+/* The grid or the encoding is refused. zarrs_answer gives the words. */
+#define ZARRS_REFUSED (-5)
+/* A start and a shape are those of no box: it ends past 18446744073709551615. */
+#define ZARRS_NOT_A_BOX (-6)
+/* Offsets descend, or lie past the text. */
+#define ZARRS_WRONG_OFFSETS (-7)
+/* The text of the answer is longer than its buffer; `needed` tells how long it is. */
+#define ZARRS_SHORT_BUFFER (-8)
+
+/* How many chunks are counted along each dimension: grid_shape gets d numbers. */
+int32_t zarrs_grid_shape(
+    const uint64_t *shape, size_t shape_len,
+    const uint8_t *chunk_grid, size_t chunk_grid_len,
+    uint64_t *grid_shape, size_t grid_shape_len);
+
+/* The chunk of each element. indices: n * d; chunks: n * d; found: n, 0 where no chunk holds the element. */
+int32_t zarrs_chunk_indices_of(
+    const uint64_t *shape, size_t shape_len,
+    const uint8_t *chunk_grid, size_t chunk_grid_len,
+    const uint64_t *indices, size_t indices_len,
+    uint64_t *chunks, size_t chunks_len,
+    uint8_t *found, size_t found_len);
+
+/* The chunk of each element, and the element's place there, counted from the chunk's first element. indices, chunks, places: n * d; found: n,
+ * 0 where no chunk holds the element. */
+int32_t zarrs_homes_of(
+    const uint64_t *shape, size_t shape_len,
+    const uint8_t *chunk_grid, size_t chunk_grid_len,
+    const uint64_t *indices, size_t indices_len,
+    uint64_t *chunks, size_t chunks_len,
+    uint64_t *places, size_t places_len,
+    uint8_t *found, size_t found_len);
+
+/* The box of each chunk: the index of its first element, and how many elements it has along each dimension. chunks, origins, shapes: n * d;
+ * found: n, 0 where there is no such chunk, or it ends past 18446744073709551615. */
+int32_t zarrs_chunk_boxes_of(
+    const uint64_t *shape, size_t shape_len,
+    const uint8_t *chunk_grid, size_t chunk_grid_len,
+    const uint64_t *chunks, size_t chunks_len,
+    uint64_t *origins, size_t origins_len,
+    uint64_t *shapes, size_t shapes_len,
+    uint8_t *found, size_t found_len);
+
+/* The cover of each box of elements: the box of all chunks that hold some of them. A box is its first index and its shape, the cover its first
+ * chunk and how many chunks it has along each dimension; the cover of an empty box has no chunks. starts, shapes, first_chunks, chunk_counts:
+ * n * d; found: n, 0 where the first or the last element of the box lies in no chunk. ZARRS_NOT_A_BOX where a box ends past
+ * 18446744073709551615. */
+int32_t zarrs_covers_of(
+    const uint64_t *shape, size_t shape_len,
+    const uint8_t *chunk_grid, size_t chunk_grid_len,
+    const uint64_t *starts, size_t starts_len,
+    const uint64_t *shapes, size_t shapes_len,
+    uint64_t *first_chunks, size_t first_chunks_len,
+    uint64_t *chunk_counts, size_t chunk_counts_len,
+    uint8_t *found, size_t found_len);
+
+/* The key of each chunk, one after another, without a byte between two. chunks: n * d; text: as many bytes as the keys have; offsets: n + 1,
+ * where each key begins in the text, in bytes, and at last where the last one ends. *needed gets how many bytes the keys have.
+ * ZARRS_SHORT_BUFFER where text is shorter: offsets and *needed are written all the same, and text isn't. */
+int32_t zarrs_keys_of(
+    const uint8_t *chunk_key_encoding, size_t chunk_key_encoding_len,
+    size_t dimensionality,
+    const uint64_t *chunks, size_t chunks_len,
+    uint8_t *text, size_t text_len,
+    uint64_t *offsets, size_t offsets_len,
+    size_t *needed);
+
+/* The chunk of each key: the one with d numbers whose key it is. text: the keys, one after another; offsets: n + 1, as zarrs_keys_of writes
+ * them; chunks: n * d; found: n, 0 where a text is the key of no such chunk. The chunk may lie outside of the grid. */
+int32_t zarrs_chunks_of_keys(
+    const uint8_t *chunk_key_encoding, size_t chunk_key_encoding_len,
+    size_t dimensionality,
+    const uint8_t *text, size_t text_len,
+    const uint64_t *offsets, size_t offsets_len,
+    uint64_t *chunks, size_t chunks_len,
+    uint8_t *found, size_t found_len);
+
+/* The line that answers a question, which is a JSON object as crates/chunkcalls/CALLING.md says: an answer as compact JSON, or `refused:` or
+ * `unreadable:` and why; and a line feed. *needed gets how many bytes it has. ZARRS_SHORT_BUFFER where line is shorter: nothing is written to
+ * it. */
+int32_t zarrs_answer(
+    const uint8_t *question, size_t question_len,
+    uint8_t *line, size_t line_len,
+    size_t *needed);
+
+#ifdef __cplusplus
+}
+#endif
+
+#endif

@@ -1,0 +1,34 @@
+//! What a question to a chunk grid or a chunk key encoding means, and the line that answers it.
+//!
+//! A question is a JSON object: the `shape` of an array and its `chunk_grid`, as in its `zarr.json`, the name of a `call`, and what it
+//! is asked `of`, where it takes something; for a walk, how many `items` to give; for `locate` and `parts`, a `chunk_key_encoding`. The
+//! calls `encode` and `decode` take a `chunk_key_encoding` and no grid. [`answer`] gives the line that answers it: the answer as compact
+//! JSON, why the library refused, or why the question can't be read.
+//!
+//! ```text
+//! {"shape":[5,7,52],"chunk_grid":{"name":"regular","configuration":{"chunk_shape":[1,2,3]}},"call":"subset","of":[0,3,17]}
+//! [[0,6,51],[1,2,3]]
+//! ```
+//!
+//! | Module | What it holds |
+//! |---|---|
+//! | `answer_line` | the line that answers a question |
+//! | `question` | what is asked, and what answers it |
+//! | `grid_question` | the calls of a chunk grid, by their names, and what each answers |
+//! | `extensions` | the chunk grid and the chunk key encoding that metadata gives, as a tree or as text |
+//! | `start_shape` | a box as a question writes it |
+//! | `located` | where an element is stored, as an answer writes it |
+//! | `walk_items` | the first items of a walk, as an answer writes them |
+//! | `line_fault` | why a question has no answer |
+#![tactic(auto)]
+
+mod answer_line;
+mod extensions;
+mod grid_question;
+mod line_fault;
+mod located;
+mod question;
+mod start_shape;
+mod walk_items;
+
+pub use answer_line::answer;

@@ -1,0 +1,3 @@
+pub mod Batches
+pub mod Covers
+pub mod Keys

@@ -1,0 +1,3 @@
+pub mod Asked
+pub mod Batch
+pub mod Said

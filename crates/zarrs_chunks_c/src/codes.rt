@@ -1,0 +1,70 @@
+//! Why a call is refused, and the code of it.
+use std::alloc::{AllocError, AllocFailed};
+use zarrs_chunk_base::{IncompatibleDimensionalityError, Refusal};
+
+/// Why a call is refused. The header `zarrs_chunks.h` names the codes.
+#[derive(Drop)]
+pub(crate) enum Fault {
+    /// Out of memory.
+    Memory,
+    /// A buffer is longer or shorter than the others demand.
+    Length,
+    /// The metadata is no text of JSON.
+    NotJson,
+    /// The metadata is JSON, and no extension's.
+    NotMetadata,
+    /// The grid or the encoding that the metadata asks for can't be made.
+    NotMade,
+    /// A start and a shape are those of no box: it ends past 18446744073709551615.
+    NotBox,
+    /// Offsets descend, or lie past the text.
+    Offsets,
+    /// The answer is longer than its buffer. How long it is, is told.
+    Short,
+}
+
+impl Fault {
+    /// The code of the fault.
+    fn code(&self) -> i32 {
+        match self {
+            Fault::Memory => -1,
+            Fault::Length => -2,
+            Fault::NotJson => -3,
+            Fault::NotMetadata => -4,
+            Fault::NotMade => -5,
+            Fault::NotBox => -6,
+            Fault::Offsets => -7,
+            Fault::Short => -8,
+        }
+    }
+}
+
+/// The code that a call ends with: 0, or that of its fault.
+pub(crate) fn code_of(ended: Result<(), Fault>) -> i32 {
+    match ended {
+        Ok(()) => 0,
+        Err(fault) => fault.code(),
+    }
+}
+
+impl From<AllocError> for Fault {
+    fn from(_error: AllocError) -> Fault {
+        Fault::Memory
+    }
+}
+
+impl<T: Drop> From<AllocFailed<T>> for Fault {
+    fn from(_failed: AllocFailed<T>) -> Fault {
+        Fault::Memory
+    }
+}
+
+/// A look-up is refused for the length of its list alone.
+impl From<Refusal<IncompatibleDimensionalityError>> for Fault {
+    fn from(refusal: Refusal<IncompatibleDimensionalityError>) -> Fault {
+        match refusal {
+            Refusal::Refused(_) => Fault::Length,
+            Refusal::Memory(_) => Fault::Memory,
+        }
+    }
+}

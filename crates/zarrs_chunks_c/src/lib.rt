@@ -1,0 +1,31 @@
+//! The chunk grids and chunk key encodings for C, and for what calls C: batches of questions over flat arrays.
+//!
+//! A grid is given as its array's shape and the bytes of its metadata, an encoding as the bytes of its metadata, each as in `zarr.json`.
+//! A batch is many lists of one length, one after another in one array. A call makes its grid and its encoding, answers all questions
+//! and keeps nothing. It answers 0, or a negative code for why it is refused. Lengths are tested, so a call is safe with any valid buffers.
+//! `bindings/zarrs_chunks.h` says of each call what it takes and writes.
+//!
+//! | Module | What it holds |
+//! |---|---|
+//! | `grid_calls` | `zarrs_grid_shape`, `zarrs_chunk_indices_of`, `zarrs_homes_of`, `zarrs_chunk_boxes_of`, `zarrs_covers_of` |
+//! | `key_calls` | `zarrs_keys_of`, `zarrs_chunks_of_keys` |
+//! | `answer_call` | `zarrs_answer`: any question as text |
+//! | `batch` | the loop over the questions of a batch |
+//! | `lists` | lists of one length, one after another |
+//! | `texts` | texts that are written to a buffer, and texts one after another |
+//! | `questions` | what is asked of a grid, list by list |
+//! | `key_questions` | what is asked of an encoding, key by key |
+//! | `metadata` | the grid and the encoding that metadata says |
+//! | `codes` | why a call is refused, and the code of it |
+#![tactic(auto)]
+
+mod answer_call;
+mod batch;
+mod codes;
+mod grid_calls;
+mod key_calls;
+mod key_questions;
+mod lists;
+mod metadata;
+mod questions;
+mod texts;

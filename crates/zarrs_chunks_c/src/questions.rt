@@ -1,0 +1,159 @@
+//! What is asked of a chunk grid, list by list.
+ghost use Rattle.std.specs.Prelude.{◌≡◌, ℕ, [], IfOk, List, MatchOption, false, length, true};
+ghost use Rattle.zarrs_chunk_base.specs.ArraySubset.{IsBox};
+ghost use Rattle.zarrs_chunk_base.specs.Dimension.{InBox, IsPlace};
+ghost use Rattle.zarrs_chunks.specs.Subsets.{HasNoBox, HasNoHome, Spans};
+ghost use Rattle.zarrs_chunks_c.specs.Asked.{HasNoCover, IsCoverOf};
+ghost use Rattle.zarrs_chunks_c.specs.Batch.{list_at};
+
+use crate::batch::Questions;
+use crate::codes::Fault;
+use crate::lists::list_of;
+use std::alloc::Global;
+use zarrs_chunk_base::ArraySubset;
+use zarrs_chunks::{ChunkGridTraits, Home};
+
+/// Where elements lie: the chunk of each, and the place there.
+#[derive(Drop)]
+pub(crate) struct Homes<'a, G> {
+    pub(crate) grid: &'a G,
+    /// The index lists of the elements.
+    pub(crate) indices: &'a [u64],
+}
+
+impl<G: ChunkGridTraits> Questions for Homes<'_, G> {
+    ghost answered = { λ homes number chunk place.
+        InBox (G.dimensions homes.grid.now) chunk (list_at (length (G.dimensions homes.grid.now)) homes.indices.now number)
+        × IsPlace (G.dimensions homes.grid.now) chunk (list_at (length (G.dimensions homes.grid.now)) homes.indices.now number) place };
+
+    ghost unanswered = { λ homes number.
+        HasNoHome (G.dimensions homes.grid.now) (list_at (length (G.dimensions homes.grid.now)) homes.indices.now number) };
+
+    fn answer(&self, _alloc: Global, number: usize, answer: &mut Home) -> Result<bool, Fault> {
+        let index = list_of(self.indices, self.grid.dimensionality(), number)?;
+        Ok(self.grid.find_home(index, answer)?)
+    }
+}
+
+/// The questions, each answered by the first of its two lists alone.
+#[derive(Drop)]
+pub(crate) struct FirstAlone<Q>(pub(crate) Q);
+
+impl<Q: Questions> Questions for FirstAlone<Q> {
+    ghost answered = { λ questions number first _.
+        (dropped : List ℕ) × Q.answered questions.0 number first dropped };
+
+    ghost unanswered = { λ questions number. Q.unanswered questions.0 number };
+
+    fn answer(&self, alloc: Global, number: usize, answer: &mut Home) -> Result<bool, Fault> {
+        let found = self.0.answer(alloc, number, answer)?;
+        answer.element.clear();
+        Ok(found)
+    }
+}
+
+/// The boxes of chunks: the origin of each, and its shape.
+#[derive(Drop)]
+pub(crate) struct ChunkBoxes<'a, G> {
+    pub(crate) grid: &'a G,
+    pub(crate) chunks: &'a [u64],
+}
+
+impl<G: ChunkGridTraits> Questions for ChunkBoxes<'_, G> {
+    ghost answered = { λ boxes number origin shape. Spans (G.dimensions boxes.grid.now)
+        (list_at (length (G.dimensions boxes.grid.now)) boxes.chunks.now number)
+        (list_at (length (G.dimensions boxes.grid.now)) boxes.chunks.now number)
+        (record { start = origin; shape = shape }) };
+
+    ghost unanswered = { λ boxes number. HasNoBox (G.dimensions boxes.grid.now)
+        (list_at (length (G.dimensions boxes.grid.now)) boxes.chunks.now number) };
+
+    fn answer(&self, alloc: Global, number: usize, answer: &mut Home) -> Result<bool, Fault> {
+        let chunk = list_of(self.chunks, self.grid.dimensionality(), number)?;
+        leave_box(self.grid.subset(alloc, chunk)?, answer)
+    }
+}
+
+/// The covers of boxes of elements: the first chunk of each, and how many chunks it has along each dimension.
+#[derive(Drop)]
+pub(crate) struct Covers<'a, G> {
+    pub(crate) grid: &'a G,
+    pub(crate) starts: &'a [u64],
+    pub(crate) shapes: &'a [u64],
+}
+
+impl<G: ChunkGridTraits> Questions for Covers<'_, G> {
+    ghost answered = { λ covers number start shape. IsCoverOf (G.dimensions covers.grid.now)
+        (record {
+          start = list_at (length (G.dimensions covers.grid.now)) covers.starts.now number;
+          shape = list_at (length (G.dimensions covers.grid.now)) covers.shapes.now number;
+        })
+        (record { start = start; shape = shape }) };
+
+    ghost unanswered = { λ covers number. HasNoCover (G.dimensions covers.grid.now)
+        (record {
+          start = list_at (length (G.dimensions covers.grid.now)) covers.starts.now number;
+          shape = list_at (length (G.dimensions covers.grid.now)) covers.shapes.now number;
+        }) };
+
+    fn answer(&self, alloc: Global, number: usize, answer: &mut Home) -> Result<bool, Fault> {
+        let start = list_of(self.starts, self.grid.dimensionality(), number)?;
+        let shape = list_of(self.shapes, self.grid.dimensionality(), number)?;
+        leave_box(cover_of(alloc, self.grid, start, shape)?, answer)
+    }
+}
+
+/// The cover of the box of a start and a shape.
+///
+/// # Errors
+/// The box ends past 18446744073709551615, or has another number of dimensions than the grid; or out of memory.
+fn cover_of<G: ChunkGridTraits>(
+    alloc: Global,
+    grid: &G,
+    start: &[u64],
+    shape: &[u64],
+) -> Result<Option<ArraySubset>, Fault>
+    ensures { IfOk result (λ found. MatchOption found
+        (HasNoCover (G.dimensions grid.now)
+        (record { start = start.now; shape = shape.now }))
+        (IsCoverOf (G.dimensions grid.now)
+        (record { start = start.now; shape = shape.now }))) }
+{
+    let elements = box_of(alloc, start, shape)?;
+    Ok(grid.chunks_in_array_subset(alloc, &elements)?)
+}
+
+/// The box of a start and a shape.
+///
+/// # Errors
+/// It ends past 18446744073709551615; or out of memory.
+fn box_of(alloc: Global, start: &[u64], shape: &[u64]) -> Result<ArraySubset, Fault>
+    ensures value { IfOk result (λ subset. subset
+        ≡ record { start = start.now; shape = shape.now }) }
+    ensures is_box { IfOk result IsBox }
+{
+    let start = Vec::from_slice(alloc, start)?;
+    let shape = Vec::from_slice(alloc, shape)?;
+    match ArraySubset::new_with_start_shape(start, shape) {
+        Ok(subset) => Ok(subset),
+        Err(_) => Err(Fault::NotBox),
+    }
+}
+
+/// Leaves a box as its start and its shape, and answers whether there is one.
+///
+/// # Errors
+/// Out of memory.
+fn leave_box(subset: Option<ArraySubset>, answer: &mut Home) -> Result<bool, Fault>
+    ensures { IfOk result (λ found. MatchOption subset (found ≡ false) (λ b. (found ≡ true)
+        × (b ≡ record { start = answer.new.chunk.items; shape = answer.new.element.items }))) }
+{
+    let Some(subset) = subset else {
+        return Ok(false);
+    };
+    answer.chunk.clear();
+    answer.chunk.extend_from_slice(subset.start())?;
+    answer.element.clear();
+    answer.element.extend_from_slice(subset.shape())?;
+    Ok(true)
+}
