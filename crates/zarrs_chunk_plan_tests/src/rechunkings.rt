@@ -19,17 +19,9 @@ fn row(alloc: Global, elements: u64, edge: u64) -> Result<RegularChunkGrid, Fail
     Ok(RegularChunkGrid::new(alloc, [1, 1, 1, 1, elements].to_vec(alloc)?, chunk_shape)?)
 }
 
-/// The copy is from this key to that one, and in the last dimension from and to these places, of so many elements.
-fn check_copy(
-    rt: &impl Abort,
-    to: &Part,
-    from: &Part,
-    keys: (&str, &str),
-    places: (u64, u64),
-    elements: u64,
-) {
-    assert_eq!(rt; from.key.as_str(), keys.0);
-    assert_eq!(rt; to.key.as_str(), keys.1);
+/// The copy is from and to these places in the last dimension, of so many elements.
+fn check_copy(rt: &impl Abort, from: &Part, key: &str, places: (u64, u64), elements: u64) {
+    assert_eq!(rt; from.key.as_str(), key);
     assert_eq!(rt; from.in_chunk.start(), [0, 0, 0, 0, places.0].as_slice());
     assert_eq!(rt; from.in_subset.start(), [0, 0, 0, 0, places.1].as_slice());
     assert_eq!(rt; from.in_chunk.shape(), [1, 1, 1, 1, elements].as_slice());
@@ -37,74 +29,71 @@ fn check_copy(
 }
 
 #[test]
-fn the_walk_gives_each_group_and_stays_ended(rt: HostRuntime) -> Result<(), Fail> {
+fn each_chunk_of_the_target_has_its_copies(rt: HostRuntime) -> Result<(), Fail> {
     let alloc = rt.alloc();
     let (source, target) = (row(alloc, 7, 4)?, row(alloc, 7, 3)?);
     let encoding = DefaultChunkKeyEncoding::new_slash();
     let all = all_chunks(alloc, &target)?;
-    let mut walk = copies(alloc, &source, &encoding, &target, &encoding, &all)?;
-    let rows = [
-        ("c/0/0/0/0/0", [("c/0/0/0/0/0", 0, 0, 3)].as_slice()),
-        (
-            "c/0/0/0/0/1",
-            [("c/0/0/0/0/0", 3, 0, 1), ("c/0/0/0/0/1", 0, 1, 2)].as_slice(),
-        ),
-        ("c/0/0/0/0/2", [("c/0/0/0/0/1", 2, 0, 1)].as_slice()),
-    ];
-    for (key, parts) in rows {
-        match walk.next() {
-            Some(Ok(group)) => {
-                let mut from = group.from;
-                for (read, in_source, in_target, elements) in parts {
-                    match from.next() {
-                        Some(part) => {
-                            check_copy(
-                                &rt,
-                                &group.to,
-                                &part?,
-                                (*read, key),
-                                (*in_source, *in_target),
-                                *elements,
-                            )
-                        }
-                        None => assert!(rt; false, "the group of {key} ends before {read}"),
-                    }
-                }
-                assert!(rt; from.next().is_none(), "more is copied to {key}");
-            }
-            Some(Err(error)) => {
-                assert!(rt; walk.next().is_none(), "a walk goes on after an error");
-                return Err(error.into());
-            }
-            None => assert!(rt; false, "the walk ends before {key}"),
-        }
-    }
-    assert!(rt; walk.next().is_none() && walk.next().is_none());
+    let groups = the_walk_gives_the_rechunking(
+        alloc, &source, &encoding, &target, &encoding, &all,
+    )?;
+    let [(first, to_first), (second, to_second), (third, to_third)] = groups.as_slice() else {
+        return Err("three chunks have elements".into());
+    };
+    assert_eq!(rt; first.key.as_str(), "c/0/0/0/0/0");
+    assert_eq!(rt; second.key.as_str(), "c/0/0/0/0/1");
+    assert_eq!(rt; third.key.as_str(), "c/0/0/0/0/2");
+    let ([one], [two, three], [four]) = (
+        to_first.as_slice(),
+        to_second.as_slice(),
+        to_third.as_slice(),
+    ) else {
+        return Err("one, two and one are copied to them".into());
+    };
+    check_copy(&rt, one, "c/0/0/0/0/0", (0, 0), 3);
+    check_copy(&rt, two, "c/0/0/0/0/0", (3, 0), 1);
+    check_copy(&rt, three, "c/0/0/0/0/1", (0, 1), 2);
+    check_copy(&rt, four, "c/0/0/0/0/1", (2, 0), 1);
     Ok(())
 }
 
 #[test]
-fn grids_and_boxes_that_do_not_fit_are_refused(rt: HostRuntime) -> Result<(), Fail> {
+fn a_walk_over_groups_stays_ended(rt: HostRuntime) -> Result<(), Fail> {
+    let alloc = rt.alloc();
+    let (source, target) = (row(alloc, 7, 4)?, row(alloc, 7, 7)?);
+    let encoding = DefaultChunkKeyEncoding::new_slash();
+    let all = all_chunks(alloc, &target)?;
+    let mut walk = copies(alloc, &source, &encoding, &target, &encoding, &all)?;
+    let first = walk.next();
+    let ended = walk.next().is_none() && walk.next().is_none();
+    assert!(rt; ended, "a walk goes on after its end, or after an error");
+    let _group = first.ok_or("there is no group")??;
+    Ok(())
+}
+
+/// Why a rechunking is refused.
+fn refusal_of<T: Drop>(answer: Result<T, Refusal<CopiesError>>) -> Result<CopiesError, Fail> {
+    match answer {
+        Err(Refusal::Refused(error)) => Ok(error),
+        Err(Refusal::Memory(error)) => Err(error.into()),
+        Ok(_) => Err("it is accepted".into()),
+    }
+}
+
+#[test]
+fn grids_of_two_arrays_are_refused(rt: HostRuntime) -> Result<(), Fail> {
     let alloc = rt.alloc();
     let (source, target) = (row(alloc, 7, 4)?, row(alloc, 8, 3)?);
     let encoding = DefaultChunkKeyEncoding::new_slash();
     let none = ArraySubset::new_empty(alloc, 2)?;
-    match copies(alloc, &source, &encoding, &target, &encoding, &none) {
-        Err(Refusal::Refused(error)) => assert_eq!(rt; error, CopiesError::ArrayShapes),
-        Err(Refusal::Memory(error)) => return Err(error.into()),
-        Ok(_) => assert!(rt; false, "grids of two arrays are accepted"),
-    }
-    match copies(alloc, &source, &encoding, &source, &encoding, &none) {
-        Err(Refusal::Refused(error)) => {
-            let text = format!(in alloc; "{error}")?;
-            assert_eq!(rt;
-                text.as_str(),
-                "the box of chunks: incompatible dimensionality 2, expected 5"
-            );
-        }
-        Err(Refusal::Memory(error)) => return Err(error.into()),
-        Ok(_) => assert!(rt; false, "a box of two dimensions is accepted"),
-    }
+    let error = refusal_of(copies(alloc, &source, &encoding, &target, &encoding, &none))?;
+    assert_eq!(rt; error, CopiesError::ArrayShapes);
+    let error = refusal_of(copies(alloc, &source, &encoding, &source, &encoding, &none))?;
+    let text = format!(in alloc; "{error}")?;
+    assert_eq!(rt;
+        text.as_str(),
+        "the box of chunks: incompatible dimensionality 2, expected 5"
+    );
     Ok(())
 }
 
