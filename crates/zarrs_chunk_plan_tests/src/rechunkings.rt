@@ -1,4 +1,4 @@
-//! What a rechunking of a row of seven elements copies, what refuses one, what follows the end, and the laws.
+//! What a rechunking of a row of seven elements copies, what refuses one, and the laws.
 use std::alloc::{AllocError, Global};
 use std::num::NonZeroU64;
 use std::process::Abort;
@@ -67,20 +67,6 @@ fn each_chunk_of_the_target_has_its_copies(rt: HostRuntime) -> Result<(), Fail> 
     )?;
     let lines = lines_of(alloc, &groups)?;
     assert_eq!(rt; lines.as_str(), COPIES);
-    Ok(())
-}
-
-#[test]
-fn a_walk_over_groups_stays_ended(rt: HostRuntime) -> Result<(), Fail> {
-    let alloc = rt.alloc();
-    let (source, target) = (row(alloc, 7, 4)?, row(alloc, 7, 7)?);
-    let encoding = DefaultChunkKeyEncoding::new_slash();
-    let all = all_chunks(alloc, &target)?;
-    let mut walk = copies(alloc, &source, &encoding, &target, &encoding, &all)?;
-    let first = walk.next();
-    let ended = walk.next().is_none() && walk.next().is_none();
-    assert!(rt; ended, "a walk goes on after its end, or after an error");
-    let _group = first.ok_or("there is no group")??;
     Ok(())
 }
 
