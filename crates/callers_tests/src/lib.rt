@@ -6,4 +6,6 @@
 #[cfg(test)]
 mod reading;
 #[cfg(test)]
+mod rechunking;
+#[cfg(test)]
 mod tests;

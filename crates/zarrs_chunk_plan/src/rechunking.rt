@@ -25,7 +25,7 @@ use zarrs_chunks::laws::the_cover_names_the_chunks_that_meet_a_box;
 /// from 0 on of the target's grid shape is all of it. A chunk that holds no element of the array is left out, and so is a chunk number past
 /// the target's grid.
 ///
-/// It takes the time and the memory of two covers, however much there is to copy.
+/// It takes the time and the memory of the target's cover, however much there is to copy; each group then takes those of a cover of the source.
 ///
 /// # Errors
 /// The two grids are of arrays of different shapes; the box of chunks has another number of dimensions than the target; or out of memory.
