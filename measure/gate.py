@@ -1,10 +1,10 @@
 #!/usr/bin/env python3
 """Runs the gate, and prints how many processor minutes each crate took of it: its proofs, its tests, and the edits that have to be refused.
 
-    python3 gate.py [COMMAND ..]        .ci/run where there is none
+    python3 gate.py [COMMAND ..]        rt ci where there is none
 
-It is meant for a fresh clone, with nothing beside; what runs beside isn't counted, but slows the gate down. It looks twice a second at what the kit's
-compiler and its helpers have used so far, so of each of them the last half second is missing. On Linux.
+`.ci/run` runs `rt ci` by it. The table comes on standard error, and the status is the command's. What runs beside isn't counted, but slows the gate
+down. It looks twice a second at what the kit's compiler and its helpers have used so far, so of each of them the last half second is missing. On Linux.
 """
 import collections
 import os
@@ -50,7 +50,7 @@ def belongs_to(words, where):
 
 
 def main():
-    gate = subprocess.Popen(sys.argv[1:] or [".ci/run"])
+    gate = subprocess.Popen(sys.argv[1:] or ["rt", "ci"])
     began = time.monotonic()
     used = {}
     while gate.poll() is None:
@@ -64,10 +64,12 @@ def main():
     totals = collections.defaultdict(collections.Counter)
     for (crate, kind), minutes in used.values():
         totals[crate][kind] += minutes
-    print(f"{'processor minutes':24}" + "".join(f"{kind:>8}" for kind in KINDS))
-    for crate, spent in sorted(totals.items(), key=lambda row: -row[1].total()):
-        print(f"{crate:24}" + "".join(f"{spent[kind]:8.1f}" for kind in KINDS))
-    print(f"{sum(spent.total() for spent in totals.values()):.0f} processor minutes in {(time.monotonic() - began) / 60:.0f} minutes")
+    lines = [f"{'processor minutes':24}" + "".join(f"{kind:>8}" for kind in KINDS)]
+    for crate, spent in sorted(totals.items(), key=lambda row: -sum(row[1].values())):
+        lines.append(f"{crate:24}" + "".join(f"{spent[kind]:8.1f}" for kind in KINDS))
+    minutes = sum(sum(spent.values()) for spent in totals.values())
+    lines.append(f"{minutes:.0f} processor minutes in {(time.monotonic() - began) / 60:.0f} minutes")
+    print("\n".join(lines), file=sys.stderr)
     sys.exit(gate.returncode)
 
 

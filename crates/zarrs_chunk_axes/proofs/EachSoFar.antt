@@ -1,6 +1,11 @@
 -- What was found in the axes so far, and what the rests decide.
-use Rattle.std.proofs.Common.{◌≡◌, ℕ, List, [], ◌∷◌, ◌++◌, Option, Some, length, inr, subst, sym, append_assoc, append-nil, arith}
+use Rattle.std.proofs.Common.{◌≡◌, ◌<◌, ◌+◌, ℕ, List, [], ◌∷◌, ◌++◌, ◌∙◌, Option, Some, ap, drop, get_or, length, inr, subst, sym, append_assoc, append-nil, arith}
+use Rattle.std.proofs.lemmas.List.{drop_more}
 use Rattle.zarrs_chunk_axes.specs.lemmas.LookUpEach.{EachGives, SomeGivesNone}
+
+-- what is left of a list begins with its item at this place
+pub begins_with : {X : Type 0} (xs : List X) (place : ℕ) (x : X) → place < length xs → x ≡ get_or xs place x → drop place xs ≡ x ∷ drop (place + 1) xs
+begins_with xs place x below is = drop_more xs place x below ∙ ap (λ item. item ∷ drop (place + 1) xs) (sym is)
 
 module _ {A X : Type 0} (gives : A → ℕ → Option X → Type 0) where
   -- what was found so far, and what the rests decide

@@ -299,8 +299,8 @@ fn look_up_each<A: Axis, T: Drop, F: Fn(&A, u64) -> Option<T>>(
     ensures stores_nothing { length axes.now ≡ 0 → IsOk result }
 {
     let mut found = Vec::with_capacity(alloc, axes.len())?;
-    for (axis, number) in axes.iter().zip(numbers) {
-        let Some(value) = look_up(axis, *number) else {
+    for (dimension, axis) in axes.iter().enumerate() {
+        let Some(value) = look_up(axis, numbers[dimension]) else {
             return Ok(None);
         };
         found.push_reserved(value);

@@ -1,7 +1,8 @@
 //! Configurations and metadata: which trees they are read from, and what they print and are written as.
 use crate::printed::check_text;
 use serde_json::Value;
-use std::alloc::Global;
+use std::alloc::{AllocError, Global};
+use std::fmt::Display;
 use std::process::Abort;
 use std::test::Fail;
 use zarrs_chunk_base::{
@@ -25,56 +26,67 @@ fn members(alloc: Global, text: &str) -> Result<Configuration, Fail> {
     }
 }
 
-/// The configuration that a text stands for prints so, and is equal to its copy and not to that of another text.
-macro_rules! check_printed {
-    ($rt:expr, $configuration:ident, $text:expr, $other:expr, $kind:expr) => {{
-        let alloc = $rt.alloc();
-        let configuration = $configuration::from_tree(alloc, &members(alloc, $text)?)?;
-        let other = $configuration::from_tree(alloc, &members(alloc, $other)?)?;
-        let printed = format!(in alloc; "{}{}", $kind, $text)?;
-        check_text($rt, &configuration, printed.as_str())?;
-        assert!($rt; $configuration::clone(&configuration)? == configuration);
-        assert!($rt; other != configuration);
-    }};
+/// The configuration that the first text stands for prints so after the kind's words, and is equal to its copy and not to that of the other text.
+fn check_printed<C, F>(
+    rt: &(impl Abort + AllocGlobal),
+    copy: F,
+    kind: &str,
+    texts: [&str; 2],
+) -> Result<(), Fail>
+where
+    C: ConfigurationForm + Display + PartialEq,
+    F: Fn(&C) -> Result<C, AllocError>,
+    requires { F.IsAlwaysCallable copy }
+{
+    let alloc = rt.alloc();
+    let [text, other] = texts;
+    let configuration = C::from_tree(alloc, &members(alloc, text)?)?;
+    let other = C::from_tree(alloc, &members(alloc, other)?)?;
+    let printed = format!(in alloc; "{kind}{text}")?;
+    check_text(rt, &configuration, printed.as_str())?;
+    assert!(rt; copy(&configuration)? == configuration);
+    assert!(rt; other != configuration);
+    Ok(())
 }
 
 #[test]
 fn configurations_are_copied_and_printed(rt: HostRuntime) -> Result<(), Fail> {
-    check_printed!(
+    check_printed(
         &rt,
-        RegularBoundedChunkGridConfiguration,
-        r#"{"chunk_shape":[1,2,3]}"#,
-        r#"{"chunk_shape":[1,2]}"#,
-        "regular chunk grid "
-    );
-    check_printed!(
+        RegularBoundedChunkGridConfiguration::clone,
+        "regular chunk grid ",
+        [r#"{"chunk_shape":[1,2,3]}"#, r#"{"chunk_shape":[1,2]}"#],
+    )?;
+    check_printed(
         &rt,
-        RectangularChunkGridConfiguration,
-        r#"{"chunk_shape":[[5,5],10]}"#,
-        r#"{"chunk_shape":[[5,5],[10]]}"#,
-        "rectangular chunk grid "
-    );
-    check_printed!(
+        RectangularChunkGridConfiguration::clone,
+        "rectangular chunk grid ",
+        [
+            r#"{"chunk_shape":[[5,5],10]}"#,
+            r#"{"chunk_shape":[[5,5],[10]]}"#,
+        ],
+    )?;
+    check_printed(
         &rt,
-        RectilinearChunkGridConfiguration,
-        r#"{"chunk_shapes":[[[5,3],20],10],"kind":"inline"}"#,
-        r#"{"chunk_shapes":[[5,5,5,20],10],"kind":"inline"}"#,
-        "rectilinear chunk grid "
-    );
-    check_printed!(
+        RectilinearChunkGridConfiguration::clone,
+        "rectilinear chunk grid ",
+        [
+            r#"{"chunk_shapes":[[[5,3],20],10],"kind":"inline"}"#,
+            r#"{"chunk_shapes":[[5,5,5,20],10],"kind":"inline"}"#,
+        ],
+    )?;
+    check_printed(
         &rt,
-        DefaultChunkKeyEncodingConfiguration,
-        r#"{"separator":"."}"#,
-        "{}",
-        ""
-    );
-    check_printed!(
+        DefaultChunkKeyEncodingConfiguration::clone,
+        "",
+        [r#"{"separator":"."}"#, "{}"],
+    )?;
+    check_printed(
         &rt,
-        V2ChunkKeyEncodingConfiguration,
-        r#"{"separator":"/"}"#,
-        "{}",
-        ""
-    );
+        V2ChunkKeyEncodingConfiguration::clone,
+        "",
+        [r#"{"separator":"/"}"#, "{}"],
+    )?;
     Ok(())
 }
 

@@ -207,6 +207,8 @@ impl ChunkGridTraits for ChunkGrid {
         inside!(self, grid => ChunkGridTraits::chunk_shape(grid, alloc, chunk_indices))
     }
 
+    // As in the grids inside, the look-ups that a grid is asked most often are inlined.
+    #[inline(always)]
     fn chunk_origin(
         &self,
         alloc: Global,
@@ -215,6 +217,7 @@ impl ChunkGridTraits for ChunkGrid {
         inside!(self, grid => grid.chunk_origin(alloc, chunk_indices))
     }
 
+    #[inline(always)]
     fn chunk_indices(
         &self,
         alloc: Global,
@@ -223,6 +226,7 @@ impl ChunkGridTraits for ChunkGrid {
         inside!(self, grid => grid.chunk_indices(alloc, array_indices))
     }
 
+    #[inline(always)]
     fn chunk_element_indices(
         &self,
         alloc: Global,

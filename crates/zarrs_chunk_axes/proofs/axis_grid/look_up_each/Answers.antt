@@ -1,25 +1,32 @@
-use Rattle.std.proofs.Common.{[], ◌∷◌, inl, refl, length, ◌≡◌, arith}
-use Rattle.std.proofs.lemmas.List.{length-append}
-use Rattle.zarrs_chunk_axes.proofs.EachSoFar.{one_more, at_end}
+use Rattle.std.proofs.Common.{◌≡◌, ◌<◌, [], ◌∷◌, ◌∙◌, drop, inl, refl, length, arith}
+use Rattle.std.proofs.lemmas.List.{drop_more, length-append, length-drop}
+use Rattle.zarrs_chunk_axes.proofs.EachSoFar.{begins_with, one_more, at_end}
 use Rattle.zarrs_chunk_axes.proofs.axis_grid.look_up_each.Goals as goal
 
 pub returns-in_default-clause-found : goal.returns-in_default-clause-found
 returns-in_default-clause-found g c =
-    let (axes, numbers) = c.in-Some.ensures.steps in
-    let (so_far, room) = rw (axes, numbers) at c.loop-axis.invariant in
-    record { some = so_far.none (inl (c.in-Some.axis, refl, c.in_default.ensures)) }
+    let place = c.loop-dimension.dimension in
+    let within : place < length c.args.numbers.now = omega (arith, c.requires.lengths, c.loop-dimension-test.true) in
+    let axes = begins_with c.args.axes.now place c.index-axes-dimension.result c.loop-dimension-test.true c.index-axes-dimension.is in
+    let numbers = drop_more c.args.numbers.now place 0 within in
+    let (so_far, _, _) = rw (axes, numbers) at c.loop-dimension.invariant in
+    record { some = so_far.none (inl (_, refl, c.in_default.ensures)) }
 
-pub loop-axis-preserved : goal.loop-axis-preserved
-loop-axis-preserved g c =
-    let (axes, numbers) = c.in-Some.ensures.steps in
-    let (so_far, room) = rw (axes, numbers) at c.loop-axis.invariant in
+pub loop-dimension-preserved : goal.loop-dimension-preserved
+loop-dimension-preserved g c =
+    let place = c.loop-dimension.dimension in
+    let within : place < length c.args.numbers.now = omega (arith, c.requires.lengths, c.loop-dimension-test.true) in
+    let axes = begins_with c.args.axes.now place c.index-axes-dimension.result c.loop-dimension-test.true c.index-axes-dimension.is in
+    let numbers = drop_more c.args.numbers.now place 0 within in
+    let (so_far, count, room) = rw (axes, numbers) at c.loop-dimension.invariant in
     rw c.push_reserved.ensures.items (
-      one_more _ _ _ _ _ _ _ _ _ so_far (c.in-Some.axis, refl, c.in-Some-look_up.ensures),
-      (let capacity = c.push_reserved.ensures.capacity in omega (arith, length-append c.loop-axis.found.items (c.in-Some-look_up.value ∷ []))),
+      one_more _ _ _ _ _ _ _ _ _ so_far (_, refl, c.in-Some.ensures),
+      omega (arith, length-append c.loop-dimension.found.items (c.in-Some.value ∷ [])),
+      c.push_reserved.ensures.capacity ∙ room,
     )
 
 pub returns-clause-found : goal.returns-clause-found
 returns-clause-found g c =
-    let (so_far, room) = c.loop-axis.invariant in
-    let none : length c.loop-axis.axis-iterator.a.rest.now ≡ 0 = grind (arith, c.in-None.ensures.steps, so_far.lengths) in
+    let (so_far, _, _) = c.loop-dimension.invariant in
+    let none : length (drop c.loop-dimension.dimension c.args.axes.now) ≡ 0 = simp length-drop (omega (arith, c.loop-dimension-test.false)) in
     record { each = at_end _ _ _ _ _ _ none so_far }
