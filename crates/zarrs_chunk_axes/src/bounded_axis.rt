@@ -1,5 +1,6 @@
 //! One dimension of an array that is cut into chunks of one edge, none of which reaches past the array.
 use crate::axis::{Axis, AxisFrom};
+use crate::equal_axis::edges_before;
 use crate::in_bounds::is_in_bounds;
 use std::alloc::{AllocError, Global};
 use std::num::NonZeroU64;
@@ -41,7 +42,7 @@ impl Axis for BoundedAxis {
     }
 
     fn origin_of(&self, chunk: u64) -> Option<u64> {
-        let start = chunk.checked_mul(self.edge.get())?;
+        let start = edges_before(chunk, self.edge)?;
         if start < self.array_size {
             Some(start)
         } else {
@@ -60,7 +61,7 @@ impl Axis for BoundedAxis {
 
     fn edge_of(&self, chunk: u64) -> Option<NonZeroU64> {
         let array_size = self.array_size;
-        let start = chunk.checked_mul(self.edge.get())?;
+        let start = edges_before(chunk, self.edge)?;
         let rest = NonZeroU64::new(array_size.saturating_sub(start))?;
         if rest < self.edge {
             Some(rest)

@@ -1,4 +1,7 @@
 //! One dimension of an array that is cut into chunks of one edge.
+ghost use Rattle.std.specs.Prelude.{◌*◌, ◌<◌, ◌^◌, SomeIff};
+ghost use Rattle.std.specs.Int.NonZero.{non_zero_u64_get};
+
 use crate::axis::{Axis, AxisFrom};
 use crate::in_bounds::is_in_bounds;
 use std::alloc::{AllocError, Global};
@@ -37,7 +40,7 @@ impl Axis for EqualAxis {
     }
 
     fn origin_of(&self, chunk: u64) -> Option<u64> {
-        chunk.checked_mul(self.edge.get())
+        edges_before(chunk, self.edge)
     }
 
     fn home_of(&self, index: u64) -> Option<(u64, u64)> {
@@ -92,5 +95,20 @@ impl AxisFrom<NonZeroU64> for EqualAxis {
 
     fn configuration(&self, _alloc: Global) -> Result<NonZeroU64, AllocError> {
         Ok(self.edge)
+    }
+}
+
+/// Where a chunk starts that has so many chunks of one edge before it; `None` where that is past the greatest `u64`.
+pub(crate) fn edges_before(chunk: u64, edge: NonZeroU64) -> Option<u64>
+    ensures { SomeIff result (chunk * non_zero_u64_get edge < 2 ^ 64)
+        (chunk * non_zero_u64_get edge) }
+{
+    // The compiler makes one multiplication of this, and two of `checked_mul`.
+    let edge = edge.get();
+    let start = chunk.wrapping_mul(edge);
+    if start / edge == chunk {
+        Some(start)
+    } else {
+        None
     }
 }
