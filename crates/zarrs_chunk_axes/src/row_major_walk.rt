@@ -67,6 +67,7 @@ impl<'a> RowMajorWalk<'a> {
     ///
     /// # Errors
     /// Out of memory for the numbers, which are more than four. The walk has ended then.
+    #[inline(always)]
     pub fn indices(&mut self) -> Result<ArrayIndicesTinyVec, AllocError>
         ensures copy { IfOk result (λ indices. indices.items ≡ numbers_at self.old) }
         ensures stays { OnOk result (self.new ≡ self.old) }
@@ -85,6 +86,8 @@ impl<'a> RowMajorWalk<'a> {
     ///
     /// # Errors
     /// Out of memory for the numbers, which are more than four. The walk has ended then.
+    // A step and a copy are what a walk does for each item, so they are inlined into it.
+    #[inline(always)]
     pub fn step(&mut self) -> Result<bool, AllocError>
         ensures gives { IfOk result (λ found. lists_left self.old ≡ lists_from found self.new) }
         ensures stands { IfOk result (λ found. Stands found self.new) }

@@ -39,6 +39,7 @@ impl Iterator for ChunkIndices<'_> {
 
     ghost remaining = { item_count chunks_left };
 
+    #[inline(always)]
     fn next(&mut self) -> Option<Result<ArrayIndicesTinyVec, AllocError>> {
         match self.walk.step() {
             Ok(true) => Some(self.walk.indices()),
