@@ -1,5 +1,5 @@
 -- The chunks in a box, by their number.
-use Rattle.std.proofs.Common.{◌≡◌, ◌≢◌, ◌∙◌, ℕ, zero, suc, ◌+◌, ◌*◌, ◌-◌, ◌<◌, ◌≤◌, List, [], ◌∷◌, ◌++◌, Option, Some, None, length, map, min, get_or, drop, take, set, refl, ap, subst, sym, ⊎_elim, arith, length-append, add-one, ◌/◌, ◌%◌}
+use Rattle.std.proofs.Common.{◌≡◌, ◌∙◌, ℕ, zero, suc, ◌+◌, ◌*◌, ◌<◌, ◌≤◌, List, [], ◌∷◌, ◌++◌, Option, Some, None, length, map, min, get_or, drop, take, set, refl, ap, sym, ⊎_elim, arith, length-append, add-one, ◌/◌, ◌%◌}
 use Rattle.std.proofs.Math.Nat.{div-add-mod, mul-suc, mul-zero}
 use Rattle.std.proofs.Math.Seq.{drop-length, take-suc}
 use Rattle.std.proofs.lemmas.List.{length-map, length-set, drop-set}
@@ -116,7 +116,6 @@ sum_fits [] shape k digit fit one other less = absurd (omega arith)
 sum_fits (s ∷ start) [] k digit fit one other less = absurd (omega arith)
 sum_fits (s ∷ start) (n ∷ shape) zero digit fit one other less = let end : s + n ≤ greatest = fit.0 in omega arith
 sum_fits (s ∷ start) (n ∷ shape) (suc k) digit fit one other less = sum_fits start shape k digit fit.1 (omega arith) (omega arith) less
-
 
 -- From this dimension on the numbers are those of a chunk; `rest` is what is left of its number for the dimensions before.
 pub record IsNumbered (start shape : List ℕ) (number dimension rest : ℕ) (chunk : List ℕ) : Type 0 where

@@ -1,20 +1,18 @@
 -- The parts of some of the chunks in a list, from one of them on.
-use Rattle.std.proofs.Common.{◌≡◌, ◌∙◌, ℕ, zero, suc, ◌+◌, ◌-◌, ◌<◌, ◌≤◌, List, [], ◌∷◌, ◌++◌, Some, drop, get_or, length, min, take, add-one, refl, ap, subst, sym, arith}
+use Rattle.std.proofs.Common.{◌≡◌, ◌∙◌, ℕ, zero, suc, ◌+◌, ◌-◌, ◌≤◌, List, [], ◌∷◌, ◌++◌, Some, drop, get_or, length, min, take, refl, ap, subst, sym, arith}
 use Rattle.std.proofs.lemmas.List.{get_or-drop, length-drop}
 use Rattle.std.proofs.lemmas.Option.{get_or_from_slice_get, slice_get_within}
 use Rattle.std.proofs.Math.Seq.{drop-nil, take-nil, take-suc}
 use Rattle.std.specs.List.{AllByRecursion, AllZip, slice_get}
-use Rattle.zarrs_chunk_base.specs.ArraySubset.{Box, zero_box}
+use Rattle.zarrs_chunk_base.specs.ArraySubset.{Box}
 use Rattle.zarrs_chunk_base.specs.Dimension.{Dimension}
 use Rattle.zarrs_chunk_base.specs.Greatest.{greatest}
 use Rattle.zarrs_chunk_axes.specs.RowMajor.{row_major}
 use Rattle.zarrs_chunks.specs.Walks.{chunks_in}
 use Rattle.zarrs_chunk_plan.specs.Plan.{IsPart}
 use Rattle.zarrs_chunk_plan.specs.SomeParts.{AreSomeParts}
-use Rattle.zarrs_chunk_plan.specs.declared.part.Part.{Part}
 use Rattle.zarrs_chunk_plan.specs.declared.pieces.SomeParts.{SomeParts}
 use Rattle.zarrs_chunk_plan.proofs.ByNumber.{as_many}
-use Rattle.zarrs_chunk_plan.proofs.Plans.{none_in_zeros}
 use Rattle.zarrs_chunk_plan.proofs.Walked.{pushed}
 
 -- what holds of each holds at a place
@@ -33,7 +31,7 @@ taken_more xs first number x from is =
     let more : number + 1 - first ≡ suc steps = omega arith in
     let at : first + steps ≡ number = omega arith in
     let last : get_or (drop first xs) steps x ≡ x =
-        get_or-drop first xs steps x ∙ ap (λ k. get_or xs k x) at ∙ get_or_from_slice_get xs number x x is
+    get_or-drop first xs steps x ∙ ap (λ k. get_or xs k x) at ∙ get_or_from_slice_get xs number x x is
     in
     rw (more, take-suc (drop first xs) steps x (omega arith), last) refl
 

@@ -16,7 +16,8 @@ use Rattle.zarrs_chunk_plan.specs.declared.pieces.SomeParts.{SomeParts}
 
 -- How many parts the plan over a cover has, as far as a number counts them; and of these the parts from the one with the number `first` on, at
 -- most so many, one for each chunk in row-major order.
-pub record AreSomeParts (ds : List Dimension) (IsKey : List ℕ → List ℕ → Type 0) (subset cover : Box) (first most : ℕ) (some : SomeParts) : Type 0 where
+pub record AreSomeParts (ds : List Dimension) (IsKey : List ℕ → List ℕ → Type 0) (subset cover : Box) (first most : ℕ)
+    (some : SomeParts) : Type 0 where
   pub in_all : some.in_all ≡ min (length (chunks_in cover)) greatest
   pub are_parts : AllZip (IsPart ds IsKey subset) (take (min (some.in_all - first) most) (drop first (chunks_in cover))) some.parts.items
 

@@ -1,8 +1,8 @@
 -- Parts of a plan that were found, and what is written of them.
-use Rattle.std.proofs.Common.{◌≡◌, ◌≢◌, ◌⊎◌, ◌∙◌, ℕ, zero, suc, ◌+◌, ◌-◌, ◌<◌, ◌≤◌, List, [], ◌∷◌, Option, Some, None, Result, Ok, Err, MatchOption, drop, get_or, length, min, take, inl, inr, ⊎_elim, refl, ap, subst, sym, arith}
+use Rattle.std.proofs.Common.{◌≡◌, ◌≢◌, ◌⊎◌, ◌∙◌, ℕ, zero, suc, ◌+◌, ◌-◌, ◌<◌, ◌≤◌, List, [], ◌∷◌, Option, Some, None, Ok, MatchOption, drop, get_or, length, min, take, inl, inr, ⊎_elim, refl, ap, subst, sym, arith}
 use Rattle.std.proofs.lemmas.Bool.{cases_lt}
 use Rattle.std.proofs.lemmas.List.{get_or-drop, get_or-take, length-drop, length-take}
-use Rattle.std.proofs.lemmas.Option.{get_or_from_slice_get, slice_get_within}
+use Rattle.std.proofs.lemmas.Option.{get_or_from_slice_get}
 use Rattle.std.specs.List.{AllZip, slice_get}
 use Rattle.zarrs_chunk_base.specs.ArraySubset.{Box, IsBox, IsEmptyBox, zero_box}
 use Rattle.zarrs_chunk_base.specs.Dimension.{Dimension}
@@ -14,7 +14,7 @@ use Rattle.zarrs_chunk_plan.specs.declared.pieces.SomeParts.{SomeParts}
 use Rattle.zarrs_chunk_plan.proofs.Plans.{empty_or_some, none_in_zeros}
 use Rattle.zarrs_chunk_plan.proofs.Taken.{none_taken}
 use Rattle.zarrs_chunks_c.specs.Asked.{HasNoCover, IsCoverOf}
-use Rattle.zarrs_chunks_c.specs.Batch.{AreTexts, list_at, text_at}
+use Rattle.zarrs_chunks_c.specs.Batch.{AreTexts}
 use Rattle.zarrs_chunks_c.specs.Parts.{ArePartsFrom, IsPartAt, Written}
 use Rattle.zarrs_chunks_c.specs.seen.Parts.{AreFoundParts, AreWrittenBelow, IsKeyOf, IsWritten}
 use Rattle.zarrs_chunks_c.proofs.Covers.{none_is_not_empty}
@@ -29,11 +29,14 @@ module _ (IsKey : List ℕ → List ℕ → Type 0) (first most : ℕ) where
       let cover = zero_box (length ds) in
       let none = none_in_zeros (length ds) dimensions in
       let long : length (chunks_in cover) ≡ 0 = ap length none in
-      let taken = none_taken first (min (some.in_all - first) most) (chunks_in cover) none in
-      (cover, ((λ not_empty. absurd (not_empty empty)), (λ _. refl)), record {
-        in_all = rw long no_count;
-        are_parts = rw (taken, no_parts) tt;
-      })
+      let taken = none_taken first (min (some.in_all - first) most) (chunks_in cover) none in (
+        cover,
+        ((λ not_empty. absurd (not_empty empty)), (λ _. refl)),
+        record {
+          in_all = rw long no_count;
+          are_parts = rw (taken, no_parts) tt;
+        },
+      )
 
   pub found_of_any : (ds : List Dimension) (b : Box) (found : Option SomeParts) → IsBox b → (IsEmptyBox b → length ds ≢ 0 → AnswersNone (Ok found))
       → ((¬ IsEmptyBox b) ⊎ (length ds ≡ 0) → AnswersSome ds IsKey b first most (Ok found))

@@ -22,12 +22,14 @@ pub record Written : Type 0 where
 -- What is written with this number is the part of the chunk: its numbers, and the elements that it shares with the box, counted from either.
 pub record IsPartAt (ds : List Dimension) (subset : Box) (chunk : List ℕ) (written : Written) (number : ℕ) : Type 0 where
   pub numbers : list_at (length ds) written.chunks number ≡ chunk
-  pub boxes : AreShared ds subset chunk (record { start = list_at (length ds) written.in_chunk number; shape = list_at (length ds) written.shapes number })
+  pub boxes : AreShared ds subset chunk
+      (record { start = list_at (length ds) written.in_chunk number; shape = list_at (length ds) written.shapes number })
       (record { start = list_at (length ds) written.in_subset number; shape = list_at (length ds) written.shapes number })
 
 -- The plan of the box has so many parts in all, as far as a number counts them; and from the part with the number `first` on, as many as there
 -- are and is room for are written, one for each chunk of the cover in row-major order, each with a key of its chunk.
-pub record ArePartsFrom (ds : List Dimension) (IsKey : List ℕ → List ℕ → Type 0) (subset : Box) (first room in_all count : ℕ) (written : Written) : Type 0 where
+pub record ArePartsFrom (ds : List Dimension) (IsKey : List ℕ → List ℕ → Type 0) (subset : Box) (first room in_all count : ℕ)
+    (written : Written) : Type 0 where
   pub cover : Box
   pub is_cover : IsCoverOf ds subset cover
   pub has_in_all : in_all ≡ min (length (chunks_in cover)) greatest

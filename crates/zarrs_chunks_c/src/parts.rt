@@ -81,9 +81,9 @@ fn write_part(
 ) -> Result<(), Fault>
     ensures written { OnOk result (IsWritten width part.now
         chunks.new in_chunk.new in_subset.new shapes.new number) }
-    ensures earlier { OnOk result ((k : ℕ) → k < number → (part : Part) → IsWritten width part
-        chunks.old in_chunk.old in_subset.old shapes.old k
-        → IsWritten width part chunks.new in_chunk.new in_subset.new shapes.new k) }
+    ensures earlier { OnOk result ((k : ℕ) → k < number → (p : Part)
+        → IsWritten width p chunks.old in_chunk.old in_subset.old shapes.old k
+        → IsWritten width p chunks.new in_chunk.new in_subset.new shapes.new k) }
 {
     write_list(chunks, width, number, part.chunk.as_slice())?;
     write_list(in_chunk, width, number, part.in_chunk.start())?;
@@ -96,11 +96,7 @@ fn write_part(
 ///
 /// # Errors
 /// There are fewer offsets than these; or out of memory.
-pub(crate) fn join_keys(
-    alloc: Global,
-    parts: &[Part],
-    offsets: &mut [u64],
-) -> Result<String, Fault>
+pub(crate) fn join_keys(alloc: Global, parts: &[Part], offsets: &mut [u64]) -> Result<String, Fault>
     ensures { IfOk result (λ keys. AreTexts (IsKeyOf parts.now) (length parts.now)
         (string_bytes keys) offsets.new) }
 {

@@ -106,21 +106,8 @@ fn parts_of(
     check_length(start.len(), grid.dimensionality(), 1)?;
     let elements = box_of(alloc, start, box_shape)?;
     write_plan(
-        alloc,
-        &grid,
-        &encoding,
-        &elements,
-        first,
-        chunks,
-        in_chunk,
-        in_subset,
-        shapes,
-        text,
-        offsets,
-        needed,
-        count,
-        in_all,
-        found,
+        alloc, &grid, &encoding, &elements, first, chunks, in_chunk, in_subset, shapes, text,
+        offsets, needed, count, in_all, found,
     )
 }
 

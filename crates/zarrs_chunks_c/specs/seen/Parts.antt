@@ -19,7 +19,8 @@ pub record IsWritten (width : ℕ) (part : Part) (chunks in_chunk in_subset shap
 -- those of each part with a number below the count
 abbrev pub AreWrittenBelow : ℕ → ℕ → List Part → (chunks in_chunk in_subset shapes : List ℕ) → Type 0
 AreWrittenBelow count width parts chunks in_chunk in_subset shapes =
-    (number : ℕ) → number < count → (part : Part) → slice_get parts number ≡ Some part → IsWritten width part chunks in_chunk in_subset shapes number
+    (number : ℕ) → number < count → (part : Part) → slice_get parts number ≡ Some part
+    → IsWritten width part chunks in_chunk in_subset shapes number
 
 -- the text is the key of the part with this number
 abbrev pub IsKeyOf : List Part → ℕ → List ℕ → Type 0

@@ -1,4 +1,4 @@
-use Rattle.std.proofs.Common.{◌≡◌, ◌∙◌, length, take, min, refl, subst, arith}
+use Rattle.std.proofs.Common.{◌≡◌, ◌∙◌, length, refl, arith}
 use Rattle.std.proofs.Math.Seq.{take-length}
 use Rattle.zarrs_chunk_plan.proofs.ByNumber.{counted_more}
 use Rattle.zarrs_chunk_base.specs.Greatest.{greatest}

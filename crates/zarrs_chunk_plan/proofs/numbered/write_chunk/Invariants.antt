@@ -1,4 +1,3 @@
-use Rattle.std.proofs.Common.{◌≤◌, length}
 use Rattle.zarrs_chunk_plan.proofs.ByNumber.{IsNumbered}
 use Rattle.zarrs_chunk_plan.proofs.numbered.write_chunk.Given as goal
 

@@ -19,9 +19,15 @@ returns-clause-answers g c = λ some.
     let cover = c.in-Some.cover in
     let (same, is) = rw c.in-Some.is at (c.in_ok-cover.ensures.answers some) in
     let counted : c.count_below-in_all.result ≡ min (length (row_major cover.shape)) greatest = rw c.shape.ensures.value at c.count_below-in_all.ensures in
-    let ends : c.min-end.result ≡ min (min (c.args.first + c.args.most) greatest) c.count_below-in_all.result = omega arith in
-    (same, (cover, is, some_of_plan ds IsKey c.args.array_subset.now cover c.args.first c.args.most c.min-end.result
-    (record { in_all = c.count_below-in_all.result; parts = c.in_ok-parts.parts }) counted ends c.in_ok-parts.ensures))
+    let ends : c.min-end.result ≡ min (min (c.args.first + c.args.most) greatest) c.count_below-in_all.result = omega arith in (
+      same,
+      (
+        cover,
+        is,
+        some_of_plan ds IsKey c.args.array_subset.now cover c.args.first c.args.most c.min-end.result
+            (record { in_all = c.count_below-in_all.result; parts = c.in_ok-parts.parts }) counted ends c.in_ok-parts.ensures,
+      ),
+    )
 
 pub returns-clause-empty : goal.returns-clause-empty
 returns-clause-empty g c = λ empty some.

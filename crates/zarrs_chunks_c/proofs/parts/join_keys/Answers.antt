@@ -24,7 +24,7 @@ loop-number-preserved c =
     let room : c.loop-number.number + 1 < length c.loop-number.offsets = omega arith in
     let at : c.byte_length.result ≡ length (text ++ part.key) = rw (c.as_str-in-loop-number.ensures.value, is, key) at c.byte_length.ensures in
     let is_key : IsKeyOf parts c.loop-number.number part.key = λ p found.
-        ap (λ q. q.key) (c.index-parts-number.is ∙ get_or_from_slice_get parts c.loop-number.number p part found)
+    ap (λ q. q.key) (c.index-parts-number.is ∙ get_or_from_slice_get parts c.loop-number.number p part found)
     in
     rw (is, key, at) (one_text_more (IsKeyOf parts) text c.loop-number.offsets part.key c.loop-number.number c.loop-number.invariant room is_key)
 

@@ -1,4 +1,4 @@
-use Rattle.std.proofs.Common.{◌≡◌, length, arith}
+use Rattle.std.proofs.Common.{arith}
 use Rattle.zarrs_chunks_c.proofs.Planned.{written_more}
 use Rattle.zarrs_chunks_c.proofs.parts.write_parts.Goals as goal
 

@@ -24,8 +24,12 @@ returns c =
             (λ b. IsMarked wrote.found
             (ArePartsFrom grid.dimensions (IsKey encoding) b c.args.first (length wrote.offsets - 1) wrote.in_all wrote.count
             (record {
-              chunks = wrote.chunks; in_chunk = wrote.in_chunk; in_subset = wrote.in_subset; shapes = wrote.shapes;
-              keys = take wrote.needed wrote.text; offsets = wrote.offsets;
+              chunks = wrote.chunks;
+              in_chunk = wrote.in_chunk;
+              in_subset = wrote.in_subset;
+              shapes = wrote.shapes;
+              keys = take wrote.needed wrote.text;
+              offsets = wrote.offsets;
             }))
             (HasNoCover grid.dimensions b))
             c.in_ok-elements.ensures.value marked,

@@ -23,10 +23,10 @@ returns g c =
     let room : c.in_ok-room.room ≡ length offsets - 1 = omega arith in
     let found = subst (λ n. AreFoundParts ds IsKey c.args.elements.now c.args.first n some) room (rw c.in-Some.is at c.in_ok-found_parts.ensures) in
     let wrote = subst (λ ps. AreWrittenBelow (length ps) c.dimensionality-width.result ps lists.chunks lists.in_chunk lists.in_subset lists.shapes)
-        c.deref.ensures.value c.in_ok-write_parts.ensures
+    c.deref.ensures.value c.in_ok-write_parts.ensures
     in
     let of_width = subst (λ width. AreWrittenBelow (length parts) width parts lists.chunks lists.in_chunk lists.in_subset lists.shapes)
-        c.dimensionality-width.ensures wrote
+    c.dimensionality-width.ensures wrote
     in
     let counted : c.len.result ≡ length parts = omega (arith, some.parts.ok.0, c.len.ensures) in
     let texts = subst (λ ps. AreTexts (IsKeyOf ps) (length ps) keys offsets) c.deref-2.ensures.value c.in_ok-keys.ensures in
@@ -35,11 +35,17 @@ returns g c =
     let is : take (length keys) told.buffer ≡ keys = subst (λ text. take (length text) told.buffer ≡ text) bytes written in
     let whole : take told.needed told.buffer ≡ keys = subst (λ n. take n told.buffer ≡ keys) (sym long) is in
     let all : Written = record {
-      chunks = lists.chunks; in_chunk = lists.in_chunk; in_subset = lists.in_subset; shapes = lists.shapes; keys = take told.needed told.buffer;
+      chunks = lists.chunks;
+      in_chunk = lists.in_chunk;
+      in_subset = lists.in_subset;
+      shapes = lists.shapes;
+      keys = take told.needed told.buffer;
       offsets = offsets;
     } in
-    inl
-    (refl, subst (λ n. ArePartsFrom ds IsKey c.args.elements.now c.args.first (length offsets - 1) some.in_all n all) (sym counted)
-    (all_written ds IsKey c.args.elements.now c.args.first (length offsets - 1) some all found of_width
-    (subst (λ text. AreTexts (IsKeyOf parts) (length parts) text offsets) (sym whole) texts))))
+    inl (
+      refl,
+      subst (λ n. ArePartsFrom ds IsKey c.args.elements.now c.args.first (length offsets - 1) some.in_all n all) (sym counted)
+          (all_written ds IsKey c.args.elements.now c.args.first (length offsets - 1) some all found of_width
+          (subst (λ text. AreTexts (IsKeyOf parts) (length parts) text offsets) (sym whole) texts)),
+    ))
     c.write_text.ensures.written
