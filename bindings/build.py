@@ -73,7 +73,8 @@ def rattle_kinds():
     """The parameters of the crate's exports, each as its type in C."""
     crossing = {
         "&[u64]": ["constuint64_t*", "size_t"], "&mut [u64]": ["uint64_t*", "size_t"], "&[u8]": ["constuint8_t*", "size_t"],
-        "&mut [u8]": ["uint8_t*", "size_t"], "&mut usize": ["size_t*"], "usize": ["size_t"], "u64": ["uint64_t"],
+        "&mut [u8]": ["uint8_t*", "size_t"], "&mut usize": ["size_t*"], "&mut u64": ["uint64_t*"], "&mut u8": ["uint8_t*"], "usize": ["size_t"],
+        "u64": ["uint64_t"],
     }  # fmt: skip
     text = "".join(path.read_text() for path in sorted(CRATE.glob("src/*.rt")))
     rows = parameters(text, r'pub extern "C" fn (\w+)\((.*?)\) -> i32')

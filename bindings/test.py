@@ -7,7 +7,7 @@ It needs numpy, a C compiler `cc`, and `valgrind`; where one is missing it says 
 one. What is compared:
 
 - every vector of `chunkcalls`, through `zarrs_answer`;
-- batches with the same questions one by one, and with numpy's own division and `searchsorted`;
+- batches and plans with the same questions one by one, and batches with numpy's own division and `searchsorted`;
 - no lists, null, strided, misaligned and negative numbers, other types, buffers of other lengths, offsets that descend;
 - memory that is refused: under an address space that gets smaller, and allocation by allocation;
 - the examples in C, Python and Rust, the C one under memcheck, and those of the docstrings.
@@ -133,6 +133,43 @@ def against_single_calls(tally, library):
         tally.same(f"{grid} grid_shape", list(grid.grid_shape), json.loads(library.answer({"shape": shape, "chunk_grid": metadata, "call": "grid_shape"})))
 
 
+def seen_parts(parts):
+    """Parts as `zarrs_answer` gives them, and whether more follow."""
+    rows = zip(parts.chunks.tolist(), parts.in_chunk.tolist(), parts.in_subset.tolist(), parts.shapes.tolist(), parts.keys)
+    return [{"chunk": chunk, "in_chunk": [place, shape], "in_subset": [start, shape], "key": key} for chunk, place, start, shape, key in rows]
+
+
+def plans(tally, library):
+    """Plans, whole and piece by piece, beside the first parts that `zarrs_answer` gives of them."""
+    rng = random.Random(4)
+    encodings = ["default", {"name": "v2", "configuration": {"separator": "/"}}, {"name": "zarrs.default_suffix", "configuration": {"suffix": ".漢"}}]
+    for shape, metadata in grids(rng):
+        grid, name = Grid(shape, metadata), rng.choice(encodings)
+        for _ in range(4):
+            start = [rng.choice([rng.randrange(size), rng.randrange(size + 3)]) for size in map(lambda size: min(size, 2**32), shape)]
+            sizes = [rng.choice([0, 1, size, rng.randrange(min(size, 2**32) + 1)]) for size in shape]
+            asked = {"shape": shape, "chunk_grid": metadata, "chunk_key_encoding": name, "call": "parts", "of": [start, sizes], "items": 10**6}
+            if any(begin + size > GREATEST for begin, size in zip(start, sizes)):
+                continue
+            whole, single = grid.parts(Encoding(name), start, sizes), json.loads(library.answer(asked))
+            what = f"{grid} {name} {start} {sizes}"
+            if whole is None:
+                tally.same(f"{what}: no plan", single, None)
+                continue
+            seen = seen_parts(whole)
+            tally.same(f"{what}: the plan", (seen, whole.in_all), (single["items"], len(single["items"])))
+            pieces = [grid.parts(Encoding(name), start, sizes, first, 2) for first in range(0, len(seen) + 3, 2)]
+            tally.same(f"{what}: in pieces", [part for piece in pieces for part in seen_parts(piece)], seen)
+            tally.same(f"{what}: how many pieces have", {piece.in_all for piece in pieces}, {len(seen)})
+    long = Grid([GREATEST], {"name": "regular", "configuration": {"chunk_shape": [1]}})
+    last = long.parts(Encoding("default"), [0], [GREATEST], first=GREATEST - 2, most=9)
+    tally.same("the last of the most parts", (last.keys, last.in_all), ([f"c/{GREATEST - 2}", f"c/{GREATEST - 1}"], GREATEST))
+    wide = Grid([GREATEST] * 2, {"name": "regular", "configuration": {"chunk_shape": [1, 1]}})
+    some = wide.parts(Encoding("default"), [0, 0], [GREATEST, GREATEST], first=GREATEST - 1, most=9)
+    tally.same("more parts than a number counts", (some.keys, some.in_all), ([f"c/0/{GREATEST - 1}"], GREATEST))
+    tally.same("past the end", long.parts(Encoding("default"), [0], [3], first=3).keys, [])
+
+
 def keys_against_single_calls(tally, library):
     rng = random.Random(2)
     for metadata in [
@@ -233,6 +270,7 @@ def lengths(tally, library):
         code = library.call("zarrs_keys_of", encoding, 2, chunks, keys[:10], offsets[:size], ctypes.byref(needed))
         tally.same(f"keys, {size} offsets", code, library.WRONG_LENGTH)
     tally.same("lists of 2 ** 63 numbers", library.call("zarrs_keys_of", encoding, 2**63, chunks[:0], keys, offsets[:3], ctypes.byref(needed)), library.WRONG_LENGTH)
+    plan_lengths(tally, library, shape, text, encoding)
     none = (ctypes.c_void_p(None), ctypes.c_size_t(0))
     tally.same("null and no lists", library.call("zarrs_homes_of", shape, text, *none * 4), 0)
     tally.same("null for all", library.call("zarrs_homes_of", *none * 6), library.NOT_JSON)
@@ -241,6 +279,31 @@ def lengths(tally, library):
     bounded = json.dumps({**REGULAR, "name": "zarrs.regular_bounded"}).encode()
     library.call("zarrs_chunk_indices_of", shape, bounded, np.array([9, 9, 4, 6], np.uint64), left, np.zeros(2, np.uint8))
     tally.same("numbers of no answer stay", left.tolist(), [7, 7, 2, 2])
+
+
+def plan_lengths(tally, library, shape, text, encoding):
+    """The plan of a box of four parts, with too little room for its keys, and with buffers of other lengths."""
+    right = {"start": 2, "box_shape": 2, "chunks": 8, "in_chunk": 8, "in_subset": 8, "shapes": 8, "offsets": 5}
+    written = ("chunks", "in_chunk", "in_subset", "shapes")
+
+    def call(sizes, room):
+        kept = {name: np.full(sizes[name] + 1, 7, np.uint64) for name in (*written, "offsets")}
+        keys, told = np.full(room + 1, 7, np.uint8), [ctypes.c_size_t(), ctypes.c_size_t(), ctypes.c_uint64(), ctypes.c_uint8()]
+        asked = [np.full(sizes["start"], 1, np.uint64), np.full(sizes["box_shape"], 3, np.uint64)]
+        lists = [kept[name][:-1] for name in written]
+        code = library.call(
+            "zarrs_parts_of", shape, text, encoding, *asked, ctypes.c_uint64(0), *lists, keys[:-1], kept["offsets"][:-1], *map(ctypes.byref, told)
+        )
+        beside = [int(part[-1]) for part in (*kept.values(), keys)]
+        return code, kept["chunks"][:-1].tolist(), keys[:-1].tobytes(), [number.value for number in told], beside
+
+    chunks, keys = [0, 0, 0, 1, 1, 0, 1, 1], b"c/0/0c/0/1c/1/0c/1/1"
+    for room in range(21):
+        code, text_is = (0, keys) if room == 20 else (library.SHORT_BUFFER, b"\7" * room)
+        tally.same(f"a plan, room for {room}", call(right, room), (code, chunks, text_is, [20, 4, 4, 1], [7] * 6))
+    for name, size in [(name, size) for name in right for size in range(10) if size != right[name]]:
+        code, *_others, beside = call({**right, name: size}, 20)
+        tally.same(f"a plan, {size} {name}", (code in (library.WRONG_LENGTH, library.NOT_A_BOX), beside), (True, [7] * 6))
 
 
 # ---- memory
@@ -335,6 +398,7 @@ def in_this_process(backend):
     tally = Tally()
     count = vectors(tally, library)
     against_single_calls(tally, library)
+    plans(tally, library)
     keys_against_single_calls(tally, library)
     against_numpy(tally)
     buffers(tally, library)

@@ -114,6 +114,32 @@ int32_t zarrs_chunks_of_keys(
     uint64_t *chunks, size_t chunks_len,
     uint8_t *found, size_t found_len);
 
+/* The plan of reading a box of elements: a part for each chunk that holds some of the box, in row-major order of the chunks. Of the plan the part
+ * with the number `first`, counted from 0, and those after it, as many as there is room for; those before it take no time. A box is its first
+ * index and its shape. start, box_shape: d; chunks, in_chunk, in_subset, shapes: n * d; text: as many bytes as the keys have; offsets: n + 1. Of
+ * each part it writes the chunk, the part's first element counted from that of the chunk, the same counted from that of the box, the part's shape,
+ * and the key of the chunk, as zarrs_keys_of does. *needed gets how many bytes the keys have, *count how many parts are written, *in_all how many
+ * the plan has, and 18446744073709551615 where it has more: those past that number can't be asked for. *found becomes 0 where the first or the
+ * last element of the box lies in no chunk, and all three are 0 then; an empty box has a plan without parts. ZARRS_NOT_A_BOX where the box ends
+ * past 18446744073709551615. ZARRS_SHORT_BUFFER where text is shorter: all but text is written all the same. */
+int32_t zarrs_parts_of(
+    const uint64_t *shape, size_t shape_len,
+    const uint8_t *chunk_grid, size_t chunk_grid_len,
+    const uint8_t *chunk_key_encoding, size_t chunk_key_encoding_len,
+    const uint64_t *start, size_t start_len,
+    const uint64_t *box_shape, size_t box_shape_len,
+    uint64_t first,
+    uint64_t *chunks, size_t chunks_len,
+    uint64_t *in_chunk, size_t in_chunk_len,
+    uint64_t *in_subset, size_t in_subset_len,
+    uint64_t *shapes, size_t shapes_len,
+    uint8_t *text, size_t text_len,
+    uint64_t *offsets, size_t offsets_len,
+    size_t *needed,
+    size_t *count,
+    uint64_t *in_all,
+    uint8_t *found);
+
 /* The line that answers a question, which is a JSON object as crates/chunkcalls/CALLING.md says: an answer as compact JSON, or `refused:` or
  * `unreadable:` and why; and a line feed. *needed gets how many bytes it has. ZARRS_SHORT_BUFFER where line is shorter: nothing is written to
  * it. */

@@ -18,6 +18,6 @@ What the library refuses is raised as a `ValueError` with its own words, and wan
 """
 
 from ._encoding import Encoding
-from ._grid import Grid
+from ._grid import Grid, Parts
 
-__all__ = ["Encoding", "Grid"]
+__all__ = ["Encoding", "Grid", "Parts"]

@@ -1,10 +1,31 @@
 """Chunk grids."""
 
+import ctypes
 import json
+from typing import NamedTuple
 
 import numpy as np
 
 from . import _library
+
+_GREATEST = 2**64 - 1
+
+
+class Parts(NamedTuple):
+    """Parts of the plan of reading a box of elements, each in a row of its own."""
+
+    chunks: np.ndarray
+    """The chunk of each part."""
+    in_chunk: np.ndarray
+    """The part's first element, counted from the chunk's."""
+    in_subset: np.ndarray
+    """The same, counted from the first element of the box."""
+    shapes: np.ndarray
+    """How many elements the part has along each dimension."""
+    keys: list
+    """The key of each chunk."""
+    in_all: int
+    """How many parts the plan has in all, and 18446744073709551615 where it has more."""
 
 
 class Grid:
@@ -122,6 +143,48 @@ class Grid:
         self._call("zarrs_covers_of", starts, shapes, first, counts, found)
         return first, counts, found.view(np.bool_)
 
+    def parts(self, encoding, start, shape, first=0, most=None):
+        """The plan of reading a box of elements, which is given as its start and its shape: the parts of the chunks that hold some of them, in
+        row-major order of the chunks. Of the plan the part with the number `first` and those after it, at most `most` of them. `None` where the
+        first or the last element of the box lies in no chunk.
+
+        >>> from zarrs_chunks import Encoding
+        >>> grid = Grid([6, 6], {"name": "regular", "configuration": {"chunk_shape": [4, 3]}})
+        >>> parts = grid.parts(Encoding("default"), [3, 2], [3, 2])
+        >>> parts.keys, parts.in_chunk.tolist(), parts.in_subset.tolist(), parts.shapes.tolist()
+        (['c/0/0', 'c/0/1', 'c/1/0', 'c/1/1'], [[3, 2], [3, 0], [0, 2], [0, 0]], [[0, 0], [0, 1], [1, 0], [1, 1]], [[1, 1], [1, 1], [2, 1], [2, 1]])
+        >>> parts = grid.parts(Encoding("default"), [3, 2], [3, 2], first=3, most=1)
+        >>> parts.chunks.tolist(), parts.in_all
+        ([[1, 1]], 4)
+        """
+        asked = [_library.numbers(numbers, self.dimensionality).reshape(-1) for numbers in (start, shape)]
+        if [numbers.size for numbers in asked] != [self.dimensionality] * 2:
+            raise ValueError(f"one box is asked for, with {self.dimensionality} numbers each")
+        first, most = _library.numbers([first, _GREATEST if most is None else most]).tolist()
+        none = self._some_parts(encoding, asked, first, 0, 0)
+        if none is None:
+            return None
+        room = min(max(0, none[-1] - first), most)
+        return Parts(*self._some_parts(encoding, asked, first, room, room * (2 + 6 * self.dimensionality)))
+
+    def _some_parts(self, encoding, asked, first, room, text_room):
+        """So many parts of a plan, of which the keys are tried with so much room first."""
+        lists = [np.zeros((room, self.dimensionality), np.uint64) for _ in range(4)]
+        text, offsets = np.empty(text_room, np.uint8), np.zeros(room + 1, np.uint64)
+        needed, count, in_all, found = ctypes.c_size_t(), ctypes.c_size_t(), ctypes.c_uint64(), ctypes.c_uint8()
+        told = [ctypes.byref(number) for number in (needed, count, in_all, found)]
+        code = _library.call(
+            "zarrs_parts_of", self._shape, self._text, encoding._text, *asked, ctypes.c_uint64(first), *lists, text, offsets, *told
+        )
+        if code == _library.SHORT_BUFFER:
+            return self._some_parts(encoding, asked, first, room, needed.value)
+        self._check(code)
+        if not found.value:
+            return None
+        written, ends = text.tobytes(), offsets[: count.value + 1].tolist()
+        keys = [written[start:end].decode() for start, end in zip(ends, ends[1:])]
+        return (*(numbers[: count.value] for numbers in lists), keys, in_all.value)
+
     def _lists(self, values):
         return _library.numbers(values, self.dimensionality)
 
@@ -129,5 +192,7 @@ class Grid:
         return np.zeros(lists.shape[:-1], np.uint8)
 
     def _call(self, name, *arguments):
-        code = _library.call(name, self._shape, self._text, *arguments)
+        self._check(_library.call(name, self._shape, self._text, *arguments))
+
+    def _check(self, code):
         _library.check(code, {"shape": self._shape.tolist(), "chunk_grid": self._chunk_grid, "call": "grid_shape"})

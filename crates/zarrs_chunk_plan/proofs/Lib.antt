@@ -1,3 +1,4 @@
+pub mod ByNumber
 pub mod Copied
 pub mod Found
 pub mod Joined
@@ -5,4 +6,5 @@ pub mod Overlaps
 pub mod Plans
 pub mod Rechunkings
 pub mod Shares
+pub mod Taken
 pub mod Walked

@@ -1,3 +1,4 @@
 pub mod Plan
 pub mod Rechunking
+pub mod SomeParts
 pub mod seen

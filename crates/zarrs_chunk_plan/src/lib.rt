@@ -17,6 +17,8 @@
 //! | `part` | a part: a chunk, its key, and two boxes |
 //! | `plan` | `parts`: the plan of reading a box of elements |
 //! | `walk` | the walk over the parts |
+//! | `pieces` | `some_parts`: some of the parts of that plan, from any one on |
+//! | `numbered` | the chunks in a box of chunk numbers, by their number |
 //! | `rechunking` | `copies`: the plan of a rechunking |
 //! | `chunk_copies` | the walk over what a rechunking copies, a chunk of the target after another |
 //! | `copies_error` | why a rechunking can't be planned |
@@ -29,8 +31,10 @@
 mod chunk_copies;
 mod copies_error;
 pub mod laws;
+mod numbered;
 mod overlap;
 mod part;
+mod pieces;
 mod plan;
 mod rechunking;
 mod shared;
@@ -40,6 +44,7 @@ mod whole;
 pub use chunk_copies::{ChunkCopies, Copies};
 pub use copies_error::CopiesError;
 pub use part::Part;
+pub use pieces::{SomeParts, some_parts};
 pub use plan::parts;
 pub use rechunking::copies;
 pub use walk::Parts;

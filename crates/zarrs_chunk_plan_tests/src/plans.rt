@@ -1,4 +1,4 @@
-//! The parts of a box of elements in five dimensions, what follows the end and an error, and the laws.
+//! The parts of a box of elements in five dimensions, one after another and by number, what follows the end and an error, and the laws.
 use std::alloc::Global;
 use std::num::NonZeroU64;
 use std::process::Abort;
@@ -9,7 +9,7 @@ use zarrs_chunk_plan::laws::{
     each_element_lies_in_one_part, no_two_parts_have_one_key, the_parts_tile_the_box,
     the_walk_gives_the_plan,
 };
-use zarrs_chunk_plan::{Part, parts};
+use zarrs_chunk_plan::{Part, parts, some_parts};
 use zarrs_chunks::RegularChunkGrid;
 
 /// A row of five elements, in chunks of three: the last of five dimensions.
@@ -59,6 +59,21 @@ fn the_walk_gives_each_part_and_stays_ended(rt: HostRuntime) -> Result<(), Fail>
         }
     }
     assert!(rt; walk.next().is_none() && walk.next().is_none());
+    Ok(())
+}
+
+#[test]
+fn a_part_is_asked_for_by_its_number(rt: HostRuntime) -> Result<(), Fail> {
+    let alloc = rt.alloc();
+    let grid = row_of_five(alloc)?;
+    let encoding = DefaultChunkKeyEncoding::new_slash();
+    let elements = last_three(alloc)?;
+    let some = some_parts(alloc, &grid, &encoding, &elements, 1, 9)?.ok_or("no cover")?;
+    assert_eq!(rt; some.in_all, 2);
+    assert_eq!(rt; some.parts.len(), 1);
+    for part in &some.parts {
+        check_part(&rt, part, "c/0/0/0/0/1", 0, 1, 2);
+    }
     Ok(())
 }
 

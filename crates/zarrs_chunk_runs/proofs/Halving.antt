@@ -1,5 +1,6 @@
 -- How a search by halving goes on, and how often it asks.
-use Rattle.std.proofs.Common.{◌≡◌, ℕ, zero, suc, ◌+◌, ◌-◌, ◌*◌, ◌<◌, ◌≤◌, ◌^◌, Bool, IsTrue, min, refl, arith}
+use Rattle.std.proofs.Common.{◌≡◌, ◌∙◌, ℕ, zero, suc, ◌+◌, ◌-◌, ◌*◌, ◌<◌, ◌≤◌, ◌^◌, Bool, true, false, IsTrue, cond, min, refl, sym, arith}
+use Rattle.std.proofs.lemmas.Bool.{false≢true}
 use Rattle.zarrs_chunk_base.specs.Greatest.{greatest}
 use Rattle.zarrs_chunk_runs.specs.Search.{IsCounted, IsFirstTrue, StaysTrue}
 
@@ -45,7 +46,7 @@ module _ (places : ℕ) (truth : ℕ → Bool) (before low high asked middle nex
   full is = let asked_full = so_far.stays is in omega arith
 
   -- a true one: the first isn't past it
-  pub lower : 2 * (middle - low) ≤ high - low → IsTrue (truth middle) → SoFar places truth before low middle next
+  lower : 2 * (middle - low) ≤ high - low → IsTrue (truth middle) → SoFar places truth before low middle next
   lower half answer = let bound = so_far.bound in let grows = so_far.grows in record {
     order = from;
     bound = omega arith;
@@ -59,7 +60,7 @@ module _ (places : ℕ) (truth : ℕ → Bool) (before low high asked middle nex
   }
 
   -- a false one: the first comes after it
-  pub upper : 2 * (high - (middle + 1)) ≤ high - low → ¬ IsTrue (truth middle) → SoFar places truth before (middle + 1) high next
+  upper : 2 * (high - (middle + 1)) ≤ high - low → ¬ IsTrue (truth middle) → SoFar places truth before (middle + 1) high next
   upper half answer = let bound = so_far.bound in let grows = so_far.grows in record {
     order = omega arith;
     bound = bound;
@@ -71,6 +72,12 @@ module _ (places : ℕ) (truth : ℕ → Bool) (before low high asked middle nex
     none = λ empty. absurd (omega arith);
     stays = full;
   }
+
+  -- either of them
+  pub halved : (above : Bool) → truth middle ≡ above → 2 * (middle - low) ≤ high - low → 2 * (high - (middle + 1)) ≤ high - low
+      → SoFar places truth before (cond above low (middle + 1)) (cond above middle high) next
+  halved true is first second = lower first is
+  halved false is first second = upper second (λ holds. false≢true (sym is ∙ holds))
 
 module _ (places : ℕ) (truth : ℕ → Bool) (before low high asked : ℕ) (so_far : SoFar places truth before low high asked) (ended : high ≤ low) where
   pub found : IsFirstTrue places truth low

@@ -1,5 +1,5 @@
 //! Edges of chunks, kept as runs of equal ones.
-ghost use Rattle.std.specs.Prelude.{◌≡◌, ◌+◌, ◌-◌, ◌<◌, ◌≤◌, ℕ, IfErr, IfOk, MatchOption, length, map, slice_index_or, take};
+ghost use Rattle.std.specs.Prelude.{◌≡◌, ◌+◌, ◌-◌, ◌/◌, ◌%◌, ◌<◌, ◌≤◌, ℕ, IfErr, IfOk, MatchOption, length, map, slice_index_or, take};
 ghost use Rattle.std.specs.List.{sum};
 ghost use Rattle.std.specs.Int.NonZero.{non_zero_u64_get};
 ghost use Rattle.zarrs_chunk_base.specs.Greatest.{greatest};
@@ -177,9 +177,8 @@ impl RunEdges {
             (count_of comparisons.old) (count_of comparisons.new) }
     {
         let place = self.place(first_greater(&self.ends, index, comparisons))?;
-        let rest = index - place.start;
-        let edge = place.edge.get();
-        Some((place.first + rest / edge, rest % edge))
+        let (chunks, rest) = quotient_and_rest(index - place.start, place.edge);
+        Some((place.first + chunks, rest))
     }
 
     /// The run that a chunk lies in, counted from 0; `None` where there is no such chunk. Each comparison with a running sum is
@@ -218,6 +217,20 @@ impl RunEdges {
             first: self.chunk_ends[run] - count.get(),
             start: self.ends[run] - edge.get() * count.get(),
         })
+    }
+}
+
+/// How often an edge goes into a number, and what is left. A division takes long, and where the number lies in the run's first chunk, as it does
+/// in each run of one, none is made.
+fn quotient_and_rest(number: u64, edge: NonZeroU64) -> (u64, u64)
+    ensures quotient { result.0 ≡ number / non_zero_u64_get edge }
+    ensures rest { result.1 ≡ number % non_zero_u64_get edge }
+{
+    let edge = edge.get();
+    if number < edge {
+        (0, number)
+    } else {
+        (number / edge, number % edge)
     }
 }
 

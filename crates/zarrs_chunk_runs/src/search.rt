@@ -1,5 +1,5 @@
 //! The search by halving.
-ghost use Rattle.std.specs.Prelude.{◌≡◌, ◌+◌, ◌<◌, ℕ, Bool, min};
+ghost use Rattle.std.specs.Prelude.{◌≡◌, ◌+◌, ◌<◌, ℕ, Bool, cond, min};
 ghost use Rattle.zarrs_chunk_base.specs.Greatest.{greatest};
 ghost use Rattle.zarrs_chunk_runs.specs.Search.{IsCounted, IsFirstTrue, StaysTrue};
 
@@ -41,11 +41,17 @@ pub fn first_above<P: Probe>(probe: &mut P) -> usize
     let mut high = probe.places();
     while low < high {
         let middle = low + (high - low) / 2;
-        if probe.above(middle) {
-            high = middle;
-        } else {
-            low = middle + 1;
-        }
+        let above = probe.above(middle);
+        high = either(above, middle, high);
+        low = either(above, low, middle + 1);
     }
     low
+}
+
+/// The first number where the condition holds, and else the second. Both are at hand, so the processor needs no branch to choose: in a search
+/// it would guess wrong every other time.
+fn either(condition: bool, first: usize, second: usize) -> usize
+    ensures { result ≡ cond condition first second }
+{
+    if condition { first } else { second }
 }

@@ -6,7 +6,7 @@ use Rattle.zarrs_chunks.specs.Subsets.{AnswersCover, AnswersEmptyCover}
 use Rattle.zarrs_chunks_c.specs.Asked.{HasNoCover, IsCoverOf}
 
 -- a box without dimensions isn't empty
-none_is_not_empty : (b : Box) → IsBox b → length b.start ≡ 0 → ¬ IsEmptyBox b
+pub none_is_not_empty : (b : Box) → IsBox b → length b.start ≡ 0 → ¬ IsEmptyBox b
 none_is_not_empty b is_box none (k, within, is) = let same = is_box.lengths in absurd (omega arith)
 
 pub cover_of_any : (ds : List Dimension) (b : Box) (found : Option Box) → IsBox b → (IsEmptyBox b → length ds ≢ 0 → AnswersEmptyCover ds (Ok found))

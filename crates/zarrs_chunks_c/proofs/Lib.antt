@@ -1,3 +1,4 @@
 pub mod Batches
 pub mod Covers
 pub mod Keys
+pub mod Planned

@@ -26,9 +26,13 @@ text_at text offsets number =
     let start = slice_index_or offsets number 0 in
     take (slice_index_or offsets (number + 1) 0 - start) (drop start text)
 
--- The keys of so many chunks stand in the text, one after another: each from its own offset up to the next one.
-pub record AreKeys (IsKey : List ℕ → List ℕ → Type 0) (width count : ℕ) (chunks text offsets : List ℕ) : Type 0 where
+-- So many texts stand in one, one after another: each from its own offset up to the next one.
+pub record AreTexts (IsText : ℕ → List ℕ → Type 0) (count : ℕ) (text offsets : List ℕ) : Type 0 where
   pub first : slice_index_or offsets 0 0 ≡ 0
   pub last : slice_index_or offsets count 0 ≡ length text
   pub within : (number : ℕ) → number ≤ count → slice_index_or offsets number 0 ≤ length text
-  pub keys : (number : ℕ) → number < count → IsKey (list_at width chunks number) (text_at text offsets number)
+  pub texts : (number : ℕ) → number < count → IsText number (text_at text offsets number)
+
+-- they are keys of so many chunks
+abbrev pub AreKeys : (List ℕ → List ℕ → Type 0) → (width count : ℕ) → (chunks text offsets : List ℕ) → Type 0
+AreKeys IsKey width count chunks text offsets = AreTexts (λ number. IsKey (list_at width chunks number)) count text offsets

@@ -110,7 +110,7 @@ fn append_keys<E: ChunkKeyEncodingTraits>(
 }
 
 /// How many bytes a text has.
-fn byte_length(text: &str) -> u64
+pub(crate) fn byte_length(text: &str) -> u64
     ensures { result ≡ length text.now }
 {
     text.len() as u64

@@ -9,9 +9,11 @@
 //! |---|---|
 //! | `grid_calls` | `zarrs_grid_shape`, `zarrs_chunk_indices_of`, `zarrs_homes_of`, `zarrs_chunk_boxes_of`, `zarrs_covers_of` |
 //! | `key_calls` | `zarrs_keys_of`, `zarrs_chunks_of_keys` |
+//! | `plan_call` | `zarrs_parts_of` |
 //! | `answer_call` | `zarrs_answer`: any question as text |
 //! | `batch` | the loop over the questions of a batch |
 //! | `lists` | lists of one length, one after another |
+//! | `parts` | parts of a plan, one after another |
 //! | `texts` | texts that are written to a buffer, and texts one after another |
 //! | `questions` | what is asked of a grid, list by list |
 //! | `key_questions` | what is asked of an encoding, key by key |
@@ -27,5 +29,7 @@ mod key_calls;
 mod key_questions;
 mod lists;
 mod metadata;
+mod parts;
+mod plan_call;
 mod questions;
 mod texts;

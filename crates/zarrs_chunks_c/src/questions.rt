@@ -127,7 +127,7 @@ fn cover_of<G: ChunkGridTraits>(
 ///
 /// # Errors
 /// It ends past 18446744073709551615; or out of memory.
-fn box_of(alloc: Global, start: &[u64], shape: &[u64]) -> Result<ArraySubset, Fault>
+pub(crate) fn box_of(alloc: Global, start: &[u64], shape: &[u64]) -> Result<ArraySubset, Fault>
     ensures value { IfOk result (λ subset. subset
         ≡ record { start = start.now; shape = shape.now }) }
     ensures is_box { IfOk result IsBox }

@@ -1,6 +1,7 @@
 use Rattle.std.proofs.Common.{◌≡◌, ◌+◌, ◌-◌, ◌<◌, ◌++◌, length, string_bytes, arith}
 use Rattle.std.proofs.lemmas.List.{length-set}
-use Rattle.zarrs_chunks_c.proofs.Keys.{no_keys, one_key_more}
+use Rattle.zarrs_chunks_c.proofs.Keys.{no_texts, one_text_more}
+use Rattle.zarrs_chunks_c.specs.Batch.{list_at}
 use Rattle.zarrs_chunks_c.proofs.key_calls.append_keys.Goals as goal
 
 pub loop-number-init : goal.loop-number-init
@@ -8,7 +9,7 @@ loop-number-init g c =
     let counted = c.in-Some.ensures in
     let some : 0 < length c.args.offsets.now = omega arith in
     rw c.new-keys.ensures.bytes
-    (no_keys (g.E.ChunkKeyEncodingTraits.is_key c.args.encoding.now) c.args.dimensionality c.args.chunks.now c.args.offsets.now some)
+    (no_texts (λ number. g.E.ChunkKeyEncodingTraits.is_key c.args.encoding.now (list_at c.args.dimensionality c.args.chunks.now number)) c.args.offsets.now some)
 
 pub loop-number-preserved : goal.loop-number-preserved
 loop-number-preserved g c =
@@ -21,7 +22,7 @@ loop-number-preserved g c =
     let room : c.loop-number.number + 1 < length c.loop-number.offsets = omega arith in
     let at : c.byte_length.result ≡ length (text ++ key) = rw (c.as_str.ensures.value, is) at c.byte_length.ensures in
     rw (is, at)
-    (one_key_more (g.E.ChunkKeyEncodingTraits.is_key c.args.encoding.now) c.args.dimensionality c.args.chunks.now text c.loop-number.offsets key
+    (one_text_more (λ number. g.E.ChunkKeyEncodingTraits.is_key c.args.encoding.now (list_at c.args.dimensionality c.args.chunks.now number)) text c.loop-number.offsets key
     c.loop-number.number c.loop-number.invariant room (rw c.in_ok-chunk.ensures at is_key))
 
 pub returns : goal.returns

@@ -11,8 +11,8 @@ pub returns-in_err-place-clause-found : goal.returns-in_err-place-clause-found
 returns-in_err-place-clause-found c =
     rw c.from_residual.ensures (none_starts _ _ _ (rw (c.deref.ensures.value, c.args.self.now.summed) at c.first_greater.ensures.first) c.in_err-place.ensures)
 
-pub overflow_sub-rest : goal.overflow_sub-rest
-overflow_sub-rest c =
+pub overflow_sub-index : goal.overflow_sub-index
+overflow_sub-index c =
     let above = rw (c.deref.ensures.value, c.args.self.now.summed) at c.first_greater.ensures.first in
     let (within, place) = c.in_ok-place.ensures in
     rw place.start (starts_before _ _ _ above (omega arith))
@@ -22,7 +22,7 @@ returns-clause-found c =
     let above = rw (c.deref.ensures.value, c.args.self.now.summed) at c.first_greater.ensures.first in
     let (within, place) = c.in_ok-place.ensures in
     let positive = rw place.edge at c.in_ok-place.place.edge.ok in
-    rw (place.first, place.start, c.get-edge.ensures.value, place.edge) (home_found _ _ _ above within positive)
+    rw (place.first, c.quotient_and_rest-chunks.ensures.quotient, c.quotient_and_rest-chunks.ensures.rest, place.start, place.edge) (home_found _ _ _ above within positive)
 
 pub overflow_add-result : goal.overflow_add-result
 overflow_add-result c =
@@ -30,7 +30,7 @@ overflow_add-result c =
     let (within, place) = c.in_ok-place.ensures in
     let positive = rw place.edge at c.in_ok-place.place.edge.ok in
     let counted = place.counted in
-    rw (place.start, c.get-edge.ensures.value, place.edge) (omega (arith, own_chunk _ _ _ above within positive))
+    rw (c.quotient_and_rest-chunks.ensures.quotient, place.start, place.edge) (omega (arith, own_chunk _ _ _ above within positive))
 
 pub returns-in_err-place-clause-counted : goal.returns-in_err-place-clause-counted
 returns-in_err-place-clause-counted c =

@@ -1,0 +1,31 @@
+-- Parts that were found, and what is written of them.
+use Rattle.std.specs.Prelude.{◌≡◌, ℕ, ◌<◌, List, Some}
+use Rattle.std.specs.List.{slice_get}
+use Rattle.zarrs_chunk_base.specs.ArraySubset.{Box}
+use Rattle.zarrs_chunk_base.specs.Dimension.{Dimension}
+use Rattle.zarrs_chunk_plan.specs.declared.part.Part.{Part}
+use Rattle.zarrs_chunk_plan.specs.SomeParts.{AreSomeParts}
+use Rattle.zarrs_chunk_plan.specs.declared.pieces.SomeParts.{SomeParts}
+use Rattle.zarrs_chunks_c.specs.Asked.{IsCoverOf}
+use Rattle.zarrs_chunks_c.specs.Batch.{list_at}
+
+-- the lists with this number are those of the part
+pub record IsWritten (width : ℕ) (part : Part) (chunks in_chunk in_subset shapes : List ℕ) (number : ℕ) : Type 0 where
+  pub is_chunk : list_at width chunks number ≡ part.chunk.items
+  pub is_in_chunk : list_at width in_chunk number ≡ part.in_chunk.start
+  pub is_in_subset : list_at width in_subset number ≡ part.in_subset.start
+  pub is_shape : list_at width shapes number ≡ part.in_chunk.shape
+
+-- those of each part with a number below the count
+abbrev pub AreWrittenBelow : ℕ → ℕ → List Part → (chunks in_chunk in_subset shapes : List ℕ) → Type 0
+AreWrittenBelow count width parts chunks in_chunk in_subset shapes =
+    (number : ℕ) → number < count → (part : Part) → slice_get parts number ≡ Some part
+    → IsWritten width part chunks in_chunk in_subset shapes number
+
+-- the text is the key of the part with this number
+abbrev pub IsKeyOf : List Part → ℕ → List ℕ → Type 0
+IsKeyOf parts number key = (part : Part) → slice_get parts number ≡ Some part → key ≡ part.key
+
+-- some of the parts of the plan of a box, empty or not
+abbrev pub AreFoundParts : List Dimension → (List ℕ → List ℕ → Type 0) → Box → (first most : ℕ) → SomeParts → Type 0
+AreFoundParts ds IsKey subset first most some = (cover : Box) × IsCoverOf ds subset cover × AreSomeParts ds IsKey subset cover first most some

@@ -1,0 +1,113 @@
+//! Parts of a plan that are written one after another.
+ghost use Rattle.std.specs.Prelude.{◌≡◌, ℕ, ◌-◌, ◌<◌, IfOk, MatchOption, OnOk, length, string_bytes};
+ghost use Rattle.zarrs_chunk_plan.specs.declared.part.Part.{Part};
+ghost use Rattle.zarrs_chunks_c.specs.Asked.{HasNoCover};
+ghost use Rattle.zarrs_chunks_c.specs.Batch.{AreTexts};
+ghost use Rattle.zarrs_chunks_c.specs.seen.Parts.{AreFoundParts, AreWrittenBelow, IsKeyOf, IsWritten};
+
+use crate::codes::Fault;
+use crate::key_calls::byte_length;
+use crate::lists::write_list;
+use std::alloc::Global;
+use zarrs_chunk_base::ArraySubset;
+use zarrs_chunk_keys::ChunkKeyEncodingTraits;
+use zarrs_chunk_plan::{Part, SomeParts, some_parts};
+use zarrs_chunks::ChunkGridTraits;
+
+/// Parts of the plan of reading a box of elements, from the one with the number `first` on, at most so many; `None` where the box has no cover.
+///
+/// # Errors
+/// The box has another number of dimensions than the grid; or out of memory.
+pub(crate) fn find_parts<G: ChunkGridTraits, E: ChunkKeyEncodingTraits>(
+    alloc: Global,
+    grid: &G,
+    encoding: &E,
+    elements: &ArraySubset,
+    first: u64,
+    most: usize,
+) -> Result<Option<SomeParts>, Fault>
+    ensures { IfOk result (λ found. MatchOption found
+        (HasNoCover (G.dimensions grid.now) elements.now)
+        (AreFoundParts (G.dimensions grid.now) (E.is_key encoding.now) elements.now first most)) }
+{
+    // The start tells that the box is one.
+    let _start = elements.start();
+    Ok(some_parts(alloc, grid, encoding, elements, first, most)?)
+}
+
+/// How many parts there are offsets for, which are one more.
+///
+/// # Errors
+/// There is no offset.
+pub(crate) fn room_for_parts(offsets: &[u64]) -> Result<usize, Fault>
+    ensures { IfOk result (λ room. room ≡ length offsets.now - 1) }
+{
+    offsets.len().checked_sub(1).ok_or(Fault::Length)
+}
+
+/// Writes of each part where it lies: the chunk's numbers, where the part begins in the chunk and in the box that is read, and its shape.
+///
+/// # Errors
+/// There is no room for so many, or the lists have another length.
+pub(crate) fn write_parts(
+    parts: &[Part],
+    width: usize,
+    chunks: &mut [u64],
+    in_chunk: &mut [u64],
+    in_subset: &mut [u64],
+    shapes: &mut [u64],
+) -> Result<(), Fault>
+    ensures { OnOk result (AreWrittenBelow (length parts.now) width parts.now
+        chunks.new in_chunk.new in_subset.new shapes.new) }
+{
+    for (number, part) in parts.iter().enumerate() {
+        write_part(part, width, number, chunks, in_chunk, in_subset, shapes)?;
+    }
+    Ok(())
+}
+
+/// Writes where a part lies, behind the parts with a smaller number.
+///
+/// # Errors
+/// There is no room for it, or the lists have another length.
+fn write_part(
+    part: &Part,
+    width: usize,
+    number: usize,
+    chunks: &mut [u64],
+    in_chunk: &mut [u64],
+    in_subset: &mut [u64],
+    shapes: &mut [u64],
+) -> Result<(), Fault>
+    ensures written { OnOk result (IsWritten width part.now
+        chunks.new in_chunk.new in_subset.new shapes.new number) }
+    ensures earlier { OnOk result ((k : ℕ) → k < number → (p : Part)
+        → IsWritten width p chunks.old in_chunk.old in_subset.old shapes.old k
+        → IsWritten width p chunks.new in_chunk.new in_subset.new shapes.new k) }
+{
+    write_list(chunks, width, number, part.chunk.as_slice())?;
+    write_list(in_chunk, width, number, part.in_chunk.start())?;
+    write_list(in_subset, width, number, part.in_subset.start())?;
+    write_list(shapes, width, number, part.in_chunk.shape())?;
+    Ok(())
+}
+
+/// The keys of parts, one after another. Where each begins, and at last where the last one ends, is written as offsets in bytes.
+///
+/// # Errors
+/// There are fewer offsets than these; or out of memory.
+pub(crate) fn join_keys(alloc: Global, parts: &[Part], offsets: &mut [u64]) -> Result<String, Fault>
+    ensures { IfOk result (λ keys. AreTexts (IsKeyOf parts.now) (length parts.now)
+        (string_bytes keys) offsets.new) }
+{
+    if offsets.len() <= parts.len() {
+        return Err(Fault::Length);
+    }
+    let mut keys = String::new(alloc);
+    offsets[0] = 0;
+    for (number, part) in parts.iter().enumerate() {
+        keys.push_str(part.key.as_str())?;
+        offsets[number + 1] = byte_length(keys.as_str());
+    }
+    Ok(keys)
+}
