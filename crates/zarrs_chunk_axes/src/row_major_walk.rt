@@ -86,7 +86,6 @@ impl<'a> RowMajorWalk<'a> {
     ///
     /// # Errors
     /// Out of memory for the numbers, which are more than four. The walk has ended then.
-    // A step and a copy are what a walk does for each item, so they are inlined into it.
     #[inline(always)]
     pub fn step(&mut self) -> Result<bool, AllocError>
         ensures gives { IfOk result (λ found. lists_left self.old ≡ lists_from found self.new) }

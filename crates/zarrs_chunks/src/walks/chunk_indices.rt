@@ -39,6 +39,7 @@ impl Iterator for ChunkIndices<'_> {
 
     ghost remaining = { item_count chunks_left };
 
+    // It is inlined, with its step and its copy, into the loops over all chunks.
     #[inline(always)]
     fn next(&mut self) -> Option<Result<ArrayIndicesTinyVec, AllocError>> {
         match self.walk.step() {
