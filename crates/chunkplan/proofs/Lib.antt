@@ -1,4 +1,5 @@
+pub mod FormFaults
 pub mod Groups
-pub mod Kept
 pub mod ReadPlans
+pub mod Stops
 pub mod Tokens

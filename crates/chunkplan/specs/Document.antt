@@ -1,20 +1,16 @@
 -- The program's document: a JSON object with the members `shape`, `chunk_grid` and `chunk_key_encoding`, and either `subset`, which may be
 -- absent, or `target` and `chunks`, which may be absent; what else it has says nothing.
-use Rattle.std.specs.Prelude.{◌≡◌, ℕ, List, Option, Some, None, IsUtf8, codes, option_and_then, MatchOption}
+use Rattle.std.specs.Prelude.{◌≡◌, ℕ, List, Option, Some, None, IsSome, codes, MatchOption}
 use Rattle.serde_json.specs.Data.{Data}
-use Rattle.serde_json.specs.Read.{read}
 use Rattle.serde_json.specs.Find.{get}
 use Rattle.zarrs_chunk_base.specs.ArraySubset.{Box, IsBox}
 use Rattle.zarrs_chunk_base.specs.Json.{size_of, list_of, pair_of}
-use Rattle.zarrs_chunk_base.specs.Metadata.{Extension, extension_of, IsExtension}
+use Rattle.zarrs_chunk_base.specs.Metadata.{Extension, extension_of}
+use Rattle.programs.specs.Document.{HasExtension, shape_in}
 use Rattle.chunkplan.specs.declared.document.Document.{Document as DocumentValue}
 use Rattle.chunkplan.specs.declared.document.Stored.{Stored as StoredValue}
 use Rattle.chunkplan.specs.declared.document.Task.{Task as TaskValue}
 use Rattle.chunkplan.specs.declared.document.Task.TheVariants.{Read as ReadValue, Rechunk as RechunkValue}
-
--- the tree that bytes are the text of
-abbrev pub IsTreeOf : List ℕ → Data → Type 0
-IsTreeOf input d = IsUtf8 input × (read input ≡ Some d)
 
 -- how an array is stored: its chunk grid and its chunk key encoding
 pub record Stored : Type 0 where
@@ -43,14 +39,6 @@ task_of (RechunkValue target chunks) = rechunk_to (stored_of target) chunks
 abbrev pub document_of : DocumentValue → Document
 document_of d = record { shape = d.shape.items; stored = stored_of d.stored; task = task_of d.task }
 
--- `shape`: a list of sizes
-abbrev pub shape_in : Data → Option (List ℕ)
-shape_in d = option_and_then (list_of size_of) (get (codes "shape") d)
-
--- the member is an extension's metadata
-abbrev pub HasExtension : Data → List ℕ → Extension → Type 0
-HasExtension d field e = (m : Data) × (get field d ≡ Some m) × IsExtension m e
-
 -- the members `chunk_grid` and `chunk_key_encoding`
 pub record HasStored (d : Data) (stored : Stored) : Type 0 where
   pub grid : HasExtension d (codes "chunk_grid") stored.chunk_grid
@@ -70,8 +58,14 @@ abbrev pub IsTask : Data → Task → Type 0
 IsTask d (read_of subset) = (get (codes "target") d ≡ None) × HasBox d (codes "subset") subset
 IsTask d (rechunk_to stored chunks) = (m : Data) × (get (codes "target") d ≡ Some m) × HasStored m stored × HasBox d (codes "chunks") chunks
 
+-- `subset` stands beside no target, and `chunks` beside one
+pub record Fit (d : Data) : Type 0 where
+  pub of_read : get (codes "target") d ≡ None → get (codes "chunks") d ≡ None
+  pub of_rechunking : IsSome (get (codes "target") d) → get (codes "subset") d ≡ None
+
 -- the document that a tree stands for
 pub record IsDocument (d : Data) (document : Document) : Type 0 where
+  pub fitting : Fit d
   pub shape : shape_in d ≡ Some document.shape
   pub stored : HasStored d document.stored
   pub task : IsTask d document.task

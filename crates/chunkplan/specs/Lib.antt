@@ -1,5 +1,7 @@
 pub mod Document
+pub mod DocumentFault
 pub mod Line
+pub mod PlanFault
 pub mod Planned
-pub mod RunFault
+pub mod Stopped
 pub mod seen

@@ -10,7 +10,8 @@ use Rattle.zarrs_chunks.specs.GridKinds.{IsGrid}
 use Rattle.zarrs_chunk_plan.specs.Plan.{IsPlan}
 use Rattle.zarrs_chunk_plan.specs.Rechunking.{Group, IsRechunking, all_chunks_box, array_box}
 use Rattle.zarrs_chunk_plan.specs.declared.part.Part.{Part}
-use Rattle.chunkplan.specs.Document.{Document, IsDocument, IsTreeOf, Stored, read_of, rechunk_to}
+use Rattle.programs.specs.Document.{IsTreeOf}
+use Rattle.chunkplan.specs.Document.{Document, IsDocument, Stored, read_of, rechunk_to}
 use Rattle.chunkplan.specs.Line.{copy_lines, part_lines}
 
 -- the grid and the encoding by which an array of a shape is stored

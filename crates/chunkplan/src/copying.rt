@@ -1,17 +1,19 @@
 //! The lines of a plan, written as they are made.
-ghost use Rattle.std.specs.Prelude.{List, OnOk, Some, option_map};
+ghost use Rattle.std.specs.Prelude.{◌≡◌, IfErr, List, OnOk, Some, option_map};
 ghost use Rattle.std.specs.List.{flat_map};
 ghost use Rattle.std.specs.Io.KnownBytes.{Appends};
 ghost use Rattle.zarrs_chunk_plan.specs.Rechunking.{Group};
 ghost use Rattle.zarrs_chunk_plan.specs.declared.part.Part.{Part as PartValue};
 ghost use Rattle.zarrs_chunk_plan.specs.seen.Copies.{AreGroupsToCome, CanCopy};
 ghost use Rattle.zarrs_chunk_plan.specs.seen.Parts.{ArePartsToCome, MeetSubset};
+ghost use Rattle.programs.specs.OrMemory.{OrMemory};
 ghost use Rattle.chunkplan.specs.Line.{copy_lines, line_for};
 
 use crate::line::line;
 use crate::run_fault::RunFault;
 use std::alloc::Global;
 use std::io::Write;
+use zarrs_chunk_base::Refusal;
 use zarrs_chunk_keys::ChunkKeyEncodingTraits;
 use zarrs_chunk_plan::{ChunkCopies, Copies, Part, Parts};
 use zarrs_chunks::ChunkGridTraits;
@@ -25,12 +27,13 @@ pub(crate) fn write_parts<G: ChunkGridTraits, E: ChunkKeyEncodingTraits, W: Writ
     walk: Parts<'_, G, E>,
     to: Option<&Part>,
     writer: &mut W,
-) -> Result<(), RunFault>
+) -> Result<(), Refusal<RunFault>>
     requires { MeetSubset G.dimensions walk }
-    ensures { OnOk result ((parts : List PartValue)
+    ensures written { OnOk result ((parts : List PartValue)
         × ArePartsToCome G.dimensions E.is_key walk.entry parts
         × Appends (W.contents writer.old) (W.contents writer.new)
         (flat_map (line_for (option_map (λ t. t.now) to.entry)) parts)) }
+    ensures refused { IfErr result (OrMemory (λ fault. fault ≡ RunFault.Write)) }
 {
     for part in walk {
         let line = line(alloc, &part?, to)?;
@@ -49,11 +52,12 @@ pub(crate) fn write_copies<
     H: ChunkGridTraits,
     F: ChunkKeyEncodingTraits,
     W: Write,
->(alloc: Global, walk: Copies<'_, G, E, H, F>, writer: &mut W) -> Result<(), RunFault>
+>(alloc: Global, walk: Copies<'_, G, E, H, F>, writer: &mut W) -> Result<(), Refusal<RunFault>>
     requires { CanCopy G.dimensions H.dimensions walk }
-    ensures { OnOk result ((groups : List Group)
+    ensures written { OnOk result ((groups : List Group)
         × AreGroupsToCome G.dimensions E.is_key H.dimensions F.is_key walk.entry groups
         × Appends (W.contents writer.old) (W.contents writer.new) (copy_lines groups)) }
+    ensures refused { IfErr result (OrMemory (λ fault. fault ≡ RunFault.Write)) }
 {
     for group in walk {
         write_group(alloc, group?, writer)?;
@@ -66,23 +70,25 @@ fn write_group<G: ChunkGridTraits, E: ChunkKeyEncodingTraits, W: Write>(
     alloc: Global,
     group: ChunkCopies<'_, G, E>,
     writer: &mut W,
-) -> Result<(), RunFault>
+) -> Result<(), Refusal<RunFault>>
     requires { MeetSubset G.dimensions group.from }
-    ensures { OnOk result ((from : List PartValue)
+    ensures written { OnOk result ((from : List PartValue)
         × ArePartsToCome G.dimensions E.is_key group.entry.from from
         × Appends (W.contents writer.old) (W.contents writer.new)
         (flat_map (line_for (Some group.entry.to)) from)) }
+    ensures refused { IfErr result (OrMemory (λ fault. fault ≡ RunFault.Write)) }
 {
     let ChunkCopies { to, from } = group;
     write_parts(alloc, from, Some(&to), writer)
 }
 
 /// Writes a line.
-fn write_line<W: Write>(writer: &mut W, line: &[u8]) -> Result<(), RunFault>
-    ensures { OnOk result (Appends (W.contents writer.old) (W.contents writer.new) line.now) }
+fn write_line<W: Write>(writer: &mut W, line: &[u8]) -> Result<(), Refusal<RunFault>>
+    ensures written { OnOk result (Appends (W.contents writer.old) (W.contents writer.new) line.now) }
+    ensures refused { IfErr result (OrMemory (λ fault. fault ≡ RunFault.Write)) }
 {
     match writer.write_all(line) {
         Ok(()) => Ok(()),
-        Err(_) => Err(RunFault::Write),
+        Err(_) => Err(Refusal::Refused(RunFault::Write)),
     }
 }

@@ -1,16 +1,18 @@
 //! The program's document.
-ghost use Rattle.std.specs.Prelude.{◌≡◌, ℕ, IfOk, OnOk, Some};
+ghost use Rattle.std.specs.Prelude.{MatchResult};
 ghost use Rattle.serde_json.specs.Data.{Data};
-ghost use Rattle.serde_json.specs.Find.{get};
 ghost use Rattle.serde_json.specs.View.{view};
-ghost use Rattle.zarrs_chunk_base.specs.Metadata.{extension_of, IsExtension};
-ghost use Rattle.chunkplan.specs.Document.{HasStored, IsDocument, IsTask, IsTreeOf, document_of, stored_of, task_of};
+ghost use Rattle.zarrs_chunk_base.specs.Refusal.{IsRefusedAnd};
+ghost use Rattle.programs.specs.Document.{IsTreeOf};
+ghost use Rattle.programs.specs.OrMemory.{OrMemory};
+ghost use Rattle.chunkplan.specs.Document.{Fit, HasStored, IsDocument, IsTask, document_of, stored_of, task_of};
+ghost use Rattle.chunkplan.specs.DocumentFault.{IsFormFault, IsInputFault, IsMisfit, IsStoredFault, IsTaskFault};
 
 use crate::boxes::member_box;
-use crate::run_fault::RunFault;
+use programs::{DocumentFault, member_metadata, read_sizes, read_tree, required_member};
 use serde_json::Value;
 use std::alloc::Global;
-use zarrs_chunk_base::{ArraySubset, MetadataV3, TreeForm};
+use zarrs_chunk_base::{ArraySubset, MetadataV3, Refusal};
 
 /// How an array is stored: in which chunks, and under which keys.
 #[derive(Drop)]
@@ -41,34 +43,30 @@ pub(crate) struct Document {
 /// # Errors
 /// The input is no JSON or no object; a member is missing; a member doesn't go with the others; a member isn't of its form, of `shape`,
 /// `chunk_grid`, `chunk_key_encoding`, and of `subset`, or of `target` and `chunks`, the first; or out of memory.
-pub(crate) fn parse(alloc: Global, input: &[u8]) -> Result<Document, RunFault>
-    ensures { IfOk result (λ document. (tree : Data) × IsTreeOf input.now tree
-        × IsDocument tree (document_of document)) }
+pub(crate) fn parse(alloc: Global, input: &[u8]) -> Result<Document, Refusal<DocumentFault>>
+    ensures { MatchResult result
+        (λ document. (tree : Data) × IsTreeOf input.now tree
+        × IsDocument tree (document_of document))
+        (OrMemory (IsInputFault input.now)) }
 {
-    match Value::from_slice(alloc, input) {
-        Ok(tree) => document_from(alloc, &tree),
-        Err(error) if error.is_memory() => Err(RunFault::Memory),
-        Err(_) => Err(RunFault::NotJson),
-    }
+    let tree = read_tree(alloc, input)?;
+    document_from(alloc, &tree)
 }
 
 /// The document that a tree stands for.
-fn document_from(alloc: Global, tree: &Value) -> Result<Document, RunFault>
-    ensures { IfOk result (λ document. IsDocument (view tree.now) (document_of document)) }
+fn document_from(alloc: Global, tree: &Value) -> Result<Document, Refusal<DocumentFault>>
+    ensures { MatchResult result (λ document. IsDocument (view tree.now) (document_of document))
+        (OrMemory (IsFormFault (view tree.now))) }
 {
     if !tree.is_object() {
-        return Err(RunFault::NotObject);
+        return Err(Refusal::Refused(DocumentFault::NotObject));
     }
-    let shape = member(tree, "shape", "shape")?;
-    member(tree, "chunk_grid", "chunk_grid")?;
-    member(tree, "chunk_key_encoding", "chunk_key_encoding")?;
-    match tree.get("target") {
-        Some(_) if tree.get("subset").is_some() => return Err(RunFault::SubsetOfTarget),
-        None if tree.get("chunks").is_some() => return Err(RunFault::ChunksOfNoTarget),
-        _ => {}
-    }
-    let Some(shape) = Vec::from_tree(alloc, shape)? else {
-        return Err(RunFault::WrongValue("shape"));
+    let shape = required_member(tree, "shape", "shape")?;
+    required_member(tree, "chunk_grid", "chunk_grid")?;
+    required_member(tree, "chunk_key_encoding", "chunk_key_encoding")?;
+    check_fitting(tree)?;
+    let Some(shape) = read_sizes(alloc, shape)? else {
+        return Err(Refusal::Refused(DocumentFault::WrongValue("shape")));
     };
     let stored = stored_from(alloc, tree, "chunk_grid", "chunk_key_encoding")?;
     let task = task_from(alloc, tree)?;
@@ -79,15 +77,32 @@ fn document_from(alloc: Global, tree: &Value) -> Result<Document, RunFault>
     })
 }
 
+/// Refuses a member that doesn't go with the others.
+fn check_fitting(tree: &Value) -> Result<(), Refusal<DocumentFault>>
+    ensures { MatchResult result (λ _. Fit (view tree.now))
+        (λ refusal. IsRefusedAnd refusal (IsMisfit (view tree.now))) }
+{
+    match tree.get("target") {
+        Some(_) if tree.get("subset").is_some() => {
+            Err(Refusal::Refused(DocumentFault::SubsetOfTarget))
+        }
+        None if tree.get("chunks").is_some() => {
+            Err(Refusal::Refused(DocumentFault::ChunksOfNoTarget))
+        }
+        _ => Ok(()),
+    }
+}
+
 /// What a tree asks for.
-fn task_from(alloc: Global, tree: &Value) -> Result<Task, RunFault>
-    ensures { IfOk result (λ task. IsTask (view tree.now) (task_of task)) }
+fn task_from(alloc: Global, tree: &Value) -> Result<Task, Refusal<DocumentFault>>
+    ensures { MatchResult result (λ task. IsTask (view tree.now) (task_of task))
+        (OrMemory (IsTaskFault (view tree.now))) }
 {
     let Some(target) = tree.get("target") else {
         return Ok(Task::Read(member_box(alloc, tree, "subset")?));
     };
     if !target.is_object() {
-        return Err(RunFault::WrongValue("target"));
+        return Err(Refusal::Refused(DocumentFault::WrongValue("target")));
     }
     let stored = stored_from(
         alloc,
@@ -104,28 +119,14 @@ fn stored_from(
     tree: &Value,
     grid_name: &'static str,
     encoding_name: &'static str,
-) -> Result<Stored, RunFault>
-    ensures { IfOk result (λ stored. HasStored (view tree.now) (stored_of stored)) }
+) -> Result<Stored, Refusal<DocumentFault>>
+    ensures { MatchResult result (λ stored. HasStored (view tree.now) (stored_of stored))
+        (OrMemory (IsStoredFault (view tree.now) grid_name.now encoding_name.now)) }
 {
-    let chunk_grid = member(tree, "chunk_grid", grid_name)?;
-    let chunk_key_encoding = member(tree, "chunk_key_encoding", encoding_name)?;
+    let chunk_grid = required_member(tree, "chunk_grid", grid_name)?;
+    let chunk_key_encoding = required_member(tree, "chunk_key_encoding", encoding_name)?;
     Ok(Stored {
         chunk_grid: member_metadata(alloc, chunk_grid, grid_name)?,
         chunk_key_encoding: member_metadata(alloc, chunk_key_encoding, encoding_name)?,
     })
-}
-
-/// A member that has to be there. A fault calls it by the name that is given.
-fn member<'t>(tree: &'t Value, field: &str, name: &'static str) -> Result<&'t Value, RunFault>
-    ensures { IfOk result (λ value. get field.now (view tree.now) ≡ Some (view value.now)) }
-{
-    tree.get(field).ok_or(RunFault::Missing(name))
-}
-
-/// A member's value as an extension's metadata.
-fn member_metadata(alloc: Global, tree: &Value, name: &'static str) -> Result<MetadataV3, RunFault>
-    ensures { IfOk result (λ metadata. IsExtension (view tree.now) (extension_of metadata)) }
-{
-    let metadata = MetadataV3::from_tree(alloc, tree);
-    Ok(metadata.map_err(|refusal| refusal.map(|error| RunFault::Metadata(name, error)))?)
 }

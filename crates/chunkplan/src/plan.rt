@@ -1,14 +1,17 @@
 //! The plan that a document asks for.
-ghost use Rattle.std.specs.Prelude.{◌≡◌, ℕ, IfOk, List, OnOk, unwrap_or};
+ghost use Rattle.std.specs.Prelude.{◌≡◌, ℕ, IfErr, IfOk, List, OnOk, unwrap_or};
 ghost use Rattle.std.specs.Io.KnownBytes.{Appends};
 ghost use Rattle.zarrs_chunk_base.specs.Dimension.{array_sizes};
 ghost use Rattle.zarrs_chunk_keys.specs.seen.Encodings.{encoding_in};
 ghost use Rattle.zarrs_chunks.specs.seen.Grids.{grid_in};
 ghost use Rattle.zarrs_chunk_plan.specs.Rechunking.{Group, IsRechunking, all_chunks_box, array_box};
 ghost use Rattle.zarrs_chunk_plan.specs.declared.part.Part.{Part as PartValue};
+ghost use Rattle.programs.specs.OrMemory.{OrMemory};
 ghost use Rattle.chunkplan.specs.Document.{document_of, stored_of};
 ghost use Rattle.chunkplan.specs.Line.{copy_lines, part_lines};
+ghost use Rattle.chunkplan.specs.PlanFault.{IsChunksFault, IsCreateFault, IsPlanFault, IsReadFault, IsSourceFault, IsTargetFault};
 ghost use Rattle.chunkplan.specs.Planned.{IsPlanned, IsReadPlan, IsStored};
+ghost use Rattle.chunkplan.specs.Stopped.{WriteFailedOr};
 
 use crate::copying::{write_copies, write_parts};
 use crate::document::{Document, Stored, Task};
@@ -29,27 +32,25 @@ pub(crate) fn write_plan<W: Write>(
     alloc: Global,
     document: Document,
     writer: &mut W,
-) -> Result<(), RunFault>
-    ensures { OnOk result ((text : List ℕ) × IsPlanned (document_of document) text
+) -> Result<(), Refusal<RunFault>>
+    ensures planned { OnOk result ((text : List ℕ) × IsPlanned (document_of document) text
         × Appends (W.contents writer.old) (W.contents writer.new) text) }
+    ensures refused { IfErr result (OrMemory (WriteFailedOr (IsPlanFault (document_of document))
+        (W.contents writer.old) (W.contents writer.new))) }
 {
     let Document {
         shape,
         stored,
         task,
     } = document;
-    let made = open(alloc, &stored, &shape);
-    let (grid, encoding) = made.map_err(|refusal| refusal.map(RunFault::Create))?;
+    let (grid, encoding) = open_source(alloc, &stored, &shape)?;
     match task {
         Task::Read(subset) => {
             let subset = or_whole_array(alloc, subset, &grid)?;
             write_read(alloc, &grid, &encoding, &subset, writer)
         }
         Task::Rechunk(target, chunks) => {
-            let made = open(alloc, &target, &shape);
-            let (target, target_encoding) = made.map_err(|refusal| refusal.map(
-                RunFault::CreateTarget,
-            ))?;
+            let (target, target_encoding) = open_target(alloc, &target, &shape)?;
             let chunks = or_all_chunks(alloc, chunks, &target)?;
             write_rechunking(
                 alloc,
@@ -64,14 +65,46 @@ pub(crate) fn write_plan<W: Write>(
     }
 }
 
+/// The grid and the encoding of the document's array.
+fn open_source(
+    alloc: Global,
+    stored: &Stored,
+    shape: &[u64],
+) -> Result<(ChunkGrid, ChunkKeyEncoding), Refusal<RunFault>>
+    ensures made { IfOk result (λ made. IsStored (stored_of stored.now) shape.now (grid_in made.0)
+        (encoding_in made.1)) }
+    ensures sizes { IfOk result (λ made. array_sizes (grid_in made.0).dimensions ≡ shape.now) }
+    ensures refused { IfErr result (OrMemory (IsSourceFault (stored_of stored.now) shape.now)) }
+{
+    let made = open(alloc, stored, shape);
+    made.map_err(|refusal| refusal.map(RunFault::Create))
+}
+
+/// The grid and the encoding of the target.
+fn open_target(
+    alloc: Global,
+    stored: &Stored,
+    shape: &[u64],
+) -> Result<(ChunkGrid, ChunkKeyEncoding), Refusal<RunFault>>
+    ensures made { IfOk result (λ made. IsStored (stored_of stored.now) shape.now (grid_in made.0)
+        (encoding_in made.1)) }
+    ensures sizes { IfOk result (λ made. array_sizes (grid_in made.0).dimensions ≡ shape.now) }
+    ensures refused { IfErr result (OrMemory (IsTargetFault (stored_of stored.now) shape.now)) }
+{
+    let made = open(alloc, stored, shape);
+    made.map_err(|refusal| refusal.map(RunFault::CreateTarget))
+}
+
 /// The grid and the encoding by which an array of a shape is stored.
 fn open(
     alloc: Global,
     stored: &Stored,
     shape: &[u64],
 ) -> Result<(ChunkGrid, ChunkKeyEncoding), Refusal<PluginCreateError>>
-    ensures { IfOk result (λ made. IsStored (stored_of stored.now) shape.now (grid_in made.0)
+    ensures made { IfOk result (λ made. IsStored (stored_of stored.now) shape.now (grid_in made.0)
         (encoding_in made.1)) }
+    ensures sizes { IfOk result (λ made. array_sizes (grid_in made.0).dimensions ≡ shape.now) }
+    ensures refused { IfErr result (OrMemory (IsCreateFault (stored_of stored.now) shape.now)) }
 {
     let grid = ChunkGrid::from_metadata(alloc, &stored.chunk_grid, shape)?;
     let encoding = ChunkKeyEncoding::from_metadata(alloc, &stored.chunk_key_encoding)?;
@@ -113,23 +146,23 @@ fn write_read<G: ChunkGridTraits, E: ChunkKeyEncodingTraits, W: Write>(
     encoding: &E,
     subset: &ArraySubset,
     writer: &mut W,
-) -> Result<(), RunFault>
-    ensures { OnOk result ((parts : List PartValue)
+) -> Result<(), Refusal<RunFault>>
+    ensures planned { OnOk result ((parts : List PartValue)
         × IsReadPlan (G.dimensions grid.now) (E.is_key encoding.now) subset.now parts
         × Appends (W.contents writer.old) (W.contents writer.new) (part_lines parts)) }
+    ensures refused { IfErr result (OrMemory (WriteFailedOr
+        (IsReadFault (G.dimensions grid.now) subset.now)
+        (W.contents writer.old) (W.contents writer.new))) }
 {
     let dimensionality = subset.start().len();
     if dimensionality != grid.dimensionality() {
-        return Err(RunFault::SubsetDimensionality(IncompatibleDimensionalityError::new(
-            dimensionality,
-            grid.dimensionality(),
-        )));
+        let error = IncompatibleDimensionalityError::new(dimensionality, grid.dimensionality());
+        return Err(Refusal::Refused(RunFault::SubsetDimensionality(error)));
     }
     match parts(alloc, grid, encoding, subset) {
         Ok(Some(walk)) => write_parts(alloc, walk, None, writer),
-        Ok(None) => Err(RunFault::Uncovered),
-        Err(Refusal::Refused(error)) => Err(RunFault::SubsetDimensionality(error)),
-        Err(Refusal::Memory(_)) => Err(RunFault::Memory),
+        Ok(None) => Err(Refusal::Refused(RunFault::Uncovered)),
+        Err(refusal) => Err(refusal.map(RunFault::SubsetDimensionality)),
     }
 }
 
@@ -148,11 +181,15 @@ fn write_rechunking<
     target_encoding: &F,
     chunks: &ArraySubset,
     writer: &mut W,
-) -> Result<(), RunFault>
-    ensures { OnOk result ((groups : List Group)
+) -> Result<(), Refusal<RunFault>>
+    ensures planned { OnOk result ((groups : List Group)
         × IsRechunking (G.dimensions source.now) (E.is_key source_encoding.now)
         (H.dimensions target.now) (F.is_key target_encoding.now) chunks.now groups
         × Appends (W.contents writer.old) (W.contents writer.new) (copy_lines groups)) }
+    ensures refused { array_sizes (G.dimensions source.now) ≡ array_sizes (H.dimensions target.now)
+        → IfErr result (OrMemory (WriteFailedOr
+        (IsChunksFault (H.dimensions target.now) chunks.now)
+        (W.contents writer.old) (W.contents writer.new))) }
 {
     let walk = copies(
         alloc,
@@ -164,7 +201,6 @@ fn write_rechunking<
     );
     match walk {
         Ok(walk) => write_copies(alloc, walk, writer),
-        Err(Refusal::Refused(error)) => Err(RunFault::Copies(error)),
-        Err(Refusal::Memory(_)) => Err(RunFault::Memory),
+        Err(refusal) => Err(refusal.map(RunFault::Copies)),
     }
 }

@@ -1,46 +1,25 @@
 //! Why a run of the program stops.
 ghost use Rattle.std.specs.Prelude.{◌≡◌};
-ghost use Rattle.chunkplan.specs.declared.run_fault.RunFault.TheVariants.{Memory};
+ghost use Rattle.chunkplan.specs.declared.run_fault.RunFault.TheVariants.{Read};
+ghost use Rattle.programs.specs.OrMemory.{OrMemory};
 
-use std::alloc::{AllocError, AllocFailed};
+use programs::DocumentFault;
+use std::alloc::AllocError;
 use std::io;
 use std::io::ErrorKind;
 use thiserror::Error;
-use zarrs_chunk_base::{
-    ArraySubsetError, IncompatibleDimensionalityError, MetadataError, PluginCreateError, Refusal,
-};
+use zarrs_chunk_base::{IncompatibleDimensionalityError, PluginCreateError, Refusal};
 use zarrs_chunk_plan::CopiesError;
 
-/// Why a run stops. Nothing has been written, except on `Write` and on `Memory`.
+/// Why a run stops, if not for want of memory. Nothing has been written, except on `Write`.
 #[derive(Debug, Drop, Error)]
 pub enum RunFault {
     /// A read failed.
     #[error("input failed")]
     Read,
-    /// The input is no text of JSON.
-    #[error("document is not JSON")]
-    NotJson,
-    /// The document is no JSON object.
-    #[error("document is not an object")]
-    NotObject,
-    /// A member of the document is missing.
-    #[error("missing field `{0}`")]
-    Missing(&'static str),
-    /// The document has a box of the target's chunks, and no target.
-    #[error("field `chunks` is for a rechunking: give a `target` too, or leave it out")]
-    ChunksOfNoTarget,
-    /// The document has a box of elements, and a target.
-    #[error("field `subset` is for a read: leave out `target`, or leave it out")]
-    SubsetOfTarget,
-    /// A member of the document isn't of its form.
-    #[error("wrong value in field `{0}`")]
-    WrongValue(&'static str),
-    /// A member of the document is no extension's metadata.
-    #[error("field `{0}`: {1}")]
-    Metadata(&'static str, MetadataError),
-    /// A member of the document is no box.
-    #[error("field `{0}`: {1}")]
-    Box(&'static str, ArraySubsetError),
+    /// The input is no document.
+    #[error(transparent)]
+    Document(DocumentFault),
     /// The document's chunk grid or chunk key encoding can't be made.
     #[error(transparent)]
     Create(PluginCreateError),
@@ -59,46 +38,16 @@ pub enum RunFault {
     /// A write or the flush failed, or a write took nothing. A beginning of the plan may have been written.
     #[error("output failed")]
     Write,
-    /// Out of memory. A beginning of the plan may have been written.
-    #[error("out of memory")]
-    Memory,
 }
 
 impl RunFault {
-    /// The fault of a read into a buffer that grows.
-    pub(crate) fn from_read(error: io::Error) -> RunFault {
+    /// Why a read into a buffer that grows failed.
+    pub(crate) fn of_read(error: io::Error) -> Refusal<RunFault>
+        ensures { OrMemory (λ fault. fault ≡ Read) result }
+    {
         match error.kind() {
-            ErrorKind::OutOfMemory => RunFault::Memory,
-            _ => RunFault::Read,
-        }
-    }
-}
-
-impl From<AllocError> for RunFault {
-    ghost from_gives = { λ _ fault. fault ≡ Memory };
-
-    fn from(_error: AllocError) -> RunFault {
-        RunFault::Memory
-    }
-}
-
-impl<T: Drop> From<AllocFailed<T>> for RunFault {
-    ghost from_gives = { λ _ fault. fault ≡ Memory };
-
-    fn from(_failed: AllocFailed<T>) -> RunFault {
-        RunFault::Memory
-    }
-}
-
-impl From<Refusal<RunFault>> for RunFault {
-    ghost use Rattle.chunkplan.specs.RunFault.{fault_of};
-
-    ghost from_gives = { λ refusal fault. fault ≡ fault_of refusal };
-
-    fn from(refusal: Refusal<RunFault>) -> RunFault {
-        match refusal {
-            Refusal::Refused(fault) => fault,
-            Refusal::Memory(_) => RunFault::Memory,
+            ErrorKind::OutOfMemory => Refusal::Memory(AllocError),
+            _ => Refusal::Refused(RunFault::Read),
         }
     }
 }

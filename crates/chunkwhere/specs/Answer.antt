@@ -5,6 +5,7 @@ use Rattle.chunkwhere.specs.declared.run_fault.RunFault.{RunFault}
 use Rattle.chunkwhere.specs.declared.run_fault.RunFault.TheVariants.{Grid as GridFault, Encoding as EncodingFault, Index}
 use Rattle.zarrs_chunk_base.specs.declared.incompatible_dimensionality_error.IncompatibleDimensionalityError.{IncompatibleDimensionalityError}
 use Rattle.zarrs_chunk_base.specs.Grid.{Grid}
+use Rattle.zarrs_chunk_base.specs.Metadata.{Extension}
 use Rattle.zarrs_chunks.specs.GridKinds.{IsGrid, IsGridFault}
 use Rattle.zarrs_chunk_keys.specs.ChunkKey.{Encoding, IsKey}
 use Rattle.zarrs_chunk_keys.specs.KeyKinds.{IsEncoding, IsEncodingFault}
@@ -32,6 +33,11 @@ IsFirstWrongLength dimensions (index ∷ indices) (suc position) e = HasLengthOf
 abbrev pub IsIndexFault : List Dimension → List (List ℕ) → RunFault → Type 0
 IsIndexFault dimensions indices (Index position e) = IsFirstWrongLength dimensions indices position e
 IsIndexFault _ _ _ = ⊥
+
+-- the fault says why the metadata give no encoding
+abbrev pub IsKeyFault : Extension → RunFault → Type 0
+IsKeyFault e (EncodingFault fault) = IsEncodingFault e fault
+IsKeyFault _ _ = ⊥
 
 -- the text that answers a document
 pub record IsAnswer (document : Document) (text : List ℕ) : Type 0 where

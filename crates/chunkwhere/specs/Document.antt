@@ -1,22 +1,18 @@
 -- The program's document: a JSON object with the members `shape`, `chunk_grid`, `chunk_key_encoding`
 -- and `indices`, and where it has one, `keys`; what else it has says nothing.
-use Rattle.std.specs.Prelude.{◌≡◌, ◌⊎◌, ℕ, List, [], ◌∷◌, map, Contains, IsSome, Option, Some, None, option_and_then, unwrap_or, IsUtf8, codes, string_bytes}
+use Rattle.std.specs.Prelude.{◌≡◌, ◌⊎◌, ℕ, List, [], ◌∷◌, map, IsSome, Option, Some, None, option_and_then, unwrap_or, codes, string_bytes}
 use Rattle.serde_json.specs.Data.{Data}
-use Rattle.serde_json.specs.Read.{read}
 use Rattle.serde_json.specs.Find.{get, as_object, as_str}
 use Rattle.serde_json.specs.View.{view}
 use Rattle.serde_json.specs.declared.value.Value.{Value}
 use Rattle.chunkwhere.specs.declared.document.Document.{Document as DocumentValue}
 use Rattle.zarrs_chunk_base.specs.declared.metadata_error.MetadataError.{MetadataError}
-use Rattle.chunkwhere.specs.declared.run_fault.RunFault.{RunFault}
-use Rattle.chunkwhere.specs.declared.run_fault.RunFault.TheVariants.{NotJson, NotObject, Missing, WrongValue, Metadata}
 use Rattle.zarrs_chunk_base.specs.First.{IsFirst}
 use Rattle.zarrs_chunk_base.specs.Json.{size_of, list_of}
-use Rattle.zarrs_chunk_base.specs.Metadata.{Extension, extension_of, IsExtension, IsMetadataFault}
-
--- the tree that bytes are the text of
-abbrev pub IsTreeOf : List ℕ → Data → Type 0
-IsTreeOf input d = IsUtf8 input × (read input ≡ Some d)
+use Rattle.zarrs_chunk_base.specs.Metadata.{Extension, extension_of, IsMetadataFault}
+use Rattle.programs.specs.Document.{HasAll, HasExtension, HasSomeExtension, IsTextFault, IsTreeOf, shape_in}
+use Rattle.programs.specs.declared.document_fault.DocumentFault.{DocumentFault}
+use Rattle.programs.specs.declared.document_fault.DocumentFault.TheVariants.{NotObject, Missing, WrongValue, Metadata}
 
 -- a document, without where it lies in memory
 pub record Document : Type 0 where
@@ -44,10 +40,6 @@ document_of d = record {
   keys = map string_bytes d.keys.items;
 }
 
--- `shape`: a list of sizes
-abbrev pub shape_in : Data → Option (List ℕ)
-shape_in d = option_and_then (list_of size_of) (get (codes "shape") d)
-
 -- `indices`: a list of lists of sizes
 abbrev pub indices_in : Data → Option (List (List ℕ))
 indices_in d = option_and_then (list_of (list_of size_of)) (get (codes "indices") d)
@@ -60,13 +52,6 @@ texts_of (Some texts) = list_of as_str texts
 -- `keys`: a list of texts, which may be absent
 abbrev pub keys_in : Data → Option (List (List ℕ))
 keys_in d = texts_of (get (codes "keys") d)
-
--- the member is an extension's metadata
-abbrev pub HasExtension : Data → List ℕ → Extension → Type 0
-HasExtension d field e = (m : Data) × (get field d ≡ Some m) × IsExtension m e
-
-abbrev pub HasSomeExtension : Data → List ℕ → Type 0
-HasSomeExtension d field = (e : Extension) × HasExtension d field e
 
 -- the member is there and is no extension's metadata; this is its first fault
 abbrev pub HasMetadataFault : Data → List ℕ → MetadataError → Type 0
@@ -86,21 +71,11 @@ document_members = codes "shape" ∷ codes "chunk_grid" ∷ codes "chunk_key_enc
 
 -- each member that has to be there is
 abbrev pub HasMembers : Data → Type 0
-HasMembers d = (name : List ℕ) → Contains document_members name → IsSome (get name d)
-
--- the fault says that the member is missing
-abbrev pub IsMissingFault : Data → List ℕ → RunFault → Type 0
-IsMissingFault d name (Missing field) = (field.now ≡ name) × (get name d ≡ None)
-IsMissingFault _ _ _ = ⊥
-
--- the fault says why the member's value is no extension's metadata
-abbrev pub IsExtensionFault : Data → List ℕ → RunFault → Type 0
-IsExtensionFault value name (Metadata field fault) = (field.now ≡ name) × IsMetadataFault value fault
-IsExtensionFault _ _ _ = ⊥
+HasMembers = HasAll document_members
 
 -- The first fault of a tree that is no document: it is no object; a member is missing; a member isn't
 -- of its form, of `shape`, `chunk_grid`, `chunk_key_encoding`, `indices` and `keys` the first.
-abbrev pub IsFormFault : Data → RunFault → Type 0
+abbrev pub IsFormFault : Data → DocumentFault → Type 0
 IsFormFault d NotObject = as_object d ≡ None
 IsFormFault d (Missing field) = IsSome (as_object d) × IsFirst (λ name. get name d ≡ None) document_members field.now
 IsFormFault d (WrongValue field) =
@@ -118,6 +93,6 @@ IsFormFault d (Metadata field fault) =
 IsFormFault d _ = ⊥
 
 -- The first fault of an input that is no document: it is no JSON, or its tree isn't of the form.
-pub data IsInputFault (input : List ℕ) (fault : RunFault) : Type 0 where
-  not_json : ((tree : Data) → ¬ IsTreeOf input tree) → fault ≡ NotJson → IsInputFault input fault
+pub data IsInputFault (input : List ℕ) (fault : DocumentFault) : Type 0 where
+  not_json : IsTextFault input fault → IsInputFault input fault
   not_of_form : (tree : Data) → IsTreeOf input tree → IsFormFault tree fault → IsInputFault input fault

@@ -1,8 +1,10 @@
 -- A reader or writer with a memory of whether one of its calls failed.
 use Rattle.std.specs.Prelude.{◌≡◌, ℕ, ◌==◌, ◌&&◌, Bool, true, not, List, length, Result, Ok, Err}
 use Rattle.chunkwhere.specs.declared.run_fault.RunFault.{RunFault}
-use Rattle.chunkwhere.specs.declared.run_fault.RunFault.TheVariants.{Read, Memory}
+use Rattle.chunkwhere.specs.declared.run_fault.RunFault.TheVariants.{Read}
 use Rattle.chunkwhere.specs.declared.watched.Watched.{Watched}
+use Rattle.zarrs_chunk_base.specs.declared.refusal.Refusal.{Refusal}
+use Rattle.zarrs_chunk_base.specs.declared.refusal.Refusal.TheVariants.{Refused, Memory}
 
 -- the reader or writer
 abbrev pub watched : {T : Type 0} → Watched T → T
@@ -18,7 +20,7 @@ is_failed_write (Ok n) bytes = n == 0 && not (length bytes == 0)
 is_failed_write (Err e) bytes = true
 
 -- why reading to the end stopped: a read failed, or memory ran out and none had
-abbrev pub IsReadFault : RunFault → Bool → Bool → Type 0
-IsReadFault Read old new = new ≡ true
-IsReadFault Memory old new = new ≡ old
+abbrev pub IsReadFault : Refusal RunFault → Bool → Bool → Type 0
+IsReadFault (Refused Read) old new = new ≡ true
+IsReadFault (Memory _) old new = new ≡ old
 IsReadFault _ _ _ = ⊥

@@ -1,32 +1,34 @@
 //! The text that answers a document.
-ghost use Rattle.std.specs.Prelude.{◌≡◌, ◌≢◌, ℕ, List, ◌++◌, codes, length, map, IfOk, MatchOption, MatchResult, OnOk, string_bytes};
+ghost use Rattle.std.specs.Prelude.{◌≡◌, ◌≢◌, ℕ, List, ◌++◌, codes, length, map, IfErr, IfOk, MatchOption, MatchResult, OnOk, string_bytes};
 ghost use Rattle.std.specs.List.{AllByRecursion};
-ghost use Rattle.chunkwhere.specs.Answer.{HasLengthOf, IsAnswer, IsAnswerFault, IsIndexFault};
+ghost use Rattle.chunkwhere.specs.Answer.{HasLengthOf, IsAnswer, IsAnswerFault, IsIndexFault, IsKeyFault};
 ghost use Rattle.chunkwhere.specs.Document.{document_of, lists_in};
+ghost use Rattle.zarrs_chunk_base.specs.Metadata.{extension_of};
+ghost use Rattle.zarrs_chunk_keys.specs.KeyKinds.{IsEncoding};
 ghost use Rattle.zarrs_chunk_keys.specs.Numeral.{IsNumerals};
+ghost use Rattle.zarrs_chunk_keys.specs.seen.Encodings.{encoding_in};
 ghost use Rattle.chunkwhere.specs.Output.{AreLines, IsKeyLine, IsKeyOf, IsLine};
 ghost use Rattle.zarrs_chunk_base.specs.Refusal.{IfRefused, TellsLengths};
-ghost use Rattle.chunkwhere.specs.RunFault.{OrMemory};
+ghost use Rattle.programs.specs.OrMemory.{OrMemory};
 
 use crate::document::Document;
 use crate::run_fault::RunFault;
 use serde_json::Value;
 use std::alloc::{AllocError, Global};
 use zarrs_chunk_base::{
-    ArrayIndices, IncompatibleDimensionalityError, Refusal, StoreKey, read_list,
+    ArrayIndices, IncompatibleDimensionalityError, MetadataV3, Refusal, StoreKey, read_list,
 };
 use zarrs_chunk_keys::{ChunkKeyEncoding, ChunkKeyEncodingTraits, append_joined, append_numerals};
 use zarrs_chunks::{ChunkGrid, ChunkGridTraits, Home};
 
 /// The whole text that answers a document, or the first fault.
-pub(crate) fn answer(alloc: Global, document: Document) -> Result<String, RunFault>
+pub(crate) fn answer(alloc: Global, document: Document) -> Result<String, Refusal<RunFault>>
     ensures { MatchResult result (λ text. IsAnswer (document_of document) (string_bytes text))
         (OrMemory (IsAnswerFault (document_of document))) }
 {
     let grid = ChunkGrid::from_metadata(alloc, &document.chunk_grid, &document.shape);
     let grid = grid.map_err(|refusal| refusal.map(RunFault::Grid))?;
-    let encoding = ChunkKeyEncoding::from_metadata(alloc, &document.chunk_key_encoding);
-    let encoding = encoding.map_err(|refusal| refusal.map(RunFault::Encoding))?;
+    let encoding = encoding_from(alloc, &document.chunk_key_encoding)?;
     let mut text = lines(alloc, &grid, &encoding, document.indices)?;
     append_key_lines(
         alloc,
@@ -38,13 +40,26 @@ pub(crate) fn answer(alloc: Global, document: Document) -> Result<String, RunFau
     Ok(text)
 }
 
+/// The encoding that metadata stand for.
+fn encoding_from(
+    alloc: Global,
+    metadata: &MetadataV3,
+) -> Result<ChunkKeyEncoding, Refusal<RunFault>>
+    ensures made { IfOk result (λ encoding. IsEncoding (extension_of metadata.now)
+        (encoding_in encoding)) }
+    ensures refused { IfErr result (OrMemory (IsKeyFault (extension_of metadata.now))) }
+{
+    let encoding = ChunkKeyEncoding::from_metadata(alloc, metadata);
+    encoding.map_err(|refusal| refusal.map(RunFault::Encoding))
+}
+
 /// A line for each index list, which is given back once it is read.
 fn lines<G: ChunkGridTraits, E: ChunkKeyEncodingTraits>(
     alloc: Global,
     grid: &G,
     encoding: &E,
     indices: Vec<Value>,
-) -> Result<String, RunFault>
+) -> Result<String, Refusal<RunFault>>
     ensures { MatchResult result
         (λ text. AllByRecursion (HasLengthOf (G.dimensions grid.now)) (lists_in indices.items)
         × AreLines (IsLine (G.dimensions grid.now) (E.is_key encoding.now))

@@ -1,16 +1,15 @@
 //! The program's document.
-ghost use Rattle.std.specs.Prelude.{◌≡◌, IfOk, MatchResult, Some, map, option_map, string_bytes};
+ghost use Rattle.std.specs.Prelude.{◌≡◌, IfOk, MatchResult, map, option_map, string_bytes};
 ghost use Rattle.serde_json.specs.Data.{Data};
-ghost use Rattle.serde_json.specs.Find.{get};
 ghost use Rattle.serde_json.specs.View.{view};
-ghost use Rattle.chunkwhere.specs.Document.{document_of, indices_in, keys_in, lists_in, IsTreeOf, IsDocument, IsMissingFault, IsExtensionFault, IsFormFault, IsInputFault};
-ghost use Rattle.zarrs_chunk_base.specs.Metadata.{extension_of, IsExtension};
-ghost use Rattle.chunkwhere.specs.RunFault.{OrMemory};
+ghost use Rattle.programs.specs.Document.{IsTreeOf};
+ghost use Rattle.programs.specs.OrMemory.{OrMemory};
+ghost use Rattle.chunkwhere.specs.Document.{document_of, indices_in, keys_in, lists_in, IsDocument, IsFormFault, IsInputFault};
 
-use crate::run_fault::RunFault;
+use programs::{DocumentFault, member_metadata, read_sizes, read_tree, required_member};
 use serde_json::Value;
 use std::alloc::{AllocError, Global};
-use zarrs_chunk_base::{MetadataV3, TreeForm, read_list};
+use zarrs_chunk_base::{MetadataV3, Refusal, TreeForm, read_list};
 
 /// An array's metadata, the indices of the elements to look up, and the keys to read back.
 #[derive(Drop)]
@@ -25,42 +24,39 @@ pub(crate) struct Document {
 }
 
 /// The document that an input is the text of, or the first fault.
-pub(crate) fn parse(alloc: Global, input: &[u8]) -> Result<Document, RunFault>
+pub(crate) fn parse(alloc: Global, input: &[u8]) -> Result<Document, Refusal<DocumentFault>>
     ensures { MatchResult result
         (λ document. (tree : Data) × IsTreeOf input.now tree
         × IsDocument tree (document_of document))
         (OrMemory (IsInputFault input.now)) }
 {
-    match Value::from_slice(alloc, input) {
-        Ok(tree) => document_from(alloc, tree),
-        Err(error) if error.is_memory() => Err(RunFault::Memory),
-        Err(_) => Err(RunFault::NotJson),
-    }
+    let tree = read_tree(alloc, input)?;
+    document_from(alloc, tree)
 }
 
 /// The document that a tree stands for, or the first fault.
-fn document_from(alloc: Global, tree: Value) -> Result<Document, RunFault>
+fn document_from(alloc: Global, tree: Value) -> Result<Document, Refusal<DocumentFault>>
     ensures { MatchResult result (λ document. IsDocument (view tree) (document_of document))
         (OrMemory (IsFormFault (view tree))) }
 {
     if !tree.is_object() {
-        return Err(RunFault::NotObject);
+        return Err(Refusal::Refused(DocumentFault::NotObject));
     }
-    let shape = required_member(&tree, "shape")?;
-    let chunk_grid = required_member(&tree, "chunk_grid")?;
-    let chunk_key_encoding = required_member(&tree, "chunk_key_encoding")?;
-    required_member(&tree, "indices")?;
-    let Some(shape) = Vec::from_tree(alloc, shape)? else {
-        return Err(RunFault::WrongValue("shape"));
+    let shape = required_member(&tree, "shape", "shape")?;
+    let chunk_grid = required_member(&tree, "chunk_grid", "chunk_grid")?;
+    let chunk_key_encoding = required_member(&tree, "chunk_key_encoding", "chunk_key_encoding")?;
+    required_member(&tree, "indices", "indices")?;
+    let Some(shape) = read_sizes(alloc, shape)? else {
+        return Err(Refusal::Refused(DocumentFault::WrongValue("shape")));
     };
     let chunk_grid = member_metadata(alloc, chunk_grid, "chunk_grid")?;
     let chunk_key_encoding = member_metadata(alloc, chunk_key_encoding, "chunk_key_encoding")?;
     let keys = read_keys(alloc, &tree)?;
     let Some(indices) = take_indices(alloc, tree)? else {
-        return Err(RunFault::WrongValue("indices"));
+        return Err(Refusal::Refused(DocumentFault::WrongValue("indices")));
     };
     let Some(keys) = keys else {
-        return Err(RunFault::WrongValue("keys"));
+        return Err(Refusal::Refused(DocumentFault::WrongValue("keys")));
     };
     Ok(Document {
         shape,
@@ -101,21 +97,4 @@ fn take_indices(alloc: Global, mut tree: Value) -> Result<Option<Vec<Value>>, Al
         }
     }
     Ok(Some(lists))
-}
-
-/// A member that has to be there.
-fn required_member<'t>(tree: &'t Value, field: &'static str) -> Result<&'t Value, RunFault>
-    ensures { MatchResult result (λ value. get field.now (view tree.now) ≡ Some (view value.now))
-        (IsMissingFault (view tree.now) field.now) }
-{
-    tree.get(field).ok_or(RunFault::Missing(field))
-}
-
-/// A member's value as an extension's metadata.
-fn member_metadata(alloc: Global, tree: &Value, field: &'static str) -> Result<MetadataV3, RunFault>
-    ensures { MatchResult result (λ metadata. IsExtension (view tree.now) (extension_of metadata))
-        (OrMemory (IsExtensionFault (view tree.now) field.now)) }
-{
-    let metadata = MetadataV3::from_tree(alloc, tree);
-    Ok(metadata.map_err(|refusal| refusal.map(|error| RunFault::Metadata(field, error)))?)
 }

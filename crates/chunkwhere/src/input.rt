@@ -6,6 +6,7 @@ use crate::run_fault::RunFault;
 use crate::watched::Watched;
 use std::alloc::Global;
 use std::io::Read;
+use zarrs_chunk_base::Refusal;
 
 /// How many bytes are asked for at once.
 const BUFFER_LEN: usize = 16384;
@@ -14,7 +15,7 @@ const BUFFER_LEN: usize = 16384;
 pub(crate) fn read_to_end<R: Read>(
     alloc: Global,
     reader: &mut Watched<R>,
-) -> Result<Vec<u8>, RunFault>
+) -> Result<Vec<u8>, Refusal<RunFault>>
     ensures bytes { IfOk result (λ bytes. IfSome (R.remaining (watched reader.old)) (λ input.
         (bytes.items ≡ input) × (R.remaining (watched reader.new) ≡ Some []))) }
     ensures failed { MatchResult result (λ _. has_failed reader.new ≡ has_failed reader.old)
@@ -24,7 +25,7 @@ pub(crate) fn read_to_end<R: Read>(
     let mut bytes = Vec::new(alloc);
     loop {
         let Ok(count) = reader.read(&mut buffer) else {
-            return Err(RunFault::Read);
+            return Err(Refusal::Refused(RunFault::Read));
         };
         if count == 0 {
             return Ok(bytes);

@@ -2,7 +2,7 @@
 ghost use Rattle.std.specs.Prelude.{◌≡◌, ◌≤◌, false, IfSome, MatchResult, OnOk, string_bytes};
 ghost use Rattle.std.specs.Io.KnownBytes.{Keeps};
 ghost use Rattle.chunkwhere.specs.Run.{IsFirstFault, IsTextFor, RunEndsWith, RunLeaves};
-ghost use Rattle.chunkwhere.specs.RunFault.{OrMemory};
+ghost use Rattle.programs.specs.OrMemory.{OrMemory};
 ghost use Rattle.chunkwhere.specs.Watched.{watched, has_failed};
 
 use crate::answer::answer;
@@ -13,6 +13,7 @@ use crate::run_fault::RunFault;
 use crate::watched::Watched;
 use std::alloc::Global;
 use std::io::{Read, Write};
+use zarrs_chunk_base::Refusal;
 
 /// Runs the program, tells its fault in one line, if it had one, and answers the status to end with:
 /// 0 where the run succeeded, and 1 after a fault.
@@ -52,7 +53,7 @@ pub fn run<R: Read, W: Write>(
     alloc: Global,
     reader: &mut Watched<R>,
     writer: &mut Watched<W>,
-) -> Result<(), RunFault>
+) -> Result<(), Refusal<RunFault>>
     ensures { IfSome (R.remaining (watched reader.old))
         (λ input. IfSome (W.contents (watched writer.old)) (λ held.
         has_failed reader.old ≡ false → has_failed writer.old ≡ false
@@ -69,18 +70,19 @@ pub fn run<R: Read, W: Write>(
 }
 
 /// The text that answers an input, or the first fault.
-fn answer_input(alloc: Global, input: Vec<u8>) -> Result<String, RunFault>
+fn answer_input(alloc: Global, input: Vec<u8>) -> Result<String, Refusal<RunFault>>
     ensures { MatchResult result (λ text. IsTextFor input.items (string_bytes text))
         (OrMemory (IsFirstFault input.items)) }
 {
-    let document = parse(alloc, &input)?;
+    let document = parse(alloc, &input);
+    let document = document.map_err(|refusal| refusal.map(RunFault::Document))?;
     drop(input);
     answer(alloc, document)
 }
 
 /// Tells a run's fault in one line, if it had one, and answers the status to end with: 0, or 1
 /// after a fault. That the line can't be written changes nothing.
-pub fn finish<W: Write>(outcome: &Result<(), RunFault>, errors: &mut W) -> u8
+pub fn finish<W: Write>(outcome: &Result<(), Refusal<RunFault>>, errors: &mut W) -> u8
     ensures status { MatchResult outcome.now (λ _. result ≡ 0) (λ _. result ≡ 1) }
     ensures silent { OnOk outcome.now (Keeps (W.contents errors.old) (W.contents errors.new)) }
 {

@@ -18,15 +18,15 @@ loop-group-preserved g c =
     let (came, have, appended) = c.loop-group.invariant in
     let group = c.in_ok-group.field-0 in
     let gives = rw c.in_ok-group.was at c.in-Some.ensures.steps in
-    let (from, are, written) = c.in_ok-write_group.ensures in (
+    let (from, are, written) = c.in_ok-write_group.ensures.written in (
       came ++ (group.to, from) ∷ [],
       one_more_group g.G.ChunkGridTraits.dimensions g.E.ChunkKeyEncodingTraits.is_key g.H.ChunkGridTraits.dimensions g.F.ChunkKeyEncodingTraits.is_key
           c.args.walk c.loop-group.group-iterator c.next.new.self group from came (came ++ (group.to, from) ∷ []) have gives are refl,
       subst (Appends _ _) (sym (copy_lines_more came group.to from)) (Appends-trans _ _ _ _ _ appended written),
     )
 
-pub returns : goal.returns
-returns g c =
+pub returns-clause-written : goal.returns-clause-written
+returns-clause-written g c =
     let (came, have, appended) = c.loop-group.invariant in (
       came,
       last_group g.G.ChunkGridTraits.dimensions g.E.ChunkKeyEncodingTraits.is_key g.H.ChunkGridTraits.dimensions g.F.ChunkKeyEncodingTraits.is_key c.args.walk

@@ -20,15 +20,15 @@ loop-part-preserved g c =
     let part = c.in_ok-part.field-0 in
     let LineOf = line_for (option_map (λ t. t.now) c.args.to) in
     let gives = rw c.in_ok-part.was at c.in-Some.ensures.steps in
-    let written = rw (c.deref.ensures.value, c.in_ok-line.ensures) at c.in_ok-write_line.ensures in (
+    let written = rw (c.deref.ensures.value, c.in_ok-line.ensures) at c.in_ok-write_line.ensures.written in (
       came ++ part ∷ [],
       one_more g.G.ChunkGridTraits.dimensions g.E.ChunkKeyEncodingTraits.is_key c.args.walk c.loop-part.part-iterator c.next.new.self part came
           (came ++ part ∷ []) have gives refl,
       subst (Appends _ _) (flat_map_more LineOf [] came part) (Appends-trans _ _ _ _ _ appended written),
     )
 
-pub returns : goal.returns
-returns g c =
+pub returns-clause-written : goal.returns-clause-written
+returns-clause-written g c =
     let (came, have, appended) = c.loop-part.invariant in (
       came,
       at_last g.G.ChunkGridTraits.dimensions g.E.ChunkKeyEncodingTraits.is_key c.args.walk c.loop-part.part-iterator c.next.new.self came have c.in-None.ensures.steps,

@@ -1,28 +1,23 @@
-use Rattle.std.proofs.Common.{string_bytes, subst, ⊎_elim, inl, inr, arith}
+use Rattle.std.proofs.Common.{string_bytes, subst}
 use Rattle.std.proofs.lemmas.Result.{err_from_is_err_and}
-use Rattle.chunkwhere.specs.Answer.{HasParts, IsAnswerFault, IsIndexFault}
+use Rattle.chunkwhere.specs.Answer.{HasParts, IsAnswerFault, IsIndexFault, IsKeyFault}
 use Rattle.zarrs_chunk_base.specs.Grid.{Grid}
 use Rattle.zarrs_chunks.specs.GridKinds.{IsGrid}
 use Rattle.zarrs_chunks.specs.seen.Grids.{grid_in, kind_in}
-use Rattle.zarrs_chunk_keys.specs.KeyKinds.{IsEncoding, IsEncodingFault}
+use Rattle.zarrs_chunk_keys.specs.KeyKinds.{IsEncoding}
 use Rattle.chunkwhere.specs.Document.{Document, document_of}
 use Rattle.chunkwhere.specs.Output.{AreLines, IsKeyLine}
 use Rattle.zarrs_chunk_keys.specs.ChunkKey.{Encoding, IsKey}
 use Rattle.zarrs_chunk_keys.specs.seen.Encodings.{encoding_in}
-use Rattle.chunkwhere.specs.RunFault.{OrMemory, fault_of}
+use Rattle.programs.proofs.Refusals.{follows}
 use Rattle.chunkwhere.specs.declared.run_fault.RunFault.{RunFault}
 use Rattle.chunkwhere.specs.declared.run_fault.RunFault.TheVariants.{Encoding as EncodingFault, Index}
 use Rattle.zarrs_chunk_base.proofs.MappedErrors.{value_is_kept}
 use Rattle.chunkwhere.proofs.answer.answer.Goals as goal
 
--- the fault is that of the document's encoding
-abbrev BlamesEncoding : Document → RunFault → Type 0
-BlamesEncoding document (EncodingFault fault) = IsEncodingFault document.chunk_key_encoding fault
-BlamesEncoding _ _ = ⊥
-
--- it is the first where the document has a grid
+-- the encoding's fault is the first where the document has a grid
 first_fault : (document : Document) (grid : Grid) (fault : RunFault) → IsGrid document.chunk_grid document.shape grid
-    → BlamesEncoding document fault → IsAnswerFault document fault
+    → IsKeyFault document.chunk_key_encoding fault → IsAnswerFault document fault
 first_fault document grid (EncodingFault fault) is blames = ((grid, is), blames)
 first_fault document grid _ is blames = absurd blames
 
@@ -31,8 +26,9 @@ returns-in_err-encoding c =
     let p = err_from_is_err_and c.from_residual-in_err-encoding.result c.from_residual-in_err-encoding.ensures.1 in
     let document = document_of c.args.document in
     let made = rw c.deref.ensures.value at (value_is_kept _ _ _ _ _ _ c.from_metadata-grid.ensures.made c.map_err.ensures.cases c.map_err.ensures.variant c.in_ok-grid.was) in
-    let blames : OrMemory (BlamesEncoding document) (fault_of c.in_err-encoding.field-0.0) = grind arith in
-    rw (p.1, p.2) (⊎_elim inl (λ blames. inr (first_fault document (grid_in c.in_ok-grid.grid) _ (kind_in c.in_ok-grid.grid, made) blames)) blames)
+    rw (p.1, p.2)
+    (follows _ (IsKeyFault document.chunk_key_encoding) (IsAnswerFault document)
+    (λ fault. first_fault document (grid_in c.in_ok-grid.grid) fault (kind_in c.in_ok-grid.grid, made)) c.in_err-encoding.ensures.refused)
 
 -- an index of a wrong length is the first fault where the document has a grid and an encoding
 index_fault : (document : Document) (grid : Grid) (encoding : Encoding) (fault : RunFault) → HasParts document grid encoding
@@ -52,9 +48,10 @@ returns-in_err-text c =
     let grid = grid_in c.in_ok-grid.grid in
     let encoding = encoding_in c.in_ok-encoding.encoding in
     let made = rw c.deref.ensures.value at (value_is_kept _ _ _ _ _ _ c.from_metadata-grid.ensures.made c.map_err.ensures.cases c.map_err.ensures.variant c.in_ok-grid.was) in
-    let also = value_is_kept _ _ _ _ _ _ c.from_metadata-encoding.ensures c.map_err-2.ensures.cases c.map_err-2.ensures.variant c.in_ok-encoding.was in
+    let also = c.in_ok-encoding.ensures.made in
     rw (p.1, p.2)
-    (⊎_elim inl (λ wrong. inr (index_fault document grid encoding _ (parts_of document grid encoding (kind_in c.in_ok-grid.grid, made) also) wrong)) c.in_err-text.ensures)
+    (follows _ (IsIndexFault grid.dimensions document.indices) (IsAnswerFault document)
+    (λ fault. index_fault document grid encoding fault (parts_of document grid encoding (kind_in c.in_ok-grid.grid, made) also)) c.in_err-text.ensures)
 
 pub returns : goal.returns
 returns c =
@@ -62,7 +59,7 @@ returns c =
     let grid = grid_in c.in_ok-grid.grid in
     let encoding = encoding_in c.in_ok-encoding.encoding in
     let made = rw c.deref.ensures.value at (value_is_kept _ _ _ _ _ _ c.from_metadata-grid.ensures.made c.map_err.ensures.cases c.map_err.ensures.variant c.in_ok-grid.was) in
-    let also = value_is_kept _ _ _ _ _ _ c.from_metadata-encoding.ensures c.map_err-2.ensures.cases c.map_err-2.ensures.variant c.in_ok-encoding.was in
+    let also = c.in_ok-encoding.ensures.made in
     let (lengths, index_lines) = c.in_ok-text.ensures in
     let (lines, key_lines, both) = c.in_ok-append_key_lines.ensures in
     record {

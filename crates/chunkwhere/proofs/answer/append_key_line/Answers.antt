@@ -1,4 +1,4 @@
-use Rattle.std.proofs.Common.{◌≡◌, ◌++◌, ◌∙◌, ap, append_assoc, codes, refl, string_bytes, subst}
+use Rattle.std.proofs.Common.{◌++◌, ◌∙◌, ap, append_assoc, codes, refl, string_bytes, subst}
 use Rattle.zarrs_chunk_keys.specs.Numeral.{AreJoined}
 use Rattle.chunkwhere.specs.Output.{read, unread}
 use Rattle.chunkwhere.proofs.answer.append_key_line.Goals as goal

@@ -1,6 +1,6 @@
 use Rattle.std.proofs.Common.{◌≡◌, ◌++◌, ◌∙◌, length, map, ap, append_assoc, refl, string_bytes, arith}
 use Rattle.chunkwhere.specs.Output.{IsKeyLine}
-use Rattle.chunkwhere.proofs.Lines.{lines_at_end, lines_at_start, lines_with_one, no_texts}
+use Rattle.chunkwhere.proofs.Lines.{lines_at_end, lines_with_one, no_texts}
 use Rattle.chunkwhere.proofs.answer.append_key_lines.Goals as goal
 
 pub loop-key-preserved : goal.loop-key-preserved

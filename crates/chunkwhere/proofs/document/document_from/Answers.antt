@@ -1,7 +1,9 @@
 use Rattle.std.proofs.Common.{◌≡◌, None, Some, is_some, map, option_map, string_bytes, refl, sym, ap, ◌∙◌, inl, inr}
 use Rattle.std.proofs.lemmas.Result.{err_from_is_err_and}
 use Rattle.serde_json.specs.View.{view}
-use Rattle.chunkwhere.specs.Document.{shape_in, indices_in, keys_in, lists_in}
+use Rattle.programs.proofs.Refusals.{follows}
+use Rattle.programs.specs.Document.{shape_in}
+use Rattle.chunkwhere.specs.Document.{indices_in, keys_in, lists_in, IsFormFault}
 use Rattle.zarrs_chunk_base.specs.Metadata.{extension_of}
 use Rattle.chunkwhere.proofs.DocumentMembers.{numbers, shape_is, has_members, encoding_fault}
 use Rattle.chunkwhere.proofs.document.document_from.Goals as goal
@@ -11,17 +13,28 @@ returns-in_err-chunk_key_encoding-2 c =
     let p = err_from_is_err_and c.from_residual-in_err-chunk_key_encoding-2.result c.from_residual-in_err-chunk_key_encoding-2.ensures.1 in
     let tree = view c.args.tree in
     let shape : shape_in tree ≡ Some c.in-Some.shape.items = shape_is tree _ c.in_ok-shape-2.field-0 c.in_ok-shape.ensures c.in_ok-shape-2.ensures ∙ ap (option_map numbers) c.in-Some.is in
-    rw (p.1, p.2) (encoding_fault tree (view c.in_ok-chunk_key_encoding.chunk_key_encoding.now) _ c.in_ok-chunk_key_encoding.ensures
+    rw (p.1, p.2)
+    (follows _ _ (IsFormFault tree)
+    (λ fault. encoding_fault tree (view c.in_ok-chunk_key_encoding.chunk_key_encoding.now) fault c.in_ok-chunk_key_encoding.ensures
     (has_members _ _ _ _ _ c.in_ok-shape.ensures c.in_ok-chunk_grid.ensures c.in_ok-chunk_key_encoding.ensures c.in_ok-required_member.ensures)
-    (ap is_some shape) (extension_of c.in_ok-chunk_grid-2.chunk_grid, (view c.in_ok-chunk_grid.chunk_grid.now, c.in_ok-chunk_grid.ensures, c.in_ok-chunk_grid-2.ensures))
+    (ap is_some shape) (extension_of c.in_ok-chunk_grid-2.chunk_grid, (view c.in_ok-chunk_grid.chunk_grid.now, c.in_ok-chunk_grid.ensures, c.in_ok-chunk_grid-2.ensures)))
     c.in_err-chunk_key_encoding-2.ensures)
+
+pub returns-in_default : goal.returns-in_default
+returns-in_default c =
+    let tree = view c.args.tree in
+    let no_shape : shape_in tree ≡ None =
+    shape_is tree _ c.in_ok-shape-2.field-0 c.in_ok-shape.ensures c.in_ok-shape-2.ensures ∙ ap (option_map numbers) c.in_default.is
+    in (
+      has_members _ _ _ _ _ c.in_ok-shape.ensures c.in_ok-chunk_grid.ensures c.in_ok-chunk_key_encoding.ensures c.in_ok-required_member.ensures,
+      inl (refl, no_shape),
+    )
 
 pub returns-in_default-2 : goal.returns-in_default-2
 returns-in_default-2 c =
     let tree = view c.args.tree in
     let shape : shape_in tree ≡ Some c.in-Some.shape.items = shape_is tree _ c.in_ok-shape-2.field-0 c.in_ok-shape.ensures c.in_ok-shape-2.ensures ∙ ap (option_map numbers) c.in-Some.is in
-    let no_indices : indices_in tree ≡ None = sym c.in_ok-indices.ensures ∙ ap (option_map (λ v. lists_in v.items)) c.in_default-2.is in
-    inr (
+    let no_indices : indices_in tree ≡ None = sym c.in_ok-indices.ensures ∙ ap (option_map (λ v. lists_in v.items)) c.in_default-2.is in (
       has_members _ _ _ _ _ c.in_ok-shape.ensures c.in_ok-chunk_grid.ensures c.in_ok-chunk_key_encoding.ensures c.in_ok-required_member.ensures,
       inr (inl (
         refl,
@@ -40,8 +53,7 @@ returns-in_default-keys c =
     let tree = view c.args.tree in
     let shape : shape_in tree ≡ Some c.in-Some.shape.items = shape_is tree _ c.in_ok-shape-2.field-0 c.in_ok-shape.ensures c.in_ok-shape-2.ensures ∙ ap (option_map numbers) c.in-Some.is in
     let indices : indices_in tree ≡ Some (lists_in c.in-Some-2.indices.items) = sym c.in_ok-indices.ensures ∙ ap (option_map (λ v. lists_in v.items)) c.in-Some-2.is in
-    let no_keys : keys_in tree ≡ None = sym c.in_ok-keys.ensures ∙ ap (option_map (λ v. map string_bytes v.items)) c.in_default-keys.is in
-    inr (
+    let no_keys : keys_in tree ≡ None = sym c.in_ok-keys.ensures ∙ ap (option_map (λ v. map string_bytes v.items)) c.in_default-keys.is in (
       has_members _ _ _ _ _ c.in_ok-shape.ensures c.in_ok-chunk_grid.ensures c.in_ok-chunk_key_encoding.ensures c.in_ok-required_member.ensures,
       inr (inr (
         refl,

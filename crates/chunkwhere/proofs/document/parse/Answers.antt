@@ -1,12 +1,17 @@
-use Rattle.std.proofs.Common.{inl, inr, ⊎_elim}
-use Rattle.std.proofs.lemmas.Result.{MatchResult-weaker}
+use Rattle.std.proofs.lemmas.Result.{err_from_is_err_and, MatchResult-weaker}
 use Rattle.serde_json.specs.View.{view}
-use Rattle.chunkwhere.specs.Document.{not_of_form}
+use Rattle.programs.proofs.Refusals.{follows}
+use Rattle.chunkwhere.specs.Document.{IsInputFault, not_json, not_of_form}
 use Rattle.chunkwhere.proofs.document.parse.Goals as goal
 
-pub returns-in-Ok : goal.returns-in-Ok
-returns-in-Ok c =
-    let tree = view c.in-Ok.tree in
+pub returns-in_err-tree : goal.returns-in_err-tree
+returns-in_err-tree c =
+    let p = err_from_is_err_and c.from_residual.result c.from_residual.ensures.1 in
+    rw (p.1, p.2) (follows _ _ (IsInputFault c.args.input.now) (λ fault is. not_json is) c.in_err-tree.ensures)
+
+pub returns : goal.returns
+returns c =
+    let tree = view c.in_ok-tree.tree in
     MatchResult-weaker c.document_from.result c.document_from.ensures
-    (λ document is. (tree, c.in-Ok.ensures.ok, is))
-    (λ fault. ⊎_elim inl (λ first. inr (not_of_form tree c.in-Ok.ensures.ok first)))
+    (λ document is. (tree, c.in_ok-tree.ensures, is))
+    (λ refusal. follows refusal _ (IsInputFault c.args.input.now) (λ fault first. not_of_form tree c.in_ok-tree.ensures first))

@@ -1,0 +1,71 @@
+//! What the documents of the programs have in common.
+ghost use Rattle.std.specs.Prelude.{◌≡◌, IfOk, MatchResult, Some, option_map};
+ghost use Rattle.serde_json.specs.Find.{get};
+ghost use Rattle.serde_json.specs.View.{view};
+ghost use Rattle.zarrs_chunk_base.specs.Json.{list_of, size_of};
+ghost use Rattle.zarrs_chunk_base.specs.Metadata.{extension_of, IsExtension};
+ghost use Rattle.zarrs_chunk_base.specs.Refusal.{IsRefusedAnd};
+ghost use Rattle.programs.specs.Document.{IsExtensionFault, IsMissingFault, IsTextFault, IsTreeOf};
+ghost use Rattle.programs.specs.OrMemory.{OrMemory};
+
+use crate::document_fault::DocumentFault;
+use serde_json::Value;
+use std::alloc::{AllocError, Global};
+use zarrs_chunk_base::{MetadataV3, Refusal, TreeForm};
+
+/// The tree of an input.
+///
+/// # Errors
+/// The input is no JSON; or out of memory.
+pub fn read_tree(alloc: Global, input: &[u8]) -> Result<Value, Refusal<DocumentFault>>
+    ensures { MatchResult result (λ tree. IsTreeOf input.now (view tree))
+        (OrMemory (IsTextFault input.now)) }
+{
+    match Value::from_slice(alloc, input) {
+        Ok(tree) => Ok(tree),
+        Err(error) if error.is_memory() => Err(Refusal::Memory(AllocError)),
+        Err(_) => Err(Refusal::Refused(DocumentFault::NotJson)),
+    }
+}
+
+/// A member that has to be there. A fault calls it by the name that is given.
+///
+/// # Errors
+/// It is missing.
+pub fn required_member<'t>(
+    tree: &'t Value,
+    field: &str,
+    name: &'static str,
+) -> Result<&'t Value, Refusal<DocumentFault>>
+    ensures { MatchResult result (λ value. get field.now (view tree.now) ≡ Some (view value.now))
+        (λ refusal. IsRefusedAnd refusal (IsMissingFault (view tree.now) field.now name.now)) }
+{
+    tree.get(field)
+        .ok_or(Refusal::Refused(DocumentFault::Missing(name)))
+}
+
+/// A member's value as an extension's metadata. A fault calls it by the name that is given.
+///
+/// # Errors
+/// The first fault of the tree; or out of memory.
+pub fn member_metadata(
+    alloc: Global,
+    tree: &Value,
+    name: &'static str,
+) -> Result<MetadataV3, Refusal<DocumentFault>>
+    ensures { MatchResult result (λ metadata. IsExtension (view tree.now) (extension_of metadata))
+        (OrMemory (IsExtensionFault (view tree.now) name.now)) }
+{
+    let metadata = MetadataV3::from_tree(alloc, tree);
+    metadata.map_err(|refusal| refusal.map(|error| DocumentFault::Metadata(name, error)))
+}
+
+/// The sizes that a tree is a list of; `None` where it is none.
+///
+/// # Errors
+/// Out of memory.
+pub fn read_sizes(alloc: Global, tree: &Value) -> Result<Option<Vec<u64>>, AllocError>
+    ensures { IfOk result (λ o. option_map (λ v. v.items) o ≡ list_of size_of (view tree.now)) }
+{
+    Vec::from_tree(alloc, tree)
+}
