@@ -43,14 +43,14 @@ pub(crate) fn write_plan<W: Write>(
         stored,
         task,
     } = document;
-    let (grid, encoding) = open_source(alloc, &stored, &shape)?;
+    let (grid, encoding) = open_source(alloc, stored, &shape)?;
     match task {
         Task::Read(subset) => {
             let subset = or_whole_array(alloc, subset, &grid)?;
             write_read(alloc, &grid, &encoding, &subset, writer)
         }
         Task::Rechunk(target, chunks) => {
-            let (target, target_encoding) = open_target(alloc, &target, &shape)?;
+            let (target, target_encoding) = open_target(alloc, target, &shape)?;
             let chunks = or_all_chunks(alloc, chunks, &target)?;
             write_rechunking(
                 alloc,
@@ -68,13 +68,13 @@ pub(crate) fn write_plan<W: Write>(
 /// The grid and the encoding of the document's array.
 fn open_source(
     alloc: Global,
-    stored: &Stored,
+    stored: Stored,
     shape: &[u64],
 ) -> Result<(ChunkGrid, ChunkKeyEncoding), Refusal<RunFault>>
-    ensures made { IfOk result (λ made. IsStored (stored_of stored.now) shape.now (grid_in made.0)
+    ensures made { IfOk result (λ made. IsStored (stored_of stored) shape.now (grid_in made.0)
         (encoding_in made.1)) }
     ensures sizes { IfOk result (λ made. array_sizes (grid_in made.0).dimensions ≡ shape.now) }
-    ensures refused { IfErr result (OrMemory (IsSourceFault (stored_of stored.now) shape.now)) }
+    ensures refused { IfErr result (OrMemory (IsSourceFault (stored_of stored) shape.now)) }
 {
     let made = open(alloc, stored, shape);
     made.map_err(|refusal| refusal.map(RunFault::Create))
@@ -83,28 +83,29 @@ fn open_source(
 /// The grid and the encoding of the target.
 fn open_target(
     alloc: Global,
-    stored: &Stored,
+    stored: Stored,
     shape: &[u64],
 ) -> Result<(ChunkGrid, ChunkKeyEncoding), Refusal<RunFault>>
-    ensures made { IfOk result (λ made. IsStored (stored_of stored.now) shape.now (grid_in made.0)
+    ensures made { IfOk result (λ made. IsStored (stored_of stored) shape.now (grid_in made.0)
         (encoding_in made.1)) }
     ensures sizes { IfOk result (λ made. array_sizes (grid_in made.0).dimensions ≡ shape.now) }
-    ensures refused { IfErr result (OrMemory (IsTargetFault (stored_of stored.now) shape.now)) }
+    ensures refused { IfErr result (OrMemory (IsTargetFault (stored_of stored) shape.now)) }
 {
     let made = open(alloc, stored, shape);
     made.map_err(|refusal| refusal.map(RunFault::CreateTarget))
 }
 
-/// The grid and the encoding by which an array of a shape is stored.
+/// The grid and the encoding by which an array of a shape is stored. Their metadata are dropped once both are made: a list of edges then stands in
+/// the grid alone.
 fn open(
     alloc: Global,
-    stored: &Stored,
+    stored: Stored,
     shape: &[u64],
 ) -> Result<(ChunkGrid, ChunkKeyEncoding), Refusal<PluginCreateError>>
-    ensures made { IfOk result (λ made. IsStored (stored_of stored.now) shape.now (grid_in made.0)
+    ensures made { IfOk result (λ made. IsStored (stored_of stored) shape.now (grid_in made.0)
         (encoding_in made.1)) }
     ensures sizes { IfOk result (λ made. array_sizes (grid_in made.0).dimensions ≡ shape.now) }
-    ensures refused { IfErr result (OrMemory (IsCreateFault (stored_of stored.now) shape.now)) }
+    ensures refused { IfErr result (OrMemory (IsCreateFault (stored_of stored) shape.now)) }
 {
     let grid = ChunkGrid::from_metadata(alloc, &stored.chunk_grid, shape)?;
     let encoding = ChunkKeyEncoding::from_metadata(alloc, &stored.chunk_key_encoding)?;

@@ -1,12 +1,13 @@
 -- What the parts of a document say of the whole.
-use Rattle.std.proofs.Common.{◌≡◌, ℕ, zero, suc, List, IsSome, is_some, Option, Some, option_map, option_and_then, Vec, Global, codes, sym, ap, ◌∙◌, inr, arith}
+use Rattle.std.proofs.Common.{◌≡◌, ◌≢◌, ℕ, zero, suc, List, IsSome, is_some, length, Option, Some, None, option_map, option_and_then, Vec, Global, codes, sym, ap, ◌∙◌, inl, inr, ◌⊎◌, true≢false, arith}
 use Rattle.serde_json.specs.Data.{Data}
 use Rattle.serde_json.specs.Find.{get}
-use Rattle.programs.specs.Document.{HasSomeExtension, IsExtensionFault, shape_in}
+use Rattle.programs.specs.Document.{HasExtension, HasExtensionFault, HasSomeExtension, IsExtensionFault, IsMissingFault, shape_in}
 use Rattle.programs.specs.declared.document_fault.DocumentFault.{DocumentFault}
-use Rattle.programs.specs.declared.document_fault.DocumentFault.TheVariants.{Metadata}
-use Rattle.chunkwhere.specs.Document.{HasMembers, IsFormFault}
+use Rattle.programs.specs.declared.document_fault.DocumentFault.TheVariants.{Metadata, Missing}
+use Rattle.chunkwhere.specs.Document.{HasMembers, IsFormFault, indices_in, keys_in, texts_of}
 use Rattle.zarrs_chunk_base.specs.Json.{list_of, size_of}
+use Rattle.zarrs_chunk_base.specs.Metadata.{Extension}
 
 -- ---- what was read of a member is what the document has there
 
@@ -30,8 +31,40 @@ has_members d s g k i shape grid keys indices name (suc (suc zero), within, at) 
 has_members d s g k i shape grid keys indices name (suc (suc (suc zero)), within, at) = found d _ name i indices at
 has_members d s g k i shape grid keys indices name (suc (suc (suc (suc n))), within, at) = absurd (omega arith)
 
--- a fault of the encoding's metadata comes first where the shape and the grid's metadata are of their forms
-pub encoding_fault : (d m : Data) (fault : DocumentFault) → get (codes "chunk_key_encoding") d ≡ Some m → HasMembers d → IsSome (shape_in d)
-    → HasSomeExtension d (codes "chunk_grid") → IsExtensionFault m (codes "chunk_key_encoding") fault → IsFormFault d fault
-encoding_fault d m (Metadata field fault) there members shape grid (name, is) = (members, shape, inr (name, grid, (m, there, is)))
-encoding_fault d m _ there members shape grid h = absurd h
+-- ---- what was taken out of a document leaves the other members
+
+-- the members of other names than this are those of d
+abbrev pub IsLeft : List ℕ → (d left : Data) → Type 0
+IsLeft name d left = (other : List ℕ) → other ≢ name → get other left ≡ get other d
+
+pub encoding_left : (d left : Data) → IsLeft (codes "chunk_grid") d left → get (codes "chunk_key_encoding") left ≡ get (codes "chunk_key_encoding") d
+encoding_left d left is_left = is_left (codes "chunk_key_encoding") (λ same. absurd (omega (arith, ap length same)))
+
+-- ---- the encoding, which is read where the grid's metadata was taken out
+
+-- it is that of the document
+pub of_document : (d left : Data) (e : Extension) → IsLeft (codes "chunk_grid") d left → HasExtension left (codes "chunk_key_encoding") e
+    → HasExtension d (codes "chunk_key_encoding") e
+of_document d left e is_left (m, there, is) = (m, sym (encoding_left d left is_left) ∙ there, is)
+
+-- a fault of its metadata comes first where the shape and the grid's metadata are of their forms
+pub encoding_fault : (d left : Data) (fault : DocumentFault) → IsLeft (codes "chunk_grid") d left → IsSome (get (codes "chunk_key_encoding") d) → HasMembers d
+    → IsSome (shape_in d) → HasSomeExtension d (codes "chunk_grid")
+    → (IsMissingFault left (codes "chunk_key_encoding") (codes "chunk_key_encoding") fault
+    ⊎ HasExtensionFault left (codes "chunk_key_encoding") (codes "chunk_key_encoding") fault) → IsFormFault d fault
+encoding_fault d left (Metadata field fault) is_left there members shape grid (inr (m, at, (name, is))) =
+    (members, shape, inr (name, grid, (m, sym (encoding_left d left is_left) ∙ at, is)))
+encoding_fault d left (Missing field) is_left there members shape grid (inl (name, none)) =
+    absurd (true≢false (sym there ∙ ap is_some (sym (encoding_left d left is_left) ∙ none)))
+encoding_fault d left _ is_left there members shape grid (inl h) = absurd h
+encoding_fault d left _ is_left there members shape grid (inr (m, at, h)) = absurd h
+
+-- the members that are read after the two that were taken out are those of the document
+module _ (d after left : Data) (first : IsLeft (codes "chunk_grid") d after) (second : IsLeft (codes "chunk_key_encoding") after left) where
+  pub keys_left : keys_in left ≡ keys_in d
+  keys_left = ap texts_of
+      (second (codes "keys") (λ same. absurd (omega (arith, ap length same))) ∙ first (codes "keys") (λ same. absurd (omega (arith, ap length same))))
+
+  pub indices_left : indices_in left ≡ indices_in d
+  indices_left = ap (option_and_then (list_of (list_of size_of)))
+      (second (codes "indices") (λ same. absurd (omega (arith, ap length same))) ∙ first (codes "indices") (λ same. absurd (omega (arith, ap length same))))

@@ -34,6 +34,11 @@ abbrev pub IsIndexFault : List Dimension → List (List ℕ) → RunFault → Ty
 IsIndexFault dimensions indices (Index position e) = IsFirstWrongLength dimensions indices position e
 IsIndexFault _ _ _ = ⊥
 
+-- the fault says why the metadata give no grid of the shape
+abbrev pub IsCreateFault : Extension → List ℕ → RunFault → Type 0
+IsCreateFault e shape (GridFault fault) = IsGridFault e shape fault
+IsCreateFault _ _ _ = ⊥
+
 -- the fault says why the metadata give no encoding
 abbrev pub IsKeyFault : Extension → RunFault → Type 0
 IsKeyFault e (EncodingFault fault) = IsEncodingFault e fault

@@ -1,12 +1,14 @@
 //! The text that answers a document.
 ghost use Rattle.std.specs.Prelude.{◌≡◌, ◌≢◌, ℕ, List, ◌++◌, codes, length, map, IfErr, IfOk, MatchOption, MatchResult, OnOk, string_bytes};
 ghost use Rattle.std.specs.List.{AllByRecursion};
-ghost use Rattle.chunkwhere.specs.Answer.{HasLengthOf, IsAnswer, IsAnswerFault, IsIndexFault, IsKeyFault};
+ghost use Rattle.chunkwhere.specs.Answer.{HasLengthOf, IsAnswer, IsAnswerFault, IsCreateFault, IsIndexFault, IsKeyFault};
 ghost use Rattle.chunkwhere.specs.Document.{document_of, lists_in};
 ghost use Rattle.zarrs_chunk_base.specs.Metadata.{extension_of};
 ghost use Rattle.zarrs_chunk_keys.specs.KeyKinds.{IsEncoding};
 ghost use Rattle.zarrs_chunk_keys.specs.Numeral.{IsNumerals};
 ghost use Rattle.zarrs_chunk_keys.specs.seen.Encodings.{encoding_in};
+ghost use Rattle.zarrs_chunks.specs.GridKinds.{IsGrid};
+ghost use Rattle.zarrs_chunks.specs.seen.Grids.{grid_in};
 ghost use Rattle.chunkwhere.specs.Output.{AreLines, IsKeyLine, IsKeyOf, IsLine};
 ghost use Rattle.zarrs_chunk_base.specs.Refusal.{IfRefused, TellsLengths};
 ghost use Rattle.programs.specs.OrMemory.{OrMemory};
@@ -26,18 +28,31 @@ pub(crate) fn answer(alloc: Global, document: Document) -> Result<String, Refusa
     ensures { MatchResult result (λ text. IsAnswer (document_of document) (string_bytes text))
         (OrMemory (IsAnswerFault (document_of document))) }
 {
-    let grid = ChunkGrid::from_metadata(alloc, &document.chunk_grid, &document.shape);
-    let grid = grid.map_err(|refusal| refusal.map(RunFault::Grid))?;
-    let encoding = encoding_from(alloc, &document.chunk_key_encoding)?;
-    let mut text = lines(alloc, &grid, &encoding, document.indices)?;
-    append_key_lines(
-        alloc,
-        &mut text,
-        &encoding,
-        grid.dimensionality(),
-        document.keys,
-    )?;
+    let Document {
+        shape,
+        chunk_grid,
+        chunk_key_encoding,
+        indices,
+        keys,
+    } = document;
+    let grid = grid_from(alloc, chunk_grid, &shape)?;
+    let encoding = encoding_from(alloc, &chunk_key_encoding)?;
+    let mut text = lines(alloc, &grid, &encoding, indices)?;
+    append_key_lines(alloc, &mut text, &encoding, grid.dimensionality(), keys)?;
     Ok(text)
+}
+
+/// The grid that metadata stand for, which are dropped once it is made: a list of edges then stands in the grid alone.
+fn grid_from(
+    alloc: Global,
+    metadata: MetadataV3,
+    shape: &[u64],
+) -> Result<ChunkGrid, Refusal<RunFault>>
+    ensures made { IfOk result (λ grid. IsGrid (extension_of metadata) shape.now (grid_in grid)) }
+    ensures refused { IfErr result (OrMemory (IsCreateFault (extension_of metadata) shape.now)) }
+{
+    let grid = ChunkGrid::from_metadata(alloc, &metadata, shape);
+    grid.map_err(|refusal| refusal.map(RunFault::Grid))
 }
 
 /// The encoding that metadata stand for.

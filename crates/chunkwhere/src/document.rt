@@ -6,7 +6,7 @@ ghost use Rattle.programs.specs.Document.{IsTreeOf};
 ghost use Rattle.programs.specs.OrMemory.{OrMemory};
 ghost use Rattle.chunkwhere.specs.Document.{document_of, indices_in, keys_in, lists_in, IsDocument, IsFormFault, IsInputFault};
 
-use programs::{DocumentFault, member_metadata, read_sizes, read_tree, required_member};
+use programs::{DocumentFault, read_sizes, read_tree, required_member, take_metadata};
 use serde_json::Value;
 use std::alloc::{AllocError, Global};
 use zarrs_chunk_base::{MetadataV3, Refusal, TreeForm, read_list};
@@ -35,7 +35,7 @@ pub(crate) fn parse(alloc: Global, input: &[u8]) -> Result<Document, Refusal<Doc
 }
 
 /// The document that a tree stands for, or the first fault.
-fn document_from(alloc: Global, tree: Value) -> Result<Document, Refusal<DocumentFault>>
+fn document_from(alloc: Global, mut tree: Value) -> Result<Document, Refusal<DocumentFault>>
     ensures { MatchResult result (λ document. IsDocument (view tree) (document_of document))
         (OrMemory (IsFormFault (view tree))) }
 {
@@ -43,14 +43,19 @@ fn document_from(alloc: Global, tree: Value) -> Result<Document, Refusal<Documen
         return Err(Refusal::Refused(DocumentFault::NotObject));
     }
     let shape = required_member(&tree, "shape", "shape")?;
-    let chunk_grid = required_member(&tree, "chunk_grid", "chunk_grid")?;
-    let chunk_key_encoding = required_member(&tree, "chunk_key_encoding", "chunk_key_encoding")?;
+    required_member(&tree, "chunk_grid", "chunk_grid")?;
+    required_member(&tree, "chunk_key_encoding", "chunk_key_encoding")?;
     required_member(&tree, "indices", "indices")?;
     let Some(shape) = read_sizes(alloc, shape)? else {
         return Err(Refusal::Refused(DocumentFault::WrongValue("shape")));
     };
-    let chunk_grid = member_metadata(alloc, chunk_grid, "chunk_grid")?;
-    let chunk_key_encoding = member_metadata(alloc, chunk_key_encoding, "chunk_key_encoding")?;
+    let chunk_grid = take_metadata(alloc, &mut tree, "chunk_grid", "chunk_grid")?;
+    let chunk_key_encoding = take_metadata(
+        alloc,
+        &mut tree,
+        "chunk_key_encoding",
+        "chunk_key_encoding",
+    )?;
     let keys = read_keys(alloc, &tree)?;
     let Some(indices) = take_indices(alloc, tree)? else {
         return Err(Refusal::Refused(DocumentFault::WrongValue("indices")));

@@ -1,17 +1,17 @@
 //! What the documents of the programs have in common.
-ghost use Rattle.std.specs.Prelude.{◌≡◌, IfOk, MatchResult, Some, option_map};
+ghost use Rattle.std.specs.Prelude.{◌≡◌, ◌≢◌, ◌⊎◌, ℕ, List, IfOk, MatchResult, Some, option_map};
 ghost use Rattle.serde_json.specs.Find.{get};
 ghost use Rattle.serde_json.specs.View.{view};
 ghost use Rattle.zarrs_chunk_base.specs.Json.{list_of, size_of};
 ghost use Rattle.zarrs_chunk_base.specs.Metadata.{extension_of, IsExtension};
 ghost use Rattle.zarrs_chunk_base.specs.Refusal.{IsRefusedAnd};
-ghost use Rattle.programs.specs.Document.{IsExtensionFault, IsMissingFault, IsTextFault, IsTreeOf};
+ghost use Rattle.programs.specs.Document.{HasExtension, HasExtensionFault, IsExtensionFault, IsMissingFault, IsTextFault, IsTreeOf};
 ghost use Rattle.programs.specs.OrMemory.{OrMemory};
 
 use crate::document_fault::DocumentFault;
 use serde_json::Value;
 use std::alloc::{AllocError, Global};
-use zarrs_chunk_base::{MetadataV3, Refusal, TreeForm};
+use zarrs_chunk_base::{MetadataV3, Refusal, TreeForm, take_member};
 
 /// The tree of an input.
 ///
@@ -57,6 +57,45 @@ pub fn member_metadata(
         (OrMemory (IsExtensionFault (view tree.now) name.now)) }
 {
     let metadata = MetadataV3::from_tree(alloc, tree);
+    metadata.map_err(|refusal| refusal.map(|error| DocumentFault::Metadata(name, error)))
+}
+
+/// A member's value as an extension's metadata, as by [`member_metadata`]. It is taken out of the tree, so that a long list of edges isn't copied.
+///
+/// # Errors
+/// It is missing; or the first fault of its tree; or out of memory.
+pub fn take_metadata(
+    alloc: Global,
+    tree: &mut Value,
+    field: &str,
+    name: &'static str,
+) -> Result<MetadataV3, Refusal<DocumentFault>>
+    ensures metadata { MatchResult result
+        (λ metadata. HasExtension (view tree.old) field.now (extension_of metadata))
+        (OrMemory (λ fault. IsMissingFault (view tree.old) field.now name.now fault
+        ⊎ HasExtensionFault (view tree.old) field.now name.now fault)) }
+    ensures others { (other : List ℕ) → other ≢ field.now
+        → get other (view tree.new) ≡ get other (view tree.old) }
+{
+    let Some(member) = take_member(tree, field) else {
+        return Err(Refusal::Refused(DocumentFault::Missing(name)));
+    };
+    metadata_of(alloc, member, name)
+}
+
+/// A tree as an extension's metadata, which is moved out of it. A fault calls it by the name that is given.
+///
+/// # Errors
+/// The first fault of the tree; or out of memory.
+fn metadata_of(
+    alloc: Global,
+    tree: Value,
+    name: &'static str,
+) -> Result<MetadataV3, Refusal<DocumentFault>>
+    ensures { MatchResult result (λ metadata. IsExtension (view tree) (extension_of metadata))
+        (OrMemory (IsExtensionFault (view tree) name.now)) }
+{
+    let metadata = MetadataV3::from_value(alloc, tree);
     metadata.map_err(|refusal| refusal.map(|error| DocumentFault::Metadata(name, error)))
 }
 

@@ -7,4 +7,5 @@ pub mod KindsByName
 pub mod KnownNames
 pub mod MappedErrors
 pub mod Refusals
+pub mod TakenMembers
 pub mod Trees

@@ -1,2 +1,3 @@
+pub mod ConfigurationIn
 pub mod Fitting
 pub mod Members

@@ -2,7 +2,7 @@
 pub(crate) mod configuration_form;
 pub(crate) mod default_chunk_key_encoding_configuration;
 pub(crate) mod default_suffix_chunk_key_encoding_configuration;
-mod members;
+pub(crate) mod members;
 pub(crate) mod metadata_v3;
 pub(crate) mod rectangular_chunk_grid_configuration;
 pub(crate) mod rectilinear_chunk_grid_configuration;

@@ -58,6 +58,7 @@ pub use incompatible_dimensionality_error::IncompatibleDimensionalityError;
 pub use json::configuration_form::{ConfigurationForm, MemberNames};
 pub use json::default_chunk_key_encoding_configuration::DefaultChunkKeyEncodingConfiguration;
 pub use json::default_suffix_chunk_key_encoding_configuration::DefaultSuffixChunkKeyEncodingConfiguration;
+pub use json::members::take_member;
 pub use json::metadata_v3::MetadataV3;
 pub use json::rectangular_chunk_grid_configuration::RectangularChunkGridConfiguration;
 pub use json::rectilinear_chunk_grid_configuration::RectilinearChunkGridConfiguration;

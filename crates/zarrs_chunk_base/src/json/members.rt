@@ -1,8 +1,8 @@
 //! The members of a configuration: those that aren't known, those that are missing, and their values.
-ghost use Rattle.std.specs.Prelude.{◌≡◌, None, IsSome, bytes_eq, find, not, MatchOption, MatchResult, Some, map, option_map, string_bytes, string_cmp};
+ghost use Rattle.std.specs.Prelude.{◌≡◌, ◌≢◌, ℕ, List, None, IsSome, bytes_eq, find, not, MatchOption, MatchResult, Some, map, option_map, string_bytes, string_cmp};
 ghost use Rattle.std.specs.List.{AllByRecursion, list_any};
 ghost use Rattle.std.specs.BTreeMap.{keys, IsOrdered};
-ghost use Rattle.serde_json.specs.Find.{get_member};
+ghost use Rattle.serde_json.specs.Find.{get, get_member};
 ghost use Rattle.zarrs_chunk_base.specs.Configuration.{HasNoUnknown, IsUnknownFault, value_of};
 ghost use Rattle.zarrs_chunk_base.specs.lemmas.Members.{IsFirstMissing, IsValueFault};
 ghost use Rattle.zarrs_chunk_base.specs.Refusal.{IfRefused};
@@ -19,6 +19,15 @@ fn member<'m>(members: &'m Configuration, name: &str) -> Option<&'m Value>
         ≡ get_member name.now (members_view members.now.entries) }
 {
     members.get(name)
+}
+
+/// Takes the member of a name out of an object; `None` where there is none. The other members stay, as does a tree that is no object.
+pub fn take_member(tree: &mut Value, name: &str) -> Option<Value>
+    ensures taken { option_map view result ≡ get name.now (view tree.old) }
+    ensures others { (other : List ℕ) → other ≢ name.now
+        → get other (view tree.new) ≡ get other (view tree.old) }
+{
+    tree.as_object_mut()?.remove(name)
 }
 
 /// Refuses the first member, by name, that isn't known. `expected` names those that are.

@@ -2,9 +2,11 @@
 ghost use Rattle.std.specs.Prelude.{◌≡◌, Bool, IfOk, MatchResult, Option, codes, option_map};
 ghost use Rattle.serde_json.specs.Find.{get, as_bool, as_object};
 ghost use Rattle.serde_json.specs.View.{view, members_view};
-ghost use Rattle.zarrs_chunk_base.specs.Metadata.{IsMisformed, IsOptional};
+ghost use Rattle.zarrs_chunk_base.specs.Metadata.{IsExtension, IsMetadataFault, IsMisformed, IsOptional};
 ghost use Rattle.zarrs_chunk_base.specs.Refusal.{IfRefused};
+ghost use Rattle.zarrs_chunk_base.specs.lemmas.ConfigurationIn.{configuration_in};
 
+use crate::json::members::take_member;
 use crate::{Configuration, MetadataError, Refusal};
 use serde_json::{Map, Value};
 use std::alloc::{AllocError, Global};
@@ -50,26 +52,25 @@ impl MetadataV3 {
         ensures { MatchResult result (λ m. IsExtension (view tree.now) (extension_of m))
             (λ refusal. IfRefused refusal (IsMetadataFault (view tree.now))) }
     {
-        if let Some(name) = tree.as_str() {
-            return Ok(MetadataV3 {
-                name: String::from_str(alloc, name)?,
-                configuration: None,
-            });
-        }
-        if !tree.is_object() {
-            return Err(Refusal::Refused(MetadataError::NotAnExtension));
-        }
-        let Some(name) = tree.get("name") else {
-            return Err(Refusal::Refused(MetadataError::NameMissing));
-        };
-        let Some(name) = name.as_str() else {
-            return Err(Refusal::Refused(MetadataError::NameNotText));
-        };
-        let configuration = configuration_of(tree)?;
-        check_must_understand(tree)?;
+        let name = String::from_str(alloc, checked_name(tree)?)?;
         Ok(MetadataV3 {
-            name: String::from_str(alloc, name)?,
-            configuration,
+            name,
+            configuration: copy_of_configuration(tree)?,
+        })
+    }
+
+    /// The metadata that a tree stands for, as by [`MetadataV3::from_tree`]. The configuration is moved out of the tree and not copied.
+    ///
+    /// # Errors
+    /// The first fault of the tree; or out of memory.
+    pub fn from_value(alloc: Global, tree: Value) -> Result<MetadataV3, Refusal<MetadataError>>
+        ensures { MatchResult result (λ m. IsExtension (view tree) (extension_of m))
+            (λ refusal. IfRefused refusal (IsMetadataFault (view tree))) }
+    {
+        let name = String::from_str(alloc, checked_name(&tree)?)?;
+        Ok(MetadataV3 {
+            name,
+            configuration: take_configuration(tree),
         })
     }
 
@@ -134,20 +135,65 @@ fn copy_of(configuration: &Configuration) -> Result<Configuration, AllocError>
     Ok(copy)
 }
 
-/// A copy of the member `configuration`, where there is one.
-fn configuration_of(tree: &Value) -> Result<Option<Configuration>, Refusal<MetadataError>>
+/// The name in a tree that stands for metadata.
+fn checked_name(tree: &Value) -> Result<&str, Refusal<MetadataError>>
+    ensures { MatchResult result (λ name. IsExtension (view tree.now)
+        (record { name = name.now; configuration = configuration_in (view tree.now) }))
+        (λ refusal. IfRefused refusal (IsMetadataFault (view tree.now))) }
+{
+    if let Some(name) = tree.as_str() {
+        return Ok(name);
+    }
+    if !tree.is_object() {
+        return Err(Refusal::Refused(MetadataError::NotAnExtension));
+    }
+    let Some(name) = tree.get("name") else {
+        return Err(Refusal::Refused(MetadataError::NameMissing));
+    };
+    let Some(name) = name.as_str() else {
+        return Err(Refusal::Refused(MetadataError::NameNotText));
+    };
+    check_configuration(tree)?;
+    check_must_understand(tree)?;
+    Ok(name)
+}
+
+/// A copy of the member `configuration`, where there is one that is an object.
+fn copy_of_configuration(tree: &Value) -> Result<Option<Configuration>, AllocError>
+    ensures { IfOk result (λ c. option_map (λ c. members_view c.entries) c
+        ≡ configuration_in (view tree.now)) }
+{
+    match tree.get("configuration").and_then(Value::as_object) {
+        Some(members) => Ok(Some(copy_of(members)?)),
+        None => Ok(None),
+    }
+}
+
+/// The member `configuration` of a tree, where there is one that is an object.
+fn take_configuration(mut tree: Value) -> Option<Configuration>
+    ensures { option_map (λ c. members_view c.entries) result ≡ configuration_in (view tree) }
+{
+    match take_member(&mut tree, "configuration") {
+        Some(Value::Object(configuration)) => Some(configuration),
+        _ => None,
+    }
+}
+
+/// Refuses a member `configuration` that is no object.
+fn check_configuration(tree: &Value) -> Result<(), Refusal<MetadataError>>
     ensures { MatchResult result
-        (λ c. IsOptional as_object (get (codes "configuration") (view tree.now)) (option_map
-        (λ c. members_view c.entries) c))
+        (λ _. IsOptional as_object (get (codes "configuration") (view tree.now))
+        (configuration_in (view tree.now)))
         (λ refusal. IfRefused refusal (λ error. (error ≡ MetadataError.ConfigurationNotObject)
         × IsMisformed as_object (get (codes "configuration") (view tree.now)))) }
 {
-    match tree.get("configuration") {
-        None => Ok(None),
-        Some(configuration) => match configuration.as_object() {
-            Some(members) => Ok(Some(copy_of(members)?)),
-            None => Err(Refusal::Refused(MetadataError::ConfigurationNotObject)),
-        },
+    let Some(configuration) = tree.get("configuration") else {
+        return Ok(());
+    };
+    if configuration.is_object() {
+        Ok(())
+    } else {
+        Err(Refusal::Refused(MetadataError::ConfigurationNotObject))
     }
 }
 

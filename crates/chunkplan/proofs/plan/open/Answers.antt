@@ -9,14 +9,14 @@ pub returns-in_err-grid-clause-refused : goal.returns-in_err-grid-clause-refused
 returns-in_err-grid-clause-refused c =
     let p = err_from_is_err_and c.from_residual.result c.from_residual.ensures.1 in
     rw (p.1, p.2)
-    (follows _ _ (IsCreateFault (stored_of c.args.stored.now) c.args.shape.now) (λ error is. no_grid is) c.in_err-grid.ensures.made)
+    (follows _ _ (IsCreateFault (stored_of c.args.stored) c.args.shape.now) (λ error is. no_grid is) c.in_err-grid.ensures.made)
 
 pub returns-in_err-encoding-clause-refused : goal.returns-in_err-encoding-clause-refused
 returns-in_err-encoding-clause-refused c =
     let p = err_from_is_err_and c.from_residual-in_err-encoding.result c.from_residual-in_err-encoding.ensures.1 in
     let grid = c.in_ok-grid.grid in
     rw (p.1, p.2)
-    (follows _ _ (IsCreateFault (stored_of c.args.stored.now) c.args.shape.now)
+    (follows _ _ (IsCreateFault (stored_of c.args.stored) c.args.shape.now)
     (λ error is. no_encoding (grid_in grid) (kind_in grid, c.in_ok-grid.ensures.made) is) c.in_err-encoding.ensures)
 
 pub returns-clause-made : goal.returns-clause-made

@@ -3,7 +3,7 @@ use Rattle.std.proofs.lemmas.Result.{err_from_is_err_and}
 use Rattle.chunkwhere.specs.Answer.{HasParts, IsAnswerFault, IsIndexFault, IsKeyFault}
 use Rattle.zarrs_chunk_base.specs.Grid.{Grid}
 use Rattle.zarrs_chunks.specs.GridKinds.{IsGrid}
-use Rattle.zarrs_chunks.specs.seen.Grids.{grid_in, kind_in}
+use Rattle.zarrs_chunks.specs.seen.Grids.{grid_in}
 use Rattle.zarrs_chunk_keys.specs.KeyKinds.{IsEncoding}
 use Rattle.chunkwhere.specs.Document.{Document, document_of}
 use Rattle.chunkwhere.specs.Output.{AreLines, IsKeyLine}
@@ -12,7 +12,6 @@ use Rattle.zarrs_chunk_keys.specs.seen.Encodings.{encoding_in}
 use Rattle.programs.proofs.Refusals.{follows}
 use Rattle.chunkwhere.specs.declared.run_fault.RunFault.{RunFault}
 use Rattle.chunkwhere.specs.declared.run_fault.RunFault.TheVariants.{Encoding as EncodingFault, Index}
-use Rattle.zarrs_chunk_base.proofs.MappedErrors.{value_is_kept}
 use Rattle.chunkwhere.proofs.answer.answer.Goals as goal
 
 -- the encoding's fault is the first where the document has a grid
@@ -25,10 +24,10 @@ pub returns-in_err-encoding : goal.returns-in_err-encoding
 returns-in_err-encoding c =
     let p = err_from_is_err_and c.from_residual-in_err-encoding.result c.from_residual-in_err-encoding.ensures.1 in
     let document = document_of c.args.document in
-    let made = rw c.deref.ensures.value at (value_is_kept _ _ _ _ _ _ c.from_metadata-grid.ensures.made c.map_err.ensures.cases c.map_err.ensures.variant c.in_ok-grid.was) in
+    let made = rw c.deref.ensures.value at c.in_ok-grid.ensures.made in
     rw (p.1, p.2)
     (follows _ (IsKeyFault document.chunk_key_encoding) (IsAnswerFault document)
-    (λ fault. first_fault document (grid_in c.in_ok-grid.grid) fault (kind_in c.in_ok-grid.grid, made)) c.in_err-encoding.ensures.refused)
+    (λ fault. first_fault document (grid_in c.in_ok-grid.grid) fault made) c.in_err-encoding.ensures.refused)
 
 -- an index of a wrong length is the first fault where the document has a grid and an encoding
 index_fault : (document : Document) (grid : Grid) (encoding : Encoding) (fault : RunFault) → HasParts document grid encoding
@@ -47,25 +46,25 @@ returns-in_err-text c =
     let document = document_of c.args.document in
     let grid = grid_in c.in_ok-grid.grid in
     let encoding = encoding_in c.in_ok-encoding.encoding in
-    let made = rw c.deref.ensures.value at (value_is_kept _ _ _ _ _ _ c.from_metadata-grid.ensures.made c.map_err.ensures.cases c.map_err.ensures.variant c.in_ok-grid.was) in
+    let made = rw c.deref.ensures.value at c.in_ok-grid.ensures.made in
     let also = c.in_ok-encoding.ensures.made in
     rw (p.1, p.2)
     (follows _ (IsIndexFault grid.dimensions document.indices) (IsAnswerFault document)
-    (λ fault. index_fault document grid encoding fault (parts_of document grid encoding (kind_in c.in_ok-grid.grid, made) also)) c.in_err-text.ensures)
+    (λ fault. index_fault document grid encoding fault (parts_of document grid encoding made also)) c.in_err-text.ensures)
 
 pub returns : goal.returns
 returns c =
     let document = document_of c.args.document in
     let grid = grid_in c.in_ok-grid.grid in
     let encoding = encoding_in c.in_ok-encoding.encoding in
-    let made = rw c.deref.ensures.value at (value_is_kept _ _ _ _ _ _ c.from_metadata-grid.ensures.made c.map_err.ensures.cases c.map_err.ensures.variant c.in_ok-grid.was) in
+    let made = rw c.deref.ensures.value at c.in_ok-grid.ensures.made in
     let also = c.in_ok-encoding.ensures.made in
     let (lengths, index_lines) = c.in_ok-text.ensures in
     let (lines, key_lines, both) = c.in_ok-append_key_lines.ensures in
     record {
       grid = grid;
       encoding = encoding;
-      parts = parts_of document grid encoding (kind_in c.in_ok-grid.grid, made) also;
+      parts = parts_of document grid encoding made also;
       lengths = lengths;
       output = record {
         index_lines = string_bytes c.in_ok-text.text;

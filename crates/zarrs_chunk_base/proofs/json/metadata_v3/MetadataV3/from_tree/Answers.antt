@@ -1,8 +1,4 @@
-use Rattle.std.proofs.Common.{rules}
-use Rattle.zarrs_chunk_base.specs.Metadata.{object}
 use Rattle.zarrs_chunk_base.proofs.json.metadata_v3.MetadataV3.from_tree.Goals as goal
 
 pub returns : goal.returns
-returns c =
-    let must_understand = c.in_ok-check_must_understand.ensures in
-    object must_understand.0 (search rules) c.in_ok-configuration.ensures must_understand.1
+returns c = rw (c.in_ok-name.ensures.ok, c.in_ok-copy_of_configuration.ensures) c.in_ok-checked_name.ensures
