@@ -164,14 +164,16 @@ fn texts_are_read_and_written(rt: HostRuntime) -> Result<(), Fail> {
     Ok(())
 }
 
-/// The metadata that a text stands for is written as the other text; or that says why it is none.
+/// The metadata that a text stands for is written as the other text; or that says why it is none. The same where they are moved out of the tree.
 fn check_metadata(rt: &(impl Abort + AllocGlobal), text: &str, outcome: &str) -> Result<(), Fail> {
     let alloc = rt.alloc();
     let tree = Value::from_slice(alloc, text.as_bytes())?;
-    let written = match MetadataV3::from_tree(alloc, &tree) {
+    let copied = MetadataV3::from_tree(alloc, &tree);
+    let written = match MetadataV3::from_value(alloc, tree) {
         Ok(metadata) => {
             let copy = metadata.clone()?;
             assert!(rt; copy == metadata, "{text}");
+            assert!(rt; copied? == metadata, "{text}");
             copy.to_tree(alloc)?.to_string(alloc)?
         }
         Err(refusal) => refusal.to_string(alloc)?,
