@@ -1,5 +1,5 @@
 //! What the documents of the programs have in common.
-ghost use Rattle.std.specs.Prelude.{◌≡◌, ◌≢◌, ◌⊎◌, ℕ, List, IfOk, MatchResult, Some, option_map};
+ghost use Rattle.std.specs.Prelude.{◌≡◌, ◌≢◌, ◌⊎◌, ℕ, List, IfOk, MatchResult, None, Some, option_map};
 ghost use Rattle.serde_json.specs.Find.{get};
 ghost use Rattle.serde_json.specs.View.{view};
 ghost use Rattle.zarrs_chunk_base.specs.Json.{list_of, size_of};
@@ -74,6 +74,7 @@ pub fn take_metadata(
         (λ metadata. HasExtension (view tree.old) field.now (extension_of metadata))
         (OrMemory (λ fault. IsMissingFault (view tree.old) field.now name.now fault
         ⊎ HasExtensionFault (view tree.old) field.now name.now fault)) }
+    ensures gone { get field.now (view tree.new) ≡ None }
     ensures others { (other : List ℕ) → other ≢ field.now
         → get other (view tree.new) ≡ get other (view tree.old) }
 {

@@ -21,9 +21,10 @@ fn member<'m>(members: &'m Configuration, name: &str) -> Option<&'m Value>
     members.get(name)
 }
 
-/// Takes the member of a name out of an object; `None` where there is none. The other members stay, as does a tree that is no object.
+/// Takes the member of a name out of an object; `None` where there is none, or the tree is no object. The other members stay.
 pub fn take_member(tree: &mut Value, name: &str) -> Option<Value>
     ensures taken { option_map view result ≡ get name.now (view tree.old) }
+    ensures gone { get name.now (view tree.new) ≡ None }
     ensures others { (other : List ℕ) → other ≢ name.now
         → get other (view tree.new) ≡ get other (view tree.old) }
 {

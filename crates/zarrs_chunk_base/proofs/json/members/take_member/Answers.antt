@@ -11,6 +11,11 @@ returns-clause-taken c =
     ap (option_map view) c.remove.ensures.value ∙ view-lookup name members
     ∙ sym (in_members (view c.args.tree.now) (members_view members) name c.in_ok-as_object_mut.ensures.value)
 
+pub returns-clause-gone : goal.returns-clause-gone
+returns-clause-gone c =
+    rw (view-Object c.remove.new.self)
+    (sym (view-lookup c.args.name.now c.remove.new.self.entries) ∙ ap (option_map view) c.remove.ensures.updates.1)
+
 pub returns-clause-others : goal.returns-clause-others
 returns-clause-others c = λ other differs.
     let members = c.in_ok-as_object_mut.field-0.now.entries in
