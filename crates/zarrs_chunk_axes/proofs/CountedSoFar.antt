@@ -1,19 +1,10 @@
 -- The count of comparisons in the dimensions so far, and what the rests can add.
-use Rattle.std.proofs.Common.{◌≡◌, ℕ, ◌+◌, ◌≤◌, List, [], ◌∷◌, Option, MatchOption, length, min, arith}
+use Rattle.std.proofs.Common.{◌≡◌, ℕ, ◌+◌, ◌≤◌, List, [], ◌∷◌, length, min, arith}
 use Rattle.std.proofs.lemmas.List.Sums.{sum_by-cons}
 use Rattle.std.specs.List.{AllZip, sum}
-use Rattle.zarrs_chunk_base.specs.Dimension.{Holds}
 use Rattle.zarrs_chunk_base.specs.DimensionEdges.{DimensionEdges, equal, listed}
 use Rattle.zarrs_chunk_base.specs.Greatest.{greatest}
 use Rattle.zarrs_chunk_axes.specs.Counted.{AreCounted, HasOneForEach, IsSearchBound, listed_dimensions}
-use Rattle.zarrs_chunk_axes.specs.declared.equal_or.EqualOr.{EqualOr}
-use Rattle.zarrs_chunk_axes.specs.declared.runs_axis.RunsAxis.{RunsAxis}
-use Rattle.zarrs_chunk_axes.specs.seen.EqualOr.{equal_or}
-use Rattle.zarrs_chunk_axes.specs.seen.RunsAxis.{runs_dimension}
-
--- what a search in one dimension answers
-abbrev pub Finds : EqualOr RunsAxis → ℕ → Option ℕ → Type 0
-Finds axis index answer = MatchOption answer ((c : ℕ) → ¬ Holds (equal_or runs_dimension axis) c index) (λ c. Holds (equal_or runs_dimension axis) c index)
 
 -- the count so far, and what the rests can add
 pub record CountedSoFar (edges left : List DimensionEdges) (before now : ℕ) : Type 0 where

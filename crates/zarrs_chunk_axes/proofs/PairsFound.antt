@@ -1,5 +1,5 @@
 -- What look-ups that give two numbers have found so far, and what the two lists of all that they found are.
-use Rattle.std.proofs.Common.{◌≡◌, ℕ, ◌+◌, List, [], ◌∷◌, ◌++◌, Option, Some, length, map, refl}
+use Rattle.std.proofs.Common.{◌≡◌, ℕ, ◌+◌, List, [], ◌∷◌, ◌++◌, length, map, refl}
 use Rattle.std.proofs.lemmas.List.{map-append}
 use Rattle.zarrs_chunk_base.specs.ArraySubset.{ends}
 use Rattle.zarrs_chunk_base.specs.Dimension.{Dimension, Holds, InBox, InEach, IsOrigin, IsPlace, IsShape}
@@ -15,28 +15,29 @@ first_of pair = pair.0
 abbrev pub second_of : ℕ × ℕ → ℕ
 second_of pair = pair.1
 
-module _ {A : Type 0} (gives : A → ℕ → Option (ℕ × ℕ) → Type 0) where
+module _ (finds : Dimension → ℕ → ℕ × ℕ → Type 0) (misses : Dimension → ℕ → Type 0) where
   -- the two lists hold what was found so far
-  pub record PairsSoFar (axes : List A) (numbers : List ℕ) (axes_left : List A) (numbers_left firsts seconds : List ℕ) : Type 0 where
+  pub record PairsSoFar (ds : List Dimension) (numbers : List ℕ) (ds_left : List Dimension) (numbers_left firsts seconds : List ℕ) : Type 0 where
     pub pairs : List (ℕ × ℕ)
-    pub so_far : EachSoFar gives axes numbers axes_left numbers_left pairs
+    pub so_far : EachSoFar finds misses ds numbers ds_left numbers_left pairs
     pub firsts_are : firsts ≡ map first_of pairs
     pub seconds_are : seconds ≡ map second_of pairs
 
-  pub none_yet : (axes : List A) (numbers : List ℕ) → length axes ≡ length numbers → PairsSoFar axes numbers axes numbers [] []
-  none_yet axes numbers lengths = record {
+  pub none_yet : (ds : List Dimension) (numbers : List ℕ) → length ds ≡ length numbers → PairsSoFar ds numbers ds numbers [] []
+  none_yet ds numbers lengths = record {
     pairs = [];
     so_far = record { lengths = lengths; all = λ more h. h; none = λ h. h };
     firsts_are = refl;
     seconds_are = refl;
   }
 
-  pub one_more : (axes : List A) (numbers : List ℕ) (a : A) (n first second : ℕ) (axes_left : List A) (numbers_left firsts seconds : List ℕ)
-      → PairsSoFar axes numbers (a ∷ axes_left) (n ∷ numbers_left) firsts seconds → gives a n (Some (first, second))
-      → PairsSoFar axes numbers axes_left numbers_left (firsts ++ first ∷ []) (seconds ++ second ∷ [])
-  one_more axes numbers a n first second axes_left numbers_left firsts seconds before given = record {
+  pub one_more : (ds : List Dimension) (numbers : List ℕ) (d : Dimension) (n first second : ℕ) (ds_left : List Dimension)
+      (numbers_left firsts seconds : List ℕ)
+      → PairsSoFar ds numbers (d ∷ ds_left) (n ∷ numbers_left) firsts seconds → finds d n (first, second)
+      → PairsSoFar ds numbers ds_left numbers_left (firsts ++ first ∷ []) (seconds ++ second ∷ [])
+  one_more ds numbers d n first second ds_left numbers_left firsts seconds before is = record {
     pairs = before.pairs ++ (first, second) ∷ [];
-    so_far = each.one_more gives axes numbers a n (first, second) axes_left numbers_left before.pairs before.so_far given;
+    so_far = each.one_more finds misses ds numbers d n (first, second) ds_left numbers_left before.pairs before.so_far is;
     firsts_are = rw (map-append first_of before.pairs ((first, second) ∷ []), before.firsts_are) refl;
     seconds_are = rw (map-append second_of before.pairs ((first, second) ∷ []), before.seconds_are) refl;
   }

@@ -1,5 +1,6 @@
 //! The dimensions of a grid, and the loops over them that all grids share.
 mod counted;
+mod look_up;
 
 ghost use Rattle.std.specs.Prelude.{◌≡◌, ◌↔◌, ◌≤◌, ℕ, [], IfErr, IfOk, IsOk, IsTrue, List, MatchOption, cond, length, map};
 ghost use Rattle.std.specs.List.{AllByRecursion, AllZip};
@@ -8,9 +9,10 @@ ghost use Rattle.zarrs_chunk_base.specs.Dimension.{InBox, InEach, IsPlace, array
 ghost use Rattle.zarrs_chunk_base.specs.Refusal.{Answers, HasMemory, IfRefused, IsRefusedAnd, TellsLengths};
 ghost use Rattle.zarrs_chunk_axes.specs.InBounds.{AreBelow, AreInBounds, AreIndicesInBounds, IsIndexInBounds};
 ghost use Rattle.zarrs_chunk_axes.specs.LookUp.{AnswersShape, AnswersOrigin, AnswersChunk, AnswersHome, AnswersPlace, AnswersRanges};
-ghost use Rattle.zarrs_chunk_axes.specs.lemmas.LookUpEach.{AreFound, ByReference, IsFound, IsNotFound};
+ghost use Rattle.zarrs_chunk_axes.specs.lemmas.LookUpEach.{AreFound, SomeMisses};
 
 use crate::axis::{Axis, AxisFrom};
+use look_up::{ChunkOf, EdgeOf, HomeOf, LookUp, OriginOf, PlaceOf, RangeOf};
 use std::alloc::{AllocError, Global};
 use std::num::NonZeroU64;
 use zarrs_chunk_base::{
@@ -100,7 +102,7 @@ impl<A: Axis + Drop> AxisGrid<A> {
     ) -> Result<Option<ChunkShape>, Refusal<IncompatibleDimensionalityError>>
         ensures { AnswersShape (dimensions_of self.now) chunk.now result }
     {
-        self.look_up(alloc, chunk, A::edge_of)
+        self.look_up::<EdgeOf>(alloc, chunk)
     }
 
     /// For each dimension where the chunk starts.
@@ -115,7 +117,7 @@ impl<A: Axis + Drop> AxisGrid<A> {
     ) -> Result<Option<ArrayIndices>, Refusal<IncompatibleDimensionalityError>>
         ensures { AnswersOrigin (dimensions_of self.now) chunk.now result }
     {
-        self.look_up(alloc, chunk, A::origin_of)
+        self.look_up::<OriginOf>(alloc, chunk)
     }
 
     /// For each dimension the chunk that the index lies in.
@@ -130,7 +132,7 @@ impl<A: Axis + Drop> AxisGrid<A> {
     ) -> Result<Option<ArrayIndices>, Refusal<IncompatibleDimensionalityError>>
         ensures { AnswersChunk (dimensions_of self.now) indices.now result }
     {
-        self.look_up(alloc, indices, A::chunk_of)
+        self.look_up::<ChunkOf>(alloc, indices)
     }
 
     /// For each dimension how far after the start of its chunk the index lies.
@@ -145,7 +147,7 @@ impl<A: Axis + Drop> AxisGrid<A> {
     ) -> Result<Option<ArrayIndices>, Refusal<IncompatibleDimensionalityError>>
         ensures { AnswersPlace (dimensions_of self.now) indices.now result }
     {
-        self.look_up(alloc, indices, A::place_of)
+        self.look_up::<PlaceOf>(alloc, indices)
     }
 
     /// Finds for each dimension the chunk that the index lies in, and how far after the chunk's start it lies, and leaves them in
@@ -171,7 +173,7 @@ impl<A: Axis + Drop> AxisGrid<A> {
         place.clear();
         chunk.reserve(self.axes.len())?;
         place.reserve(self.axes.len())?;
-        Ok(find_each(&self.axes, indices, chunk, place, A::home_of))
+        Ok(find_each::<A, HomeOf>(&self.axes, indices, chunk, place))
     }
 
     /// For each dimension where a chunk starts, and how many elements long it is.
@@ -190,7 +192,7 @@ impl<A: Axis + Drop> AxisGrid<A> {
         }
         let mut starts = Vec::with_capacity(alloc, self.axes.len())?;
         let mut sizes = Vec::with_capacity(alloc, self.axes.len())?;
-        if find_each(&self.axes, chunk, &mut starts, &mut sizes, A::range_of) {
+        if find_each::<A, RangeOf>(&self.axes, chunk, &mut starts, &mut sizes) {
             Ok(Some((starts, sizes)))
         } else {
             Ok(None)
@@ -248,21 +250,19 @@ impl<A: Axis + Drop> AxisGrid<A> {
 
     /// Looks each number up in its dimension; `None` where one of the look-ups finds nothing.
     #[inline(always)]
-    fn look_up<T: Drop, F: Fn(&A, u64) -> Option<T>>(
+    fn look_up<L: LookUp>(
         &self,
         alloc: Global,
         numbers: &[u64],
-        look_up: F,
-    ) -> Result<Option<Vec<T>>, Refusal<IncompatibleDimensionalityError>>
-        requires { F.IsAlwaysCallable look_up }
-        ensures { Answers (length numbers.now) (length self.now.axes.items)
-            (λ v. IsFound (ByReference (F.post look_up)) self.now.axes.items numbers.now v.items)
-            (IsNotFound (ByReference (F.post look_up)) self.now.axes.items numbers.now) result }
+    ) -> Result<Option<Vec<L::Found>>, Refusal<IncompatibleDimensionalityError>>
+        ensures { Answers (length numbers.now) (length (dimensions_of self.now))
+            (λ v. InEach L.finds (dimensions_of self.now) numbers.now v.items)
+            (SomeMisses L.misses (dimensions_of self.now) numbers.now) result }
     {
         if numbers.len() != self.axes.len() {
             return Err(self.other_length(numbers));
         }
-        Ok(look_up_each(alloc, &self.axes, numbers, look_up)?)
+        Ok(look_up_each::<A, L>(alloc, &self.axes, numbers)?)
     }
 }
 
@@ -285,22 +285,20 @@ fn are_accepted<A: AxisFrom<C>, C>(array_shape: &[u64], configurations: &[C]) ->
 /// Looks each number up in its dimension; `None` where one of the look-ups finds nothing.
 // With the calls above it is inlined into the grids' look-ups, so that no function is called for each axis.
 #[inline(always)]
-fn look_up_each<A: Axis, T: Drop, F: Fn(&A, u64) -> Option<T>>(
+fn look_up_each<A: Axis, L: LookUp>(
     alloc: Global,
     axes: &[A],
     numbers: &[u64],
-    look_up: F,
-) -> Result<Option<Vec<T>>, AllocError>
-    requires callable { F.IsAlwaysCallable look_up }
+) -> Result<Option<Vec<L::Found>>, AllocError>
     requires lengths { length axes.now ≡ length numbers.now }
     ensures found { IfOk result (λ o. MatchOption o
-        (IsNotFound (ByReference (F.post look_up)) axes.now numbers.now)
-        (λ v. IsFound (ByReference (F.post look_up)) axes.now numbers.now v.items)) }
+        (SomeMisses L.misses (map A.dimension axes.now) numbers.now)
+        (λ v. InEach L.finds (map A.dimension axes.now) numbers.now v.items)) }
     ensures stores_nothing { length axes.now ≡ 0 → IsOk result }
 {
     let mut found = Vec::with_capacity(alloc, axes.len())?;
     for (dimension, axis) in axes.iter().enumerate() {
-        let Some(value) = look_up(axis, numbers[dimension]) else {
+        let Some(value) = L::look_up(axis, numbers[dimension]) else {
             return Ok(None);
         };
         found.push_reserved(value);
@@ -310,26 +308,24 @@ fn look_up_each<A: Axis, T: Drop, F: Fn(&A, u64) -> Option<T>>(
 
 /// Looks each number up in its dimension, where two numbers are found, and puts these into two empty lists that have room for them;
 /// `false` where one of the look-ups finds nothing.
-fn find_each<A: Axis, F: Fn(&A, u64) -> Option<(u64, u64)>>(
+fn find_each<A: Axis, L: LookUp<Found = (u64, u64)>>(
     axes: &[A],
     numbers: &[u64],
     firsts: &mut Vec<u64>,
     seconds: &mut Vec<u64>,
-    look_up: F,
 ) -> bool
-    requires callable { F.IsAlwaysCallable look_up }
     requires lengths { length axes.now ≡ length numbers.now }
     requires empty { firsts.old.items ≡ [] }
     requires also_empty { seconds.old.items ≡ [] }
     requires room { length axes.now ≤ vec_capacity firsts.old }
     requires also_room { length axes.now ≤ vec_capacity seconds.old }
     ensures { cond result
-        (AreFound (ByReference (F.post look_up)) axes.now numbers.now
+        (AreFound L.finds (map A.dimension axes.now) numbers.now
         firsts.new.items seconds.new.items)
-        (IsNotFound (ByReference (F.post look_up)) axes.now numbers.now) }
+        (SomeMisses L.misses (map A.dimension axes.now) numbers.now) }
 {
     for (axis, number) in axes.iter().zip(numbers) {
-        let Some((first, second)) = look_up(axis, *number) else {
+        let Some((first, second)) = L::look_up(axis, *number) else {
             return false;
         };
         firsts.push_reserved(first);

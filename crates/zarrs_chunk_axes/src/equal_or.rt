@@ -52,6 +52,8 @@ impl<A: Axis> Axis for EqualOr<A> {
         inside!(self, axis => axis.chunk_of(index))
     }
 
+    // It is inlined into the loop over all dimensions, as the look-up of one edge for all is.
+    #[inline(always)]
     fn origin_of(&self, chunk: u64) -> Option<u64> {
         inside!(self, axis => axis.origin_of(chunk))
     }

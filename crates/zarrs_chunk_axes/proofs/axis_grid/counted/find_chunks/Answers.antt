@@ -1,33 +1,19 @@
-use Rattle.std.proofs.Common.{◌≡◌, ℕ, List, [], ◌∷◌, length, map, inl, arith}
-use Rattle.std.proofs.lemmas.List.{length-append}
-use Rattle.zarrs_chunk_base.specs.Dimension.{Holds, InBox}
+use Rattle.std.proofs.Common.{◌≡◌, [], ◌∷◌, length, map, inl, arith}
+use Rattle.std.proofs.lemmas.List.{length-append, length-map}
+use Rattle.zarrs_chunk_base.specs.Dimension.{Holds}
 use Rattle.zarrs_chunk_base.proofs.InEach.{turned}
-use Rattle.zarrs_chunk_axes.specs.lemmas.LookUpEach.{EachGives, SomeGivesNone}
-use Rattle.zarrs_chunk_axes.specs.declared.equal_or.EqualOr.{EqualOr}
-use Rattle.zarrs_chunk_axes.specs.declared.runs_axis.RunsAxis.{RunsAxis}
 use Rattle.zarrs_chunk_axes.specs.seen.EqualOr.{equal_or}
 use Rattle.zarrs_chunk_axes.specs.seen.RunsAxis.{runs_dimension}
-use Rattle.zarrs_chunk_axes.proofs.CountedSoFar.{Finds, one_more, within}
-use Rattle.zarrs_chunk_axes.proofs.EachAxis.{found_in_each, none_in_each}
+use Rattle.zarrs_chunk_axes.proofs.CountedSoFar.{one_more, within}
+use Rattle.zarrs_chunk_axes.proofs.EachAxis.{none_in_each}
 use Rattle.zarrs_chunk_axes.proofs.EachSoFar as each
 use Rattle.zarrs_chunk_axes.proofs.axis_grid.counted.find_chunks.Goals as goal
-
--- the chunks that all searches find
-in_box : (axes : List (EqualOr RunsAxis)) (index chunk : List ℕ) → EachGives Finds axes index chunk → InBox (map (equal_or runs_dimension) axes) chunk index
-in_box axes index chunk h =
-    turned (λ d i c. Holds d c i) _ _ _ (found_in_each (equal_or runs_dimension) (λ d i c. Holds d c i) {gives = Finds} (record { each = h }) (λ a n c holds. holds))
-
--- where one search finds none, there is no chunk
-in_none : (axes : List (EqualOr RunsAxis)) (index : List ℕ) → SomeGivesNone Finds axes index
-    → (chunk : List ℕ) → ¬ InBox (map (equal_or runs_dimension) axes) chunk index
-in_none axes index h chunk box =
-    none_in_each (equal_or runs_dimension) (λ d i c. Holds d c i) {gives = Finds} chunk (record { some = h }) (turned Holds _ chunk index box) (λ a n c none. none c)
 
 pub returns-in_default-clause-found : goal.returns-in_default-clause-found
 returns-in_default-clause-found c =
     let (axes, numbers) = c.in-Some.ensures.steps in
     let (so_far, _, _) = rw (axes, numbers) at c.loop-axis.invariant in
-    in_none _ _ (so_far.none (inl c.in_default.ensures.found))
+    λ chunk box. none_in_each _ (λ d i c. Holds d c i) (λ d i c absent. absent c) _ _ chunk (so_far.none (inl c.in_default.ensures.found)) (turned Holds _ chunk _ box)
 
 pub returns-in_default-clause-counted : goal.returns-in_default-clause-counted
 returns-in_default-clause-counted c =
@@ -42,7 +28,7 @@ loop-axis-preserved c =
     let (so_far, counted, room) = rw (axes, numbers) at c.loop-axis.invariant in
     let ensures = c.in-Some-find_chunk.ensures in
     rw c.push_reserved.ensures.items (
-      each.one_more Finds _ _ c.in-Some.axis.now c.in-Some.index.now c.in-Some-find_chunk.number _ _ _ so_far ensures.found,
+      each.one_more _ _ _ _ _ _ c.in-Some-find_chunk.number _ _ _ so_far ensures.found,
       one_more _ _ _ _ _ _ counted ensures.grows ensures.at_most ensures.each ensures.stays,
       (let capacity = c.push_reserved.ensures.capacity in omega (arith, length-append c.loop-axis.chunk.items (c.in-Some-find_chunk.number ∷ []))),
     )
@@ -50,8 +36,9 @@ loop-axis-preserved c =
 pub returns-clause-found : goal.returns-clause-found
 returns-clause-found c =
     let (so_far, _, _) = c.loop-axis.invariant in
-    let none : length c.loop-axis.axis-iterator.a.rest.now ≡ 0 = grind (arith, c.in-None.ensures.steps, so_far.lengths) in
-    in_box _ _ _ (each.at_end _ _ _ _ _ _ none so_far)
+    let none : length (map (equal_or runs_dimension) c.loop-axis.axis-iterator.a.rest.now) ≡ 0 =
+    grind (arith, c.in-None.ensures.steps, length-map c.loop-axis.axis-iterator.a.rest.now (equal_or runs_dimension), so_far.lengths) in
+    turned (λ d i c. Holds d c i) _ _ _ (each.at_end _ _ _ _ _ _ _ none so_far)
 
 pub returns-clause-counted : goal.returns-clause-counted
 returns-clause-counted c = let (_, counted, _) = c.loop-axis.invariant in within _ _ _ _ counted
