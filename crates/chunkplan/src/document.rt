@@ -1,6 +1,7 @@
 //! The program's document.
-ghost use Rattle.std.specs.Prelude.{MatchResult};
+ghost use Rattle.std.specs.Prelude.{◌≡◌, ◌≢◌, ℕ, List, IfOk, MatchResult, codes};
 ghost use Rattle.serde_json.specs.Data.{Data};
+ghost use Rattle.serde_json.specs.Find.{get};
 ghost use Rattle.serde_json.specs.View.{view};
 ghost use Rattle.zarrs_chunk_base.specs.Refusal.{IsRefusedAnd};
 ghost use Rattle.programs.specs.Document.{IsTreeOf};
@@ -9,10 +10,10 @@ ghost use Rattle.chunkplan.specs.Document.{Fit, HasStored, IsDocument, IsTask, d
 ghost use Rattle.chunkplan.specs.DocumentFault.{IsFormFault, IsInputFault, IsMisfit, IsStoredFault, IsTaskFault};
 
 use crate::boxes::member_box;
-use programs::{DocumentFault, member_metadata, read_sizes, read_tree, required_member};
+use programs::{DocumentFault, read_sizes, read_tree, required_member, take_metadata};
 use serde_json::Value;
 use std::alloc::Global;
-use zarrs_chunk_base::{ArraySubset, MetadataV3, Refusal};
+use zarrs_chunk_base::{ArraySubset, MetadataV3, Refusal, take_member};
 
 /// How an array is stored: in which chunks, and under which keys.
 #[derive(Drop)]
@@ -50,25 +51,25 @@ pub(crate) fn parse(alloc: Global, input: &[u8]) -> Result<Document, Refusal<Doc
         (OrMemory (IsInputFault input.now)) }
 {
     let tree = read_tree(alloc, input)?;
-    document_from(alloc, &tree)
+    document_from(alloc, tree)
 }
 
 /// The document that a tree stands for.
-fn document_from(alloc: Global, tree: &Value) -> Result<Document, Refusal<DocumentFault>>
-    ensures { MatchResult result (λ document. IsDocument (view tree.now) (document_of document))
-        (OrMemory (IsFormFault (view tree.now))) }
+fn document_from(alloc: Global, mut tree: Value) -> Result<Document, Refusal<DocumentFault>>
+    ensures { MatchResult result (λ document. IsDocument (view tree) (document_of document))
+        (OrMemory (IsFormFault (view tree))) }
 {
     if !tree.is_object() {
         return Err(Refusal::Refused(DocumentFault::NotObject));
     }
-    let shape = required_member(tree, "shape", "shape")?;
-    required_member(tree, "chunk_grid", "chunk_grid")?;
-    required_member(tree, "chunk_key_encoding", "chunk_key_encoding")?;
-    check_fitting(tree)?;
+    let shape = required_member(&tree, "shape", "shape")?;
+    required_member(&tree, "chunk_grid", "chunk_grid")?;
+    required_member(&tree, "chunk_key_encoding", "chunk_key_encoding")?;
+    check_fitting(&tree)?;
     let Some(shape) = read_sizes(alloc, shape)? else {
         return Err(Refusal::Refused(DocumentFault::WrongValue("shape")));
     };
-    let stored = stored_from(alloc, tree, "chunk_grid", "chunk_key_encoding")?;
+    let stored = take_stored(alloc, &mut tree, "chunk_grid", "chunk_key_encoding")?;
     let task = task_from(alloc, tree)?;
     Ok(Document {
         shape,
@@ -94,39 +95,44 @@ fn check_fitting(tree: &Value) -> Result<(), Refusal<DocumentFault>>
 }
 
 /// What a tree asks for.
-fn task_from(alloc: Global, tree: &Value) -> Result<Task, Refusal<DocumentFault>>
-    ensures { MatchResult result (λ task. IsTask (view tree.now) (task_of task))
-        (OrMemory (IsTaskFault (view tree.now))) }
+fn task_from(alloc: Global, mut tree: Value) -> Result<Task, Refusal<DocumentFault>>
+    ensures { MatchResult result (λ task. IsTask (view tree) (task_of task))
+        (OrMemory (IsTaskFault (view tree))) }
 {
-    let Some(target) = tree.get("target") else {
-        return Ok(Task::Read(member_box(alloc, tree, "subset")?));
+    let Some(mut target) = take_member(&mut tree, "target") else {
+        return Ok(Task::Read(member_box(alloc, &tree, "subset")?));
     };
     if !target.is_object() {
         return Err(Refusal::Refused(DocumentFault::WrongValue("target")));
     }
-    let stored = stored_from(
+    let stored = take_stored(
         alloc,
-        target,
+        &mut target,
         "target.chunk_grid",
         "target.chunk_key_encoding",
     )?;
-    Ok(Task::Rechunk(stored, member_box(alloc, tree, "chunks")?))
+    Ok(Task::Rechunk(stored, member_box(alloc, &tree, "chunks")?))
 }
 
-/// The chunk grid and the chunk key encoding of a tree. Their faults call them by the names that are given.
-fn stored_from(
+/// The chunk grid and the chunk key encoding of a tree, which are taken out of it. Their faults call them by the names that are given.
+fn take_stored(
     alloc: Global,
-    tree: &Value,
+    tree: &mut Value,
     grid_name: &'static str,
     encoding_name: &'static str,
 ) -> Result<Stored, Refusal<DocumentFault>>
-    ensures { MatchResult result (λ stored. HasStored (view tree.now) (stored_of stored))
-        (OrMemory (IsStoredFault (view tree.now) grid_name.now encoding_name.now)) }
+    ensures stored { MatchResult result (λ stored. HasStored (view tree.old) (stored_of stored))
+        (OrMemory (IsStoredFault (view tree.old) grid_name.now encoding_name.now)) }
+    ensures others { IfOk result (λ _. (other : List ℕ) → other ≢ codes "chunk_grid"
+        → other ≢ codes "chunk_key_encoding"
+        → get other (view tree.new) ≡ get other (view tree.old)) }
 {
-    let chunk_grid = required_member(tree, "chunk_grid", grid_name)?;
-    let chunk_key_encoding = required_member(tree, "chunk_key_encoding", encoding_name)?;
+    required_member(tree, "chunk_grid", grid_name)?;
+    required_member(tree, "chunk_key_encoding", encoding_name)?;
+    let chunk_grid = take_metadata(alloc, tree, "chunk_grid", grid_name)?;
+    let chunk_key_encoding = take_metadata(alloc, tree, "chunk_key_encoding", encoding_name)?;
     Ok(Stored {
-        chunk_grid: member_metadata(alloc, chunk_grid, grid_name)?,
-        chunk_key_encoding: member_metadata(alloc, chunk_key_encoding, encoding_name)?,
+        chunk_grid,
+        chunk_key_encoding,
     })
 }

@@ -1,13 +1,13 @@
 -- What the parts of a document say of the whole.
-use Rattle.std.proofs.Common.{◌≡◌, ◌≢◌, ℕ, zero, suc, List, IsSome, is_some, length, Option, Some, None, option_map, option_and_then, Vec, Global, codes, sym, ap, ◌∙◌, inl, inr, ◌⊎◌, true≢false, arith}
+use Rattle.std.proofs.Common.{◌≡◌, ℕ, zero, suc, List, IsSome, is_some, length, Option, Some, None, option_map, option_and_then, Vec, Global, codes, sym, ap, ◌∙◌, inr, ◌⊎◌, arith}
 use Rattle.serde_json.specs.Data.{Data}
 use Rattle.serde_json.specs.Find.{get}
-use Rattle.programs.specs.Document.{HasExtension, HasExtensionFault, HasSomeExtension, IsExtensionFault, IsMissingFault, shape_in}
+use Rattle.programs.specs.Document.{HasExtensionFault, HasSomeExtension, IsMissingFault, shape_in}
 use Rattle.programs.specs.declared.document_fault.DocumentFault.{DocumentFault}
-use Rattle.programs.specs.declared.document_fault.DocumentFault.TheVariants.{Metadata, Missing}
+use Rattle.programs.specs.declared.document_fault.DocumentFault.TheVariants.{Metadata}
+use Rattle.programs.proofs.Taken.{IsLeft, has_encoding_fault}
 use Rattle.chunkwhere.specs.Document.{HasMembers, IsFormFault, indices_in, keys_in, texts_of}
 use Rattle.zarrs_chunk_base.specs.Json.{list_of, size_of}
-use Rattle.zarrs_chunk_base.specs.Metadata.{Extension}
 
 -- ---- what was read of a member is what the document has there
 
@@ -31,33 +31,18 @@ has_members d s g k i shape grid keys indices name (suc (suc zero), within, at) 
 has_members d s g k i shape grid keys indices name (suc (suc (suc zero)), within, at) = found d _ name i indices at
 has_members d s g k i shape grid keys indices name (suc (suc (suc (suc n))), within, at) = absurd (omega arith)
 
--- ---- what was taken out of a document leaves the other members
+-- ---- what is read where the grid's metadata was taken out
 
--- the members of other names than this are those of d
-abbrev pub IsLeft : List ℕ → (d left : Data) → Type 0
-IsLeft name d left = (other : List ℕ) → other ≢ name → get other left ≡ get other d
-
-pub encoding_left : (d left : Data) → IsLeft (codes "chunk_grid") d left → get (codes "chunk_key_encoding") left ≡ get (codes "chunk_key_encoding") d
-encoding_left d left is_left = is_left (codes "chunk_key_encoding") (λ same. absurd (omega (arith, ap length same)))
-
--- ---- the encoding, which is read where the grid's metadata was taken out
-
--- it is that of the document
-pub of_document : (d left : Data) (e : Extension) → IsLeft (codes "chunk_grid") d left → HasExtension left (codes "chunk_key_encoding") e
-    → HasExtension d (codes "chunk_key_encoding") e
-of_document d left e is_left (m, there, is) = (m, sym (encoding_left d left is_left) ∙ there, is)
-
--- a fault of its metadata comes first where the shape and the grid's metadata are of their forms
+-- a fault of the encoding comes first where the shape and the grid's metadata are of their forms
 pub encoding_fault : (d left : Data) (fault : DocumentFault) → IsLeft (codes "chunk_grid") d left → IsSome (get (codes "chunk_key_encoding") d) → HasMembers d
     → IsSome (shape_in d) → HasSomeExtension d (codes "chunk_grid")
     → (IsMissingFault left (codes "chunk_key_encoding") (codes "chunk_key_encoding") fault
     ⊎ HasExtensionFault left (codes "chunk_key_encoding") (codes "chunk_key_encoding") fault) → IsFormFault d fault
-encoding_fault d left (Metadata field fault) is_left there members shape grid (inr (m, at, (name, is))) =
-    (members, shape, inr (name, grid, (m, sym (encoding_left d left is_left) ∙ at, is)))
-encoding_fault d left (Missing field) is_left there members shape grid (inl (name, none)) =
-    absurd (true≢false (sym there ∙ ap is_some (sym (encoding_left d left is_left) ∙ none)))
-encoding_fault d left _ is_left there members shape grid (inl h) = absurd h
-encoding_fault d left _ is_left there members shape grid (inr (m, at, h)) = absurd h
+encoding_fault d left fault is_left there members shape grid is =
+    told fault (has_encoding_fault d left is_left (codes "chunk_key_encoding") fault there is) where
+      told : (fault : DocumentFault) → HasExtensionFault d (codes "chunk_key_encoding") (codes "chunk_key_encoding") fault → IsFormFault d fault
+      told (Metadata field fault) (m, at, (name, says)) = (members, shape, inr (name, grid, (m, at, says)))
+      told _ (m, at, h) = absurd h
 
 -- the members that are read after the two that were taken out are those of the document
 module _ (d after left : Data) (first : IsLeft (codes "chunk_grid") d after) (second : IsLeft (codes "chunk_key_encoding") after left) where

@@ -44,23 +44,8 @@ pub fn required_member<'t>(
         .ok_or(Refusal::Refused(DocumentFault::Missing(name)))
 }
 
-/// A member's value as an extension's metadata. A fault calls it by the name that is given.
-///
-/// # Errors
-/// The first fault of the tree; or out of memory.
-pub fn member_metadata(
-    alloc: Global,
-    tree: &Value,
-    name: &'static str,
-) -> Result<MetadataV3, Refusal<DocumentFault>>
-    ensures { MatchResult result (λ metadata. IsExtension (view tree.now) (extension_of metadata))
-        (OrMemory (IsExtensionFault (view tree.now) name.now)) }
-{
-    let metadata = MetadataV3::from_tree(alloc, tree);
-    metadata.map_err(|refusal| refusal.map(|error| DocumentFault::Metadata(name, error)))
-}
-
-/// A member's value as an extension's metadata, as by [`member_metadata`]. It is taken out of the tree, so that a long list of edges isn't copied.
+/// A member's value as an extension's metadata, which are taken out of the tree, so that a long list of edges isn't copied. A fault calls
+/// it by the name that is given.
 ///
 /// # Errors
 /// It is missing; or the first fault of its tree; or out of memory.

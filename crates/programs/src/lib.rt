@@ -13,7 +13,7 @@ mod document_fault;
 mod ending;
 mod failing;
 
-pub use document::{member_metadata, read_sizes, read_tree, required_member, take_metadata};
+pub use document::{read_sizes, read_tree, required_member, take_metadata};
 pub use document_fault::DocumentFault;
 pub use ending::finish;
 pub use failing::{FailingReader, FailingWriter};

@@ -2,10 +2,11 @@ use Rattle.std.proofs.Common.{◌≡◌, None, Some, is_some, map, option_map, s
 use Rattle.std.proofs.lemmas.Result.{err_from_is_err_and}
 use Rattle.serde_json.specs.View.{view}
 use Rattle.programs.proofs.Refusals.{follows}
+use Rattle.programs.proofs.Taken.{has_encoding}
 use Rattle.programs.specs.Document.{shape_in}
 use Rattle.chunkwhere.specs.Document.{indices_in, keys_in, lists_in, IsFormFault}
 use Rattle.zarrs_chunk_base.specs.Metadata.{extension_of}
-use Rattle.chunkwhere.proofs.DocumentMembers.{numbers, shape_is, has_members, encoding_fault, indices_left, keys_left, of_document}
+use Rattle.chunkwhere.proofs.DocumentMembers.{numbers, shape_is, has_members, encoding_fault, indices_left, keys_left}
 use Rattle.chunkwhere.proofs.document.document_from.Goals as goal
 
 pub returns-in_err-chunk_key_encoding : goal.returns-in_err-chunk_key_encoding
@@ -37,7 +38,7 @@ returns-in_default-2 c =
     let left = view c.take_metadata-2.new.tree in
     let first = c.in_ok-chunk_grid.ensures.others in
     let second = c.in_ok-chunk_key_encoding.ensures.others in
-    let encoding = of_document tree after _ first c.in_ok-chunk_key_encoding.ensures.metadata in
+    let encoding = has_encoding tree after first _ c.in_ok-chunk_key_encoding.ensures.metadata in
     let shape : shape_in tree ≡ Some c.in-Some.shape.items = shape_is tree _ c.in_ok-shape-2.field-0 c.in_ok-shape.ensures c.in_ok-shape-2.ensures ∙ ap (option_map numbers) c.in-Some.is in
     let no_indices : indices_in tree ≡ None = sym (indices_left tree after left first second) ∙ sym c.in_ok-indices.ensures ∙ ap (option_map (λ v. lists_in v.items)) c.in_default-2.is in (
       has_members _ _ _ _ _ c.in_ok-shape.ensures c.in_ok-required_member.ensures c.in_ok-required_member-2.ensures c.in_ok-required_member-3.ensures,
@@ -57,7 +58,7 @@ returns-in_default-keys c =
     let left = view c.take_metadata-2.new.tree in
     let first = c.in_ok-chunk_grid.ensures.others in
     let second = c.in_ok-chunk_key_encoding.ensures.others in
-    let encoding = of_document tree after _ first c.in_ok-chunk_key_encoding.ensures.metadata in
+    let encoding = has_encoding tree after first _ c.in_ok-chunk_key_encoding.ensures.metadata in
     let shape : shape_in tree ≡ Some c.in-Some.shape.items = shape_is tree _ c.in_ok-shape-2.field-0 c.in_ok-shape.ensures c.in_ok-shape-2.ensures ∙ ap (option_map numbers) c.in-Some.is in
     let indices : indices_in tree ≡ Some (lists_in c.in-Some-2.indices.items) = sym (indices_left tree after left first second) ∙ sym c.in_ok-indices.ensures ∙ ap (option_map (λ v. lists_in v.items)) c.in-Some-2.is in
     let no_keys : keys_in tree ≡ None = sym (keys_left tree after left first second) ∙ sym c.in_ok-keys.ensures ∙ ap (option_map (λ v. map string_bytes v.items)) c.in_default-keys.is in (
@@ -79,7 +80,7 @@ returns c =
     let left = view c.take_metadata-2.new.tree in
     let first = c.in_ok-chunk_grid.ensures.others in
     let second = c.in_ok-chunk_key_encoding.ensures.others in
-    let encoding = of_document tree after _ first c.in_ok-chunk_key_encoding.ensures.metadata in
+    let encoding = has_encoding tree after first _ c.in_ok-chunk_key_encoding.ensures.metadata in
     record {
       shape = shape_is tree _ c.in_ok-shape-2.field-0 c.in_ok-shape.ensures c.in_ok-shape-2.ensures ∙ ap (option_map numbers) c.in-Some.is;
       chunk_grid = c.in_ok-chunk_grid.ensures.metadata;
