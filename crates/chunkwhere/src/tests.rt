@@ -245,8 +245,6 @@ fn inputs_are_refused(rt: HostRuntime) -> Result<(), Fail> {
 
 #[test]
 fn members_are_refused(rt: HostRuntime) -> Result<(), Fail> {
-    let grid = |text| (SHAPE, text, DEFAULT, INDICES);
-    let encoding = |text| (SHAPE, REGULAR, text, INDICES);
     let rows = [
         (
             ("[5.0,7,52]", "5", DEFAULT, INDICES),
@@ -268,9 +266,12 @@ fn members_are_refused(rt: HostRuntime) -> Result<(), Fail> {
             (SHAPE, r#""hexagonal""#, DEFAULT, r#"[],"keys":["c",5]"#),
             "wrong value in field `keys`",
         ),
-        (grid("5"), "field `chunk_grid`: not an extension"),
         (
-            encoding(r#"{"configuration":{}}"#),
+            (SHAPE, "5", DEFAULT, INDICES),
+            "field `chunk_grid`: not an extension",
+        ),
+        (
+            (SHAPE, REGULAR, r#"{"configuration":{}}"#, INDICES),
             "field `chunk_key_encoding`: name is missing",
         ),
         (
@@ -278,20 +279,33 @@ fn members_are_refused(rt: HostRuntime) -> Result<(), Fail> {
             "name `hexagonal` is not supported",
         ),
         (
-            grid(r#""regular_bounded""#),
+            (SHAPE, r#""regular_bounded""#, DEFAULT, INDICES),
             "name `regular_bounded` is not supported",
         ),
-        (encoding(r#""v3""#), "name `v3` is not supported"),
         (
-            grid(r#""regular""#),
+            (SHAPE, REGULAR, r#""v3""#, INDICES),
+            "name `v3` is not supported",
+        ),
+        (
+            (SHAPE, r#""regular""#, DEFAULT, INDICES),
             "configuration is unsupported: missing field `chunk_shape`",
         ),
         (
-            encoding(r#"{"name":"default","configuration":{"suffix":""}}"#),
+            (
+                SHAPE,
+                REGULAR,
+                r#"{"name":"default","configuration":{"suffix":""}}"#,
+                INDICES,
+            ),
             "configuration is unsupported: unknown field `suffix`, expected `separator`",
         ),
         (
-            encoding(r#"{"name":"zarrs.default_suffix","configuration":{"suffix":"x/"}}"#),
+            (
+                SHAPE,
+                REGULAR,
+                r#"{"name":"zarrs.default_suffix","configuration":{"suffix":"x/"}}"#,
+                INDICES,
+            ),
             "chunk key suffix must not end with a slash",
         ),
         (
