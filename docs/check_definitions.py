@@ -3,7 +3,8 @@
 
     python3 docs/check_definitions.py
 
-A table of the page is about the crate in its heading. In a row the names before a file stand in that file; names after which no file comes
+A table of the page is about the crate in its heading, or about a part of a crate, `CRATE::PART`, whose definitions stand in the folder
+`specs/PART`. In a row the names before a file stand in that file; names after which no file comes
 stand in the file that was named last. The script prints each public definition that its crate's tables don't name, each definition of the
 repository that one of them uses and the page doesn't name, each name that its file doesn't define, and each file that isn't there. It ends
 with the status 1 where it printed any. The crates of tests and of callers have definitions of their own and are passed over.
@@ -20,14 +21,19 @@ DEFINITION = re.compile(
     r"^(?:  )?(?:abbrev pub|pub abbrev|pub data|pub record|pub unfoldable|unfoldable pub) ([^\s({:]+)|^pub (?!use |mod )([^\s({:]+) *[:({]", re.M)
 # A case of a `data` type.
 CASE = re.compile(r"^  (?!pub )([^\s({:]+) : ", re.M)
-HEADING = re.compile(r"^## .*: `(\w+)`$")
+HEADING = re.compile(r"^## .*: `(\w+(?:::\w+)?)`$")
 # What a file takes from another file of a `specs/` folder: the crate, the path to the file, and the names.
 TAKEN = re.compile(r"^use Rattle\.(\w+)\.specs\.([\w.]+)\.\{([^}]*)\}", re.M)
 QUOTED = re.compile(r"`([^`\s]+)`(?: of `(\w+)`)?")
 
 
+# What the tables are about.
+TABLES = {found[1] for found in map(HEADING.match, PAGE.read_text().splitlines()) if found}
+
+
 def specs(crate):
-    return ROOT / "crates" / crate / "specs"
+    crate, _, part = crate.partition("::")
+    return ROOT / "crates" / crate / "specs" / part
 
 
 def definitions(path):
@@ -39,9 +45,11 @@ def taken(path):
     """The crate and the name of each definition of the repository that a file takes from another one."""
     for crate, place, names in TAKEN.findall(path.read_text()):
         source = specs(crate) / (place.replace(".", "/") + ".antt")
+        part = f"{crate}::{place.split('.')[0]}"
         if source.exists():
             wanted = {name.split(" as ")[0] for name in re.split(r",\s*", names)}
-            yield from ((crate, name) for name in definitions(source) if name in wanted)
+            table = part if part in TABLES else crate
+            yield from ((table, name) for name in definitions(source) if name in wanted)
 
 
 def rows():

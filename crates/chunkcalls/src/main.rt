@@ -12,18 +12,10 @@
 //! [[0,6,51],[1,2,3]]
 //! ```
 //!
-//! | Module | What it holds |
-//! |---|---|
-//! | `program` | the whole program over any reader and writers: `run`, and then `finish` |
-//! | `run_fault` | why a run stops |
+//! It is `run_to_status` of `programs::chunkcalls`, over what the process was given.
 #![tactic(auto)]
 
-mod program;
-mod run_fault;
-#[cfg(test)]
-mod tests;
-
-use program::run_to_status;
+use programs::chunkcalls::run_to_status;
 use std::process::ExitCode;
 
 fn main(rt: HostRuntime) -> ExitCode {

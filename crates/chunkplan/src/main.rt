@@ -13,28 +13,10 @@
 //! {"chunk":[1],"in_chunk":[[0],[1]],"in_subset":[[2],[1]],"key":"c/1"}
 //! ```
 //!
-//! | Module | What it holds |
-//! |---|---|
-//! | `program` | `run_to_status`, the whole program over any reader and writers: `run`, and then `finish` |
-//! | `document` | the document that a JSON tree stands for |
-//! | `boxes` | a box as a document writes it |
-//! | `plan` | the plan that a document asks for |
-//! | `copying` | the lines of a plan, written as they are made |
-//! | `line` | one line |
-//! | `run_fault` | why a run stops |
+//! It is `run_to_status` of `programs::chunkplan`, over what the process was given.
 #![tactic(auto)]
 
-mod boxes;
-mod copying;
-mod document;
-mod line;
-mod plan;
-mod program;
-mod run_fault;
-#[cfg(test)]
-mod tests;
-
-use program::run_to_status;
+use programs::chunkplan::run_to_status;
 use std::process::ExitCode;
 
 fn main(rt: HostRuntime) -> ExitCode {

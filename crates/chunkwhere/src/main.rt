@@ -5,27 +5,11 @@
 //! list it prints the key of the chunk that holds the element, and the element's place in it. For
 //! each of its `keys`, if it has any, it prints the numbers of the chunk that has the key.
 //!
-//! | Module | What it holds |
-//! |---|---|
-//! | `program` | `run_to_status`, the whole program over any reader and writers: `run`, and then `finish` |
-//! | `watched` | a reader or writer that remembers whether one of its calls failed |
-//! | `input`, `document`, `answer`, `output` | the four steps: read, understand, answer, write |
-//! | `run_fault` | why a run stops |
+//! It is `run_to_status` of `programs::chunkwhere`, over what the process was given.
 #![tactic(auto)]
 
-mod answer;
-mod document;
-mod input;
-mod output;
-mod program;
-mod run_fault;
-#[cfg(test)]
-mod tests;
-mod watched;
-
-use program::run_to_status;
+use programs::chunkwhere::{Watched, run_to_status};
 use std::process::ExitCode;
-use watched::Watched;
 
 fn main(rt: HostRuntime) -> ExitCode {
     let mut reader = Watched::new(rt.stdin());

@@ -1,2 +1,5 @@
 pub mod Document
 pub mod OrMemory
+pub mod chunkcalls
+pub mod chunkplan
+pub mod chunkwhere

@@ -1,13 +1,22 @@
-//! What the programs share: how a run ends, what their documents have in common, and readers and writers that fail, for their tests.
+//! The programs, over any reader and writers, and what they share: how a run ends, what their documents have in common, and readers and writers
+//! that fail, for their tests.
+//!
+//! Each program's `main` is a crate of its own, of a few lines. Its tests stand in `programs_tests`, since a crate with tests is proved twice.
 //!
 //! | Module | What it holds |
 //! |---|---|
+//! | `chunkwhere` | where the elements of an array are stored |
+//! | `chunkplan` | what a read or a rechunking of an array copies |
+//! | `chunkcalls` | what grids and encodings answer, a call a line |
 //! | `document` | a document's tree, and the members that say what an array is |
 //! | `document_fault` | why an input is no document |
 //! | `ending` | the line that tells a fault, and the status to end with |
 //! | `failing` | readers and writers that fail |
 #![tactic(auto)]
 
+pub mod chunkcalls;
+pub mod chunkplan;
+pub mod chunkwhere;
 mod document;
 mod document_fault;
 mod ending;

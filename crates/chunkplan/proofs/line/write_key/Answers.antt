@@ -1,5 +1,0 @@
-use Rattle.chunkplan.proofs.Tokens.{then, wrote}
-use Rattle.chunkplan.proofs.line.write_key.Goals as goal
-
-pub returns : goal.returns
-returns c = then _ _ _ _ _ (wrote _ _ _ c.in_ok-key.ensures) (rw c.as_str.ensures.value at (wrote _ _ _ c.in_ok-string.ensures))

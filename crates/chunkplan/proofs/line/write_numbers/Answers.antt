@@ -1,5 +1,0 @@
-use Rattle.chunkplan.proofs.Tokens.{then, wrote}
-use Rattle.chunkplan.proofs.line.write_numbers.Goals as goal
-
-pub returns : goal.returns
-returns c = then _ _ _ _ _ (wrote _ _ _ c.in_ok-key.ensures) c.in_ok-write_list.ensures

@@ -1,0 +1,56 @@
+-- What was taken out of a document leaves the other members.
+use Rattle.std.proofs.Common.{◌≡◌, ◌≢◌, ℕ, List, Option, Some, None, MatchOption, ◌∙◌, ap, sym, subst, codes, length, get_or, refl, arith}
+use Rattle.serde_json.specs.Data.{Data}
+use Rattle.serde_json.specs.Find.{get}
+use Rattle.zarrs_chunk_base.specs.ArraySubset.{Box}
+use Rattle.programs.specs.declared.document_fault.DocumentFault.{DocumentFault}
+use Rattle.programs.specs.chunkplan.Document.{HasBox, IsBoxIn, IsTask, Task, read_of, rechunk_to}
+use Rattle.programs.specs.chunkplan.DocumentFault.{HasBoxFault, IsBoxFormFault, IsTaskFault, of_subset, of_target, of_target_stored, of_chunks}
+
+-- ---- one member
+
+pub has_box : (d left : Data) (field : List ℕ) (subset : Option Box) → get field left ≡ get field d → HasBox left field subset → HasBox d field subset
+has_box d left field subset same = subst (λ found. MatchOption subset (found ≡ None) (λ b. (m : Data) × (found ≡ Some m) × IsBoxIn m b)) same
+
+pub has_box_fault : (d left : Data) (field : List ℕ) (fault : DocumentFault) → get field left ≡ get field d → HasBoxFault left field fault
+    → HasBoxFault d field fault
+has_box_fault d left field fault same (m, there, is) = (m, sym same ∙ there, is)
+
+-- ---- the task, which is read where the array's own metadata were taken out
+
+-- the members of other names than these two are those of d
+abbrev pub IsLeft : (d left : Data) → Type 0
+IsLeft d left = (other : List ℕ) → other ≢ codes "chunk_grid" → other ≢ codes "chunk_key_encoding" → get other left ≡ get other d
+
+short : (d left : Data) → IsLeft d left → (name : List ℕ) → length name ≡ 6 → get name left ≡ get name d
+short d left is_left name six =
+    is_left name (λ same. absurd (omega (arith, six, ap length same))) (λ same. absurd (omega (arith, six, ap length same)))
+
+module _ (d left : Data) (is_left : IsLeft d left) where
+  target : get (codes "target") left ≡ get (codes "target") d
+  target = short d left is_left (codes "target") refl
+
+  subset : get (codes "subset") left ≡ get (codes "subset") d
+  subset = short d left is_left (codes "subset") refl
+
+  chunks : get (codes "chunks") left ≡ get (codes "chunks") d
+  chunks = short d left is_left (codes "chunks") refl
+
+  pub is_task : (task : Task) → IsTask left task → IsTask d task
+  is_task (read_of b) (none, box) = (sym target ∙ none, has_box d left (codes "subset") b subset box)
+  is_task (rechunk_to stored b) (m, there, has, box) = (m, sym target ∙ there, has, has_box d left (codes "chunks") b chunks box)
+
+  pub is_task_fault : (fault : DocumentFault) → IsTaskFault left fault → IsTaskFault d fault
+  is_task_fault fault (of_subset none is) = of_subset (sym target ∙ none) (has_box_fault d left (codes "subset") fault subset is)
+  is_task_fault fault (of_target m there none tells) = of_target m (sym target ∙ there) none tells
+  is_task_fault fault (of_target_stored m there object is) = of_target_stored m (sym target ∙ there) object is
+  is_task_fault fault (of_chunks m stored there has is) =
+      of_chunks m stored (sym target ∙ there) has (has_box_fault d left (codes "chunks") fault chunks is)
+
+-- ---- names of one length
+
+pub subset_is_no_target : codes "subset" ≢ codes "target"
+subset_is_no_target same = let first : 115 ≡ 116 = ap (λ name. get_or name 0 0) same in absurd (omega (arith, first))
+
+pub chunks_is_no_target : codes "chunks" ≢ codes "target"
+chunks_is_no_target same = let first : 99 ≡ 116 = ap (λ name. get_or name 0 0) same in absurd (omega (arith, first))

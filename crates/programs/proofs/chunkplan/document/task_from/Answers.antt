@@ -1,0 +1,49 @@
+use Rattle.std.proofs.Common.{◌≡◌, ◌∙◌, None, Some, IsSome, ap, option_map, codes, refl, sym, rules}
+use Rattle.std.proofs.lemmas.Result.{err_from_is_err_and, MatchResult-weaker}
+use Rattle.serde_json.specs.Find.{as_object, get}
+use Rattle.serde_json.specs.View.{view}
+use Rattle.programs.proofs.Refusals.{follows}
+use Rattle.programs.specs.chunkplan.Document.{stored_of}
+use Rattle.programs.specs.chunkplan.DocumentFault.{HasBoxFault, IsStoredFault, IsTaskFault, of_chunks, of_subset, of_target, of_target_stored}
+use Rattle.programs.proofs.chunkplan.LeftMembers.{chunks_is_no_target, has_box, has_box_fault, subset_is_no_target}
+use Rattle.programs.proofs.chunkplan.document.task_from.Goals as goal
+
+pub returns-then-not-is_object : goal.returns-then-not-is_object
+returns-then-not-is_object c =
+    let there = sym c.take_member.ensures.taken ∙ ap (option_map view) c.in-Some.is in
+    let none : as_object (view c.in-Some.target) ≡ None = search rules in
+    of_target (view c.in-Some.target) there none refl
+
+pub returns-in_err-stored : goal.returns-in_err-stored
+returns-in_err-stored c =
+    let p = err_from_is_err_and c.from_residual-in_err-stored.result c.from_residual-in_err-stored.ensures.1 in
+    let tree = view c.args.tree in
+    let there = sym c.take_member.ensures.taken ∙ ap (option_map view) c.in-Some.is in
+    let object : IsSome (as_object (view c.in-Some.target)) = search rules in
+    rw (p.1, p.2)
+    (follows _ (IsStoredFault (view c.in-Some.target) (codes "target.chunk_grid") (codes "target.chunk_key_encoding")) (IsTaskFault tree)
+    (λ fault is. of_target_stored (view c.in-Some.target) there object is) c.in_err-stored.ensures.stored)
+
+pub returns-in_err-member_box : goal.returns-in_err-member_box
+returns-in_err-member_box c =
+    let p = err_from_is_err_and c.from_residual.result c.from_residual.ensures.1 in
+    let tree = view c.args.tree in
+    let left = view c.take_member.new.tree in
+    let none : get (codes "target") tree ≡ None = sym c.take_member.ensures.taken ∙ ap (option_map view) c.in_default.is in
+    rw (p.1, p.2)
+    (follows _ (HasBoxFault left (codes "subset")) (IsTaskFault tree)
+    (λ fault is. of_subset none (has_box_fault tree left (codes "subset") fault (c.take_member.ensures.others (codes "subset") subset_is_no_target) is))
+    c.in_err-member_box.ensures)
+
+pub returns-in_err-member_box-2 : goal.returns-in_err-member_box-2
+returns-in_err-member_box-2 c =
+    let p = err_from_is_err_and c.from_residual-in_err-member_box-2.result c.from_residual-in_err-member_box-2.ensures.1 in
+    let tree = view c.args.tree in
+    let left = view c.take_member.new.tree in
+    let there = sym c.take_member.ensures.taken ∙ ap (option_map view) c.in-Some.is in
+    rw (p.1, p.2)
+    (follows _ (HasBoxFault left (codes "chunks")) (IsTaskFault tree)
+    (λ fault is.
+    of_chunks (view c.in-Some.target) (stored_of c.in_ok-stored.stored) there c.in_ok-stored.ensures.stored
+    (has_box_fault tree left (codes "chunks") fault (c.take_member.ensures.others (codes "chunks") chunks_is_no_target) is))
+    c.in_err-member_box-2.ensures)

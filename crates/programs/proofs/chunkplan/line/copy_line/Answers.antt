@@ -1,0 +1,21 @@
+use Rattle.std.proofs.Common.{◌∙◌}
+use Rattle.programs.proofs.chunkplan.Tokens.{then, wrote}
+use Rattle.programs.proofs.chunkplan.line.copy_line.Goals as goal
+
+pub ended-requires : goal.ended-requires
+ended-requires c =
+    let all =
+    then _ _ _ _ _ (wrote _ _ _ c.in_ok-begin_object.ensures)
+    (then _ _ _ _ _ c.in_ok-write_place.ensures (then _ _ _ _ _ c.in_ok-write_place-2.ensures (wrote _ _ _ c.in_ok-end_object.ensures)))
+    in
+    all.before ∙ c.new-json.ensures.before ∙ c.in_ok-with_capacity.ensures.items
+
+pub returns : goal.returns
+returns c =
+    let from = rw c.as_slice.ensures at c.in_ok-write_place.ensures in
+    let to = rw c.as_slice-2.ensures at c.in_ok-write_place-2.ensures in
+    let all =
+    then _ _ _ _ _ (wrote _ _ _ c.in_ok-begin_object.ensures)
+    (then _ _ _ _ _ from (then _ _ _ _ _ to (wrote _ _ _ c.in_ok-end_object.ensures)))
+    in
+    rw (all.tokens, c.new-json.ensures.tokens) at c.ended.ensures

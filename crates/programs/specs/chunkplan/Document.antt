@@ -1,0 +1,71 @@
+-- The program's document: a JSON object with the members `shape`, `chunk_grid` and `chunk_key_encoding`, and either `subset`, which may be
+-- absent, or `target` and `chunks`, which may be absent; what else it has says nothing.
+use Rattle.std.specs.Prelude.{◌≡◌, ℕ, List, Option, Some, None, IsSome, codes, MatchOption}
+use Rattle.serde_json.specs.Data.{Data}
+use Rattle.serde_json.specs.Find.{get}
+use Rattle.zarrs_chunk_base.specs.ArraySubset.{Box, IsBox}
+use Rattle.zarrs_chunk_base.specs.Json.{size_of, list_of, pair_of}
+use Rattle.zarrs_chunk_base.specs.Metadata.{Extension, extension_of}
+use Rattle.programs.specs.Document.{HasExtension, shape_in}
+use Rattle.programs.specs.declared.chunkplan.document.Document.{Document as DocumentValue}
+use Rattle.programs.specs.declared.chunkplan.document.Stored.{Stored as StoredValue}
+use Rattle.programs.specs.declared.chunkplan.document.Task.{Task as TaskValue}
+use Rattle.programs.specs.declared.chunkplan.document.Task.TheVariants.{Read as ReadValue, Rechunk as RechunkValue}
+
+-- how an array is stored: its chunk grid and its chunk key encoding
+pub record Stored : Type 0 where
+  pub chunk_grid : Extension
+  pub chunk_key_encoding : Extension
+
+-- what is asked for: a read of a box of elements, or of all, or a rechunking into chunks of a box, or into all
+pub data Task : Type 0 where
+  read_of : Option Box → Task
+  rechunk_to : Stored → Option Box → Task
+
+-- a document, without where it lies in memory
+pub record Document : Type 0 where
+  pub shape : List ℕ
+  pub stored : Stored
+  pub task : Task
+
+-- what a value of the program stands for
+abbrev pub stored_of : StoredValue → Stored
+stored_of s = record { chunk_grid = extension_of s.chunk_grid; chunk_key_encoding = extension_of s.chunk_key_encoding }
+
+abbrev pub task_of : TaskValue → Task
+task_of (ReadValue subset) = read_of subset
+task_of (RechunkValue target chunks) = rechunk_to (stored_of target) chunks
+
+abbrev pub document_of : DocumentValue → Document
+document_of d = record { shape = d.shape.items; stored = stored_of d.stored; task = task_of d.task }
+
+-- the members `chunk_grid` and `chunk_key_encoding`
+pub record HasStored (d : Data) (stored : Stored) : Type 0 where
+  pub grid : HasExtension d (codes "chunk_grid") stored.chunk_grid
+  pub encoding : HasExtension d (codes "chunk_key_encoding") stored.chunk_key_encoding
+
+-- a list of two lists of sizes, which are the start and the shape of a box
+pub record IsBoxIn (d : Data) (b : Box) : Type 0 where
+  pub lists : pair_of (list_of size_of) d ≡ Some (b.start, b.shape)
+  pub is_box : IsBox b
+
+-- the member is a box, or absent
+abbrev pub HasBox : Data → List ℕ → Option Box → Type 0
+HasBox d field subset = MatchOption subset (get field d ≡ None) (λ b. (m : Data) × (get field d ≡ Some m) × IsBoxIn m b)
+
+-- `subset`, where there is no target, or `target` with its own two members, and `chunks`
+abbrev pub IsTask : Data → Task → Type 0
+IsTask d (read_of subset) = (get (codes "target") d ≡ None) × HasBox d (codes "subset") subset
+IsTask d (rechunk_to stored chunks) = (m : Data) × (get (codes "target") d ≡ Some m) × HasStored m stored × HasBox d (codes "chunks") chunks
+
+-- `subset` stands beside no target, and `chunks` beside one
+pub record Fit (d : Data) : Type 0 where
+  pub of_read : get (codes "target") d ≡ None → get (codes "chunks") d ≡ None
+  pub of_rechunking : IsSome (get (codes "target") d) → get (codes "subset") d ≡ None
+
+-- the document that a tree stands for
+pub record IsDocument (d : Data) (document : Document) : Type 0 where
+  pub fitting : Fit d
+  pub shape : shape_in d ≡ Some document.shape
+  pub stored : HasStored d document.stored
+  pub task : IsTask d document.task

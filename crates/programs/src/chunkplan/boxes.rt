@@ -1,0 +1,62 @@
+//! A box as a document writes it: a list of its start and its shape, each a list of sizes.
+ghost use Rattle.std.specs.Prelude.{◌≡◌, IfOk, MatchResult, option_map};
+ghost use Rattle.serde_json.specs.View.{view};
+ghost use Rattle.zarrs_chunk_base.specs.Json.{list_of, pair_of, size_of};
+ghost use Rattle.programs.specs.OrMemory.{OrMemory};
+ghost use Rattle.programs.specs.chunkplan.Document.{HasBox, IsBoxIn};
+ghost use Rattle.programs.specs.chunkplan.DocumentFault.{HasBoxFault, IsBoxFormFault};
+
+use crate::{DocumentFault, read_sizes};
+use serde_json::Value;
+use std::alloc::{AllocError, Global};
+use zarrs_chunk_base::{ArraySubset, Refusal};
+
+/// The box that a member of a document stands for, if there is one.
+pub(crate) fn member_box(
+    alloc: Global,
+    tree: &Value,
+    field: &'static str,
+) -> Result<Option<ArraySubset>, Refusal<DocumentFault>>
+    ensures { MatchResult result (HasBox (view tree.now) field.now)
+        (OrMemory (HasBoxFault (view tree.now) field.now)) }
+{
+    match tree.get(field) {
+        Some(member) => Ok(Some(read_box(alloc, member, field)?)),
+        None => Ok(None),
+    }
+}
+
+/// The box that a tree stands for.
+fn read_box(
+    alloc: Global,
+    tree: &Value,
+    field: &'static str,
+) -> Result<ArraySubset, Refusal<DocumentFault>>
+    ensures { MatchResult result (IsBoxIn (view tree.now))
+        (OrMemory (IsBoxFormFault (view tree.now) field.now)) }
+{
+    let Some((start, shape)) = read_pair(alloc, tree)? else {
+        return Err(Refusal::Refused(DocumentFault::WrongValue(field)));
+    };
+    match ArraySubset::new_with_start_shape(start, shape) {
+        Ok(subset) => Ok(subset),
+        Err(error) => Err(Refusal::Refused(DocumentFault::Box(field, error))),
+    }
+}
+
+/// The two lists of sizes that a tree is a list of; `None` where it is none.
+fn read_pair(alloc: Global, tree: &Value) -> Result<Option<(Vec<u64>, Vec<u64>)>, AllocError>
+    ensures { IfOk result (λ o. option_map (λ pair. (pair.0.items, pair.1.items)) o
+        ≡ pair_of (list_of size_of) (view tree.now)) }
+{
+    let Some(lists) = tree.as_array() else {
+        return Ok(None);
+    };
+    let [first, second] = lists.as_slice() else {
+        return Ok(None);
+    };
+    match (read_sizes(alloc, first)?, read_sizes(alloc, second)?) {
+        (Some(first), Some(second)) => Ok(Some((first, second))),
+        _ => Ok(None),
+    }
+}

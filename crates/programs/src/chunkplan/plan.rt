@@ -1,0 +1,207 @@
+//! The plan that a document asks for.
+ghost use Rattle.std.specs.Prelude.{◌≡◌, ℕ, IfErr, IfOk, List, OnOk, unwrap_or};
+ghost use Rattle.std.specs.Io.KnownBytes.{Appends};
+ghost use Rattle.zarrs_chunk_base.specs.Dimension.{array_sizes};
+ghost use Rattle.zarrs_chunk_keys.specs.seen.Encodings.{encoding_in};
+ghost use Rattle.zarrs_chunks.specs.seen.Grids.{grid_in};
+ghost use Rattle.zarrs_chunk_plan.specs.Rechunking.{Group, IsRechunking, all_chunks_box, array_box};
+ghost use Rattle.zarrs_chunk_plan.specs.declared.part.Part.{Part as PartValue};
+ghost use Rattle.programs.specs.OrMemory.{OrMemory};
+ghost use Rattle.programs.specs.chunkplan.Document.{document_of, stored_of};
+ghost use Rattle.programs.specs.chunkplan.Line.{copy_lines, part_lines};
+ghost use Rattle.programs.specs.chunkplan.PlanFault.{IsChunksFault, IsCreateFault, IsPlanFault, IsReadFault, IsSourceFault, IsTargetFault};
+ghost use Rattle.programs.specs.chunkplan.Planned.{IsPlanned, IsReadPlan, IsStored};
+ghost use Rattle.programs.specs.chunkplan.Stopped.{WriteFailedOr};
+
+use crate::chunkplan::copying::{write_copies, write_parts};
+use crate::chunkplan::document::{Document, Stored, Task};
+use crate::chunkplan::run_fault::RunFault;
+use std::alloc::{AllocError, Global};
+use std::io::Write;
+use zarrs_chunk_base::{ArraySubset, IncompatibleDimensionalityError, PluginCreateError, Refusal};
+use zarrs_chunk_keys::{ChunkKeyEncoding, ChunkKeyEncodingTraits};
+use zarrs_chunk_plan::{all_chunks, copies, parts, whole_array};
+use zarrs_chunks::{ChunkGrid, ChunkGridTraits};
+
+/// Writes the plan that a document asks for, line by line.
+///
+/// # Errors
+/// The grid or the encoding can't be made, or those of the target; the box has another number of dimensions, or no cover; a write failed; or
+/// out of memory. Nothing has been written where it is none of the last two.
+pub(crate) fn write_plan<W: Write>(
+    alloc: Global,
+    document: Document,
+    writer: &mut W,
+) -> Result<(), Refusal<RunFault>>
+    ensures planned { OnOk result ((text : List ℕ) × IsPlanned (document_of document) text
+        × Appends (W.contents writer.old) (W.contents writer.new) text) }
+    ensures refused { IfErr result (OrMemory (WriteFailedOr (IsPlanFault (document_of document))
+        (W.contents writer.old) (W.contents writer.new))) }
+{
+    let Document {
+        shape,
+        stored,
+        task,
+    } = document;
+    let (grid, encoding) = open_source(alloc, stored, &shape)?;
+    match task {
+        Task::Read(subset) => {
+            let subset = or_whole_array(alloc, subset, &grid)?;
+            write_read(alloc, &grid, &encoding, &subset, writer)
+        }
+        Task::Rechunk(target, chunks) => {
+            let (target, target_encoding) = open_target(alloc, target, &shape)?;
+            let chunks = or_all_chunks(alloc, chunks, &target)?;
+            write_rechunking(
+                alloc,
+                &grid,
+                &encoding,
+                &target,
+                &target_encoding,
+                &chunks,
+                writer,
+            )
+        }
+    }
+}
+
+/// The grid and the encoding of the document's array.
+fn open_source(
+    alloc: Global,
+    stored: Stored,
+    shape: &[u64],
+) -> Result<(ChunkGrid, ChunkKeyEncoding), Refusal<RunFault>>
+    ensures made { IfOk result (λ made. IsStored (stored_of stored) shape.now (grid_in made.0)
+        (encoding_in made.1)) }
+    ensures sizes { IfOk result (λ made. array_sizes (grid_in made.0).dimensions ≡ shape.now) }
+    ensures refused { IfErr result (OrMemory (IsSourceFault (stored_of stored) shape.now)) }
+{
+    let made = open(alloc, stored, shape);
+    made.map_err(|refusal| refusal.map(RunFault::Create))
+}
+
+/// The grid and the encoding of the target.
+fn open_target(
+    alloc: Global,
+    stored: Stored,
+    shape: &[u64],
+) -> Result<(ChunkGrid, ChunkKeyEncoding), Refusal<RunFault>>
+    ensures made { IfOk result (λ made. IsStored (stored_of stored) shape.now (grid_in made.0)
+        (encoding_in made.1)) }
+    ensures sizes { IfOk result (λ made. array_sizes (grid_in made.0).dimensions ≡ shape.now) }
+    ensures refused { IfErr result (OrMemory (IsTargetFault (stored_of stored) shape.now)) }
+{
+    let made = open(alloc, stored, shape);
+    made.map_err(|refusal| refusal.map(RunFault::CreateTarget))
+}
+
+/// The grid and the encoding by which an array of a shape is stored. Their metadata are dropped once both are made: a list of edges then stands in
+/// the grid alone.
+fn open(
+    alloc: Global,
+    stored: Stored,
+    shape: &[u64],
+) -> Result<(ChunkGrid, ChunkKeyEncoding), Refusal<PluginCreateError>>
+    ensures made { IfOk result (λ made. IsStored (stored_of stored) shape.now (grid_in made.0)
+        (encoding_in made.1)) }
+    ensures sizes { IfOk result (λ made. array_sizes (grid_in made.0).dimensions ≡ shape.now) }
+    ensures refused { IfErr result (OrMemory (IsCreateFault (stored_of stored) shape.now)) }
+{
+    let grid = ChunkGrid::from_metadata(alloc, &stored.chunk_grid, shape)?;
+    let encoding = ChunkKeyEncoding::from_metadata(alloc, &stored.chunk_key_encoding)?;
+    Ok((grid, encoding))
+}
+
+/// The box, or that of all elements of the array.
+fn or_whole_array<G: ChunkGridTraits>(
+    alloc: Global,
+    subset: Option<ArraySubset>,
+    grid: &G,
+) -> Result<ArraySubset, AllocError>
+    ensures { IfOk result (λ b. b ≡ unwrap_or subset (array_box (G.dimensions grid.now))) }
+{
+    match subset {
+        Some(subset) => Ok(subset),
+        None => whole_array(alloc, grid),
+    }
+}
+
+/// The box, or that of all chunks of the grid.
+fn or_all_chunks<G: ChunkGridTraits>(
+    alloc: Global,
+    chunks: Option<ArraySubset>,
+    grid: &G,
+) -> Result<ArraySubset, AllocError>
+    ensures { IfOk result (λ b. b ≡ unwrap_or chunks (all_chunks_box (G.dimensions grid.now))) }
+{
+    match chunks {
+        Some(chunks) => Ok(chunks),
+        None => all_chunks(alloc, grid),
+    }
+}
+
+/// Writes the plan of reading a box of elements.
+fn write_read<G: ChunkGridTraits, E: ChunkKeyEncodingTraits, W: Write>(
+    alloc: Global,
+    grid: &G,
+    encoding: &E,
+    subset: &ArraySubset,
+    writer: &mut W,
+) -> Result<(), Refusal<RunFault>>
+    ensures planned { OnOk result ((parts : List PartValue)
+        × IsReadPlan (G.dimensions grid.now) (E.is_key encoding.now) subset.now parts
+        × Appends (W.contents writer.old) (W.contents writer.new) (part_lines parts)) }
+    ensures refused { IfErr result (OrMemory (WriteFailedOr
+        (IsReadFault (G.dimensions grid.now) subset.now)
+        (W.contents writer.old) (W.contents writer.new))) }
+{
+    let dimensionality = subset.start().len();
+    if dimensionality != grid.dimensionality() {
+        let error = IncompatibleDimensionalityError::new(dimensionality, grid.dimensionality());
+        return Err(Refusal::Refused(RunFault::SubsetDimensionality(error)));
+    }
+    match parts(alloc, grid, encoding, subset) {
+        Ok(Some(walk)) => write_parts(alloc, walk, None, writer),
+        Ok(None) => Err(Refusal::Refused(RunFault::Uncovered)),
+        Err(refusal) => Err(refusal.map(RunFault::SubsetDimensionality)),
+    }
+}
+
+/// Writes the plan of a rechunking into the chunks of a box.
+fn write_rechunking<
+    G: ChunkGridTraits,
+    E: ChunkKeyEncodingTraits,
+    H: ChunkGridTraits,
+    F: ChunkKeyEncodingTraits,
+    W: Write,
+>(
+    alloc: Global,
+    source: &G,
+    source_encoding: &E,
+    target: &H,
+    target_encoding: &F,
+    chunks: &ArraySubset,
+    writer: &mut W,
+) -> Result<(), Refusal<RunFault>>
+    ensures planned { OnOk result ((groups : List Group)
+        × IsRechunking (G.dimensions source.now) (E.is_key source_encoding.now)
+        (H.dimensions target.now) (F.is_key target_encoding.now) chunks.now groups
+        × Appends (W.contents writer.old) (W.contents writer.new) (copy_lines groups)) }
+    ensures refused { array_sizes (G.dimensions source.now) ≡ array_sizes (H.dimensions target.now)
+        → IfErr result (OrMemory (WriteFailedOr
+        (IsChunksFault (H.dimensions target.now) chunks.now)
+        (W.contents writer.old) (W.contents writer.new))) }
+{
+    let walk = copies(
+        alloc,
+        source,
+        source_encoding,
+        target,
+        target_encoding,
+        chunks,
+    );
+    match walk {
+        Ok(walk) => write_copies(alloc, walk, writer),
+        Err(refusal) => Err(refusal.map(RunFault::Copies)),
+    }
+}
