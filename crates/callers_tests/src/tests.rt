@@ -1,7 +1,4 @@
-//! The callers that the pages print, each with its answer, which was computed by hand.
-mod reading;
-mod rechunking;
-
+//! Each caller with its answer, which was computed by hand.
 use callers::{
     Stairs, Versioned, append_keys, are_one_element, bounded, by_name, chunk_of_index, grid_sizes,
     is_in_bounds, key_by_name, key_of_element, keys_of_grid, keys_of_subset, metadata_of,

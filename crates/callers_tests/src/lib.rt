@@ -1,0 +1,11 @@
+//! Tests of the callers on the pages, of the grid and of the encoding of one's own: each answer was computed by hand.
+//!
+//! They stand apart from `callers`, since a crate with tests is proved twice.
+#![tactic(auto)]
+
+#[cfg(test)]
+mod reading;
+#[cfg(test)]
+mod rechunking;
+#[cfg(test)]
+mod tests;

@@ -1,0 +1,14 @@
+//! Tests of plans, as a user calls them: that each call answers with ample memory, and that a walk stays ended.
+//!
+//! Vectors of numbers stand with the program `chunkcalls`.
+//!
+//! | Module | What it tests |
+//! |---|---|
+//! | `plans` | the parts of a box of elements, and the laws |
+//! | `rechunkings` | what a rechunking copies, what refuses it, and the laws |
+#![tactic(auto)]
+
+#[cfg(test)]
+mod plans;
+#[cfg(test)]
+mod rechunkings;
