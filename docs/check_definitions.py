@@ -1,5 +1,5 @@
 #!/usr/bin/env python3
-"""Sees that `DEFINITIONS.md` and the definitions at the top of each `specs/` folder agree.
+"""Sees that `DEFINITIONS.md` and the definitions in `specs/` agree, but for those in its folders `seen` and `lemmas`.
 
     python3 docs/check_definitions.py
 
@@ -24,9 +24,7 @@ CASE = re.compile(r"^  (?!pub )([^\s({:]+) : ", re.M)
 HEADING = re.compile(r"^## .*: `(\w+(?:::\w+)?)`$")
 # What a file takes from another file of a `specs/` folder: the crate, the path to the file, and the names.
 TAKEN = re.compile(r"^use Rattle\.(\w+)\.specs\.([\w.]+)\.\{([^}]*)\}", re.M)
-QUOTED = re.compile(r"`([^`\s]+)`(?: of `(\w+)`)?")
-
-
+QUOTED = re.compile(r"`([^`\s]+)`(?: of `([\w:]+)`)?")
 # What the tables are about.
 TABLES = {found[1] for found in map(HEADING.match, PAGE.read_text().splitlines()) if found}
 
@@ -96,11 +94,13 @@ def main():
             for used in taken(path):
                 if used not in named:
                     faults.append(f"{path.relative_to(ROOT)}: {used[1]} of {used[0]}, which it uses, isn't on the page")
-    tables = {crate for crate, _ in rows()}
     for folder in sorted(ROOT.glob("crates/*/specs")):
         crate = folder.parent.name
-        if crate not in tables and not crate.endswith("_tests") and crate != "callers":
-            faults.append(f"{folder.relative_to(ROOT)}: no table of DEFINITIONS.md is about {crate}")
+        if crate.endswith("_tests") or crate == "callers":
+            continue
+        parts = [f"{crate}::{part.name}" for part in folder.iterdir() if part.is_dir() and part.name not in ("seen", "lemmas")]
+        for about in sorted({crate, *parts} - TABLES):
+            faults.append(f"{folder.relative_to(ROOT)}: no table of DEFINITIONS.md is about {about}")
     for fault in faults:
         print(fault)
     sys.exit(1 if faults else 0)

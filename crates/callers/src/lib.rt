@@ -1,4 +1,4 @@
-//! The callers that the README and the pages print, which `zarrs_chunk_tests` runs: `docs/check_callers.py` sees that each of them stands here
+//! The callers that the README and the pages print, which `callers_tests` runs: `docs/check_callers.py` sees that each of them stands here
 //! word for word.
 //!
 //! | Module | What it shows |
