@@ -1,2 +1,3 @@
+pub mod Members
 pub mod Refusals
 pub mod Taken

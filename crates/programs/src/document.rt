@@ -17,7 +17,7 @@ use zarrs_chunk_base::{MetadataV3, Refusal, TreeForm, take_member};
 ///
 /// # Errors
 /// The input is no JSON; or out of memory.
-pub fn read_tree(alloc: Global, input: &[u8]) -> Result<Value, Refusal<DocumentFault>>
+pub(crate) fn read_tree(alloc: Global, input: &[u8]) -> Result<Value, Refusal<DocumentFault>>
     ensures { MatchResult result (λ tree. IsTreeOf input.now (view tree))
         (OrMemory (IsTextFault input.now)) }
 {
@@ -32,7 +32,7 @@ pub fn read_tree(alloc: Global, input: &[u8]) -> Result<Value, Refusal<DocumentF
 ///
 /// # Errors
 /// It is missing.
-pub fn required_member<'t>(
+pub(crate) fn required_member<'t>(
     tree: &'t Value,
     field: &str,
     name: &'static str,
@@ -49,7 +49,7 @@ pub fn required_member<'t>(
 ///
 /// # Errors
 /// It is missing; or the first fault of its tree; or out of memory.
-pub fn take_metadata(
+pub(crate) fn take_metadata(
     alloc: Global,
     tree: &mut Value,
     field: &str,
@@ -89,7 +89,7 @@ fn metadata_of(
 ///
 /// # Errors
 /// Out of memory.
-pub fn read_sizes(alloc: Global, tree: &Value) -> Result<Option<Vec<u64>>, AllocError>
+pub(crate) fn read_sizes(alloc: Global, tree: &Value) -> Result<Option<Vec<u64>>, AllocError>
     ensures { IfOk result (λ o. option_map (λ v. v.items) o ≡ list_of size_of (view tree.now)) }
 {
     Vec::from_tree(alloc, tree)

@@ -7,7 +7,11 @@ use std::io::Write;
 
 /// Tells a run's fault in one line after the program's name, if it had one, and answers the status
 /// to end with: 0, or 1 after a fault. That the line can't be written changes nothing.
-pub fn finish<T, F: Display, W: Write>(program: &str, outcome: &Result<T, F>, errors: &mut W) -> u8
+pub(crate) fn finish<T, F: Display, W: Write>(
+    program: &str,
+    outcome: &Result<T, F>,
+    errors: &mut W,
+) -> u8
     ensures status { MatchResult outcome.now (λ _. result ≡ 0) (λ _. result ≡ 1) }
     ensures silent { OnOk outcome.now (Keeps (W.contents errors.old) (W.contents errors.new)) }
 {

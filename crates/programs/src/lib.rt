@@ -1,5 +1,4 @@
-//! The programs, over any reader and writers, and what they share: how a run ends, what their documents have in common, and readers and writers
-//! that fail, for their tests.
+//! The programs, over any reader and writers, and what they share: how a run ends, and what their documents have in common.
 //!
 //! Each program's `main` is a crate of its own, of a few lines. Its tests stand in `programs_tests`, since a crate with tests is proved twice.
 //!
@@ -11,7 +10,6 @@
 //! | `document` | a document's tree, and the members that say what an array is |
 //! | `document_fault` | why an input is no document |
 //! | `ending` | the line that tells a fault, and the status to end with |
-//! | `failing` | readers and writers that fail |
 #![tactic(auto)]
 
 pub mod chunkcalls;
@@ -20,9 +18,7 @@ pub mod chunkwhere;
 mod document;
 mod document_fault;
 mod ending;
-mod failing;
 
-pub use document::{read_sizes, read_tree, required_member, take_metadata};
+use document::{read_sizes, read_tree, required_member, take_metadata};
 pub use document_fault::DocumentFault;
-pub use ending::finish;
-pub use failing::{FailingReader, FailingWriter};
+use ending::finish;

@@ -2,8 +2,8 @@
 //! and writers that fail.
 mod at_size;
 
+use crate::failing::{FailingReader, FailingWriter};
 use programs::chunkcalls::{RunFault, finish, run_to_status};
-use programs::{FailingReader, FailingWriter};
 use std::alloc::AllocError;
 use std::io::ErrorKind;
 use std::process::Abort;

@@ -1,6 +1,6 @@
 //! What no contract says: readers and writers that fail, and that a beginning of the plan is written then.
+use crate::failing::{FailingReader, FailingWriter};
 use programs::chunkplan::run_to_status;
-use programs::{FailingReader, FailingWriter};
 use std::io::ErrorKind;
 use std::process::Abort;
 use std::test::Fail;

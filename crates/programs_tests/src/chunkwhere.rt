@@ -1,7 +1,7 @@
 //! What no contract says: that the program answers with ample memory, its texts, and readers and
 //! writers that fail.
+use crate::failing::{FailingReader, FailingWriter};
 use programs::chunkwhere::{RunFault, Watched, finish, run, run_to_status};
-use programs::{FailingReader, FailingWriter};
 use std::alloc::{AllocError, Global};
 use std::io;
 use std::io::{ErrorKind, Read, Write};

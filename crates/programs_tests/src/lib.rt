@@ -7,6 +7,8 @@
 //! | `chunkwhere` | where the elements of an array are stored |
 //! | `chunkplan` | what a read or a rechunking of an array copies |
 //! | `chunkcalls`, `chunkcalls::at_size` | what grids and encodings answer, a call a line |
+//!
+//! The readers and writers that fail stand in `failing`.
 #![tactic(auto)]
 
 #[cfg(test)]
@@ -15,3 +17,5 @@ mod chunkcalls;
 mod chunkplan;
 #[cfg(test)]
 mod chunkwhere;
+#[cfg(test)]
+mod failing;

@@ -232,8 +232,8 @@ fn metadata_is_made(rt: HostRuntime) -> Result<(), Fail> {
 #[test]
 fn metadata_has_a_configuration(rt: HostRuntime) -> Result<(), Fail> {
     let alloc = rt.alloc();
-    let name = || String::from_str(alloc, "anything");
-    let absent = MetadataV3::new(name()?, None);
+    let name = String::from_str(alloc, "anything")?;
+    let absent = MetadataV3::new(name.clone()?, None);
     let refusal = match RegularChunkGridConfiguration::from_metadata(alloc, &absent) {
         Ok(_) => return Err("no members were enough".into()),
         Err(refusal) => refusal,
@@ -242,7 +242,7 @@ fn metadata_has_a_configuration(rt: HostRuntime) -> Result<(), Fail> {
     check_text(&rt, &refusal, text)?;
     let default = DefaultChunkKeyEncodingConfiguration::from_metadata(alloc, &absent)?;
     assert!(rt; default.separator == ChunkKeySeparator::Slash);
-    let present = MetadataV3::new(name()?, Some(members(alloc, r#"{"chunk_shape":[7]}"#)?));
+    let present = MetadataV3::new(name, Some(members(alloc, r#"{"chunk_shape":[7]}"#)?));
     let regular = RegularChunkGridConfiguration::from_metadata(alloc, &present)?;
     check_text(&rt, &regular, r#"regular chunk grid {"chunk_shape":[7]}"#)?;
     Ok(())

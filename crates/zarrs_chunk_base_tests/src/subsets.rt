@@ -42,8 +42,7 @@ fn check_subset(
         let end_exc = subset.end_exc(rt.alloc())?;
         assert_eq!(rt; end_exc.as_slice(), row.end_exc, "{subset:?}");
         let end_inc = subset.end_inc(rt.alloc())?;
-        let end_inc = end_inc.as_ref().map(|end| end.as_slice());
-        assert_eq!(rt; end_inc, row.end_inc, "{subset:?}");
+        assert_eq!(rt; end_inc.as_deref(), row.end_inc, "{subset:?}");
     }
     Ok(())
 }

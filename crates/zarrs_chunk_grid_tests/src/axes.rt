@@ -1,7 +1,5 @@
 //! Lists of axes, and walks through lists of numbers: that calls succeed with ample memory, and how far they pass over.
-use std::alloc::AllocError;
 use std::num::NonZeroU64;
-use std::process::Abort;
 use std::test::Fail;
 use zarrs_chunk_axes::{AxisGrid, EqualAxis, RowMajorWalk};
 use zarrs_chunk_base::Refusal;
@@ -29,47 +27,37 @@ fn lists_of_axes_are_looked_up(rt: HostRuntime) -> Result<(), Fail> {
     Ok(())
 }
 
-/// The walk stands at a list, which is this one.
-fn check_stands(
-    rt: &impl Abort,
-    walk: &RowMajorWalk<'_>,
-    found: Result<bool, AllocError>,
-    numbers: &[u64],
-) -> Result<(), AllocError> {
-    assert!(rt; found?, "there is no list {numbers:?}");
-    assert_eq!(rt; walk.numbers(), numbers);
-    Ok(())
-}
-
 #[test]
 fn lists_below_a_shape_are_passed_over(rt: HostRuntime) -> Result<(), Fail> {
     let mut walk = RowMajorWalk::new(rt.alloc(), &[2, 2, 3]);
-    let found = walk.step();
-    check_stands(&rt, &walk, found, &[0, 0, 0])?;
-    let found = walk.step();
-    check_stands(&rt, &walk, found, &[0, 0, 1])?;
-    if walk.step()? {
-        let found = walk.pass_over();
-        check_stands(&rt, &walk, Ok(found), &[0, 1, 0])?;
-    }
-    if walk.step()? {
-        let found = walk.pass_over();
-        check_stands(&rt, &walk, Ok(found), &[1, 0, 0])?;
-    }
-    if walk.step()? {
-        let found = walk.pass_over();
-        check_stands(&rt, &walk, Ok(found), &[1, 1, 0])?;
+    // Whether the rest of the row is passed over after the step, and where the walk stands then.
+    let steps = [
+        (false, [0, 0, 0]),
+        (false, [0, 0, 1]),
+        (true, [0, 1, 0]),
+        (true, [1, 0, 0]),
+        (true, [1, 1, 0]),
+    ];
+    for (passes, numbers) in steps {
+        let found = walk.step()? && (!passes || walk.pass_over());
+        assert!(rt; found, "there is no list {numbers:?}");
+        assert_eq!(rt; walk.numbers(), numbers.as_slice());
     }
     if walk.step()? {
         assert!(rt; walk.indices()?.as_slice() == [1, 1, 1].as_slice());
         assert!(rt; !walk.pass_over(), "there is a list after the last one");
     }
     assert!(rt; !walk.step()?, "the walk goes on after its end");
+    Ok(())
+}
+
+#[test]
+fn walks_end(rt: HostRuntime) -> Result<(), Fail> {
     let mut walk = RowMajorWalk::new(rt.alloc(), &[2, 0, 3]);
     assert!(rt; !walk.step()?, "there is a list below 0");
     let mut walk = RowMajorWalk::new(rt.alloc(), &[2]);
-    let found = walk.step();
-    check_stands(&rt, &walk, found, &[0])?;
+    assert!(rt; walk.step()?, "there is no list below 2");
+    assert_eq!(rt; walk.numbers(), [0].as_slice());
     walk.end();
     assert!(rt; !walk.step()?, "an ended walk goes on");
     Ok(())

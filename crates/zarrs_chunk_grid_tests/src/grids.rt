@@ -47,11 +47,11 @@ type Row = (ChunkGrid, u64, &'static str);
 
 /// Five in each dimension, in chunks of three and of two: each kind of grid.
 fn make_grids(alloc: Global, dimensions: usize) -> Result<[Row; 4], Fail> {
-    let array_shape = || vec![in alloc; 5; dimensions];
+    let array_shape = vec![in alloc; 5; dimensions]?;
     let three = non_zero(3)?;
-    let threes = || vec![in alloc; three; dimensions];
-    let regular = RegularChunkGrid::new(alloc, array_shape()?, threes()?)?;
-    let bounded = RegularBoundedChunkGrid::new(alloc, array_shape()?, threes()?)?;
+    let threes = vec![in alloc; three; dimensions]?;
+    let regular = RegularChunkGrid::new(alloc, array_shape.clone()?, threes.clone()?)?;
+    let bounded = RegularBoundedChunkGrid::new(alloc, array_shape.clone()?, threes)?;
     let mut listed = Vec::new(alloc);
     let mut lengths = Vec::new(alloc);
     for _ in 0..dimensions {
@@ -61,8 +61,8 @@ fn make_grids(alloc: Global, dimensions: usize) -> Result<[Row; 4], Fail> {
         elements.push(RunLengthElement::Repeated([non_zero(2)?, NonZeroU64::MIN]))?;
         lengths.push(ChunkEdgeLengths::Varying(elements))?;
     }
-    let rectangular = RectangularChunkGrid::new(alloc, array_shape()?, &listed)?;
-    let rectilinear = RectilinearChunkGrid::new(alloc, array_shape()?, &lengths)?;
+    let rectangular = RectangularChunkGrid::new(alloc, array_shape.clone()?, &listed)?;
+    let rectilinear = RectilinearChunkGrid::new(alloc, array_shape, &lengths)?;
     Ok([
         (ChunkGrid::from(regular), 6, "regular"),
         (ChunkGrid::from(bounded), 5, "zarrs.regular_bounded"),
@@ -99,17 +99,18 @@ fn check_homes(
     grid: &ChunkGrid,
     dimensions: usize,
 ) -> Result<(), Fail> {
-    let mut home = Home::new(rt.alloc());
+    let alloc = rt.alloc();
+    let mut home = Home::new(alloc);
     for (index, chunk, place) in [(4, 1, 1), (0, 0, 0), (2, 0, 2)] {
-        let indices = vec![in rt.alloc(); index; dimensions]?;
+        let indices = vec![in alloc; index; dimensions]?;
         assert!(rt;
             grid.find_home(&indices, &mut home)?,
             "no chunk holds {index}"
         );
-        assert_eq!(rt; home.chunk.len(), dimensions);
-        assert!(rt; home.chunk.iter().all(|number| *number == chunk));
-        assert_eq!(rt; home.element.len(), dimensions);
-        assert!(rt; home.element.iter().all(|number| *number == place));
+        let chunk = vec![in alloc; chunk; dimensions]?;
+        assert_eq!(rt; home.chunk.as_slice(), chunk.as_slice());
+        let place = vec![in alloc; place; dimensions]?;
+        assert_eq!(rt; home.element.as_slice(), place.as_slice());
     }
     assert!(rt; grid.find_home(&[], &mut home).is_err());
     Ok(())
@@ -126,8 +127,8 @@ fn check_laws(
     let alloc = rt.alloc();
     let last = vec![in alloc; 4; dimensions]?;
     let chunk = chunk_indices_names_the_home(alloc, grid, &last)?.ok_or("no chunk")?;
-    assert_eq!(rt; chunk.len(), dimensions);
-    assert!(rt; chunk.iter().all(|number| *number == 1));
+    let ones = vec![in alloc; 1; dimensions]?;
+    assert_eq!(rt; chunk.as_slice(), ones.as_slice());
     let chunks = box_of(alloc, 0..2, dimensions)?;
     let union = the_box_of_chunks_is_the_union_of_their_boxes(alloc, grid, &chunks);
     check_box(rt, union, 0..end, dimensions)?;

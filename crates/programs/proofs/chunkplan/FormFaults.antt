@@ -1,12 +1,11 @@
 -- What the members of a tree say of its first fault.
-use Rattle.std.proofs.Common.{◌≡◌, ◌∙◌, ℕ, zero, suc, List, IsSome, is_some, Option, None, Some, option_map, Vec, Global, codes, sym, ap, refl, inl, inr, arith}
-use Rattle.std.specs.Prelude.{option_and_then}
+use Rattle.std.proofs.Common.{◌≡◌, ◌∙◌, ℕ, zero, suc, List, IsSome, None, Some, codes, sym, refl, inl, inr, arith}
 use Rattle.serde_json.specs.Data.{Data}
 use Rattle.serde_json.specs.Find.{as_object, get}
-use Rattle.zarrs_chunk_base.specs.Json.{list_of, size_of}
-use Rattle.programs.specs.Document.{IsMissingFault, shape_in}
+use Rattle.programs.specs.Document.{IsMissingFault}
 use Rattle.programs.specs.declared.document_fault.DocumentFault.{DocumentFault}
 use Rattle.programs.specs.declared.document_fault.DocumentFault.TheVariants.{Missing}
+use Rattle.programs.proofs.Members.{found}
 use Rattle.programs.specs.chunkplan.DocumentFault.{HasMembers, IsFormFault, missing}
 
 is_absent : (d : Data) (field name : List ℕ) (fault : DocumentFault) → IsMissingFault d field name fault → get field d ≡ None
@@ -31,18 +30,9 @@ no_encoding d s g fault object shape grid is =
 
 -- ---- all are there
 
-found : (d : Data) (name other : List ℕ) (m : Data) → get name d ≡ Some m → name ≡ other → IsSome (get other d)
-found d name other m there same = ap is_some (ap (λ n. get n d) (sym same) ∙ there)
-
 pub has_members : (d s g k : Data) → get (codes "shape") d ≡ Some s → get (codes "chunk_grid") d ≡ Some g → get (codes "chunk_key_encoding") d ≡ Some k
     → HasMembers d
 has_members d s g k shape grid keys name (zero, within, at) = found d _ name s shape at
 has_members d s g k shape grid keys name (suc zero, within, at) = found d _ name g grid at
 has_members d s g k shape grid keys name (suc (suc zero), within, at) = found d _ name k keys at
 has_members d s g k shape grid keys name (suc (suc (suc n)), within, at) = absurd (omega arith)
-
--- ---- the shape
-
-pub shape_is : (d m : Data) (read : Option (Vec ℕ Global)) → get (codes "shape") d ≡ Some m
-    → option_map (λ (v : Vec ℕ Global). v.items) read ≡ list_of size_of m → shape_in d ≡ option_map (λ (v : Vec ℕ Global). v.items) read
-shape_is d m read there is = ap (option_and_then (list_of size_of)) there ∙ sym is

@@ -5,7 +5,7 @@ use Rattle.serde_json.specs.Find.{get}
 use Rattle.zarrs_chunk_base.specs.ArraySubset.{Box}
 use Rattle.programs.specs.declared.document_fault.DocumentFault.{DocumentFault}
 use Rattle.programs.specs.chunkplan.Document.{HasBox, IsBoxIn, IsTask, Task, read_of, rechunk_to}
-use Rattle.programs.specs.chunkplan.DocumentFault.{HasBoxFault, IsBoxFormFault, IsTaskFault, of_subset, of_target, of_target_stored, of_chunks}
+use Rattle.programs.specs.chunkplan.DocumentFault.{HasBoxFault, IsTaskFault, of_subset, of_target, of_target_stored, of_chunks}
 
 -- ---- one member
 
@@ -19,22 +19,22 @@ has_box_fault d left field fault same (m, there, is) = (m, sym same ∙ there, i
 -- ---- the task, which is read where the array's own metadata were taken out
 
 -- the members of other names than these two are those of d
-abbrev pub IsLeft : (d left : Data) → Type 0
-IsLeft d left = (other : List ℕ) → other ≢ codes "chunk_grid" → other ≢ codes "chunk_key_encoding" → get other left ≡ get other d
+abbrev pub AreLeft : (d left : Data) → Type 0
+AreLeft d left = (other : List ℕ) → other ≢ codes "chunk_grid" → other ≢ codes "chunk_key_encoding" → get other left ≡ get other d
 
-short : (d left : Data) → IsLeft d left → (name : List ℕ) → length name ≡ 6 → get name left ≡ get name d
-short d left is_left name six =
-    is_left name (λ same. absurd (omega (arith, six, ap length same))) (λ same. absurd (omega (arith, six, ap length same)))
+short : (d left : Data) → AreLeft d left → (name : List ℕ) → length name ≡ 6 → get name left ≡ get name d
+short d left are_left name six =
+    are_left name (λ same. absurd (omega (arith, six, ap length same))) (λ same. absurd (omega (arith, six, ap length same)))
 
-module _ (d left : Data) (is_left : IsLeft d left) where
+module _ (d left : Data) (are_left : AreLeft d left) where
   target : get (codes "target") left ≡ get (codes "target") d
-  target = short d left is_left (codes "target") refl
+  target = short d left are_left (codes "target") refl
 
   subset : get (codes "subset") left ≡ get (codes "subset") d
-  subset = short d left is_left (codes "subset") refl
+  subset = short d left are_left (codes "subset") refl
 
   chunks : get (codes "chunks") left ≡ get (codes "chunks") d
-  chunks = short d left is_left (codes "chunks") refl
+  chunks = short d left are_left (codes "chunks") refl
 
   pub is_task : (task : Task) → IsTask left task → IsTask d task
   is_task (read_of b) (none, box) = (sym target ∙ none, has_box d left (codes "subset") b subset box)

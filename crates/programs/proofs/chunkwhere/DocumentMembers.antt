@@ -1,27 +1,16 @@
 -- What the parts of a document say of the whole.
-use Rattle.std.proofs.Common.{◌≡◌, ℕ, zero, suc, List, IsSome, is_some, length, Option, Some, None, option_map, option_and_then, Vec, Global, codes, sym, ap, ◌∙◌, inr, ◌⊎◌, arith}
+use Rattle.std.proofs.Common.{◌≡◌, ℕ, zero, suc, IsSome, length, Some, option_and_then, codes, ap, ◌∙◌, inr, ◌⊎◌, arith}
 use Rattle.serde_json.specs.Data.{Data}
 use Rattle.serde_json.specs.Find.{get}
 use Rattle.programs.specs.Document.{HasExtensionFault, HasSomeExtension, IsMissingFault, shape_in}
 use Rattle.programs.specs.declared.document_fault.DocumentFault.{DocumentFault}
 use Rattle.programs.specs.declared.document_fault.DocumentFault.TheVariants.{Metadata}
+use Rattle.programs.proofs.Members.{found}
 use Rattle.programs.proofs.Taken.{IsLeft, has_encoding_fault}
 use Rattle.programs.specs.chunkwhere.Document.{HasMembers, IsFormFault, indices_in, keys_in, texts_of}
 use Rattle.zarrs_chunk_base.specs.Json.{list_of, size_of}
 
--- ---- what was read of a member is what the document has there
-
-abbrev pub numbers : Vec ℕ Global → List ℕ
-numbers v = v.items
-
-pub shape_is : (d m : Data) (read : Option (Vec ℕ Global)) → get (codes "shape") d ≡ Some m → option_map numbers read ≡ list_of size_of m
-    → shape_in d ≡ option_map numbers read
-shape_is d m read there e = ap (option_and_then (list_of size_of)) there ∙ sym e
-
 -- ---- the members that have to be there
-
-found : (d : Data) (name other : List ℕ) (m : Data) → get name d ≡ Some m → name ≡ other → IsSome (get other d)
-found d name other m there same = ap is_some (ap (λ n. get n d) (sym same) ∙ there)
 
 pub has_members : (d s g k i : Data) → get (codes "shape") d ≡ Some s → get (codes "chunk_grid") d ≡ Some g → get (codes "chunk_key_encoding") d ≡ Some k
     → get (codes "indices") d ≡ Some i → HasMembers d

@@ -1,5 +1,5 @@
 //! The program's document.
-ghost use Rattle.std.specs.Prelude.{◌≡◌, ◌≢◌, ℕ, List, IfOk, MatchResult, codes};
+ghost use Rattle.std.specs.Prelude.{◌≡◌, ◌≢◌, ℕ, List, IfOk, MatchResult, None, codes};
 ghost use Rattle.serde_json.specs.Data.{Data};
 ghost use Rattle.serde_json.specs.Find.{get};
 ghost use Rattle.serde_json.specs.View.{view};
@@ -123,6 +123,9 @@ fn take_stored(
 ) -> Result<Stored, Refusal<DocumentFault>>
     ensures stored { MatchResult result (λ stored. HasStored (view tree.old) (stored_of stored))
         (OrMemory (IsStoredFault (view tree.old) grid_name.now encoding_name.now)) }
+    ensures no_grid { IfOk result (λ _. get (codes "chunk_grid") (view tree.new) ≡ None) }
+    ensures no_encoding { IfOk result
+        (λ _. get (codes "chunk_key_encoding") (view tree.new) ≡ None) }
     ensures others { IfOk result (λ _. (other : List ℕ) → other ≢ codes "chunk_grid"
         → other ≢ codes "chunk_key_encoding"
         → get other (view tree.new) ≡ get other (view tree.old)) }

@@ -6,7 +6,8 @@ use Rattle.programs.specs.Document.{shape_in}
 use Rattle.programs.proofs.Refusals.{follows, follows_own}
 use Rattle.programs.specs.chunkplan.Document.{stored_of}
 use Rattle.programs.specs.chunkplan.DocumentFault.{HasMembers, IsFormFault, misfit, misformed_shape, misformed_stored, misformed_task}
-use Rattle.programs.proofs.chunkplan.FormFaults.{has_members, no_encoding, no_grid, no_shape, shape_is}
+use Rattle.programs.proofs.Members.{shape_is}
+use Rattle.programs.proofs.chunkplan.FormFaults.{has_members, no_encoding, no_grid, no_shape}
 use Rattle.programs.proofs.chunkplan.LeftMembers.{is_task, is_task_fault}
 use Rattle.programs.proofs.chunkplan.document.document_from.Goals as goal
 
@@ -68,7 +69,8 @@ returns-in_err-task c =
     rw (p.1, p.2)
     (follows _ _ (IsFormFault tree)
     (λ fault is.
-    misformed_task (stored_of c.in_ok-stored.stored) members c.in_ok-check_fitting.ensures (ap is_some shape) c.in_ok-stored.ensures.stored (is_task_fault tree (view c.take_stored.new.tree) c.in_ok-stored.ensures.others fault is))
+    misformed_task (stored_of c.in_ok-stored.stored) members c.in_ok-check_fitting.ensures (ap is_some shape) c.in_ok-stored.ensures.stored
+    (is_task_fault tree (view c.take_stored.new.tree) c.in_ok-stored.ensures.others fault is))
     c.in_err-task.ensures)
 
 pub returns : goal.returns

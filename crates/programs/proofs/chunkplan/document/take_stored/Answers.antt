@@ -1,4 +1,4 @@
-use Rattle.std.proofs.Common.{◌∙◌, is_some, ap, ⊎_elim}
+use Rattle.std.proofs.Common.{◌∙◌, is_some, ap, arith, codes, length, ⊎_elim}
 use Rattle.std.proofs.lemmas.Result.{err_from_is_err_and}
 use Rattle.serde_json.specs.View.{view}
 use Rattle.zarrs_chunk_base.specs.Metadata.{extension_of}
@@ -43,6 +43,13 @@ returns-clause-stored c = record {
   grid = c.in_ok-chunk_grid.ensures.metadata;
   encoding = has_encoding _ _ c.in_ok-chunk_grid.ensures.others _ c.in_ok-chunk_key_encoding.ensures.metadata;
 }
+
+pub returns-clause-no_grid : goal.returns-clause-no_grid
+returns-clause-no_grid c =
+    c.in_ok-chunk_key_encoding.ensures.others (codes "chunk_grid") (λ same. absurd (omega (arith, ap length same))) ∙ c.in_ok-chunk_grid.ensures.gone
+
+pub returns-clause-no_encoding : goal.returns-clause-no_encoding
+returns-clause-no_encoding c = c.in_ok-chunk_key_encoding.ensures.gone
 
 pub returns-clause-others : goal.returns-clause-others
 returns-clause-others c = λ other grid encoding. c.in_ok-chunk_key_encoding.ensures.others other encoding ∙ c.in_ok-chunk_grid.ensures.others other grid

@@ -6,7 +6,8 @@ use Rattle.programs.proofs.Taken.{has_encoding}
 use Rattle.programs.specs.Document.{shape_in}
 use Rattle.programs.specs.chunkwhere.Document.{indices_in, keys_in, lists_in, IsFormFault}
 use Rattle.zarrs_chunk_base.specs.Metadata.{extension_of}
-use Rattle.programs.proofs.chunkwhere.DocumentMembers.{numbers, shape_is, has_members, encoding_fault, indices_left, keys_left}
+use Rattle.programs.proofs.Members.{numbers, shape_is}
+use Rattle.programs.proofs.chunkwhere.DocumentMembers.{has_members, encoding_fault, indices_left, keys_left}
 use Rattle.programs.proofs.chunkwhere.document.document_from.Goals as goal
 
 pub returns-in_err-chunk_key_encoding : goal.returns-in_err-chunk_key_encoding

@@ -23,7 +23,7 @@ pub(super) struct Overlong {
 }
 
 impl ChunkGridTraits for Overlong {
-    ghost use Rattle.zarrs_chunk_walk_tests.specs.Overlong.{overlong, overlong_are_chains};
+    ghost use Rattle.zarrs_chunk_grid_tests.specs.Overlong.{overlong, overlong_are_chains};
 
     ghost dimensions = { λ _. overlong };
 
