@@ -15,6 +15,8 @@ import sys
 import tempfile
 
 SOURCE = pathlib.Path(__file__).resolve().with_name("refuse.c")
+# A run that takes longer, in seconds, is ended; it then has this status.
+LONGEST, TOO_LONG = 120, "none, after two minutes"
 
 
 class Refusing:
@@ -27,7 +29,10 @@ class Refusing:
 
     def run(self, command, given, **settings):
         environment = {**os.environ, "LD_PRELOAD": str(self.library), **settings}
-        return subprocess.run(command, input=given, env=environment, stdout=subprocess.PIPE, stderr=subprocess.PIPE)
+        try:
+            return subprocess.run(command, input=given, env=environment, stdout=subprocess.PIPE, stderr=subprocess.PIPE, timeout=LONGEST)
+        except subprocess.TimeoutExpired:
+            return subprocess.CompletedProcess(command, TOO_LONG, b"", b"")
 
     def whole(self, command, given):
         """A run of which nothing is refused, and the number of its allocations."""
@@ -54,7 +59,7 @@ def main():
         refusing = Refusing(folder)
         _, allocations = refusing.whole(command, given)
         print(f"{allocations} allocations")
-        endings = collections.Counter((ended.returncode, last_line(ended)) for ended in refusing.each(command, given, allocations))
+        endings = collections.Counter((str(ended.returncode), last_line(ended)) for ended in refusing.each(command, given, allocations))
         for (status, line), runs in endings.most_common():
             print(f"{runs:6} runs: status {status}, {line}")
 

@@ -2,7 +2,7 @@
 mod counted;
 mod look_up;
 
-ghost use Rattle.std.specs.Prelude.{◌≡◌, ◌↔◌, ◌≤◌, ℕ, [], IfErr, IfOk, IsOk, IsTrue, List, MatchOption, cond, length, map};
+ghost use Rattle.std.specs.Prelude.{◌≡◌, ◌↔◌, ◌≤◌, ℕ, [], IfErr, IfOk, IsOk, IsTrue, List, MatchOption, OnErr, cond, length, map};
 ghost use Rattle.std.specs.List.{AllByRecursion, AllZip};
 ghost use Rattle.std.specs.Vec.{vec_capacity};
 ghost use Rattle.zarrs_chunk_base.specs.Dimension.{InBox, InEach, IsPlace, array_sizes, grid_sizes};
@@ -151,10 +151,10 @@ impl<A: Axis + Drop> AxisGrid<A> {
     }
 
     /// Finds for each dimension the chunk that the index lies in, and how far after the chunk's start it lies, and leaves them in
-    /// two lists, whatever these held; a list of a wrong length leaves them as they were. `false` where there is no such chunk somewhere.
+    /// two lists, whatever these held. `false` where there is no such chunk somewhere.
     ///
     /// # Errors
-    /// The list has another length than there are dimensions; or out of memory.
+    /// The list has another length than there are dimensions; or out of memory. The two lists then hold what they held.
     pub fn find_home(
         &self,
         indices: &[u64],
@@ -165,14 +165,17 @@ impl<A: Axis + Drop> AxisGrid<A> {
             chunk.new.items place.new.items }
         ensures unchanged { IfErr result (λ refusal. IfRefused refusal
             (λ _. (chunk.new ≡ chunk.old) × (place.new ≡ place.old))) }
+        ensures chunk_kept { OnErr result (chunk.new.items ≡ chunk.old.items) }
+        ensures place_kept { OnErr result (place.new.items ≡ place.old.items) }
     {
         if indices.len() != self.axes.len() {
             return Err(self.other_length(indices));
         }
+        // Both have their room before either is cleared.
+        chunk.reserve(self.axes.len().saturating_sub(chunk.len()))?;
+        place.reserve(self.axes.len().saturating_sub(place.len()))?;
         chunk.clear();
         place.clear();
-        chunk.reserve(self.axes.len())?;
-        place.reserve(self.axes.len())?;
         Ok(find_each::<A, HomeOf>(&self.axes, indices, chunk, place))
     }
 

@@ -197,6 +197,14 @@ fn a_kind_of_grid_looks_at_no_name(rt: HostRuntime) -> Result<(), Fail> {
 }
 
 #[test]
+fn a_grid_is_created_by_its_name(rt: HostRuntime) -> Result<(), Fail> {
+    let alloc = rt.alloc();
+    let text = r#"{"name":"regular","configuration":{"chunk_shape":[3]}}"#;
+    let grid = ChunkGrid::create(alloc, &metadata(alloc, text)?, &[5])?;
+    check_box(&rt, grid.subset(alloc, &[1]), 3..6, 1)
+}
+
+#[test]
 fn shapes_of_unequal_lengths_make_no_regular_grid(rt: HostRuntime) -> Result<(), Fail> {
     let array_shape = [0].to_vec(rt.alloc())?;
     let chunk_shape = edges(rt.alloc(), &[1, 2, 3])?;

@@ -8,9 +8,10 @@ use std::cell::Cell;
 use std::num::NonZeroU64;
 use std::process::Abort;
 use std::test::Fail;
+use zarrs_chunk_base::ArraySubset;
 use zarrs_chunks::laws::{
     each_element_lies_in_one_chunk_of_the_walk, the_boxes_of_a_walk_are_those_of_its_chunks,
-    the_walk_gives_each_chunk_once,
+    the_walk_gives_each_chunk_once, the_walk_over_a_box_gives_each_chunk_once,
 };
 use zarrs_chunks::{ChunkGridTraits, ChunkIndices, RegularChunkGrid};
 
@@ -67,6 +68,18 @@ fn more_than_four_dimensions_are_walked(rt: HostRuntime) -> Result<(), Fail> {
         }
     }
     assert!(rt; walk.next().is_none() && walk.next().is_none());
+    Ok(())
+}
+
+#[test]
+fn the_chunks_in_a_box_are_walked(rt: HostRuntime) -> Result<(), Fail> {
+    let chunks = ArraySubset::new_with_ranges(rt.alloc(), &[1..3, 2..3])?;
+    let mut walk = the_walk_over_a_box_gives_each_chunk_once(rt.alloc(), chunks)?;
+    for expected in [[1, 2], [2, 2]] {
+        let chunk = walk.next().ok_or("the walk ends early")?;
+        assert_eq!(rt; chunk?.as_slice(), expected.as_slice());
+    }
+    assert!(rt; walk.next().is_none());
     Ok(())
 }
 

@@ -2,7 +2,7 @@
 use std::alloc::Global;
 use std::process::Abort;
 use std::test::Fail;
-use zarrs_chunk_base::ChunkKeySeparator;
+use zarrs_chunk_base::{ChunkKeySeparator, MetadataV3};
 use zarrs_chunk_keys::laws::{
     a_chunk_has_one_key, a_default_key_names_one_chunk, a_key_is_read_back,
     an_encoding_is_made_again_of_its_metadata, keys_read_as_one_chunk_are_equal,
@@ -134,5 +134,14 @@ fn keys_of_a_thousand_dimensions_are_written_and_read(rt: HostRuntime) -> Result
         assert_eq!(rt; read.as_slice(), chunk.as_slice());
         assert!(rt; encoding.decode(alloc, 999, &key)?.is_none());
     }
+    Ok(())
+}
+
+#[test]
+fn an_encoding_is_created_by_its_name(rt: HostRuntime) -> Result<(), Fail> {
+    let alloc = rt.alloc();
+    let metadata = MetadataV3::new(String::from_str(alloc, "v2")?, None);
+    let encoding = ChunkKeyEncoding::create(alloc, &metadata)?;
+    assert_eq!(rt; encoding.encode(alloc, &[1, 23])?.as_str(), "1.23");
     Ok(())
 }

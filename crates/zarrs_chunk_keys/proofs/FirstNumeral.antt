@@ -1,10 +1,10 @@
 -- The numeral that a text begins with, up to a byte that is no digit.
-use Rattle.std.proofs.Common.{◌≡◌, ◌≢◌, ◌∙◌, ℕ, ◌+◌, ◌*◌, ◌<◌, ◌≤◌, List, [], ◌∷◌, ◌++◌, ap, append-nil, append_assoc, length, length-append, refl, subst, sym, arith}
+use Rattle.std.proofs.Common.{◌≡◌, ◌≢◌, ◌∙◌, ℕ, ◌+◌, ◌*◌, ◌<◌, ◌≤◌, List, [], ◌∷◌, ◌++◌, ap, append_assoc, length, length-append, refl, subst, sym, arith}
 use Rattle.zarrs_chunk_base.specs.Greatest.{AllFit, greatest}
 use Rattle.zarrs_chunk_keys.specs.Numeral.{IsNumeral, IsNumerals, digit, more_digits, one_digit}
 use Rattle.zarrs_chunk_keys.specs.lemmas.Numerals.{same_number}
 use Rattle.zarrs_chunk_keys.specs.lemmas.Parts.{EndsBefore}
-use Rattle.zarrs_chunk_keys.proofs.NumeralDigits.{AreDigits, IsDigit, begins, goes_on, numeral_is_digits, some_digit, zero_alone}
+use Rattle.zarrs_chunk_keys.proofs.NumeralDigits.{AreDigits, begins, goes_on, numeral_is_digits, some_digit, zero_alone}
 
 tails : {x y : ℕ} {xs ys : List ℕ} → x ∷ xs ≡ y ∷ ys → xs ≡ ys
 tails same = cc

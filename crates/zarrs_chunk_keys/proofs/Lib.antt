@@ -1,3 +1,4 @@
+pub mod CutBack
 pub mod FirstNumeral
 pub mod KeyEnds
 pub mod KeysByName

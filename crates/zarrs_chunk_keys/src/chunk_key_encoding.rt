@@ -5,7 +5,7 @@ pub(crate) mod named;
 pub(crate) mod of_kind;
 pub(crate) mod v2;
 
-ghost use Rattle.std.specs.Prelude.{◌≡◌, ◌++◌, ℕ, IfOk, List, OnOk, length, string_bytes};
+ghost use Rattle.std.specs.Prelude.{◌≡◌, ◌++◌, ℕ, IfOk, List, OnErr, OnOk, length, string_bytes};
 ghost use Rattle.zarrs_chunk_base.specs.Greatest.{AllFit};
 ghost use Rattle.zarrs_chunk_keys.specs.Decoded.{IsDecoded};
 
@@ -46,11 +46,12 @@ pub trait ChunkKeyEncodingTraits: Sized + Drop {
     /// [`encode`](ChunkKeyEncodingTraits::encode) gives; an encoding that can write it in place does so.
     ///
     /// # Errors
-    /// Out of memory; the text then has what it had, and after it what was written by then.
+    /// Out of memory; the text is then what it was.
     fn append_key(&self, text: &mut String, chunk_indices: &[u64]) -> Result<(), AllocError>
         ensures appended { OnOk result ((key : List ℕ) × is_key self.now chunk_indices.now key
             × (string_bytes text.new ≡ string_bytes text.old ++ key)) }
         ensures kept { (rest : List ℕ) × (string_bytes text.new ≡ string_bytes text.old ++ rest) }
+        ensures unchanged { OnErr result (string_bytes text.new ≡ string_bytes text.old) }
     {
         let key = self.encode(*text.allocator(), chunk_indices)?;
         text.push_str(key.as_str())

@@ -17,6 +17,7 @@
 //! | `chunk_key_encoding::of_kind` | what all of these answer |
 //! | `chunk_key_encoding::named` | an encoding of any of these kinds, by its extension's name |
 //! | `chunk_key_suffix_error` | a text that is no suffix |
+//! | `cut_back` | what an appending that fails leaves |
 //! | `numerals` | numbers as decimal text |
 //! | `read_numerals` | numbers that are read from decimal text |
 //! | `laws` | what holds of the encodings |
@@ -24,6 +25,7 @@
 
 mod chunk_key_encoding;
 mod chunk_key_suffix_error;
+mod cut_back;
 pub mod laws;
 mod numerals;
 mod read_numerals;

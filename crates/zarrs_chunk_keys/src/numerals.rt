@@ -2,6 +2,7 @@
 ghost use Rattle.std.specs.Prelude.{◌≡◌, ◌++◌, ◌<◌, List, ℕ, OnErr, OnOk, string_bytes};
 ghost use Rattle.zarrs_chunk_keys.specs.Numeral.{AreJoined, IsNumeral, IsNumerals};
 
+use crate::cut_back::or_cut_back;
 use std::alloc::AllocError;
 
 /// The most bytes that a number and a character before it take up.
@@ -28,8 +29,21 @@ fn append_numeral(text: &mut String, number: u64) -> Result<(), AllocError>
 /// Appends to a text, for each number, the ASCII character and the number's digits.
 ///
 /// # Errors
-/// Out of memory; the text then has what it had, and after it what was written by then.
+/// Out of memory; the text is then what it was.
 pub fn append_numerals(text: &mut String, before: char, numbers: &[u64]) -> Result<(), AllocError>
+    requires { before < 128 }
+    ensures appended { OnOk result ((numerals : List ℕ) × IsNumerals before numbers.now numerals
+        × (string_bytes text.new ≡ string_bytes text.old ++ numerals)) }
+    ensures kept { (rest : List ℕ) × (string_bytes text.new ≡ string_bytes text.old ++ rest) }
+    ensures unchanged { OnErr result (string_bytes text.new ≡ string_bytes text.old) }
+{
+    let length = text.len();
+    let written = write_numerals(text, before, numbers);
+    or_cut_back(text, length, written)
+}
+
+/// The same, but out of memory the text has more after what it had: what was written by then.
+fn write_numerals(text: &mut String, before: char, numbers: &[u64]) -> Result<(), AllocError>
     requires { before < 128 }
     ensures appended { OnOk result ((numerals : List ℕ) × IsNumerals before numbers.now numerals
         × (string_bytes text.new ≡ string_bytes text.old ++ numerals)) }
@@ -46,8 +60,21 @@ pub fn append_numerals(text: &mut String, before: char, numbers: &[u64]) -> Resu
 /// Appends to a text the digits of each number, with the ASCII character between them.
 ///
 /// # Errors
-/// Out of memory; the text then has what it had, and after it what was written by then.
+/// Out of memory; the text is then what it was.
 pub fn append_joined(text: &mut String, between: char, numbers: &[u64]) -> Result<(), AllocError>
+    requires { between < 128 }
+    ensures appended { OnOk result ((joined : List ℕ) × AreJoined between numbers.now joined
+        × (string_bytes text.new ≡ string_bytes text.old ++ joined)) }
+    ensures kept { (rest : List ℕ) × (string_bytes text.new ≡ string_bytes text.old ++ rest) }
+    ensures unchanged { OnErr result (string_bytes text.new ≡ string_bytes text.old) }
+{
+    let length = text.len();
+    let written = write_joined(text, between, numbers);
+    or_cut_back(text, length, written)
+}
+
+/// The same, but out of memory the text has more after what it had: what was written by then.
+fn write_joined(text: &mut String, between: char, numbers: &[u64]) -> Result<(), AllocError>
     requires { between < 128 }
     ensures appended { OnOk result ((joined : List ℕ) × AreJoined between numbers.now joined
         × (string_bytes text.new ≡ string_bytes text.old ++ joined)) }
@@ -55,7 +82,7 @@ pub fn append_joined(text: &mut String, between: char, numbers: &[u64]) -> Resul
 {
     if let Some((first, others)) = numbers.split_first() {
         append_numeral(text, *first)?;
-        append_numerals(text, between, others)?;
+        write_numerals(text, between, others)?;
     }
     Ok(())
 }

@@ -8,7 +8,7 @@ pub(crate) mod rectilinear;
 pub(crate) mod regular;
 pub(crate) mod regular_bounded;
 
-ghost use Rattle.std.specs.Prelude.{◌≡◌, ◌≢◌, ◌↔◌, ◌⊎◌, ℕ, ◌-◌, ◌<◌, IfErr, IfOk, IsTrue, List, length, map, slice_index_or};
+ghost use Rattle.std.specs.Prelude.{◌≡◌, ◌≢◌, ◌↔◌, ◌⊎◌, ℕ, ◌-◌, ◌<◌, IfErr, IfOk, IsTrue, List, OnErr, length, map, slice_index_or};
 ghost use Rattle.std.specs.List.{AllByRecursion};
 ghost use Rattle.zarrs_chunk_base.specs.ArraySubset.{IsEmptyBox};
 ghost use Rattle.zarrs_chunk_base.specs.Dimension.{Dimension, IsChain, array_sizes, grid_sizes};
@@ -151,10 +151,10 @@ pub trait ChunkGridTraits: Sized + Drop {
 
     /// Finds where the element at these indices lies, and leaves it in `home`: for callers that look many elements up. The grids of
     /// this library use the memory that `home` has; this body gives it new lists. `false` where no chunk holds the element; `home` then
-    /// holds anything, as it does where the call is out of memory; a list of a wrong length leaves it as it was.
+    /// holds anything.
     ///
     /// # Errors
-    /// The list has another length than the grid has dimensions; or out of memory.
+    /// The list has another length than the grid has dimensions; or out of memory. `home` then holds what it held.
     fn find_home(
         &self,
         array_indices: &[u64],
@@ -163,6 +163,8 @@ pub trait ChunkGridTraits: Sized + Drop {
         ensures answers { AnswersHome (dimensions self.now) array_indices.now result
             home.new.chunk.items home.new.element.items }
         ensures unchanged { IfErr result (λ refusal. IfRefused refusal (λ _. home.new ≡ home.old)) }
+        ensures chunk_kept { OnErr result (home.new.chunk.items ≡ home.old.chunk.items) }
+        ensures element_kept { OnErr result (home.new.element.items ≡ home.old.element.items) }
     {
         let alloc = *home.chunk.allocator();
         let Some(chunk) = self.chunk_indices(alloc, array_indices)? else {

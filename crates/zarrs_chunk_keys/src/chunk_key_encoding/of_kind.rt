@@ -11,6 +11,7 @@ ghost use Rattle.zarrs_chunk_keys.specs.KeyKinds.{KeyKind, key_kind};
 ghost use Rattle.zarrs_chunk_keys.specs.lemmas.ExactKeys as keys;
 
 use crate::ChunkKeyEncodingTraits;
+use crate::cut_back::or_cut_back;
 use crate::numerals::room_for;
 use std::alloc::{AllocError, Global};
 use zarrs_chunk_base::{
@@ -46,6 +47,9 @@ pub(crate) trait OfKind: EncodingOfKind + Sized + Drop {
     }
 
     /// Appends the key of a chunk to a text. It is a store key.
+    ///
+    /// # Errors
+    /// Out of memory; the text then has what it had, and after it what was written by then.
     fn append(&self, text: &mut String, chunk_indices: &[u64]) -> Result<(), AllocError>
         ensures appended { OnOk result ((key : List ℕ)
             × IsKey (Self.encoding self.now) chunk_indices.now key × (¬ EndsInSlash key)
@@ -96,7 +100,9 @@ impl<E: OfKind> ChunkKeyEncodingTraits for E {
     }
 
     fn append_key(&self, text: &mut String, chunk_indices: &[u64]) -> Result<(), AllocError> {
-        self.append(text, chunk_indices)
+        let length = text.len();
+        let appended = self.append(text, chunk_indices);
+        or_cut_back(text, length, appended)
     }
 
     fn decode(

@@ -1,13 +1,7 @@
-use Rattle.std.proofs.Common.{◌≡◌, ◌∷◌, ◌++◌, ◌∙◌, ap, append_assoc, refl, string_bytes, subst, sym}
-use Rattle.zarrs_chunk_keys.specs.Numeral.{AreJoined}
+use Rattle.zarrs_chunk_keys.proofs.CutBack.{split_point}
 use Rattle.zarrs_chunk_keys.proofs.numerals.append_joined.Goals as goal
 
-pub returns-in_ok-append_numerals-clause-appended : goal.returns-in_ok-append_numerals-clause-appended
-returns-in_ok-append_numerals-clause-appended c =
-    let (numeral, is, begun) = c.in_ok-append_numeral.ensures.appended in
-    let (numerals, are, longer) = c.in_ok-append_numerals.ensures.appended in
-    let parts : c.args.numbers.now ≡ c.in-Some.first.now ∷ c.in-Some.others.now = c.in-Some.ensures.cases.0 in (
-      numeral ++ numerals,
-      subst (λ numbers. AreJoined c.args.between numbers (numeral ++ numerals)) (sym parts) (numeral, numerals, is, are, refl),
-      longer ∙ ap (λ text. text ++ numerals) begun ∙ append_assoc (string_bytes c.args.text.now) numeral numerals,
-    )
+pub or_cut_back-requires : goal.or_cut_back-requires
+or_cut_back-requires c =
+    let (rest, longer) = c.write_joined-written.ensures.kept in
+    λ _. rw c.len-length.ensures (split_point c.args.text.now c.write_joined-written.new.text rest longer)

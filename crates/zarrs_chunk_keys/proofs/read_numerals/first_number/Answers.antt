@@ -1,6 +1,6 @@
 use Rattle.std.proofs.Common.{◌≡◌, ◌∙◌, ◌∷◌, ◌++◌, ◌+◌, ◌-◌, ◌<◌, [], take, drop, get_or, length, length-drop, ap, drop-cons, subst, sym, suc, arith}
 use Rattle.std.proofs.lemmas.List.{take_all}
-use Rattle.zarrs_chunk_keys.specs.Numeral.{IsNumeral, digit, more_digits, one_digit}
+use Rattle.zarrs_chunk_keys.specs.Numeral.{more_digits, one_digit}
 use Rattle.zarrs_chunk_keys.specs.lemmas.Parts.{EndsBefore}
 use Rattle.zarrs_chunk_keys.proofs.FirstNumeral.{begins_text, further, zero_ends}
 use Rattle.zarrs_chunk_keys.proofs.NumeralDigits.{cut_before, cut_behind}

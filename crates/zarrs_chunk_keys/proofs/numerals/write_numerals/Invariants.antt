@@ -1,6 +1,6 @@
 use Rattle.std.proofs.Common.{◌≡◌, ℕ, List, ◌++◌, take, string_bytes}
 use Rattle.zarrs_chunk_keys.specs.Numeral.{IsNumerals}
-use Rattle.zarrs_chunk_keys.proofs.numerals.append_numerals.Given as goal
+use Rattle.zarrs_chunk_keys.proofs.numerals.write_numerals.Given as goal
 
 -- what was appended so far is the numerals of the numbers so far
 abbrev pub invariant-loop-number : goal.invariant-loop-number
