@@ -1,22 +1,24 @@
 #!/usr/bin/env python3
-"""Sees that the vectors ask every call of every kind of grid at the ends of numbers, along a size of 0, without dimensions, and with a list of a wrong
-length. It prints each call that is missing somewhere, and then ends with the status 1.
+"""Sees that the vectors ask every call of every kind of grid at the ends of numbers, along a size of 0, without dimensions, and with a list of a
+wrong length, and that the answer is one of the call's. It prints each call that is missing somewhere, and then ends with the status 1.
 """
 import json
 import pathlib
 import sys
 
-STDIN = pathlib.Path(__file__).resolve().parent.parent / "crates" / "chunkcalls" / "stdin"
+CALLS = pathlib.Path(__file__).resolve().parent.parent / "crates" / "chunkcalls"
 GRIDS = ["regular", "zarrs.regular_bounded", "rectangular", "rectilinear"]
 OF_NOTHING = ["dimensionality", "array_shape", "grid_shape", "configuration", "metadata"]
 OF_NOTHING += ["iter_chunk_indices", "iter_chunk_subsets", "iter_chunk_indices_and_subsets"]
 OF_A_LIST = ["chunk_shape", "chunk_shape_u64", "chunk_origin", "subset", "chunk_indices_inbounds"]
 OF_A_LIST += ["chunk_indices", "chunk_element_indices", "array_indices_inbounds", "locate"]
 OF_A_BOX = ["chunks_subset", "chunks_in_array_subset", "parts"]
-# Of a rectilinear grid alone.
-OF_RUNS = ["runs", "chunk_indices_counted"]
-# A number from which on doubling it wraps.
+# Of a rectilinear grid alone: one of a dimension, one of a list.
+RUNS, COUNTED = "runs", "chunk_indices_counted"
+KNOWN = {*OF_NOTHING, *OF_A_LIST, *OF_A_BOX, RUNS, COUNTED}
+# From this number on, twice a number is past the greatest.
 GREAT = 2**63
+ENDS, ZERO, NONE, LENGTH = "at the ends of numbers", "along a size of 0", "without dimensions", "with a list of a wrong length"
 
 
 def is_great(value):
@@ -25,50 +27,64 @@ def is_great(value):
     return isinstance(value, int) and value >= GREAT
 
 
+def is_list_of_lists(value):
+    return isinstance(value, list) and all(isinstance(item, list) for item in value)
+
+
 def has_a_wrong_length(call, of, shape):
     lists = of if call in OF_A_BOX else [of]
-    return isinstance(of, list) and all(isinstance(numbers, list) and len(numbers) != len(shape) for numbers in lists)
+    return is_list_of_lists(lists) and len(lists) > 0 and all(len(numbers) != len(shape) for numbers in lists)
 
 
-def questions():
-    for line in STDIN.read_text().splitlines():
+def vectors():
+    """Each question to a grid, with its answer."""
+    lines = zip((CALLS / "stdin").read_text().splitlines(), (CALLS / "stdout").read_text().splitlines())
+    for line, answer in lines:
         try:
             question = json.loads(line)
         except ValueError:
             continue
         if isinstance(question, dict) and isinstance(question.get("chunk_grid"), dict) and isinstance(question.get("shape"), list):
-            yield question
+            yield question, answer
 
 
-def points(question):
-    """Where a question asks its call."""
-    shape, of = question["shape"], question.get("of")
+def points(question, answer):
+    """Where a question asks its call, if the answer is one of the call's."""
+    call, shape, of = question.get("call"), question["shape"], question.get("of")
+    if has_a_wrong_length(call, of, shape) and answer.startswith(("refused: incompatible dimensionality", "false")):
+        yield LENGTH
+    if answer.startswith(("refused: ", "unreadable: ")):
+        return
     if is_great(shape) or is_great(of):
-        yield "at the ends of numbers"
+        yield ENDS
     if 0 in shape:
-        yield "along a size of 0"
+        yield ZERO
     if not shape:
-        yield "without dimensions"
-    if has_a_wrong_length(question.get("call"), of, shape):
-        yield "with a list of a wrong length"
+        yield NONE
 
 
 def wanted():
     for grid in GRIDS:
-        of_a_list = OF_A_LIST + OF_A_BOX + (OF_RUNS[1:] if grid == "rectilinear" else [])
-        for call in OF_NOTHING + of_a_list + (OF_RUNS[:1] if grid == "rectilinear" else []):
-            for point in ("at the ends of numbers", "along a size of 0", "without dimensions"):
-                yield grid, call, point
-            if call in of_a_list:
-                yield grid, call, "with a list of a wrong length"
+        of_runs = grid == "rectilinear"
+        of_a_list = OF_A_LIST + OF_A_BOX + [COUNTED] * of_runs
+        for call in OF_NOTHING + of_a_list + [RUNS] * of_runs:
+            yield from ((grid, call, point) for point in (ENDS, ZERO, NONE))
+        yield from ((grid, call, LENGTH) for call in of_a_list)
 
 
 def main():
-    asked = {(question["chunk_grid"].get("name"), str(question.get("call")), point) for question in questions() for point in points(question)}
+    asked, unknown = set(), set()
+    for question, answer in vectors():
+        call = str(question.get("call"))
+        asked.update((question["chunk_grid"].get("name"), call, point) for point in points(question, answer))
+        if call not in KNOWN and not answer.startswith(("refused: ", "unreadable: ")):
+            unknown.add(call)
     missing = [row for row in wanted() if row not in asked]
     for grid, call, point in missing:
         print(f"no vector asks `{call}` of a {grid} grid {point}")
-    sys.exit(1 if missing else 0)
+    for call in sorted(unknown):
+        print(f"`{call}` stands in no list of {pathlib.Path(__file__).name}")
+    sys.exit(1 if missing or unknown else 0)
 
 
 if __name__ == "__main__":

@@ -1,5 +1,6 @@
 /* An allocator that refuses one allocation: the one that FAIL_AT counts, from 1. At the end it writes into COUNT_FILE how many there were.
-   It is loaded before a program by LD_PRELOAD; refuse_each.py builds and uses it. What the kit builds asks malloc and realloc alone. */
+   It is loaded before a program by LD_PRELOAD; refuse_each.py builds and uses it. calloc isn't refused: what the kit
+   builds doesn't call it. */
 #define _GNU_SOURCE
 #include <dlfcn.h>
 #include <errno.h>

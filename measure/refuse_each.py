@@ -16,7 +16,8 @@ import tempfile
 
 SOURCE = pathlib.Path(__file__).resolve().with_name("refuse.c")
 # A run that takes longer, in seconds, is ended; it then has this status.
-LONGEST, TOO_LONG = 120, "none, after two minutes"
+LONGEST = 120
+TOO_LONG = f"none within {LONGEST} seconds"
 
 
 class Refusing:

@@ -7,8 +7,7 @@
 //! | `chunkwhere` | where the elements of an array are stored |
 //! | `chunkplan` | what a read or a rechunking of an array copies |
 //! | `chunkcalls`, `chunkcalls::at_size` | what grids and encodings answer, a call a line |
-//!
-//! The readers and writers that fail stand in `failing`.
+//! | `failing` | nothing: it holds readers and writers that fail |
 #![tactic(auto)]
 
 #[cfg(test)]

@@ -151,7 +151,7 @@ impl<A: Axis + Drop> AxisGrid<A> {
     }
 
     /// Finds for each dimension the chunk that the index lies in, and how far after the chunk's start it lies, and leaves them in
-    /// two lists, whatever these held. `false` where there is no such chunk somewhere.
+    /// two lists, whatever these held. `false` where there is no such chunk somewhere; the lists then hold anything.
     ///
     /// # Errors
     /// The list has another length than there are dimensions; or out of memory. The two lists then hold what they held.
@@ -165,8 +165,8 @@ impl<A: Axis + Drop> AxisGrid<A> {
             chunk.new.items place.new.items }
         ensures unchanged { IfErr result (λ refusal. IfRefused refusal
             (λ _. (chunk.new ≡ chunk.old) × (place.new ≡ place.old))) }
-        ensures chunk_kept { OnErr result (chunk.new.items ≡ chunk.old.items) }
-        ensures place_kept { OnErr result (place.new.items ≡ place.old.items) }
+        ensures chunk_unchanged { OnErr result (chunk.new.items ≡ chunk.old.items) }
+        ensures place_unchanged { OnErr result (place.new.items ≡ place.old.items) }
     {
         if indices.len() != self.axes.len() {
             return Err(self.other_length(indices));

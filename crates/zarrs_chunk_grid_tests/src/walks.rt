@@ -1,5 +1,5 @@
-//! The walks over the chunks of a grid: more than four dimensions, what follows the end and an error, and a walk that ends
-//! at once.
+//! The walks over the chunks of a grid and over those in a box: more than four dimensions, what follows the end and an error, and a walk that
+//! ends at once.
 mod overlong;
 
 use overlong::Overlong;

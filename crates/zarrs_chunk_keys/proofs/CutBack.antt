@@ -17,5 +17,5 @@ module _ (before after : String Global) (rest : List ℕ) (longer : string_bytes
       omega (arith, ap length longer, length-append (string_bytes before) rest)
       in
       let boundary = IsCharBoundary-from_take (string_bytes after) (length (string_bytes before)) (IsUtf8-string_bytes after) within
-          (subst IsUtf8 (sym front) (IsUtf8-string_bytes before)) in
+      (subst IsUtf8 (sym front) (IsUtf8-string_bytes before)) in
       subst (IsSplitPoint (string_bytes after)) (sym before.bytes.ok.0) (boundary.0, λ _. boundary.1)

@@ -17,7 +17,7 @@
 //! | `chunk_key_encoding::of_kind` | what all of these answer |
 //! | `chunk_key_encoding::named` | an encoding of any of these kinds, by its extension's name |
 //! | `chunk_key_suffix_error` | a text that is no suffix |
-//! | `cut_back` | what an appending that fails leaves |
+//! | `cut_back` | how a failed append leaves a text |
 //! | `numerals` | numbers as decimal text |
 //! | `read_numerals` | numbers that are read from decimal text |
 //! | `laws` | what holds of the encodings |

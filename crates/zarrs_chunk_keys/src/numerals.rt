@@ -42,8 +42,12 @@ pub fn append_numerals(text: &mut String, before: char, numbers: &[u64]) -> Resu
     or_cut_back(text, length, written)
 }
 
-/// The same, but out of memory the text has more after what it had: what was written by then.
-fn write_numerals(text: &mut String, before: char, numbers: &[u64]) -> Result<(), AllocError>
+/// As [`append_numerals`], but where memory runs out, what was written by then stays behind the text.
+pub(crate) fn write_numerals(
+    text: &mut String,
+    before: char,
+    numbers: &[u64],
+) -> Result<(), AllocError>
     requires { before < 128 }
     ensures appended { OnOk result ((numerals : List ℕ) × IsNumerals before numbers.now numerals
         × (string_bytes text.new ≡ string_bytes text.old ++ numerals)) }
@@ -73,8 +77,12 @@ pub fn append_joined(text: &mut String, between: char, numbers: &[u64]) -> Resul
     or_cut_back(text, length, written)
 }
 
-/// The same, but out of memory the text has more after what it had: what was written by then.
-fn write_joined(text: &mut String, between: char, numbers: &[u64]) -> Result<(), AllocError>
+/// As [`append_joined`], but where memory runs out, what was written by then stays behind the text.
+pub(crate) fn write_joined(
+    text: &mut String,
+    between: char,
+    numbers: &[u64],
+) -> Result<(), AllocError>
     requires { between < 128 }
     ensures appended { OnOk result ((joined : List ℕ) × AreJoined between numbers.now joined
         × (string_bytes text.new ≡ string_bytes text.old ++ joined)) }

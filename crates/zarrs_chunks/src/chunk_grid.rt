@@ -163,8 +163,8 @@ pub trait ChunkGridTraits: Sized + Drop {
         ensures answers { AnswersHome (dimensions self.now) array_indices.now result
             home.new.chunk.items home.new.element.items }
         ensures unchanged { IfErr result (λ refusal. IfRefused refusal (λ _. home.new ≡ home.old)) }
-        ensures chunk_kept { OnErr result (home.new.chunk.items ≡ home.old.chunk.items) }
-        ensures element_kept { OnErr result (home.new.element.items ≡ home.old.element.items) }
+        ensures chunk_unchanged { OnErr result (home.new.chunk.items ≡ home.old.chunk.items) }
+        ensures element_unchanged { OnErr result (home.new.element.items ≡ home.old.element.items) }
     {
         let alloc = *home.chunk.allocator();
         let Some(chunk) = self.chunk_indices(alloc, array_indices)? else {

@@ -123,8 +123,8 @@ fn take_stored(
 ) -> Result<Stored, Refusal<DocumentFault>>
     ensures stored { MatchResult result (λ stored. HasStored (view tree.old) (stored_of stored))
         (OrMemory (IsStoredFault (view tree.old) grid_name.now encoding_name.now)) }
-    ensures no_grid { IfOk result (λ _. get (codes "chunk_grid") (view tree.new) ≡ None) }
-    ensures no_encoding { IfOk result
+    ensures grid_gone { IfOk result (λ _. get (codes "chunk_grid") (view tree.new) ≡ None) }
+    ensures encoding_gone { IfOk result
         (λ _. get (codes "chunk_key_encoding") (view tree.new) ≡ None) }
     ensures others { IfOk result (λ _. (other : List ℕ) → other ≢ codes "chunk_grid"
         → other ≢ codes "chunk_key_encoding"

@@ -17,7 +17,7 @@ ghost use Rattle.zarrs_chunk_keys.specs.KeyKinds as kinds;
 ghost use Rattle.zarrs_chunk_keys.specs.seen.Encodings.{default_of};
 
 use crate::chunk_key_encoding::of_kind::{EncodingOfKind, OfKind};
-use crate::numerals::append_numerals;
+use crate::numerals::write_numerals;
 use crate::read_numerals::read_numerals;
 use std::alloc::{AllocError, Global};
 use zarrs_chunk_base::{
@@ -93,7 +93,7 @@ impl OfKind for DefaultChunkKeyEncoding {
 
     fn append(&self, text: &mut String, chunk_indices: &[u64]) -> Result<(), AllocError> {
         text.push('c')?;
-        append_numerals(text, self.separator.as_char(), chunk_indices)?;
+        write_numerals(text, self.separator.as_char(), chunk_indices)?;
         Ok(())
     }
 

@@ -17,7 +17,7 @@ ghost use Rattle.zarrs_chunk_keys.specs.KeyKinds as kinds;
 ghost use Rattle.zarrs_chunk_keys.specs.seen.Encodings.{v2_of};
 
 use crate::chunk_key_encoding::of_kind::{EncodingOfKind, OfKind};
-use crate::numerals::append_joined;
+use crate::numerals::write_joined;
 use crate::read_numerals::read_numbers;
 use std::alloc::{AllocError, Global};
 use zarrs_chunk_base::{
@@ -89,7 +89,7 @@ impl OfKind for V2ChunkKeyEncoding {
             text.push('0')?;
             return Ok(());
         }
-        append_joined(text, self.separator.as_char(), chunk_indices)?;
+        write_joined(text, self.separator.as_char(), chunk_indices)?;
         Ok(())
     }
 

@@ -44,12 +44,12 @@ returns-clause-stored c = record {
   encoding = has_encoding _ _ c.in_ok-chunk_grid.ensures.others _ c.in_ok-chunk_key_encoding.ensures.metadata;
 }
 
-pub returns-clause-no_grid : goal.returns-clause-no_grid
-returns-clause-no_grid c =
+pub returns-clause-grid_gone : goal.returns-clause-grid_gone
+returns-clause-grid_gone c =
     c.in_ok-chunk_key_encoding.ensures.others (codes "chunk_grid") (λ same. absurd (omega (arith, ap length same))) ∙ c.in_ok-chunk_grid.ensures.gone
 
-pub returns-clause-no_encoding : goal.returns-clause-no_encoding
-returns-clause-no_encoding c = c.in_ok-chunk_key_encoding.ensures.gone
+pub returns-clause-encoding_gone : goal.returns-clause-encoding_gone
+returns-clause-encoding_gone c = c.in_ok-chunk_key_encoding.ensures.gone
 
 pub returns-clause-others : goal.returns-clause-others
 returns-clause-others c = λ other grid encoding. c.in_ok-chunk_key_encoding.ensures.others other encoding ∙ c.in_ok-chunk_grid.ensures.others other grid

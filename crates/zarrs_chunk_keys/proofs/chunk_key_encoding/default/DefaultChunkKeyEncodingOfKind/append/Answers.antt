@@ -6,7 +6,7 @@ use Rattle.zarrs_chunk_keys.proofs.chunk_key_encoding.default.DefaultChunkKeyEnc
 
 pub returns-clause-appended : goal.returns-clause-appended
 returns-clause-appended c =
-    let (numerals, are_numerals, longer) = c.in_ok-append_numerals.ensures.appended in
+    let (numerals, are_numerals, longer) = c.in_ok-write_numerals.ensures.appended in
     let chunk = c.args.chunk_indices.now in
     let separator = c.args.self.now.separator in
     let old = string_bytes c.args.text.now in

@@ -17,7 +17,7 @@ returns-then-is_empty-clause-appended c =
 
 pub returns-clause-appended : goal.returns-clause-appended
 returns-clause-appended c =
-    let (key, are_joined, longer) = c.in_ok-append_joined.ensures.appended in
+    let (key, are_joined, longer) = c.in_ok-write_joined.ensures.appended in
     let separator = c.args.self.now.separator in
     let chunk = c.args.chunk_indices.now in
     let not_empty = eqb-false (length chunk) 0 (sym c.is_empty.ensures ∙ c.if-is_empty.false) in
