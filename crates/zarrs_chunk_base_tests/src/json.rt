@@ -8,7 +8,7 @@ use std::test::Fail;
 use zarrs_chunk_base::{
     ChunkKeySeparator, Configuration, ConfigurationForm, DefaultChunkKeyEncodingConfiguration,
     DefaultSuffixChunkKeyEncodingConfiguration, MetadataV3, RectangularChunkGridConfiguration,
-    RectilinearChunkGridConfiguration, RegularBoundedChunkGridConfiguration,
+    RectilinearChunkGridConfiguration, Refusal, RegularBoundedChunkGridConfiguration,
     RegularChunkGridConfiguration, TreeForm, V2ChunkKeyEncodingConfiguration,
 };
 
@@ -176,7 +176,8 @@ fn check_metadata(rt: &(impl Abort + AllocGlobal), text: &str, outcome: &str) ->
             assert!(rt; copied? == metadata, "{text}");
             copy.to_tree(alloc)?.to_string(alloc)?
         }
-        Err(refusal) => refusal.to_string(alloc)?,
+        Err(Refusal::Memory(error)) => return Err(error.into()),
+        Err(Refusal::Refused(error)) => error.to_string(alloc)?,
     };
     assert_eq!(rt; written.as_str(), outcome, "{text}");
     Ok(())
