@@ -118,9 +118,23 @@ fn elements(rt: HostRuntime) -> Result<(), Fail> {
     assert!(rt; !share_a_chunk(alloc, &grid, &[3, 5, 50], &[3, 6, 50])?);
     assert!(rt; are_one_element(alloc, &grid, &slash, &[3, 5, 50], &[3, 5, 50])?);
     assert!(rt; !are_one_element(alloc, &grid, &slash, &[3, 5, 50], &[3, 5, 49])?);
+    Ok(())
+}
+
+#[test]
+fn metadata_of_a_grid(rt: HostRuntime) -> Result<(), Fail> {
+    let alloc = rt.alloc();
+    let grid = regular_grid(alloc, &[5, 7, 52], &[1, 2, 3])?;
     let text = r#"{"configuration":{"chunk_shape":[1,2,3]},"name":"regular"}"#;
     let tree = metadata_of_regular(alloc, &grid)?.to_tree(alloc)?;
     assert_eq!(rt; tree.to_string(alloc)?.as_str(), text);
+    Ok(())
+}
+
+#[test]
+fn elements_past_the_array(rt: HostRuntime) -> Result<(), Fail> {
+    let alloc = rt.alloc();
+    let slash = DefaultChunkKeyEncoding::new_slash();
     let grid = bounded(alloc, [7].to_vec(alloc)?, edges(alloc, &[3])?)?;
     assert!(rt; key_of_element(alloc, &grid, &slash, &[7])?.is_none());
     assert!(rt; !share_a_chunk(alloc, &grid, &[7], &[7])?);
@@ -214,21 +228,35 @@ fn boxes_of_a_grid_of_ones_own(rt: HostRuntime) -> Result<(), Fail> {
     Ok(())
 }
 
+/// Keys with dots, each with a version at its end.
+fn versioned(alloc: Global) -> Result<Versioned<DefaultChunkKeyEncoding>, Fail> {
+    let dots = metadata(alloc, r#"{"name":"x","configuration":{"separator":"."}}"#)?;
+    Ok(Versioned::<DefaultChunkKeyEncoding>::create(alloc, &dots)?)
+}
+
 #[test]
 fn an_encoding_of_ones_own(rt: HostRuntime) -> Result<(), Fail> {
     let alloc = rt.alloc();
-    let dots = metadata(alloc, r#"{"name":"x","configuration":{"separator":"."}}"#)?;
-    let encoding = Versioned::<DefaultChunkKeyEncoding>::create(alloc, &dots)?;
+    let encoding = versioned(alloc)?;
     let _configuration = encoding.configuration(alloc)?;
     let grid = regular_grid(alloc, &[5, 7, 52], &[1, 2, 3])?;
     let located = locate(alloc, &grid, &encoding, &[3, 5, 50])?.ok_or("no chunk")?;
     assert_eq!(rt; located.chunk.as_slice(), [3, 2, 16].as_slice());
     assert_eq!(rt; located.key.as_str(), "c.3.2.16.v1");
     assert_eq!(rt; located.element.as_slice(), [0, 1, 2].as_slice());
+    key_and_place_determine_the_index(&grid, &encoding);
+    Ok(())
+}
+
+#[test]
+fn keys_of_an_encoding_of_ones_own(rt: HostRuntime) -> Result<(), Fail> {
+    let alloc = rt.alloc();
+    let encoding = versioned(alloc)?;
     let mut text = String::from_str(alloc, "key ")?;
-    encoding.append_key(&mut text, &located.chunk)?;
+    encoding.append_key(&mut text, &[3, 2, 16])?;
     assert_eq!(rt; text.as_str(), "key c.3.2.16.v1");
-    let read = encoding.decode(alloc, 3, &located.key)?.ok_or("no key")?;
+    let key = encoding.encode(alloc, &[3, 2, 16])?;
+    let read = encoding.decode(alloc, 3, &key)?.ok_or("no key")?;
     assert_eq!(rt; read.as_slice(), [3, 2, 16].as_slice());
     for text in ["c.3.2.16", "c.3.2.v1", "c.3.2.16/.v1"] {
         let Ok(key) = StoreKey::new(String::from_str(alloc, text)?) else {
@@ -236,6 +264,5 @@ fn an_encoding_of_ones_own(rt: HostRuntime) -> Result<(), Fail> {
         };
         assert!(rt; encoding.decode(alloc, 3, &key)?.is_none(), "{text}");
     }
-    key_and_place_determine_the_index(&grid, &encoding);
     Ok(())
 }
