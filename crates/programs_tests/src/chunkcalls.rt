@@ -1,20 +1,14 @@
-//! What no contract and no row of `stdin` says: how inputs end, texts of several lines, and readers
-//! and writers that fail.
-mod at_size;
-
+//! What no contract says: readers and writers that fail, what is told then, and when an answer is flushed.
 use crate::failing::{FailingReader, FailingWriter};
 use programs::chunkcalls::{RunFault, finish, run_to_status};
 use std::alloc::AllocError;
 use std::io::ErrorKind;
-use std::process::Abort;
 use std::test::Fail;
 
 const QUESTION: &[u8] =
     br#"{"shape":[5,7,52],"chunk_grid":{"name":"regular","configuration":{"chunk_shape":[1,2,3]}},"call":"grid_shape"}"#;
 
 const ANSWER: &[u8] = b"[5,4,18]\n";
-
-const NOT_JSON: &[u8] = b"unreadable: not JSON\n";
 
 /// The parts, one after the other.
 fn joined(rt: &impl AllocGlobal, parts: &[&[u8]]) -> Result<Vec<u8>, AllocError> {
@@ -23,78 +17,6 @@ fn joined(rt: &impl AllocGlobal, parts: &[&[u8]]) -> Result<Vec<u8>, AllocError>
         bytes.extend_from_slice(part)?;
     }
     Ok(bytes)
-}
-
-/// Runs the program on an input, and compares what it writes.
-fn check(
-    rt: &(impl Abort + AllocGlobal),
-    input: &[&[u8]],
-    output: &[&[u8]],
-) -> Result<(), AllocError> {
-    let input = joined(rt, input)?;
-    let output = joined(rt, output)?;
-    let mut written = Vec::new(rt.alloc());
-    let mut errors = Vec::new(rt.alloc());
-    let status = run_to_status(rt.alloc(), input.as_slice(), &mut written, &mut errors);
-    assert_eq!(rt;
-        written.as_slice(),
-        output.as_slice(),
-        "output of {input:?}"
-    );
-    assert!(rt; errors.is_empty(), "no fault on {input:?}");
-    assert_eq!(rt; status, 0, "status of {input:?}");
-    Ok(())
-}
-
-#[test]
-fn each_line_has_an_answer(rt: HostRuntime) -> Result<(), Fail> {
-    check(&rt, &[], &[])?;
-    check(&rt, &[b"\n"], &[NOT_JSON])?;
-    check(&rt, &[b"\n\n"], &[NOT_JSON, NOT_JSON])?;
-    check(&rt, &[b"\xff\n", b"\x00"], &[NOT_JSON, NOT_JSON])?;
-    check(&rt, &[QUESTION], &[ANSWER])?;
-    check(&rt, &[QUESTION, b"\n"], &[ANSWER])?;
-    check(&rt, &[QUESTION, b"\r\n", QUESTION], &[ANSWER, ANSWER])?;
-    check(
-        &rt,
-        &[QUESTION, QUESTION, b"\n", QUESTION],
-        &[NOT_JSON, ANSWER],
-    )?;
-    Ok(())
-}
-
-#[test]
-fn an_answer_is_one_line(rt: HostRuntime) -> Result<(), Fail> {
-    check(
-        &rt,
-        &[br#"{"shape":[],"chunk_grid":0,"call":"\ngrid\n_shape\n"}"#],
-        &[b"unreadable: there is no call ` grid _shape `\n"],
-    )?;
-    check(
-        &rt,
-        &[br#"{"shape":[],"chunk_grid":"a\n\r\nb","call":"grid_shape"}"#],
-        &[b"refused: name `a \r b` is not supported\n"],
-    )?;
-    Ok(())
-}
-
-#[test]
-fn long_inputs_are_answered(rt: HostRuntime) -> Result<(), Fail> {
-    let mut input = Vec::new(rt.alloc());
-    let mut output = Vec::new(rt.alloc());
-    for _ in 0..2000 {
-        input.extend_from_slice(QUESTION)?;
-        input.push(b'\n')?;
-        output.extend_from_slice(ANSWER)?;
-    }
-    check(&rt, &[&input], &[&output])?;
-    let spaces = vec![in rt.alloc(); b' '; 20000]?;
-    check(
-        &rt,
-        &[&spaces, QUESTION, &spaces, b"\n", QUESTION],
-        &[ANSWER, ANSWER],
-    )?;
-    Ok(())
 }
 
 #[test]

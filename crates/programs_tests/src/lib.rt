@@ -1,4 +1,5 @@
-//! Tests of the programs, over readers and writers of their own: what no contract says, such as texts, and readers and writers that fail.
+//! Tests of the programs, by readers and writers that fail. What a program prints of an input is data: its `stdin` and `stdout`, and the pages and
+//! scripts that `.ci/run` compares it with.
 //!
 //! They stand apart from `programs`, since a crate with tests is proved twice.
 //!
@@ -6,7 +7,7 @@
 //! |---|---|
 //! | `chunkwhere` | where the elements of an array are stored |
 //! | `chunkplan` | what a read or a rechunking of an array copies |
-//! | `chunkcalls`, `chunkcalls::at_size` | what grids and encodings answer, a call a line |
+//! | `chunkcalls` | what grids and encodings answer, a call a line |
 //! | `failing` | nothing: it holds readers and writers that fail |
 #![tactic(auto)]
 
