@@ -1,19 +1,24 @@
 #!/usr/bin/env python3
 """Builds the shared library `libzarrs_chunks.so` and its header's static library, by the kit alone: no other compiler or linker is needed.
 
-    bindings/build.py
+    bindings/build.py [--after-ci]
 
-`bindings/out/llvm` gets both as LLVM compiles them, `bindings/out/rattle` as Rattle's own compiler does. The crate is proved first, which takes
-longest the first time. It ends with the status 1 where the names that are exported aren't those of the header.
+`bindings/out/llvm` gets both as LLVM compiles them, `bindings/out/rattle` as Rattle's own compiler does. The crate and those below it are proved first,
+which takes longest the first time. Right after `rt ci` the flag spares the crates below: those are then taken as `rt ci` left them, proved. It ends with the
+status 1 where the names that are exported aren't those of the header.
 """
 import pathlib
 import re
 import shutil
 import subprocess
 import sys
+import tempfile
 
 HERE = pathlib.Path(__file__).resolve().parent
-CRATE = HERE.parent / "crates" / "zarrs_chunks_c"
+CRATES = HERE.parent / "crates"
+CRATE = CRATES / "zarrs_chunks_c"
+ARCHIVE = CRATE / "out" / "libzarrs_chunks_c.a"
+BACKENDS = ("llvm", "rattle")
 NAME = "libzarrs_chunks"
 # What the library asks of the C library. It opens no file and starts nothing.
 WANTED = {"malloc", "realloc", "free", "memcpy", "memmove", "memset", "memcmp", "bcmp"}
@@ -24,18 +29,52 @@ def kit():
     return pathlib.Path(page.split()[-1]).resolve().parent
 
 
-def build(backend, kit_folder):
-    """The library as one of the compilers makes it, in a folder of its own."""
-    flags = [] if backend == "llvm" else ["--backend", backend]
-    built = subprocess.run(["rt", "lib", *flags], cwd=CRATE, stdout=subprocess.PIPE, stderr=subprocess.STDOUT)
-    if built.returncode != 0:
-        sys.exit(built.stdout.decode() + f"bindings/build.py: rt lib ended with status {built.returncode}")
+def run(*command):
+    """Runs a command in the crate's folder, and ends where it fails, with what it said."""
+    ran = subprocess.run(command, cwd=CRATE, stdout=subprocess.PIPE, stderr=subprocess.STDOUT)
+    if ran.returncode != 0:
+        sys.exit(ran.stdout.decode() + f"bindings/build.py: {command[0]} {command[1]} ended with status {ran.returncode}")
+
+
+def over_libraries(kit_folder):
+    """What the compiler is told of the crate, over the kit's libraries and over those that `rt ci` built."""
+    text = (HERE.parent / "crates.txt").read_text()
+    uses = {name: libraries.split() for name, libraries in re.findall(r"^(\w+).*?:(.*)$", text, re.MULTILINE)}
+    built = {name: CRATES / name / "out" / "rlib" for name in uses}
+    words = ["--crate-name", CRATE.name, "src/lib.rt", "--crate-type", "staticlib", "--links", f"{CRATE.name}="]
+    for name in ("std", *uses[CRATE.name]):
+        words += ["--extern", f"{name}={built.get(name, kit_folder / 'rlibs') / name}.rlib"]
+    for folder in (kit_folder / "rlibs", *filter(pathlib.Path.is_dir, built.values())):
+        words += ["-L", f"dependency={folder}"]
+    return [*words, "--antt-project", kit_folder / "rattle" / "logic" / "antt-project.json"]
+
+
+def archives(kit_folder, after_ci):
+    """Proves the crate and compiles it by each compiler in turn: the compiler's name, once its static library is there."""
+    if not after_ci:
+        for backend in BACKENDS:
+            run("rt", "lib", "--backend", backend)
+            yield backend
+        return
+    rattle, words = kit_folder / "bin" / "rattle", over_libraries(kit_folder)
+    ARCHIVE.parent.mkdir(exist_ok=True)
+    with tempfile.TemporaryDirectory() as room:
+        proved = f"{room}/proved"
+        run(rattle, "check", *words, "--logic-built", kit_folder / "logic_built", "--jobs", "4", "-o", proved)
+        for backend in BACKENDS:
+            compiled = ["--toolchain", kit_folder / "toolchain", "--backend", backend, "-o", ARCHIVE]
+            run(rattle, "build", *words, "--crate-checked", proved, *compiled)
+            yield backend
+
+
+def link(backend, kit_folder):
+    """The shared library of the static one, and what a caller needs of both, in a folder of their compiler."""
     out = HERE / "out" / backend
     out.mkdir(parents=True, exist_ok=True)
     shared, runtime = out / f"{NAME}.so", kit_folder / "c" / "liblibc_c.a"
     exported = out / "exported.map"
     exported.write_text("{ global: zarrs_*; local: *; };\n")
-    shutil.copy(CRATE / "out" / "libzarrs_chunks_c.a", out / f"{NAME}.a")
+    shutil.copy(ARCHIVE, out / f"{NAME}.a")
     shutil.copy(runtime, out / "liblibc_c.a")
     toolchain = kit_folder / "toolchain"
     subprocess.run(
@@ -106,8 +145,8 @@ def main():
         for name in sorted(c_kinds() | rattle_kinds()):
             if c_kinds().get(name) != rattle_kinds().get(name):
                 faults.append(f"{name}: the header has {c_kinds().get(name)}, and the crate {rattle_kinds().get(name)}")
-    for backend in ("llvm", "rattle"):
-        shared = build(backend, kit_folder)
+    for backend in archives(kit_folder, "--after-ci" in sys.argv[1:]):
+        shared = link(backend, kit_folder)
         exported = {name for name, here in symbols(shared) if here}
         wanted = {name for name, here in symbols(shared) if not here}
         if exported != declared():
