@@ -4,8 +4,8 @@
     bindings/build.py [--after-ci]
 
 `bindings/out/llvm` gets both as LLVM compiles them, `bindings/out/rattle` as Rattle's own compiler does. The crate and those below it are proved first,
-which takes longest the first time. Right after `rt ci` the flag spares the crates below: those are then taken as `rt ci` left them, proved. It ends with the
-status 1 where the names that are exported aren't those of the header.
+which takes longest the first time. Right after `rt ci` the flag spares the crates below, which are taken as that left them, proved; where `rt ci` gave back
+what an earlier check had kept, they are checked again. It ends with the status 1 where the names that are exported aren't those of the header.
 """
 import pathlib
 import re
@@ -51,9 +51,10 @@ def over_libraries(kit_folder):
 
 def archives(kit_folder, after_ci):
     """Proves the crate and compiles it by each compiler in turn: the compiler's name, once its static library is there."""
-    if not after_ci:
+    # `rt` marks by a stamp what its other commands built.
+    if not after_ci or any(CRATES.glob("*/out/rlib/stamp")):
         for backend in BACKENDS:
-            run("rt", "lib", "--backend", backend)
+            run("rt", "lib", *([] if backend == "llvm" else ["--backend", backend]))
             yield backend
         return
     rattle, words = kit_folder / "bin" / "rattle", over_libraries(kit_folder)
