@@ -2,7 +2,6 @@
 use crate::failing::{FailingReader, FailingWriter};
 use programs::chunkplan::run_to_status;
 use std::io::ErrorKind;
-use std::process::Abort;
 use std::test::Fail;
 
 const DOCUMENT: &[u8] =
