@@ -7,3 +7,4 @@ pub mod NumeralDigits
 pub mod NumeralLemmas
 pub mod OneKey
 pub mod ReadKeys
+pub mod SomeKey

@@ -1,15 +1,18 @@
 //! What holds of the library's chunk key encodings. What every encoding has to prove, one of another crate too, is the law of
 //! [`ChunkKeyEncodingTraits`](crate::ChunkKeyEncodingTraits).
-ghost use Rattle.std.specs.Prelude.{◌≡◌, ℕ, IfErr, IfOk, List, Some, length, option_map};
+ghost use Rattle.std.specs.Prelude.{◌≡◌, ℕ, IfOk, List, Some, length, option_map};
 ghost use Rattle.zarrs_chunk_base.specs.declared.chunk_key_separator.ChunkKeySeparator.{ChunkKeySeparator};
-ghost use Rattle.zarrs_chunk_base.specs.Refusal.{IfRefused};
+ghost use Rattle.zarrs_chunk_base.specs.declared.plugin_create_error.PluginCreateError.{PluginCreateError};
+ghost use Rattle.zarrs_chunk_base.specs.Kinds.{IsMetadata};
+ghost use Rattle.zarrs_chunk_base.specs.Metadata.{Extension};
 ghost use Rattle.zarrs_chunk_keys.specs.ChunkKey.{Encoding, IsKey, default_keys, suffixed_keys};
 ghost use Rattle.zarrs_chunk_keys.specs.Decoded.{IsDecoded};
+ghost use Rattle.zarrs_chunk_keys.specs.KeyKinds.{IsEncoding, IsEncodingFault, key_kind, kind_of};
 ghost use Rattle.zarrs_chunk_keys.specs.seen.Encodings.{encoding_in};
 
 use crate::{ChunkKeyEncoding, ChunkKeyEncodingTraits};
 use std::alloc::{AllocError, Global};
-use zarrs_chunk_base::{ArrayIndices, PluginCreateError, Refusal, StoreKey};
+use zarrs_chunk_base::{ArrayIndices, StoreKey};
 
 /// Under one separator, and one suffix where there is one, a key of the `default` encoding is that of one list of numbers, whatever its length.
 pub fn a_default_key_names_one_chunk()
@@ -72,17 +75,12 @@ pub fn keys_read_as_one_chunk_are_equal(
     Ok((chunk, other_chunk))
 }
 
-/// An encoding is made again of its metadata.
-///
-/// # Errors
-/// Out of memory.
-pub fn an_encoding_is_made_again_of_its_metadata(
-    alloc: Global,
-    encoding: &ChunkKeyEncoding,
-) -> Result<ChunkKeyEncoding, Refusal<PluginCreateError>>
-    ensures accepted { IfErr result (λ refusal. IfRefused refusal (λ _. ⊥)) }
-    ensures same { IfOk result (λ again. encoding_in again ≡ encoding_in encoding.now) }
-{
-    let metadata = encoding.metadata(alloc)?;
-    ChunkKeyEncoding::from_metadata(alloc, &metadata)
-}
+/// An encoding is made again of its metadata: no fault of an encoding is theirs, and each encoding that is made of them is the same.
+pub fn an_encoding_is_made_again_of_its_metadata()
+    ensures accepted { (encoding : Encoding) (e : Extension)
+        → IsMetadata (key_kind (kind_of encoding)) tt encoding e
+        → (error : PluginCreateError) → ¬ IsEncodingFault e error }
+    ensures same { (encoding again : Encoding) (e : Extension)
+        → IsMetadata (key_kind (kind_of encoding)) tt encoding e
+        → IsEncoding e again → again ≡ encoding }
+{}

@@ -6,5 +6,6 @@ pub mod Overlaps
 pub mod Plans
 pub mod Rechunkings
 pub mod Shares
+pub mod SomePlan
 pub mod Taken
 pub mod Walked

@@ -300,18 +300,22 @@ module _ (source : List Dimension) (IsSourceKey : List ℕ → List ℕ → Type
       (λ groups among.
       let (b, _, plan) = source_of (IsRechunking source IsSourceKey target IsTargetKey) boxes plans zipped groups among in
       no_other_copy chains also_chains b groups plan)
-      (pairs_by (IsRechunking source IsSourceKey target IsTargetKey) (λ b other. (chunk : List ℕ) → IsInside b chunk → IsInside other chunk → ⊥)
+      (pairs_by (IsRechunking source IsSourceKey target IsTargetKey) (λ b other. (chunk : List ℕ) → Meets target (array_box target) chunk → IsInside b chunk → IsInside other chunk → ⊥)
       (λ one other. (copy next : Part × Part) → Contains (copies_of one) copy → Contains (copies_of other) next → Apart copy next) boxes plans zipped shared.apart across)
     where
       Apart : Part × Part → Part × Part → Type 0
       Apart copy other = (steps also index : List ℕ) → Moves source target copy steps index → Moves source target other also index → ⊥
 
       across : (b other : Box) (groups more : List Group) → Contains boxes b → Contains boxes other
-          → ((chunk : List ℕ) → IsInside b chunk → IsInside other chunk → ⊥)
+          → ((chunk : List ℕ) → Meets target (array_box target) chunk → IsInside b chunk → IsInside other chunk → ⊥)
           → IsRechunking source IsSourceKey target IsTargetKey b groups → IsRechunking source IsSourceKey target IsTargetKey other more
           → (copy next : Part × Part) → Contains (copies_of groups) copy → Contains (copies_of more) next → Apart copy next
       across b other groups more _ _ apart plan also_plan copy next among also_among steps also index moved again =
-          let (_, _, inside) = has_keys b groups plan copy among in
-          let (_, _, also_inside) = has_keys other more also_plan next also_among in
-          let same = same_box target copy.1.chunk.items next.1.chunk.items index also_chains moved.in_target again.in_target in
-          apart next.1.chunk.items (subst (IsInside b) same inside) also_inside
+          let of = origin_of b groups plan copy among in
+          let next_of = origin_of other more also_plan next also_among in
+          let numbers : copy.1.chunk.items ≡ of.chunk = of.to.numbers in
+          let next_numbers : next.1.chunk.items ≡ next_of.chunk = next_of.to.numbers in
+          let same : of.chunk ≡ next_of.chunk =
+          sym numbers ∙ same_box target copy.1.chunk.items next.1.chunk.items index also_chains moved.in_target again.in_target ∙ next_numbers
+          in
+          apart next_of.chunk next_of.meets (subst (IsInside b) same of.inside) next_of.inside

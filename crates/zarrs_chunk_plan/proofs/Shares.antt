@@ -12,23 +12,7 @@ use Rattle.zarrs_chunks.specs.Walks.{counted_from}
 use Rattle.zarrs_chunks.proofs.Boxes.{has_origin}
 use Rattle.zarrs_chunks.proofs.ChunksInBoxes.{inside_fits}
 use Rattle.zarrs_chunk_plan.specs.Plan.{AreShared, Meets}
-use Rattle.zarrs_chunk_plan.specs.seen.Shared.{IsFoundOrMemory, distances, shared_sizes}
-
--- ---- what is looked up is found
-
-pub finds_origin : (ds : List Dimension) (chunk origin : List ℕ) → length chunk ≡ length ds → IsOrigin ds chunk origin → AllFit origin
-    → (r : Looked ℕ) → AnswersOrigin ds chunk r → IsFoundOrMemory r
-finds_origin ds chunk origin same is fit (Ok (Some v)) h = tt
-finds_origin ds chunk origin same is fit (Ok None) h = h.1 origin is fit
-finds_origin ds chunk origin same is fit (Err (Refused e)) h = h.0 same
-finds_origin ds chunk origin same is fit (Err (Memory e)) h = tt
-
-pub finds_shape : (ds : List Dimension) (chunk : List ℕ) → length chunk ≡ length ds → IsChunk ds chunk
-    → (r : Looked NonZeroU64) → AnswersShape ds chunk r → IsFoundOrMemory r
-finds_shape ds chunk same is (Ok (Some v)) h = tt
-finds_shape ds chunk same is (Ok None) h = h.1 is
-finds_shape ds chunk same is (Err (Refused e)) h = h.0 same
-finds_shape ds chunk same is (Err (Memory e)) h = tt
+use Rattle.zarrs_chunk_plan.specs.seen.Shared.{distances, shared_sizes}
 
 -- ---- one dimension: a chunk from o on, e long, and a range from s on, n long
 

@@ -42,7 +42,7 @@ module _ {X Y : Type 0} (R : X → Y → Type 0) (xs : List X) (first : ℕ) whe
       rw (taken_more xs first number x from is) (pushed R (take (number - first) (drop first xs)) ys x y are also)
 
 -- where there are no chunks there are no parts
-no_parts : {X Y : Type 0} (R : X → Y → Type 0) (xs : List X) (ys : List Y) → xs ≡ [] → AllZip R xs ys → ys ≡ []
+pub no_parts : {X Y : Type 0} (R : X → Y → Type 0) (xs : List X) (ys : List Y) → xs ≡ [] → AllZip R xs ys → ys ≡ []
 no_parts R [] [] none are = refl
 no_parts R (_ ∷ _) ys none are = cc
 no_parts R [] (_ ∷ _) none are = absurd are

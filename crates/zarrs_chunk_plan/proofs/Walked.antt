@@ -40,13 +40,13 @@ module _ {G E : Type 0} (dimensions : G → List Dimension) (is_key : E → List
     came ++ part.chunk.items ∷ [],
     left ∙ ap (λ xs. came ++ xs) gives.gives ∙ sym (append_assoc came (part.chunk.items ∷ []) (chunks_to_come after)),
     subst (AllZip IsPartOf (came ++ part.chunk.items ∷ [])) (sym is)
-        (pushed IsPartOf came parts part.chunk.items part are (rw (← about.same_grid, ← about.same_encoding, ← about.same_subset) gives.part)),
+        (pushed IsPartOf came parts part.chunk.items part are (rw (← about.same_grid, ← about.same_encoding, ← about.same_subset) (gives.part meet))),
     record {
       same_grid = gives.about.same_grid ∙ about.same_grid;
       same_encoding = gives.about.same_encoding ∙ about.same_encoding;
       same_subset = gives.about.same_subset ∙ about.same_subset;
     },
-    gives.meet,
+    gives.meet meet,
   )
 
   pub at_last : (before after : Parts G E) (parts : List Part) → HaveCome before parts → GivesPart dimensions is_key before None after

@@ -58,11 +58,9 @@ impl<
     F: ChunkKeyEncodingTraits,
 > Iterator for Copies<'a, G, E, H, F> {
     ghost use Rattle.std.specs.Iterator.{item_count};
-    ghost use Rattle.zarrs_chunk_plan.specs.seen.Copies.{CanCopy, GivesCopies, target_offsets};
+    ghost use Rattle.zarrs_chunk_plan.specs.seen.Copies.{GivesCopies, target_offsets};
 
     type Item = Result<ChunkCopies<'a, G, E>, AllocError>;
-
-    ghost can_next = { CanCopy G.dimensions H.dimensions };
 
     ghost next_gives = { GivesCopies G.dimensions H.dimensions F.is_key };
 

@@ -2,21 +2,22 @@
 //!
 //! | What holds | The function whose contract says it |
 //! |---|---|
-//! | What [`parts`] gives of a box that isn't empty, one after another, is a plan of the box | [`the_walk_gives_the_plan`] |
+//! | What [`parts`] gives of a box, one after another, is a plan of the box | [`the_walk_gives_the_plan`] |
 //! | Each element of the box lies in exactly one part, at its place in that part's chunk | [`each_element_lies_in_one_part`] |
 //! | No two parts have one key | [`no_two_parts_have_one_key`] |
 //! | The parts' boxes tile the box: each place in it lies in exactly one of them, they reach nowhere else, and none is empty | [`the_parts_tile_the_box`] |
 //! | What [`copies`] gives, one group after another, is a rechunking | [`the_walk_gives_the_rechunking`] |
 //! | Each element of the array whose target chunk is asked for is moved by exactly one copy: from its place in the source's chunk to that in the target's | [`each_element_is_copied_once`] |
 //! | Rechunkings that share the target's chunks out are together the whole one | [`rechunkings_that_share_out_are_the_whole_one`] |
-ghost use Rattle.std.specs.Prelude.{◌≡◌, ◌≢◌, ◌↔◌, ℕ, IfOk, IfSome, List};
+ghost use Rattle.std.specs.Prelude.{◌≡◌, ◌≢◌, ◌↔◌, ◌⊎◌, ℕ, IfErr, IfOk, List, length};
 ghost use Rattle.std.specs.List.{AllPairs, AllZip, Contains, flat_map};
 ghost use Rattle.zarrs_chunk_axes.specs.InBounds.{AreBelow};
 ghost use Rattle.zarrs_chunk_base.specs.ArraySubset.{Box, IsEmptyBox, IsInside};
 ghost use Rattle.zarrs_chunk_base.specs.Dimension.{InBox, IsPlace, array_sizes};
-ghost use Rattle.zarrs_chunk_plan.specs.Plan.{HasElement, IsPart, IsPlan};
+ghost use Rattle.zarrs_chunk_base.specs.Refusal.{HasMemory, IfRefused};
+ghost use Rattle.zarrs_chunk_plan.specs.Plan.{AnswersNoPart, AnswersPlan, HasElement, IsPart, IsPlan};
 ghost use Rattle.zarrs_chunk_plan.specs.Rechunking.{Group, IsRechunking, Moves, ShareOut, copies_of};
-ghost use Rattle.zarrs_chunk_plan.specs.seen.Copies.{AreGroupsToCome, CanCopy, groups_of};
+ghost use Rattle.zarrs_chunk_plan.specs.seen.Copies.{AreGroupsToCome, CanCopy, IsCopiesFault, groups_of};
 ghost use Rattle.zarrs_chunk_plan.specs.seen.Parts.{ArePartsToCome, MeetSubset};
 
 use crate::{Copies, CopiesError, Part, Parts, copies, parts};
@@ -25,7 +26,8 @@ use zarrs_chunk_base::{ArraySubset, IncompatibleDimensionalityError, Refusal};
 use zarrs_chunk_keys::ChunkKeyEncodingTraits;
 use zarrs_chunks::ChunkGridTraits;
 
-/// The parts that the walk over a box gives, one after another, are a plan of the box: one for each chunk of its cover, in order.
+/// The parts that the walk over a box gives, one after another, are a plan of the box: one for each chunk of its cover, in order. There is none
+/// where the box has no cover, and an empty box has no parts.
 ///
 /// # Errors
 /// As `parts`, which this calls; or out of memory for the list.
@@ -35,9 +37,10 @@ pub fn the_walk_gives_the_plan<G: ChunkGridTraits, E: ChunkKeyEncodingTraits>(
     encoding: &E,
     array_subset: &ArraySubset,
 ) -> Result<Option<Vec<Part>>, Refusal<IncompatibleDimensionalityError>>
-    ensures { (¬ IsEmptyBox array_subset.now) → IfOk result (λ found. IfSome found
-        (λ all. IsPlan (G.dimensions grid.now) (E.is_key encoding.now) array_subset.now
-        all.items)) }
+    ensures empty { IsEmptyBox array_subset.now → length (G.dimensions grid.now) ≢ 0
+        → AnswersNoPart result }
+    ensures answers { (¬ IsEmptyBox array_subset.now) ⊎ (length (G.dimensions grid.now) ≡ 0)
+        → AnswersPlan (G.dimensions grid.now) (E.is_key encoding.now) array_subset.now result }
 {
     match parts(alloc, grid, encoding, array_subset)? {
         Some(walk) => Ok(Some(all_parts(alloc, walk)?)),
@@ -141,9 +144,20 @@ pub fn the_walk_gives_the_rechunking<
     target_encoding: &F,
     chunks: &ArraySubset,
 ) -> Result<Vec<(Part, Vec<Part>)>, Refusal<CopiesError>>
-    ensures { IfOk result (λ all. IsRechunking (G.dimensions source.now)
+    ensures rechunking { IfOk result (λ all. IsRechunking (G.dimensions source.now)
         (E.is_key source_encoding.now) (H.dimensions target.now) (F.is_key target_encoding.now)
         chunks.now (groups_of all.items)) }
+    ensures one_array { IfOk result (λ _. array_sizes (G.dimensions source.now)
+        ≡ array_sizes (H.dimensions target.now)) }
+    ensures lengths { IfOk result (λ _. length chunks.now.start
+        ≡ length (H.dimensions target.now)) }
+    ensures refused { IfErr result (λ refusal. IfRefused refusal (IsCopiesFault
+        (array_sizes (G.dimensions source.now)) (array_sizes (H.dimensions target.now))
+        (length chunks.now.start) (length (H.dimensions target.now)))) }
+    ensures shapes_first { array_sizes (G.dimensions source.now)
+        ≢ array_sizes (H.dimensions target.now) → HasMemory result }
+    ensures lengths_first { length chunks.now.start ≢ length (H.dimensions target.now)
+        → HasMemory result }
 {
     let walk = copies(
         alloc,

@@ -1,5 +1,5 @@
 //! A part of a box of elements: what one chunk holds of it.
-ghost use Rattle.std.specs.Prelude.{IfOk};
+ghost use Rattle.std.specs.Prelude.{◌≡◌, IfOk};
 ghost use Rattle.zarrs_chunk_plan.specs.Plan.{IsPart, Meets};
 
 use crate::shared::shared_boxes;
@@ -21,7 +21,7 @@ pub struct Part {
     pub in_subset: ArraySubset,
 }
 
-/// What a chunk holds of a box of elements, of which it holds some.
+/// What a chunk holds of a box of elements, if it holds some.
 ///
 /// # Errors
 /// Out of memory.
@@ -32,8 +32,9 @@ pub(crate) fn part_of<G: ChunkGridTraits, E: ChunkKeyEncodingTraits>(
     array_subset: &ArraySubset,
     chunk: ArrayIndicesTinyVec,
 ) -> Result<Part, AllocError>
-    requires { Meets (G.dimensions grid.now) array_subset.now chunk.items }
-    ensures { IfOk result (IsPart (G.dimensions grid.now) (E.is_key encoding.now)
+    ensures chunk { IfOk result (λ part. part.chunk.items ≡ chunk.items) }
+    ensures part { Meets (G.dimensions grid.now) array_subset.now chunk.items
+        → IfOk result (IsPart (G.dimensions grid.now) (E.is_key encoding.now)
         array_subset.now chunk.items) }
 {
     let (in_chunk, in_subset) = shared_boxes(alloc, grid, array_subset, chunk.as_slice())?;

@@ -48,7 +48,8 @@ pub fn copies<
         × (targets_to_come walk ≡ chunks_in targets)) }
     ensures about { IfOk result (IsAboutCopies source.now source_encoding.now target.now
         target_encoding.now (array_box (H.dimensions target.now))) }
-    ensures can_next { IfOk result (CanCopy G.dimensions H.dimensions) }
+    ensures can_copy { IfOk result (CanCopy G.dimensions H.dimensions) }
+    ensures is_box { IfOk result (λ _. IsBox (array_box (H.dimensions target.now))) }
     ensures one_array { IfOk result (λ _. array_sizes (G.dimensions source.now)
         ≡ array_sizes (H.dimensions target.now)) }
     ensures lengths { IfOk result (λ _. length chunks.now.start
@@ -100,8 +101,6 @@ fn chunks_of_array<G: ChunkGridTraits>(
     ensures named { IfOk result (λ chunks. (chunk : List ℕ) → IsInside chunks chunk
         ↔ Meets (G.dimensions grid.now) (array_box (G.dimensions grid.now)) chunk) }
 {
-    // The law is about a box, and its start tells that it is one.
-    let _start = array.start();
     let cover = the_cover_names_the_chunks_that_meet_a_box(alloc, grid, array);
     Ok(found(cover)?)
 }

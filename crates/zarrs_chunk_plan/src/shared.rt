@@ -4,7 +4,7 @@ ghost use Rattle.std.specs.Int.NonZero.{non_zero_u64_get};
 ghost use Rattle.zarrs_chunk_base.specs.ArraySubset.{IsBox};
 ghost use Rattle.zarrs_chunk_base.specs.Greatest.{greatest};
 ghost use Rattle.zarrs_chunk_plan.specs.Plan.{AreShared, Meets};
-ghost use Rattle.zarrs_chunk_plan.specs.seen.Shared.{IsFoundOrMemory, distances, shared_sizes};
+ghost use Rattle.zarrs_chunk_plan.specs.seen.Shared.{distances, shared_sizes};
 
 use std::alloc::{AllocError, Global};
 use std::num::NonZeroU64;
@@ -13,7 +13,7 @@ use zarrs_chunk_base::{
 };
 use zarrs_chunks::ChunkGridTraits;
 
-/// The elements that a chunk shares with a box of elements, of which it holds some: counted from the chunk's first element, and from the
+/// The elements that a chunk shares with a box of elements, if it holds some of them: counted from the chunk's first element, and from the
 /// first of the box. The chunk may end past 18446744073709551615; what the two share doesn't.
 ///
 /// # Errors
@@ -24,33 +24,31 @@ pub(crate) fn shared_boxes<G: ChunkGridTraits>(
     array_subset: &ArraySubset,
     chunk: &[u64],
 ) -> Result<(ArraySubset, ArraySubset), AllocError>
-    requires { Meets (G.dimensions grid.now) array_subset.now chunk.now }
-    ensures { IfOk result (λ boxes. AreShared (G.dimensions grid.now) array_subset.now
+    ensures { Meets (G.dimensions grid.now) array_subset.now chunk.now
+        → IfOk result (λ boxes. AreShared (G.dimensions grid.now) array_subset.now
         chunk.now boxes.0 boxes.1) }
 {
     let start = array_subset.start();
     let origin = found(grid.chunk_origin(alloc, chunk))?;
     let edges = found(grid.chunk_shape(alloc, chunk))?;
     let shape = sizes_shared(alloc, &origin, &edges, array_subset)?;
-    let in_chunk = box_of(steps_to(alloc, &origin, start)?, shape.clone()?);
-    let in_subset = box_of(steps_to(alloc, start, &origin)?, shape);
+    let in_chunk = made_box(steps_to(alloc, &origin, start)?, shape.clone()?)?;
+    let in_subset = made_box(steps_to(alloc, start, &origin)?, shape)?;
     Ok((in_chunk, in_subset))
 }
 
-/// What a look-up finds, of which it is known that it finds something, unless it is out of memory.
+/// What a look-up finds that has something to find: where it doesn't, it is out of memory.
 ///
 /// # Errors
 /// Out of memory.
 pub(crate) fn found<T: Drop>(
     answer: Result<Option<T>, Refusal<IncompatibleDimensionalityError>>,
 ) -> Result<T, AllocError>
-    requires { IsFoundOrMemory answer }
     ensures { IfOk result (λ value. answer ≡ Ok (Some value)) }
 {
     match answer {
         Ok(Some(value)) => Ok(value),
-        Err(Refusal::Memory(error)) => Err(error),
-        Ok(None) | Err(Refusal::Refused(_)) => unreachable!(),
+        Ok(None) | Err(_) => Err(AllocError),
     }
 }
 
@@ -106,6 +104,16 @@ pub(crate) fn size_shared(first: u64, size: u64, start: u64, other: u64) -> u64
 {
     let end = first.saturating_add(size).min(start.saturating_add(other));
     end.saturating_sub(first.max(start))
+}
+
+/// The box of a start and a shape that make one, if they are of a chunk and of a box that share elements.
+///
+/// # Errors
+/// They make none.
+fn made_box(start: ArrayIndices, shape: ArrayShape) -> Result<ArraySubset, AllocError>
+    ensures { IfOk result (λ b. b ≡ record { start = start.items; shape = shape.items }) }
+{
+    ArraySubset::new_with_start_shape(start, shape).map_err(|_| AllocError)
 }
 
 /// The box of a start and a shape that make one.

@@ -57,11 +57,9 @@ impl<'a, G: ChunkGridTraits, E: ChunkKeyEncodingTraits> Parts<'a, G, E> {
 
 impl<G: ChunkGridTraits, E: ChunkKeyEncodingTraits> Iterator for Parts<'_, G, E> {
     ghost use Rattle.std.specs.Iterator.{item_count};
-    ghost use Rattle.zarrs_chunk_plan.specs.seen.Parts.{GivesPart, MeetSubset, offsets_to_come};
+    ghost use Rattle.zarrs_chunk_plan.specs.seen.Parts.{GivesPart, offsets_to_come};
 
     type Item = Result<Part, AllocError>;
-
-    ghost can_next = { MeetSubset G.dimensions };
 
     ghost next_gives = { GivesPart G.dimensions E.is_key };
 
@@ -79,9 +77,12 @@ impl<G: ChunkGridTraits, E: ChunkKeyEncodingTraits> Iterator for Parts<'_, G, E>
             &self.array_subset,
             chunk,
         );
-        if part.is_err() {
-            self.chunks.end();
+        match part {
+            Ok(part) => Some(Ok(part)),
+            Err(error) => {
+                self.chunks.end();
+                Some(Err(error))
+            }
         }
-        Some(part)
     }
 }

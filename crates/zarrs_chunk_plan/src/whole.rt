@@ -1,6 +1,6 @@
 //! The box of all elements of an array, and that of all chunks of a grid.
 ghost use Rattle.std.specs.Prelude.{◌≡◌, ℕ, IfOk, List, length, replicate};
-ghost use Rattle.zarrs_chunk_base.specs.ArraySubset.{IsInside};
+ghost use Rattle.zarrs_chunk_base.specs.ArraySubset.{IsBox, IsInside};
 ghost use Rattle.zarrs_chunk_plan.specs.Plan.{Meets};
 ghost use Rattle.zarrs_chunk_plan.specs.Rechunking.{all_chunks_box, array_box};
 
@@ -14,7 +14,8 @@ use zarrs_chunks::ChunkGridTraits;
 /// # Errors
 /// Out of memory.
 pub fn whole_array<G: ChunkGridTraits>(alloc: Global, grid: &G) -> Result<ArraySubset, AllocError>
-    ensures { IfOk result (λ array. array ≡ array_box (G.dimensions grid.now)) }
+    ensures elements { IfOk result (λ array. array ≡ array_box (G.dimensions grid.now)) }
+    ensures is_box { IfOk result (λ _. IsBox (array_box (G.dimensions grid.now))) }
 {
     box_from_zero(alloc, grid.array_shape())
 }
@@ -36,10 +37,11 @@ pub fn all_chunks<G: ChunkGridTraits>(alloc: Global, grid: &G) -> Result<ArraySu
 /// # Errors
 /// Out of memory.
 fn box_from_zero(alloc: Global, shape: &[u64]) -> Result<ArraySubset, AllocError>
-    ensures { IfOk result (λ b. b ≡ record {
+    ensures value { IfOk result (λ b. b ≡ record {
       start = replicate (length shape.now) 0;
       shape = shape.now;
     }) }
+    ensures is_box { IfOk result IsBox }
 {
     let start = zeros(alloc, shape.len())?;
     Ok(box_of(start, shape.to_vec(alloc)?))

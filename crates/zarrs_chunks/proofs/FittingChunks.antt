@@ -138,6 +138,14 @@ module _ {X : Type 0} where
   both_hold P Q R follows [] first second = tt
   both_hold P Q R follows (x ∷ xs) first second = (follows x first.0 second.0, both_hold P Q R follows xs first.1 second.1)
 
+-- what is passed over leaves fewer lists
+pub passes_fewer : (old walk : RowMajorWalk) (found : Bool) (new : RowMajorWalk) (passed : List (List ℕ))
+    → length (lists_from true walk) ≤ length (lists_left old) → IsPassing walk found new passed → length (lists_from found new) ≤ length (lists_left old)
+passes_fewer old walk found new passed low is =
+    let shorter = ap length is.all in
+    let sum = length-append passed (lists_from found new) in
+    omega arith
+
 -- from where it was to where it is, it came by no chunk that has a box
 pub record ComesBy (ds : List Dimension) (old : RowMajorWalk) (found : Bool) (new : RowMajorWalk) : Type 0 where
   pub stands : Stands found new
@@ -170,11 +178,7 @@ module _ (ds : List Dimension) (chains : AllByRecursion IsChain ds) (walk : RowM
     stands = stands;
     boxed = by.boxed ∙ ap (boxed ds) is.all
         ∙ all_passed_over (ends_within ds) passed (lists_from found new) (none_passed passed (lists_from found new) is.all is.at_least none);
-    fewer =
-        let shorter = ap length is.all in
-        let sum = length-append passed (lists_from found new) in
-        let low = by.fewer in
-        omega arith;
+    fewer = passes_fewer old walk found new passed by.fewer is;
   }
 
 -- a chunk that has a box is the next of those that do

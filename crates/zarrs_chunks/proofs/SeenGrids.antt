@@ -1,21 +1,23 @@
 -- What is known of the dimensions of each kind of grid, and that a grid is made again of its metadata.
-use Rattle.std.proofs.Common.{◌≡◌, ℕ, List, Result, Ok, Err, IfErr, IfOk, MatchResult, true, false, refl, sym, ap, ◌∙◌}
-use Rattle.zarrs_chunk_base.specs.Dimension.{InEach, array_sizes}
+use Rattle.std.proofs.Common.{◌≡◌, ℕ, List, Some, map, true, false, refl, subst, sym, ap, ◌∙◌}
+use Rattle.serde_json.specs.Data.{Members}
+use Rattle.zarrs_chunk_base.specs.Dimension.{Dimension, InEach, array_sizes}
 use Rattle.zarrs_chunk_base.specs.Grid.{Grid}
-use Rattle.zarrs_chunk_base.specs.Kinds.{IsMetadata, IsOf}
 use Rattle.zarrs_chunk_base.specs.Metadata.{Extension}
-use Rattle.zarrs_chunk_base.specs.Refusal.{IfRefused}
+use Rattle.zarrs_chunk_base.specs.RunLength.{EdgeLengths, edges_of_lengths}
 use Rattle.zarrs_chunk_base.specs.declared.plugin_create_error.PluginCreateError.{PluginCreateError}
-use Rattle.zarrs_chunk_base.specs.declared.refusal.Refusal.{Refusal}
 use Rattle.zarrs_chunk_base.specs.lemmas.Fitting.{rectangular_fits, rectilinear_fits, regular_fits}
+use Rattle.zarrs_chunk_base.proofs.InEach.{numbers_are}
 use Rattle.zarrs_chunk_base.proofs.KindsByName as kinds
-use Rattle.zarrs_chunk_axes.specs.Bounded.{IsBoundedBy}
+use Rattle.zarrs_chunk_axes.specs.Bounded.{IsBounded, IsBoundedBy}
+use Rattle.zarrs_chunk_axes.specs.EqualEdges.{IsEqualEdges}
+use Rattle.zarrs_chunk_axes.specs.Rectilinear.{AreRectilinear}
 use Rattle.zarrs_chunk_axes.specs.EqualOrListed.{IsEqualOrListed}
 use Rattle.zarrs_chunk_axes.specs.declared.equal_or.EqualOr.{EqualOr}
 use Rattle.zarrs_chunk_axes.specs.declared.equal_or.EqualOr.TheVariants.{Equal, Other}
 use Rattle.zarrs_chunk_axes.specs.declared.listed_axis.ListedAxis.{ListedAxis}
 use Rattle.zarrs_chunk_axes.specs.declared.runs_axis.RunsAxis.{RunsAxis}
-use Rattle.zarrs_chunk_base.specs.DimensionEdges.{listed}
+use Rattle.zarrs_chunk_base.specs.DimensionEdges.{DimensionEdges, equal, listed}
 use Rattle.zarrs_chunk_axes.specs.lemmas.AllFromEdges.{IsFromEdges}
 use Rattle.zarrs_chunk_axes.specs.seen.AxisGrid.{from_edges, made_of}
 use Rattle.zarrs_chunk_axes.specs.seen.BoundedAxis.{bounded_is_made}
@@ -25,13 +27,14 @@ use Rattle.zarrs_chunk_axes.specs.seen.EqualOr.{equal_or, equal_or_edges, equal_
 use Rattle.zarrs_chunk_axes.specs.seen.ListedAxis.{edges_in, listed_is_made, listed_of}
 use Rattle.zarrs_chunk_axes.specs.seen.RunsAxis.{run_edges_in, runs_dimension, runs_is_made}
 use Rattle.zarrs_chunks.specs.GridKinds.{GridKind, IsGridFault, grid_kind, grid_kinds, is_bounded, rectangular, rectilinear, regular, regular_bounded}
-use Rattle.zarrs_chunks.specs.seen.Grids.{grid_in, kind_in, rectangular_of, rectilinear_of, regular_bounded_of, regular_of}
+use Rattle.zarrs_chunks.specs.seen.Grids.{HasMembers, HasMetadata, IsMadeBy, Say, grid_in, kind_in, sizes_in, rectangular_of, rectilinear_of, regular_bounded_of, regular_of}
 use Rattle.zarrs_chunks.specs.declared.chunk_grid.named.ChunkGrid.{ChunkGrid}
 use Rattle.zarrs_chunks.specs.declared.chunk_grid.named.ChunkGrid.TheVariants.{Rectangular, Rectilinear, Regular, RegularBounded}
 use Rattle.zarrs_chunks.specs.declared.chunk_grid.rectangular.RectangularChunkGrid.{RectangularChunkGrid}
 use Rattle.zarrs_chunks.specs.declared.chunk_grid.rectilinear.RectilinearChunkGrid.{RectilinearChunkGrid}
 use Rattle.zarrs_chunks.specs.declared.chunk_grid.regular.RegularChunkGrid.{RegularChunkGrid}
 use Rattle.zarrs_chunks.specs.declared.chunk_grid.regular_bounded.RegularBoundedChunkGrid.{RegularBoundedChunkGrid}
+use Rattle.zarrs_chunks.proofs.WrittenLengths.{written_alike}
 
 -- ---- the dimensions are made of the array sizes and the edges
 
@@ -98,12 +101,19 @@ same_edges regular_bounded given grid again x made remade = remade.1 ∙ sym mad
 same_edges rectangular given grid again x made remade = remade.1 ∙ sym made.1
 same_edges rectilinear given grid again x made remade = remade.1 ∙ sym made.1
 
-pub accepted_again : (grid : ChunkGrid) (e : Extension) (answer : Result ChunkGrid (Refusal PluginCreateError)) (P : ChunkGrid → Type 0)
-    → IsMetadata (grid_kind (kind_in grid)) (array_sizes (grid_in grid).dimensions) (grid_in grid) e
-    → MatchResult answer P (λ refusal. IfRefused refusal (IsGridFault e (array_sizes (grid_in grid).dimensions)))
-    → IfErr answer (λ refusal. IfRefused refusal (λ _. ⊥))
-accepted_again grid e answer P is made =
-    kinds.accepted_again grid_kind grid_kinds found fits P (kind_in grid) (array_sizes (grid_in grid).dimensions) (grid_in grid) e answer is made
+-- the array shape that something is made of is the grid's
+size_of : (d : Dimension) (size : ℕ) (edges : DimensionEdges) → IsEqualOrListed d size edges → d.array_size ≡ size
+size_of d size (equal edge) is = is.array_size
+size_of d size (listed edges) is = is.array_size
+
+same_sizes : (kind : GridKind) (shape : List ℕ) (grid : Grid) (x : (grid_kind kind).Said) → (grid_kind kind).makes grid shape x → shape ≡ array_sizes grid.dimensions
+same_sizes regular shape grid x made = numbers_are IsEqualEdges (λ d. d.array_size) (λ d n edge is. is.array_size) grid.dimensions shape x made.0
+same_sizes regular_bounded shape grid x made = numbers_are IsBounded (λ d. d.array_size) (λ d n edge is. is.array_size) grid.dimensions shape x made.0
+same_sizes rectangular shape grid x made = numbers_are IsEqualOrListed (λ d. d.array_size) size_of grid.dimensions shape x made.0
+same_sizes rectilinear shape grid x made = numbers_are IsEqualOrListed (λ d. d.array_size) size_of grid.dimensions shape (map edges_of_lengths x) made.0
+
+pub never_refused : (grid : ChunkGrid) (e : Extension) → HasMetadata grid e → (error : PluginCreateError) → ¬ IsGridFault e (sizes_in grid) error
+never_refused grid e is error = kinds.never_refused grid_kind grid_kinds found fits (kind_in grid) (sizes_in grid) (grid_in grid) e error is
 
 -- the second grid is of the same kind, with the same edges and dimensions
 pub record IsAgain (grid again : ChunkGrid) : Type 0 where
@@ -111,17 +121,39 @@ pub record IsAgain (grid again : ChunkGrid) : Type 0 where
   pub edges : (grid_in again).edges ≡ (grid_in grid).edges
   pub dimensions : (grid_in again).dimensions ≡ (grid_in grid).dimensions
 
-pub is_again : (grid : ChunkGrid) (e : Extension) (answer : Result ChunkGrid (Refusal PluginCreateError)) (Q : Refusal PluginCreateError → Type 0)
-    → IsMetadata (grid_kind (kind_in grid)) (array_sizes (grid_in grid).dimensions) (grid_in grid) e
-    → MatchResult answer (λ again. IsOf (grid_kind (kind_in again)) e (array_sizes (grid_in grid).dimensions) (grid_in again)) Q
-    → IfOk answer (λ again. array_sizes (grid_in again).dimensions ≡ array_sizes (grid_in grid).dimensions) → IfOk answer (IsAgain grid)
-is_again grid e (Ok again) Q is made shape =
-    let sizes = array_sizes (grid_in grid).dimensions in
+pub is_again : (grid again : ChunkGrid) (e : Extension) → HasMetadata grid e → IsMadeBy e (sizes_in grid) again → IsAgain grid again
+is_again grid again e is made =
+    let sizes = sizes_in grid in
     let (same, (x, makes, remakes)) = kinds.made_again grid_kind grid_kinds found (kind_in grid) (kind_in again) sizes (grid_in grid) (grid_in again) e is made in
     let edges = same_edges (kind_in grid) sizes (grid_in grid) (grid_in again) x makes remakes in
     record {
       kind = sym same;
       edges = edges;
-      dimensions = same_dimensions again grid (ap is_bounded (sym same)) shape edges;
+      dimensions = same_dimensions again grid (ap is_bounded (sym same)) (sym (same_sizes (kind_in grid) sizes (grid_in again) x remakes)) edges;
     }
-is_again grid e (Err _) Q is made shape = tt
+
+-- ---- a `rectilinear` grid, of its configuration
+
+-- what the members say is what the grid was made of
+said_edges : (grid : RectilinearChunkGrid) (members : Members) (said : List EdgeLengths) → HasMembers grid members → Say members said
+    → AreRectilinear (array_sizes (rectilinear_of grid).dimensions) (map edges_of_lengths said) × ((rectilinear_of grid).edges ≡ map edges_of_lengths said)
+said_edges grid members said (x, accepted, made, form, written, is) says =
+    let both : Some x ≡ Some said = sym is.1 ∙ says.1 in
+    let same : x ≡ said = cc in
+    let shape = array_sizes (rectilinear_of grid).dimensions in
+    (subst (λ y. AreRectilinear shape (map edges_of_lengths y)) same accepted, made.1 ∙ ap (map edges_of_lengths) same)
+
+pub said_accepted : (grid : RectilinearChunkGrid) (members : Members) (said : List EdgeLengths) → HasMembers grid members → Say members said
+    → AreRectilinear (array_sizes (rectilinear_of grid).dimensions) (map edges_of_lengths said)
+said_accepted grid members said has says = (said_edges grid members said has says).0
+
+pub edges_again : (grid again : RectilinearChunkGrid) (members : Members) (said : List EdgeLengths) → HasMembers grid members → Say members said
+    → array_sizes (rectilinear_of again).dimensions ≡ array_sizes (rectilinear_of grid).dimensions → (rectilinear_of again).edges ≡ map edges_of_lengths said
+    → (rectilinear_of again).dimensions ≡ (rectilinear_of grid).dimensions
+edges_again grid again members said has says sizes edges =
+    same_dimensions (Rectilinear again) (Rectilinear grid) refl sizes (edges ∙ sym (said_edges grid members said has says).1)
+
+pub configured_again : (grid again : RectilinearChunkGrid) (members others : Members) (said : List EdgeLengths) → HasMembers grid members → Say members said
+    → (rectilinear_of again).edges ≡ map edges_of_lengths said → HasMembers again others → others ≡ members
+configured_again grid again members others said has says edges also =
+    (written_alike _ _ (rectilinear_of again) (rectilinear_of grid) others members also has).1 (edges ∙ sym (said_edges grid members said has says).1)

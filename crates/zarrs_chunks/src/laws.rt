@@ -9,7 +9,7 @@
 //! | The key and the place of an element determine its index | [`key_and_place_determine_the_index`]; of two answers of `locate` [`answers_of_locate_determine_the_index`] |
 //! | The cover of a box names exactly the chunks that meet it | [`the_cover_names_the_chunks_that_meet_a_box`] |
 //! | The box of a box of chunks is the union of their boxes | [`the_box_of_chunks_is_the_union_of_their_boxes`] |
-//! | The walk gives each chunk below the grid shape once, in row-major order | [`the_walk_gives_each_chunk_once`] |
+//! | The walk has each chunk below the grid shape once, in row-major order | [`the_walk_gives_each_chunk_once`] |
 //! | Each element of the array lies in exactly one of them | [`each_element_lies_in_one_chunk_of_the_walk`] |
 //! | The walk over the chunks in a box gives each that lies in it once, in row-major order | [`the_walk_over_a_box_gives_each_chunk_once`] |
 //! | Each element of a box that has a cover lies in a chunk of the cover | [`each_element_of_a_box_lies_in_a_chunk_of_its_cover`] |
@@ -17,37 +17,38 @@
 //! | A chunk that is counted has a box exactly where it ends at 18446744073709551615 or before it; these are the boxes of the walks | [`the_boxes_of_a_walk_are_those_of_its_chunks`] |
 //! | A grid of run-length elements has the dimensions of one with the edges written out; two bounded grids of the same edges have the same | [`the_edges_determine_the_dimensions`] |
 //! | A bounded grid answers as its clipped edges, where no array size is 0 | [`a_bounded_dimension_is_that_of_its_edges`], [`grids_of_like_dimensions_answer_alike`] |
-//! | A [`ChunkGrid`] is made again of its metadata | [`a_grid_is_made_again_of_its_metadata`] |
+//! | A [`ChunkGrid`] is made again of its metadata, a `rectilinear` grid also of its own configuration | [`a_grid_is_made_again_of_its_metadata`], [`a_rectilinear_grid_is_made_again_of_its_configuration`] |
 //! | `rectilinear` grids have equal configurations exactly where they have equal edges | [`equal_edges_are_written_alike`] |
 //! | A look-up in runs makes, over all dimensions, at most as many comparisons as the numbers of runs have binary digits | [`chunk_indices_counted`](crate::RectilinearChunkGrid::chunk_indices_counted) |
-ghost use Rattle.std.specs.Prelude.{◌≡◌, ◌≢◌, ◌↔◌, ◌⊎◌, ℕ, ◌<◌, IfErr, IfOk, IfSome, IsTrue, List, Some, length, map, option_map};
+ghost use Rattle.std.specs.Prelude.{◌≡◌, ◌≢◌, ◌↔◌, ◌⊎◌, ℕ, ◌<◌, IfOk, IfSome, IsTrue, List, Some, length, map, option_map};
 ghost use Rattle.std.specs.List.{AllPairs, Contains};
 ghost use Rattle.serde_json.specs.Data.{Members};
-ghost use Rattle.zarrs_chunk_base.specs.ArraySubset.{Box, IsEmptyBox, IsInside};
+ghost use Rattle.zarrs_chunk_base.specs.ArraySubset.{Box, IsBox, IsEmptyBox, IsInside};
 ghost use Rattle.zarrs_chunk_base.specs.Dimension.{Dimension, InBox, IsOrigin, IsPlace, array_sizes, grid_sizes};
 ghost use Rattle.zarrs_chunk_base.specs.Greatest.{AllFit};
 ghost use Rattle.zarrs_chunk_axes.specs.Listed.{IsListed};
 ghost use Rattle.zarrs_chunk_axes.specs.Bounded.{AreBounded, IsBounded};
 ghost use Rattle.zarrs_chunk_base.specs.Grid.{Grid};
 ghost use Rattle.zarrs_chunk_base.specs.Kinds.{IsConfigurationOf};
-ghost use Rattle.zarrs_chunk_base.specs.Refusal.{IfRefused};
-ghost use Rattle.zarrs_chunks.specs.GridKinds.{grid_kind, is_bounded, rectilinear};
+ghost use Rattle.zarrs_chunk_base.specs.Metadata.{Extension};
+ghost use Rattle.zarrs_chunk_base.specs.RunLength.{EdgeLengths, edges_of_lengths};
+ghost use Rattle.zarrs_chunk_base.specs.declared.plugin_create_error.PluginCreateError.{PluginCreateError};
+ghost use Rattle.zarrs_chunk_axes.specs.Rectilinear.{AreRectilinear};
+ghost use Rattle.zarrs_chunks.specs.GridKinds.{IsGridFault, grid_kind, is_bounded, rectilinear};
 ghost use Rattle.zarrs_chunks.specs.Located.{IsLocated};
-ghost use Rattle.zarrs_chunks.specs.seen.Grids.{grid_in, kind_in};
+ghost use Rattle.zarrs_chunks.specs.declared.chunk_grid.rectilinear.RectilinearChunkGrid.{RectilinearChunkGrid};
+ghost use Rattle.zarrs_chunks.specs.seen.Grids.{HasMembers, HasMetadata, IsMadeBy, Say, grid_in, kind_in, rectilinear_of, sizes_in};
 ghost use Rattle.zarrs_chunks.specs.Alike.{AnswerAlike, AreAlike, AreAllAlike};
 ghost use Rattle.zarrs_chunks.specs.Clipped.{AreClipped, AreClippedLists};
 ghost use Rattle.zarrs_chunk_axes.specs.InBounds.{AreBelow};
 ghost use Rattle.zarrs_chunk_axes.specs.LookUp.{AnswersChunk};
 ghost use Rattle.zarrs_chunk_axes.specs.RowMajor.{IsBefore};
 ghost use Rattle.zarrs_chunks.specs.Subsets.{AnswersChunksSubset, AnswersCover, AnswersEmptyCover, IsCover, Spans};
-ghost use Rattle.zarrs_chunks.specs.Walks.{box_at, chunks_of, ends_within};
-ghost use Rattle.zarrs_chunks.specs.seen.Walks.{chunks_in_left, chunks_left};
+ghost use Rattle.zarrs_chunks.specs.Walks.{box_at, chunks_in, chunks_of, ends_within};
 
-use crate::{ChunkGrid, ChunkGridTraits, ChunkIndices, ChunkIndicesInSubset, Located};
-use std::alloc::{AllocError, Global};
-use zarrs_chunk_base::{
-    ArrayIndices, ArraySubset, IncompatibleDimensionalityError, PluginCreateError, Refusal,
-};
+use crate::{ChunkGrid, ChunkGridTraits, Located};
+use std::alloc::Global;
+use zarrs_chunk_base::{ArrayIndices, ArraySubset, IncompatibleDimensionalityError, Refusal};
 use zarrs_chunk_keys::ChunkKeyEncodingTraits;
 
 /// `chunk_indices` names a chunk exactly where that chunk's box holds the index.
@@ -155,51 +156,34 @@ fn numbers_fit(numbers: &[u64])
     let _first = numbers.first();
 }
 
-/// The walk over chunk numbers gives each list below the grid shape, once, and each after those that come before it.
-pub fn the_walk_gives_each_chunk_once<G: ChunkGridTraits>(
-    alloc: Global,
-    grid: &G,
-) -> ChunkIndices<'_>
-    ensures each { (chunk : List ℕ) → Contains (chunks_left result) chunk
+/// The walk over chunk numbers, as `iter_chunk_indices` gives it, has each list below the grid shape, once, and each after those that come
+/// before it.
+pub fn the_walk_gives_each_chunk_once<G: ChunkGridTraits>(grid: &G)
+    ensures each { (chunk : List ℕ) → Contains (chunks_of (G.dimensions grid.now)) chunk
         ↔ AreBelow (grid_sizes (G.dimensions grid.now)) chunk }
-    ensures in_order { AllPairs IsBefore (chunks_left result) }
-    ensures once { AllPairs (λ one other. one ≢ other) (chunks_left result) }
-{
-    grid.iter_chunk_indices(alloc)
-}
+    ensures in_order { AllPairs IsBefore (chunks_of (G.dimensions grid.now)) }
+    ensures once { AllPairs (λ one other. one ≢ other) (chunks_of (G.dimensions grid.now)) }
+{}
 
-/// Each element of the array lies in the box of one of the chunks that the walk gives, and of no other.
-pub fn each_element_lies_in_one_chunk_of_the_walk<G: ChunkGridTraits>(
-    alloc: Global,
-    grid: &G,
-) -> ChunkIndices<'_>
+/// Each element of the array lies in the box of one of the chunks that this walk gives, and of no other.
+pub fn each_element_lies_in_one_chunk_of_the_walk<G: ChunkGridTraits>(grid: &G)
     ensures one { (index : List ℕ)
         → AreBelow (array_sizes (G.dimensions grid.now)) index → (chunk : List ℕ)
-        × Contains (chunks_left result) chunk × InBox (G.dimensions grid.now) chunk index }
+        × Contains (chunks_of (G.dimensions grid.now)) chunk
+        × InBox (G.dimensions grid.now) chunk index }
     ensures no_other { (index chunk other : List ℕ) → InBox (G.dimensions grid.now) chunk index
         → InBox (G.dimensions grid.now) other index → chunk ≡ other }
-{
-    grid.iter_chunk_indices(alloc)
-}
+{}
 
-/// The walk over the chunks in a box gives each chunk that lies in it, once, and each after those that come before it.
-///
-/// # Errors
-/// Out of memory.
-pub fn the_walk_over_a_box_gives_each_chunk_once(
-    alloc: Global,
-    chunks: ArraySubset,
-) -> Result<ChunkIndicesInSubset, AllocError>
-    ensures each { IfOk result (λ walk. (chunk : List ℕ)
-        → Contains (chunks_in_left walk) chunk ↔ IsInside chunks chunk) }
-    ensures in_order { IfOk result (λ walk. AllPairs IsBefore (chunks_in_left walk)) }
-    ensures once { IfOk result
-        (λ walk. AllPairs (λ one other. one ≢ other) (chunks_in_left walk)) }
-{
-    // As above.
-    let _start = chunks.start();
-    ChunkIndicesInSubset::new(alloc, chunks)
-}
+/// The walk over the chunks in a box, as [`ChunkIndicesInSubset`](crate::ChunkIndicesInSubset) gives it, has each chunk that lies in it, once,
+/// and each after those that come before it.
+pub fn the_walk_over_a_box_gives_each_chunk_once()
+    ensures each { (chunks : Box) → IsBox chunks → (chunk : List ℕ)
+        → Contains (chunks_in chunks) chunk ↔ IsInside chunks chunk }
+    ensures in_order { (chunks : Box) → IsBox chunks → AllPairs IsBefore (chunks_in chunks) }
+    ensures once { (chunks : Box) → IsBox chunks
+        → AllPairs (λ one other. one ≢ other) (chunks_in chunks) }
+{}
 
 /// Each element of a box that has a cover lies in a chunk of the cover.
 pub fn each_element_of_a_box_lies_in_a_chunk_of_its_cover<G: ChunkGridTraits>(
@@ -279,20 +263,35 @@ pub fn equal_edges_are_written_alike()
         → (members ≡ others) ↔ (grid.edges ≡ other.edges) }
 {}
 
-/// A grid is made again of its metadata and its array shape: one of the same kind, with the same dimensions and edges.
-///
-/// # Errors
-/// Out of memory.
-pub fn a_grid_is_made_again_of_its_metadata(
-    alloc: Global,
-    grid: &ChunkGrid,
-) -> Result<ChunkGrid, Refusal<PluginCreateError>>
-    ensures accepted { IfErr result (λ refusal. IfRefused refusal (λ _. ⊥)) }
-    ensures kind { IfOk result (λ again. kind_in again ≡ kind_in grid.now) }
-    ensures dimensions { IfOk result (λ again. (grid_in again).dimensions
-        ≡ (grid_in grid.now).dimensions) }
-    ensures edges { IfOk result (λ again. (grid_in again).edges ≡ (grid_in grid.now).edges) }
-{
-    let metadata = grid.metadata(alloc)?;
-    ChunkGrid::from_metadata(alloc, &metadata, grid.array_shape())
-}
+/// A grid is made again of its metadata and its array shape: no fault of a grid is theirs, and each grid that is made of them is of the same
+/// kind, with the same dimensions and edges.
+pub fn a_grid_is_made_again_of_its_metadata()
+    ensures accepted { (grid : ChunkGrid) (e : Extension) → HasMetadata grid e
+        → (error : PluginCreateError) → ¬ IsGridFault e (sizes_in grid) error }
+    ensures kind { (grid again : ChunkGrid) (e : Extension) → HasMetadata grid e
+        → IsMadeBy e (sizes_in grid) again → kind_in again ≡ kind_in grid }
+    ensures dimensions { (grid again : ChunkGrid) (e : Extension) → HasMetadata grid e
+        → IsMadeBy e (sizes_in grid) again
+        → (grid_in again).dimensions ≡ (grid_in grid).dimensions }
+    ensures edges { (grid again : ChunkGrid) (e : Extension) → HasMetadata grid e
+        → IsMadeBy e (sizes_in grid) again → (grid_in again).edges ≡ (grid_in grid).edges }
+{}
+
+/// A `rectilinear` grid is made again of its own configuration and its array shape: `new` accepts the edges that the configuration says, and a
+/// grid of these edges and this shape has the same dimensions and the same configuration.
+pub fn a_rectilinear_grid_is_made_again_of_its_configuration()
+    ensures accepted { (grid : RectilinearChunkGrid) (members : Members) (said : List EdgeLengths)
+        → HasMembers grid members → Say members said
+        → AreRectilinear (array_sizes (rectilinear_of grid).dimensions)
+        (map edges_of_lengths said) }
+    ensures dimensions { (grid again : RectilinearChunkGrid) (members : Members)
+        (said : List EdgeLengths) → HasMembers grid members → Say members said
+        → array_sizes (rectilinear_of again).dimensions
+        ≡ array_sizes (rectilinear_of grid).dimensions
+        → (rectilinear_of again).edges ≡ map edges_of_lengths said
+        → (rectilinear_of again).dimensions ≡ (rectilinear_of grid).dimensions }
+    ensures configuration { (grid again : RectilinearChunkGrid) (members others : Members)
+        (said : List EdgeLengths) → HasMembers grid members → Say members said
+        → (rectilinear_of again).edges ≡ map edges_of_lengths said
+        → HasMembers again others → others ≡ members }
+{}

@@ -4,6 +4,7 @@ use Rattle.std.specs.List.{AllByRecursion, AllZip}
 use Rattle.std.specs.declared.alloc.AllocError.{AllocError}
 use Rattle.zarrs_chunk_base.specs.ArraySubset.{Box, lasts}
 use Rattle.zarrs_chunk_base.specs.Dimension.{Dimension}
+use Rattle.zarrs_chunk_base.specs.Greatest.{AllFit}
 use Rattle.zarrs_chunk_base.specs.Refusal.{AnswersOrMemory}
 use Rattle.zarrs_chunk_base.specs.declared.incompatible_dimensionality_error.IncompatibleDimensionalityError.{IncompatibleDimensionalityError}
 use Rattle.zarrs_chunk_base.specs.declared.refusal.Refusal.{Refusal}
@@ -51,6 +52,10 @@ module _ {G E : Type 0} where
   ArePartsToCome dimensions is_key walk =
       AllZip (IsPart (dimensions walk.grid.now) (is_key walk.encoding.now) walk.array_subset) (chunks_to_come walk)
 
+-- each chunk has a key
+abbrev pub HasKeys : (List ℕ → List ℕ → Type 0) → Type 0
+HasKeys IsKey = (chunk : List ℕ) → AllFit chunk → (key : List ℕ) × IsKey chunk key
+
 -- what holds of a part, where `next` gave one
 abbrev pub IfPart : (Part → Type 0) → Option (Result Part AllocError) → Type 0
 IfPart P (Some (Ok part)) = P part
@@ -58,10 +63,10 @@ IfPart P (Some (Err _)) = Unit {0}
 IfPart P None = Unit {0}
 
 -- `next` gives the part of the first chunk to come, and the others are to come then; nothing, at the end; or out of memory. The walk is
--- over the same as before.
+-- over the same as before. Of a walk whose chunks hold elements of the box, as `parts` makes one, it is the chunk's part.
 pub record GivesPart {G E : Type 0} (dimensions : G → List Dimension) (is_key : E → List ℕ → List ℕ → Type 0) (before : Parts G E)
     (given : Option (Result Part AllocError)) (after : Parts G E) : Type 0 where
   pub gives : Gives offsets_to_come chunks_to_come (λ part. part.chunk.items) (λ offsets. offsets ≢ []) before given after
-  pub part : IfPart (λ part. IsPart (dimensions before.grid.now) (is_key before.encoding.now) before.array_subset part.chunk.items part) given
+  pub part : MeetSubset dimensions before → IfPart (λ part. IsPart (dimensions before.grid.now) (is_key before.encoding.now) before.array_subset part.chunk.items part) given
   pub about : IsAbout before.grid.now before.encoding.now before.array_subset after
-  pub meet : MeetSubset dimensions after
+  pub meet : MeetSubset dimensions before → MeetSubset dimensions after

@@ -1,10 +1,7 @@
 -- How the elements that a chunk and a box share are found.
-use Rattle.std.specs.Prelude.{ℕ, ◌+◌, ◌-◌, List, map, max, min, Option, Some, None, Result, Ok, Err}
+use Rattle.std.specs.Prelude.{ℕ, ◌+◌, ◌-◌, List, map, max, min}
 use Rattle.std.specs.List.{zip}
 use Rattle.zarrs_chunk_base.specs.Greatest.{greatest}
-use Rattle.zarrs_chunk_base.specs.declared.incompatible_dimensionality_error.IncompatibleDimensionalityError.{IncompatibleDimensionalityError}
-use Rattle.zarrs_chunk_base.specs.declared.refusal.Refusal.{Refusal}
-use Rattle.zarrs_chunk_base.specs.declared.refusal.Refusal.TheVariants.{Refused, Memory}
 
 -- how far each number lies behind another, and 0 where it lies before
 abbrev pub distances : List ℕ → List ℕ → List ℕ
@@ -18,10 +15,3 @@ shared_sizes origin edges start sizes =
 -- the later of each two starts
 abbrev pub later_starts : List ℕ → List ℕ → List ℕ
 later_starts one other = map (λ p. max p.0 p.1) (zip one other)
-
--- a look-up found something, or was out of memory
-abbrev pub IsFoundOrMemory : {X : Type 0} → Result (Option X) (Refusal IncompatibleDimensionalityError) → Type 0
-IsFoundOrMemory (Ok (Some _)) = Unit {0}
-IsFoundOrMemory (Ok None) = ⊥
-IsFoundOrMemory (Err (Refused _)) = ⊥
-IsFoundOrMemory (Err (Memory _)) = Unit {0}

@@ -45,6 +45,12 @@ module _ {G : Type 0} (dimensions : G → List Dimension) where
   StepsTo old (Ok None) new = (boxed_left old ≡ []) × (chunks_ahead new ≡ [])
   StepsTo old (Err _) new = (chunks_ahead old ≢ []) × (chunks_ahead new ≡ [])
 
+  -- a step that gives a box, or is out of memory, leaves fewer chunks ahead
+  abbrev pub GoesOn : ChunkBoxes G → Result (Option Box) AllocError → ChunkBoxes G → Type 0
+  GoesOn old (Ok (Some _)) new = length (chunks_ahead new) < length (chunks_ahead old)
+  GoesOn old (Ok None) new = Unit {0}
+  GoesOn old (Err _) new = length (chunks_ahead new) < length (chunks_ahead old)
+
   -- a walk over boxes, or over chunks and boxes, goes through the chunks that its grid counts
   abbrev pub AreBoxesOfGrid : ChunkSubsets G → Type 0
   AreBoxesOfGrid walk = IsOverGrid walk.boxes

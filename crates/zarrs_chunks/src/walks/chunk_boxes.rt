@@ -17,7 +17,7 @@ pub(crate) struct ChunkBoxes<'a, G> {
 impl<'a, G: ChunkGridTraits> ChunkBoxes<'a, G> {
     ghost use Rattle.zarrs_chunk_axes.specs.seen.RowMajorWalk.{numbers_at};
     ghost use Rattle.zarrs_chunks.specs.Walks.{chunks_of};
-    ghost use Rattle.zarrs_chunks.specs.seen.Walks.{IsOverGrid, StepsTo, chunks_ahead};
+    ghost use Rattle.zarrs_chunks.specs.seen.Walks.{GoesOn, IsOverGrid, StepsTo, chunks_ahead};
 
     /// A walk over the chunks of a grid. It takes no memory.
     pub(crate) fn new(alloc: Global, grid: &'a G) -> ChunkBoxes<'a, G>
@@ -41,9 +41,10 @@ impl<'a, G: ChunkGridTraits> ChunkBoxes<'a, G> {
     /// # Errors
     /// Out of memory. The walk has ended then.
     pub(crate) fn step(&mut self) -> Result<Option<ArraySubset>, AllocError>
-        requires { IsOverGrid G.dimensions self.old }
-        ensures steps { StepsTo G.dimensions self.old result self.new }
-        ensures over { IsOverGrid G.dimensions self.new }
+        ensures steps { IsOverGrid G.dimensions self.old
+            → StepsTo G.dimensions self.old result self.new }
+        ensures fewer { GoesOn G.dimensions self.old result self.new }
+        ensures over { IsOverGrid G.dimensions self.old → IsOverGrid G.dimensions self.new }
         ensures grid { self.new.grid.now ≡ self.old.grid.now }
     {
         let mut found = self.walk.step()?;
@@ -51,7 +52,7 @@ impl<'a, G: ChunkGridTraits> ChunkBoxes<'a, G> {
             match self.grid.subset(self.alloc, self.walk.numbers()) {
                 Ok(Some(subset)) => return Ok(Some(subset)),
                 Ok(None) => found = self.walk.pass_over(),
-                // The list has as many numbers as the grid has dimensions, so it is out of memory.
+                // Out of memory: a walk over its grid's shape has as many numbers as the grid has dimensions.
                 Err(_) => {
                     self.walk.end();
                     return Err(AllocError);

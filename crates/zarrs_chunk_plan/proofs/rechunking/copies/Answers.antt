@@ -20,8 +20,8 @@ returns-clause-targets g c =
       ap chunks_to_come c.new-3.ensures.targets ∙ c.in_ok-targets.ensures.left,
     )
 
-pub returns-clause-can_next : goal.returns-clause-can_next
-returns-clause-can_next g c =
+pub returns-clause-can_copy : goal.returns-clause-can_copy
+returns-clause-can_copy g c =
     let ds = g.H.ChunkGridTraits.dimensions c.args.target.now in
     let both = c.in_ok-wanted.ensures.common in
     let named = c.in_ok-written.ensures.named in
@@ -31,4 +31,4 @@ returns-clause-can_next g c =
     let one : array_sizes (g.G.ChunkGridTraits.dimensions c.args.source.now) ≡ array_sizes ds = search rules in
     can_copy g.G.ChunkGridTraits.dimensions g.H.ChunkGridTraits.dimensions c.args.source.now c.args.target.now c.args.target_encoding.now c.new-3.result
     c.in_ok-targets.targets c.in_ok-wanted.wanted c.new-3.ensures.same_source c.new-3.ensures.targets
-    (rw c.in_ok-array.ensures at c.in_ok-targets.ensures.about) c.in_ok-targets.ensures.left one meet
+    (rw c.in_ok-array.ensures.elements at c.in_ok-targets.ensures.about) c.in_ok-targets.ensures.left one meet

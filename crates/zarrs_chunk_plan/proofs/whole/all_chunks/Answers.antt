@@ -12,7 +12,7 @@ use Rattle.zarrs_chunk_plan.proofs.whole.all_chunks.Goals as goal
 pub returns-clause-counted : goal.returns-clause-counted
 returns-clause-counted g c =
     let ds = g.G.ChunkGridTraits.dimensions c.args.grid.now in
-    let made = rw c.grid_shape.ensures at c.box_from_zero.ensures in
+    let made = rw c.grid_shape.ensures at c.box_from_zero.ensures.value in
     rw (← length-map ds (λ d. d.grid_size)) made
 
 all_lie : (ds : List Dimension) → AllByRecursion IsChain ds → (r : Result Box AllocError) → IfOk r (λ chunks. chunks ≡ all_chunks_box ds)

@@ -1,8 +1,11 @@
 use Rattle.std.proofs.lemmas.List.{length-map}
+use Rattle.std.proofs.lemmas.Result.{IfOk-weaker}
+use Rattle.std.proofs.Common.{subst}
+use Rattle.zarrs_chunk_base.specs.ArraySubset.{IsBox}
 use Rattle.zarrs_chunk_plan.proofs.whole.whole_array.Goals as goal
 
-pub returns : goal.returns
-returns g c =
+pub returns-clause-elements : goal.returns-clause-elements
+returns-clause-elements g c =
     let ds = g.G.ChunkGridTraits.dimensions c.args.grid.now in
-    let made = rw c.array_shape.ensures at c.box_from_zero.ensures in
+    let made = rw c.array_shape.ensures at c.box_from_zero.ensures.value in
     rw (← length-map ds (λ d. d.array_size)) made

@@ -1,4 +1,4 @@
-use Rattle.std.proofs.Common.{Contains, map, subst, sym}
+use Rattle.zarrs_chunk_base.specs.Dimension.{grid_sizes}
 use Rattle.zarrs_chunk_axes.proofs.RowMajorOrder.{are_those_below}
 use Rattle.zarrs_chunks.proofs.Chains.{same_box}
 use Rattle.zarrs_chunks.proofs.FittingChunks.{counted_home}
@@ -9,7 +9,7 @@ returns-clause-one g c =
     let ds = g.G.ChunkGridTraits.dimensions c.args.grid.now in
     λ index below.
     let (chunk, counted, box) = counted_home ds index (g.met.G.ChunkGridTraits.chained c.args.grid.now) below in
-    (chunk, subst (λ chunks. Contains chunks chunk) (sym c.iter_chunk_indices.ensures) ((are_those_below (map (λ d. d.grid_size) ds) chunk).1 counted), box)
+    (chunk, (are_those_below (grid_sizes ds) chunk).1 counted, box)
 
 pub returns-clause-no_other : goal.returns-clause-no_other
 returns-clause-no_other g c = λ index chunk other first second. same_box _ chunk other index (g.met.G.ChunkGridTraits.chained c.args.grid.now) first second

@@ -1,0 +1,155 @@
+-- Where each chunk has a key, each box of elements of the array has a plan, and so has each rechunking: there are the parts that a walk has not come to.
+use Rattle.std.proofs.Common.{◌≡◌, ◌∙◌, ℕ, suc, ◌+◌, ◌-◌, ◌<◌, ◌≤◌, List, [], ◌∷◌, ◌++◌, Contains, ap, ap₂, length, map, refl, subst, sym, arith}
+use Rattle.std.proofs.lemmas.List.{length-map}
+use Rattle.std.specs.List.{AllByRecursion, AllZip}
+use Rattle.zarrs_chunk_base.specs.ArraySubset.{AreWithin, Box, IsBox, IsEmptyBox, IsInside, ends, lasts}
+use Rattle.zarrs_chunk_base.specs.Dimension.{Dimension, Holds, InBox, IsChain, IsShape, array_sizes}
+use Rattle.zarrs_chunk_base.specs.Greatest.{AllFit, greatest}
+use Rattle.zarrs_chunk_base.proofs.InEach.{by_dimension}
+use Rattle.zarrs_chunk_axes.specs.InBounds.{AreBelow}
+use Rattle.zarrs_chunks.specs.Subsets.{IsCover}
+use Rattle.zarrs_chunks.specs.Walks.{chunks_in}
+use Rattle.zarrs_chunks.proofs.Boxes.{has_origin}
+use Rattle.zarrs_chunks.proofs.Chains.{at_most_start}
+use Rattle.zarrs_chunks.proofs.ChunksInBoxes.{are_those_inside, inside_fits}
+use Rattle.zarrs_chunks.proofs.Covers.{chunks_small, firsts_before_lasts, head_some, in_order, is_cover, lasts_small, tail_some}
+use Rattle.zarrs_chunks.proofs.FittingChunks.{counted_home}
+use Rattle.zarrs_chunks.proofs.Meeting.{cover_meets}
+use Rattle.zarrs_chunks.proofs.UpTo.{ones_fit}
+use Rattle.zarrs_chunk_plan.specs.Plan.{IsPart, IsPlan, Meets}
+use Rattle.zarrs_chunk_plan.specs.Rechunking.{AreCopiesInto, Group, array_box}
+use Rattle.zarrs_chunk_plan.specs.declared.part.Part.{Part}
+use Rattle.zarrs_chunk_plan.specs.seen.Parts.{HasKeys}
+use Rattle.zarrs_chunk_plan.proofs.Plans.{all_of_each, not_empty_if_inside}
+use Rattle.zarrs_chunk_plan.proofs.Rechunkings.{below_array, has_those, starts_many, takes_those}
+use Rattle.zarrs_chunk_plan.proofs.Shares.{boxes_are, from_chunk, from_start}
+
+-- ---- one chunk
+
+has_shape : (ds : List Dimension) (chunk index : List ℕ) → InBox ds chunk index → (edges : List ℕ) × IsShape ds chunk edges
+has_shape =
+    by_dimension Holds (λ ds chunk index. (edges : List ℕ) × IsShape ds chunk edges) ([], tt)
+    (λ d c i ds chunk index here rest.
+    let (edges, are) = rest in
+    let low = here.from in
+    let high = here.below in
+    ((d.end c - d.start c) ∷ edges, (record { chunk = here.chunk; edge = omega arith }, are)))
+
+-- a chunk that holds an index of 64-bit numbers has such numbers
+chunk_fits : (ds : List Dimension) → AllByRecursion IsChain ds → (chunk index : List ℕ) → InBox ds chunk index → AllFit index → AllFit chunk
+chunk_fits ds chains chunk index box fit =
+    by_dimension Holds (λ ds chunk index. AllByRecursion IsChain ds → AllFit index → AllFit chunk) (λ chains fit. tt)
+    (λ d c i ds chunk index here rest chains fit.
+    let low : c ≤ d.start c = at_most_start d chains.0 c here.chunk in
+    let from = here.from in
+    let most : i ≤ greatest = fit.0 in
+    (omega arith, rest chains.1 fit.1))
+    ds chunk index box chains fit
+
+-- ---- the cover of a box of elements of the array
+
+first_inside : (start shape : List ℕ) → length start ≡ length shape → (¬ Contains shape 0) → AreWithin start shape start
+first_inside [] [] same some = tt
+first_inside (s ∷ start) (n ∷ shape) same some =
+    let here = head_some n shape some in
+    (omega arith, omega arith, first_inside start shape (omega arith) (tail_some n shape some))
+first_inside [] (_ ∷ _) same some = absurd (omega arith)
+first_inside (_ ∷ _) [] same some = absurd (omega arith)
+
+last_inside : (start shape : List ℕ) → length start ≡ length shape → (¬ Contains shape 0) → AreWithin start shape (lasts start shape)
+last_inside [] [] same some = tt
+last_inside (s ∷ start) (n ∷ shape) same some =
+    let here = head_some n shape some in
+    (omega arith, omega arith, last_inside start shape (omega arith) (tail_some n shape some))
+last_inside [] (_ ∷ _) same some = absurd (omega arith)
+last_inside (_ ∷ _) [] same some = absurd (omega arith)
+
+-- how many numbers there are from the first to the last one, in each dimension
+sizes_between : List ℕ → List ℕ → List ℕ
+sizes_between (f ∷ first) (l ∷ last) = (l - f + 1) ∷ sizes_between first last
+sizes_between _ _ = []
+
+ends_between : (first last : List ℕ) → AllZip ◌≤◌ first last
+    → (length first ≡ length (sizes_between first last)) × (ends first (sizes_between first last) ≡ map (λ n. n + 1) last)
+unfolding sizes_between
+ends_between [] [] order = (refl, refl)
+ends_between (f ∷ first) (l ∷ last) order =
+    let (lengths, same) = ends_between first last order.1 in
+    let low : f ≤ l = order.0 in
+    let here : f + (l - f + 1) ≡ l + 1 = omega arith in
+    (ap suc lengths, ap₂ (λ n ns. n ∷ ns) here same)
+ends_between [] (_ ∷ _) order = absurd order
+ends_between (_ ∷ _) [] order = absurd order
+
+has_cover : (ds : List Dimension) → AllByRecursion IsChain ds → (b : Box) → IsBox b → (¬ IsEmptyBox b)
+    → ((index : List ℕ) → IsInside b index → AreBelow (array_sizes ds) index) → (cover : Box) × IsCover ds b cover
+has_cover ds chains b is_box some within =
+    let end = lasts b.start b.shape in
+    let (first, _, in_first) = counted_home ds b.start chains (within b.start (first_inside b.start b.shape is_box.lengths some)) in
+    let (last, _, in_last) = counted_home ds end chains (within end (last_inside b.start b.shape is_box.lengths some)) in
+    let order = in_order ds first last b.start end chains (firsts_before_lasts b.start b.shape is_box.lengths) in_first in_last in
+    let small = chunks_small ds last end chains in_last (lasts_small b.start b.shape is_box.lengths is_box.fits some) in
+    let (lengths, same) = ends_between first last order in
+    let cover : Box = record { start = first; shape = sizes_between first last } in
+    (cover, is_cover ds b cover first last (record { lengths = lengths; fits = subst AllFit (sym same) (ones_fit last small) }) refl same order in_first in_last)
+
+-- ---- the parts
+
+module _ (ds : List Dimension) (IsKey : List ℕ → List ℕ → Type 0) (chains : AllByRecursion IsChain ds) (keys : HasKeys IsKey) where
+  has_part : (b : Box) → IsBox b → (chunk : List ℕ) → Meets ds b chunk → (part : Part) × IsPart ds IsKey b chunk part
+  has_part b is_box chunk meets =
+      let (index, box, inside) = meets in
+      let fit = inside_fits b.start b.shape index is_box.fits inside in
+      let (origin, is, _) = has_origin ds chunk index box fit in
+      let (edges, long) = has_shape ds chunk index box in
+      let (key, is_key) = keys chunk (chunk_fits ds chains chunk index box fit) in
+      let (_, _, shared) = boxes_are ds b chunk origin edges is_box meets is long in (
+        record {
+          key = key;
+          chunk = record { items = chunk; capacity = 0 };
+          in_chunk = from_chunk origin edges b;
+          in_subset = from_start origin edges b;
+        },
+        record { numbers = refl; key = is_key; boxes = shared },
+      )
+
+  pub have_parts : (b : Box) → IsBox b → (chunks : List (List ℕ)) → AllByRecursion (Meets ds b) chunks → (parts : List Part) × AllZip (IsPart ds IsKey b) chunks parts
+  have_parts b is_box [] meet = ([], tt)
+  have_parts b is_box (chunk ∷ chunks) meet =
+      let (part, is) = has_part b is_box chunk meet.0 in
+      let (parts, are) = have_parts b is_box chunks meet.1 in
+      (part ∷ parts, (is, are))
+
+  has_plan : (b : Box) → IsBox b → (¬ IsEmptyBox b) → ((index : List ℕ) → IsInside b index → AreBelow (array_sizes ds) index)
+      → (parts : List Part) × IsPlan ds IsKey b parts
+  has_plan b is_box some within =
+      let (cover, is) = has_cover ds chains b is_box some within in
+      let meet = all_of_each (Meets ds b) (chunks_in cover)
+      (λ chunk has. (cover_meets ds b cover chains is_box some is chunk).0 ((are_those_inside cover is.is_box chunk).0 has))
+      in
+      let (parts, are) = have_parts b is_box (chunks_in cover) meet in
+      (parts, record { cover = cover; is_cover = is; are_parts = are })
+
+-- ---- the groups
+
+module _ (source : List Dimension) (IsSourceKey : List ℕ → List ℕ → Type 0) (target : List Dimension) (IsTargetKey : List ℕ → List ℕ → Type 0)
+    (chains : AllByRecursion IsChain source) (also_chains : AllByRecursion IsChain target) (keys : HasKeys IsSourceKey) (also_keys : HasKeys IsTargetKey)
+    (one_array : array_sizes source ≡ array_sizes target) (is_box : IsBox (array_box target)) where
+  has_group : (chunk : List ℕ) → Meets target (array_box target) chunk → (group : Group) × AreCopiesInto source IsSourceKey target IsTargetKey chunk group
+  has_group chunk meets =
+      let (to, is) = has_part target IsTargetKey also_chains also_keys (array_box target) is_box chunk meets in
+      let (index, box, inside) = meets in
+      let some = not_empty_if_inside to.in_subset.start to.in_subset.shape index (takes_those target IsTargetKey chunk to is meets index (box, inside)) in
+      let (from, plan) = has_plan source IsSourceKey chains keys to.in_subset is.boxes.from_subset.is_box some
+      (λ other lies.
+      subst (λ shape. AreBelow shape other) (sym one_array) (below_array target other (has_those target IsTargetKey chunk to is meets other lies).1))
+      in
+      ((to, from), record { to = is; from = plan })
+
+  pub have_groups : (chunks : List (List ℕ)) → AllByRecursion (Meets target (array_box target)) chunks
+      → (groups : List Group) × AllZip (AreCopiesInto source IsSourceKey target IsTargetKey) chunks groups
+  have_groups [] meet = ([], tt)
+  have_groups (chunk ∷ chunks) meet =
+      let (group, into) = has_group chunk meet.0 in
+      let (groups, are) = have_groups chunks meet.1 in
+      (group ∷ groups, (into, are))

@@ -1,0 +1,11 @@
+use Rattle.zarrs_chunks.proofs.SeenGrids.{configured_again, edges_again, said_accepted}
+use Rattle.zarrs_chunks.proofs.laws.a_rectilinear_grid_is_made_again_of_its_configuration.Goals as goal
+
+pub returns-clause-accepted : goal.returns-clause-accepted
+returns-clause-accepted c = said_accepted
+
+pub returns-clause-dimensions : goal.returns-clause-dimensions
+returns-clause-dimensions c = edges_again
+
+pub returns-clause-configuration : goal.returns-clause-configuration
+returns-clause-configuration c = configured_again
