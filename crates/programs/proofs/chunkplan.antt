@@ -1,6 +1,8 @@
+pub mod Begun
 pub mod FormFaults
 pub mod Groups
 pub mod LeftMembers
 pub mod ReadPlans
-pub mod Stops
+pub mod RunOutcomes
+pub mod Sent
 pub mod Tokens

@@ -1,5 +1,7 @@
 pub mod Document
 pub mod OrMemory
+pub mod Streams
+pub mod Watched
 pub mod chunkcalls
 pub mod chunkplan
 pub mod chunkwhere

@@ -1,8 +1,6 @@
 -- A reader or writer with a memory of whether one of its calls failed.
 use Rattle.std.specs.Prelude.{◌≡◌, ℕ, ◌==◌, ◌&&◌, Bool, true, not, List, length, Result, Ok, Err}
-use Rattle.programs.specs.declared.chunkwhere.run_fault.RunFault.{RunFault}
-use Rattle.programs.specs.declared.chunkwhere.run_fault.RunFault.TheVariants.{Read}
-use Rattle.programs.specs.declared.chunkwhere.watched.Watched.{Watched}
+use Rattle.programs.specs.declared.watched.Watched.{Watched}
 use Rattle.zarrs_chunk_base.specs.declared.refusal.Refusal.{Refusal}
 use Rattle.zarrs_chunk_base.specs.declared.refusal.Refusal.TheVariants.{Refused, Memory}
 
@@ -19,8 +17,7 @@ abbrev pub is_failed_write : {E : Type 0} → Result ℕ E → List ℕ → Bool
 is_failed_write (Ok n) bytes = n == 0 && not (length bytes == 0)
 is_failed_write (Err e) bytes = true
 
--- why reading to the end stopped: a read failed, or memory ran out and none had
-abbrev pub IsReadFault : Refusal RunFault → Bool → Bool → Type 0
-IsReadFault (Refused Read) old new = new ≡ true
-IsReadFault (Memory _) old new = new ≡ old
-IsReadFault _ _ _ = ⊥
+-- why reading or writing stopped: a call failed, which the fault tells; or memory ran out, and none had failed
+abbrev pub IsFailure : {F : Type 0} → F → Refusal F → (old new : Bool) → Type 0
+IsFailure told (Refused fault) old new = (fault ≡ told) × (new ≡ true)
+IsFailure told (Memory _) old new = new ≡ old

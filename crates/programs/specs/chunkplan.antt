@@ -3,5 +3,5 @@ pub mod DocumentFault
 pub mod Line
 pub mod PlanFault
 pub mod Planned
-pub mod Stopped
+pub mod Run
 pub mod seen

@@ -2,4 +2,3 @@ pub mod Answer
 pub mod Document
 pub mod Output
 pub mod Run
-pub mod Watched

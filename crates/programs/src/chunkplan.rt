@@ -6,7 +6,8 @@
 //! | `document` | the document that a JSON tree stands for |
 //! | `boxes` | a box as a document writes it |
 //! | `plan` | the plan that a document asks for |
-//! | `copying` | the lines of a plan, written as they are made |
+//! | `copying` | the lines of a plan, sent as they are made |
+//! | `sending` | text on its way to a writer, many bytes at a time |
 //! | `line` | one line |
 //! | `run_fault` | why a run stops |
 
@@ -17,6 +18,8 @@ mod line;
 mod plan;
 mod program;
 mod run_fault;
+mod sending;
 
+pub use crate::Watched;
 pub use program::{finish, run, run_to_status};
 pub use run_fault::RunFault;

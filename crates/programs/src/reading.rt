@@ -1,9 +1,8 @@
 //! Reading everything.
 ghost use Rattle.std.specs.Prelude.{◌≡◌, [], IfOk, IfSome, MatchResult, Some};
-ghost use Rattle.programs.specs.chunkwhere.Watched.{watched, has_failed, IsReadFault};
+ghost use Rattle.programs.specs.Watched.{watched, has_failed, IsFailure};
 
-use crate::chunkwhere::run_fault::RunFault;
-use crate::chunkwhere::watched::Watched;
+use crate::watched::Watched;
 use std::alloc::Global;
 use std::io::Read;
 use zarrs_chunk_base::Refusal;
@@ -12,20 +11,24 @@ use zarrs_chunk_base::Refusal;
 const BUFFER_LEN: usize = 16384;
 
 /// All that a reader has left. A reader that never ends is answered with `Memory`.
-pub(crate) fn read_to_end<R: Read>(
+///
+/// # Errors
+/// A read failed, which is told by `fault`; or out of memory.
+pub(crate) fn read_to_end<R: Read, F: Drop>(
     alloc: Global,
     reader: &mut Watched<R>,
-) -> Result<Vec<u8>, Refusal<RunFault>>
+    fault: F,
+) -> Result<Vec<u8>, Refusal<F>>
     ensures bytes { IfOk result (λ bytes. IfSome (R.remaining (watched reader.old)) (λ input.
         (bytes.items ≡ input) × (R.remaining (watched reader.new) ≡ Some []))) }
     ensures failed { MatchResult result (λ _. has_failed reader.new ≡ has_failed reader.old)
-        (λ fault. IsReadFault fault (has_failed reader.old) (has_failed reader.new)) }
+        (λ refusal. IsFailure fault refusal (has_failed reader.old) (has_failed reader.new)) }
 {
     let mut buffer = [0; BUFFER_LEN];
     let mut bytes = Vec::new(alloc);
     loop {
         let Ok(count) = reader.read(&mut buffer) else {
-            return Err(Refusal::Refused(RunFault::Read));
+            return Err(Refusal::Refused(fault));
         };
         if count == 0 {
             return Ok(bytes);

@@ -11,7 +11,7 @@ pub struct Watched<T> {
 
 impl<T> Watched<T> {
     ghost use Rattle.std.specs.Prelude.{◌≡◌, false};
-    ghost use Rattle.programs.specs.chunkwhere.Watched.{watched, has_failed};
+    ghost use Rattle.programs.specs.Watched.{watched, has_failed};
 
     /// Watches a reader or writer, of which no call has failed yet.
     pub fn new(inner: T) -> Watched<T>
@@ -43,7 +43,7 @@ impl<R: Read> Watched<R> {
     ghost use Rattle.std.specs.Prelude.{◌≡◌, ◌||◌, is_err};
     ghost use Rattle.std.specs.Io.{ReadsAtMost};
     ghost use Rattle.std.specs.Io.KnownBytes.{ReadConsumes};
-    ghost use Rattle.programs.specs.chunkwhere.Watched.{watched, has_failed};
+    ghost use Rattle.programs.specs.Watched.{watched, has_failed};
 
     /// Reads into `buf` and tells how many bytes, as the reader itself does.
     ///
@@ -66,7 +66,7 @@ impl<W: Write> Watched<W> {
     ghost use Rattle.std.specs.Prelude.{◌≡◌, ◌||◌, is_err};
     ghost use Rattle.std.specs.Io.{WritesAtMost};
     ghost use Rattle.std.specs.Io.KnownBytes.{WriteAppends, Keeps};
-    ghost use Rattle.programs.specs.chunkwhere.Watched.{watched, has_failed, is_failed_write};
+    ghost use Rattle.programs.specs.Watched.{watched, has_failed, is_failed_write};
 
     /// Writes from the front of `buf` and tells how many bytes, as the writer itself does.
     ///

@@ -1,6 +1,6 @@
 //! What no contract says: readers and writers that fail, and that a beginning of the plan is written then.
 use crate::failing::{FailingReader, FailingWriter};
-use programs::chunkplan::run_to_status;
+use programs::chunkplan::{Watched, run_to_status};
 use std::io::ErrorKind;
 use std::test::Fail;
 
@@ -14,29 +14,26 @@ const LINES: &[u8] = b"{\"chunk\":[0],\"in_chunk\":[[0],[3]],\"in_subset\":[[0],
 #[test]
 fn a_failed_read_is_told(rt: HostRuntime) -> Result<(), Fail> {
     let enough = DOCUMENT.len().div_ceil(16) + 1;
-    let faults = [
-        (ErrorKind::Other, "chunkplan: input failed\n"),
-        (ErrorKind::OutOfMemory, "chunkplan: out of memory\n"),
-    ];
-    for (fault, line) in faults {
+    for fault in [ErrorKind::Other, ErrorKind::OutOfMemory] {
         for reads in 0..=enough {
-            let mut reader = FailingReader {
+            let mut reader = Watched::new(FailingReader {
                 rest: DOCUMENT,
                 reads,
                 fault,
-            };
-            let mut written = Vec::new(rt.alloc());
+            });
+            let mut writer = Watched::new(Vec::new(rt.alloc()));
             let mut errors = Vec::new(rt.alloc());
-            let status = run_to_status(rt.alloc(), &mut reader, &mut written, &mut errors);
+            let status = run_to_status(rt.alloc(), &mut reader, &mut writer, &mut errors);
             let succeeds = reads == enough;
             let (line, lines) = if succeeds {
                 ("", LINES)
             } else {
-                (line, b"".as_slice())
+                ("chunkplan: input failed\n", b"".as_slice())
             };
             assert_eq!(rt; errors.as_slice(), line.as_bytes(), "after {reads} reads");
             assert_eq!(rt; status, u8::from(!succeeds), "after {reads} reads");
-            assert_eq!(rt; written.as_slice(), lines, "after {reads} reads");
+            assert_eq!(rt; reader.failed(), !succeeds, "after {reads} reads");
+            assert_eq!(rt; writer.inner().as_slice(), lines, "after {reads} reads");
         }
     }
     Ok(())
@@ -47,14 +44,14 @@ fn a_failed_write_leaves_a_beginning(rt: HostRuntime) -> Result<(), Fail> {
     let other = Some(ErrorKind::Other);
     for (fault, flush_fails) in [(other, false), (None, false), (other, true)] {
         for writes in 0..=LINES.len() {
-            let mut writer = FailingWriter {
+            let mut writer = Watched::new(FailingWriter {
                 taken: Vec::new(rt.alloc()),
                 writes,
                 fault,
                 flush_fails,
-            };
+            });
             let mut errors = Vec::new(rt.alloc());
-            let mut reader = DOCUMENT;
+            let mut reader = Watched::new(DOCUMENT);
             let status = run_to_status(rt.alloc(), &mut reader, &mut writer, &mut errors);
             let succeeds = writes == LINES.len() && !flush_fails;
             let line = if succeeds {
@@ -64,8 +61,13 @@ fn a_failed_write_leaves_a_beginning(rt: HostRuntime) -> Result<(), Fail> {
             };
             assert_eq!(rt; errors.as_slice(), line.as_bytes(), "after {writes} writes");
             assert_eq!(rt; status, u8::from(!succeeds), "after {writes} writes");
+            assert_eq!(rt; writer.failed(), !succeeds, "after {writes} writes");
             let (taken, _) = LINES.split_at(writes);
-            assert_eq!(rt; writer.taken.as_slice(), taken, "after {writes} writes");
+            assert_eq!(rt;
+                writer.inner().taken.as_slice(),
+                taken,
+                "after {writes} writes"
+            );
         }
     }
     Ok(())

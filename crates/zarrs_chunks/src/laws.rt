@@ -167,9 +167,8 @@ pub fn the_walk_gives_each_chunk_once<G: ChunkGridTraits>(grid: &G)
 
 /// Each element of the array lies in the box of one of the chunks that this walk gives, and of no other.
 pub fn each_element_lies_in_one_chunk_of_the_walk<G: ChunkGridTraits>(grid: &G)
-    ensures one { (index : List ℕ)
-        → AreBelow (array_sizes (G.dimensions grid.now)) index → (chunk : List ℕ)
-        × Contains (chunks_of (G.dimensions grid.now)) chunk
+    ensures one { (index : List ℕ) → AreBelow (array_sizes (G.dimensions grid.now)) index
+        → (chunk : List ℕ) × Contains (chunks_of (G.dimensions grid.now)) chunk
         × InBox (G.dimensions grid.now) chunk index }
     ensures no_other { (index chunk other : List ℕ) → InBox (G.dimensions grid.now) chunk index
         → InBox (G.dimensions grid.now) other index → chunk ≡ other }

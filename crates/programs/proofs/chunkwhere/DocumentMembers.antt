@@ -1,5 +1,5 @@
 -- What the parts of a document say of the whole.
-use Rattle.std.proofs.Common.{◌≡◌, ℕ, zero, suc, IsSome, length, Some, option_and_then, codes, ap, ◌∙◌, inr, ◌⊎◌, arith}
+use Rattle.std.proofs.Common.{◌≡◌, zero, suc, IsSome, length, Some, option_and_then, codes, ap, ◌∙◌, inr, ◌⊎◌, arith}
 use Rattle.serde_json.specs.Data.{Data}
 use Rattle.serde_json.specs.Find.{get}
 use Rattle.programs.specs.Document.{HasExtensionFault, HasSomeExtension, IsMissingFault, shape_in}

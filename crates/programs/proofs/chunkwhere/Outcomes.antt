@@ -5,7 +5,8 @@ use Rattle.zarrs_chunk_base.specs.declared.refusal.Refusal.TheVariants.{Refused,
 use Rattle.programs.specs.OrMemory.{OrMemory}
 use Rattle.programs.specs.declared.chunkwhere.run_fault.RunFault.{RunFault}
 use Rattle.programs.specs.declared.chunkwhere.run_fault.RunFault.TheVariants.{Read, Write}
-use Rattle.programs.specs.chunkwhere.Run.{IsFirstFault, no_document, no_answer, IsTextFor, IsWritten, IsReadToEnd, RunEndsWith, RunLeaves, Streams}
+use Rattle.programs.specs.Streams.{IsReadToEnd, IsWritten, Streams}
+use Rattle.programs.specs.chunkwhere.Run.{IsFirstFault, no_document, no_answer, IsTextFor, RunEndsWith, RunLeaves}
 
 -- ---- a fault of an input is none of reading or writing
 

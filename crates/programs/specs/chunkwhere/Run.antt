@@ -1,10 +1,11 @@
 -- What a run of the program leaves.
-use Rattle.std.specs.Prelude.{◌≡◌, ℕ, Bool, true, false, List, [], ◌++◌, Option, Some, Result, Ok, Err, MatchResult}
+use Rattle.std.specs.Prelude.{◌≡◌, ℕ, true, false, List, ◌++◌, Some, Result, Ok, Err, MatchResult}
 use Rattle.programs.specs.declared.chunkwhere.run_fault.RunFault.{RunFault}
 use Rattle.programs.specs.declared.chunkwhere.run_fault.RunFault.TheVariants.{Read, Write, Document as DocumentRefused}
 use Rattle.programs.specs.chunkwhere.Answer.{IsAnswer, IsAnswerFault}
 use Rattle.programs.specs.chunkwhere.Document.{Document, IsDocument, IsInputFault}
 use Rattle.programs.specs.Document.{IsTreeOf}
+use Rattle.programs.specs.Streams.{IsReadToEnd, IsWritten, Streams}
 use Rattle.zarrs_chunk_base.specs.declared.refusal.Refusal.{Refusal}
 use Rattle.zarrs_chunk_base.specs.declared.refusal.Refusal.TheVariants.{Refused, Memory}
 use Rattle.serde_json.specs.Data.{Data}
@@ -27,22 +28,6 @@ pub data IsFirstFault (input : List ℕ) (fault : RunFault) : Type 0 where
   no_document : IsDocumentFault input fault → IsFirstFault input fault
   no_answer : (tree : Data) (document : Document) → IsTreeOf input tree → IsDocument tree document → IsAnswerFault document fault
       → IsFirstFault input fault
-
--- What a run leaves: what the reader has left and whether a read failed, what the writer holds and
--- whether a write failed. Bytes are `None` where a reader or writer doesn't tell.
-pub record Streams : Type 0 where
-  pub left : Option (List ℕ)
-  pub read_failed : Bool
-  pub holds : Option (List ℕ)
-  pub write_failed : Bool
-
--- nothing is left to read, and no read failed
-abbrev pub IsReadToEnd : Streams → Type 0
-IsReadToEnd s = (s.left ≡ Some []) × (s.read_failed ≡ false)
-
--- the writer holds these bytes, and no write failed
-abbrev pub IsWritten : List ℕ → Streams → Type 0
-IsWritten bytes s = (s.holds ≡ Some bytes) × (s.write_failed ≡ false)
 
 -- A run over a reader that had the input left and a writer that held some bytes: what it leaves, by its outcome.
 abbrev pub RunLeaves : (input held : List ℕ) → Result (Unit {0}) (Refusal RunFault) → Streams → Type 0

@@ -1,16 +1,19 @@
-//! The lines of a plan, written as they are made.
-ghost use Rattle.std.specs.Prelude.{◌≡◌, IfErr, List, OnOk, Some, option_map};
+//! The lines of a plan, sent as they are made.
+ghost use Rattle.std.specs.Prelude.{◌≡◌, ℕ, List, Some, option_map};
 ghost use Rattle.std.specs.List.{flat_map};
-ghost use Rattle.std.specs.Io.KnownBytes.{Appends};
+ghost use Rattle.zarrs_chunk_base.specs.ArraySubset.{IsBox};
 ghost use Rattle.zarrs_chunk_plan.specs.Rechunking.{Group};
 ghost use Rattle.zarrs_chunk_plan.specs.declared.part.Part.{Part as PartValue};
 ghost use Rattle.zarrs_chunk_plan.specs.seen.Copies.{AreGroupsToCome, CanCopy};
-ghost use Rattle.zarrs_chunk_plan.specs.seen.Parts.{ArePartsToCome, MeetSubset};
-ghost use Rattle.programs.specs.OrMemory.{OrMemory};
+ghost use Rattle.zarrs_chunk_plan.specs.seen.Parts.{ArePartsToCome, HasKeys, MeetSubset};
+ghost use Rattle.programs.specs.Watched.{has_failed, watched};
 ghost use Rattle.programs.specs.chunkplan.Line.{copy_lines, line_for};
+ghost use Rattle.programs.specs.chunkplan.seen.Sent.{StepLeaves};
 
 use crate::chunkplan::line::line;
 use crate::chunkplan::run_fault::RunFault;
+use crate::chunkplan::sending::send;
+use crate::watched::Watched;
 use std::alloc::Global;
 use std::io::Write;
 use zarrs_chunk_base::Refusal;
@@ -18,31 +21,43 @@ use zarrs_chunk_keys::ChunkKeyEncodingTraits;
 use zarrs_chunk_plan::{ChunkCopies, Copies, Part, Parts};
 use zarrs_chunks::ChunkGridTraits;
 
-/// Writes a line for each part that a walk has left: of a read, or with the chunk of the target of what is copied into it.
+/// Sends a line for each part that a walk has left: of a read, or with the chunk of the target of what is copied into it.
 ///
 /// # Errors
-/// A write failed, or out of memory. The lines that were written by then are the first ones.
+/// A write failed, or out of memory. What was sent by then is a beginning of these lines.
 pub(crate) fn write_parts<G: ChunkGridTraits, E: ChunkKeyEncodingTraits, W: Write>(
     alloc: Global,
     walk: Parts<'_, G, E>,
     to: Option<&Part>,
-    writer: &mut W,
+    held_back: &mut Vec<u8>,
+    writer: &mut Watched<W>,
 ) -> Result<(), Refusal<RunFault>>
-    requires { MeetSubset G.dimensions walk }
-    ensures written { OnOk result ((parts : List PartValue)
-        × ArePartsToCome G.dimensions E.is_key walk.entry parts
-        × Appends (W.contents writer.old) (W.contents writer.new)
-        (flat_map (line_for (option_map (λ t. t.now) to.entry)) parts)) }
-    ensures refused { IfErr result (OrMemory (λ fault. fault ≡ RunFault.Write)) }
+    requires meet { MeetSubset G.dimensions walk }
+    requires is_box { IsBox walk.array_subset }
+    requires keys { HasKeys (E.is_key walk.encoding.now) }
+    ensures { StepLeaves
+        (λ text. (parts : List PartValue) × ArePartsToCome G.dimensions E.is_key walk.entry parts
+        × (text ≡ flat_map (line_for (option_map (λ t. t.now) to.entry)) parts))
+        (λ _. ⊥) result
+        (record {
+          holds = W.contents (watched writer.old);
+          held_back = held_back.old.items;
+          failed = has_failed writer.old;
+        })
+        (record {
+          holds = W.contents (watched writer.new);
+          held_back = held_back.new.items;
+          failed = has_failed writer.new;
+        }) }
 {
     for part in walk {
         let line = line(alloc, &part?, to)?;
-        write_line(writer, &line)?;
+        send(&line, held_back, writer)?;
     }
     Ok(())
 }
 
-/// Writes a line for each copy that a walk has left.
+/// Sends a line for each copy that a walk has left.
 ///
 /// # Errors
 /// As `write_parts`.
@@ -52,43 +67,64 @@ pub(crate) fn write_copies<
     H: ChunkGridTraits,
     F: ChunkKeyEncodingTraits,
     W: Write,
->(alloc: Global, walk: Copies<'_, G, E, H, F>, writer: &mut W) -> Result<(), Refusal<RunFault>>
-    requires { CanCopy G.dimensions H.dimensions walk }
-    ensures written { OnOk result ((groups : List Group)
+>(
+    alloc: Global,
+    walk: Copies<'_, G, E, H, F>,
+    held_back: &mut Vec<u8>,
+    writer: &mut Watched<W>,
+) -> Result<(), Refusal<RunFault>>
+    requires can { CanCopy G.dimensions H.dimensions walk }
+    requires is_box { IsBox walk.targets.array_subset }
+    requires keys { HasKeys (E.is_key walk.source_encoding.now) }
+    requires target_keys { HasKeys (F.is_key walk.targets.encoding.now) }
+    ensures { StepLeaves
+        (λ text. (groups : List Group)
         × AreGroupsToCome G.dimensions E.is_key H.dimensions F.is_key walk.entry groups
-        × Appends (W.contents writer.old) (W.contents writer.new) (copy_lines groups)) }
-    ensures refused { IfErr result (OrMemory (λ fault. fault ≡ RunFault.Write)) }
+        × (text ≡ copy_lines groups))
+        (λ _. ⊥) result
+        (record {
+          holds = W.contents (watched writer.old);
+          held_back = held_back.old.items;
+          failed = has_failed writer.old;
+        })
+        (record {
+          holds = W.contents (watched writer.new);
+          held_back = held_back.new.items;
+          failed = has_failed writer.new;
+        }) }
 {
     for group in walk {
-        write_group(alloc, group?, writer)?;
+        write_group(alloc, group?, held_back, writer)?;
     }
     Ok(())
 }
 
-/// Writes a line for each copy into one chunk of the target.
+/// Sends a line for each copy into one chunk of the target.
 fn write_group<G: ChunkGridTraits, E: ChunkKeyEncodingTraits, W: Write>(
     alloc: Global,
     group: ChunkCopies<'_, G, E>,
-    writer: &mut W,
+    held_back: &mut Vec<u8>,
+    writer: &mut Watched<W>,
 ) -> Result<(), Refusal<RunFault>>
-    requires { MeetSubset G.dimensions group.from }
-    ensures written { OnOk result ((from : List PartValue)
+    requires meet { MeetSubset G.dimensions group.from }
+    requires is_box { IsBox group.from.array_subset }
+    requires keys { HasKeys (E.is_key group.from.encoding.now) }
+    ensures { StepLeaves
+        (λ text. (from : List PartValue)
         × ArePartsToCome G.dimensions E.is_key group.entry.from from
-        × Appends (W.contents writer.old) (W.contents writer.new)
-        (flat_map (line_for (Some group.entry.to)) from)) }
-    ensures refused { IfErr result (OrMemory (λ fault. fault ≡ RunFault.Write)) }
+        × (text ≡ flat_map (line_for (Some group.entry.to)) from))
+        (λ _. ⊥) result
+        (record {
+          holds = W.contents (watched writer.old);
+          held_back = held_back.old.items;
+          failed = has_failed writer.old;
+        })
+        (record {
+          holds = W.contents (watched writer.new);
+          held_back = held_back.new.items;
+          failed = has_failed writer.new;
+        }) }
 {
     let ChunkCopies { to, from } = group;
-    write_parts(alloc, from, Some(&to), writer)
-}
-
-/// Writes a line.
-fn write_line<W: Write>(writer: &mut W, line: &[u8]) -> Result<(), Refusal<RunFault>>
-    ensures written { OnOk result (Appends (W.contents writer.old) (W.contents writer.new) line.now) }
-    ensures refused { IfErr result (OrMemory (λ fault. fault ≡ RunFault.Write)) }
-{
-    match writer.write_all(line) {
-        Ok(()) => Ok(()),
-        Err(_) => Err(Refusal::Refused(RunFault::Write)),
-    }
+    write_parts(alloc, from, Some(&to), held_back, writer)
 }

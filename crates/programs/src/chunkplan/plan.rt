@@ -1,21 +1,23 @@
 //! The plan that a document asks for.
-ghost use Rattle.std.specs.Prelude.{◌≡◌, ℕ, IfErr, IfOk, List, OnOk, unwrap_or};
-ghost use Rattle.std.specs.Io.KnownBytes.{Appends};
+ghost use Rattle.std.specs.Prelude.{◌≡◌, IfErr, IfOk, List, unwrap_or};
 ghost use Rattle.zarrs_chunk_base.specs.Dimension.{array_sizes};
 ghost use Rattle.zarrs_chunk_keys.specs.seen.Encodings.{encoding_in};
 ghost use Rattle.zarrs_chunks.specs.seen.Grids.{grid_in};
 ghost use Rattle.zarrs_chunk_plan.specs.Rechunking.{Group, IsRechunking, all_chunks_box, array_box};
 ghost use Rattle.zarrs_chunk_plan.specs.declared.part.Part.{Part as PartValue};
+ghost use Rattle.zarrs_chunk_plan.specs.seen.Parts.{HasKeys};
 ghost use Rattle.programs.specs.OrMemory.{OrMemory};
+ghost use Rattle.programs.specs.Watched.{has_failed, watched};
 ghost use Rattle.programs.specs.chunkplan.Document.{document_of, stored_of};
 ghost use Rattle.programs.specs.chunkplan.Line.{copy_lines, part_lines};
 ghost use Rattle.programs.specs.chunkplan.PlanFault.{IsChunksFault, IsCreateFault, IsPlanFault, IsReadFault, IsSourceFault, IsTargetFault};
 ghost use Rattle.programs.specs.chunkplan.Planned.{IsPlanned, IsReadPlan, IsStored};
-ghost use Rattle.programs.specs.chunkplan.Stopped.{WriteFailedOr};
+ghost use Rattle.programs.specs.chunkplan.seen.Sent.{StepLeaves};
 
 use crate::chunkplan::copying::{write_copies, write_parts};
 use crate::chunkplan::document::{Document, Stored, Task};
 use crate::chunkplan::run_fault::RunFault;
+use crate::watched::Watched;
 use std::alloc::{AllocError, Global};
 use std::io::Write;
 use zarrs_chunk_base::{ArraySubset, IncompatibleDimensionalityError, PluginCreateError, Refusal};
@@ -23,7 +25,7 @@ use zarrs_chunk_keys::{ChunkKeyEncoding, ChunkKeyEncodingTraits};
 use zarrs_chunk_plan::{all_chunks, copies, parts, whole_array};
 use zarrs_chunks::{ChunkGrid, ChunkGridTraits};
 
-/// Writes the plan that a document asks for, line by line.
+/// Sends the plan that a document asks for, line by line.
 ///
 /// # Errors
 /// The grid or the encoding can't be made, or those of the target; the box has another number of dimensions, or no cover; a write failed; or
@@ -31,12 +33,21 @@ use zarrs_chunks::{ChunkGrid, ChunkGridTraits};
 pub(crate) fn write_plan<W: Write>(
     alloc: Global,
     document: Document,
-    writer: &mut W,
+    held_back: &mut Vec<u8>,
+    writer: &mut Watched<W>,
 ) -> Result<(), Refusal<RunFault>>
-    ensures planned { OnOk result ((text : List ℕ) × IsPlanned (document_of document) text
-        × Appends (W.contents writer.old) (W.contents writer.new) text) }
-    ensures refused { IfErr result (OrMemory (WriteFailedOr (IsPlanFault (document_of document))
-        (W.contents writer.old) (W.contents writer.new))) }
+    ensures { StepLeaves (IsPlanned (document_of document)) (IsPlanFault (document_of document))
+        result
+        (record {
+          holds = W.contents (watched writer.old);
+          held_back = held_back.old.items;
+          failed = has_failed writer.old;
+        })
+        (record {
+          holds = W.contents (watched writer.new);
+          held_back = held_back.new.items;
+          failed = has_failed writer.new;
+        }) }
 {
     let Document {
         shape,
@@ -47,7 +58,7 @@ pub(crate) fn write_plan<W: Write>(
     match task {
         Task::Read(subset) => {
             let subset = or_whole_array(alloc, subset, &grid)?;
-            write_read(alloc, &grid, &encoding, &subset, writer)
+            write_read(alloc, &grid, &encoding, &subset, held_back, writer)
         }
         Task::Rechunk(target, chunks) => {
             let (target, target_encoding) = open_target(alloc, target, &shape)?;
@@ -59,6 +70,7 @@ pub(crate) fn write_plan<W: Write>(
                 &target,
                 &target_encoding,
                 &chunks,
+                held_back,
                 writer,
             )
         }
@@ -140,20 +152,31 @@ fn or_all_chunks<G: ChunkGridTraits>(
     }
 }
 
-/// Writes the plan of reading a box of elements.
+/// Sends the plan of reading a box of elements.
 fn write_read<G: ChunkGridTraits, E: ChunkKeyEncodingTraits, W: Write>(
     alloc: Global,
     grid: &G,
     encoding: &E,
     subset: &ArraySubset,
-    writer: &mut W,
+    held_back: &mut Vec<u8>,
+    writer: &mut Watched<W>,
 ) -> Result<(), Refusal<RunFault>>
-    ensures planned { OnOk result ((parts : List PartValue)
+    requires { HasKeys (E.is_key encoding.now) }
+    ensures { StepLeaves
+        (λ text. (parts : List PartValue)
         × IsReadPlan (G.dimensions grid.now) (E.is_key encoding.now) subset.now parts
-        × Appends (W.contents writer.old) (W.contents writer.new) (part_lines parts)) }
-    ensures refused { IfErr result (OrMemory (WriteFailedOr
-        (IsReadFault (G.dimensions grid.now) subset.now)
-        (W.contents writer.old) (W.contents writer.new))) }
+        × (text ≡ part_lines parts))
+        (IsReadFault (G.dimensions grid.now) subset.now) result
+        (record {
+          holds = W.contents (watched writer.old);
+          held_back = held_back.old.items;
+          failed = has_failed writer.old;
+        })
+        (record {
+          holds = W.contents (watched writer.new);
+          held_back = held_back.new.items;
+          failed = has_failed writer.new;
+        }) }
 {
     let dimensionality = subset.start().len();
     if dimensionality != grid.dimensionality() {
@@ -161,13 +184,13 @@ fn write_read<G: ChunkGridTraits, E: ChunkKeyEncodingTraits, W: Write>(
         return Err(Refusal::Refused(RunFault::SubsetDimensionality(error)));
     }
     match parts(alloc, grid, encoding, subset) {
-        Ok(Some(walk)) => write_parts(alloc, walk, None, writer),
+        Ok(Some(walk)) => write_parts(alloc, walk, None, held_back, writer),
         Ok(None) => Err(Refusal::Refused(RunFault::Uncovered)),
         Err(refusal) => Err(refusal.map(RunFault::SubsetDimensionality)),
     }
 }
 
-/// Writes the plan of a rechunking into the chunks of a box.
+/// Sends the plan of a rechunking into the chunks of a box.
 fn write_rechunking<
     G: ChunkGridTraits,
     E: ChunkKeyEncodingTraits,
@@ -181,16 +204,29 @@ fn write_rechunking<
     target: &H,
     target_encoding: &F,
     chunks: &ArraySubset,
-    writer: &mut W,
+    held_back: &mut Vec<u8>,
+    writer: &mut Watched<W>,
 ) -> Result<(), Refusal<RunFault>>
-    ensures planned { OnOk result ((groups : List Group)
+    requires one_array { array_sizes (G.dimensions source.now)
+        ≡ array_sizes (H.dimensions target.now) }
+    requires keys { HasKeys (E.is_key source_encoding.now) }
+    requires target_keys { HasKeys (F.is_key target_encoding.now) }
+    ensures { StepLeaves
+        (λ text. (groups : List Group)
         × IsRechunking (G.dimensions source.now) (E.is_key source_encoding.now)
         (H.dimensions target.now) (F.is_key target_encoding.now) chunks.now groups
-        × Appends (W.contents writer.old) (W.contents writer.new) (copy_lines groups)) }
-    ensures refused { array_sizes (G.dimensions source.now) ≡ array_sizes (H.dimensions target.now)
-        → IfErr result (OrMemory (WriteFailedOr
-        (IsChunksFault (H.dimensions target.now) chunks.now)
-        (W.contents writer.old) (W.contents writer.new))) }
+        × (text ≡ copy_lines groups))
+        (IsChunksFault (H.dimensions target.now) chunks.now) result
+        (record {
+          holds = W.contents (watched writer.old);
+          held_back = held_back.old.items;
+          failed = has_failed writer.old;
+        })
+        (record {
+          holds = W.contents (watched writer.new);
+          held_back = held_back.new.items;
+          failed = has_failed writer.new;
+        }) }
 {
     let walk = copies(
         alloc,
@@ -201,7 +237,7 @@ fn write_rechunking<
         chunks,
     );
     match walk {
-        Ok(walk) => write_copies(alloc, walk, writer),
+        Ok(walk) => write_copies(alloc, walk, held_back, writer),
         Err(refusal) => Err(refusal.map(RunFault::Copies)),
     }
 }

@@ -1,14 +1,7 @@
 //! Why a run of the program stops.
-ghost use Rattle.std.specs.Prelude.{◌≡◌};
-ghost use Rattle.programs.specs.declared.chunkplan.run_fault.RunFault.TheVariants.{Read};
-ghost use Rattle.programs.specs.OrMemory.{OrMemory};
-
 use crate::DocumentFault;
-use std::alloc::AllocError;
-use std::io;
-use std::io::ErrorKind;
 use thiserror::Error;
-use zarrs_chunk_base::{IncompatibleDimensionalityError, PluginCreateError, Refusal};
+use zarrs_chunk_base::{IncompatibleDimensionalityError, PluginCreateError};
 use zarrs_chunk_plan::CopiesError;
 
 /// Why a run stops, if not for want of memory. Nothing has been written, except on `Write`.
@@ -38,16 +31,4 @@ pub enum RunFault {
     /// A write or the flush failed, or a write took nothing. A beginning of the plan may have been written.
     #[error("output failed")]
     Write,
-}
-
-impl RunFault {
-    /// Why a read into a buffer that grows failed.
-    pub(crate) fn of_read(error: io::Error) -> Refusal<RunFault>
-        ensures { OrMemory (λ fault. fault ≡ Read) result }
-    {
-        match error.kind() {
-            ErrorKind::OutOfMemory => Refusal::Memory(AllocError),
-            _ => Refusal::Refused(RunFault::Read),
-        }
-    }
 }

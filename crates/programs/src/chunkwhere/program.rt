@@ -3,14 +3,14 @@ ghost use Rattle.std.specs.Prelude.{◌≡◌, ◌≤◌, false, IfSome, MatchRe
 ghost use Rattle.std.specs.Io.KnownBytes.{Keeps};
 ghost use Rattle.programs.specs.chunkwhere.Run.{IsFirstFault, IsTextFor, RunEndsWith, RunLeaves};
 ghost use Rattle.programs.specs.OrMemory.{OrMemory};
-ghost use Rattle.programs.specs.chunkwhere.Watched.{watched, has_failed};
+ghost use Rattle.programs.specs.Watched.{watched, has_failed};
 
 use crate::chunkwhere::answer::answer;
 use crate::chunkwhere::document::parse;
-use crate::chunkwhere::input::read_to_end;
-use crate::chunkwhere::output::write_all;
 use crate::chunkwhere::run_fault::RunFault;
-use crate::chunkwhere::watched::Watched;
+use crate::reading::read_to_end;
+use crate::watched::Watched;
+use crate::writing::write_all;
 use std::alloc::Global;
 use std::io::{Read, Write};
 use zarrs_chunk_base::Refusal;
@@ -64,9 +64,9 @@ pub fn run<R: Read, W: Write>(
           write_failed = has_failed writer.new;
         }))) }
 {
-    let input = read_to_end(alloc, reader)?;
+    let input = read_to_end(alloc, reader, RunFault::Read)?;
     let text = answer_input(alloc, input)?;
-    write_all(writer, text.as_bytes())
+    write_all(writer, text.as_bytes(), RunFault::Write)
 }
 
 /// The text that answers an input, or the first fault.

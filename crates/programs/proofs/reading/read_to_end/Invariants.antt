@@ -1,7 +1,7 @@
 use Rattle.std.proofs.Common.{◌≡◌, ◌-◌, ◌^◌, vec_len}
 use Rattle.std.specs.Io.KnownBytes.{Consumes}
-use Rattle.programs.specs.chunkwhere.Watched.{watched, has_failed}
-use Rattle.programs.proofs.chunkwhere.input.read_to_end.Given as goal
+use Rattle.programs.specs.Watched.{watched, has_failed}
+use Rattle.programs.proofs.reading.read_to_end.Given as goal
 
 -- the bytes so far were taken from the reader's front, and no read failed
 abbrev pub invariant-loop-count : goal.invariant-loop-count

@@ -1,7 +1,7 @@
 use Rattle.std.proofs.Common.{◌≡◌, ℕ, ◌<◌, ◌++◌, ◌||◌, ◌&&◌, Bool, true, false, eqb, take, take-append-drop, refl, sym, ap, ◌∙◌, append_assoc, arith}
 use Rattle.std.proofs.KnownBytes.{Appends-trans}
 use Rattle.std.proofs.lemmas.Bool.{ne_eqb}
-use Rattle.programs.proofs.chunkwhere.output.write_all.Goals as goal
+use Rattle.programs.proofs.writing.write_bytes.Goals as goal
 
 or_false : (b : Bool) → (b || false) ≡ b
 or_false true = refl

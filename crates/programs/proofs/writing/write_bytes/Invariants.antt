@@ -1,7 +1,7 @@
 use Rattle.std.proofs.Common.{◌≡◌, ℕ, List, ◌++◌, length}
 use Rattle.std.specs.Io.KnownBytes.{Appends}
-use Rattle.programs.specs.chunkwhere.Watched.{watched, has_failed}
-use Rattle.programs.proofs.chunkwhere.output.write_all.Given as goal
+use Rattle.programs.specs.Watched.{watched, has_failed}
+use Rattle.programs.proofs.writing.write_bytes.Given as goal
 
 -- what was written and what is left are all bytes, and no write failed
 abbrev pub invariant-loop-rest : goal.invariant-loop-rest

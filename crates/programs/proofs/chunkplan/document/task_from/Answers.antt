@@ -1,11 +1,11 @@
-use Rattle.std.proofs.Common.{◌≡◌, ◌∙◌, None, Some, IsSome, ap, option_map, codes, refl, sym, rules}
-use Rattle.std.proofs.lemmas.Result.{err_from_is_err_and, MatchResult-weaker}
+use Rattle.std.proofs.Common.{◌≡◌, ◌∙◌, None, IsSome, ap, option_map, codes, refl, sym, rules}
+use Rattle.std.proofs.lemmas.Result.{err_from_is_err_and}
 use Rattle.serde_json.specs.Find.{as_object, get}
 use Rattle.serde_json.specs.View.{view}
 use Rattle.programs.proofs.Refusals.{follows}
 use Rattle.programs.specs.chunkplan.Document.{stored_of}
 use Rattle.programs.specs.chunkplan.DocumentFault.{HasBoxFault, IsStoredFault, IsTaskFault, of_chunks, of_subset, of_target, of_target_stored}
-use Rattle.programs.proofs.chunkplan.LeftMembers.{chunks_is_no_target, has_box, has_box_fault, subset_is_no_target}
+use Rattle.programs.proofs.chunkplan.LeftMembers.{chunks_is_no_target, has_box_fault, subset_is_no_target}
 use Rattle.programs.proofs.chunkplan.document.task_from.Goals as goal
 
 pub returns-then-not-is_object : goal.returns-then-not-is_object

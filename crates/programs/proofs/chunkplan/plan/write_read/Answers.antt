@@ -1,25 +1,25 @@
 use Rattle.std.proofs.Common.{◌≡◌, length, rules}
-use Rattle.std.proofs.lemmas.Result.{on_ok_weaker}
+use Rattle.programs.specs.Watched.{has_failed, watched}
 use Rattle.programs.specs.chunkplan.PlanFault.{IsReadFault}
 use Rattle.programs.proofs.chunkplan.ReadPlans.{is_read_plan}
-use Rattle.programs.proofs.chunkplan.Stops.{late}
+use Rattle.programs.proofs.chunkplan.Sent.{step_follows}
 use Rattle.programs.proofs.chunkplan.plan.write_read.Goals as goal
 
-pub returns-in-Ok-Some-clause-planned : goal.returns-in-Ok-Some-clause-planned
-returns-in-Ok-Some-clause-planned g c =
+pub returns-in-Ok-Some : goal.returns-in-Ok-Some
+returns-in-Ok-Some g c =
     let walk = c.in-Ok-Some.walk in
     let is = c.in-Ok-Some.field-0-is in
     let said = c.in-Ok-Some.ensures in
     let counted : length c.start-dimensionality.result.now ≡ length (g.G.ChunkGridTraits.dimensions c.args.grid.now) = search rules in
     let many = rw c.start-dimensionality.ensures.value at counted in
-    on_ok_weaker c.write_parts.result
-    (λ (parts, are, appended). (
+    step_follows _ _ (λ _. ⊥) (IsReadFault (g.G.ChunkGridTraits.dimensions c.args.grid.now) c.args.subset.now)
+    (λ text (parts, are, lines). (
       parts,
       is_read_plan g.G.ChunkGridTraits.dimensions g.E.ChunkKeyEncodingTraits.is_key c.args.grid.now c.args.encoding.now c.args.subset.now walk parts
           c.start-dimensionality.ensures.is_box many (rw is at said.about) (rw is at said.empty) (rw is at said.answers) are,
-      appended,
-    )) c.write_parts.ensures.written
-
-pub returns-in-Ok-Some-clause-refused : goal.returns-in-Ok-Some-clause-refused
-returns-in-Ok-Some-clause-refused g c =
-    late c.write_parts.result (IsReadFault (g.G.ChunkGridTraits.dimensions c.args.grid.now) c.args.subset.now) _ _ c.write_parts.ensures.refused
+      lines,
+    ))
+    (λ fault none. absurd none)
+    (record { holds = g.W.Write.contents (watched c.args.writer.now); held_back = c.args.held_back.now.items; failed = has_failed c.args.writer.now })
+    (record { holds = g.W.Write.contents (watched c.write_parts.new.writer); held_back = c.write_parts.new.held_back.items; failed = has_failed c.write_parts.new.writer })
+    c.write_parts.result c.write_parts.ensures

@@ -1,22 +1,22 @@
-use Rattle.std.proofs.lemmas.Result.{on_ok_weaker}
 use Rattle.zarrs_chunk_plan.proofs.Copied.{rechunking_of}
+use Rattle.programs.specs.Watched.{has_failed, watched}
 use Rattle.programs.specs.chunkplan.PlanFault.{IsChunksFault}
-use Rattle.programs.proofs.chunkplan.Stops.{late}
+use Rattle.programs.proofs.chunkplan.Sent.{step_follows}
 use Rattle.programs.proofs.chunkplan.plan.write_rechunking.Goals as goal
 
-pub returns-in-Ok-clause-planned : goal.returns-in-Ok-clause-planned
-returns-in-Ok-clause-planned g c =
+pub returns-in-Ok : goal.returns-in-Ok
+returns-in-Ok g c =
     let said = c.in-Ok.ensures in
     let (targets, is_box, are, left) = said.targets in
-    on_ok_weaker c.write_copies.result
-    (λ (groups, come, appended). (
+    step_follows _ _ (λ _. ⊥) (IsChunksFault (g.H.ChunkGridTraits.dimensions c.args.target.now) c.args.chunks.now)
+    (λ text (groups, come, lines). (
       groups,
       rechunking_of g.G.ChunkGridTraits.dimensions g.E.ChunkKeyEncodingTraits.is_key g.H.ChunkGridTraits.dimensions g.F.ChunkKeyEncodingTraits.is_key
           c.args.source.now c.args.source_encoding.now c.args.target.now c.args.target_encoding.now _ c.args.chunks.now targets c.in-Ok.walk groups said.about is_box
           are left come,
-      appended,
-    )) c.write_copies.ensures.written
-
-pub returns-in-Ok-clause-refused : goal.returns-in-Ok-clause-refused
-returns-in-Ok-clause-refused g c =
-    λ one_array. late c.write_copies.result (IsChunksFault (g.H.ChunkGridTraits.dimensions c.args.target.now) c.args.chunks.now) _ _ c.write_copies.ensures.refused
+      lines,
+    ))
+    (λ fault none. absurd none)
+    (record { holds = g.W.Write.contents (watched c.args.writer.now); held_back = c.args.held_back.now.items; failed = has_failed c.args.writer.now })
+    (record { holds = g.W.Write.contents (watched c.write_copies.new.writer); held_back = c.write_copies.new.held_back.items; failed = has_failed c.write_copies.new.writer })
+    c.write_copies.result c.write_copies.ensures

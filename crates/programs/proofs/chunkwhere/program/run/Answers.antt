@@ -1,7 +1,7 @@
 use Rattle.std.proofs.Common.{sym, subst}
 use Rattle.std.proofs.lemmas.Result.{err_from_is_err_and}
 use Rattle.programs.specs.chunkwhere.Run.{IsTextFor}
-use Rattle.programs.specs.chunkwhere.Watched.{watched, has_failed}
+use Rattle.programs.specs.Watched.{watched, has_failed}
 use Rattle.programs.proofs.chunkwhere.Outcomes.{after_fault, after_writing}
 use Rattle.programs.proofs.chunkwhere.program.run.Goals as goal
 

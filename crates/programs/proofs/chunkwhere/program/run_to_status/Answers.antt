@@ -1,4 +1,4 @@
-use Rattle.programs.specs.chunkwhere.Watched.{watched, has_failed}
+use Rattle.programs.specs.Watched.{watched, has_failed}
 use Rattle.programs.proofs.chunkwhere.Outcomes.{with_status}
 use Rattle.programs.proofs.chunkwhere.program.run_to_status.Goals as goal
 
