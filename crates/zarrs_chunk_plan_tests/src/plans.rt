@@ -1,4 +1,5 @@
-//! The parts of a box of elements in five dimensions, one after another and by number, what follows the end and an error, and the laws.
+//! The parts of a box of elements in five dimensions, one after another and by number, more than a thousand of them, what follows the end and an
+//! error, and the laws.
 use std::alloc::Global;
 use std::num::NonZeroU64;
 use std::process::Abort;
@@ -12,17 +13,17 @@ use zarrs_chunk_plan::laws::{
 use zarrs_chunk_plan::{Part, parts, some_parts};
 use zarrs_chunks::RegularChunkGrid;
 
-/// A row of five elements, in chunks of three: the last of five dimensions.
-fn row_of_five(alloc: Global) -> Result<RegularChunkGrid, Fail> {
+/// A row of so many elements, in chunks of three: the last of five dimensions.
+fn row(alloc: Global, elements: u64) -> Result<RegularChunkGrid, Fail> {
     let mut chunk_shape = vec![in alloc; NonZeroU64::MIN; 4]?;
     chunk_shape.push(NonZeroU64::new(3).ok_or("an edge of 0")?)?;
-    Ok(RegularChunkGrid::new(alloc, [1, 1, 1, 1, 5].to_vec(alloc)?, chunk_shape)?)
+    Ok(RegularChunkGrid::new(alloc, [1, 1, 1, 1, elements].to_vec(alloc)?, chunk_shape)?)
 }
 
-/// The last three elements of the row.
-fn last_three(alloc: Global) -> Result<ArraySubset, Fail> {
-    let start = [0, 0, 0, 0, 2].to_vec(alloc)?;
-    Ok(ArraySubset::new_with_start_shape(start, [1, 1, 1, 1, 3].to_vec(alloc)?)?)
+/// So many elements of the row, from one on.
+fn elements_from(alloc: Global, first: u64, elements: u64) -> Result<ArraySubset, Fail> {
+    let start = [0, 0, 0, 0, first].to_vec(alloc)?;
+    Ok(ArraySubset::new_with_start_shape(start, [1, 1, 1, 1, elements].to_vec(alloc)?)?)
 }
 
 /// The part has this key, and in the last dimension so many elements from these places on.
@@ -44,9 +45,9 @@ fn check_part(
 #[test]
 fn the_walk_gives_each_part_and_stays_ended(rt: HostRuntime) -> Result<(), Fail> {
     let alloc = rt.alloc();
-    let grid = row_of_five(alloc)?;
+    let grid = row(alloc, 5)?;
     let encoding = DefaultChunkKeyEncoding::new_slash();
-    let elements = last_three(alloc)?;
+    let elements = elements_from(alloc, 2, 3)?;
     let mut walk = parts(alloc, &grid, &encoding, &elements)?.ok_or("no cover")?;
     for (key, in_chunk, in_subset, size) in [("c/0/0/0/0/0", 2, 0, 1), ("c/0/0/0/0/1", 0, 1, 2)] {
         match walk.next() {
@@ -62,12 +63,35 @@ fn the_walk_gives_each_part_and_stays_ended(rt: HostRuntime) -> Result<(), Fail>
     Ok(())
 }
 
+/// The elements 1 to 3000: two in the first chunk, three in each of 999, and one in the last.
+#[test]
+fn more_than_a_thousand_parts_are_read_to_their_end(rt: HostRuntime) -> Result<(), Fail> {
+    let alloc = rt.alloc();
+    let grid = row(alloc, 3001)?;
+    let encoding = DefaultChunkKeyEncoding::new_slash();
+    let elements = elements_from(alloc, 1, 3000)?;
+    let walk = parts(alloc, &grid, &encoding, &elements)?.ok_or("no cover")?;
+    let mut number = 0u64;
+    for part in walk {
+        let part = part?;
+        match number {
+            0 => check_part(&rt, &part, "c/0/0/0/0/0", 1, 0, 2),
+            500 => check_part(&rt, &part, "c/0/0/0/0/500", 0, 1499, 3),
+            1000 => check_part(&rt, &part, "c/0/0/0/0/1000", 0, 2999, 1),
+            _ => (),
+        }
+        number = number.saturating_add(1);
+    }
+    assert_eq!(rt; number, 1001);
+    Ok(())
+}
+
 #[test]
 fn a_part_is_asked_for_by_its_number(rt: HostRuntime) -> Result<(), Fail> {
     let alloc = rt.alloc();
-    let grid = row_of_five(alloc)?;
+    let grid = row(alloc, 5)?;
     let encoding = DefaultChunkKeyEncoding::new_slash();
-    let elements = last_three(alloc)?;
+    let elements = elements_from(alloc, 2, 3)?;
     let some = some_parts(alloc, &grid, &encoding, &elements, 1, 9)?.ok_or("no cover")?;
     assert_eq!(rt; some.in_all, 2);
     assert_eq!(rt; some.parts.len(), 1);
@@ -80,9 +104,9 @@ fn a_part_is_asked_for_by_its_number(rt: HostRuntime) -> Result<(), Fail> {
 #[test]
 fn the_laws_answer(rt: HostRuntime) -> Result<(), Fail> {
     let alloc = rt.alloc();
-    let grid = row_of_five(alloc)?;
+    let grid = row(alloc, 5)?;
     let encoding = DefaultChunkKeyEncoding::new_slash();
-    let elements = last_three(alloc)?;
+    let elements = elements_from(alloc, 2, 3)?;
     let all = the_walk_gives_the_plan(alloc, &grid, &encoding, &elements)?.ok_or("no cover")?;
     assert_eq!(rt; all.len(), 2);
     each_element_lies_in_one_part(&grid, &encoding, &elements);

@@ -1,4 +1,4 @@
-//! What a rechunking of a row of seven elements copies, what refuses one, and the laws.
+//! What a rechunking of a row of seven elements copies, and one of two rows in four, five and a thousand dimensions; what refuses one, and the laws.
 use std::alloc::{AllocError, Global};
 use std::num::NonZeroU64;
 use std::process::Abort;
@@ -18,6 +18,33 @@ c/0/0/0/0/0 Some(3) c/0/0/0/0/1 Some(0) (Some(1), Some(1))
 c/0/0/0/0/1 Some(0) c/0/0/0/0/1 Some(1) (Some(2), Some(2))
 c/0/0/0/0/1 Some(2) c/0/0/0/0/2 Some(0) (Some(1), Some(1))
 ";
+
+/// What is copied between chunks of [1, 1, .., 3] and of [2, 1, .., 4] in an array of [2, 1, .., 5] elements: the numbers of the first and of the
+/// last dimension of the source's chunk and of the place there, of the target's chunk and of the place there, and of the shape.
+const COPIES_OF_TWO_ROWS: &str = "\
+00 00 00 00 13
+01 00 00 03 11
+10 00 00 10 13
+11 00 00 13 11
+01 01 01 00 11
+11 01 01 10 11
+";
+
+/// Two rows of five elements: the first and the last of so many dimensions, in chunks of so many rows and elements.
+fn two_rows(
+    alloc: Global,
+    dimensions: usize,
+    rows: u64,
+    edge: u64,
+) -> Result<RegularChunkGrid, Fail> {
+    let mut array_shape = vec![in alloc; 1; dimensions]?;
+    let mut chunk_shape = vec![in alloc; NonZeroU64::MIN; dimensions]?;
+    *array_shape.first_mut().ok_or("no dimension")? = 2;
+    *array_shape.last_mut().ok_or("no dimension")? = 5;
+    *chunk_shape.first_mut().ok_or("no dimension")? = NonZeroU64::new(rows).ok_or("no rows")?;
+    *chunk_shape.last_mut().ok_or("no dimension")? = NonZeroU64::new(edge).ok_or("an edge of 0")?;
+    Ok(RegularChunkGrid::new(alloc, array_shape, chunk_shape)?)
+}
 
 /// A row of so many elements, in chunks of so many: the last of five dimensions.
 fn row(alloc: Global, elements: u64, edge: u64) -> Result<RegularChunkGrid, Fail> {
@@ -67,6 +94,65 @@ fn each_chunk_of_the_target_has_its_copies(rt: HostRuntime) -> Result<(), Fail> 
     )?;
     let lines = lines_of(alloc, &groups)?;
     assert_eq!(rt; lines.as_str(), COPIES);
+    Ok(())
+}
+
+/// Appends the first and the last of some numbers, and what stands behind them.
+fn append_ends(
+    alloc: Global,
+    lines: &mut String,
+    numbers: &[u64],
+    behind: char,
+) -> Result<(), Fail> {
+    let first = numbers.first().ok_or("no dimension")?;
+    let last = numbers.last().ok_or("no dimension")?;
+    let text = format!(in alloc; "{first}{last}{behind}")?;
+    lines.push_str(text.as_str())?;
+    Ok(())
+}
+
+/// Appends the line of a copy between two rows.
+fn append_copy(alloc: Global, lines: &mut String, from: &Part, to: &Part) -> Result<(), Fail> {
+    append_ends(alloc, lines, from.chunk.as_slice(), ' ')?;
+    append_ends(alloc, lines, from.in_chunk.start(), ' ')?;
+    append_ends(alloc, lines, to.chunk.as_slice(), ' ')?;
+    append_ends(alloc, lines, from.in_subset.start(), ' ')?;
+    append_ends(alloc, lines, from.in_chunk.shape(), '\n')
+}
+
+/// The lines of what is copied between two rows. Each key is `c`, and a slash and a digit for each dimension.
+fn copies_of_two_rows(
+    rt: &(impl Abort + AllocGlobal),
+    groups: &[(Part, Vec<Part>)],
+    key_length: usize,
+) -> Result<String, Fail> {
+    let mut lines = String::new(rt.alloc());
+    for (to, from) in groups {
+        assert_eq!(rt; to.key.as_str().len(), key_length);
+        for part in from {
+            assert_eq!(rt; part.key.as_str().len(), key_length);
+            assert_eq!(rt; part.in_chunk.shape(), part.in_subset.shape());
+            append_copy(rt.alloc(), &mut lines, part, to)?;
+        }
+    }
+    Ok(lines)
+}
+
+#[test]
+fn a_chunk_of_the_target_lies_over_some_of_the_source(rt: HostRuntime) -> Result<(), Fail> {
+    let alloc = rt.alloc();
+    let encoding = DefaultChunkKeyEncoding::new_slash();
+    for (dimensions, key_length) in [(4, 9), (5, 11), (1000, 2001)] {
+        let source = two_rows(alloc, dimensions, 1, 3)?;
+        let target = two_rows(alloc, dimensions, 2, 4)?;
+        let all = all_chunks(alloc, &target)?;
+        let groups = the_walk_gives_the_rechunking(
+            alloc, &source, &encoding, &target, &encoding, &all,
+        )?;
+        assert_eq!(rt; groups.len(), 2);
+        let lines = copies_of_two_rows(&rt, &groups, key_length)?;
+        assert_eq!(rt; lines.as_str(), COPIES_OF_TWO_ROWS);
+    }
     Ok(())
 }
 
