@@ -12,9 +12,9 @@ use zarrs_chunk_base::{
     RectangularChunkGridDimensionConfiguration, Refusal, RunLengthElement,
 };
 use zarrs_chunks::laws::{
-    a_grid_is_made_again_of_its_metadata, chunk_indices_names_the_home, chunks_share_no_index,
-    grids_of_like_dimensions_answer_alike, the_box_of_chunks_is_the_union_of_their_boxes,
-    the_cover_names_the_chunks_that_meet_a_box, the_edges_determine_the_dimensions,
+    chunk_indices_names_the_home, chunks_share_no_index, grids_of_like_dimensions_answer_alike,
+    the_box_of_chunks_is_the_union_of_their_boxes, the_cover_names_the_chunks_that_meet_a_box,
+    the_edges_determine_the_dimensions,
 };
 use zarrs_chunks::{
     ChunkGrid, ChunkGridTraits, Comparisons, Home, RectangularChunkGrid, RectilinearChunkGrid,
@@ -37,7 +37,7 @@ fn edges(alloc: Global, numbers: &[u64]) -> Result<ChunkShape, Fail> {
 }
 
 /// The metadata that a text stands for.
-fn metadata(alloc: Global, text: &str) -> Result<MetadataV3, Fail> {
+pub(crate) fn metadata(alloc: Global, text: &str) -> Result<MetadataV3, Fail> {
     let tree = Value::from_slice(alloc, text.as_bytes())?;
     Ok(MetadataV3::from_tree(alloc, &tree)?)
 }
@@ -141,11 +141,15 @@ fn check_laws(
 
 /// Each kind of grid, its copy, and the grid that is made again of its metadata.
 fn check_grids(rt: &(impl Abort + AllocGlobal), dimensions: usize) -> Result<(), Fail> {
+    let array_shape = vec![in rt.alloc(); 5; dimensions]?;
     for (grid, end, name) in &make_grids(rt.alloc(), dimensions)? {
         check_laws(rt, grid, *end, dimensions)?;
         check_laws(rt, &grid.clone()?, *end, dimensions)?;
-        let again = a_grid_is_made_again_of_its_metadata(rt.alloc(), grid)?;
+        let metadata = grid.metadata(rt.alloc())?;
+        assert_eq!(rt; metadata.name(), *name);
+        let again = ChunkGrid::from_metadata(rt.alloc(), &metadata, &array_shape)?;
         assert_eq!(rt; again.metadata(rt.alloc())?.name(), *name);
+        check_laws(rt, &again, *end, dimensions)?;
         the_edges_determine_the_dimensions(grid, &again);
         grids_of_like_dimensions_answer_alike(grid, &again);
     }
