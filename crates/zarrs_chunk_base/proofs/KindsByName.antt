@@ -1,5 +1,5 @@
 -- Kinds of extensions: they are told apart by their whole names, and what was made is made again of its metadata.
-use Rattle.std.proofs.Common.{◌≡◌, ◌≢◌, ℕ, suc, Bool, true, false, cond, List, [], ◌∷◌, Option, Some, Contains, find, bytes_eq, Result, Ok, Err, IfErr, IsErrAnd, MatchResult, sym, ap, ◌∙◌, subst, unwrap_or, true≢false, is_some, arith}
+use Rattle.std.proofs.Common.{◌≡◌, ◌≢◌, ℕ, suc, Bool, true, false, cond, List, [], ◌∷◌, Option, Some, Contains, find, bytes_eq, Result, Ok, Err, IsErrAnd, MatchResult, sym, ap, ◌∙◌, subst, unwrap_or, true≢false, is_some, arith}
 use Rattle.std.specs.List.{AllByRecursion}
 use Rattle.serde_json.specs.Data.{Members, no_members}
 use Rattle.zarrs_chunk_base.specs.Configuration.{IsConfiguration, IsFitting}
@@ -9,7 +9,6 @@ use Rattle.zarrs_chunk_base.specs.Refusal.{IfRefused}
 use Rattle.zarrs_chunk_base.specs.declared.plugin_create_error.PluginCreateError.{PluginCreateError}
 use Rattle.zarrs_chunk_base.specs.declared.plugin_create_error.PluginCreateError.TheVariants.{NameUnsupported, ConfigurationUnsupported, Other}
 use Rattle.zarrs_chunk_base.specs.declared.refusal.Refusal.{Refusal}
-use Rattle.zarrs_chunk_base.specs.declared.refusal.Refusal.TheVariants.{Refused, Memory}
 use Rattle.zarrs_chunk_base.proofs.FirstMembers.{no_fault}
 use Rattle.zarrs_chunk_base.proofs.KnownNames.{in_no_list, not_first}
 use Rattle.zarrs_chunk_base.proofs.Refusals.{refused_weaker}
@@ -97,14 +96,6 @@ module _ {K G M : Type 0} (kind : K → Kind G M) where
       let same = same_kind kinds found k l (sym is.name ∙ name) in
       not_refused (kind k) (fits k) given made e fault (has_configuration (kind k) given made e is)
       (subst (λ j. IsFaultOf (kind j) e given fault) (sym same) refused)
-
-  -- and so what answers it is no refusal of its own
-  pub accepted_again : (kinds : List K) → AreFound kinds → ((k : K) → Fits (kind k)) → {A : Type 0} (P : A → Type 0) (k : K) (given : G) (made : M) (e : Extension)
-      (answer : Result A (Refusal PluginCreateError)) → IsMetadata (kind k) given made e
-      → MatchResult answer P (λ refusal. IfRefused refusal (IsFault kind kinds e given)) → IfErr answer (λ refusal. IfRefused refusal (λ _. ⊥))
-  accepted_again kinds found fits P k given made e (Ok again) is answers = tt
-  accepted_again kinds found fits P k given made e (Err (Refused fault)) is answers = never_refused kinds found fits k given made e fault is answers
-  accepted_again kinds found fits P k given made e (Err (Memory _)) is answers = tt
 
   -- what is made of the metadata is of the same kind, and is made of what was said the first time
   pub made_again : (kinds : List K) → AreFound kinds → (k l : K) (given : G) (made again : M) (e : Extension) → IsMetadata (kind k) given made e
