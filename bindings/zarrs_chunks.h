@@ -11,8 +11,18 @@
  * Each call answers ZARRS_OK or one of the codes below. After another code than ZARRS_OK and ZARRS_SHORT_BUFFER the buffers that are written to
  * hold anything, but nothing is written beside them.
  *
+ * Where several things are wrong, the first of them is told, in this order, which is the same for all calls:
+ *
+ * 1. the metadata of the grid: ZARRS_NOT_JSON, ZARRS_NOT_METADATA, ZARRS_REFUSED; then that of the encoding, by the same three codes
+ * 2. the lengths of the arrays: ZARRS_WRONG_LENGTH
+ * 3. a start and a shape that are those of no box: ZARRS_NOT_A_BOX; in a batch, those of some list
+ * 4. the offsets: ZARRS_WRONG_OFFSETS; those of some text
+ * 5. the room for the text of an answer: ZARRS_SHORT_BUFFER
+ *
+ * ZARRS_OUT_OF_MEMORY may come in place of any answer.
+ *
  * Where a call has `found`, an array of n bytes, the byte of a list becomes 1 where there is an answer to it, and 0 where there is none; the
- * numbers of an answer that isn't there stay as they were.
+ * numbers of an answer that isn't there stay as they were, after ZARRS_OK.
  *
  * The caller sees to it that each pointer points to as many items as it says, that they are aligned to their type, and that what is written to
  * overlaps no other buffer of the call. Nothing else is asked of it.

@@ -1,5 +1,5 @@
 -- Parts of a plan that were found, and what is written of them.
-use Rattle.std.proofs.Common.{◌≡◌, ◌≢◌, ◌⊎◌, ◌∙◌, ℕ, zero, suc, ◌+◌, ◌-◌, ◌<◌, ◌≤◌, List, [], ◌∷◌, Option, Some, None, Ok, MatchOption, drop, get_or, length, min, take, inl, inr, ⊎_elim, refl, ap, subst, sym, arith}
+use Rattle.std.proofs.Common.{◌≡◌, ◌≢◌, ◌⊎◌, ◌∙◌, ℕ, zero, suc, ◌+◌, ◌-◌, ◌<◌, ◌≤◌, List, [], ◌∷◌, Option, Some, None, Ok, Err, IfErr, MatchOption, OnOk, drop, get_or, length, min, take, inl, inr, ⊎_elim, refl, ap, subst, sym, arith}
 use Rattle.std.proofs.lemmas.Bool.{cases_lt}
 use Rattle.std.proofs.lemmas.List.{get_or-drop, get_or-take, length-drop, length-take}
 use Rattle.std.proofs.lemmas.Option.{get_or_from_slice_get}
@@ -14,9 +14,12 @@ use Rattle.zarrs_chunk_plan.specs.declared.pieces.SomeParts.{SomeParts}
 use Rattle.zarrs_chunk_plan.proofs.Plans.{empty_or_some, none_in_zeros}
 use Rattle.zarrs_chunk_plan.proofs.Taken.{none_taken}
 use Rattle.zarrs_chunks_c.specs.Asked.{HasNoCover, IsCoverOf}
-use Rattle.zarrs_chunks_c.specs.Batch.{AreTexts}
+use Rattle.zarrs_chunks_c.specs.Batch.{AreTexts, IsMarked, IsTooLong, IsWhole}
+use Rattle.zarrs_chunks_c.specs.Codes.{End}
 use Rattle.zarrs_chunks_c.specs.Parts.{ArePartsFrom, IsPartAt, Written}
-use Rattle.zarrs_chunks_c.specs.seen.Parts.{AreFoundParts, AreWrittenBelow, IsKeyOf, IsWritten}
+use Rattle.zarrs_chunks_c.specs.PlanCall.{IsPlanWith}
+use Rattle.zarrs_chunks_c.specs.declared.codes.Fault.TheVariants.{Memory, NotBox, Short}
+use Rattle.zarrs_chunks_c.specs.seen.Parts.{AreFoundParts, AreWrittenBelow, IsKeyOf, IsPlanned, IsWritten}
 use Rattle.zarrs_chunks_c.proofs.Covers.{none_is_not_empty}
 
 -- ---- what was found
@@ -104,23 +107,23 @@ module _ (ds : List Dimension) (IsKey : List ℕ → List ℕ → Type 0) (subse
       let shared = subst (λ s. AreShared ds subset chunk part.in_chunk (record { start = part.in_subset.start; shape = s })) (sym shape) is.boxes in
       record { numbers = lists.is_chunk ∙ is.numbers; boxes = rw (lists.is_in_chunk, lists.is_in_subset, lists.is_shape) shared }
 
-  module _ (first room : ℕ) (some : SomeParts) (written : Written) (cover : Box) (are : AreSomeParts ds IsKey subset cover first room some) where
-    abbrev IsPartOf : List ℕ → Part → Type 0
+  module _ (first room : ℕ) (some : SomeParts) (cover : Box) (are : AreSomeParts ds IsKey subset cover first room some) where
+    abbrev pub IsPartOf : List ℕ → Part → Type 0
     IsPartOf = IsPart ds IsKey subset
 
-    abbrev parts : List Part
+    abbrev pub parts : List Part
     parts = some.parts.items
 
     abbrev chunks : List (List ℕ)
     chunks = chunks_in cover
 
-    abbrev count : ℕ
+    abbrev pub count : ℕ
     count = min (some.in_all - first) room
 
     abbrev taken : List (List ℕ)
     taken = take count (drop first chunks)
 
-    count_is : length parts ≡ count
+    pub count_is : length parts ≡ count
     count_is =
         let same = as_long IsPartOf taken parts are.are_parts in
         let long = length-take count (drop first chunks) in
@@ -128,10 +131,10 @@ module _ (ds : List Dimension) (IsKey : List ℕ → List ℕ → Type 0) (subse
         let in_all = are.in_all in
         omega arith
 
-    written_of_cover : IsCoverOf ds subset cover
+    written_of_cover : (written : Written) → IsCoverOf ds subset cover
         → AreWrittenBelow (length parts) (length ds) parts written.chunks written.in_chunk written.in_subset written.shapes
         → AreTexts (IsKeyOf parts) (length parts) written.keys written.offsets → ArePartsFrom ds IsKey subset first room some.in_all (length parts) written
-    written_of_cover is_cover lists texts = record {
+    written_of_cover written is_cover lists texts = record {
       cover = cover;
       is_cover = is_cover;
       has_in_all = are.in_all;
@@ -156,4 +159,22 @@ module _ (ds : List Dimension) (IsKey : List ℕ → List ℕ → Type 0) (subse
       → AreWrittenBelow (length some.parts.items) (length ds) some.parts.items written.chunks written.in_chunk written.in_subset written.shapes
       → AreTexts (IsKeyOf some.parts.items) (length some.parts.items) written.keys written.offsets
       → ArePartsFrom ds IsKey subset first room some.in_all (length some.parts.items) written
-  all_written first room some written (cover, is_cover, are) lists texts = written_of_cover first room some written cover are is_cover lists texts
+  all_written first room some written (cover, is_cover, are) lists texts = written_of_cover first room some cover are written is_cover lists texts
+
+-- ---- how a plan ends
+
+module _ (ds : List Dimension) (IsKey : List ℕ → List ℕ → Type 0) (b : Box) (first : ℕ) (written : List ℕ → Written) (text : List ℕ)
+    (needed count in_all mark : ℕ) (is_box : IsBox b) where
+  abbrev pub IsPlan : List ℕ → Type 0
+  IsPlan = IsPlanWith ds IsKey b first in_all count written
+
+  pub plan_answers : (end : End) → IsPlanned ds IsKey b first written text needed count in_all mark end
+      → OnOk end (IsBox b × IsMarked mark (IsWhole IsPlan text needed) (HasNoCover ds b))
+  plan_answers (Ok _) is = (is_box, is)
+  plan_answers (Err _) is = tt
+
+  pub plan_refuses : (end : End) → IsPlanned ds IsKey b first written text needed count in_all mark end
+      → IfErr end (λ fault. (fault ≡ Memory) ⊎ (((fault ≡ NotBox) × ¬ IsBox b)
+      ⊎ ((fault ≡ Short) × IsBox b × (mark ≡ 1) × IsTooLong IsPlan text needed)))
+  plan_refuses (Ok _) is = tt
+  plan_refuses (Err fault) is = ⊎_elim (λ memory. inl memory) (λ (short, found, long). inr (inr (short, is_box, found, long))) is

@@ -1,5 +1,10 @@
 pub mod Asked
 pub mod Batch
+pub mod Calls
+pub mod Codes
+pub mod GridCalls
+pub mod KeyCalls
 pub mod Parts
+pub mod PlanCall
 pub mod Said
 pub mod seen

@@ -1,6 +1,7 @@
 //! The call that answers any question, as text.
-ghost use Rattle.std.specs.Prelude.{OnOk, take};
-ghost use Rattle.zarrs_chunk_questions.specs.Line.{IsOneLine};
+ghost use Rattle.zarrs_chunks_c.specs.Calls.{IsEndOf, IsKeptIfShort};
+ghost use Rattle.zarrs_chunks_c.specs.Codes.{Ends};
+ghost use Rattle.zarrs_chunks_c.specs.PlanCall.{answer_call};
 
 use crate::codes::{Fault, code_of};
 use crate::texts::write_text;
@@ -14,7 +15,10 @@ pub extern "C" fn zarrs_answer(
     question: &[u8],
     line: &mut [u8],
     needed: &mut usize,
-) -> i32 {
+) -> i32
+    ensures ends { Ends (IsEndOf (answer_call line.new needed.new)) result }
+    ensures kept_if_short { Ends (IsKeptIfShort line.old line.new) result }
+{
     code_of(answer_line(alloc, question, line, needed))
 }
 
@@ -28,7 +32,8 @@ fn answer_line(
     line: &mut [u8],
     needed: &mut usize,
 ) -> Result<(), Fault>
-    ensures { OnOk result (IsOneLine (take needed.new line.new)) }
+    ensures ends { IsEndOf (answer_call line.new needed.new) result }
+    ensures kept_if_short { IsKeptIfShort line.old line.new result }
 {
     let answer = answer(alloc, question)?;
     write_text(&answer, line, needed)

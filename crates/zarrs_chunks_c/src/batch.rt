@@ -1,6 +1,10 @@
 //! A batch: many questions, each answered by two lists of numbers, or by none.
-ghost use Rattle.std.specs.Prelude.{◌≡◌, ℕ, ◌<◌, List, IfOk, OnOk, cond};
-ghost use Rattle.zarrs_chunks_c.specs.Batch.{AreAnswered, list_at};
+ghost use Rattle.std.specs.Prelude.{◌≡◌, ◌≢◌, ◌⊎◌, ℕ, ◌*◌, ◌<◌, List, IfErr, IfOk, OnOk, cond, false, length};
+ghost use Rattle.zarrs_chunks_c.specs.Batch.{AreAnswered, AreKept, list_at};
+ghost use Rattle.zarrs_chunks_c.specs.Calls.{AreQuestions, HasNoQuestion};
+ghost use Rattle.zarrs_chunks_c.specs.declared.codes.Fault.{Fault as AnyFault};
+ghost use Rattle.zarrs_chunks_c.specs.declared.codes.Fault.TheVariants.{Memory};
+ghost use Rattle.zarrs_chunks_c.specs.seen.Lists.{AreLong, HasList};
 
 use crate::codes::Fault;
 use crate::lists::write_list;
@@ -9,39 +13,72 @@ use zarrs_chunks::Home;
 
 /// Questions, numbered from 0, of a grid or of an encoding.
 pub(crate) trait Questions {
+    /// How long the two lists of an answer are.
+    ghost widths: { Self → ℕ × ℕ };
+
+    /// What is asked with this number was given.
+    ghost given: { Self → ℕ → Type 0 };
+
+    /// It is a question, which has an answer or none.
+    ghost is_question: { Self → ℕ → Type 0 };
+
+    /// The fault of what isn't one.
+    ghost fault: { Self → AnyFault };
+
     /// The two lists answer the question with this number.
     ghost answered: { Self → ℕ → List ℕ → List ℕ → Type 0 };
 
     /// The question with this number has no answer.
     ghost unanswered: { Self → ℕ → Type 0 };
 
+    /// How long the two lists of an answer are.
+    fn widths(&self) -> (usize, usize)
+        ensures { result ≡ widths self.now };
+
     /// Whether the question with this number has an answer, which is left in `answer`: an element's chunk and its place there, or two
     /// other lists. The memory that `answer` has is used again.
     ///
     /// # Errors
-    /// There are not so many questions, or this is none; or out of memory.
+    /// What is asked is no question; or out of memory.
     fn answer(&self, alloc: Global, number: usize, answer: &mut Home) -> Result<bool, Fault>
-        ensures { IfOk result (λ found. cond found
+        requires { given self.now number }
+        ensures answers { IfOk result (λ found. cond found
             (answered self.now number answer.new.chunk.items answer.new.element.items)
-            (unanswered self.now number)) };
+            (unanswered self.now number)) }
+        ensures long { IfOk result (λ found. cond found
+            (AreLong (widths self.now) answer.new.chunk.items answer.new.element.items)
+            (Unit {0})) }
+        ensures asked { OnOk result (is_question self.now number) }
+        ensures refused { IfErr result (λ told. (told ≡ Memory)
+            ⊎ ((told ≡ fault self.now) × ¬ is_question self.now number)) };
 }
 
 /// Answers the questions that have a mark, in order. The answers go to lists of one length each, one after another, and each question's
 /// mark becomes 1 where it has an answer, and else 0. The lists of a question without an answer stay as they were.
 ///
 /// # Errors
-/// There are fewer questions or lists than marks, or lists of another length; or out of memory. What is written by then stays.
+/// Something that is asked is no question; or out of memory. What is written by then stays.
 pub(crate) fn answer_all<Q: Questions>(
     alloc: Global,
     questions: &Q,
-    widths: (usize, usize),
     first: &mut [u64],
     second: &mut [u64],
     found: &mut [u8],
 ) -> Result<(), Fault>
-    ensures { OnOk result (AreAnswered (Q.answered questions.now) (Q.unanswered questions.now)
-        widths first.new second.new found.new) }
+    requires given { AreQuestions (length found.old) (Q.given questions.now) }
+    requires first_room { length first.old ≡ (Q.widths questions.now).0 * length found.old }
+    requires second_room { length second.old ≡ (Q.widths questions.now).1 * length found.old }
+    ensures answered { OnOk result (AreAnswered (Q.answered questions.now)
+        (Q.unanswered questions.now) (Q.widths questions.now) first.new second.new found.new) }
+    ensures first_kept { OnOk result (AreKept (Q.widths questions.now).0
+        first.old first.new found.new) }
+    ensures second_kept { OnOk result (AreKept (Q.widths questions.now).1
+        second.old second.new found.new) }
+    ensures asked { OnOk result (AreQuestions (length found.new) (Q.is_question questions.now)) }
+    ensures refused { IfErr result (λ told. (told ≡ Memory) ⊎ ((told ≡ Q.fault questions.now)
+        × HasNoQuestion (length found.new) (Q.is_question questions.now))) }
 {
+    let widths = questions.widths();
     let mut answer = Home::new(alloc);
     for number in 0..found.len() {
         let is_found = answer_one(alloc, questions, widths, number, &mut answer, first, second)?;
@@ -50,10 +87,10 @@ pub(crate) fn answer_all<Q: Questions>(
     Ok(())
 }
 
-/// Answers the question with this number, and writes the answer, if there is one, behind those of the questions before.
+/// Answers the question with this number, and writes the answer, if there is one, to the lists with this number.
 ///
 /// # Errors
-/// There are fewer questions or lists, or lists of another length; or out of memory.
+/// What is asked is no question; or out of memory.
 fn answer_one<Q: Questions>(
     alloc: Global,
     questions: &Q,
@@ -63,18 +100,27 @@ fn answer_one<Q: Questions>(
     first: &mut [u64],
     second: &mut [u64],
 ) -> Result<bool, Fault>
+    requires given { Q.given questions.now number }
+    requires widths { widths ≡ Q.widths questions.now }
+    requires first_room { HasList widths.0 first.old number }
+    requires second_room { HasList widths.1 second.old number }
     ensures answered { IfOk result (λ found. cond found
         (Q.answered questions.now number (list_at widths.0 first.new number)
         (list_at widths.1 second.new number)) (Q.unanswered questions.now number)) }
-    ensures earlier_first { (k : ℕ) → k < number
+    ensures asked { OnOk result (Q.is_question questions.now number) }
+    ensures refused { IfErr result (λ told. (told ≡ Memory)
+        ⊎ ((told ≡ Q.fault questions.now) × ¬ Q.is_question questions.now number)) }
+    ensures first_kept { IfOk result (λ found. found ≡ false → first.new ≡ first.old) }
+    ensures second_kept { IfOk result (λ found. found ≡ false → second.new ≡ second.old) }
+    ensures other_first { (k : ℕ) → k ≢ number
         → list_at widths.0 first.new k ≡ list_at widths.0 first.old k }
-    ensures earlier_second { (k : ℕ) → k < number
+    ensures other_second { (k : ℕ) → k ≢ number
         → list_at widths.1 second.new k ≡ list_at widths.1 second.old k }
 {
     let found = questions.answer(alloc, number, answer)?;
     if found {
-        write_list(first, widths.0, number, &answer.chunk)?;
-        write_list(second, widths.1, number, &answer.element)?;
+        write_list(first, widths.0, number, &answer.chunk);
+        write_list(second, widths.1, number, &answer.element);
     }
     Ok(found)
 }

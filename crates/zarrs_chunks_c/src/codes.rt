@@ -1,4 +1,9 @@
 //! Why a call is refused, and the code of it.
+ghost use Rattle.std.specs.Prelude.{◌≡◌};
+ghost use Rattle.zarrs_chunk_base.specs.Refusal.{MatchRefusal};
+ghost use Rattle.zarrs_chunks_c.specs.Codes.{end_code, fault_code};
+ghost use Rattle.zarrs_chunks_c.specs.declared.codes.Fault.TheVariants.{Length, Memory};
+
 use std::alloc::{AllocError, AllocFailed};
 use zarrs_chunk_base::{IncompatibleDimensionalityError, Refusal};
 
@@ -25,7 +30,9 @@ pub(crate) enum Fault {
 
 impl Fault {
     /// The code of the fault.
-    fn code(&self) -> i32 {
+    fn code(&self) -> i32
+        ensures { result ≡ fault_code self.now }
+    {
         match self {
             Fault::Memory => -1,
             Fault::Length => -2,
@@ -40,7 +47,9 @@ impl Fault {
 }
 
 /// The code that a call ends with: 0, or that of its fault.
-pub(crate) fn code_of(ended: Result<(), Fault>) -> i32 {
+pub(crate) fn code_of(ended: Result<(), Fault>) -> i32
+    ensures { result ≡ end_code ended }
+{
     match ended {
         Ok(()) => 0,
         Err(fault) => fault.code(),
@@ -48,12 +57,16 @@ pub(crate) fn code_of(ended: Result<(), Fault>) -> i32 {
 }
 
 impl From<AllocError> for Fault {
+    ghost from_gives = { λ _ fault. fault ≡ Memory };
+
     fn from(_error: AllocError) -> Fault {
         Fault::Memory
     }
 }
 
 impl<T: Drop> From<AllocFailed<T>> for Fault {
+    ghost from_gives = { λ _ fault. fault ≡ Memory };
+
     fn from(_failed: AllocFailed<T>) -> Fault {
         Fault::Memory
     }
@@ -61,6 +74,8 @@ impl<T: Drop> From<AllocFailed<T>> for Fault {
 
 /// A look-up is refused for the length of its list alone.
 impl From<Refusal<IncompatibleDimensionalityError>> for Fault {
+    ghost from_gives = { λ refusal fault. MatchRefusal refusal (λ _. fault ≡ Length) (λ _. fault ≡ Memory) };
+
     fn from(refusal: Refusal<IncompatibleDimensionalityError>) -> Fault {
         match refusal {
             Refusal::Refused(_) => Fault::Length,

@@ -1,16 +1,13 @@
 //! The calls of a chunk grid.
-ghost use Rattle.std.specs.Prelude.{◌≡◌, ℕ, [], List, OnOk, length};
-ghost use Rattle.zarrs_chunk_base.specs.Dimension.{InBox, IsPlace, grid_sizes};
-ghost use Rattle.zarrs_chunk_base.specs.Grid.{Grid};
-ghost use Rattle.zarrs_chunks.specs.Subsets.{HasNoBox, HasNoHome, Spans};
-ghost use Rattle.zarrs_chunks_c.specs.Asked.{HasNoCover, IsCoverOf};
-ghost use Rattle.zarrs_chunks_c.specs.Batch.{AreAnswered, list_at};
-ghost use Rattle.zarrs_chunks_c.specs.Said.{SaysGrid};
+ghost use Rattle.std.specs.Prelude.{OnOk, length};
+ghost use Rattle.zarrs_chunks_c.specs.Batch.{AreKept};
+ghost use Rattle.zarrs_chunks_c.specs.Calls.{IsEndOf};
+ghost use Rattle.zarrs_chunks_c.specs.Codes.{Ends};
+ghost use Rattle.zarrs_chunks_c.specs.GridCalls.{chunk_boxes_call, chunk_indices_call, covers_call, grid_shape_call, homes_call};
 
 use crate::batch::answer_all;
 use crate::codes::{Fault, code_of};
-use crate::lists::check_length;
-use crate::metadata::grid_of;
+use crate::metadata::grid_of_batch;
 use crate::questions::{ChunkBoxes, Covers, FirstAlone, Homes};
 use std::alloc::Global;
 use zarrs_chunks::ChunkGridTraits;
@@ -22,7 +19,10 @@ pub extern "C" fn zarrs_grid_shape(
     shape: &[u64],
     chunk_grid: &[u8],
     grid_shape: &mut [u64],
-) -> i32 {
+) -> i32
+    ensures { Ends (IsEndOf (grid_shape_call
+        shape.now chunk_grid.now grid_shape.new)) result }
+{
     code_of(grid_shape_of(alloc, shape, chunk_grid, grid_shape))
 }
 
@@ -35,7 +35,12 @@ pub extern "C" fn zarrs_chunk_indices_of(
     indices: &[u64],
     chunks: &mut [u64],
     found: &mut [u8],
-) -> i32 {
+) -> i32
+    ensures ends { Ends (IsEndOf (chunk_indices_call
+        shape.now chunk_grid.now indices.now chunks.new found.new)) result }
+    ensures chunks_kept { Ends (λ end. OnOk end
+        (AreKept (length shape.now) chunks.old chunks.new found.new)) result }
+{
     code_of(chunk_indices_of(alloc, shape, chunk_grid, indices, chunks, found))
 }
 
@@ -49,7 +54,14 @@ pub extern "C" fn zarrs_homes_of(
     chunks: &mut [u64],
     places: &mut [u64],
     found: &mut [u8],
-) -> i32 {
+) -> i32
+    ensures ends { Ends (IsEndOf (homes_call
+        shape.now chunk_grid.now indices.now chunks.new places.new found.new)) result }
+    ensures chunks_kept { Ends (λ end. OnOk end
+        (AreKept (length shape.now) chunks.old chunks.new found.new)) result }
+    ensures places_kept { Ends (λ end. OnOk end
+        (AreKept (length shape.now) places.old places.new found.new)) result }
+{
     code_of(homes_of(alloc, shape, chunk_grid, indices, chunks, places, found))
 }
 
@@ -63,7 +75,14 @@ pub extern "C" fn zarrs_chunk_boxes_of(
     origins: &mut [u64],
     shapes: &mut [u64],
     found: &mut [u8],
-) -> i32 {
+) -> i32
+    ensures ends { Ends (IsEndOf (chunk_boxes_call
+        shape.now chunk_grid.now chunks.now origins.new shapes.new found.new)) result }
+    ensures origins_kept { Ends (λ end. OnOk end
+        (AreKept (length shape.now) origins.old origins.new found.new)) result }
+    ensures shapes_kept { Ends (λ end. OnOk end
+        (AreKept (length shape.now) shapes.old shapes.new found.new)) result }
+{
     code_of(chunk_boxes_of(alloc, shape, chunk_grid, chunks, origins, shapes, found))
 }
 
@@ -78,7 +97,15 @@ pub extern "C" fn zarrs_covers_of(
     first_chunks: &mut [u64],
     chunk_counts: &mut [u64],
     found: &mut [u8],
-) -> i32 {
+) -> i32
+    ensures ends { Ends (IsEndOf (covers_call
+        shape.now chunk_grid.now starts.now shapes.now
+        first_chunks.new chunk_counts.new found.new)) result }
+    ensures first_chunks_kept { Ends (λ end. OnOk end
+        (AreKept (length shape.now) first_chunks.old first_chunks.new found.new)) result }
+    ensures chunk_counts_kept { Ends (λ end. OnOk end
+        (AreKept (length shape.now) chunk_counts.old chunk_counts.new found.new)) result }
+{
     code_of(covers_of(
         alloc,
         shape,
@@ -94,29 +121,25 @@ pub extern "C" fn zarrs_covers_of(
 /// Writes the grid shape.
 ///
 /// # Errors
-/// The grid can't be made, or has another number of dimensions than there is room for; or out of memory.
+/// The first that applies: the grid can't be made; the grid shape has another length. Or out of memory.
 fn grid_shape_of(
     alloc: Global,
     shape: &[u64],
     chunk_grid: &[u8],
     grid_shape: &mut [u64],
 ) -> Result<(), Fault>
-    ensures { OnOk result ((grid : Grid) × SaysGrid chunk_grid.now shape.now grid
-        × (grid_shape.new ≡ grid_sizes grid.dimensions)) }
+    ensures { IsEndOf (grid_shape_call
+        shape.now chunk_grid.now grid_shape.new) result }
 {
-    let grid = grid_of(alloc, shape, chunk_grid)?;
-    let sizes = grid.grid_shape();
-    if sizes.len() != grid_shape.len() {
-        return Err(Fault::Length);
-    }
-    grid_shape.copy_from_slice(sizes);
+    let grid = grid_of_batch(alloc, shape, chunk_grid, 1, &[grid_shape.len()])?;
+    grid_shape.copy_from_slice(grid.grid_shape());
     Ok(())
 }
 
 /// Writes the chunk of each element.
 ///
 /// # Errors
-/// The grid can't be made, or the lengths don't fit; or out of memory.
+/// The first that applies: the grid can't be made; the lengths don't fit. Or out of memory.
 fn chunk_indices_of(
     alloc: Global,
     shape: &[u64],
@@ -125,35 +148,24 @@ fn chunk_indices_of(
     chunks: &mut [u64],
     found: &mut [u8],
 ) -> Result<(), Fault>
-    ensures { OnOk result ((grid : Grid) × SaysGrid chunk_grid.now shape.now grid
-        × AreAnswered
-        (λ k chunk _. InBox grid.dimensions chunk
-        (list_at (length grid.dimensions) indices.now k))
-        (λ k. HasNoHome grid.dimensions (list_at (length grid.dimensions) indices.now k))
-        (length grid.dimensions, 0) chunks.new [] found.new) }
+    ensures ends { IsEndOf (chunk_indices_call
+        shape.now chunk_grid.now indices.now chunks.new found.new) result }
+    ensures chunks_kept { OnOk result
+        (AreKept (length shape.now) chunks.old chunks.new found.new) }
 {
-    let grid = grid_of(alloc, shape, chunk_grid)?;
-    let width = grid.dimensionality();
-    check_length(indices.len(), width, found.len())?;
-    check_length(chunks.len(), width, found.len())?;
+    let totals = [indices.len(), chunks.len()];
+    let grid = grid_of_batch(alloc, shape, chunk_grid, found.len(), &totals)?;
     let homes = Homes {
         grid: &grid,
         indices,
     };
-    answer_all(
-        alloc,
-        &FirstAlone(homes),
-        (width, 0),
-        chunks,
-        &mut [],
-        found,
-    )
+    answer_all(alloc, &FirstAlone(homes), chunks, &mut [], found)
 }
 
 /// Writes the chunk of each element, and the element's place there.
 ///
 /// # Errors
-/// The grid can't be made, or the lengths don't fit; or out of memory.
+/// The first that applies: the grid can't be made; the lengths don't fit. Or out of memory.
 fn homes_of(
     alloc: Global,
     shape: &[u64],
@@ -163,32 +175,26 @@ fn homes_of(
     places: &mut [u64],
     found: &mut [u8],
 ) -> Result<(), Fault>
-    ensures { OnOk result ((grid : Grid) × SaysGrid chunk_grid.now shape.now grid
-        × AreAnswered
-        (λ k chunk place.
-        InBox grid.dimensions chunk (list_at (length grid.dimensions) indices.now k)
-        × IsPlace grid.dimensions chunk
-        (list_at (length grid.dimensions) indices.now k) place)
-        (λ k. HasNoHome grid.dimensions (list_at (length grid.dimensions) indices.now k))
-        (length grid.dimensions, length grid.dimensions)
-        chunks.new places.new found.new) }
+    ensures ends { IsEndOf (homes_call
+        shape.now chunk_grid.now indices.now chunks.new places.new found.new) result }
+    ensures chunks_kept { OnOk result
+        (AreKept (length shape.now) chunks.old chunks.new found.new) }
+    ensures places_kept { OnOk result
+        (AreKept (length shape.now) places.old places.new found.new) }
 {
-    let grid = grid_of(alloc, shape, chunk_grid)?;
-    let width = grid.dimensionality();
-    check_length(indices.len(), width, found.len())?;
-    check_length(chunks.len(), width, found.len())?;
-    check_length(places.len(), width, found.len())?;
+    let totals = [indices.len(), chunks.len(), places.len()];
+    let grid = grid_of_batch(alloc, shape, chunk_grid, found.len(), &totals)?;
     let homes = Homes {
         grid: &grid,
         indices,
     };
-    answer_all(alloc, &homes, (width, width), chunks, places, found)
+    answer_all(alloc, &homes, chunks, places, found)
 }
 
 /// Writes the box of each chunk.
 ///
 /// # Errors
-/// The grid can't be made, or the lengths don't fit; or out of memory.
+/// The first that applies: the grid can't be made; the lengths don't fit. Or out of memory.
 fn chunk_boxes_of(
     alloc: Global,
     shape: &[u64],
@@ -198,32 +204,26 @@ fn chunk_boxes_of(
     shapes: &mut [u64],
     found: &mut [u8],
 ) -> Result<(), Fault>
-    ensures { OnOk result ((grid : Grid) × SaysGrid chunk_grid.now shape.now grid
-        × AreAnswered
-        (λ k origin sizes. Spans grid.dimensions
-        (list_at (length grid.dimensions) chunks.now k)
-        (list_at (length grid.dimensions) chunks.now k)
-        (record { start = origin; shape = sizes }))
-        (λ k. HasNoBox grid.dimensions (list_at (length grid.dimensions) chunks.now k))
-        (length grid.dimensions, length grid.dimensions)
-        origins.new shapes.new found.new) }
+    ensures ends { IsEndOf (chunk_boxes_call
+        shape.now chunk_grid.now chunks.now origins.new shapes.new found.new) result }
+    ensures origins_kept { OnOk result
+        (AreKept (length shape.now) origins.old origins.new found.new) }
+    ensures shapes_kept { OnOk result
+        (AreKept (length shape.now) shapes.old shapes.new found.new) }
 {
-    let grid = grid_of(alloc, shape, chunk_grid)?;
-    let width = grid.dimensionality();
-    check_length(chunks.len(), width, found.len())?;
-    check_length(origins.len(), width, found.len())?;
-    check_length(shapes.len(), width, found.len())?;
+    let totals = [chunks.len(), origins.len(), shapes.len()];
+    let grid = grid_of_batch(alloc, shape, chunk_grid, found.len(), &totals)?;
     let boxes = ChunkBoxes {
         grid: &grid,
         chunks,
     };
-    answer_all(alloc, &boxes, (width, width), origins, shapes, found)
+    answer_all(alloc, &boxes, origins, shapes, found)
 }
 
 /// Writes the cover of each box of elements.
 ///
 /// # Errors
-/// The grid can't be made, or the lengths don't fit, or a box ends past 18446744073709551615; or out of memory.
+/// The first that applies: the grid can't be made; the lengths don't fit; a box ends past 18446744073709551615. Or out of memory.
 fn covers_of(
     alloc: Global,
     shape: &[u64],
@@ -234,39 +234,25 @@ fn covers_of(
     chunk_counts: &mut [u64],
     found: &mut [u8],
 ) -> Result<(), Fault>
-    ensures { OnOk result ((grid : Grid) × SaysGrid chunk_grid.now shape.now grid
-        × AreAnswered
-        (λ k first counts. IsCoverOf grid.dimensions
-        (record {
-          start = list_at (length grid.dimensions) starts.now k;
-          shape = list_at (length grid.dimensions) shapes.now k;
-        })
-        (record { start = first; shape = counts }))
-        (λ k. HasNoCover grid.dimensions
-        (record {
-          start = list_at (length grid.dimensions) starts.now k;
-          shape = list_at (length grid.dimensions) shapes.now k;
-        }))
-        (length grid.dimensions, length grid.dimensions)
-        first_chunks.new chunk_counts.new found.new) }
+    ensures ends { IsEndOf (covers_call
+        shape.now chunk_grid.now starts.now shapes.now
+        first_chunks.new chunk_counts.new found.new) result }
+    ensures first_chunks_kept { OnOk result
+        (AreKept (length shape.now) first_chunks.old first_chunks.new found.new) }
+    ensures chunk_counts_kept { OnOk result
+        (AreKept (length shape.now) chunk_counts.old chunk_counts.new found.new) }
 {
-    let grid = grid_of(alloc, shape, chunk_grid)?;
-    let width = grid.dimensionality();
-    check_length(starts.len(), width, found.len())?;
-    check_length(shapes.len(), width, found.len())?;
-    check_length(first_chunks.len(), width, found.len())?;
-    check_length(chunk_counts.len(), width, found.len())?;
+    let totals = [
+        starts.len(),
+        shapes.len(),
+        first_chunks.len(),
+        chunk_counts.len(),
+    ];
+    let grid = grid_of_batch(alloc, shape, chunk_grid, found.len(), &totals)?;
     let covers = Covers {
         grid: &grid,
         starts,
         shapes,
     };
-    answer_all(
-        alloc,
-        &covers,
-        (width, width),
-        first_chunks,
-        chunk_counts,
-        found,
-    )
+    answer_all(alloc, &covers, first_chunks, chunk_counts, found)
 }

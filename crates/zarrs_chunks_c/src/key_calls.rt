@@ -1,17 +1,17 @@
 //! The calls of a chunk key encoding.
-ghost use Rattle.std.specs.Prelude.{◌≡◌, ℕ, ◌-◌, [], IfOk, List, OnOk, length, string_bytes, take};
-ghost use Rattle.zarrs_chunk_keys.specs.ChunkKey.{Encoding, IsKey};
-ghost use Rattle.zarrs_chunks_c.specs.Asked.{IsChunkOf};
-ghost use Rattle.zarrs_chunks_c.specs.Batch.{AreAnswered, AreKeys, text_at};
-ghost use Rattle.zarrs_chunks_c.specs.Said.{SaysEncoding};
+ghost use Rattle.std.specs.Prelude.{◌≡◌, ◌+◌, ◌-◌, ◌*◌, IfOk, OnOk, length, string_bytes};
+ghost use Rattle.zarrs_chunks_c.specs.Batch.{AreKept, AreKeys};
+ghost use Rattle.zarrs_chunks_c.specs.Calls.{IsEndOf, IsKeptIfShort};
+ghost use Rattle.zarrs_chunks_c.specs.Codes.{Ends};
+ghost use Rattle.zarrs_chunks_c.specs.KeyCalls.{chunks_of_keys_call, keys_call};
 
 use crate::batch::answer_all;
 use crate::codes::{Fault, code_of};
 use crate::key_questions::ChunksOfKeys;
-use crate::lists::{check_length, list_of};
+use crate::lists::{count_of_texts, list_of};
 use crate::metadata::encoding_of;
 use crate::texts::write_text;
-use std::alloc::Global;
+use std::alloc::{AllocError, Global};
 use zarrs_chunk_keys::ChunkKeyEncodingTraits;
 
 /// The key of each chunk, one after another.
@@ -24,7 +24,11 @@ pub extern "C" fn zarrs_keys_of(
     text: &mut [u8],
     offsets: &mut [u64],
     needed: &mut usize,
-) -> i32 {
+) -> i32
+    ensures ends { Ends (IsEndOf (keys_call chunk_key_encoding.now dimensionality
+        chunks.now text.new offsets.new needed.new)) result }
+    ensures kept_if_short { Ends (IsKeptIfShort text.old text.new) result }
+{
     code_of(keys_of(
         alloc,
         chunk_key_encoding,
@@ -46,7 +50,12 @@ pub extern "C" fn zarrs_chunks_of_keys(
     offsets: &[u64],
     chunks: &mut [u64],
     found: &mut [u8],
-) -> i32 {
+) -> i32
+    ensures ends { Ends (IsEndOf (chunks_of_keys_call chunk_key_encoding.now dimensionality
+        text.now offsets.now chunks.new found.new)) result }
+    ensures chunks_kept { Ends (λ end. OnOk end
+        (AreKept dimensionality chunks.old chunks.new found.new)) result }
+{
     code_of(chunks_of_keys(
         alloc,
         chunk_key_encoding,
@@ -61,7 +70,7 @@ pub extern "C" fn zarrs_chunks_of_keys(
 /// Writes the key of each chunk, one after another, where each begins, and how long they are together, even where the buffer is shorter.
 ///
 /// # Errors
-/// The encoding can't be made, or the lengths don't fit, or the keys are longer than their buffer; or out of memory.
+/// The first that applies: the encoding can't be made; the lengths don't fit; the keys are longer than their buffer. Or out of memory.
 fn keys_of(
     alloc: Global,
     chunk_key_encoding: &[u8],
@@ -71,39 +80,37 @@ fn keys_of(
     offsets: &mut [u64],
     needed: &mut usize,
 ) -> Result<(), Fault>
-    ensures { OnOk result ((encoding : Encoding)
-        × SaysEncoding chunk_key_encoding.now encoding
-        × AreKeys (IsKey encoding) dimensionality (length offsets.new - 1) chunks.now
-        (take needed.new text.new) offsets.new) }
+    ensures ends { IsEndOf (keys_call chunk_key_encoding.now dimensionality
+        chunks.now text.new offsets.new needed.new) result }
+    ensures kept_if_short { IsKeptIfShort text.old text.new result }
 {
     let encoding = encoding_of(alloc, chunk_key_encoding)?;
-    let keys = append_keys(alloc, &encoding, dimensionality, chunks, offsets)?;
+    let count = count_of_texts(offsets.len(), &[chunks.len()], dimensionality)?;
+    let keys = append_keys(alloc, &encoding, dimensionality, count, chunks, offsets)?;
     write_text(keys.as_bytes(), text, needed)
 }
 
-/// The key of each chunk, one after another. Where each begins, and at last where the last one ends, is written as offsets in bytes.
+/// The keys of so many chunks, one after another. Where each begins, and at last where the last one ends, is written as offsets in bytes.
 ///
 /// # Errors
-/// The lengths don't fit; or out of memory.
+/// Out of memory.
 fn append_keys<E: ChunkKeyEncodingTraits>(
     alloc: Global,
     encoding: &E,
     dimensionality: usize,
+    count: usize,
     chunks: &[u64],
     offsets: &mut [u64],
-) -> Result<String, Fault>
+) -> Result<String, AllocError>
+    requires chunks { length chunks.now ≡ dimensionality * count }
+    requires offsets { length offsets.old ≡ count + 1 }
     ensures { IfOk result (λ keys. AreKeys (E.is_key encoding.now) dimensionality
         (length offsets.new - 1) chunks.now (string_bytes keys) offsets.new) }
 {
-    let Some(count) = offsets.len().checked_sub(1) else {
-        return Err(Fault::Length);
-    };
-    check_length(chunks.len(), dimensionality, count)?;
     let mut keys = String::new(alloc);
     offsets[0] = 0;
     for number in 0..count {
-        let chunk = list_of(chunks, dimensionality, number)?;
-        encoding.append_key(&mut keys, chunk)?;
+        encoding.append_key(&mut keys, list_of(chunks, dimensionality, number))?;
         offsets[number + 1] = byte_length(keys.as_str());
     }
     Ok(keys)
@@ -119,7 +126,7 @@ pub(crate) fn byte_length(text: &str) -> u64
 /// Writes the chunk of each key.
 ///
 /// # Errors
-/// The encoding can't be made, or the lengths don't fit, or the offsets descend or lie past the text; or out of memory.
+/// The first that applies: the encoding can't be made; the lengths don't fit; the offsets descend or lie past the text. Or out of memory.
 fn chunks_of_keys(
     alloc: Global,
     chunk_key_encoding: &[u8],
@@ -129,17 +136,14 @@ fn chunks_of_keys(
     chunks: &mut [u64],
     found: &mut [u8],
 ) -> Result<(), Fault>
-    ensures { OnOk result ((encoding : Encoding)
-        × SaysEncoding chunk_key_encoding.now encoding × AreAnswered
-        (λ k chunk _. IsChunkOf (IsKey encoding) dimensionality
-        (text_at text.now offsets.now k) chunk)
-        (λ k. (chunk : List ℕ)
-        → ¬ IsChunkOf (IsKey encoding) dimensionality (text_at text.now offsets.now k) chunk)
-        (dimensionality, 0) chunks.new [] found.new) }
+    ensures ends { IsEndOf (chunks_of_keys_call chunk_key_encoding.now dimensionality
+        text.now offsets.now chunks.new found.new) result }
+    ensures chunks_kept { OnOk result
+        (AreKept dimensionality chunks.old chunks.new found.new) }
 {
     let encoding = encoding_of(alloc, chunk_key_encoding)?;
-    check_length(chunks.len(), dimensionality, found.len())?;
-    if offsets.len().checked_sub(1) != Some(found.len()) {
+    let count = count_of_texts(offsets.len(), &[chunks.len()], dimensionality)?;
+    if count != found.len() {
         return Err(Fault::Length);
     }
     let keys = ChunksOfKeys {
@@ -148,5 +152,5 @@ fn chunks_of_keys(
         text,
         offsets,
     };
-    answer_all(alloc, &keys, (dimensionality, 0), chunks, &mut [], found)
+    answer_all(alloc, &keys, chunks, &mut [], found)
 }

@@ -1,11 +1,12 @@
 //! What is asked of a chunk key encoding, key by key.
-ghost use Rattle.std.specs.Prelude.{◌≡◌, ℕ, IfOk, List, MatchOption};
+ghost use Rattle.std.specs.Prelude.{ℕ, ◌+◌, ◌<◌, IfOk, List, MatchOption, length};
 ghost use Rattle.zarrs_chunks_c.specs.Asked.{IsChunkOf};
-ghost use Rattle.zarrs_chunks_c.specs.Batch.{text_at};
+ghost use Rattle.zarrs_chunks_c.specs.Batch.{HasText, text_at};
+ghost use Rattle.zarrs_chunks_c.specs.declared.codes.Fault.TheVariants.{Offsets};
 
 use crate::batch::Questions;
 use crate::codes::Fault;
-use crate::texts::part_of;
+use crate::texts::text_of;
 use std::alloc::{AllocError, Global};
 use zarrs_chunk_base::{ArrayIndices, StoreKey};
 use zarrs_chunk_keys::ChunkKeyEncodingTraits;
@@ -23,14 +24,26 @@ pub(crate) struct ChunksOfKeys<'a, E> {
 }
 
 impl<E: ChunkKeyEncodingTraits> Questions for ChunksOfKeys<'_, E> {
+    ghost widths = { λ keys. (keys.dimensionality, 0) };
+
+    ghost given = { λ keys number. number + 1 < length keys.offsets.now };
+
+    ghost is_question = { λ keys number. HasText keys.text.now keys.offsets.now number };
+
+    ghost fault = { λ _. Offsets };
+
     ghost answered = { λ keys number chunk _. IsChunkOf (E.is_key keys.encoding.now) keys.dimensionality
         (text_at keys.text.now keys.offsets.now number) chunk };
 
     ghost unanswered = { λ keys number. (chunk : List ℕ) → ¬ IsChunkOf (E.is_key keys.encoding.now) keys.dimensionality
         (text_at keys.text.now keys.offsets.now number) chunk };
 
+    fn widths(&self) -> (usize, usize) {
+        (self.dimensionality, 0)
+    }
+
     fn answer(&self, alloc: Global, number: usize, answer: &mut Home) -> Result<bool, Fault> {
-        let key = key_at(self.text, self.offsets, number)?;
+        let key = text_of(self.text, self.offsets, number)?;
         let Some(chunk) = chunk_of_key(alloc, self.encoding, self.dimensionality, key)? else {
             return Ok(false);
         };
@@ -38,19 +51,6 @@ impl<E: ChunkKeyEncodingTraits> Questions for ChunksOfKeys<'_, E> {
         answer.element.clear();
         Ok(true)
     }
-}
-
-/// The key with this number, counted from 0.
-///
-/// # Errors
-/// There are not so many, or its offsets descend or lie past the text.
-fn key_at<'t>(text: &'t [u8], offsets: &[u64], number: usize) -> Result<&'t [u8], Fault>
-    ensures { IfOk result (λ key. key.now ≡ text_at text.now offsets.now number) }
-{
-    if number >= offsets.len() || offsets.len() - number < 2 {
-        return Err(Fault::Length);
-    }
-    part_of(text, offsets[number], offsets[number + 1])
 }
 
 /// The chunk with this many numbers whose key some bytes are; `None` if there is none. Bytes that are no store key are the key of none.

@@ -1,68 +1,68 @@
 //! Lists of one length, one after another.
-ghost use Rattle.std.specs.Prelude.{◌≡◌, ℕ, ◌+◌, ◌*◌, ◌<◌, ◌≤◌, IfOk, OnOk, length};
-ghost use Rattle.zarrs_chunks_c.specs.Batch.{list_at};
+ghost use Rattle.std.specs.Prelude.{◌≡◌, ◌≢◌, ℕ, ◌*◌, ◌↔◌, IsTrue, MatchResult, length};
+ghost use Rattle.zarrs_chunks_c.specs.Batch.{AreLengths, list_at};
+ghost use Rattle.zarrs_chunks_c.specs.KeyCalls.{AreTextLengths};
+ghost use Rattle.zarrs_chunks_c.specs.declared.codes.Fault.TheVariants.{Length};
+ghost use Rattle.zarrs_chunks_c.specs.seen.Lists.{HasList};
 
 use crate::codes::Fault;
 
-/// Sees that an array has exactly so many numbers as this many lists of this length have.
+/// Sees that each of some arrays has exactly so many numbers as this many lists of this length have.
 ///
 /// # Errors
-/// It has more or fewer.
-pub(crate) fn check_length(total: usize, width: usize, count: usize) -> Result<(), Fault> {
-    if width.checked_mul(count) == Some(total) {
-        Ok(())
-    } else {
-        Err(Fault::Length)
-    }
-}
-
-/// The list with this number, counted from 0.
-///
-/// # Errors
-/// There are not so many lists.
-pub(crate) fn list_of(numbers: &[u64], width: usize, number: usize) -> Result<&[u64], Fault>
-    ensures { IfOk result (λ list. list.now ≡ list_at width numbers.now number) }
+/// One has more or fewer.
+pub(crate) fn check_lengths(totals: &[usize], width: usize, count: usize) -> Result<(), Fault>
+    ensures { MatchResult result (λ _. AreLengths width count totals.now)
+        (λ fault. (fault ≡ Length) × ¬ AreLengths width count totals.now) }
 {
-    let (start, end) = range_of(numbers.len(), width, number)?;
-    Ok(&numbers[start..end])
-}
-
-/// Writes the list with this number.
-///
-/// # Errors
-/// There are not so many lists, or they have another length.
-pub(crate) fn write_list(
-    numbers: &mut [u64],
-    width: usize,
-    number: usize,
-    list: &[u64],
-) -> Result<(), Fault>
-    ensures written { OnOk result (list_at width numbers.new number ≡ list.now) }
-    ensures others { (other : ℕ) → other < number
-        → list_at width numbers.new other ≡ list_at width numbers.old other }
-    ensures length { length numbers.new ≡ length numbers.old }
-{
-    if list.len() != width {
-        return Err(Fault::Length);
+    for total in totals {
+        if !is_length(*total, width, count) {
+            return Err(Fault::Length);
+        }
     }
-    let (start, end) = range_of(numbers.len(), width, number)?;
-    numbers[start..end].copy_from_slice(list);
     Ok(())
 }
 
-/// Where the list with this number starts and ends.
+/// How many texts there are offsets for, which are one more, where each of some arrays has exactly as many numbers as so many lists have.
 ///
 /// # Errors
-/// It ends past the last number.
-fn range_of(total: usize, width: usize, number: usize) -> Result<(usize, usize), Fault>
-    ensures start { IfOk result (λ range. range.0 ≡ number * width) }
-    ensures end { IfOk result (λ range. range.1 ≡ range.0 + width) }
-    ensures within { IfOk result (λ range. range.1 ≤ total) }
+/// There is no offset, or an array has more numbers or fewer.
+pub(crate) fn count_of_texts(offsets: usize, totals: &[usize], width: usize) -> Result<usize, Fault>
+    ensures { MatchResult result (AreTextLengths width offsets totals.now)
+        (λ fault. (fault ≡ Length) × ¬ ((count : ℕ)
+        × AreTextLengths width offsets totals.now count)) }
 {
-    let start = number.checked_mul(width).ok_or(Fault::Length)?;
-    let end = start.checked_add(width).ok_or(Fault::Length)?;
-    if end > total {
+    let Some(count) = offsets.checked_sub(1) else {
         return Err(Fault::Length);
-    }
-    Ok((start, end))
+    };
+    check_lengths(totals, width, count)?;
+    Ok(count)
+}
+
+/// Whether so many numbers are as many as this many lists of this length have.
+fn is_length(total: usize, width: usize, count: usize) -> bool
+    ensures { IsTrue result ↔ (total ≡ width * count) }
+{
+    width.checked_mul(count) == Some(total)
+}
+
+/// The list with this number, counted from 0.
+pub(crate) fn list_of(numbers: &[u64], width: usize, number: usize) -> &[u64]
+    requires { HasList width numbers.now number }
+    ensures { result.now ≡ list_at width numbers.now number }
+{
+    let start = number * width;
+    &numbers[start..start + width]
+}
+
+/// Writes the list with this number.
+pub(crate) fn write_list(numbers: &mut [u64], width: usize, number: usize, list: &[u64])
+    requires room { HasList width numbers.old number }
+    requires long { length list.now ≡ width }
+    ensures written { list_at width numbers.new number ≡ list.now }
+    ensures others { (other : ℕ) → other ≢ number
+        → list_at width numbers.new other ≡ list_at width numbers.old other }
+{
+    let start = number * width;
+    numbers[start..start + width].copy_from_slice(list);
 }

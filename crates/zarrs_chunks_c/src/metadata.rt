@@ -1,23 +1,56 @@
 //! The grid and the encoding that metadata says, which is given as text.
-ghost use Rattle.std.specs.Prelude.{IfOk};
+ghost use Rattle.std.specs.Prelude.{◌≡◌, ◌⊎◌, IfErr, IfOk, MatchResult, length};
 ghost use Rattle.zarrs_chunk_base.specs.Metadata.{extension_of};
 ghost use Rattle.zarrs_chunk_keys.specs.seen.Encodings.{encoding_in};
 ghost use Rattle.zarrs_chunks.specs.seen.Grids.{grid_in};
-ghost use Rattle.zarrs_chunks_c.specs.Said.{SaysEncoding, SaysExtension, SaysGrid};
+ghost use Rattle.zarrs_chunks_c.specs.Batch.{AreLengths};
+ghost use Rattle.zarrs_chunks_c.specs.Calls.{IsEarlyFault};
+ghost use Rattle.zarrs_chunks_c.specs.Said.{IsNoEncoding, IsNoGrid, SaysEncoding, SaysExtension, SaysGrid, IsTextFault};
+ghost use Rattle.zarrs_chunks_c.specs.declared.codes.Fault.TheVariants.{Memory};
 
 use crate::codes::Fault;
+use crate::lists::check_lengths;
 use serde_json::Value;
 use std::alloc::Global;
 use zarrs_chunk_base::{MetadataV3, Refusal};
 use zarrs_chunk_keys::ChunkKeyEncoding;
-use zarrs_chunks::ChunkGrid;
+use zarrs_chunks::{ChunkGrid, ChunkGridTraits};
+
+/// The grid that metadata says, of an array of this shape, where arrays with so many numbers each have this many lists of a number for each
+/// dimension.
+///
+/// # Errors
+/// The first that applies: the text isn't JSON, or no extension's metadata, or the grid can't be made; an array is longer or shorter. Or out of
+/// memory.
+pub(crate) fn grid_of_batch(
+    alloc: Global,
+    shape: &[u64],
+    chunk_grid: &[u8],
+    count: usize,
+    totals: &[usize],
+) -> Result<ChunkGrid, Fault>
+    ensures says { IfOk result (λ grid. SaysGrid chunk_grid.now shape.now (grid_in grid)) }
+    ensures fits { IfOk result (λ grid. AreLengths (length (grid_in grid).dimensions) count
+        totals.now) }
+    ensures width { IfOk result (λ grid. length (grid_in grid).dimensions ≡ length shape.now) }
+    ensures refused { IfErr result (λ fault. (fault ≡ Memory) ⊎
+        IsEarlyFault (IsNoGrid chunk_grid.now shape.now) (SaysGrid chunk_grid.now shape.now)
+        (λ grid. AreLengths (length grid.dimensions) count totals.now) fault) }
+{
+    let grid = grid_of(alloc, shape, chunk_grid)?;
+    check_lengths(totals, grid.dimensionality(), count)?;
+    Ok(grid)
+}
 
 /// The grid that metadata says, of an array of this shape.
 ///
 /// # Errors
 /// The text isn't JSON, or no extension's metadata, or the grid can't be made; or out of memory.
 pub(crate) fn grid_of(alloc: Global, shape: &[u64], chunk_grid: &[u8]) -> Result<ChunkGrid, Fault>
-    ensures { IfOk result (λ grid. SaysGrid chunk_grid.now shape.now (grid_in grid)) }
+    ensures width { IfOk result (λ grid. length (grid_in grid).dimensions ≡ length shape.now) }
+    ensures made { MatchResult result
+        (λ grid. SaysGrid chunk_grid.now shape.now (grid_in grid))
+        (λ fault. (fault ≡ Memory) ⊎ IsNoGrid chunk_grid.now shape.now fault) }
 {
     let metadata = read_metadata(alloc, chunk_grid)?;
     match ChunkGrid::from_metadata(alloc, &metadata, shape) {
@@ -35,8 +68,9 @@ pub(crate) fn encoding_of(
     alloc: Global,
     chunk_key_encoding: &[u8],
 ) -> Result<ChunkKeyEncoding, Fault>
-    ensures { IfOk result (λ encoding. SaysEncoding chunk_key_encoding.now
-        (encoding_in encoding)) }
+    ensures { MatchResult result
+        (λ encoding. SaysEncoding chunk_key_encoding.now (encoding_in encoding))
+        (λ fault. (fault ≡ Memory) ⊎ IsNoEncoding chunk_key_encoding.now fault) }
 {
     let metadata = read_metadata(alloc, chunk_key_encoding)?;
     match ChunkKeyEncoding::from_metadata(alloc, &metadata) {
@@ -51,7 +85,8 @@ pub(crate) fn encoding_of(
 /// # Errors
 /// The text isn't JSON, or no extension's metadata; or out of memory.
 fn read_metadata(alloc: Global, text: &[u8]) -> Result<MetadataV3, Fault>
-    ensures { IfOk result (λ metadata. SaysExtension text.now (extension_of metadata)) }
+    ensures { MatchResult result (λ metadata. SaysExtension text.now (extension_of metadata))
+        (λ fault. (fault ≡ Memory) ⊎ IsTextFault text.now fault) }
 {
     let tree = match Value::from_slice(alloc, text) {
         Ok(tree) => tree,

@@ -1,14 +1,16 @@
 //! Parts of a plan that are written one after another.
-ghost use Rattle.std.specs.Prelude.{◌≡◌, ℕ, ◌-◌, ◌<◌, IfOk, MatchOption, OnOk, length, string_bytes};
+ghost use Rattle.std.specs.Prelude.{◌≡◌, ℕ, ◌<◌, ◌≤◌, IfErr, IfOk, MatchOption, length, string_bytes};
+ghost use Rattle.std.specs.List.{AllByRecursion};
 ghost use Rattle.zarrs_chunk_plan.specs.declared.part.Part.{Part};
 ghost use Rattle.zarrs_chunks_c.specs.Asked.{HasNoCover};
 ghost use Rattle.zarrs_chunks_c.specs.Batch.{AreTexts};
-ghost use Rattle.zarrs_chunks_c.specs.seen.Parts.{AreFoundParts, AreWrittenBelow, IsKeyOf, IsWritten};
+ghost use Rattle.zarrs_chunks_c.specs.declared.codes.Fault.TheVariants.{Memory};
+ghost use Rattle.zarrs_chunks_c.specs.seen.Parts.{AreFoundParts, AreWrittenBelow, HasLists, IsKeyOf, IsLongPart, IsWritten};
 
 use crate::codes::Fault;
 use crate::key_calls::byte_length;
 use crate::lists::write_list;
-use std::alloc::Global;
+use std::alloc::{AllocError, Global};
 use zarrs_chunk_base::ArraySubset;
 use zarrs_chunk_keys::ChunkKeyEncodingTraits;
 use zarrs_chunk_plan::{Part, SomeParts, some_parts};
@@ -17,7 +19,7 @@ use zarrs_chunks::ChunkGridTraits;
 /// Parts of the plan of reading a box of elements, from the one with the number `first` on, at most so many; `None` where the box has no cover.
 ///
 /// # Errors
-/// The box has another number of dimensions than the grid; or out of memory.
+/// Out of memory.
 pub(crate) fn find_parts<G: ChunkGridTraits, E: ChunkKeyEncodingTraits>(
     alloc: Global,
     grid: &G,
@@ -26,29 +28,22 @@ pub(crate) fn find_parts<G: ChunkGridTraits, E: ChunkKeyEncodingTraits>(
     first: u64,
     most: usize,
 ) -> Result<Option<SomeParts>, Fault>
-    ensures { IfOk result (λ found. MatchOption found
+    requires { length elements.now.start ≡ length (G.dimensions grid.now) }
+    ensures found { IfOk result (λ found. MatchOption found
         (HasNoCover (G.dimensions grid.now) elements.now)
         (AreFoundParts (G.dimensions grid.now) (E.is_key encoding.now) elements.now first most)) }
+    ensures few { IfOk result (λ found. MatchOption found (Unit {0})
+        (λ some. length some.parts.items ≤ most)) }
+    ensures long { IfOk result (λ found. MatchOption found (Unit {0})
+        (λ some. AllByRecursion (IsLongPart (length (G.dimensions grid.now))) some.parts.items)) }
+    ensures refused { IfErr result (λ fault. fault ≡ Memory) }
 {
     // The start tells that the box is one.
     let _start = elements.start();
     Ok(some_parts(alloc, grid, encoding, elements, first, most)?)
 }
 
-/// How many parts there are offsets for, which are one more.
-///
-/// # Errors
-/// There is no offset.
-pub(crate) fn room_for_parts(offsets: &[u64]) -> Result<usize, Fault>
-    ensures { IfOk result (λ room. room ≡ length offsets.now - 1) }
-{
-    offsets.len().checked_sub(1).ok_or(Fault::Length)
-}
-
 /// Writes of each part where it lies: the chunk's numbers, where the part begins in the chunk and in the box that is read, and its shape.
-///
-/// # Errors
-/// There is no room for so many, or the lists have another length.
 pub(crate) fn write_parts(
     parts: &[Part],
     width: usize,
@@ -56,20 +51,19 @@ pub(crate) fn write_parts(
     in_chunk: &mut [u64],
     in_subset: &mut [u64],
     shapes: &mut [u64],
-) -> Result<(), Fault>
-    ensures { OnOk result (AreWrittenBelow (length parts.now) width parts.now
-        chunks.new in_chunk.new in_subset.new shapes.new) }
+)
+    requires room { (k : ℕ) → k < length parts.now
+        → HasLists width chunks.old in_chunk.old in_subset.old shapes.old k }
+    requires long { AllByRecursion (IsLongPart width) parts.now }
+    ensures { AreWrittenBelow (length parts.now) width parts.now
+        chunks.new in_chunk.new in_subset.new shapes.new }
 {
     for (number, part) in parts.iter().enumerate() {
-        write_part(part, width, number, chunks, in_chunk, in_subset, shapes)?;
+        write_part(part, width, number, chunks, in_chunk, in_subset, shapes);
     }
-    Ok(())
 }
 
 /// Writes where a part lies, behind the parts with a smaller number.
-///
-/// # Errors
-/// There is no room for it, or the lists have another length.
 fn write_part(
     part: &Part,
     width: usize,
@@ -78,31 +72,34 @@ fn write_part(
     in_chunk: &mut [u64],
     in_subset: &mut [u64],
     shapes: &mut [u64],
-) -> Result<(), Fault>
-    ensures written { OnOk result (IsWritten width part.now
-        chunks.new in_chunk.new in_subset.new shapes.new number) }
-    ensures earlier { OnOk result ((k : ℕ) → k < number → (p : Part)
+)
+    requires room { HasLists width chunks.old in_chunk.old in_subset.old shapes.old number }
+    requires long { IsLongPart width part.now }
+    ensures written { IsWritten width part.now
+        chunks.new in_chunk.new in_subset.new shapes.new number }
+    ensures earlier { (k : ℕ) → k < number → (p : Part)
         → IsWritten width p chunks.old in_chunk.old in_subset.old shapes.old k
-        → IsWritten width p chunks.new in_chunk.new in_subset.new shapes.new k) }
+        → IsWritten width p chunks.new in_chunk.new in_subset.new shapes.new k }
 {
-    write_list(chunks, width, number, part.chunk.as_slice())?;
-    write_list(in_chunk, width, number, part.in_chunk.start())?;
-    write_list(in_subset, width, number, part.in_subset.start())?;
-    write_list(shapes, width, number, part.in_chunk.shape())?;
-    Ok(())
+    write_list(chunks, width, number, part.chunk.as_slice());
+    write_list(in_chunk, width, number, part.in_chunk.start());
+    write_list(in_subset, width, number, part.in_subset.start());
+    write_list(shapes, width, number, part.in_chunk.shape());
 }
 
 /// The keys of parts, one after another. Where each begins, and at last where the last one ends, is written as offsets in bytes.
 ///
 /// # Errors
-/// There are fewer offsets than these; or out of memory.
-pub(crate) fn join_keys(alloc: Global, parts: &[Part], offsets: &mut [u64]) -> Result<String, Fault>
+/// Out of memory.
+pub(crate) fn join_keys(
+    alloc: Global,
+    parts: &[Part],
+    offsets: &mut [u64],
+) -> Result<String, AllocError>
+    requires { length parts.now < length offsets.old }
     ensures { IfOk result (λ keys. AreTexts (IsKeyOf parts.now) (length parts.now)
         (string_bytes keys) offsets.new) }
 {
-    if offsets.len() <= parts.len() {
-        return Err(Fault::Length);
-    }
     let mut keys = String::new(alloc);
     offsets[0] = 0;
     for (number, part) in parts.iter().enumerate() {

@@ -1,25 +1,21 @@
-use Rattle.std.proofs.Common.{length, subst}
-use Rattle.std.proofs.lemmas.Result.{on_ok_weaker}
+use Rattle.std.proofs.Common.{inl, inr, ⊎_elim}
+use Rattle.std.proofs.lemmas.Result.{err_from_is_err_and}
 use Rattle.zarrs_chunks.specs.seen.Grids.{grid_in}
-use Rattle.zarrs_chunks_c.specs.Asked.{HasNoCover, IsCoverOf}
-use Rattle.zarrs_chunks_c.specs.Batch.{AreAnswered, list_at}
+use Rattle.zarrs_chunks_c.specs.Calls.{early}
+use Rattle.zarrs_chunks_c.specs.GridCalls.{covers_call}
+use Rattle.zarrs_chunks_c.proofs.Ends.{both, ends_late}
 use Rattle.zarrs_chunks_c.proofs.grid_calls.covers_of.Goals as goal
 
-pub returns : goal.returns
-returns c =
+pub returns-in_err-grid-clause-ends : goal.returns-in_err-grid-clause-ends
+returns-in_err-grid-clause-ends c =
+    let p = err_from_is_err_and c.from_residual.result c.from_residual.ensures.1 in
+    rw (p.1, p.2) (⊎_elim (λ memory. inl memory) (λ is. inr (early is)) c.in_err-grid.ensures.refused)
+
+pub returns-clause-ends : goal.returns-clause-ends
+returns-clause-ends c =
     let grid = grid_in c.in_ok-grid.grid in
-    let ds = grid.dimensions in
-    let written = c.answer_all.new in
-    on_ok_weaker c.answer_all.result
-    (λ answered. (
-      grid,
-      c.in_ok-grid.ensures,
-      subst
-          (λ width. AreAnswered
-          (λ k first counts. IsCoverOf ds (record { start = list_at (length ds) c.args.starts.now k; shape = list_at (length ds) c.args.shapes.now k })
-          (record { start = first; shape = counts }))
-          (λ k. HasNoCover ds (record { start = list_at (length ds) c.args.starts.now k; shape = list_at (length ds) c.args.shapes.now k }))
-          (width, width) written.first written.second written.found)
-          c.dimensionality-width.ensures answered,
-    ))
-    c.answer_all.ensures
+    let wrote = c.answer_all.new in
+    let same = c.answer_all.auto in
+    ends_late (covers_call c.args.shape.now c.args.chunk_grid.now c.args.starts.now c.args.shapes.now wrote.first wrote.second wrote.found) grid
+    c.answer_all.result c.in_ok-grid.ensures.says (rw (same.first, same.second, same.found) c.in_ok-grid.ensures.fits)
+    (both c.answer_all.result _ _ c.answer_all.ensures.asked c.answer_all.ensures.answered) c.answer_all.ensures.refused

@@ -1,25 +1,34 @@
-use Rattle.std.proofs.Common.{◌≡◌, ◌-◌, length, string_bytes, sym, subst, take}
-use Rattle.std.proofs.lemmas.Result.{on_ok_weaker}
+use Rattle.std.proofs.Common.{◌-◌, ℕ, List, inl, inr, length, ⊎_elim, subst, sym}
+use Rattle.std.proofs.lemmas.Result.{err_from_is_err_and}
 use Rattle.zarrs_chunk_keys.specs.ChunkKey.{IsKey}
 use Rattle.zarrs_chunk_keys.specs.seen.Encodings.{encoding_in}
 use Rattle.zarrs_chunks_c.specs.Batch.{AreKeys}
+use Rattle.zarrs_chunks_c.specs.Calls.{early, no_metadata, wrong_length}
+use Rattle.zarrs_chunks_c.specs.KeyCalls.{keys_call}
+use Rattle.zarrs_chunks_c.proofs.Ends.{ends_late, is_too_long, is_whole}
 use Rattle.zarrs_chunks_c.proofs.key_calls.keys_of.Goals as goal
 
-pub returns : goal.returns
-returns c =
+pub returns-in_err-encoding-clause-ends : goal.returns-in_err-encoding-clause-ends
+returns-in_err-encoding-clause-ends c =
+    let p = err_from_is_err_and c.from_residual.result c.from_residual.ensures.1 in
+    rw (p.1, p.2) (⊎_elim (λ memory. inl memory) (λ is. inr (early (no_metadata is))) c.in_err-encoding.ensures)
+
+pub returns-in_err-count-clause-ends : goal.returns-in_err-count-clause-ends
+returns-in_err-count-clause-ends c =
+    let p = err_from_is_err_and c.from_residual-in_err-count.result c.from_residual-in_err-count.ensures.1 in
+    let (is_length, differ) = c.in_err-count.ensures in
+    rw (p.1, p.2) (inr (early (wrong_length (encoding_in c.in_ok-encoding.encoding) c.in_ok-encoding.ensures differ is_length)))
+
+pub returns-clause-ends : goal.returns-clause-ends
+returns-clause-ends c =
     let encoding = encoding_in c.in_ok-encoding.encoding in
-    let keys = string_bytes c.in_ok-keys.keys in
-    let told = c.write_text.new in
-    let bytes = c.as_bytes.ensures.value in
-    let long = subst (λ text. told.needed ≡ length text) bytes c.write_text.ensures.told in
-    on_ok_weaker c.write_text.result
-    (λ written.
-    let is : take (length keys) told.buffer ≡ keys = subst (λ text. take (length text) told.buffer ≡ text) bytes written in
-    let whole : take told.needed told.buffer ≡ keys = subst (λ n. take n told.buffer ≡ keys) (sym long) is in (
-      encoding,
-      c.in_ok-encoding.ensures,
-      subst
-          (λ text. AreKeys (IsKey encoding) c.args.dimensionality (length c.append_keys.new.offsets - 1) c.args.chunks.now text c.append_keys.new.offsets)
-          (sym whole) c.in_ok-keys.ensures,
-    ))
-    c.write_text.ensures.written
+    let offsets = c.append_keys.new.offsets in
+    let text = c.as_bytes.result.now in
+    let wrote = c.write_text.new in
+    let told = c.write_text.ensures in
+    let AreTheKeys = λ (keys : List ℕ). AreKeys (IsKey encoding) c.args.dimensionality (length offsets - 1) c.args.chunks.now keys offsets in
+    let are_keys = subst AreTheKeys (sym c.as_bytes.ensures.value) c.in_ok-keys.ensures in
+    ends_late (keys_call c.args.chunk_key_encoding.now c.args.dimensionality c.args.chunks.now wrote.buffer offsets wrote.needed) encoding c.write_text.result
+    c.in_ok-encoding.ensures (c.in_ok-count.count, rw c.append_keys.auto.offsets c.in_ok-count.ensures)
+    (is_whole AreTheKeys text wrote.buffer wrote.needed told.told are_keys c.write_text.result told.fits told.written)
+    (is_too_long AreTheKeys text wrote.buffer wrote.needed told.told are_keys c.write_text.result told.short)

@@ -1,14 +1,8 @@
-use Rattle.std.proofs.Common.{arith}
 use Rattle.zarrs_chunks_c.proofs.Planned.{written_more}
 use Rattle.zarrs_chunks_c.proofs.parts.write_parts.Goals as goal
 
 pub loop-number-preserved : goal.loop-number-preserved
 loop-number-preserved c =
-    let wrote = c.in_ok-write_part.ensures in
+    let wrote = c.write_part.ensures in
     written_more c.args.width c.loop-number.number c.args.parts.now c.index-parts-number.result _ _ _ _ _ _ _ _ c.loop-number.invariant c.index-parts-number.is
     wrote.written wrote.earlier
-
-pub returns : goal.returns
-returns c =
-    let ended = c.loop-number-test.false in
-    λ number less. c.loop-number.invariant number (omega arith)

@@ -1,0 +1,28 @@
+-- What holds of each element of a list, and lists of one length, of which there are enough.
+use Rattle.std.proofs.Common.{◌≡◌, ℕ, zero, suc, ◌+◌, ◌*◌, ◌<◌, ◌≤◌, List, [], ◌∷◌, length, get_or, arith, add-mul, mul-le-mul_right}
+use Rattle.std.proofs.Math.Nat.{mul_comm}
+use Rattle.std.specs.List.{AllByRecursion}
+
+module _ {X : Type 0} (P : X → Type 0) where
+  pub all_at : (xs : List X) (k : ℕ) (d : X) → AllByRecursion P xs → k < length xs → P (get_or xs k d)
+  all_at [] k d all less = absurd (omega arith)
+  all_at (x ∷ xs) zero d all less = all.0
+  all_at (x ∷ xs) (suc k) d all less = all_at xs k d all.1 (omega arith)
+
+  pub all_from : (xs : List X) (d : X) → ((k : ℕ) → k < length xs → P (get_or xs k d)) → AllByRecursion P xs
+  all_from [] d each = tt
+  all_from (x ∷ xs) d each = (each 0 (omega arith), all_from xs d (λ k less. each (suc k) (omega arith)))
+
+-- a list ends before those with a greater number begin
+pub ends_before : (width other number : ℕ) → other < number → other * width + width ≤ number * width
+ends_before width other number less =
+    let more = mul-le-mul_right {m = other + 1} {n = number} width (omega arith) in
+    let split = add-mul other 1 width in
+    omega arith
+
+-- of as many numbers as so many lists have, there is each list
+pub has_list : (width count total number : ℕ) → total ≡ width * count → number < count → number * width + width ≤ total
+has_list width count total number is less =
+    let before = ends_before width number count less in
+    let turned = mul_comm width count in
+    omega arith

@@ -1,0 +1,40 @@
+-- How calls end.
+use Rattle.std.proofs.Common.{◌≡◌, ◌⊎◌, ℕ, ◌<◌, ◌≤◌, List, length, take, Ok, Err, IfErr, OnOk, inl, inr, ⊎_elim, subst, sym, arith}
+use Rattle.zarrs_chunks_c.specs.Batch.{IsTooLong, IsWhole}
+use Rattle.zarrs_chunks_c.specs.Calls.{Call, IsEarlyFault, IsEndOf, early, late}
+use Rattle.zarrs_chunks_c.specs.Codes.{End}
+use Rattle.zarrs_chunks_c.specs.declared.codes.Fault.{Fault}
+use Rattle.zarrs_chunks_c.specs.declared.codes.Fault.TheVariants.{Memory, Short}
+
+module _ {X : Type 0} (call : Call X) where
+  -- at a fault of the metadata or the lengths
+  pub ends_early : (fault : Fault) → (fault ≡ Memory) ⊎ IsEarlyFault call.Misses call.Says call.Fits fault → IsEndOf call (Err fault)
+  ends_early fault is = ⊎_elim (λ memory. inl memory) (λ first. inr (early first)) is
+
+  -- after these
+  pub ends_late : (x : X) (end : End) → call.Says x → call.Fits x → OnOk end (call.Answers x)
+      → IfErr end (λ fault. (fault ≡ Memory) ⊎ call.Refuses x fault) → IsEndOf call end
+  ends_late x (Ok _) says fits answers refused = (x, says, fits, answers)
+  ends_late x (Err fault) says fits answers refused = ⊎_elim (λ memory. inl memory) (λ is. inr (late x says fits is)) refused
+
+-- what refuses nothing but for memory
+pub memory_alone : (end : End) (Refuses : Fault → Type 0) (None : Type 0) → IfErr end (λ fault. (fault ≡ Memory) ⊎ ((fault ≡ Memory) × None))
+    → IfErr end (λ fault. (fault ≡ Memory) ⊎ Refuses fault)
+memory_alone (Ok _) Refuses None refused = tt
+memory_alone (Err fault) Refuses None refused = ⊎_elim (λ memory. inl memory) (λ is. inl is.0) refused
+
+-- a text that was written, or is longer than its buffer
+module _ (P : List ℕ → Type 0) (text buffer : List ℕ) (needed : ℕ) (told : needed ≡ length text) (is : P text) where
+  pub is_whole : (end : End) → OnOk end (length text ≤ length buffer) → OnOk end (take (length text) buffer ≡ text) → OnOk end (IsWhole P buffer needed)
+  is_whole (Ok _) fits written = (omega arith, subst P (sym (subst (λ n. take n buffer ≡ text) (sym told) written)) is)
+  is_whole (Err _) fits written = tt
+
+  pub is_too_long : (end : End) → IfErr end (λ fault. (fault ≡ Short) × (length buffer < length text))
+      → IfErr end (λ fault. (fault ≡ Memory) ⊎ ((fault ≡ Short) × IsTooLong P buffer needed))
+  is_too_long (Ok _) short = tt
+  is_too_long (Err fault) (is_short, less) = inr (is_short, (text, is, told, omega arith))
+
+-- of what a call ensures of its answer
+pub both : (end : End) (A B : Type 0) → OnOk end A → OnOk end B → OnOk end (A × B)
+both (Ok _) A B a b = (a, b)
+both (Err _) A B a b = tt

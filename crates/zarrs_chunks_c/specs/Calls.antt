@@ -1,0 +1,44 @@
+-- Calls: which fault is the first that applies, and how a call ends.
+use Rattle.std.specs.Prelude.{◌≡◌, ◌⊎◌, ℕ, ◌<◌, List, IfErr, MatchResult}
+use Rattle.zarrs_chunks_c.specs.Codes.{End}
+use Rattle.zarrs_chunks_c.specs.declared.codes.Fault.{Fault}
+use Rattle.zarrs_chunks_c.specs.declared.codes.Fault.TheVariants.{Memory, Length, Short}
+
+-- A call, whose metadata says an X: a grid, an encoding, or both.
+pub record Call (X : Type 0) : Type 1 where
+  -- the fault tells why the metadata says none
+  pub Misses : Fault → Type 0
+  -- the metadata says it
+  pub Says : X → Type 0
+  -- each buffer is as long as the others demand
+  pub Fits : X → Type 0
+  -- the fault tells what is wrong with what is asked or else, where that is right, with the room for the answer
+  pub Refuses : X → Fault → Type 0
+  -- what is asked is right, there is room for the answer, and it was written
+  pub Answers : X → Type 0
+
+-- The first fault of metadata and lengths: the metadata doesn't say what it should; or it does, and some buffer is longer or shorter.
+pub data IsEarlyFault {X : Type 0} (Misses : Fault → Type 0) (Says Fits : X → Type 0) (fault : Fault) : Type 0 where
+  no_metadata : Misses fault → IsEarlyFault Misses Says Fits fault
+  wrong_length : (x : X) → Says x → (¬ Fits x) → fault ≡ Length → IsEarlyFault Misses Says Fits fault
+
+-- The first fault of a call: one of metadata and lengths; or, where these are right, one of what is asked or of the room for the answer.
+pub data IsFirstFault {X : Type 0} (call : Call X) (fault : Fault) : Type 0 where
+  early : IsEarlyFault call.Misses call.Says call.Fits fault → IsFirstFault call fault
+  late : (x : X) → call.Says x → call.Fits x → call.Refuses x fault → IsFirstFault call fault
+
+-- A call ends with its answer, or with its first fault, or out of memory.
+abbrev pub IsEndOf : {X : Type 0} → Call X → End → Type 0
+IsEndOf {X} call end =
+    MatchResult end (λ _. (x : X) × call.Says x × call.Fits x × call.Answers x) (λ fault. (fault ≡ Memory) ⊎ IsFirstFault call fault)
+
+-- of so many questions each is one; and some isn't
+abbrev pub AreQuestions : ℕ → (ℕ → Type 0) → Type 0
+AreQuestions count IsQuestion = (number : ℕ) → number < count → IsQuestion number
+
+abbrev pub HasNoQuestion : ℕ → (ℕ → Type 0) → Type 0
+HasNoQuestion count IsQuestion = (number : ℕ) × (number < count) × ¬ IsQuestion number
+
+-- a buffer that is shorter than its text is as it was
+abbrev pub IsKeptIfShort : (before after : List ℕ) → End → Type 0
+IsKeptIfShort before after end = IfErr end (λ fault. fault ≡ Short → after ≡ before)

@@ -1,0 +1,81 @@
+-- The calls of a chunk grid: what each is given, in the order of its parameters, and what answers it.
+-- Sources: Zarr V3 core, chunk grids.
+use Rattle.std.specs.Prelude.{◌≡◌, ℕ, List, [], ◌∷◌, length}
+use Rattle.zarrs_chunk_base.specs.ArraySubset.{Box, IsBox}
+use Rattle.zarrs_chunk_base.specs.Dimension.{InBox, IsPlace, grid_sizes}
+use Rattle.zarrs_chunk_base.specs.Grid.{Grid}
+use Rattle.zarrs_chunks.specs.Subsets.{HasNoBox, HasNoHome, Spans}
+use Rattle.zarrs_chunks_c.specs.Asked.{HasNoCover, IsCoverOf}
+use Rattle.zarrs_chunks_c.specs.Batch.{AreAnswered, AreLengths, list_at}
+use Rattle.zarrs_chunks_c.specs.Calls.{AreQuestions, Call, HasNoQuestion}
+use Rattle.zarrs_chunks_c.specs.Said.{IsNoGrid, SaysGrid}
+use Rattle.zarrs_chunks_c.specs.declared.codes.Fault.{Fault}
+use Rattle.zarrs_chunks_c.specs.declared.codes.Fault.TheVariants.{NotBox}
+
+-- nothing is refused but for the metadata and the lengths
+abbrev pub RefusesNone : {X : Type 0} → X → Fault → Type 0
+RefusesNone _ _ = ⊥
+
+-- A call of a grid, whose arrays have so many numbers: as many as so many lists have, with a number for each dimension.
+abbrev pub grid_call : (shape metadata totals : List ℕ) (count : ℕ) (Refuses : Grid → Fault → Type 0) (Answers : Grid → Type 0) → Call Grid
+grid_call shape metadata totals count Refuses Answers = record {
+  Misses = IsNoGrid metadata shape;
+  Says = SaysGrid metadata shape;
+  Fits = λ grid. AreLengths (length grid.dimensions) count totals;
+  Refuses = Refuses;
+  Answers = Answers;
+}
+
+-- how many chunks are counted
+abbrev pub grid_shape_call : (shape metadata grid_shape : List ℕ) → Call Grid
+grid_shape_call shape metadata grid_shape =
+    grid_call shape metadata (length grid_shape ∷ []) 1 RefusesNone (λ grid. grid_shape ≡ grid_sizes grid.dimensions)
+
+-- the chunk of each element
+abbrev pub chunk_indices_call : (shape metadata indices chunks marks : List ℕ) → Call Grid
+chunk_indices_call shape metadata indices chunks marks =
+    grid_call shape metadata (length indices ∷ length chunks ∷ []) (length marks) RefusesNone
+    (λ grid.
+    let width = length grid.dimensions in
+    AreAnswered (λ k chunk _. InBox grid.dimensions chunk (list_at width indices k)) (λ k. HasNoHome grid.dimensions (list_at width indices k))
+    (width, 0) chunks [] marks)
+
+-- the chunk of each element, and the place there
+abbrev pub homes_call : (shape metadata indices chunks places marks : List ℕ) → Call Grid
+homes_call shape metadata indices chunks places marks =
+    grid_call shape metadata (length indices ∷ length chunks ∷ length places ∷ []) (length marks) RefusesNone
+    (λ grid.
+    let width = length grid.dimensions in
+    AreAnswered
+    (λ k chunk place.
+    InBox grid.dimensions chunk (list_at width indices k) × IsPlace grid.dimensions chunk (list_at width indices k) place)
+    (λ k. HasNoHome grid.dimensions (list_at width indices k)) (width, width) chunks places marks)
+
+-- the box of each chunk
+abbrev pub chunk_boxes_call : (shape metadata chunks origins shapes marks : List ℕ) → Call Grid
+chunk_boxes_call shape metadata chunks origins shapes marks =
+    grid_call shape metadata (length chunks ∷ length origins ∷ length shapes ∷ []) (length marks) RefusesNone
+    (λ grid.
+    let width = length grid.dimensions in
+    AreAnswered
+    (λ k origin sizes.
+    Spans grid.dimensions (list_at width chunks k) (list_at width chunks k) (record { start = origin; shape = sizes }))
+    (λ k. HasNoBox grid.dimensions (list_at width chunks k)) (width, width) origins shapes marks)
+
+-- the box of the start and the shape with this number
+abbrev pub box_asked : ℕ → (starts shapes : List ℕ) → ℕ → Box
+box_asked width starts shapes number = record { start = list_at width starts number; shape = list_at width shapes number }
+
+-- the cover of each box; a start and a shape that are those of no box are refused
+abbrev pub covers_call : (shape metadata starts shapes first_chunks chunk_counts marks : List ℕ) → Call Grid
+covers_call shape metadata starts shapes first_chunks chunk_counts marks =
+    grid_call shape metadata (length starts ∷ length shapes ∷ length first_chunks ∷ length chunk_counts ∷ []) (length marks)
+    (λ grid fault.
+    let width = length grid.dimensions in
+    (fault ≡ NotBox) × HasNoQuestion (length marks) (λ k. IsBox (box_asked width starts shapes k)))
+    (λ grid.
+    let width = length grid.dimensions in
+    AreQuestions (length marks) (λ k. IsBox (box_asked width starts shapes k))
+    × AreAnswered
+    (λ k first counts. IsCoverOf grid.dimensions (box_asked width starts shapes k) (record { start = first; shape = counts }))
+    (λ k. HasNoCover grid.dimensions (box_asked width starts shapes k)) (width, width) first_chunks chunk_counts marks)

@@ -1,0 +1,45 @@
+-- The calls of a chunk key encoding: what each is given, in the order of its parameters, and what answers it.
+-- Sources: Zarr V3 core, chunk key encodings.
+use Rattle.std.specs.Prelude.{◌≡◌, ℕ, ◌+◌, ◌-◌, List, [], ◌∷◌, length}
+use Rattle.zarrs_chunk_keys.specs.ChunkKey.{Encoding, IsKey}
+use Rattle.zarrs_chunks_c.specs.Asked.{IsChunkOf}
+use Rattle.zarrs_chunks_c.specs.Batch.{AreAnswered, AreKeys, AreLengths, HasText, IsTooLong, IsWhole, text_at}
+use Rattle.zarrs_chunks_c.specs.Calls.{AreQuestions, Call, HasNoQuestion}
+use Rattle.zarrs_chunks_c.specs.Said.{IsNoEncoding, SaysEncoding}
+use Rattle.zarrs_chunks_c.specs.declared.codes.Fault.{Fault}
+use Rattle.zarrs_chunks_c.specs.declared.codes.Fault.TheVariants.{Offsets, Short}
+
+-- an offset more than there are lists, and arrays as long as so many lists
+abbrev pub AreTextLengths : (width : ℕ) → (offsets : ℕ) → (totals : List ℕ) → (count : ℕ) → Type 0
+AreTextLengths width offsets totals count = (offsets ≡ count + 1) × AreLengths width count totals
+
+-- A call of an encoding. What it is asked for and whether its buffers fit says nothing of the encoding.
+abbrev pub encoding_call : (metadata : List ℕ) (Fits : Type 0) (Refuses : Encoding → Fault → Type 0) (Answers : Encoding → Type 0)
+    → Call Encoding
+encoding_call metadata Fits Refuses Answers = record {
+  Misses = IsNoEncoding metadata;
+  Says = SaysEncoding metadata;
+  Fits = λ _. Fits;
+  Refuses = Refuses;
+  Answers = Answers;
+}
+
+-- The keys of chunks. They are refused where they are longer than their buffer; the offsets are written all the same.
+abbrev pub keys_call : (metadata : List ℕ) (dimensionality : ℕ) (chunks text offsets : List ℕ) (needed : ℕ) → Call Encoding
+keys_call metadata dimensionality chunks text offsets needed =
+    encoding_call metadata ((count : ℕ) × AreTextLengths dimensionality (length offsets) (length chunks ∷ []) count)
+    (λ encoding fault.
+    (fault ≡ Short)
+    × IsTooLong (λ keys. AreKeys (IsKey encoding) dimensionality (length offsets - 1) chunks keys offsets) text needed)
+    (λ encoding. IsWhole (λ keys. AreKeys (IsKey encoding) dimensionality (length offsets - 1) chunks keys offsets) text needed)
+
+-- the chunk of each key; offsets that descend or lie past the text are refused
+abbrev pub chunks_of_keys_call : (metadata : List ℕ) (dimensionality : ℕ) (text offsets chunks marks : List ℕ) → Call Encoding
+chunks_of_keys_call metadata dimensionality text offsets chunks marks =
+    encoding_call metadata (AreTextLengths dimensionality (length offsets) (length chunks ∷ []) (length marks))
+    (λ encoding fault. (fault ≡ Offsets) × HasNoQuestion (length marks) (HasText text offsets))
+    (λ encoding.
+    AreQuestions (length marks) (HasText text offsets)
+    × AreAnswered (λ k chunk _. IsChunkOf (IsKey encoding) dimensionality (text_at text offsets k) chunk)
+    (λ k. (chunk : List ℕ) → ¬ IsChunkOf (IsKey encoding) dimensionality (text_at text offsets k) chunk)
+    (dimensionality, 0) chunks [] marks)
