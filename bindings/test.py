@@ -8,6 +8,7 @@ one. What is compared:
 
 - every vector of `chunkcalls`, through `zarrs_answer`;
 - batches and plans with the same questions one by one, and batches with numpy's own division and `searchsorted`;
+- each call at one to three hundred dimensions with plain arithmetic, and each fault of each call, alone and with a later one (`faults.py`);
 - no lists, null, strided, misaligned and negative numbers, other types, buffers of other lengths, offsets that descend;
 - memory that is refused: under an address space that gets smaller, and allocation by allocation;
 - the examples in C, Python and Rust, the C one under memcheck, and those of the docstrings.
@@ -303,7 +304,7 @@ def plan_lengths(tally, library, shape, text, encoding):
         tally.same(f"a plan, room for {room}", call(right, room), (code, chunks, text_is, [20, 4, 4, 1], [7] * 6))
     for name, size in [(name, size) for name in right for size in range(10) if size != right[name]]:
         code, *_others, beside = call({**right, name: size}, 20)
-        tally.same(f"a plan, {size} {name}", (code in (library.WRONG_LENGTH, library.NOT_A_BOX), beside), (True, [7] * 6))
+        tally.same(f"a plan, {size} {name}", (code, beside), (library.WRONG_LENGTH, [7] * 6))
 
 
 # ---- memory
@@ -402,6 +403,7 @@ def in_this_process(backend):
     keys_against_single_calls(tally, library)
     against_numpy(tally)
     buffers(tally, library)
+    faults(tally, library)
     docstrings(tally)
     examples(tally, backend)
     print("".join(f"{fault}\n" for fault in tally.faults[:20]), end="")
@@ -435,5 +437,6 @@ if __name__ == "__main__":
     except ImportError:
         sys.exit("bindings/test.py needs numpy, as Debian's python3-numpy has it for /usr/bin/python3")
     if "--backend" in sys.argv:
+        from faults import faults
         from zarrs_chunks import Encoding, Grid
     main()
