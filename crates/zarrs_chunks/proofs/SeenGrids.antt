@@ -135,25 +135,25 @@ is_again grid again e is made =
 -- ---- a `rectilinear` grid, of its configuration
 
 -- what the members say is what the grid was made of
-said_edges : (grid : RectilinearChunkGrid) (listed : Members) (said : List EdgeLengths) → HasMembers grid listed → Say listed said
+said_edges : (grid : RectilinearChunkGrid) (configuration : Members) (said : List EdgeLengths) → HasMembers grid configuration → Say configuration said
     → AreRectilinear (array_sizes (rectilinear_of grid).dimensions) (map edges_of_lengths said) × ((rectilinear_of grid).edges ≡ map edges_of_lengths said)
-said_edges grid listed said (x, accepted, made, form, written, is) says =
+said_edges grid configuration said (x, accepted, made, form, written, is) says =
     let both : Some x ≡ Some said = sym is.1 ∙ says.1 in
     let same : x ≡ said = cc in
     let shape = array_sizes (rectilinear_of grid).dimensions in
     (subst (λ y. AreRectilinear shape (map edges_of_lengths y)) same accepted, made.1 ∙ ap (map edges_of_lengths) same)
 
-pub said_accepted : (grid : RectilinearChunkGrid) (listed : Members) (said : List EdgeLengths) → HasMembers grid listed → Say listed said
+pub said_accepted : (grid : RectilinearChunkGrid) (configuration : Members) (said : List EdgeLengths) → HasMembers grid configuration → Say configuration said
     → AreRectilinear (array_sizes (rectilinear_of grid).dimensions) (map edges_of_lengths said)
-said_accepted grid listed said has says = (said_edges grid listed said has says).0
+said_accepted grid configuration said has says = (said_edges grid configuration said has says).0
 
-pub edges_again : (grid again : RectilinearChunkGrid) (listed : Members) (said : List EdgeLengths) → HasMembers grid listed → Say listed said
+pub edges_again : (grid again : RectilinearChunkGrid) (configuration : Members) (said : List EdgeLengths) → HasMembers grid configuration → Say configuration said
     → array_sizes (rectilinear_of again).dimensions ≡ array_sizes (rectilinear_of grid).dimensions → (rectilinear_of again).edges ≡ map edges_of_lengths said
     → (rectilinear_of again).dimensions ≡ (rectilinear_of grid).dimensions
-edges_again grid again listed said has says sizes edges =
-    same_dimensions (Rectilinear again) (Rectilinear grid) refl sizes (edges ∙ sym (said_edges grid listed said has says).1)
+edges_again grid again configuration said has says sizes edges =
+    same_dimensions (Rectilinear again) (Rectilinear grid) refl sizes (edges ∙ sym (said_edges grid configuration said has says).1)
 
-pub configured_again : (grid again : RectilinearChunkGrid) (listed others : Members) (said : List EdgeLengths) → HasMembers grid listed → Say listed said
-    → (rectilinear_of again).edges ≡ map edges_of_lengths said → HasMembers again others → others ≡ listed
-configured_again grid again listed others said has says edges also =
-    (written_alike _ _ (rectilinear_of again) (rectilinear_of grid) others listed also has).1 (edges ∙ sym (said_edges grid listed said has says).1)
+pub configured_again : (grid again : RectilinearChunkGrid) (configuration others : Members) (said : List EdgeLengths) → HasMembers grid configuration → Say configuration said
+    → (rectilinear_of again).edges ≡ map edges_of_lengths said → HasMembers again others → others ≡ configuration
+configured_again grid again configuration others said has says edges also =
+    (written_alike _ _ (rectilinear_of again) (rectilinear_of grid) others configuration also has).1 (edges ∙ sym (said_edges grid configuration said has says).1)
