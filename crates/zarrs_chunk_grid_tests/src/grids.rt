@@ -139,16 +139,24 @@ fn check_laws(
     check_homes(rt, grid, dimensions)
 }
 
-/// Each kind of grid, its copy, and the grid that is made again of its metadata.
+/// Each kind of grid, and its copy.
 fn check_grids(rt: &(impl Abort + AllocGlobal), dimensions: usize) -> Result<(), Fail> {
-    let array_shape = vec![in rt.alloc(); 5; dimensions]?;
-    for (grid, end, name) in &make_grids(rt.alloc(), dimensions)? {
+    for (grid, end, _) in &make_grids(rt.alloc(), dimensions)? {
         check_laws(rt, grid, *end, dimensions)?;
         check_laws(rt, &grid.clone()?, *end, dimensions)?;
-        let metadata = grid.metadata(rt.alloc())?;
+    }
+    Ok(())
+}
+
+/// Each kind of grid, made again of its metadata.
+fn check_made_again(rt: &(impl Abort + AllocGlobal), dimensions: usize) -> Result<(), Fail> {
+    let alloc = rt.alloc();
+    let array_shape = vec![in alloc; 5; dimensions]?;
+    for (grid, end, name) in &make_grids(alloc, dimensions)? {
+        let metadata = grid.metadata(alloc)?;
         assert_eq!(rt; metadata.name(), *name);
-        let again = ChunkGrid::from_metadata(rt.alloc(), &metadata, &array_shape)?;
-        assert_eq!(rt; again.metadata(rt.alloc())?.name(), *name);
+        let again = ChunkGrid::from_metadata(alloc, &metadata, &array_shape)?;
+        assert_eq!(rt; again.metadata(alloc)?.name(), *name);
         check_laws(rt, &again, *end, dimensions)?;
         the_edges_determine_the_dimensions(grid, &again);
         grids_of_like_dimensions_answer_alike(grid, &again);
@@ -162,8 +170,14 @@ fn grids_of_each_kind_are_asked(rt: HostRuntime) -> Result<(), Fail> {
 }
 
 #[test]
+fn grids_of_each_kind_are_made_again(rt: HostRuntime) -> Result<(), Fail> {
+    check_made_again(&rt, 1)
+}
+
+#[test]
 fn grids_of_a_thousand_dimensions_are_asked(rt: HostRuntime) -> Result<(), Fail> {
-    check_grids(&rt, 1000)
+    check_grids(&rt, 1000)?;
+    check_made_again(&rt, 1000)
 }
 
 #[test]
