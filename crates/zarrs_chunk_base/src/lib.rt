@@ -1,8 +1,8 @@
 //! What every layer of chunk grids and chunk keys speaks of: boxes of indices, keys in a store, the edges of
 //! chunks, what extensions look like in JSON, and why calls are refused.
 //!
-//! A call that makes a new value in memory takes the allocator; `clone` doesn't. Every call that needs memory can answer that there is
-//! none. `CALLING.md` has a caller.
+//! A call that needs memory can answer that there is none. It takes the allocator, except for a few that `docs/MEMORY.md` lists, as `clone`.
+//! `CALLING.md` has a caller.
 //!
 //! ```text
 //! ArraySubset, the box [3..5, 5..9]: its start is [3, 5], its shape [2, 4]

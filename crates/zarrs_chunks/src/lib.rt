@@ -1,9 +1,9 @@
 //! Chunk grids: in which chunk of a large array an element lies, and at which place there.
 //!
 //! Each dimension of a grid is cut into intervals that follow one another, one a chunk. [`ChunkGridTraits`] says what
-//! every grid answers, over its dimensions; [`laws`] says what follows for all grids, those of other crates too. A call that makes a new
-//! value in memory takes the allocator; `clone` doesn't. Every call that needs memory can answer that there is none. `CALLING.md` has
-//! callers and a picture.
+//! every grid answers, over its dimensions; [`laws`] says what follows for all grids, those of other crates too. A call that needs memory can
+//! answer that there is none. It takes the allocator, except for a few that `docs/MEMORY.md` lists, as `clone` and the `next` of a walk.
+//! `CALLING.md` has callers and a picture.
 //!
 //! ```text
 //! RegularChunkGrid, array shape [5, 7, 52], chunk shape [1, 2, 3]
