@@ -3,7 +3,8 @@
 //! A grid is given as its array's shape and the bytes of its metadata, an encoding as the bytes of its metadata, each as in `zarr.json`.
 //! A batch is many lists of one length, one after another in one array. A call makes its grid and its encoding, answers all questions
 //! and keeps nothing. It answers 0, or a negative code for why it is refused. Lengths are tested, so a call is safe with any valid buffers.
-//! `bindings/zarrs_chunks.h` says of each call what it takes and writes.
+//! `bindings/zarrs_chunks.h` says of each call what it takes and writes. An export has the contract of the function beneath it, over the code in
+//! place of the fault.
 //!
 //! | Module | What it holds |
 //! |---|---|
