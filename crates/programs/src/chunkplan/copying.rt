@@ -6,9 +6,8 @@ ghost use Rattle.zarrs_chunk_plan.specs.Rechunking.{Group};
 ghost use Rattle.zarrs_chunk_plan.specs.declared.part.Part.{Part as PartValue};
 ghost use Rattle.zarrs_chunk_plan.specs.seen.Copies.{AreGroupsToCome, CanCopy};
 ghost use Rattle.zarrs_chunk_plan.specs.seen.Parts.{ArePartsToCome, HasKeys, MeetSubset};
-ghost use Rattle.programs.specs.Watched.{has_failed, watched};
 ghost use Rattle.programs.specs.chunkplan.Line.{copy_lines, line_for};
-ghost use Rattle.programs.specs.chunkplan.seen.Sent.{StepLeaves};
+ghost use Rattle.programs.specs.chunkplan.seen.Sent.{StepLeaves, output};
 
 use crate::chunkplan::line::line;
 use crate::chunkplan::run_fault::RunFault;
@@ -39,16 +38,8 @@ pub(crate) fn write_parts<G: ChunkGridTraits, E: ChunkKeyEncodingTraits, W: Writ
         (λ text. (parts : List PartValue) × ArePartsToCome G.dimensions E.is_key walk.entry parts
         × (text ≡ flat_map (line_for (option_map (λ t. t.now) to.entry)) parts))
         (λ _. ⊥) result
-        (record {
-          holds = W.contents (watched writer.old);
-          held_back = held_back.old.items;
-          failed = has_failed writer.old;
-        })
-        (record {
-          holds = W.contents (watched writer.new);
-          held_back = held_back.new.items;
-          failed = has_failed writer.new;
-        }) }
+        (output W.contents held_back.old.items writer.old)
+        (output W.contents held_back.new.items writer.new) }
 {
     for part in walk {
         let line = line(alloc, &part?, to)?;
@@ -82,16 +73,8 @@ pub(crate) fn write_copies<
         × AreGroupsToCome G.dimensions E.is_key H.dimensions F.is_key walk.entry groups
         × (text ≡ copy_lines groups))
         (λ _. ⊥) result
-        (record {
-          holds = W.contents (watched writer.old);
-          held_back = held_back.old.items;
-          failed = has_failed writer.old;
-        })
-        (record {
-          holds = W.contents (watched writer.new);
-          held_back = held_back.new.items;
-          failed = has_failed writer.new;
-        }) }
+        (output W.contents held_back.old.items writer.old)
+        (output W.contents held_back.new.items writer.new) }
 {
     for group in walk {
         write_group(alloc, group?, held_back, writer)?;
@@ -114,16 +97,8 @@ fn write_group<G: ChunkGridTraits, E: ChunkKeyEncodingTraits, W: Write>(
         × ArePartsToCome G.dimensions E.is_key group.entry.from from
         × (text ≡ flat_map (line_for (Some group.entry.to)) from))
         (λ _. ⊥) result
-        (record {
-          holds = W.contents (watched writer.old);
-          held_back = held_back.old.items;
-          failed = has_failed writer.old;
-        })
-        (record {
-          holds = W.contents (watched writer.new);
-          held_back = held_back.new.items;
-          failed = has_failed writer.new;
-        }) }
+        (output W.contents held_back.old.items writer.old)
+        (output W.contents held_back.new.items writer.new) }
 {
     let ChunkCopies { to, from } = group;
     write_parts(alloc, from, Some(&to), held_back, writer)

@@ -7,12 +7,11 @@ ghost use Rattle.zarrs_chunk_plan.specs.Rechunking.{Group, IsRechunking, all_chu
 ghost use Rattle.zarrs_chunk_plan.specs.declared.part.Part.{Part as PartValue};
 ghost use Rattle.zarrs_chunk_plan.specs.seen.Parts.{HasKeys};
 ghost use Rattle.programs.specs.OrMemory.{OrMemory};
-ghost use Rattle.programs.specs.Watched.{has_failed, watched};
 ghost use Rattle.programs.specs.chunkplan.Document.{document_of, stored_of};
 ghost use Rattle.programs.specs.chunkplan.Line.{copy_lines, part_lines};
 ghost use Rattle.programs.specs.chunkplan.PlanFault.{IsChunksFault, IsCreateFault, IsPlanFault, IsReadFault, IsSourceFault, IsTargetFault};
 ghost use Rattle.programs.specs.chunkplan.Planned.{IsPlanned, IsReadPlan, IsStored};
-ghost use Rattle.programs.specs.chunkplan.seen.Sent.{StepLeaves};
+ghost use Rattle.programs.specs.chunkplan.seen.Sent.{StepLeaves, output};
 
 use crate::chunkplan::copying::{write_copies, write_parts};
 use crate::chunkplan::document::{Document, Stored, Task};
@@ -38,16 +37,8 @@ pub(crate) fn write_plan<W: Write>(
 ) -> Result<(), Refusal<RunFault>>
     ensures { StepLeaves (IsPlanned (document_of document)) (IsPlanFault (document_of document))
         result
-        (record {
-          holds = W.contents (watched writer.old);
-          held_back = held_back.old.items;
-          failed = has_failed writer.old;
-        })
-        (record {
-          holds = W.contents (watched writer.new);
-          held_back = held_back.new.items;
-          failed = has_failed writer.new;
-        }) }
+        (output W.contents held_back.old.items writer.old)
+        (output W.contents held_back.new.items writer.new) }
 {
     let Document {
         shape,
@@ -167,16 +158,8 @@ fn write_read<G: ChunkGridTraits, E: ChunkKeyEncodingTraits, W: Write>(
         × IsReadPlan (G.dimensions grid.now) (E.is_key encoding.now) subset.now parts
         × (text ≡ part_lines parts))
         (IsReadFault (G.dimensions grid.now) subset.now) result
-        (record {
-          holds = W.contents (watched writer.old);
-          held_back = held_back.old.items;
-          failed = has_failed writer.old;
-        })
-        (record {
-          holds = W.contents (watched writer.new);
-          held_back = held_back.new.items;
-          failed = has_failed writer.new;
-        }) }
+        (output W.contents held_back.old.items writer.old)
+        (output W.contents held_back.new.items writer.new) }
 {
     let dimensionality = subset.start().len();
     if dimensionality != grid.dimensionality() {
@@ -217,16 +200,8 @@ fn write_rechunking<
         (H.dimensions target.now) (F.is_key target_encoding.now) chunks.now groups
         × (text ≡ copy_lines groups))
         (IsChunksFault (H.dimensions target.now) chunks.now) result
-        (record {
-          holds = W.contents (watched writer.old);
-          held_back = held_back.old.items;
-          failed = has_failed writer.old;
-        })
-        (record {
-          holds = W.contents (watched writer.new);
-          held_back = held_back.new.items;
-          failed = has_failed writer.new;
-        }) }
+        (output W.contents held_back.old.items writer.old)
+        (output W.contents held_back.new.items writer.new) }
 {
     let walk = copies(
         alloc,

@@ -5,7 +5,7 @@ ghost use Rattle.programs.specs.Watched.{has_failed, watched};
 ghost use Rattle.programs.specs.chunkplan.PlanFault.{IsFirstFault};
 ghost use Rattle.programs.specs.chunkplan.Planned.{IsPlanOf};
 ghost use Rattle.programs.specs.chunkplan.Run.{RunEndsWith, RunLeaves};
-ghost use Rattle.programs.specs.chunkplan.seen.Sent.{StepLeaves};
+ghost use Rattle.programs.specs.chunkplan.seen.Sent.{StepLeaves, output};
 
 use crate::chunkplan::document::parse;
 use crate::chunkplan::plan::write_plan;
@@ -77,16 +77,8 @@ fn answer<W: Write>(
     writer: &mut Watched<W>,
 ) -> Result<(), Refusal<RunFault>>
     ensures { StepLeaves (IsPlanOf input.items) (IsFirstFault input.items) result
-        (record {
-          holds = W.contents (watched writer.old);
-          held_back = held_back.old.items;
-          failed = has_failed writer.old;
-        })
-        (record {
-          holds = W.contents (watched writer.new);
-          held_back = held_back.new.items;
-          failed = has_failed writer.new;
-        }) }
+        (output W.contents held_back.old.items writer.old)
+        (output W.contents held_back.new.items writer.new) }
 {
     let document = parse(alloc, &input);
     let document = document.map_err(|refusal| refusal.map(RunFault::Document))?;

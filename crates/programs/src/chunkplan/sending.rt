@@ -1,7 +1,7 @@
 //! Text on its way to a writer, many bytes at a time.
 ghost use Rattle.std.specs.Prelude.{◌≡◌, [], ℕ, List, MatchResult, OnOk};
 ghost use Rattle.programs.specs.Watched.{IsFailure, has_failed, watched};
-ghost use Rattle.programs.specs.chunkplan.seen.Sent.{Sends};
+ghost use Rattle.programs.specs.chunkplan.seen.Sent.{Sends, output};
 ghost use Rattle.programs.specs.declared.chunkplan.run_fault.RunFault.TheVariants.{Write as WriteFault};
 
 use crate::chunkplan::run_fault::RunFault;
@@ -23,11 +23,7 @@ pub(crate) fn send<W: Write>(
     writer: &mut Watched<W>,
 ) -> Result<(), Refusal<RunFault>>
     ensures sent { (rest : List ℕ) × Sends
-        (record {
-          holds = W.contents (watched writer.old);
-          held_back = held_back.old.items;
-          failed = has_failed writer.old;
-        })
+        (output W.contents held_back.old.items writer.old)
         bytes.now (W.contents (watched writer.new)) rest
         × OnOk result (rest ≡ held_back.new.items) }
     ensures failed { MatchResult result (λ _. has_failed writer.new ≡ has_failed writer.old)

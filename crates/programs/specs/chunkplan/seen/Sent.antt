@@ -2,14 +2,20 @@
 use Rattle.std.specs.Prelude.{◌≡◌, ◌⊎◌, ℕ, Bool, true, List, ◌++◌, Option, Some, Result, Ok, Err, IfSome}
 use Rattle.zarrs_chunk_base.specs.declared.refusal.Refusal.{Refusal}
 use Rattle.zarrs_chunk_base.specs.declared.refusal.Refusal.TheVariants.{Refused, Memory}
+use Rattle.programs.specs.Watched.{has_failed, watched}
 use Rattle.programs.specs.declared.chunkplan.run_fault.RunFault.{RunFault}
 use Rattle.programs.specs.declared.chunkplan.run_fault.RunFault.TheVariants.{Write}
+use Rattle.programs.specs.declared.watched.Watched.{Watched}
 
 -- what the writer holds, what is held back from it, and whether a write failed
 pub record Output : Type 0 where
   pub holds : Option (List ℕ)
   pub held_back : List ℕ
   pub failed : Bool
+
+-- that of a watched writer
+abbrev pub output : {T : Type 0} → (contents : T → Option (List ℕ)) → (held_back : List ℕ) → Watched T → Output
+output contents held_back writer = record { holds = contents (watched writer); held_back = held_back; failed = has_failed writer }
 
 -- of what was held back and of these bytes behind it, the writer now holds all but the rest
 abbrev pub Sends : Output → (bytes : List ℕ) → (holds : Option (List ℕ)) → (rest : List ℕ) → Type 0
