@@ -1,5 +1,5 @@
 -- The cover of the whole array.
-use Rattle.std.proofs.Common.{◌≡◌, ◌≢◌, ◌↔◌, ◌⊎◌, ◌∙◌, ℕ, zero, suc, List, [], ◌∷◌, Some, Ok, length, ap, refl, subst, sym, inl, ⊎_elim, arith}
+use Rattle.std.proofs.Common.{◌≡◌, ◌≢◌, ◌↔◌, ◌⊎◌, ◌∙◌, ℕ, zero, suc, List, [], ◌∷◌, Some, Ok, length, ap, refl, subst, inl, ⊎_elim, arith}
 use Rattle.std.proofs.lemmas.List.{length-map, length-replicate}
 use Rattle.zarrs_chunk_base.specs.ArraySubset.{Box, IsEmptyBox, IsInside, zero_box}
 use Rattle.zarrs_chunk_base.specs.Dimension.{Dimension, Holds, array_sizes}

@@ -1,13 +1,10 @@
 -- What ranges share, in one dimension and in all of them.
-use Rattle.std.proofs.Common.{◌≡◌, ◌↔◌, ℕ, suc, ◌+◌, ◌-◌, ◌<◌, ◌≤◌, List, [], ◌∷◌, length, max, min, Some, None, Ok, Err, refl, ap, ap₂, subst, sym, ◌∙◌, arith}
-use Rattle.std.specs.declared.num.NonZeroU64.{NonZeroU64}
+use Rattle.std.proofs.Common.{◌≡◌, ◌↔◌, ℕ, suc, ◌+◌, ◌-◌, ◌<◌, ◌≤◌, List, [], ◌∷◌, length, max, min, refl, ap, ap₂, subst, sym, ◌∙◌, arith}
 use Rattle.zarrs_chunk_base.specs.ArraySubset.{AreWithin, Box, IsBox, ends}
-use Rattle.zarrs_chunk_base.specs.Dimension.{Dimension, HasEdge, Holds, InBox, IsChunk, IsOrigin, IsShape, StartsAt}
+use Rattle.zarrs_chunk_base.specs.Dimension.{Dimension, HasEdge, Holds, InBox, IsOrigin, IsShape, StartsAt}
 use Rattle.zarrs_chunk_base.specs.Greatest.{greatest, AllFit}
-use Rattle.zarrs_chunk_base.specs.declared.refusal.Refusal.TheVariants.{Refused, Memory}
 use Rattle.zarrs_chunk_base.proofs.Boxes.{within_lengths}
 use Rattle.zarrs_chunk_base.proofs.InEach.{by_dimension_twice, length_values, same_values}
-use Rattle.zarrs_chunk_axes.specs.LookUp.{AnswersOrigin, AnswersShape, Looked}
 use Rattle.zarrs_chunks.specs.Walks.{counted_from}
 use Rattle.zarrs_chunks.proofs.Boxes.{has_origin}
 use Rattle.zarrs_chunks.proofs.ChunksInBoxes.{inside_fits}

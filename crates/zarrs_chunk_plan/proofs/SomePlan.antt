@@ -1,6 +1,5 @@
 -- Where each chunk has a key, each box of elements of the array has a plan, and so has each rechunking: there are the parts that a walk has not come to.
-use Rattle.std.proofs.Common.{◌≡◌, ◌∙◌, ℕ, suc, ◌+◌, ◌-◌, ◌<◌, ◌≤◌, List, [], ◌∷◌, ◌++◌, Contains, ap, ap₂, length, map, refl, subst, sym, arith}
-use Rattle.std.proofs.lemmas.List.{length-map}
+use Rattle.std.proofs.Common.{◌≡◌, ℕ, suc, ◌+◌, ◌-◌, ◌≤◌, List, [], ◌∷◌, Contains, ap, ap₂, length, map, refl, subst, sym, arith}
 use Rattle.std.specs.List.{AllByRecursion, AllZip}
 use Rattle.zarrs_chunk_base.specs.ArraySubset.{AreWithin, Box, IsBox, IsEmptyBox, IsInside, ends, lasts}
 use Rattle.zarrs_chunk_base.specs.Dimension.{Dimension, Holds, InBox, IsChain, IsShape, array_sizes}
@@ -21,7 +20,7 @@ use Rattle.zarrs_chunk_plan.specs.Rechunking.{AreCopiesInto, Group, array_box}
 use Rattle.zarrs_chunk_plan.specs.declared.part.Part.{Part}
 use Rattle.zarrs_chunk_plan.specs.seen.Parts.{HasKeys}
 use Rattle.zarrs_chunk_plan.proofs.Plans.{all_of_each, not_empty_if_inside}
-use Rattle.zarrs_chunk_plan.proofs.Rechunkings.{below_array, has_those, starts_many, takes_those}
+use Rattle.zarrs_chunk_plan.proofs.Rechunkings.{below_array, has_those, takes_those}
 use Rattle.zarrs_chunk_plan.proofs.Shares.{boxes_are, from_chunk, from_start}
 
 -- ---- one chunk

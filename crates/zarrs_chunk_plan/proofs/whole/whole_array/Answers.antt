@@ -1,7 +1,4 @@
 use Rattle.std.proofs.lemmas.List.{length-map}
-use Rattle.std.proofs.lemmas.Result.{IfOk-weaker}
-use Rattle.std.proofs.Common.{subst}
-use Rattle.zarrs_chunk_base.specs.ArraySubset.{IsBox}
 use Rattle.zarrs_chunk_plan.proofs.whole.whole_array.Goals as goal
 
 pub returns-clause-elements : goal.returns-clause-elements
