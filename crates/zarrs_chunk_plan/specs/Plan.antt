@@ -52,9 +52,11 @@ pub record IsPlan (ds : List Dimension) (IsKey : List ℕ → List ℕ → Type 
   pub are_parts : AllZip (IsPart ds IsKey subset) (chunks_in cover) parts
 
 -- what is answered of a box that isn't empty: its plan, and none where its first or its last element lies in no chunk
-abbrev pub AnswersPlan : List Dimension → (List ℕ → List ℕ → Type 0) → Box → Result (Option (Vec Part Global)) (Refusal IncompatibleDimensionalityError) → Type 0
+abbrev pub AnswersPlan : List Dimension → (List ℕ → List ℕ → Type 0) → Box
+    → Result (Option (Vec Part Global)) (Refusal IncompatibleDimensionalityError) → Type 0
 AnswersPlan ds IsKey b =
-    AnswersOrMemory (length b.start) (length ds) (λ parts. IsPlan ds IsKey b parts.items) (HasNoHome ds b.start ⊎ HasNoHome ds (lasts b.start b.shape))
+    AnswersOrMemory (length b.start) (length ds) (λ parts. IsPlan ds IsKey b parts.items)
+    (HasNoHome ds b.start ⊎ HasNoHome ds (lasts b.start b.shape))
 
 -- of an empty one: no parts
 abbrev pub AnswersNoPart : Result (Option (Vec Part Global)) (Refusal IncompatibleDimensionalityError) → Type 0

@@ -54,4 +54,5 @@ pub record Moves (source target : List Dimension) (copy : Part × Part) (steps i
 -- Boxes of chunk numbers share the chunks out that hold elements of the array: each lies in one of the boxes, and in no other.
 pub record ShareOut (target : List Dimension) (boxes : List Box) : Type 0 where
   pub all : (chunk : List ℕ) → Meets target (array_box target) chunk → (b : Box) × Contains boxes b × IsInside b chunk
-  pub apart : AllPairs (λ b other. (chunk : List ℕ) → Meets target (array_box target) chunk → IsInside b chunk → IsInside other chunk → ⊥) boxes
+  pub apart : AllPairs
+      (λ b other. (chunk : List ℕ) → Meets target (array_box target) chunk → IsInside b chunk → IsInside other chunk → ⊥) boxes

@@ -11,7 +11,8 @@ use Rattle.programs.specs.declared.chunkplan.run_fault.RunFault.TheVariants.{Rea
 -- a beginning of the plan was written behind what the writer held
 abbrev pub HasBegunPlan : (input held : List ℕ) → Streams → Type 0
 HasBegunPlan input held s =
-    (text : List ℕ) × (written : List ℕ) × (rest : List ℕ) × IsPlanOf input text × (text ≡ written ++ rest) × (s.holds ≡ Some (held ++ written))
+    (text : List ℕ) × (written : List ℕ) × (rest : List ℕ)
+    × IsPlanOf input text × (text ≡ written ++ rest) × (s.holds ≡ Some (held ++ written))
 
 -- A run over a reader that had the input left and a writer that held some bytes: what it leaves, by its outcome. Lines are written as they
 -- are made, so where memory runs out, a beginning of the plan may have been written.

@@ -58,9 +58,11 @@ IfGroup P None = Unit {0}
 pub record GivesCopies {G E H F : Type 0} (source_dimensions : G → List Dimension) (target_dimensions : H → List Dimension) (target_key : F → List ℕ → List ℕ → Type 0)
     (before : Copies G E H F) (given : Option (Result (ChunkCopies G E) AllocError)) (after : Copies G E H F) : Type 0 where
   pub gives : Gives target_offsets targets_to_come (λ group. group.to.chunk.items) (λ offsets. offsets ≢ []) before given after
-  pub to : CanCopy source_dimensions target_dimensions before → IfGroup (λ group. IsPart (target_dimensions before.targets.grid.now) (target_key before.targets.encoding.now) before.targets.array_subset
+  pub to : CanCopy source_dimensions target_dimensions before
+      → IfGroup (λ group. IsPart (target_dimensions before.targets.grid.now) (target_key before.targets.encoding.now) before.targets.array_subset
       group.to.chunk.items group.to) given
-  pub from : CanCopy source_dimensions target_dimensions before → IfGroup (λ group. IsPlanned source_dimensions before.source.now before.source_encoding.now group.to.in_subset group.from) given
+  pub from : CanCopy source_dimensions target_dimensions before
+      → IfGroup (λ group. IsPlanned source_dimensions before.source.now before.source_encoding.now group.to.in_subset group.from) given
   pub about : IsAboutCopies before.source.now before.source_encoding.now before.targets.grid.now before.targets.encoding.now before.targets.array_subset after
   pub can : CanCopy source_dimensions target_dimensions before → CanCopy source_dimensions target_dimensions after
 

@@ -67,6 +67,7 @@ IfPart P None = Unit {0}
 pub record GivesPart {G E : Type 0} (dimensions : G → List Dimension) (is_key : E → List ℕ → List ℕ → Type 0) (before : Parts G E)
     (given : Option (Result Part AllocError)) (after : Parts G E) : Type 0 where
   pub gives : Gives offsets_to_come chunks_to_come (λ part. part.chunk.items) (λ offsets. offsets ≢ []) before given after
-  pub part : MeetSubset dimensions before → IfPart (λ part. IsPart (dimensions before.grid.now) (is_key before.encoding.now) before.array_subset part.chunk.items part) given
+  pub part : MeetSubset dimensions before
+      → IfPart (λ part. IsPart (dimensions before.grid.now) (is_key before.encoding.now) before.array_subset part.chunk.items part) given
   pub about : IsAbout before.grid.now before.encoding.now before.array_subset after
   pub meet : MeetSubset dimensions before → MeetSubset dimensions after

@@ -41,7 +41,8 @@ impl<'a, G: ChunkGridTraits> Iterator for ChunkIndicesAndSubsets<'a, G> {
 
     type Item = Result<(ArrayIndicesTinyVec, ArraySubset), AllocError>;
 
-    ghost next_gives = { λ before given after. AreChunksOfGrid G.dimensions before → AreChunksOfGrid G.dimensions after
+    ghost next_gives = { λ before given after. AreChunksOfGrid G.dimensions before
+        → AreChunksOfGrid G.dimensions after
         × Gives (λ walk. chunks_ahead G.dimensions walk.boxes) (chunks_and_boxes_left G.dimensions)
         (λ item. (item.0.items, item.1)) (λ chunks. chunks ≢ []) before given after };
 

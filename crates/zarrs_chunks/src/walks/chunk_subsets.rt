@@ -40,7 +40,8 @@ impl<'a, G: ChunkGridTraits> Iterator for ChunkSubsets<'a, G> {
 
     type Item = Result<ArraySubset, AllocError>;
 
-    ghost next_gives = { λ before given after. AreBoxesOfGrid G.dimensions before → AreBoxesOfGrid G.dimensions after
+    ghost next_gives = { λ before given after. AreBoxesOfGrid G.dimensions before
+        → AreBoxesOfGrid G.dimensions after
         × Gives (λ walk. chunks_ahead G.dimensions walk.boxes) (boxes_left G.dimensions)
         (λ subset. subset) (λ chunks. chunks ≢ []) before given after };
 

@@ -50,7 +50,8 @@ abbrev pub AreFoundParts : List Dimension → (List ℕ → List ℕ → Type 0)
 AreFoundParts ds IsKey subset first most some = (cover : Box) × IsCoverOf ds subset cover × AreSomeParts ds IsKey subset cover first most some
 
 -- how the writing of a plan ends: it is written, or there is none; or its keys are longer than their buffer, or out of memory
-abbrev pub IsPlanned : List Dimension → (List ℕ → List ℕ → Type 0) → Box → ℕ → (List ℕ → Written) → List ℕ → (needed count in_all mark : ℕ) → End → Type 0
+abbrev pub IsPlanned : List Dimension → (List ℕ → List ℕ → Type 0) → Box → ℕ → (List ℕ → Written) → List ℕ
+    → (needed count in_all mark : ℕ) → End → Type 0
 IsPlanned ds IsKeyOf subset first written text needed count in_all mark end =
     let IsPlan : List ℕ → Type 0 = IsPlanWith ds IsKeyOf subset first in_all count written in
     MatchResult end (λ _. IsMarked mark (IsWhole IsPlan text needed) (HasNoCover ds subset))

@@ -19,7 +19,8 @@ output contents held_back writer = record { holds = contents (watched writer); h
 
 -- of what was held back and of these bytes behind it, the writer now holds all but the rest
 abbrev pub Sends : Output → (bytes : List ℕ) → (holds : Option (List ℕ)) → (rest : List ℕ) → Type 0
-Sends before bytes holds rest = IfSome before.holds (λ held. (sent : List ℕ) × (holds ≡ Some (held ++ sent)) × (before.held_back ++ bytes ≡ sent ++ rest))
+Sends before bytes holds rest =
+    IfSome before.holds (λ held. (sent : List ℕ) × (holds ≡ Some (held ++ sent)) × (before.held_back ++ bytes ≡ sent ++ rest))
 
 -- a text of which Planned holds was sent, or a beginning of it
 abbrev pub HasBegun : (Planned : List ℕ → Type 0) → Output → Output → Type 0
@@ -27,9 +28,12 @@ HasBegun Planned before after = (text : List ℕ) × Planned text × (rest : Lis
 
 -- By the outcome of the step: such a text was sent, or is held back; memory ran out before or meanwhile; a write failed; or there is another
 -- fault, of which IsFault holds, and nothing was sent.
-abbrev pub StepLeaves : (Planned : List ℕ → Type 0) (IsFault : RunFault → Type 0) → Result (Unit {0}) (Refusal RunFault) → Output → Output → Type 0
+abbrev pub StepLeaves : (Planned : List ℕ → Type 0) (IsFault : RunFault → Type 0) → Result (Unit {0}) (Refusal RunFault)
+    → Output → Output → Type 0
 StepLeaves Planned IsFault (Ok _) before after =
     (text : List ℕ) × Planned text × Sends before text after.holds after.held_back × (after.failed ≡ before.failed)
-StepLeaves Planned IsFault (Err (Memory _)) before after = (after.failed ≡ before.failed) × ((after.holds ≡ before.holds) ⊎ HasBegun Planned before after)
+StepLeaves Planned IsFault (Err (Memory _)) before after =
+    (after.failed ≡ before.failed) × ((after.holds ≡ before.holds) ⊎ HasBegun Planned before after)
 StepLeaves Planned IsFault (Err (Refused Write)) before after = (after.failed ≡ true) × HasBegun Planned before after
-StepLeaves Planned IsFault (Err (Refused fault)) before after = (after.failed ≡ before.failed) × (after.holds ≡ before.holds) × IsFault fault
+StepLeaves Planned IsFault (Err (Refused fault)) before after =
+    (after.failed ≡ before.failed) × (after.holds ≡ before.holds) × IsFault fault
