@@ -1,9 +1,9 @@
 use Rattle.std.proofs.Common.{◌∙◌, [], ◌∷◌, ◌++◌, ap, inr, refl, subst, sym}
 use Rattle.std.proofs.lemmas.Result.{err_from_is_err_and}
 use Rattle.zarrs_chunk_plan.proofs.Copied.{first_group, last_group, one_more_group}
-use Rattle.programs.specs.Watched.{has_failed, watched}
+use Rattle.programs.specs.Watched.{watched}
 use Rattle.programs.specs.chunkplan.Line.{copy_lines}
-use Rattle.programs.specs.chunkplan.seen.Sent.{Output, Sends}
+use Rattle.programs.specs.chunkplan.seen.Sent.{Output, Sends, output}
 use Rattle.programs.proofs.chunkplan.Begun.{group_stops, groups_stop}
 use Rattle.programs.proofs.chunkplan.Groups.{copy_lines_more}
 use Rattle.programs.proofs.chunkplan.Sent.{sends_more, sends_nothing}
@@ -14,18 +14,14 @@ loop-group-init g c = (
   [],
   first_group g.G.ChunkGridTraits.dimensions g.E.ChunkKeyEncodingTraits.is_key g.H.ChunkGridTraits.dimensions g.F.ChunkKeyEncodingTraits.is_key c.args.walk
       c.into_iter-group-iterator.result [] c.into_iter-group-iterator.ensures.into_iter_gives refl c.requires.can,
-  sends_nothing (record { holds = g.W.Write.contents (watched c.args.writer.now); held_back = c.args.held_back.now.items; failed = has_failed c.args.writer.now }),
+  sends_nothing (output g.W.Write.contents c.args.held_back.now.items c.args.writer.now),
   refl,
 )
 
 pub loop-group-preserved : goal.loop-group-preserved
 loop-group-preserved g c =
-    let before : Output =
-    record { holds = g.W.Write.contents (watched c.args.writer.now); held_back = c.args.held_back.now.items; failed = has_failed c.args.writer.now }
-    in
-    let between : Output =
-    record { holds = g.W.Write.contents (watched c.loop-group.writer); held_back = c.loop-group.held_back.items; failed = has_failed c.loop-group.writer }
-    in
+    let before : Output = output g.W.Write.contents c.args.held_back.now.items c.args.writer.now in
+    let between : Output = output g.W.Write.contents c.loop-group.held_back.items c.loop-group.writer in
     let after = g.W.Write.contents (watched c.write_group.new.writer) in
     let (came, have, sends, same) = c.loop-group.invariant in
     let group = c.in_ok-group.field-0 in
@@ -48,23 +44,17 @@ returns-in_err-group g c =
     let begun = groups_stop g.G.ChunkGridTraits.dimensions g.E.ChunkKeyEncodingTraits.is_key g.H.ChunkGridTraits.dimensions g.F.ChunkKeyEncodingTraits.is_key
     c.args.walk (g.met.G.ChunkGridTraits.chained c.args.walk.source.now) (g.met.H.ChunkGridTraits.chained c.args.walk.targets.grid.now) c.requires.keys
     c.requires.target_keys c.requires.is_box
-    (record { holds = g.W.Write.contents (watched c.args.writer.now); held_back = c.args.held_back.now.items; failed = has_failed c.args.writer.now })
-    (record { holds = g.W.Write.contents (watched c.loop-group.writer); held_back = c.loop-group.held_back.items; failed = has_failed c.loop-group.writer })
+    (output g.W.Write.contents c.args.held_back.now.items c.args.writer.now)
+    (output g.W.Write.contents c.loop-group.held_back.items c.loop-group.writer)
     c.loop-group.group-iterator came c.loop-group.held_back.items have sends
     in
     rw (p.1, p.2) (same, inr begun)
 
 pub returns-in_err-write_group : goal.returns-in_err-write_group
 returns-in_err-write_group g c =
-    let before : Output =
-    record { holds = g.W.Write.contents (watched c.args.writer.now); held_back = c.args.held_back.now.items; failed = has_failed c.args.writer.now }
-    in
-    let between : Output =
-    record { holds = g.W.Write.contents (watched c.loop-group.writer); held_back = c.loop-group.held_back.items; failed = has_failed c.loop-group.writer }
-    in
-    let after : Output =
-    record { holds = g.W.Write.contents (watched c.write_group.new.writer); held_back = c.write_group.new.held_back.items; failed = has_failed c.write_group.new.writer }
-    in
+    let before : Output = output g.W.Write.contents c.args.held_back.now.items c.args.writer.now in
+    let between : Output = output g.W.Write.contents c.loop-group.held_back.items c.loop-group.writer in
+    let after : Output = output g.W.Write.contents c.write_group.new.held_back.items c.write_group.new.writer in
     let p = err_from_is_err_and c.from_residual-in_err-write_group.result c.from_residual-in_err-write_group.ensures.1 in
     let (came, have, sends, same) = c.loop-group.invariant in
     let group = c.in_ok-group.field-0 in

@@ -3,9 +3,9 @@ use Rattle.std.proofs.lemmas.List.{flat_map_more}
 use Rattle.std.proofs.lemmas.Result.{err_from_is_err_and}
 use Rattle.std.specs.List.{flat_map}
 use Rattle.zarrs_chunk_plan.proofs.Walked.{at_first, at_last, one_more}
-use Rattle.programs.specs.Watched.{has_failed, watched}
+use Rattle.programs.specs.Watched.{watched}
 use Rattle.programs.specs.chunkplan.Line.{line_for}
-use Rattle.programs.specs.chunkplan.seen.Sent.{Output, Sends}
+use Rattle.programs.specs.chunkplan.seen.Sent.{Output, Sends, output}
 use Rattle.programs.proofs.chunkplan.Begun.{parts_stop}
 use Rattle.programs.proofs.chunkplan.Sent.{sends_more, sends_nothing, stops}
 use Rattle.programs.proofs.chunkplan.copying.write_parts.Goals as goal
@@ -15,18 +15,14 @@ loop-part-init g c = (
   [],
   at_first g.G.ChunkGridTraits.dimensions g.E.ChunkKeyEncodingTraits.is_key c.args.walk c.into_iter-part-iterator.result []
       c.into_iter-part-iterator.ensures.into_iter_gives refl c.requires.meet,
-  sends_nothing (record { holds = g.W.Write.contents (watched c.args.writer.now); held_back = c.args.held_back.now.items; failed = has_failed c.args.writer.now }),
+  sends_nothing (output g.W.Write.contents c.args.held_back.now.items c.args.writer.now),
   refl,
 )
 
 pub loop-part-preserved : goal.loop-part-preserved
 loop-part-preserved g c =
-    let before : Output =
-    record { holds = g.W.Write.contents (watched c.args.writer.now); held_back = c.args.held_back.now.items; failed = has_failed c.args.writer.now }
-    in
-    let between : Output =
-    record { holds = g.W.Write.contents (watched c.loop-part.writer); held_back = c.loop-part.held_back.items; failed = has_failed c.loop-part.writer }
-    in
+    let before : Output = output g.W.Write.contents c.args.held_back.now.items c.args.writer.now in
+    let between : Output = output g.W.Write.contents c.loop-part.held_back.items c.loop-part.writer in
     let after = g.W.Write.contents (watched c.send.new.writer) in
     let (came, have, sends, same) = c.loop-part.invariant in
     let part = c.in_ok-part.field-0 in
@@ -49,8 +45,8 @@ returns-in_err-part g c =
     let (came, have, sends, same) = c.loop-part.invariant in
     let begun = parts_stop g.G.ChunkGridTraits.dimensions g.E.ChunkKeyEncodingTraits.is_key c.args.walk (g.met.G.ChunkGridTraits.chained c.args.walk.grid.now)
     c.requires.keys c.requires.is_box (option_map (λ t. t.now) c.args.to)
-    (record { holds = g.W.Write.contents (watched c.args.writer.now); held_back = c.args.held_back.now.items; failed = has_failed c.args.writer.now })
-    (record { holds = g.W.Write.contents (watched c.loop-part.writer); held_back = c.loop-part.held_back.items; failed = has_failed c.loop-part.writer })
+    (output g.W.Write.contents c.args.held_back.now.items c.args.writer.now)
+    (output g.W.Write.contents c.loop-part.held_back.items c.loop-part.writer)
     c.loop-part.part-iterator came c.loop-part.held_back.items have sends
     in
     rw (p.1, p.2) (same, inr begun)
@@ -61,23 +57,17 @@ returns-in_err-line g c =
     let (came, have, sends, same) = c.loop-part.invariant in
     let begun = parts_stop g.G.ChunkGridTraits.dimensions g.E.ChunkKeyEncodingTraits.is_key c.args.walk (g.met.G.ChunkGridTraits.chained c.args.walk.grid.now)
     c.requires.keys c.requires.is_box (option_map (λ t. t.now) c.args.to)
-    (record { holds = g.W.Write.contents (watched c.args.writer.now); held_back = c.args.held_back.now.items; failed = has_failed c.args.writer.now })
-    (record { holds = g.W.Write.contents (watched c.loop-part.writer); held_back = c.loop-part.held_back.items; failed = has_failed c.loop-part.writer })
+    (output g.W.Write.contents c.args.held_back.now.items c.args.writer.now)
+    (output g.W.Write.contents c.loop-part.held_back.items c.loop-part.writer)
     c.loop-part.part-iterator came c.loop-part.held_back.items have sends
     in
     rw (p.1, p.2) (same, inr begun)
 
 pub returns-in_err-send : goal.returns-in_err-send
 returns-in_err-send g c =
-    let before : Output =
-    record { holds = g.W.Write.contents (watched c.args.writer.now); held_back = c.args.held_back.now.items; failed = has_failed c.args.writer.now }
-    in
-    let between : Output =
-    record { holds = g.W.Write.contents (watched c.loop-part.writer); held_back = c.loop-part.held_back.items; failed = has_failed c.loop-part.writer }
-    in
-    let after : Output =
-    record { holds = g.W.Write.contents (watched c.send.new.writer); held_back = c.send.new.held_back.items; failed = has_failed c.send.new.writer }
-    in
+    let before : Output = output g.W.Write.contents c.args.held_back.now.items c.args.writer.now in
+    let between : Output = output g.W.Write.contents c.loop-part.held_back.items c.loop-part.writer in
+    let after : Output = output g.W.Write.contents c.send.new.held_back.items c.send.new.writer in
     let p = err_from_is_err_and c.from_residual-in_err-send.result c.from_residual-in_err-send.ensures.1 in
     let (came, have, sends, same) = c.loop-part.invariant in
     let part = c.in_ok-part.field-0 in

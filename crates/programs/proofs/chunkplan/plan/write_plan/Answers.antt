@@ -6,10 +6,10 @@ use Rattle.zarrs_chunk_keys.proofs.SomeKey.{has_key}
 use Rattle.zarrs_chunks.specs.seen.Grids.{grid_in}
 use Rattle.zarrs_chunk_plan.specs.Rechunking.{IsRechunking}
 use Rattle.programs.proofs.Refusals.{follows}
-use Rattle.programs.specs.Watched.{has_failed, watched}
 use Rattle.programs.specs.chunkplan.Document.{document_of, stored_of, task_of}
 use Rattle.programs.specs.chunkplan.PlanFault.{IsChunksFault, IsPlanFault, IsReadFault, IsSourceFault, IsTargetFault, of_chunks, of_source, of_subset, of_target}
 use Rattle.programs.specs.chunkplan.Planned.{IsPlanned, IsReadPlan, of_read, of_rechunking}
+use Rattle.programs.specs.chunkplan.seen.Sent.{output}
 use Rattle.programs.proofs.chunkplan.RunOutcomes.{no_failed_write}
 use Rattle.programs.proofs.chunkplan.Sent.{early, step_follows}
 use Rattle.programs.proofs.chunkplan.plan.write_plan.Goals as goal
@@ -34,7 +34,7 @@ returns-in_err-grid g c =
     let refused = rw c.deref.ensures.value at c.in_err-grid.ensures.refused in
     rw (p.1, p.2)
     (early (IsPlanned document) (IsPlanFault document) _
-    (record { holds = g.W.Write.contents (watched c.args.writer.now); held_back = c.args.held_back.now.items; failed = has_failed c.args.writer.now })
+    (output g.W.Write.contents c.args.held_back.now.items c.args.writer.now)
     (no_failed_write document) (follows _ (IsSourceFault document.stored document.shape) (IsPlanFault document) (λ fault is. of_source is) refused))
 
 pub returns-in-Read : goal.returns-in-Read
@@ -48,8 +48,8 @@ returns-in-Read g c =
     (subst (λ b. IsReadPlan grid.dimensions (IsKey encoding) b parts) c.in_ok-subset-in-Read.ensures is) lines)
     (λ fault is. of_subset c.in-Read.subset grid encoding (ap task_of c.in-Read.is) made
     (subst (λ b. IsReadFault grid.dimensions b fault) c.in_ok-subset-in-Read.ensures is))
-    (record { holds = g.W.Write.contents (watched c.args.writer.now); held_back = c.args.held_back.now.items; failed = has_failed c.args.writer.now })
-    (record { holds = g.W.Write.contents (watched c.write_read.new.writer); held_back = c.write_read.new.held_back.items; failed = has_failed c.write_read.new.writer })
+    (output g.W.Write.contents c.args.held_back.now.items c.args.writer.now)
+    (output g.W.Write.contents c.write_read.new.held_back.items c.write_read.new.writer)
     c.write_read.result c.write_read.ensures
 
 pub returns-in_err-target-in-Rechunk : goal.returns-in_err-target-in-Rechunk
@@ -61,7 +61,7 @@ returns-in_err-target-in-Rechunk g c =
     let refused = rw c.deref-in-Rechunk.ensures.value at c.in_err-target-in-Rechunk.ensures.refused in
     rw (p.1, p.2)
     (early (IsPlanned document) (IsPlanFault document) _
-    (record { holds = g.W.Write.contents (watched c.args.writer.now); held_back = c.args.held_back.now.items; failed = has_failed c.args.writer.now })
+    (output g.W.Write.contents c.args.held_back.now.items c.args.writer.now)
     (no_failed_write document)
     (follows _ (IsTargetFault stored document.shape) (IsPlanFault document)
     (λ fault is. of_target stored c.in-Rechunk.chunks (grid_in c.in_ok-grid.grid) (encoding_in c.in_ok-grid.encoding) (ap task_of c.in-Rechunk.is) made is)
@@ -84,6 +84,6 @@ returns g c =
     lines)
     (λ fault is. of_chunks stored c.in-Rechunk.chunks source target source_encoding target_encoding (ap task_of c.in-Rechunk.is) made made_target
     (subst (λ b. IsChunksFault target.dimensions b fault) c.in_ok-chunks-in-Rechunk.ensures is))
-    (record { holds = g.W.Write.contents (watched c.args.writer.now); held_back = c.args.held_back.now.items; failed = has_failed c.args.writer.now })
-    (record { holds = g.W.Write.contents (watched c.write_rechunking.new.writer); held_back = c.write_rechunking.new.held_back.items; failed = has_failed c.write_rechunking.new.writer })
+    (output g.W.Write.contents c.args.held_back.now.items c.args.writer.now)
+    (output g.W.Write.contents c.write_rechunking.new.held_back.items c.write_rechunking.new.writer)
     c.write_rechunking.result c.write_rechunking.ensures

@@ -1,6 +1,6 @@
 use Rattle.std.proofs.Common.{◌≡◌, length, rules}
-use Rattle.programs.specs.Watched.{has_failed, watched}
 use Rattle.programs.specs.chunkplan.PlanFault.{IsReadFault}
+use Rattle.programs.specs.chunkplan.seen.Sent.{output}
 use Rattle.programs.proofs.chunkplan.ReadPlans.{is_read_plan}
 use Rattle.programs.proofs.chunkplan.Sent.{step_follows}
 use Rattle.programs.proofs.chunkplan.plan.write_read.Goals as goal
@@ -20,6 +20,6 @@ returns-in-Ok-Some g c =
       lines,
     ))
     (λ fault none. absurd none)
-    (record { holds = g.W.Write.contents (watched c.args.writer.now); held_back = c.args.held_back.now.items; failed = has_failed c.args.writer.now })
-    (record { holds = g.W.Write.contents (watched c.write_parts.new.writer); held_back = c.write_parts.new.held_back.items; failed = has_failed c.write_parts.new.writer })
+    (output g.W.Write.contents c.args.held_back.now.items c.args.writer.now)
+    (output g.W.Write.contents c.write_parts.new.held_back.items c.write_parts.new.writer)
     c.write_parts.result c.write_parts.ensures

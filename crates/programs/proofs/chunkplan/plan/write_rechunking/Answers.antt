@@ -1,6 +1,6 @@
 use Rattle.zarrs_chunk_plan.proofs.Copied.{rechunking_of}
-use Rattle.programs.specs.Watched.{has_failed, watched}
 use Rattle.programs.specs.chunkplan.PlanFault.{IsChunksFault}
+use Rattle.programs.specs.chunkplan.seen.Sent.{output}
 use Rattle.programs.proofs.chunkplan.Sent.{step_follows}
 use Rattle.programs.proofs.chunkplan.plan.write_rechunking.Goals as goal
 
@@ -17,6 +17,6 @@ returns-in-Ok g c =
       lines,
     ))
     (λ fault none. absurd none)
-    (record { holds = g.W.Write.contents (watched c.args.writer.now); held_back = c.args.held_back.now.items; failed = has_failed c.args.writer.now })
-    (record { holds = g.W.Write.contents (watched c.write_copies.new.writer); held_back = c.write_copies.new.held_back.items; failed = has_failed c.write_copies.new.writer })
+    (output g.W.Write.contents c.args.held_back.now.items c.args.writer.now)
+    (output g.W.Write.contents c.write_copies.new.held_back.items c.write_copies.new.writer)
     c.write_copies.result c.write_copies.ensures

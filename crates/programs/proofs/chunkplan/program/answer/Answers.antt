@@ -3,10 +3,10 @@ use Rattle.std.proofs.lemmas.Result.{err_from_is_err_and}
 use Rattle.zarrs_chunk_base.proofs.MappedErrors.{value_is_kept}
 use Rattle.programs.proofs.Refusals.{follows}
 use Rattle.programs.specs.OrMemory.{OrMemory}
-use Rattle.programs.specs.Watched.{has_failed, watched}
 use Rattle.programs.specs.chunkplan.Document.{document_of}
 use Rattle.programs.specs.chunkplan.PlanFault.{IsDocumentFault, IsFirstFault, IsPlanFault, no_document, no_plan}
 use Rattle.programs.specs.chunkplan.Planned.{IsPlanOf, IsPlanned}
+use Rattle.programs.specs.chunkplan.seen.Sent.{output}
 use Rattle.programs.proofs.chunkplan.RunOutcomes.{no_write}
 use Rattle.programs.proofs.chunkplan.Sent.{early, step_follows}
 use Rattle.programs.proofs.chunkplan.program.answer.Goals as goal
@@ -19,7 +19,7 @@ returns-in_err-document g c =
     let blames : OrMemory (IsDocumentFault input) c.in_err-document.field-0.0 = grind arith in
     rw (p.1, p.2)
     (early (IsPlanOf input) (IsFirstFault input) _
-    (record { holds = g.W.Write.contents (watched c.args.writer.now); held_back = c.args.held_back.now.items; failed = has_failed c.args.writer.now })
+    (output g.W.Write.contents c.args.held_back.now.items c.args.writer.now)
     (no_write input) (follows _ (IsDocumentFault input) (IsFirstFault input) (λ fault is. no_document is) blames))
 
 pub returns : goal.returns
@@ -31,6 +31,6 @@ returns g c =
     step_follows (IsPlanned document) (IsPlanOf input) (IsPlanFault document) (IsFirstFault input)
     (λ text planned. record { tree = tree; document = document; reads = reads; stands_for = stands_for; planned = planned })
     (λ fault is. no_plan tree document reads stands_for is)
-    (record { holds = g.W.Write.contents (watched c.args.writer.now); held_back = c.args.held_back.now.items; failed = has_failed c.args.writer.now })
-    (record { holds = g.W.Write.contents (watched c.write_plan.new.writer); held_back = c.write_plan.new.held_back.items; failed = has_failed c.write_plan.new.writer })
+    (output g.W.Write.contents c.args.held_back.now.items c.args.writer.now)
+    (output g.W.Write.contents c.write_plan.new.held_back.items c.write_plan.new.writer)
     c.write_plan.result c.write_plan.ensures

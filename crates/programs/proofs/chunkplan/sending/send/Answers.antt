@@ -1,30 +1,24 @@
 use Rattle.std.proofs.Common.{◌∙◌, ◌++◌, sym}
 use Rattle.std.proofs.lemmas.Result.{err_from_is_err_and}
-use Rattle.programs.specs.Watched.{has_failed, watched}
-use Rattle.programs.specs.chunkplan.seen.Sent.{Output}
+use Rattle.programs.specs.Watched.{watched}
+use Rattle.programs.specs.chunkplan.seen.Sent.{Output, output}
 use Rattle.programs.proofs.chunkplan.Sent.{all_sent, some_sent, waits}
 use Rattle.programs.proofs.chunkplan.sending.send.Goals as goal
 
 pub returns-in_err-extend_from_slice-clause-sent : goal.returns-in_err-extend_from_slice-clause-sent
 returns-in_err-extend_from_slice-clause-sent g c =
     let p = err_from_is_err_and c.from_residual.result c.from_residual.ensures.1 in
-    let before : Output =
-    record { holds = g.W.Write.contents (watched c.args.writer.now); held_back = c.args.held_back.now.items; failed = has_failed c.args.writer.now }
-    in
+    let before : Output = output g.W.Write.contents c.args.held_back.now.items c.args.writer.now in
     (before.held_back ++ c.args.bytes.now, waits before c.args.bytes.now, rw p.1 tt)
 
 pub returns-then-len-lt-ENOUGH-clause-sent : goal.returns-then-len-lt-ENOUGH-clause-sent
 returns-then-len-lt-ENOUGH-clause-sent g c =
-    let before : Output =
-    record { holds = g.W.Write.contents (watched c.args.writer.now); held_back = c.args.held_back.now.items; failed = has_failed c.args.writer.now }
-    in
+    let before : Output = output g.W.Write.contents c.args.held_back.now.items c.args.writer.now in
     (before.held_back ++ c.args.bytes.now, waits before c.args.bytes.now, sym c.in_ok-extend_from_slice.ensures.items)
 
 pub returns-in-Ok-clause-sent : goal.returns-in-Ok-clause-sent
 returns-in-Ok-clause-sent g c =
-    let before : Output =
-    record { holds = g.W.Write.contents (watched c.args.writer.now); held_back = c.args.held_back.now.items; failed = has_failed c.args.writer.now }
-    in (
+    let before : Output = output g.W.Write.contents c.args.held_back.now.items c.args.writer.now in (
       _,
       all_sent before (g.W.Write.contents (watched c.write_bytes.new.writer)) c.args.bytes.now c.deref.result.now
           (c.deref.ensures.value ∙ c.in_ok-extend_from_slice.ensures.items) c.in-Ok.ensures.ok,
@@ -33,9 +27,7 @@ returns-in-Ok-clause-sent g c =
 
 pub returns-in-Err-clause-sent : goal.returns-in-Err-clause-sent
 returns-in-Err-clause-sent g c =
-    let before : Output =
-    record { holds = g.W.Write.contents (watched c.args.writer.now); held_back = c.args.held_back.now.items; failed = has_failed c.args.writer.now }
-    in
+    let before : Output = output g.W.Write.contents c.args.held_back.now.items c.args.writer.now in
     let (rest, sent) = some_sent before (g.W.Write.contents (watched c.write_bytes.new.writer)) c.args.bytes.now c.deref.result.now
     (c.deref.ensures.value ∙ c.in_ok-extend_from_slice.ensures.items) c.in-Err.ensures.err
     in
