@@ -1,4 +1,5 @@
 pub mod Plan
 pub mod Rechunking
+pub mod SomeChunks
 pub mod SomeParts
 pub mod seen

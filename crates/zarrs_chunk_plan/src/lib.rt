@@ -18,7 +18,7 @@
 //! | `plan` | `parts`: the plan of reading a box of elements |
 //! | `walk` | the walk over the parts |
 //! | `pieces` | `some_parts`: some of the parts of that plan, from any one on |
-//! | `numbered` | the chunks in a box of chunk numbers, by their number |
+//! | `numbered` | the chunks in a box of chunk numbers, by their number; `some_chunks`: those from any one on |
 //! | `rechunking` | `copies`: the plan of a rechunking |
 //! | `chunk_copies` | the walk over what a rechunking copies, a chunk of the target after another |
 //! | `copies_error` | why a rechunking can't be planned |
@@ -43,6 +43,7 @@ mod whole;
 
 pub use chunk_copies::{ChunkCopies, Copies};
 pub use copies_error::CopiesError;
+pub use numbered::{SomeChunks, some_chunks};
 pub use part::Part;
 pub use pieces::{SomeParts, some_parts};
 pub use plan::parts;

@@ -10,7 +10,7 @@ use zarrs_chunk_plan::laws::{
     each_element_lies_in_one_part, no_two_parts_have_one_key, the_parts_tile_the_box,
     the_walk_gives_the_plan,
 };
-use zarrs_chunk_plan::{Part, parts, some_parts};
+use zarrs_chunk_plan::{Part, all_chunks, parts, some_chunks, some_parts};
 use zarrs_chunks::RegularChunkGrid;
 
 /// A row of so many elements, in chunks of three: the last of five dimensions.
@@ -97,6 +97,20 @@ fn a_part_is_asked_for_by_its_number(rt: HostRuntime) -> Result<(), Fail> {
     assert_eq!(rt; some.parts.len(), 1);
     for part in &some.parts {
         check_part(&rt, part, "c/0/0/0/0/1", 0, 1, 2);
+    }
+    Ok(())
+}
+
+/// Of the chunks of 3001 elements the last two.
+#[test]
+fn chunks_are_asked_for_by_their_number(rt: HostRuntime) -> Result<(), Fail> {
+    let alloc = rt.alloc();
+    let grid = row(alloc, 3001)?;
+    let some = some_chunks(alloc, &all_chunks(alloc, &grid)?, 999, 9)?;
+    assert_eq!(rt; some.in_all, 1001);
+    assert_eq!(rt; some.chunks.len(), 2);
+    for (chunk, last) in some.chunks.iter().zip([999, 1000]) {
+        assert_eq!(rt; chunk.as_slice(), [0, 0, 0, 0, last].as_slice());
     }
     Ok(())
 }
