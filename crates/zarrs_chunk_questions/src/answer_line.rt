@@ -1,5 +1,5 @@
 //! The line that answers a line.
-ghost use Rattle.std.specs.Prelude.{◌≡◌, ◌==◌, if◌then◌else◌, IfOk};
+ghost use Rattle.std.specs.Prelude.{◌≡◌, ◌==◌, if◌then◌else◌, IfOk, IfSome};
 ghost use Rattle.zarrs_chunk_questions.specs.Line.{IsOneLine};
 
 use crate::line_fault::LineFault;
@@ -15,7 +15,35 @@ use zarrs_chunk_base::Refusal;
 pub fn answer(alloc: Global, line: &[u8]) -> Result<Vec<u8>, AllocError>
     ensures { IfOk result (λ answer. IsOneLine answer.items) }
 {
-    let text = match answer_tree(alloc, line) {
+    write_line(alloc, answer_tree(alloc, line, usize::MAX))
+}
+
+/// The same, or `None` where a walk's items alone are longer than `room` bytes. A walk is ended there, so that no more memory is taken
+/// than for some sixty bytes a byte of room, whatever number of items is asked for.
+///
+/// # Errors
+/// Out of memory.
+pub fn answer_within(alloc: Global, line: &[u8], room: usize) -> Result<Option<Vec<u8>>, AllocError>
+    ensures { IfOk result (λ answer. IfSome answer (λ line. IsOneLine line.items)) }
+{
+    let answered = answer_tree(alloc, line, room);
+    if let Err(Refusal::Refused(LineFault::TooLong)) = &answered {
+        return Ok(None);
+    }
+    Ok(Some(write_line(alloc, answered)?))
+}
+
+/// The line that says an answer, or why there is none.
+///
+/// # Errors
+/// Out of memory.
+fn write_line(
+    alloc: Global,
+    answered: Result<Value, Refusal<LineFault>>,
+) -> Result<Vec<u8>, AllocError>
+    ensures { IfOk result (λ line. IsOneLine line.items) }
+{
+    let text = match answered {
         Ok(tree) => tree.to_string(alloc)?,
         Err(Refusal::Refused(fault)) => format!(in alloc; "{fault}")?,
         Err(Refusal::Memory(error)) => return Err(error),
@@ -23,10 +51,10 @@ pub fn answer(alloc: Global, line: &[u8]) -> Result<Vec<u8>, AllocError>
     one_line(alloc, text.as_str())
 }
 
-/// The tree of the answer to a line, or the first fault.
-fn answer_tree(alloc: Global, line: &[u8]) -> Result<Value, Refusal<LineFault>> {
+/// The tree of the answer to a line, of which a walk's items may be so many bytes long, or the first fault.
+fn answer_tree(alloc: Global, line: &[u8], room: usize) -> Result<Value, Refusal<LineFault>> {
     match Value::from_slice(alloc, line) {
-        Ok(tree) => answer_question(alloc, &tree),
+        Ok(tree) => answer_question(alloc, &tree, room),
         Err(error) if error.is_memory() => Err(Refusal::Memory(AllocError)),
         Err(_) => Err(Refusal::Refused(LineFault::NotJson)),
     }

@@ -2,9 +2,10 @@
 use crate::extensions::{make_encoding, make_grid};
 use crate::line_fault::LineFault;
 use crate::located::located_tree;
+use crate::pages::{Page, WalkOf, items_from, parts_from};
 use crate::question::{number, numbers, required_member};
 use crate::start_shape::{StartShape, box_tree, numbers_tree};
-use crate::walk_items::first_items;
+use crate::walk_items::{Limits, first_items};
 use serde_json::{Map, Value};
 use std::alloc::{AllocError, Global};
 use zarrs_chunk_base::{ArraySubset, IncompatibleDimensionalityError, Refusal, TreeForm};
@@ -14,13 +15,15 @@ use zarrs_chunks::{ChunkGrid, ChunkGridTraits, Comparisons, RectilinearChunkGrid
 /// A call of the chunk grid of an array with this shape.
 #[derive(Drop)]
 pub(crate) struct GridQuestion<'t> {
-    /// The line's tree. What the call is asked of is its member `of`; how many items of a walk are given, its member `items`;
-    /// `locate` and `parts` take its member `chunk_key_encoding` too.
+    /// The line's tree. What the call is asked of is its member `of`; how many items of a walk are given, and from which on, its members
+    /// `items` and `first`; `locate` and `parts` take its member `chunk_key_encoding` too.
     pub(crate) tree: &'t Value,
     pub(crate) shape: Vec<u64>,
     pub(crate) chunk_grid: &'t Value,
     /// The name of the call.
     pub(crate) call: &'t str,
+    /// How many bytes the items of a walk may have.
+    pub(crate) room: usize,
 }
 
 /// Each call reads what it is asked of, and only then makes the grid.
@@ -29,8 +32,8 @@ impl GridQuestion<'_> {
     ///
     /// # Errors
     /// The first that applies: there is no such call; the call takes an argument, and that is missing or isn't of its form; the
-    /// grid can't be made; it has no such call; the call is asked of a box or an encoding that can't be made; the call refuses. Or
-    /// out of memory.
+    /// grid can't be made; it has no such call; the call is asked of an encoding or a box that can't be made, in this order; the call
+    /// refuses; the items of a walk are longer than there is room for. Or out of memory.
     pub(crate) fn answer(&self, alloc: Global) -> Result<Value, Refusal<LineFault>> {
         match self.call {
             "dimensionality" => Ok(Value::from(self.grid(alloc)?.dimensionality())),
@@ -39,7 +42,7 @@ impl GridQuestion<'_> {
             "configuration" => Ok(Value::Object(self.grid(alloc)?.configuration(alloc)?)),
             "metadata" => Ok(self.grid(alloc)?.metadata(alloc)?.to_tree(alloc)?),
             "locate" => self.locate(alloc),
-            "parts" => self.first_parts(alloc),
+            "parts" => self.some_parts(alloc),
             _ => self.answer_of_numbers(alloc),
         }
     }
@@ -98,24 +101,37 @@ impl GridQuestion<'_> {
         }
     }
 
-    /// The first items of a walk, or the answer of another call.
+    /// Some of the items of a walk, or the answer of another call.
     fn answer_of_walk(&self, alloc: Global) -> Result<Value, Refusal<LineFault>> {
         match self.call {
-            "iter_chunk_indices" => {
-                let (most, grid) = self.items_and_grid(alloc)?;
-                Ok(first_items(alloc, grid.iter_chunk_indices(alloc), most)?)
-            }
-            "iter_chunk_subsets" => {
-                let (most, grid) = self.items_and_grid(alloc)?;
-                Ok(first_items(alloc, grid.iter_chunk_subsets(alloc), most)?)
-            }
-            "iter_chunk_indices_and_subsets" => {
-                let (most, grid) = self.items_and_grid(alloc)?;
-                let walk = grid.iter_chunk_indices_and_subsets(alloc);
-                Ok(first_items(alloc, walk, most)?)
-            }
+            "iter_chunk_indices" => self.some_items(alloc, WalkOf::Chunks),
+            "iter_chunk_subsets" => self.some_items(alloc, WalkOf::Boxes),
+            "iter_chunk_indices_and_subsets" => self.some_items(alloc, WalkOf::ChunksAndBoxes),
             _ => self.answer_of_rectilinear(alloc),
         }
+    }
+
+    /// Some of the items of a walk.
+    fn some_items(&self, alloc: Global, walk: WalkOf) -> Result<Value, Refusal<LineFault>> {
+        let page = Page::from_tree(alloc, self.tree)?;
+        let grid = self.grid(alloc)?;
+        let limits = self.limits(&page, &grid, walk.lists());
+        if let Some(first) = page.first {
+            return items_from(alloc, &grid, walk, first, &limits);
+        }
+        match walk {
+            WalkOf::Chunks => first_items(alloc, grid.iter_chunk_indices(alloc), &limits),
+            WalkOf::Boxes => first_items(alloc, grid.iter_chunk_subsets(alloc), &limits),
+            WalkOf::ChunksAndBoxes => {
+                first_items(alloc, grid.iter_chunk_indices_and_subsets(alloc), &limits)
+            }
+        }
+    }
+
+    /// How many items are given that have so many lists of a number for each dimension.
+    fn limits(&self, page: &Page, grid: &ChunkGrid, lists: usize) -> Limits {
+        let numbers = grid.dimensionality().saturating_mul(lists);
+        Limits::new(page.most, numbers, self.room)
     }
 
     /// The answer of a call that a `rectilinear` grid alone has. There is no further call.
@@ -151,14 +167,20 @@ impl GridQuestion<'_> {
         }
     }
 
-    /// The first parts of the plan of reading a box of elements of the grid's array.
-    fn first_parts(&self, alloc: Global) -> Result<Value, Refusal<LineFault>> {
+    /// Some of the parts of the plan of reading a box of elements of the grid's array.
+    fn some_parts(&self, alloc: Global) -> Result<Value, Refusal<LineFault>> {
         let encoding = required_member(self.tree, "chunk_key_encoding")?;
-        let most = number(alloc, self.tree, "items")?;
-        let (elements, grid) = self.box_and_grid(alloc)?;
+        let page = Page::from_tree(alloc, self.tree)?;
+        let elements = self.box_asked(alloc)?;
+        let grid = self.grid(alloc)?;
         let encoding = make_encoding(alloc, encoding)?;
+        let elements = elements.into_box()?;
+        let limits = self.limits(&page, &grid, 5);
+        if let Some(first) = page.first {
+            return parts_from(alloc, &grid, &encoding, &elements, first, &limits);
+        }
         match parts(alloc, &grid, &encoding, &elements) {
-            Ok(Some(walk)) => Ok(first_items(alloc, walk, most)?),
+            Ok(Some(walk)) => first_items(alloc, walk, &limits),
             Ok(None) => Ok(Value::Null),
             Err(refusal) => Err(refusal.map(LineFault::Lengths)),
         }
@@ -192,15 +214,15 @@ impl GridQuestion<'_> {
     /// The box that the call is asked of, and the grid. A box that can't be made is a fault of the call's, and so comes after those
     /// of the grid.
     fn box_and_grid(&self, alloc: Global) -> Result<(ArraySubset, ChunkGrid), Refusal<LineFault>> {
-        let start_shape = StartShape::from_tree(alloc, required_member(self.tree, "of")?)?;
-        let start_shape = start_shape.ok_or(Refusal::Refused(LineFault::WrongValue("of")))?;
+        let elements = self.box_asked(alloc)?;
         let grid = self.grid(alloc)?;
-        Ok((start_shape.into_box()?, grid))
+        Ok((elements.into_box()?, grid))
     }
 
-    /// How many items of a walk are given at most, and the grid.
-    fn items_and_grid(&self, alloc: Global) -> Result<(u64, ChunkGrid), Refusal<LineFault>> {
-        Ok((number(alloc, self.tree, "items")?, self.grid(alloc)?))
+    /// The start and the shape that the call is asked of.
+    fn box_asked(&self, alloc: Global) -> Result<StartShape, Refusal<LineFault>> {
+        let start_shape = StartShape::from_tree(alloc, required_member(self.tree, "of")?)?;
+        start_shape.ok_or(Refusal::Refused(LineFault::WrongValue("of")))
     }
 }
 

@@ -38,4 +38,7 @@ pub(crate) enum LineFault {
     /// What the call is asked of has another number of dimensions than the grid.
     #[error("refused: {0}")]
     Lengths(IncompatibleDimensionalityError),
+    /// The items of a walk are longer than there is room for.
+    #[error("refused: the answer is too long")]
+    TooLong,
 }

@@ -7,19 +7,23 @@ use std::alloc::Global;
 use zarrs_chunk_base::{Refusal, StoreKey, TreeForm};
 use zarrs_chunk_keys::ChunkKeyEncodingTraits;
 
-/// The tree of the answer to a line's tree. What else the tree has says nothing.
+/// The tree of the answer to a line's tree, of which a walk's items may be `room` bytes long. What else the tree has says nothing.
 ///
 /// # Errors
 /// The tree is no object; or, where the call is `encode` or `decode`, a fault of [`key_of_chunk`] or [`chunk_of_key`], and else one
 /// of [`ask_grid`]. Or out of memory.
-pub(crate) fn answer_question(alloc: Global, tree: &Value) -> Result<Value, Refusal<LineFault>> {
+pub(crate) fn answer_question(
+    alloc: Global,
+    tree: &Value,
+    room: usize,
+) -> Result<Value, Refusal<LineFault>> {
     if !tree.is_object() {
         return Err(Refusal::Refused(LineFault::NotObject));
     }
     match tree.get("call").and_then(|call| call.as_str()) {
         Some("encode") => key_of_chunk(alloc, tree),
         Some("decode") => chunk_of_key(alloc, tree),
-        _ => ask_grid(alloc, tree),
+        _ => ask_grid(alloc, tree, room),
     }
 }
 
@@ -63,7 +67,7 @@ fn chunk_of_key(alloc: Global, tree: &Value) -> Result<Value, Refusal<LineFault>
 /// # Errors
 /// The first that applies: `shape`, `chunk_grid` or `call` is missing, in this order; `shape` is no list of sizes; `call`
 /// is no text; a fault of [`GridQuestion::answer`]. Or out of memory.
-fn ask_grid(alloc: Global, tree: &Value) -> Result<Value, Refusal<LineFault>> {
+fn ask_grid(alloc: Global, tree: &Value, room: usize) -> Result<Value, Refusal<LineFault>> {
     let shape = required_member(tree, "shape")?;
     let chunk_grid = required_member(tree, "chunk_grid")?;
     let call = required_member(tree, "call")?;
@@ -78,6 +82,7 @@ fn ask_grid(alloc: Global, tree: &Value) -> Result<Value, Refusal<LineFault>> {
         shape,
         chunk_grid,
         call,
+        room,
     };
     question.answer(alloc)
 }
@@ -95,6 +100,18 @@ pub(crate) fn required_member<'t>(
 pub(crate) fn numbers(alloc: Global, tree: &Value) -> Result<Vec<u64>, Refusal<LineFault>> {
     let numbers = Vec::from_tree(alloc, required_member(tree, "of")?)?;
     numbers.ok_or(Refusal::Refused(LineFault::WrongValue("of")))
+}
+
+/// A member that is a number, or `None` where there is no such member.
+pub(crate) fn optional_number(
+    alloc: Global,
+    tree: &Value,
+    field: &'static str,
+) -> Result<Option<u64>, Refusal<LineFault>> {
+    match tree.get(field) {
+        Some(_) => Ok(Some(number(alloc, tree, field)?)),
+        None => Ok(None),
+    }
 }
 
 /// A member that is a number.

@@ -1,10 +1,11 @@
-//! The first items of a walk, as a line writes them.
+//! The items of a walk, as a line writes them.
 ghost use Rattle.std.specs.Iterator.{IsFinite};
 
+use crate::line_fault::LineFault;
 use crate::start_shape::{box_tree, numbers_tree};
 use serde_json::{Map, Value};
 use std::alloc::{AllocError, Global};
-use zarrs_chunk_base::ArraySubset;
+use zarrs_chunk_base::{ArraySubset, Refusal};
 use zarrs_chunk_plan::Part;
 use zarrs_chunks::ArrayIndicesTinyVec;
 
@@ -53,15 +54,42 @@ impl WalkItem for Part {
     }
 }
 
-/// The tree of the first items of a walk, at most so many, and of whether more follow.
+/// How many items are given.
+#[derive(Drop)]
+pub(crate) struct Limits {
+    /// At most so many.
+    pub(crate) most: u64,
+    /// So many would be longer, as text, than there is room for.
+    pub(crate) too_many: u64,
+}
+
+impl Limits {
+    /// The limits of at most so many items, where so many bytes have room and each item has as many numbers. The text of a number has a digit and
+    /// what follows it, and that of an item one byte more.
+    pub(crate) fn new(most: u64, numbers: usize, room: usize) -> Limits {
+        let least = numbers.saturating_mul(2).saturating_add(1);
+        let too_many = (room / least) as u64;
+        Limits {
+            most,
+            too_many: too_many.saturating_add(1),
+        }
+    }
+
+    /// How many items there are to be made: all that are given, or as many as are too many.
+    pub(crate) fn wanted(&self) -> u64 {
+        self.most.min(self.too_many)
+    }
+}
+
+/// The tree of the first items of a walk and of whether more follow: `{"items":[..],"more":b}`.
 ///
 /// # Errors
-/// Out of memory.
+/// The items are longer than there is room for; or out of memory.
 pub(crate) fn first_items<T: WalkItem, I: Iterator<Item = Result<T, AllocError>> + Drop>(
     alloc: Global,
     walk: I,
-    most: u64,
-) -> Result<Value, AllocError>
+    limits: &Limits,
+) -> Result<Value, Refusal<LineFault>>
     requires can { I.can_next walk }
     requires ends { IsFinite (I.remaining walk) }
 {
@@ -69,12 +97,27 @@ pub(crate) fn first_items<T: WalkItem, I: Iterator<Item = Result<T, AllocError>>
     let mut more = false;
     for item in walk {
         let item = item?;
-        if items.len() as u64 == most {
+        if items.len() as u64 == limits.most {
             more = true;
             break;
         }
         items.push(item.to_tree(alloc)?)?;
+        if items.len() as u64 == limits.too_many {
+            return Err(Refusal::Refused(LineFault::TooLong));
+        }
     }
+    Ok(items_tree(alloc, items, more)?)
+}
+
+/// The tree of items, and of whether more follow.
+///
+/// # Errors
+/// Out of memory.
+pub(crate) fn items_tree(
+    alloc: Global,
+    items: Vec<Value>,
+    more: bool,
+) -> Result<Value, AllocError> {
     let mut members = Map::new(alloc);
     serde_json::put(&mut members, alloc, "items", Value::Array(items))?;
     serde_json::put(&mut members, alloc, "more", Value::from(more))?;
