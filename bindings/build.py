@@ -3,7 +3,8 @@
 
     bindings/build.py [--after-ci]
 
-`bindings/out/llvm` gets both as LLVM compiles them, `bindings/out/rattle` as Rattle's own compiler does. The crate and those below it are proved first,
+`bindings/out/llvm` gets both as LLVM compiles them, `bindings/out/rattle` as Rattle's own compiler does. The shared library is called by the version of its interface, as
+`libzarrs_chunks.so.1`, and `libzarrs_chunks.so` is a link to it. The crate and those below it are proved first,
 which takes longest the first time. Right after `rt ci` the flag spares the crates below, which are taken as that left them, proved; where `rt ci` gave back
 what an earlier check had kept, they are checked again. It ends with the status 1 where the names that are exported aren't those of the header.
 """
@@ -72,7 +73,7 @@ def link(backend, kit_folder):
     """The shared library of the static one, and what a caller needs of both, in a folder of their compiler."""
     out = HERE / "out" / backend
     out.mkdir(parents=True, exist_ok=True)
-    shared, runtime = out / f"{NAME}.so", kit_folder / "c" / "liblibc_c.a"
+    shared, runtime = out / f"{NAME}.so.{version()}", kit_folder / "c" / "liblibc_c.a"
     exported = out / "exported.map"
     exported.write_text("{ global: zarrs_*; local: *; };\n")
     shutil.copy(ARCHIVE, out / f"{NAME}.a")
@@ -80,13 +81,21 @@ def link(backend, kit_folder):
     toolchain = kit_folder / "toolchain"
     subprocess.run(
         [
-            toolchain / "bin" / "ld.lld", "-shared", "-soname", f"{NAME}.so", "-z", "defs", "-z", "text", "-z", "noexecstack", "--gc-sections",
-            "--version-script", exported, "--whole-archive", out / f"{NAME}.a", "--no-whole-archive", runtime, toolchain / "lib" / "libc.so.6",
+            toolchain / "bin" / "ld.lld", "-shared", "-soname", shared.name, "-z", "defs", "-z", "text", "-z", "noexecstack", "-z", "relro", "-z", "now",
+            "-z", "separate-code", "--build-id=sha1", "--gc-sections", "--version-script", exported, "--whole-archive", out / f"{NAME}.a", "--no-whole-archive", runtime, toolchain / "lib" / "libc.so.6",
             "-o", shared,
         ],
         check=True,
     )  # fmt: skip
+    linked = out / f"{NAME}.so"
+    linked.unlink(missing_ok=True)
+    linked.symlink_to(shared.name)
     return shared
+
+
+def version():
+    """The version of the interface, as the header has it."""
+    return re.search(r"^#define ZARRS_ABI_VERSION (\d+)$", (HERE / "zarrs_chunks.h").read_text(), re.MULTILINE)[1]
 
 
 def declared():
@@ -98,7 +107,7 @@ def parameters(text, pattern):
     """How many arguments each call takes in C, as the text declares them."""
     found = {}
     for name, inside in re.findall(pattern, text, re.DOTALL):
-        kinds = [kind for part in inside.split(",") if (kind := part.strip()) and not kind.startswith("alloc:")]
+        kinds = [kind for part in inside.split(",") if (kind := part.strip()) not in ("", "void") and not kind.startswith("alloc:")]
         found[name] = kinds
     return found
 
@@ -114,7 +123,7 @@ def rattle_kinds():
     crossing = {
         "&[u64]": ["constuint64_t*", "size_t"], "&mut [u64]": ["uint64_t*", "size_t"], "&[u8]": ["constuint8_t*", "size_t"],
         "&mut [u8]": ["uint8_t*", "size_t"], "&mut usize": ["size_t*"], "&mut u64": ["uint64_t*"], "&mut u8": ["uint8_t*"], "usize": ["size_t"],
-        "u64": ["uint64_t"],
+        "u64": ["uint64_t"], "i32": ["int32_t"],
     }  # fmt: skip
     text = "".join(path.read_text() for path in sorted(CRATE.glob("src/*.rt")))
     rows = parameters(text, r'pub extern "C" fn (\w+)\((.*?)\) -> i32')

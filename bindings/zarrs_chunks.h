@@ -9,7 +9,8 @@
  * nothing, so calls may run in several threads at once.
  *
  * Each call answers ZARRS_OK or one of the codes below. After another code than ZARRS_OK and ZARRS_SHORT_BUFFER the buffers that are written to
- * hold anything, but nothing is written beside them.
+ * hold anything, but nothing is written beside them; what a call tells of its refusal all the same is said there. zarrs_code_words says in words what
+ * a code is, zarrs_grid_fault and zarrs_encoding_fault what metadata lack.
  *
  * Where several things are wrong, the first of them is told, in this order, which is the same for all calls:
  *
@@ -25,7 +26,13 @@
  * numbers of an answer that isn't there stay as they were, after ZARRS_OK.
  *
  * The caller sees to it that each pointer points to as many items as it says, that they are aligned to their type, and that what is written to
- * overlaps no other buffer of the call. Nothing else is asked of it.
+ * overlaps no other buffer of the call and is touched by no other thread until the call returns. Besides:
+ *
+ * - A call needs at most ZARRS_STACK bytes of stack. Most of that is for metadata that nest: JSON is read 127 deep, also in members that say nothing.
+ *   What says nothing but a grid or an encoding needs a quarter of it.
+ * - Metadata and questions may hold numbers that are no whole ones. Reading them may raise flags of floating-point exceptions, as `1e999` raises that of
+ *   an overflow. Who traps these holds them back around a call: feholdexcept before, fesetenv after it.
+ * - It is built for x86-64-v2: processors with SSE4.2, SSSE3, POPCNT and CMPXCHG16B.
  */
 #ifndef ZARRS_CHUNKS_H
 #define ZARRS_CHUNKS_H
@@ -36,6 +43,12 @@
 #ifdef __cplusplus
 extern "C" {
 #endif
+
+/* The version of this interface. That of the library that is loaded is told by zarrs_abi_version; the two are to be equal. */
+#define ZARRS_ABI_VERSION 1
+
+/* How many bytes of stack a call needs at most. */
+#define ZARRS_STACK 163840
 
 /* The call has answered. */
 #define ZARRS_OK 0
@@ -55,6 +68,9 @@ extern "C" {
 #define ZARRS_WRONG_OFFSETS (-7)
 /* The text of the answer is longer than its buffer; `needed` tells how long it is. */
 #define ZARRS_SHORT_BUFFER (-8)
+
+/* The version of the interface of the library that is loaded. */
+int32_t zarrs_abi_version(void);
 
 /* How many chunks are counted along each dimension: grid_shape gets d numbers. */
 int32_t zarrs_grid_shape(
@@ -93,7 +109,7 @@ int32_t zarrs_chunk_boxes_of(
 /* The cover of each box of elements: the box of all chunks that hold some of them. A box is its first index and its shape, the cover its first
  * chunk and how many chunks it has along each dimension; the cover of an empty box has no chunks. starts, shapes, first_chunks, chunk_counts:
  * n * d; found: n, 0 where the first or the last element of the box lies in no chunk. ZARRS_NOT_A_BOX where a box ends past
- * 18446744073709551615. */
+ * 18446744073709551615, and *wrong gets the number of the first such box, counted from 0. */
 int32_t zarrs_covers_of(
     const uint64_t *shape, size_t shape_len,
     const uint8_t *chunk_grid, size_t chunk_grid_len,
@@ -101,7 +117,8 @@ int32_t zarrs_covers_of(
     const uint64_t *shapes, size_t shapes_len,
     uint64_t *first_chunks, size_t first_chunks_len,
     uint64_t *chunk_counts, size_t chunk_counts_len,
-    uint8_t *found, size_t found_len);
+    uint8_t *found, size_t found_len,
+    size_t *wrong);
 
 /* The key of each chunk, one after another, without a byte between two. chunks: n * d; text: as many bytes as the keys have; offsets: n + 1,
  * where each key begins in the text, in bytes, and at last where the last one ends. *needed gets how many bytes the keys have.
@@ -115,14 +132,16 @@ int32_t zarrs_keys_of(
     size_t *needed);
 
 /* The chunk of each key: the one with d numbers whose key it is. text: the keys, one after another; offsets: n + 1, as zarrs_keys_of writes
- * them; chunks: n * d; found: n, 0 where a text is the key of no such chunk. The chunk may lie outside of the grid. */
+ * them; chunks: n * d; found: n, 0 where a text is the key of no such chunk. The chunk may lie outside of the grid. ZARRS_WRONG_OFFSETS where offsets
+ * descend or lie past the text, and *wrong gets the number of the first key of which they do, counted from 0. */
 int32_t zarrs_chunks_of_keys(
     const uint8_t *chunk_key_encoding, size_t chunk_key_encoding_len,
     size_t dimensionality,
     const uint8_t *text, size_t text_len,
     const uint64_t *offsets, size_t offsets_len,
     uint64_t *chunks, size_t chunks_len,
-    uint8_t *found, size_t found_len);
+    uint8_t *found, size_t found_len,
+    size_t *wrong);
 
 /* The plan of reading a box of elements: a part for each chunk that holds some of the box, in row-major order of the chunks. Of the plan the part
  * with the number `first`, counted from 0, and those after it, as many as there is room for; those before it take no time. A box is its first
@@ -152,10 +171,32 @@ int32_t zarrs_parts_of(
 
 /* The line that answers a question, which is a JSON object as crates/chunkcalls/CALLING.md says: an answer as compact JSON, or `refused:` or
  * `unreadable:` and why; and a line feed. *needed gets how many bytes it has. ZARRS_SHORT_BUFFER where line is shorter: nothing is written to
- * it. */
+ * it. A walk ends where its items alone are longer than the buffer, so a call takes no more memory than in proportion to the question and the buffer,
+ * however many items are asked for. Then *needed is SIZE_MAX, since the length isn't known: a greater buffer may do, or fewer items, from a later
+ * one on. */
 int32_t zarrs_answer(
     const uint8_t *question, size_t question_len,
     uint8_t *line, size_t line_len,
+    size_t *needed);
+
+/* Why metadata say no grid of an array of this shape. It answers the code that each call of this grid does, and writes it in words: *needed gets how
+ * many bytes they have, and where words is shorter, nothing is written to it. ZARRS_OK where they say one, and *needed is 0 then. */
+int32_t zarrs_grid_fault(
+    const uint64_t *shape, size_t shape_len,
+    const uint8_t *chunk_grid, size_t chunk_grid_len,
+    uint8_t *words, size_t words_len,
+    size_t *needed);
+
+/* The same of metadata that say no encoding. */
+int32_t zarrs_encoding_fault(
+    const uint8_t *chunk_key_encoding, size_t chunk_key_encoding_len,
+    uint8_t *words, size_t words_len,
+    size_t *needed);
+
+/* What a code says, in words. *needed gets how many bytes they have. ZARRS_SHORT_BUFFER where words is shorter: nothing is written to it. */
+int32_t zarrs_code_words(
+    int32_t code,
+    uint8_t *words, size_t words_len,
     size_t *needed);
 
 #ifdef __cplusplus

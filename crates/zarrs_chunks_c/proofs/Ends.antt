@@ -1,21 +1,28 @@
 -- How calls end.
-use Rattle.std.proofs.Common.{◌≡◌, ◌⊎◌, ℕ, ◌<◌, ◌≤◌, List, length, take, Ok, Err, IfErr, OnOk, inl, inr, ⊎_elim, subst, sym, arith}
+use Rattle.std.proofs.Common.{◌≡◌, ◌⊎◌, ℕ, ◌<◌, ◌≤◌, List, length, take, Result, Ok, Err, IfErr, IsOk, MatchResult, OnOk, inl, inr, ⊎_elim, subst, sym, arith}
 use Rattle.zarrs_chunks_c.specs.Batch.{IsTooLong, IsWhole}
-use Rattle.zarrs_chunks_c.specs.Calls.{Call, IsEarlyFault, IsEndOf, early, late}
+use Rattle.zarrs_chunks_c.specs.Calls.{Call, IsEarlyFault, IsEndOf, early, late, no_metadata}
 use Rattle.zarrs_chunks_c.specs.Codes.{End}
 use Rattle.zarrs_chunks_c.specs.declared.codes.Fault.{Fault}
 use Rattle.zarrs_chunks_c.specs.declared.codes.Fault.TheVariants.{Memory, Short}
 
 module _ {X : Type 0} (call : Call X) where
-  -- at a fault of the metadata or the lengths
-  pub ends_early : (fault : Fault) → (fault ≡ Memory) ⊎ IsEarlyFault call.Misses call.Says call.Fits fault → IsEndOf call (Err fault)
-  ends_early fault is = ⊎_elim (λ memory. inl memory) (λ first. inr (early first)) is
-
-  -- after these
+  -- after the faults of the metadata and the lengths
   pub ends_late : (x : X) (end : End) → call.Says x → call.Fits x → OnOk end (call.Answers x)
       → IfErr end (λ fault. (fault ≡ Memory) ⊎ call.Refuses x fault) → IsEndOf call end
   ends_late x (Ok _) says fits answers refused = (x, says, fits, answers)
   ends_late x (Err fault) says fits answers refused = ⊎_elim (λ memory. inl memory) (λ is. inr (late x says fits is)) refused
+
+  -- as the making of the X did
+  pub ends_as : {T : Type 0} (x : T → X) (made : Result T Fault) (end : End) (A : Type 0)
+      → MatchResult made (λ t. call.Says (x t)) (λ fault. (fault ≡ Memory) ⊎ call.Misses fault) → ((x : X) → call.Fits x)
+      → MatchResult made (λ _. IsOk end) (λ fault. MatchResult end (λ _. ⊥) (λ told. (told ≡ Memory) ⊎ (told ≡ fault)))
+      → OnOk end A → ((x : X) → A → call.Answers x) → IsEndOf call end
+  ends_as x (Ok t) (Ok _) A says fits as_made is answers = (x t, says, fits (x t), answers (x t) is)
+  ends_as x (Ok t) (Err _) A says fits as_made is answers = cc
+  ends_as x (Err fault) (Ok _) A misses fits as_made is answers = absurd as_made
+  ends_as x (Err fault) (Err told) A misses fits as_made is answers =
+      ⊎_elim (λ memory. inl memory) (λ same. rw same (⊎_elim (λ memory. inl memory) (λ missed. inr (early (no_metadata missed))) misses)) as_made
 
 -- what refuses nothing but for memory
 pub memory_alone : (end : End) (Refuses : Fault → Type 0) (None : Type 0) → IfErr end (λ fault. (fault ≡ Memory) ⊎ ((fault ≡ Memory) × None))

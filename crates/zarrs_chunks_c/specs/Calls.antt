@@ -32,12 +32,12 @@ abbrev pub IsEndOf : {X : Type 0} → Call X → End → Type 0
 IsEndOf {X} call end =
     MatchResult end (λ _. (x : X) × call.Says x × call.Fits x × call.Answers x) (λ fault. (fault ≡ Memory) ⊎ IsFirstFault call fault)
 
--- of so many questions each is one; and some isn't
+-- of so many questions each is one; and the first that isn't one is the one with this number
 abbrev pub AreQuestions : ℕ → (ℕ → Type 0) → Type 0
 AreQuestions count IsQuestion = (number : ℕ) → number < count → IsQuestion number
 
-abbrev pub HasNoQuestion : ℕ → (ℕ → Type 0) → Type 0
-HasNoQuestion count IsQuestion = (number : ℕ) × (number < count) × ¬ IsQuestion number
+abbrev pub IsFirstWrong : ℕ → (ℕ → Type 0) → ℕ → Type 0
+IsFirstWrong count IsQuestion number = (number < count) × AreQuestions number IsQuestion × ¬ IsQuestion number
 
 -- a buffer that is shorter than its text is as it was
 abbrev pub IsKeptIfShort : (before after : List ℕ) → End → Type 0

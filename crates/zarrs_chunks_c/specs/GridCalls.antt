@@ -7,7 +7,7 @@ use Rattle.zarrs_chunk_base.specs.Grid.{Grid}
 use Rattle.zarrs_chunks.specs.Subsets.{HasNoBox, HasNoHome, Spans}
 use Rattle.zarrs_chunks_c.specs.Asked.{HasNoCover, IsCoverOf}
 use Rattle.zarrs_chunks_c.specs.Batch.{AreAnswered, AreLengths, list_at}
-use Rattle.zarrs_chunks_c.specs.Calls.{AreQuestions, Call, HasNoQuestion}
+use Rattle.zarrs_chunks_c.specs.Calls.{AreQuestions, Call, IsFirstWrong}
 use Rattle.zarrs_chunks_c.specs.Said.{IsNoGrid, SaysGrid}
 use Rattle.zarrs_chunks_c.specs.declared.codes.Fault.{Fault}
 use Rattle.zarrs_chunks_c.specs.declared.codes.Fault.TheVariants.{NotBox}
@@ -66,13 +66,13 @@ chunk_boxes_call shape metadata chunks origins shapes marks =
 abbrev pub box_asked : ℕ → (starts shapes : List ℕ) → ℕ → Box
 box_asked width starts shapes number = record { start = list_at width starts number; shape = list_at width shapes number }
 
--- the cover of each box; a start and a shape that are those of no box are refused
-abbrev pub covers_call : (shape metadata starts shapes first_chunks chunk_counts marks : List ℕ) → Call Grid
-covers_call shape metadata starts shapes first_chunks chunk_counts marks =
+-- the cover of each box; the first start and shape that are those of no box are refused, and which they are is told
+abbrev pub covers_call : (shape metadata starts shapes first_chunks chunk_counts marks : List ℕ) (wrong : ℕ) → Call Grid
+covers_call shape metadata starts shapes first_chunks chunk_counts marks wrong =
     grid_call shape metadata (length starts ∷ length shapes ∷ length first_chunks ∷ length chunk_counts ∷ []) (length marks)
     (λ grid fault.
     let width = length grid.dimensions in
-    (fault ≡ NotBox) × HasNoQuestion (length marks) (λ k. IsBox (box_asked width starts shapes k)))
+    (fault ≡ NotBox) × IsFirstWrong (length marks) (λ k. IsBox (box_asked width starts shapes k)) wrong)
     (λ grid.
     let width = length grid.dimensions in
     AreQuestions (length marks) (λ k. IsBox (box_asked width starts shapes k))

@@ -4,7 +4,7 @@ use Rattle.std.specs.Prelude.{◌≡◌, ℕ, ◌+◌, ◌-◌, List, [], ◌∷
 use Rattle.zarrs_chunk_keys.specs.ChunkKey.{Encoding, IsKey}
 use Rattle.zarrs_chunks_c.specs.Asked.{IsChunkOf}
 use Rattle.zarrs_chunks_c.specs.Batch.{AreAnswered, AreKeys, AreLengths, HasText, IsTooLong, IsWhole, text_at}
-use Rattle.zarrs_chunks_c.specs.Calls.{AreQuestions, Call, HasNoQuestion}
+use Rattle.zarrs_chunks_c.specs.Calls.{AreQuestions, Call, IsFirstWrong}
 use Rattle.zarrs_chunks_c.specs.Said.{IsNoEncoding, SaysEncoding}
 use Rattle.zarrs_chunks_c.specs.declared.codes.Fault.{Fault}
 use Rattle.zarrs_chunks_c.specs.declared.codes.Fault.TheVariants.{Offsets, Short}
@@ -33,11 +33,11 @@ keys_call metadata dimensionality chunks text offsets needed =
     × IsTooLong (λ keys. AreKeys (IsKey encoding) dimensionality (length offsets - 1) chunks keys offsets) text needed)
     (λ encoding. IsWhole (λ keys. AreKeys (IsKey encoding) dimensionality (length offsets - 1) chunks keys offsets) text needed)
 
--- the chunk of each key; offsets that descend or lie past the text are refused
-abbrev pub chunks_of_keys_call : (metadata : List ℕ) (dimensionality : ℕ) (text offsets chunks marks : List ℕ) → Call Encoding
-chunks_of_keys_call metadata dimensionality text offsets chunks marks =
+-- the chunk of each key; the first key whose offsets descend or lie past the text is refused, and which it is is told
+abbrev pub chunks_of_keys_call : (metadata : List ℕ) (dimensionality : ℕ) (text offsets chunks marks : List ℕ) (wrong : ℕ) → Call Encoding
+chunks_of_keys_call metadata dimensionality text offsets chunks marks wrong =
     encoding_call metadata (AreTextLengths dimensionality (length offsets) (length chunks ∷ []) (length marks))
-    (λ encoding fault. (fault ≡ Offsets) × HasNoQuestion (length marks) (HasText text offsets))
+    (λ encoding fault. (fault ≡ Offsets) × IsFirstWrong (length marks) (HasText text offsets) wrong)
     (λ encoding.
     AreQuestions (length marks) (HasText text offsets)
     × AreAnswered (λ k chunk _. IsChunkOf (IsKey encoding) dimensionality (text_at text offsets k) chunk)

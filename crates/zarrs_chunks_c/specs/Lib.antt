@@ -2,6 +2,7 @@ pub mod Asked
 pub mod Batch
 pub mod Calls
 pub mod Codes
+pub mod FaultCalls
 pub mod GridCalls
 pub mod KeyCalls
 pub mod Parts

@@ -3,6 +3,7 @@
 use Rattle.std.specs.Prelude.{◌≡◌, ◌⊎◌, ℕ, ◌-◌, List, [], ◌∷◌, length}
 use Rattle.zarrs_chunk_base.specs.ArraySubset.{Box, IsBox}
 use Rattle.zarrs_chunk_base.specs.Dimension.{Dimension}
+use Rattle.zarrs_chunk_base.specs.Greatest.{greatest}
 use Rattle.zarrs_chunk_base.specs.Grid.{Grid}
 use Rattle.zarrs_chunk_keys.specs.ChunkKey.{Encoding, IsKey}
 use Rattle.zarrs_chunk_questions.specs.Line.{IsOneLine}
@@ -67,12 +68,13 @@ parts_call shape metadata key_metadata start box_shape first chunks in_chunk in_
 abbrev pub IsUncounted : (needed count in_all mark : ℕ) → Type 0
 IsUncounted needed count in_all mark = mark ≡ 0 → (needed ≡ 0) × (count ≡ 0) × (in_all ≡ 0)
 
--- Any question, which is always answered, by one line. It is refused where that is longer than its buffer.
+-- Any question, which is always answered, by one line. It is refused where that is longer than its buffer; how long it is, is told, or the greatest
+-- number where that isn't known.
 abbrev pub answer_call : (line : List ℕ) (needed : ℕ) → Call (Unit {0})
 answer_call line needed = record {
   Misses = λ _. ⊥;
   Says = λ _. Unit {0};
   Fits = λ _. Unit {0};
-  Refuses = λ _ fault. (fault ≡ Short) × IsTooLong IsOneLine line needed;
+  Refuses = λ _ fault. (fault ≡ Short) × (IsTooLong IsOneLine line needed ⊎ (needed ≡ greatest));
   Answers = λ _. IsWhole IsOneLine line needed;
 }

@@ -6,7 +6,7 @@ ghost use Rattle.zarrs_chunks_c.specs.PlanCall.{answer_call};
 use crate::codes::{Fault, code_of};
 use crate::texts::write_text;
 use std::alloc::Global;
-use zarrs_chunk_questions::answer;
+use zarrs_chunk_questions::answer_within;
 
 /// The line that answers a question: an answer, or the words of a refusal.
 #[unsafe(no_mangle)]
@@ -22,7 +22,8 @@ pub extern "C" fn zarrs_answer(
     code_of(answer_line(alloc, question, line, needed))
 }
 
-/// Writes the line that answers a question, and how long it is.
+/// Writes the line that answers a question, and how long it is. A walk ends where its items alone are longer than the buffer; then the greatest
+/// number tells that the length isn't known.
 ///
 /// # Errors
 /// The line is longer than its buffer; or out of memory.
@@ -35,6 +36,9 @@ fn answer_line(
     ensures ends { IsEndOf (answer_call line.new needed.new) result }
     ensures kept_if_short { IsKeptIfShort line.old line.new result }
 {
-    let answer = answer(alloc, question)?;
+    let Some(answer) = answer_within(alloc, question, line.len())? else {
+        *needed = usize::MAX;
+        return Err(Fault::Short);
+    };
     write_text(&answer, line, needed)
 }

@@ -1,7 +1,7 @@
 //! A batch: many questions, each answered by two lists of numbers, or by none.
 ghost use Rattle.std.specs.Prelude.{◌≡◌, ◌≢◌, ◌⊎◌, ℕ, ◌*◌, ◌<◌, List, IfErr, IfOk, OnOk, cond, false, length};
 ghost use Rattle.zarrs_chunks_c.specs.Batch.{AreAnswered, AreKept, list_at};
-ghost use Rattle.zarrs_chunks_c.specs.Calls.{AreQuestions, HasNoQuestion};
+ghost use Rattle.zarrs_chunks_c.specs.Calls.{AreQuestions, IsFirstWrong};
 ghost use Rattle.zarrs_chunks_c.specs.declared.codes.Fault.{Fault as AnyFault};
 ghost use Rattle.zarrs_chunks_c.specs.declared.codes.Fault.TheVariants.{Memory};
 ghost use Rattle.zarrs_chunks_c.specs.seen.Lists.{AreLong, HasList};
@@ -57,13 +57,14 @@ pub(crate) trait Questions {
 /// mark becomes 1 where it has an answer, and else 0. The lists of a question without an answer stay as they were.
 ///
 /// # Errors
-/// Something that is asked is no question; or out of memory. What is written by then stays.
+/// Something that is asked is no question, and `wrong` tells which is the first such; or out of memory. What is written by then stays.
 pub(crate) fn answer_all<Q: Questions>(
     alloc: Global,
     questions: &Q,
     first: &mut [u64],
     second: &mut [u64],
     found: &mut [u8],
+    wrong: &mut usize,
 ) -> Result<(), Fault>
     requires given { AreQuestions (length found.old) (Q.given questions.now) }
     requires first_room { length first.old ≡ (Q.widths questions.now).0 * length found.old }
@@ -76,11 +77,12 @@ pub(crate) fn answer_all<Q: Questions>(
         second.old second.new found.new) }
     ensures asked { OnOk result (AreQuestions (length found.new) (Q.is_question questions.now)) }
     ensures refused { IfErr result (λ told. (told ≡ Memory) ⊎ ((told ≡ Q.fault questions.now)
-        × HasNoQuestion (length found.new) (Q.is_question questions.now))) }
+        × IsFirstWrong (length found.new) (Q.is_question questions.now) wrong.new)) }
 {
     let widths = questions.widths();
     let mut answer = Home::new(alloc);
     for number in 0..found.len() {
+        *wrong = number;
         let is_found = answer_one(alloc, questions, widths, number, &mut answer, first, second)?;
         found[number] = mark_of(is_found);
     }

@@ -1,11 +1,13 @@
-//! Why a call is refused, and the code of it.
+//! Why a call is refused, the code of it, and its words.
 ghost use Rattle.std.specs.Prelude.{◌≡◌};
 ghost use Rattle.zarrs_chunk_base.specs.Refusal.{MatchRefusal};
 ghost use Rattle.zarrs_chunks_c.specs.Codes.{end_code, fault_code};
 ghost use Rattle.zarrs_chunks_c.specs.declared.codes.Fault.TheVariants.{Length, Memory};
 
 use std::alloc::{AllocError, AllocFailed};
-use zarrs_chunk_base::{IncompatibleDimensionalityError, Refusal};
+use zarrs_chunk_base::{
+    IncompatibleDimensionalityError, MetadataError, PluginCreateError, Refusal,
+};
 
 /// Why a call is refused. The header `zarrs_chunks.h` names the codes.
 #[derive(Drop)]
@@ -17,9 +19,9 @@ pub(crate) enum Fault {
     /// The metadata is no text of JSON.
     NotJson,
     /// The metadata is JSON, and no extension's.
-    NotMetadata,
+    NotMetadata(MetadataError),
     /// The grid or the encoding that the metadata asks for can't be made.
-    NotMade,
+    NotMade(PluginCreateError),
     /// A start and a shape are those of no box: it ends past 18446744073709551615.
     NotBox,
     /// Offsets descend, or lie past the text.
@@ -30,15 +32,15 @@ pub(crate) enum Fault {
 
 impl Fault {
     /// The code of the fault.
-    fn code(&self) -> i32
+    pub(crate) fn code(&self) -> i32
         ensures { result ≡ fault_code self.now }
     {
         match self {
             Fault::Memory => -1,
             Fault::Length => -2,
             Fault::NotJson => -3,
-            Fault::NotMetadata => -4,
-            Fault::NotMade => -5,
+            Fault::NotMetadata(_) => -4,
+            Fault::NotMade(_) => -5,
             Fault::NotBox => -6,
             Fault::Offsets => -7,
             Fault::Short => -8,
@@ -53,6 +55,22 @@ pub(crate) fn code_of(ended: Result<(), Fault>) -> i32
     match ended {
         Ok(()) => 0,
         Err(fault) => fault.code(),
+    }
+}
+
+/// What a code says, in words: of those that no call ends with, that they are none.
+pub(crate) fn words_of(code: i32) -> &'static str {
+    match code {
+        0 => "the call has answered",
+        -1 => "out of memory",
+        -2 => "an array has more or fewer items than the others demand",
+        -3 => "the metadata is not JSON",
+        -4 => "the metadata is no extension's",
+        -5 => "the grid or the encoding is refused",
+        -6 => "a box ends past 18446744073709551615",
+        -7 => "offsets descend, or lie past the text",
+        -8 => "the text of the answer is longer than its buffer",
+        _ => "no call ends with this code",
     }
 }
 

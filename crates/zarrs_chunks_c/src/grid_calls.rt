@@ -86,7 +86,7 @@ pub extern "C" fn zarrs_chunk_boxes_of(
     code_of(chunk_boxes_of(alloc, shape, chunk_grid, chunks, origins, shapes, found))
 }
 
-/// The cover of each box of elements: the box of the chunks that hold some of them.
+/// The cover of each box of elements: the box of the chunks that hold some of them. Which box is the first that is none is told as `wrong`.
 #[unsafe(no_mangle)]
 pub extern "C" fn zarrs_covers_of(
     alloc: Global,
@@ -97,10 +97,11 @@ pub extern "C" fn zarrs_covers_of(
     first_chunks: &mut [u64],
     chunk_counts: &mut [u64],
     found: &mut [u8],
+    wrong: &mut usize,
 ) -> i32
     ensures ends { Ends (IsEndOf (covers_call
         shape.now chunk_grid.now starts.now shapes.now
-        first_chunks.new chunk_counts.new found.new)) result }
+        first_chunks.new chunk_counts.new found.new wrong.new)) result }
     ensures first_chunks_kept { Ends (λ end. OnOk end
         (AreKept (length shape.now) first_chunks.old first_chunks.new found.new)) result }
     ensures chunk_counts_kept { Ends (λ end. OnOk end
@@ -115,6 +116,7 @@ pub extern "C" fn zarrs_covers_of(
         first_chunks,
         chunk_counts,
         found,
+        wrong,
     ))
 }
 
@@ -159,7 +161,7 @@ fn chunk_indices_of(
         grid: &grid,
         indices,
     };
-    answer_all(alloc, &FirstAlone(homes), chunks, &mut [], found)
+    answer_all(alloc, &FirstAlone(homes), chunks, &mut [], found, &mut 0)
 }
 
 /// Writes the chunk of each element, and the element's place there.
@@ -188,7 +190,7 @@ fn homes_of(
         grid: &grid,
         indices,
     };
-    answer_all(alloc, &homes, chunks, places, found)
+    answer_all(alloc, &homes, chunks, places, found, &mut 0)
 }
 
 /// Writes the box of each chunk.
@@ -217,13 +219,14 @@ fn chunk_boxes_of(
         grid: &grid,
         chunks,
     };
-    answer_all(alloc, &boxes, origins, shapes, found)
+    answer_all(alloc, &boxes, origins, shapes, found, &mut 0)
 }
 
 /// Writes the cover of each box of elements.
 ///
 /// # Errors
-/// The first that applies: the grid can't be made; the lengths don't fit; a box ends past 18446744073709551615. Or out of memory.
+/// The first that applies: the grid can't be made; the lengths don't fit; a box ends past 18446744073709551615, and `wrong` tells which is the first
+/// such. Or out of memory.
 fn covers_of(
     alloc: Global,
     shape: &[u64],
@@ -233,10 +236,11 @@ fn covers_of(
     first_chunks: &mut [u64],
     chunk_counts: &mut [u64],
     found: &mut [u8],
+    wrong: &mut usize,
 ) -> Result<(), Fault>
     ensures ends { IsEndOf (covers_call
         shape.now chunk_grid.now starts.now shapes.now
-        first_chunks.new chunk_counts.new found.new) result }
+        first_chunks.new chunk_counts.new found.new wrong.new) result }
     ensures first_chunks_kept { OnOk result
         (AreKept (length shape.now) first_chunks.old first_chunks.new found.new) }
     ensures chunk_counts_kept { OnOk result
@@ -254,5 +258,5 @@ fn covers_of(
         starts,
         shapes,
     };
-    answer_all(alloc, &covers, first_chunks, chunk_counts, found)
+    answer_all(alloc, &covers, first_chunks, chunk_counts, found, wrong)
 }

@@ -40,7 +40,7 @@ pub extern "C" fn zarrs_keys_of(
     ))
 }
 
-/// The chunk of each key.
+/// The chunk of each key. At which key the offsets descend or lie past the text first is told as `wrong`.
 #[unsafe(no_mangle)]
 pub extern "C" fn zarrs_chunks_of_keys(
     alloc: Global,
@@ -50,9 +50,10 @@ pub extern "C" fn zarrs_chunks_of_keys(
     offsets: &[u64],
     chunks: &mut [u64],
     found: &mut [u8],
+    wrong: &mut usize,
 ) -> i32
     ensures ends { Ends (IsEndOf (chunks_of_keys_call chunk_key_encoding.now dimensionality
-        text.now offsets.now chunks.new found.new)) result }
+        text.now offsets.now chunks.new found.new wrong.new)) result }
     ensures chunks_kept { Ends (λ end. OnOk end
         (AreKept dimensionality chunks.old chunks.new found.new)) result }
 {
@@ -64,6 +65,7 @@ pub extern "C" fn zarrs_chunks_of_keys(
         offsets,
         chunks,
         found,
+        wrong,
     ))
 }
 
@@ -126,7 +128,8 @@ pub(crate) fn byte_length(text: &str) -> u64
 /// Writes the chunk of each key.
 ///
 /// # Errors
-/// The first that applies: the encoding can't be made; the lengths don't fit; the offsets descend or lie past the text. Or out of memory.
+/// The first that applies: the encoding can't be made; the lengths don't fit; the offsets descend or lie past the text, and `wrong`
+/// tells at which key first. Or out of memory.
 fn chunks_of_keys(
     alloc: Global,
     chunk_key_encoding: &[u8],
@@ -135,9 +138,10 @@ fn chunks_of_keys(
     offsets: &[u64],
     chunks: &mut [u64],
     found: &mut [u8],
+    wrong: &mut usize,
 ) -> Result<(), Fault>
     ensures ends { IsEndOf (chunks_of_keys_call chunk_key_encoding.now dimensionality
-        text.now offsets.now chunks.new found.new) result }
+        text.now offsets.now chunks.new found.new wrong.new) result }
     ensures chunks_kept { OnOk result
         (AreKept dimensionality chunks.old chunks.new found.new) }
 {
@@ -152,5 +156,5 @@ fn chunks_of_keys(
         text,
         offsets,
     };
-    answer_all(alloc, &keys, chunks, &mut [], found)
+    answer_all(alloc, &keys, chunks, &mut [], found, wrong)
 }

@@ -12,6 +12,8 @@
 //! | `key_calls` | `zarrs_keys_of`, `zarrs_chunks_of_keys` |
 //! | `plan_call` | `zarrs_parts_of` |
 //! | `answer_call` | `zarrs_answer`: any question as text |
+//! | `fault_calls` | `zarrs_grid_fault`, `zarrs_encoding_fault`, `zarrs_code_words`: why a call is refused, in words |
+//! | `version` | `zarrs_abi_version` |
 //! | `batch` | the loop over the questions of a batch |
 //! | `lists` | lists of one length, one after another |
 //! | `parts` | parts of a plan, one after another |
@@ -19,12 +21,13 @@
 //! | `questions` | what is asked of a grid, list by list |
 //! | `key_questions` | what is asked of an encoding, key by key |
 //! | `metadata` | the grid and the encoding that metadata says |
-//! | `codes` | why a call is refused, and the code of it |
+//! | `codes` | why a call is refused, the code of it, and what the code says |
 #![tactic(auto)]
 
 mod answer_call;
 mod batch;
 mod codes;
+mod fault_calls;
 mod grid_calls;
 mod key_calls;
 mod key_questions;
@@ -34,3 +37,4 @@ mod parts;
 mod plan_call;
 mod questions;
 mod texts;
+mod version;

@@ -56,7 +56,7 @@ pub(crate) fn grid_of(alloc: Global, shape: &[u64], chunk_grid: &[u8]) -> Result
     match ChunkGrid::from_metadata(alloc, &metadata, shape) {
         Ok(grid) => Ok(grid),
         Err(Refusal::Memory(_)) => Err(Fault::Memory),
-        Err(Refusal::Refused(_)) => Err(Fault::NotMade),
+        Err(Refusal::Refused(error)) => Err(Fault::NotMade(error)),
     }
 }
 
@@ -76,7 +76,7 @@ pub(crate) fn encoding_of(
     match ChunkKeyEncoding::from_metadata(alloc, &metadata) {
         Ok(encoding) => Ok(encoding),
         Err(Refusal::Memory(_)) => Err(Fault::Memory),
-        Err(Refusal::Refused(_)) => Err(Fault::NotMade),
+        Err(Refusal::Refused(error)) => Err(Fault::NotMade(error)),
     }
 }
 
@@ -96,6 +96,6 @@ fn read_metadata(alloc: Global, text: &[u8]) -> Result<MetadataV3, Fault>
     match MetadataV3::from_tree(alloc, &tree) {
         Ok(metadata) => Ok(metadata),
         Err(Refusal::Memory(_)) => Err(Fault::Memory),
-        Err(Refusal::Refused(_)) => Err(Fault::NotMetadata),
+        Err(Refusal::Refused(error)) => Err(Fault::NotMetadata(error)),
     }
 }

@@ -28,6 +28,6 @@ returns-clause-ends c =
     let encoding = encoding_in c.in_ok-encoding.encoding in
     let wrote = c.answer_all.new in
     let same = c.answer_all.auto in
-    ends_late (chunks_of_keys_call c.args.chunk_key_encoding.now c.args.dimensionality c.args.text.now c.args.offsets.now wrote.first wrote.found) encoding
+    ends_late (chunks_of_keys_call c.args.chunk_key_encoding.now c.args.dimensionality c.args.text.now c.args.offsets.now wrote.first wrote.found wrote.wrong) encoding
     c.answer_all.result c.in_ok-encoding.ensures (rw (same.first, same.found, ← c.if-count-found.false) c.in_ok-count.ensures)
     (both c.answer_all.result _ _ c.answer_all.ensures.asked c.answer_all.ensures.answered) c.answer_all.ensures.refused

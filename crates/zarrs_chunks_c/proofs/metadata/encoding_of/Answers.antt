@@ -12,4 +12,4 @@ returns-in_err-metadata c =
 pub returns : goal.returns
 returns c =
     let refused = c.in-Err-Refused in
-    inr (not_made refl (extension_of c.in_ok-metadata.metadata) c.in_ok-metadata.ensures refused.field-0-0 (rw refused.field-0-is at refused.ensures))
+    inr (not_made refused.error refl (extension_of c.in_ok-metadata.metadata) c.in_ok-metadata.ensures (rw refused.field-0-is at refused.ensures))

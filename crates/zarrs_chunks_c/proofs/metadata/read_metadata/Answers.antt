@@ -9,4 +9,4 @@ returns-in-Ok-from_tree c = (view c.in-Ok.tree, c.in-Ok.ensures.ok, c.in-Ok-from
 pub returns : goal.returns
 returns c =
     let refused = c.in-Err-Refused in
-    inr (not_metadata refl (view c.in-Ok.tree) c.in-Ok.ensures.ok refused.field-0-0 (rw refused.field-0-is at refused.ensures))
+    inr (not_metadata refused.error refl (view c.in-Ok.tree) c.in-Ok.ensures.ok (rw refused.field-0-is at refused.ensures))
