@@ -148,6 +148,35 @@ def symbols(shared):
                 yield data[begin : data.index(b"\0", begin)].decode(), number(entry + 6, 2) != 0
 
 
+def soft_spots(shared):
+    """What a shared library lacks of what distributions ask for: memory that is written to is never run, the stack neither; tables of addresses are
+    bound at the start and written to no more; and a build has a number of its own."""
+    data = shared.read_bytes()
+
+    def number(at, size):
+        return int.from_bytes(data[at : at + size], "little")
+
+    headers = [number(32, 8) + position * number(54, 2) for position in range(number(56, 2))]
+    segments = [(number(header, 4), number(header + 4, 4), number(header + 8, 8), number(header + 32, 8)) for header in headers]
+    load, dynamic, note, stack, relro = 1, 2, 4, 0x6474E551, 0x6474E552
+    runs, writes = 1, 2
+    entries = {}
+    for kind, _, start, size in segments:
+        if kind == dynamic:
+            entries = {number(at, 8): number(at + 8, 8) for at in range(start, start + size, 16)}
+    text_relocations, flags, bind_now = 22, 30, 8
+    if any(kind == load and mode & runs and mode & writes for kind, mode, *_ in segments):
+        yield "memory that is written to may be run"
+    if any(kind == stack and mode & runs for kind, mode, *_ in segments) or all(kind != stack for kind, *_ in segments):
+        yield "the stack may be run"
+    if all(kind != relro for kind, *_ in segments) or not entries.get(flags, 0) & bind_now:
+        yield "tables of addresses may be written to"
+    if text_relocations in entries:
+        yield "code is written to when it is loaded"
+    if all(kind != note or b"GNU\0" not in data[start : start + size] for kind, _, start, size in segments):
+        yield "there is no build id"
+
+
 def main():
     kit_folder = kit()
     faults = []
@@ -163,6 +192,7 @@ def main():
             faults.append(f"{shared}: exported and not in the header, or the other way round: {sorted(exported ^ declared())}")
         if not wanted <= WANTED:
             faults.append(f"{shared}: wants more of the C library: {sorted(wanted - WANTED)}")
+        faults += [f"{shared}: {spot}" for spot in soft_spots(shared)]
         print(f"{shared.relative_to(HERE.parent)}: {shared.stat().st_size} bytes, {len(exported)} calls")
     print("\n".join(faults), end="\n" if faults else "")
     sys.exit(1 if faults else 0)
