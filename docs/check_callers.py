@@ -4,7 +4,7 @@
     python3 docs/check_callers.py
 
 Each block of Rattle or antt on a page of `docs/` or on the page of a crate has to be a whole file of `crates/callers`, and each file there but its
-root has to be on a page. A block of the README has to be lines of such a file that follow one another. It prints what isn't, and ends with the status 1 where
+root has to be on a page. A block of `LIBRARY.md` has to be lines of such a file that follow one another. It prints what isn't, and ends with the status 1 where
 it printed anything.
 """
 import pathlib
@@ -13,8 +13,8 @@ import sys
 
 ROOT = pathlib.Path(__file__).resolve().parent.parent
 CALLERS = ROOT / "crates" / "callers"
-README = ROOT / "README.md"
-PAGES = [README, *sorted(ROOT.glob("docs/*.md")), *sorted(ROOT.glob("crates/*/CALLING.md"))]
+LIBRARY = ROOT / "docs" / "LIBRARY.md"
+PAGES = [ROOT / "README.md", *sorted(ROOT.glob("docs/*.md")), *sorted(ROOT.glob("crates/*/CALLING.md"))]
 # A block, whatever else its first line says, even where it is indented.
 BLOCK = re.compile(r"^ *```+ *(?:rust|rs|rt|rattle|antt)\b[^\n]*\n(.*?)^ *```+ *$", re.M | re.S | re.I)
 NOT_PRINTED = {"lib.rt", "Lib.antt"}
@@ -26,7 +26,7 @@ def main():
     blocks = [(page, block) for page in PAGES for block in BLOCK.findall(page.read_text())]
     faults = []
     for page, block in blocks:
-        is_part = page == README and any(f"\n{block}" in f"\n{text}" for text in texts.values())
+        is_part = page == LIBRARY and any(f"\n{block}" in f"\n{text}" for text in texts.values())
         if block not in texts.values() and not is_part:
             first = block.splitlines()[0] if block else "an empty one"
             faults.append(f"{page.relative_to(ROOT)}: no file of callers is this block: {first}")
