@@ -1,7 +1,7 @@
 -- How calls end.
 use Rattle.std.proofs.Common.{◌≡◌, ◌⊎◌, ℕ, ◌<◌, ◌≤◌, List, length, take, Result, Ok, Err, IfErr, IsOk, MatchResult, OnOk, inl, inr, ⊎_elim, subst, sym, arith}
 use Rattle.zarrs_chunks_c.specs.Batch.{IsTooLong, IsWhole}
-use Rattle.zarrs_chunks_c.specs.Calls.{Call, IsEarlyFault, IsEndOf, early, late, no_metadata}
+use Rattle.zarrs_chunks_c.specs.Calls.{Call, IsEndOf, early, late, no_metadata}
 use Rattle.zarrs_chunks_c.specs.Codes.{End}
 use Rattle.zarrs_chunks_c.specs.declared.codes.Fault.{Fault}
 use Rattle.zarrs_chunks_c.specs.declared.codes.Fault.TheVariants.{Memory, Short}

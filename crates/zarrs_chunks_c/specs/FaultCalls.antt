@@ -6,7 +6,6 @@ use Rattle.zarrs_chunks_c.specs.Batch.{IsTooLong, IsWhole}
 use Rattle.zarrs_chunks_c.specs.Calls.{Call}
 use Rattle.zarrs_chunks_c.specs.GridCalls.{RefusesNone, grid_call}
 use Rattle.zarrs_chunks_c.specs.KeyCalls.{encoding_call}
-use Rattle.zarrs_chunks_c.specs.declared.codes.Fault.{Fault}
 use Rattle.zarrs_chunks_c.specs.declared.codes.Fault.TheVariants.{Short}
 
 -- Why metadata says no grid: it ends as each call of a grid does. Of metadata that says one there are no words.

@@ -29,9 +29,13 @@ SaysGrid text shape grid = (e : Extension) × SaysExtension text e × IsGrid e s
 abbrev pub SaysEncoding : List ℕ → Encoding → Type 0
 SaysEncoding text encoding = (e : Extension) × SaysExtension text e × IsEncoding e encoding
 
+-- why a text has no tree: it is no JSON
+abbrev pub IsNoJson : List ℕ → Fault → Type 0
+IsNoJson text fault = (fault ≡ NotJson) × ((tree : Data) → ¬ IsJsonOf text tree)
+
 -- why a text isn't an extension's metadata: it is no JSON; or JSON of something else
 pub data IsTextFault (text : List ℕ) (fault : Fault) : Type 0 where
-  not_json : fault ≡ NotJson → ((tree : Data) → ¬ IsJsonOf text tree) → IsTextFault text fault
+  not_json : IsNoJson text fault → IsTextFault text fault
   not_metadata : (error : MetadataError) → fault ≡ NotMetadata error → (tree : Data) → IsJsonOf text tree → IsMetadataFault tree error → IsTextFault text fault
 
 -- why nothing is made of a text: it isn't an extension's metadata; or the extension is refused

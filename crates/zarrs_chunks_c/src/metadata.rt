@@ -1,11 +1,14 @@
 //! The grid and the encoding that metadata says, which is given as text.
-ghost use Rattle.std.specs.Prelude.{◌≡◌, ◌⊎◌, IfErr, IfOk, MatchResult, length};
+ghost use Rattle.serde_json.specs.Data.{depth};
+ghost use Rattle.serde_json.specs.Read.{max_depth};
+ghost use Rattle.serde_json.specs.View.{view};
+ghost use Rattle.std.specs.Prelude.{◌≡◌, ◌⊎◌, ◌≤◌, IfErr, IfOk, MatchResult, length};
 ghost use Rattle.zarrs_chunk_base.specs.Metadata.{extension_of};
 ghost use Rattle.zarrs_chunk_keys.specs.seen.Encodings.{encoding_in};
 ghost use Rattle.zarrs_chunks.specs.seen.Grids.{grid_in};
 ghost use Rattle.zarrs_chunks_c.specs.Batch.{AreLengths};
 ghost use Rattle.zarrs_chunks_c.specs.Calls.{IsEarlyFault};
-ghost use Rattle.zarrs_chunks_c.specs.Said.{IsNoEncoding, IsNoGrid, SaysEncoding, SaysExtension, SaysGrid, IsTextFault};
+ghost use Rattle.zarrs_chunks_c.specs.Said.{IsJsonOf, IsNoEncoding, IsNoGrid, IsNoJson, SaysEncoding, SaysExtension, SaysGrid, IsTextFault};
 ghost use Rattle.zarrs_chunks_c.specs.declared.codes.Fault.TheVariants.{Memory};
 
 use crate::codes::Fault;
@@ -88,14 +91,26 @@ fn read_metadata(alloc: Global, text: &[u8]) -> Result<MetadataV3, Fault>
     ensures { MatchResult result (λ metadata. SaysExtension text.now (extension_of metadata))
         (λ fault. (fault ≡ Memory) ⊎ IsTextFault text.now fault) }
 {
-    let tree = match Value::from_slice(alloc, text) {
-        Ok(tree) => tree,
-        Err(error) if error.is_memory() => return Err(Fault::Memory),
-        Err(_) => return Err(Fault::NotJson),
-    };
+    let tree = read_tree(alloc, text)?;
     match MetadataV3::from_tree(alloc, &tree) {
         Ok(metadata) => Ok(metadata),
         Err(Refusal::Memory(_)) => Err(Fault::Memory),
         Err(Refusal::Refused(error)) => Err(Fault::NotMetadata(error)),
+    }
+}
+
+/// The tree of a text. Lists and objects lie within one another at most 127 deep in it: nothing deeper is built.
+///
+/// # Errors
+/// The text isn't JSON, or nests deeper; or out of memory.
+fn read_tree(alloc: Global, text: &[u8]) -> Result<Value, Fault>
+    ensures nests { IfOk result (λ tree. depth (view tree) ≤ max_depth) }
+    ensures said { MatchResult result (λ tree. IsJsonOf text.now (view tree))
+        (λ fault. (fault ≡ Memory) ⊎ IsNoJson text.now fault) }
+{
+    match Value::from_slice(alloc, text) {
+        Ok(tree) => Ok(tree),
+        Err(error) if error.is_memory() => Err(Fault::Memory),
+        Err(_) => Err(Fault::NotJson),
     }
 }
