@@ -18,8 +18,8 @@ pub fn answer(alloc: Global, line: &[u8]) -> Result<Vec<u8>, AllocError>
     write_line(alloc, answer_tree(alloc, line, usize::MAX))
 }
 
-/// The same, or `None` where a walk's items alone are longer than `room` bytes. A walk is ended there, so that no more memory is taken
-/// than for some sixty bytes a byte of room, whatever number of items is asked for.
+/// The same, or `None` where a walk's items alone are longer than `room` bytes. A walk is ended there, so whatever number of items is asked
+/// for, no more memory is taken than in proportion to the line and the room.
 ///
 /// # Errors
 /// Out of memory.
