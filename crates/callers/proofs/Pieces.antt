@@ -1,13 +1,12 @@
 -- Pieces that were read of the parts of a plan make up the box.
-use Rattle.std.proofs.Common.{◌≡◌, ◌∙◌, ℕ, zero, suc, ◌<◌, List, [], ◌∷◌, ◌++◌, length, get_or, map, ap, append_assoc, ◌↔◌, refl, sym, subst, arith}
-use Rattle.std.proofs.lemmas.Slice.Zip.{AllZip-long}
+use Rattle.std.proofs.Common.{◌≡◌, ◌∙◌, ℕ, List, [], ◌∷◌, map, ◌↔◌, refl, sym, subst}
 use Rattle.std.specs.List.{AllByRecursion, AllPairs, AllZip, Contains}
 use Rattle.zarrs_chunk_axes.specs.InBounds.{AreBelow}
 use Rattle.zarrs_chunk_axes.specs.RowMajor.{row_major}
 use Rattle.zarrs_chunk_axes.proofs.RowMajor.{all_below}
 use Rattle.zarrs_chunk_base.specs.ArraySubset.{Box, IsInside}
 use Rattle.zarrs_chunk_base.specs.Dimension.{Dimension, InBox, IsPlace}
-use Rattle.zarrs_chunk_plan.proofs.Walked.{pushed}
+use Rattle.zarrs_chunk_plan.proofs.Plans.{pair_of, pairs_by, source_of}
 use Rattle.zarrs_chunk_plan.specs.Plan.{HasElement, IsPart, IsPlan}
 use Rattle.zarrs_chunk_plan.specs.declared.part.Part.{Part}
 use Rattle.zarrs_chunks.specs.Walks.{chunks_in, counted_from}
@@ -59,47 +58,15 @@ each_has ds IsKey subset answers array [] (_ ∷ _) (_ ∷ _) places stored are 
 each_has ds IsKey subset answers array (chunk ∷ chunks) (part ∷ parts) (piece ∷ pieces) places stored are read =
     (has_elements ds IsKey subset answers array chunk part piece places stored are.0 read.0, each_has ds IsKey subset answers array chunks parts pieces places stored are.1 read.1)
 
--- the piece that was read of a part, and the part of a piece
-piece_of : (answers : List ℕ → List ℕ → ℕ → Type 0) (parts : List Part) (pieces : List Piece) (part : Part) → AllZip (IsRead answers) parts pieces
-    → Contains parts part → (piece : Piece) × Contains pieces piece × (piece.in_subset ≡ part.in_subset)
-piece_of answers [] pieces part read (k, within, at) = absurd (omega arith)
-piece_of answers (_ ∷ _) [] part read (k, within, at) = absurd read
-piece_of answers (first ∷ parts) (piece ∷ pieces) part read (zero, within, at) = (piece, (zero, omega arith, refl), read.0.0 ∙ ap (λ p. p.in_subset) at)
-piece_of answers (first ∷ parts) (piece ∷ pieces) part read (suc k, within, at) =
-    let (found, (j, below, is), same) = piece_of answers parts pieces part read.1 (k, omega arith, at) in
-    (found, (suc j, omega arith, is), same)
-
-part_of : (answers : List ℕ → List ℕ → ℕ → Type 0) (parts : List Part) (pieces : List Piece) (piece : Piece) → AllZip (IsRead answers) parts pieces
-    → Contains pieces piece → (part : Part) × Contains parts part × (piece.in_subset ≡ part.in_subset)
-part_of answers parts [] piece read (k, within, at) = absurd (omega arith)
-part_of answers [] (_ ∷ _) piece read (k, within, at) = absurd read
-part_of answers (part ∷ parts) (first ∷ pieces) piece read (zero, within, at) = (part, (zero, omega arith, refl), ap (λ p. p.in_subset) (sym at) ∙ read.0.0)
-part_of answers (part ∷ parts) (first ∷ pieces) piece read (suc k, within, at) =
-    let (found, (j, below, is), same) = part_of answers parts pieces piece read.1 (k, omega arith, at) in
-    (found, (suc j, omega arith, is), same)
-
--- the boxes are the same, one by one
-same_box : (answers : List ℕ → List ℕ → ℕ → Type 0) (parts : List Part) (pieces : List Piece) (i : ℕ) (part : Part) (piece : Piece)
-    → AllZip (IsRead answers) parts pieces → i < length pieces → (get_or pieces i piece).in_subset ≡ (get_or parts i part).in_subset
-same_box answers parts [] i part piece read within = absurd (omega arith)
-same_box answers [] (_ ∷ _) i part piece read within = absurd read
-same_box answers (_ ∷ _) (_ ∷ _) zero part piece read within = read.0.0
-same_box answers (_ ∷ parts) (_ ∷ pieces) (suc i) part piece read within = same_box answers parts pieces i part piece read.1 (omega arith)
-
 -- two pieces share no place, since two parts don't
 abbrev IsApart : Box → Box → Type 0
 IsApart one other = (place : List ℕ) → IsInside one place → IsInside other place → ⊥
 
 are_apart : (answers : List ℕ → List ℕ → ℕ → Type 0) (parts : List Part) (pieces : List Piece) → AllZip (IsRead answers) parts pieces
     → AllPairs (λ part other. IsApart part.in_subset other.in_subset) parts → AllPairs (λ piece other. IsApart piece.in_subset other.in_subset) pieces
-are_apart answers [] pieces read apart = λ i j piece before within. let long = AllZip-long (IsRead answers) [] pieces read in absurd (omega arith)
-are_apart answers (part ∷ parts) pieces read apart =
-    λ i j piece before within.
-    let long = AllZip-long (IsRead answers) (part ∷ parts) pieces read in
-    let one = same_box answers (part ∷ parts) pieces i part piece read (omega arith) in
-    let other = same_box answers (part ∷ parts) pieces j part piece read within in
-    subst (λ b. IsApart b (get_or pieces j piece).in_subset) (sym one)
-    (subst (λ b. IsApart (get_or (part ∷ parts) i part).in_subset b) (sym other) (apart i j part before (omega arith)))
+are_apart answers parts pieces read apart =
+    pairs_by (IsRead answers) (λ part other. IsApart part.in_subset other.in_subset) (λ piece other. IsApart piece.in_subset other.in_subset) parts pieces read apart
+    (λ part other piece next _ _ apart is is_next. rw (is.0, is_next.0) apart)
 
 pub are_pieces : (ds : List Dimension) (IsKey : List ℕ → List ℕ → Type 0) (subset : Box) (answers : List ℕ → List ℕ → ℕ → Type 0) (array : List ℕ → ℕ)
     (parts : List Part) (pieces : List Piece) → HavePlaces ds IsKey subset → HoldsArray ds IsKey answers array
@@ -110,31 +77,12 @@ are_pieces ds IsKey subset answers array parts pieces places stored tile apart p
   all = λ place. (
     λ below.
         let (part, is_among, inside) = (tile place).0 below in
-        let (piece, also_among, same) = piece_of answers parts pieces part read is_among in
-        (piece, also_among, subst (λ b. IsInside b place) (sym same) inside),
+        let (piece, also_among, is) = pair_of (IsRead answers) parts pieces read part is_among in
+        (piece, also_among, rw is.0 inside),
     λ (piece, is_among, inside).
-        let (part, also_among, same) = part_of answers parts pieces piece read is_among in
-        (tile place).1 (part, also_among, subst (λ b. IsInside b place) same inside),
+        let (part, also_among, is) = source_of (IsRead answers) parts pieces read piece is_among in
+        (tile place).1 (part, also_among, rw is.0 at inside),
   );
   apart = are_apart answers parts pieces read apart;
   each = each_has ds IsKey subset answers array (chunks_in plan.cover) parts pieces places stored plan.are_parts read;
 }
-
--- of no parts there are no pieces
-pub no_pieces : (answers : List ℕ → List ℕ → ℕ → Type 0) (chunks : List (List ℕ)) (parts : List Part) (pieces : List Piece)
-    (IsOne : List ℕ → Part → Type 0) → chunks ≡ [] → AllZip IsOne chunks parts → AllZip (IsRead answers) parts pieces → pieces ≡ []
-no_pieces answers chunks [] [] IsOne none are read = refl
-no_pieces answers chunks [] (_ ∷ _) IsOne none are read = absurd read
-no_pieces answers chunks (_ ∷ _) [] IsOne none are read = refl
-no_pieces answers [] (_ ∷ _) (_ ∷ _) IsOne none are read = absurd are
-no_pieces answers (_ ∷ _) (_ ∷ _) (_ ∷ _) IsOne none are read = cc
-
--- one more came, of those that were left
-pub one_more_came : (R : List ℕ → ℕ → Type 0) (all came before after : List (List ℕ)) (elements more : List ℕ) (place : List ℕ) (element : ℕ)
-    → all ≡ came ++ before → before ≡ place ∷ after → AllZip R came elements → R place element → more ≡ elements ++ element ∷ []
-    → (came_after : List (List ℕ)) × (all ≡ came_after ++ after) × AllZip R came_after more
-one_more_came R all came before after elements more place element all_are first are is longer = (
-  came ++ place ∷ [],
-  all_are ∙ ap (λ xs. came ++ xs) first ∙ sym (append_assoc came (place ∷ []) after),
-  subst (AllZip R (came ++ place ∷ [])) (sym longer) (pushed R came elements place element are is),
-)

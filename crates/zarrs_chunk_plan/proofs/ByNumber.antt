@@ -1,9 +1,8 @@
 -- The chunks in a box, by their number.
-use Rattle.std.proofs.Common.{◌≡◌, ◌∙◌, ℕ, zero, suc, ◌+◌, ◌*◌, ◌<◌, ◌≤◌, List, [], ◌∷◌, ◌++◌, Option, Some, None, length, map, min, get_or, drop, take, set, refl, ap, sym, ⊎_elim, arith, length-append, add-one, ◌/◌, ◌%◌}
+use Rattle.std.proofs.Common.{◌≡◌, ◌∙◌, ℕ, zero, suc, ◌+◌, ◌*◌, ◌<◌, ◌≤◌, List, [], ◌∷◌, ◌++◌, Option, Some, None, length, map, min, get_or, drop, take, set, refl, ap, sym, ⊎_elim, arith, length-append, ◌/◌, ◌%◌}
 use Rattle.std.proofs.Math.Nat.{div-add-mod, mul-suc, mul-zero}
-use Rattle.std.proofs.Math.Seq.{drop-length, take-suc}
-use Rattle.std.proofs.lemmas.List.{length-map, length-set, drop-set}
-use Rattle.std.proofs.Math.Seq.{drop-cons}
+use Rattle.std.proofs.Math.Seq.{drop-length}
+use Rattle.std.proofs.lemmas.List.{length-map, length-set, drop-set, drop_more, take_more}
 use Rattle.std.proofs.lemmas.Option.{slice_get-map, slice_get_within}
 use Rattle.std.proofs.lemmas.Bool.{cases_lt}
 use Rattle.std.specs.List.{slice_get}
@@ -87,21 +86,9 @@ split_number : (number rest size lists place quotient digit : ℕ) → number �
 split_number number rest size lists place quotient digit counted parts =
     rw (counted, ← parts) (omega arith)
 
-suc_mul : (a b : ℕ) → suc a * b ≡ a * b + b
-suc_mul a b = omega arith
-
 no_rest : (number rest lists place : ℕ) → number ≡ rest * lists + place → number < lists → number ≡ place
 no_rest number zero lists place is less = omega arith
-no_rest number (suc rest) lists place is less = let more = suc_mul rest lists in absurd (omega arith)
-
-drop_more : {X : Type 0} (xs : List X) (k : ℕ) (d : X) → k < length xs → drop k xs ≡ get_or xs k d ∷ drop (k + 1) xs
-drop_more xs k d within = rw (add-one) (drop-cons xs k d within)
-
-take_more : {X : Type 0} (xs : List X) (k : ℕ) (d : X) → k < length xs → take (k + 1) xs ≡ take k xs ++ (get_or xs k d ∷ [])
-take_more xs k d within = rw (add-one) (take-suc xs k d within)
-
-times_one_more : (a b : ℕ) → a ≤ a * suc b
-times_one_more a b = let is = mul-suc a b in omega arith
+no_rest number (suc rest) lists place is less = let more : suc rest * lists ≡ rest * lists + lists = omega arith in absurd (omega arith)
 
 -- no size is 0 where there is a list
 pub some_size : (shape : List ℕ) (k : ℕ) → 0 < length (row_major shape) → k < length shape → 0 < get_or shape k 0
@@ -181,8 +168,8 @@ at_most_times a (suc b) most =
     (λ (less : a < most). let same : min a most ≡ a = omega arith in rw same refl)
     (λ (more : most ≤ a).
     let same : min a most ≡ most = omega arith in
-    let one = times_one_more most b in
-    let other = times_one_more a b in
+    let one = mul-suc most b in
+    let other = mul-suc a b in
     rw same (omega arith))
     (cases_lt a most)
 

@@ -1,5 +1,5 @@
 -- A walk over what a rechunking copies: that it can go on, and what it gives.
-use Rattle.std.proofs.Common.{◌≡◌, ◌∙◌, ℕ, List, [], ◌∷◌, ◌++◌, Some, None, Ok, append_assoc, append-nil, ap, subst, sym}
+use Rattle.std.proofs.Common.{◌≡◌, ◌∙◌, ℕ, List, [], ◌∷◌, ◌++◌, Some, None, Ok, append-nil, ap, refl, subst, sym}
 use Rattle.std.specs.List.{AllByRecursion, AllZip}
 use Rattle.zarrs_chunk_base.specs.ArraySubset.{Box, IsBox, IsEmptyBox}
 use Rattle.zarrs_chunk_base.specs.Dimension.{Dimension, array_sizes}
@@ -11,10 +11,9 @@ use Rattle.zarrs_chunk_plan.specs.declared.chunk_copies.Copies.{Copies}
 use Rattle.zarrs_chunk_plan.specs.declared.part.Part.{Part}
 use Rattle.zarrs_chunk_plan.specs.declared.walk.Parts.{Parts}
 use Rattle.zarrs_chunk_plan.specs.seen.Copies.{AreGroupsToCome, CanCopy, GivesCopies, IsAboutCopies, IsPlanned, targets_to_come}
-use Rattle.zarrs_chunk_plan.specs.seen.Parts.{ArePartsToCome, GivesPart, IsAbout, MeetSubset, chunks_to_come}
-use Rattle.zarrs_chunk_plan.proofs.Plans.{not_empty_if_inside}
-use Rattle.zarrs_chunk_plan.proofs.Rechunkings.{takes_those}
-use Rattle.zarrs_chunk_plan.proofs.Walked.{plan_of, pushed}
+use Rattle.zarrs_chunk_plan.specs.seen.Parts.{ArePartsToCome, GivesPart, IsAbout, chunks_to_come}
+use Rattle.zarrs_chunk_plan.proofs.Plans.{not_empty}
+use Rattle.zarrs_chunk_plan.proofs.Walked.{one_came, plan_of}
 
 module _ {G E H F : Type 0} (source_dimensions : G → List Dimension) (target_dimensions : H → List Dimension) where
   pub can_copy : (source : G) (target : H) (encoding : F) (walk : Copies G E H F) (targets : Parts H F) (wanted : Box) → walk.source.now ≡ source
@@ -22,50 +21,34 @@ module _ {G E H F : Type 0} (source_dimensions : G → List Dimension) (target_d
       → array_sizes (source_dimensions source) ≡ array_sizes (target_dimensions target)
       → AllByRecursion (Meets (target_dimensions target) (array_box (target_dimensions target))) (chunks_in wanted)
       → CanCopy source_dimensions target_dimensions walk
-  can_copy source target encoding walk targets wanted same_source same_targets about left one meet =
-      let same_grid : walk.targets.grid.now ≡ target = ap (λ t. t.grid.now) same_targets ∙ about.same_grid in record {
-        one_array = ap (λ g. array_sizes (source_dimensions g)) same_source ∙ one ∙ sym (ap (λ h. array_sizes (target_dimensions h)) same_grid);
-        whole = ap (λ t. t.array_subset) same_targets ∙ about.same_subset ∙ sym (ap (λ h. array_box (target_dimensions h)) same_grid);
-        meet = subst (MeetSubset target_dimensions) (sym same_targets) (rw (about.same_grid, about.same_subset, left) meet);
-      }
+  can_copy source target encoding walk targets wanted same_source same_targets about left one meet = record {
+    one_array = rw (same_source, same_targets, about.same_grid) one;
+    whole = rw (same_targets, about.same_grid) about.same_subset;
+    meet = rw (same_targets, about.same_grid, about.same_subset, left) meet;
+  }
 
   module _ (target_key : F → List ℕ → List ℕ → Type 0) (before : Copies G E H F) (to : Part) (targets : Parts H F)
       (steps : GivesPart target_dimensions target_key before.targets (Some (Ok to)) targets) where
     -- the part of the target's chunk has an element
     pub has_some : CanCopy source_dimensions target_dimensions before → ¬ IsEmptyBox to.in_subset
     has_some can =
-        let ds = target_dimensions before.targets.grid.now in
-        let is_key = target_key before.targets.encoding.now in
-        let chunk = to.chunk.items in
-        let is = subst (λ b. IsPart ds is_key b chunk to) can.whole (steps.part can.meet) in
-        let meets = subst (λ b. Meets ds b chunk) can.whole (subst (AllByRecursion (Meets ds before.targets.array_subset)) steps.gives can.meet).0 in
-        let (index, box, inside) = meets in
-        not_empty_if_inside to.in_subset.start to.in_subset.shape index (takes_those ds is_key chunk to is meets index (box, inside))
+        let meets = subst (AllByRecursion (Meets (target_dimensions before.targets.grid.now) before.targets.array_subset)) steps.gives can.meet in
+        not_empty _ _ before.targets.array_subset to.chunk.items to (steps.part can.meet) meets.0
 
     pub gives_copies : (from : Parts G E)
         → (CanCopy source_dimensions target_dimensions before → IsPlanned source_dimensions before.source.now before.source_encoding.now to.in_subset from)
         → (after : Copies G E H F) → after.targets ≡ targets → after.source.now ≡ before.source.now → after.source_encoding.now ≡ before.source_encoding.now
         → GivesCopies source_dimensions target_dimensions target_key before (Some (Ok (record { to = to; from = from }))) after
     gives_copies from planned after same_targets same_source same_encoding =
-        let about = steps.about in
-        let same_grid : after.targets.grid.now ≡ before.targets.grid.now = ap (λ t. t.grid.now) same_targets ∙ about.same_grid in
-        let same_subset : after.targets.array_subset ≡ before.targets.array_subset = ap (λ t. t.array_subset) same_targets ∙ about.same_subset in record {
-          gives = steps.gives ∙ ap (λ left. to.chunk.items ∷ left) (ap chunks_to_come (sym same_targets));
+        let about = steps.about in record {
+          gives = rw same_targets steps.gives;
           to = λ can. steps.part can.meet;
           from = planned;
-          about = record {
-            same_source = same_source;
-            same_source_encoding = same_encoding;
-            targets = record {
-              same_grid = same_grid;
-              same_encoding = ap (λ t. t.encoding.now) same_targets ∙ about.same_encoding;
-              same_subset = same_subset;
-            };
-          };
+          about = record { same_source = same_source; same_source_encoding = same_encoding; targets = rw same_targets about };
           can = λ can. record {
-            one_array = ap (λ g. array_sizes (source_dimensions g)) same_source ∙ can.one_array ∙ sym (ap (λ h. array_sizes (target_dimensions h)) same_grid);
-            whole = same_subset ∙ can.whole ∙ sym (ap (λ h. array_box (target_dimensions h)) same_grid);
-            meet = subst (MeetSubset target_dimensions) (sym same_targets) (steps.meet can.meet);
+            one_array = rw (same_source, same_targets, about.same_grid) can.one_array;
+            whole = rw (same_targets, about.same_subset, about.same_grid) can.whole;
+            meet = rw same_targets (steps.meet can.meet);
           };
         }
 
@@ -86,51 +69,35 @@ module _ {G E H F : Type 0} (source_dimensions : G → List Dimension) (source_k
 
   pub first_group : (now : Copies G E H F) (groups : List Group) → now ≡ begin → groups ≡ [] → CanCopy source_dimensions target_dimensions begin
       → GroupsHaveCome now groups
-  first_group now groups same none can = (
-    [],
-    ap targets_to_come (sym same),
-    subst (AllZip IsGroupOf []) (sym none) tt,
-    record {
-      same_source = ap (λ w. w.source.now) same;
-      same_source_encoding = ap (λ w. w.source_encoding.now) same;
-      targets = record {
-        same_grid = ap (λ w. w.targets.grid.now) same;
-        same_encoding = ap (λ w. w.targets.encoding.now) same;
-        same_subset = ap (λ w. w.targets.array_subset) same;
-      };
-    },
-    subst (CanCopy source_dimensions target_dimensions) (sym same) can,
-  )
+  first_group now groups same none can =
+      let targets : IsAbout begin.targets.grid.now begin.targets.encoding.now begin.targets.array_subset begin.targets =
+      record { same_grid = refl; same_encoding = refl; same_subset = refl }
+      in
+      rw (same, none) ([], refl, tt, record { same_source = refl; same_source_encoding = refl; targets = targets }, can)
 
   pub one_more_group : (before after : Copies G E H F) (group : ChunkCopies G E) (from : List Part) (groups more : List Group) → GroupsHaveCome before groups
       → GivesCopies source_dimensions target_dimensions target_key before (Some (Ok group)) after → ArePartsToCome source_dimensions source_key group.from from
       → more ≡ groups ++ (group.to, from) ∷ [] → GroupsHaveCome after more
   one_more_group before after group from groups more (came, left, are, about, can) gives parts is =
       let planned = gives.from can in
-      let plan = plan_of source_dimensions source_key before.source.now before.source_encoding.now group.to.in_subset planned.cover group.from from planned.about
-      planned.is_cover planned.left parts in
-      let into : AreCopiesInto (source_dimensions before.source.now) (source_key before.source_encoding.now) (target_dimensions before.targets.grid.now)
-      (target_key before.targets.encoding.now) group.to.chunk.items (group.to, from) =
-      record {
-        to = subst (λ b. IsPart (target_dimensions before.targets.grid.now) (target_key before.targets.encoding.now) b group.to.chunk.items group.to) can.whole (gives.to can);
-        from = plan;
-      } in (
-        came ++ group.to.chunk.items ∷ [],
-        left ∙ ap (λ xs. came ++ xs) gives.gives ∙ sym (append_assoc came (group.to.chunk.items ∷ []) (targets_to_come after)),
-        subst (AllZip IsGroupOf (came ++ group.to.chunk.items ∷ [])) (sym is)
-            (pushed IsGroupOf came groups group.to.chunk.items (group.to, from) are
-            (rw (← about.same_source, ← about.same_source_encoding, ← about.targets.same_grid, ← about.targets.same_encoding) into)),
-        record {
-          same_source = gives.about.same_source ∙ about.same_source;
-          same_source_encoding = gives.about.same_source_encoding ∙ about.same_source_encoding;
-          targets = record {
-            same_grid = gives.about.targets.same_grid ∙ about.targets.same_grid;
-            same_encoding = gives.about.targets.same_encoding ∙ about.targets.same_encoding;
-            same_subset = gives.about.targets.same_subset ∙ about.targets.same_subset;
-          };
-        },
-        gives.can can,
-      )
+      let chunk = group.to.chunk.items in
+      let source = source_dimensions before.source.now in
+      let source_is_key = source_key before.source_encoding.now in
+      let target = target_dimensions before.targets.grid.now in
+      let target_is_key = target_key before.targets.encoding.now in
+      let into : AreCopiesInto source source_is_key target target_is_key chunk (group.to, from) = record {
+        to = subst (λ b. IsPart target target_is_key b chunk group.to) can.whole (gives.to can);
+        from = plan_of source_dimensions source_key before.source.now before.source_encoding.now group.to.in_subset planned.cover group.from from
+            planned.about planned.is_cover planned.left parts;
+      }
+      in
+      let targets = about.targets in
+      let (now_came, all, now_are) = one_came IsGroupOf (targets_to_come begin) came (targets_to_come before) (targets_to_come after) chunk
+      (group.to, from) groups more left gives.gives are
+      (rw (← about.same_source, ← about.same_source_encoding, ← targets.same_grid, ← targets.same_encoding) into) is
+      in
+      let still = rw (about.same_source, about.same_source_encoding, targets.same_grid, targets.same_encoding, targets.same_subset) at gives.about in
+      (now_came, all, now_are, still, gives.can can)
 
   pub last_group : (before after : Copies G E H F) (groups : List Group) → GroupsHaveCome before groups
       → GivesCopies source_dimensions target_dimensions target_key before None after

@@ -1,8 +1,9 @@
 -- Lists that are made of other lists, one after another: what is in them, and what holds of each two of it.
-use Rattle.std.proofs.Common.{◌≡◌, zero, suc, List, [], ◌∷◌, ◌++◌, Contains, get_or, map, refl, subst, sym, ⊎_elim, arith}
+use Rattle.std.proofs.Common.{zero, suc, List, [], ◌∷◌, ◌++◌, Contains, get_or, map, refl, subst, sym, ⊎_elim, arith}
 use Rattle.std.specs.List.{AllPairs, flat_map}
 use Rattle.std.proofs.lemmas.List.Elements.{All-append, Contains-append_cases, Contains-append_left, Contains-append_right, Contains-get_or}
 use Rattle.std.proofs.lemmas.List.Kept.{AllPairs-cons}
+use Rattle.zarrs_chunks.proofs.ChunksInBoxes.{source_of}
 
 module _ {X : Type 0} where
   deeper : (x : X) (xs : List X) (y : X) → Contains xs y → Contains (x ∷ xs) y
@@ -19,22 +20,12 @@ module _ {X : Type 0} where
       (λ y z among also. across y z (deeper x xs y among) also))
 
 module _ {X Y : Type 0} (f : X → Y) where
-  pub is_of : (xs : List X) (y : Y) → Contains (map f xs) y → (x : X) × Contains xs x × (f x ≡ y)
-  is_of [] y (k, within, is) = absurd (omega arith)
-  is_of (x ∷ xs) y (zero, within, is) = (x, (zero, omega arith, refl), is)
-  is_of (x ∷ xs) y (suc k, within, is) = let (z, among, same) = is_of xs y (k, omega arith, is) in (z, deeper x xs z among, same)
-
-  pub among_mapped : (xs : List X) (x : X) → Contains xs x → Contains (map f xs) (f x)
-  among_mapped [] x (k, within, is) = absurd (omega arith)
-  among_mapped (z ∷ xs) x (zero, within, is) = (zero, omega arith, λ i. f (is i))
-  among_mapped (z ∷ xs) x (suc k, within, is) = deeper (f z) (map f xs) (f x) (among_mapped xs x (k, omega arith, is))
-
   pub pairs_mapped : (Q : Y → Y → Type 0) (xs : List X) → AllPairs (λ x z. Q (f x) (f z)) xs → AllPairs Q (map f xs)
   pairs_mapped Q [] all = λ i j d before within. absurd (omega arith)
   pairs_mapped Q (x ∷ xs) all =
       AllPairs-cons Q (f x) (map f xs)
       (λ k d within.
-      let (z, (j, counted, is), same) = is_of xs (get_or (map f xs) k d) (Contains-get_or (map f xs) k d within) in
+      let (z, (j, counted, is), same) = source_of f xs (get_or (map f xs) k d) (Contains-get_or (map f xs) k d within) in
       subst (Q (f x)) same (subst (λ w. Q (f x) (f w)) is (all zero (suc j) z (omega arith) (omega arith))))
       (pairs_mapped Q xs (λ i j d before within. all (suc i) (suc j) d (omega arith) (omega arith)))
 

@@ -5,29 +5,29 @@ use Rattle.zarrs_chunk_base.specs.Greatest.{AllFit, greatest}
 use Rattle.zarrs_chunk_plan.specs.seen.Shared.{later_starts, shared_sizes}
 
 pub overlap_is_box : (one sizes other others : List ℕ) → length one ≡ length sizes → length other ≡ length others → length one ≡ length other
-    → AllFit (ends one sizes) → AllFit (ends other others) → IsBox (record { start = later_starts one other; shape = shared_sizes one sizes other others })
+    → AllFit one → AllFit (ends other others) → IsBox (record { start = later_starts one other; shape = shared_sizes one sizes other others })
 overlap_is_box [] [] [] [] a b c fit also = record { lengths = refl; fits = tt }
 overlap_is_box (s ∷ one) (n ∷ sizes) (t ∷ other) (m ∷ others) a b c fit also =
-    let end : s + n ≤ greatest = fit.0 in
-    let other_end : t + m ≤ greatest = also.0 in
+    let start : s ≤ greatest = fit.0 in
+    let end : t + m ≤ greatest = also.0 in
     let rest = overlap_is_box one sizes other others (omega arith) (omega arith) (omega arith) fit.1 also.1 in
     record { lengths = ap suc rest.lengths; fits = (omega arith, rest.fits) }
 overlap_is_box _ _ _ _ a b c fit also = absurd (omega arith)
 
 pub overlap_holds : (one sizes other others index : List ℕ) → length one ≡ length sizes → length other ≡ length others → length one ≡ length other
-    → AllFit (ends one sizes) → AllFit (ends other others)
+    → AllFit (ends other others)
     → AreWithin (later_starts one other) (shared_sizes one sizes other others) index ↔ (AreWithin one sizes index × AreWithin other others index)
-overlap_holds [] [] [] [] [] a b c fit also = (λ _. (tt, tt), λ _. tt)
-overlap_holds [] [] [] [] (_ ∷ _) a b c fit also = (λ within. absurd within, λ both. absurd both.0)
-overlap_holds (_ ∷ _) (_ ∷ _) (_ ∷ _) (_ ∷ _) [] a b c fit also = (λ within. absurd within, λ both. absurd both.0)
-overlap_holds (s ∷ one) (n ∷ sizes) (t ∷ other) (m ∷ others) (i ∷ index) a b c fit also =
-    let end : s + n ≤ greatest = fit.0 in
-    let other_end : t + m ≤ greatest = also.0 in
-    let rest = overlap_holds one sizes other others index (omega arith) (omega arith) (omega arith) fit.1 also.1 in (
+overlap_holds [] [] [] [] [] a b c also = (λ _. (tt, tt), λ _. tt)
+overlap_holds [] [] [] [] (_ ∷ _) a b c also = (λ within. absurd within, λ both. absurd both.0)
+overlap_holds (_ ∷ _) (_ ∷ _) (_ ∷ _) (_ ∷ _) [] a b c also = (λ within. absurd within, λ both. absurd both.0)
+overlap_holds (s ∷ one) (n ∷ sizes) (t ∷ other) (m ∷ others) (i ∷ index) a b c also =
+    let end : t + m ≤ greatest = also.0 in
+    let rest = overlap_holds one sizes other others index (omega arith) (omega arith) (omega arith) also.1 in (
       λ within.
           let from : max s t ≤ i = within.0 in
           let below : i < max s t + (min (s + n) (min (t + m) greatest) - max s t) = within.1 in
-          ((omega arith, omega arith, (rest.0 within.2).0), (omega arith, omega arith, (rest.0 within.2).1)),
+          let (in_one, in_other) = rest.0 within.2 in
+          ((omega arith, omega arith, in_one), (omega arith, omega arith, in_other)),
       λ both.
           let from : s ≤ i = both.0.0 in
           let below : i < s + n = both.0.1 in
@@ -35,4 +35,4 @@ overlap_holds (s ∷ one) (n ∷ sizes) (t ∷ other) (m ∷ others) (i ∷ inde
           let also_below : i < t + m = both.1.1 in
           (omega arith, omega arith, rest.1 (both.0.2, both.1.2)),
     )
-overlap_holds _ _ _ _ _ a b c fit also = absurd (omega arith)
+overlap_holds _ _ _ _ _ a b c also = absurd (omega arith)

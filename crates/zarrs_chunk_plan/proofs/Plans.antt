@@ -1,12 +1,13 @@
 -- The parts of a plan: which elements they have, and that they differ.
 use Rattle.std.proofs.Common.{◌≡◌, ◌≢◌, ◌↔◌, ◌⊎◌, ◌∙◌, ℕ, zero, suc, ◌+◌, ◌<◌, ◌≤◌, List, [], ◌∷◌, Contains, get_or, length, refl, ap, ap₂, subst, sym, inl, inr, ⊎_elim, arith}
 use Rattle.std.proofs.lemmas.Bool.{cases_lt}
+use Rattle.std.proofs.lemmas.Slice.Zip.{AllZip-long}
 use Rattle.std.specs.List.{AllByRecursion, AllPairs, AllZip}
 use Rattle.zarrs_chunk_base.specs.ArraySubset.{AreWithin, Box, IsBox, IsEmptyBox, IsInside, zero_box}
-use Rattle.zarrs_chunk_base.specs.Dimension.{Dimension, Holds, InBox, IsChain, IsOrigin, IsPlace, StartsAt}
+use Rattle.zarrs_chunk_base.specs.Dimension.{Dimension, Holds, InBox, IsChain, IsOrigin, IsPlace}
 use Rattle.zarrs_chunk_base.specs.Greatest.{AllFit}
 use Rattle.zarrs_chunk_base.proofs.Boxes.{within_lengths}
-use Rattle.zarrs_chunk_base.proofs.InEach.{by_dimension, length_values}
+use Rattle.zarrs_chunk_base.proofs.InEach.{length_values}
 use Rattle.zarrs_chunk_axes.specs.InBounds.{AreBelow}
 use Rattle.zarrs_chunk_axes.specs.RowMajor.{row_major}
 use Rattle.zarrs_chunks.specs.Subsets.{IsCover}
@@ -66,11 +67,7 @@ covered_meet ds b cover is_box if_empty if_some meets = ⊎_elim of_empty of_som
 
 pub added : (a b c : List ℕ) → counted_from a (counted_from b c) ≡ counted_from (counted_from a b) c
 added (x ∷ a) (y ∷ b) (z ∷ c) = let here : x + (y + z) ≡ (x + y) + z = omega arith in ap₂ (λ n ns. n ∷ ns) here (added a b c)
-added [] [] c = refl
-added [] (_ ∷ _) [] = refl
-added [] (_ ∷ _) (_ ∷ _) = refl
-added (_ ∷ _) [] c = refl
-added (_ ∷ _) (_ ∷ _) [] = refl
+added _ _ _ = refl
 
 pub counted_once : (start one other : List ℕ) → length one ≡ length start → length other ≡ length start → counted_from start one ≡ counted_from start other → one ≡ other
 counted_once [] [] [] a b same = refl
@@ -87,20 +84,15 @@ length_counted (s ∷ start) (n ∷ numbers) same = ap suc (length_counted start
 length_counted _ _ same = absurd (omega arith)
 
 -- a place is what is counted from the chunk's origin
-place_from_origin : (ds : List Dimension) (chunk origin place : List ℕ) → IsOrigin ds chunk origin → length place ≡ length ds
+pub place_from_origin : (ds : List Dimension) (chunk origin place : List ℕ) → IsOrigin ds chunk origin → length place ≡ length ds
     → IsPlace ds chunk (counted_from origin place) place
-place_from_origin ds chunk origin place is same =
-    by_dimension StartsAt (λ ds chunk origin. (place : List ℕ) → length place ≡ length ds → IsPlace ds chunk (counted_from origin place) place)
-    none more ds chunk origin is place same where
-      none : (place : List ℕ) → length place ≡ length {A = Dimension} [] → IsPlace [] [] (counted_from [] place) place
-      none [] same = tt
-      none (_ ∷ _) same = absurd (omega arith)
-
-      more : (d : Dimension) (c o : ℕ) (ds : List Dimension) (chunk origin : List ℕ) → StartsAt d c o
-          → ((place : List ℕ) → length place ≡ length ds → IsPlace ds chunk (counted_from origin place) place)
-          → (place : List ℕ) → length place ≡ length (d ∷ ds) → IsPlace (d ∷ ds) (c ∷ chunk) (counted_from (o ∷ origin) place) place
-      more d c o ds chunk origin starts rest [] same = absurd (omega arith)
-      more d c o ds chunk origin starts rest (p ∷ place) same = let start = starts.start in (omega arith, rest place (omega arith))
+place_from_origin [] [] [] [] is same = tt
+place_from_origin (d ∷ ds) (c ∷ chunk) (o ∷ origin) (p ∷ place) is same =
+    let start = is.0.start in
+    (omega arith, place_from_origin ds chunk origin place is.1 (omega arith))
+place_from_origin [] [] [] (_ ∷ _) is same = absurd (omega arith)
+place_from_origin (_ ∷ _) (_ ∷ _) (_ ∷ _) [] is same = absurd (omega arith)
+place_from_origin _ _ _ _ is same = absurd is
 
 -- a list that has something below it in each place has no 0
 pub not_empty_if_inside : (start shape index : List ℕ) → AreWithin start shape index → ¬ Contains shape 0
@@ -141,7 +133,21 @@ has_common ds IsKey b chunk part index place is has =
     in
     (boxes.elements index).0 (subst (AreWithin shared.start shared.shape) counts (lie_within shared.start shared.shape has.steps boxes.is_box.lengths below))
 
--- at its place in the chunk
+-- and each of its lists of numbers is as long as there are dimensions
+pub all_long : (ds : List Dimension) (IsKey : List ℕ → List ℕ → Type 0) (b : Box) (chunk : List ℕ) (part : Part) (index : List ℕ)
+    → IsPart ds IsKey b chunk part → IsCommon ds b chunk index
+    → (length index ≡ length ds) × (length b.start ≡ length ds) × (length part.in_chunk.start ≡ length ds) × (length part.in_chunk.shape ≡ length ds)
+    × (length part.in_subset.start ≡ length ds)
+all_long ds IsKey b chunk part index is common =
+    let boxes = is.boxes in
+    let in_chunk = ap length boxes.from_chunk.shape in
+    let in_subset = ap length boxes.from_subset.shape in
+    let in_shared : length index ≡ length boxes.shared.start = within_lengths _ _ _ ((boxes.elements index).1 common) in
+    let in_box : length index ≡ length b.start = within_lengths _ _ _ common.1 in
+    let many : length index ≡ length ds = length_values Holds ds chunk index common.0 in
+    (many, omega arith, omega arith, omega arith, omega arith)
+
+-- it has an element at its place in the chunk
 pub has_place : (ds : List Dimension) (IsKey : List ℕ → List ℕ → Type 0) (b : Box) (chunk : List ℕ) (part : Part) (index place : List ℕ) → IsPart ds IsKey b chunk part
     → HasElement b part index place → InBox ds chunk index × IsPlace ds chunk index place
 has_place ds IsKey b chunk part index place is has =
@@ -151,51 +157,49 @@ has_place ds IsKey b chunk part index place is has =
     has.index_is ∙ added b.start part.in_subset.start has.steps ∙ ap (λ start. counted_from start has.steps) (sym boxes.from_subset.start ∙ boxes.from_chunk.start)
     ∙ sym (added boxes.origin part.in_chunk.start has.steps) ∙ ap (counted_from boxes.origin) (sym has.place_is)
     in
-    let steps_many : length has.steps ≡ length part.in_chunk.start = length_below _ _ has.below ∙ sym boxes.from_chunk.is_box.lengths in
-    let place_many : length place ≡ length part.in_chunk.start = ap length has.place_is ∙ length_counted _ _ steps_many in
-    let shared_many : length boxes.shared.start ≡ length part.in_chunk.start =
-    boxes.is_box.lengths ∙ ap length boxes.from_chunk.shape ∙ sym boxes.from_chunk.is_box.lengths
-    in
-    let index_many : length index ≡ length boxes.shared.start = within_lengths _ _ _ ((boxes.elements index).1 common) in
-    let dimensions : length index ≡ length ds = length_values Holds ds chunk index common.0 in
-    (common.0, subst (λ i. IsPlace ds chunk i place) (sym from_origin) (place_from_origin ds chunk boxes.origin place boxes.is_origin (omega arith)))
+    let long = all_long ds IsKey b chunk part index is common in
+    let steps_many = length_below part.in_chunk.shape has.steps has.below in
+    let place_many = ap length has.place_is ∙ length_counted part.in_chunk.start has.steps (omega arith) in
+    (common.0, rw from_origin (place_from_origin ds chunk boxes.origin place boxes.is_origin (omega arith)))
+
+-- and isn't empty, where the chunk has an element of the box
+pub not_empty : (ds : List Dimension) (IsKey : List ℕ → List ℕ → Type 0) (b : Box) (chunk : List ℕ) (part : Part) → IsPart ds IsKey b chunk part
+    → Meets ds b chunk → ¬ IsEmptyBox part.in_subset
+not_empty ds IsKey b chunk part is (index, box, inside) =
+    subst (λ shape. ¬ Contains shape 0) is.boxes.from_subset.shape (not_empty_if_inside _ _ index ((is.boxes.elements index).1 (box, inside)))
 
 -- ---- parts and chunks, place by place
 
 module _ {X Y : Type 0} (R : X → Y → Type 0) where
+  at_place : (xs : List X) (ys : List Y) → AllZip R xs ys → (k : ℕ) → k < length ys
+      → (x : X) × (y : Y) × (k < length xs) × ((e : X) → get_or xs k e ≡ x) × ((d : Y) → get_or ys k d ≡ y) × R x y
+  at_place (x ∷ xs) (y ∷ ys) zipped zero within = (x, y, omega arith, λ e. refl, λ d. refl, zipped.0)
+  at_place (x ∷ xs) (y ∷ ys) zipped (suc k) within =
+      let (z, w, counted, is, is_other, related) = at_place xs ys zipped.1 k (omega arith) in
+      (z, w, omega arith, is, is_other, related)
+  at_place xs [] zipped k within = absurd (omega arith)
+  at_place [] (_ ∷ _) zipped k within = absurd zipped
+
   pub pair_of : (xs : List X) (ys : List Y) → AllZip R xs ys → (x : X) → Contains xs x → (y : Y) × Contains ys y × R x y
-  pair_of (z ∷ xs) (y ∷ ys) zipped x (zero, within, is) = (y, (zero, omega arith, refl), subst (λ w. R w y) is zipped.0)
-  pair_of (z ∷ xs) (y ∷ ys) zipped x (suc k, within, is) =
-      let (found, (j, below, same), related) = pair_of xs ys zipped.1 x (k, omega arith, is) in
-      (found, (suc j, omega arith, same), related)
-  pair_of [] ys zipped x (k, within, is) = absurd (omega arith)
-  pair_of (_ ∷ _) [] zipped x has = absurd zipped
+  pair_of xs ys zipped x (k, within, is) =
+      let long = AllZip-long R xs ys zipped in
+      let (z, y, counted, at, is_other, related) = at_place xs ys zipped k (omega arith) in
+      (y, (k, omega arith, is_other y), subst (λ w. R w y) (sym (at x) ∙ is) related)
 
   pub source_of : (xs : List X) (ys : List Y) → AllZip R xs ys → (y : Y) → Contains ys y → (x : X) × Contains xs x × R x y
-  source_of (x ∷ xs) (z ∷ ys) zipped y (zero, within, is) = (x, (zero, omega arith, refl), subst (R x) is zipped.0)
-  source_of (x ∷ xs) (z ∷ ys) zipped y (suc k, within, is) =
-      let (found, (j, below, same), related) = source_of xs ys zipped.1 y (k, omega arith, is) in
-      (found, (suc j, omega arith, same), related)
-  source_of xs [] zipped y (k, within, is) = absurd (omega arith)
-  source_of [] (_ ∷ _) zipped y has = absurd zipped
-
-  at_place : (xs : List X) (ys : List Y) → AllZip R xs ys → (k : ℕ) → k < length ys → (d : Y)
-      → (x : X) × (k < length xs) × ((e : X) → get_or xs k e ≡ x) × R x (get_or ys k d)
-  at_place (x ∷ xs) (y ∷ ys) zipped zero within d = (x, omega arith, λ e. refl, zipped.0)
-  at_place (x ∷ xs) (y ∷ ys) zipped (suc k) within d =
-      let (z, counted, is, related) = at_place xs ys zipped.1 k (omega arith) d in
-      (z, omega arith, is, related)
-  at_place xs [] zipped k within d = absurd (omega arith)
-  at_place [] (_ ∷ _) zipped k within d = absurd zipped
+  source_of xs ys zipped y (k, within, is) =
+      let (x, z, counted, at, is_other, related) = at_place xs ys zipped k within in
+      (x, (k, counted, at x), subst (R x) (sym (is_other y) ∙ is) related)
 
   -- what follows for two of these from what holds of each two of those that they are related to
   pub pairs_by : (P : X → X → Type 0) (Q : Y → Y → Type 0) (xs : List X) (ys : List Y) → AllZip R xs ys → AllPairs P xs
       → ((one other : X) (y z : Y) → Contains xs one → Contains xs other → P one other → R one y → R other z → Q y z) → AllPairs Q ys
   pairs_by P Q xs ys zipped each follows i j d before within =
-      let (one, counted, is, related) = at_place xs ys zipped i (omega arith) d in
-      let (other, also, is_other, also_related) = at_place xs ys zipped j within d in
-      follows one other (get_or ys i d) (get_or ys j d) (i, counted, is one) (j, also, is_other other)
-      (subst (P one) (is_other one) (subst (λ x. P x (get_or xs j one)) (is one) (each i j one before also))) related also_related
+      let (one, y, counted, is, made, related) = at_place xs ys zipped i (omega arith) in
+      let (other, z, also, is_other, made_other, also_related) = at_place xs ys zipped j within in
+      rw (made d, made_other d)
+      (follows one other y z (i, counted, is one) (j, also, is_other other)
+      (rw (is one, is_other one) at (each i j one before also)) related also_related)
 
   -- what holds of two parts of chunks that differ holds of each two parts
   pub pairs_of : (Q : Y → Y → Type 0) (xs : List X) (ys : List Y) → AllZip R xs ys → AllPairs (λ one other. one ≢ other) xs
@@ -263,36 +267,26 @@ module _ (ds : List Dimension) (IsKey : List ℕ → List ℕ → Type 0) (b : B
         let (part, among, (at, has)) = some_part chains is_box parts plan index (lie_within b.start b.shape place is_box.lengths below) in
         let (chunk, _, is) = source_of (IsPart ds IsKey b) (chunks_in plan.cover) parts plan.are_parts part among in
         let boxes = is.boxes in
-        let box = boxes.from_subset.is_box in
-        let below_part : AreBelow part.in_subset.shape has.steps =
-        subst (λ shape. AreBelow shape has.steps) (sym boxes.from_chunk.shape ∙ boxes.from_subset.shape) has.below
-        in
-        let steps_many : length has.steps ≡ length part.in_subset.start = length_below _ _ below_part ∙ sym box.lengths in
+        let long = all_long ds IsKey b chunk part index is (has_common ds IsKey b chunk part index at is has) in
+        let steps_many = length_below part.in_chunk.shape has.steps has.below in
+        let place_many = length_below b.shape place below ∙ sym is_box.lengths in
         let counted = counted_from part.in_subset.start has.steps in
-        let counted_many : length counted ≡ length part.in_subset.start = length_counted _ _ steps_many in
-        let shared_many : length boxes.shared.start ≡ length part.in_subset.start = boxes.is_box.lengths ∙ ap length boxes.from_subset.shape ∙ sym box.lengths in
-        let common = has_common ds IsKey b chunk part index at is has in
-        let index_many : length index ≡ length boxes.shared.start = within_lengths _ _ _ ((boxes.elements index).1 common) in
-        let also_many : length index ≡ length b.start = within_lengths _ _ _ common.1 in
-        let place_many : length place ≡ length b.start = length_below _ _ below ∙ sym is_box.lengths in
+        let counted_many = length_counted part.in_subset.start has.steps (omega arith) in
         let same : place ≡ counted = counted_once b.start place counted place_many (omega arith) has.index_is in
-        (part, among, subst (AreWithin part.in_subset.start part.in_subset.shape) (sym same) (lie_within _ _ _ box.lengths below_part))
+        let below_part = subst (λ shape. AreBelow shape has.steps) (sym boxes.from_chunk.shape ∙ boxes.from_subset.shape) has.below in
+        let lies = lie_within part.in_subset.start part.in_subset.shape has.steps boxes.from_subset.is_box.lengths below_part in
+        (part, among, subst (AreWithin part.in_subset.start part.in_subset.shape) (sym same) lies)
 
     lies : (part : Part) → Contains parts part → IsInside part.in_subset place → AreBelow b.shape place
     lies part among inside =
         let (chunk, _, is) = source_of (IsPart ds IsKey b) (chunks_in plan.cover) parts plan.are_parts part among in
-        let boxes = is.boxes in
         let index = counted_from b.start place in
         let (at, has) = has_at chunk part place is inside in
         let common = has_common ds IsKey b chunk part index at is has in
+        let long = all_long ds IsKey b chunk part index is common in
+        let in_part = within_lengths part.in_subset.start part.in_subset.shape place inside in
         let (steps, below, counts) = offset_of b.start b.shape index common.1 in
-        let steps_many : length steps ≡ length b.start = length_below _ _ below ∙ sym is_box.lengths in
-        let in_part : length place ≡ length part.in_subset.start = within_lengths _ _ _ inside in
-        let shared_many : length boxes.shared.start ≡ length part.in_subset.start =
-        boxes.is_box.lengths ∙ ap length boxes.from_subset.shape ∙ sym boxes.from_subset.is_box.lengths
-        in
-        let index_many : length index ≡ length boxes.shared.start = within_lengths _ _ _ ((boxes.elements index).1 common) in
-        let also_many : length index ≡ length b.start = within_lengths _ _ _ common.1 in
+        let steps_many = length_below b.shape steps below ∙ sym is_box.lengths in
         let same : steps ≡ place = counted_once b.start steps place steps_many (omega arith) counts in
         subst (AreBelow b.shape) same below
 
@@ -313,6 +307,4 @@ module _ (ds : List Dimension) (IsKey : List ℕ → List ℕ → Type 0) (b : B
   none_empty chains is_box some parts plan part among =
       let (chunk, has, is) = source_of (IsPart ds IsKey b) (chunks_in plan.cover) parts plan.are_parts part among in
       let inside = (are_those_inside plan.cover plan.is_cover.is_box chunk).0 has in
-      let (index, box, also) = (cover_meets ds b plan.cover chains is_box some plan.is_cover chunk).0 inside in
-      let boxes = is.boxes in
-      subst (λ shape. ¬ Contains shape 0) boxes.from_subset.shape (not_empty_if_inside _ _ index ((boxes.elements index).1 (box, also)))
+      not_empty ds IsKey b chunk part is ((cover_meets ds b plan.cover chains is_box some plan.is_cover chunk).0 inside)

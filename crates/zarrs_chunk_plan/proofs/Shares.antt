@@ -1,6 +1,6 @@
--- What ranges share, in one dimension and in all of them.
-use Rattle.std.proofs.Common.{◌≡◌, ◌↔◌, ℕ, suc, ◌+◌, ◌-◌, ◌<◌, ◌≤◌, List, [], ◌∷◌, length, max, min, refl, ap, ap₂, subst, sym, ◌∙◌, arith}
-use Rattle.zarrs_chunk_base.specs.ArraySubset.{AreWithin, Box, IsBox, ends}
+-- The elements that a chunk and a box share.
+use Rattle.std.proofs.Common.{◌≡◌, ◌↔◌, ℕ, suc, ◌+◌, ◌-◌, ◌<◌, ◌≤◌, List, [], ◌∷◌, length, max, refl, ap, ap₂, subst, sym, ◌∙◌, arith}
+use Rattle.zarrs_chunk_base.specs.ArraySubset.{AreWithin, Box, IsBox}
 use Rattle.zarrs_chunk_base.specs.Dimension.{Dimension, HasEdge, Holds, InBox, IsOrigin, IsShape, StartsAt}
 use Rattle.zarrs_chunk_base.specs.Greatest.{greatest, AllFit}
 use Rattle.zarrs_chunk_base.proofs.Boxes.{within_lengths}
@@ -9,100 +9,53 @@ use Rattle.zarrs_chunks.specs.Walks.{counted_from}
 use Rattle.zarrs_chunks.proofs.Boxes.{has_origin}
 use Rattle.zarrs_chunks.proofs.ChunksInBoxes.{inside_fits}
 use Rattle.zarrs_chunk_plan.specs.Plan.{AreShared, Meets}
-use Rattle.zarrs_chunk_plan.specs.seen.Shared.{distances, shared_sizes}
+use Rattle.zarrs_chunk_plan.specs.seen.Shared.{distances, later_starts, shared_sizes}
+use Rattle.zarrs_chunk_plan.proofs.Overlaps.{overlap_holds, overlap_is_box}
 
--- ---- one dimension: a chunk from o on, e long, and a range from s on, n long
+-- what is counted from the earlier to the later of two starts reaches the later one, from either
+reach_later : (one other : List ℕ)
+    → (later_starts one other ≡ counted_from one (distances one other)) × (later_starts one other ≡ counted_from other (distances other one))
+reach_later (s ∷ one) (t ∷ other) =
+    let here : max s t ≡ s + (t - s) = omega arith in
+    let also : max s t ≡ t + (s - t) = omega arith in
+    let (rest, rest_also) = reach_later one other in
+    (ap₂ (λ x xs. x ∷ xs) here rest, ap₂ (λ x xs. x ∷ xs) also rest_also)
+reach_later [] [] = (refl, refl)
+reach_later [] (_ ∷ _) = (refl, refl)
+reach_later (_ ∷ _) [] = (refl, refl)
 
-in_both : (o e s n i : ℕ) → s + n ≤ greatest → o + (s - o) ≤ i → i < o + (s - o) + (min (o + e) (min (s + n) greatest) - max o s)
-    → (o ≤ i) × (i < o + e) × (s ≤ i) × (i < s + n)
-in_both o e s n i fit from below = (omega arith, omega arith, omega arith, omega arith)
-
-in_shared : (o e s n i : ℕ) → s + n ≤ greatest → o ≤ i → i < o + e → s ≤ i → i < s + n
-    → (o + (s - o) ≤ i) × (i < o + (s - o) + (min (o + e) (min (s + n) greatest) - max o s))
-in_shared o e s n i fit from below first end = (omega arith, omega arith)
-
--- ---- all dimensions
-
--- the ranges that are shared hold what both hold
-abbrev HoldCommon : List Dimension → List ℕ → List ℕ → List ℕ → Type 0
-HoldCommon ds chunk origin edges = (start sizes index : List ℕ) → length start ≡ length ds → length sizes ≡ length start → AllFit (ends start sizes)
-    → AreWithin (counted_from origin (distances origin start)) (shared_sizes origin edges start sizes) index ↔ (InBox ds chunk index × AreWithin start sizes index)
-
-pub hold_common : (ds : List Dimension) (chunk origin edges : List ℕ) → IsOrigin ds chunk origin → IsShape ds chunk edges → HoldCommon ds chunk origin edges
-hold_common = by_dimension_twice StartsAt HasEdge HoldCommon none more where
-  none : HoldCommon [] [] [] []
-  none [] [] [] same as_many fit = (λ _. (tt, tt), λ _. tt)
-  none [] [] (_ ∷ _) same as_many fit = (λ h. absurd h, λ h. absurd h.0)
-  none [] (_ ∷ _) index same as_many fit = absurd (omega arith)
-  none (_ ∷ _) sizes index same as_many fit = absurd (omega arith)
-
-  more : (d : Dimension) (c o e : ℕ) (ds : List Dimension) (chunk origin edges : List ℕ) → StartsAt d c o → HasEdge d c e
-      → HoldCommon ds chunk origin edges → HoldCommon (d ∷ ds) (c ∷ chunk) (o ∷ origin) (e ∷ edges)
-  more d c o e ds chunk origin edges starts long rest [] sizes index same as_many fit = absurd (omega arith)
-  more d c o e ds chunk origin edges starts long rest (_ ∷ _) [] index same as_many fit = absurd (omega arith)
-  more d c o e ds chunk origin edges starts long rest (s ∷ start) (n ∷ sizes) [] same as_many fit = (λ h. absurd h, λ h. absurd h.0)
-  more d c o e ds chunk origin edges starts long rest (s ∷ start) (n ∷ sizes) (i ∷ index) same as_many fit = (split, join) where
-    others : AreWithin (counted_from origin (distances origin start)) (shared_sizes origin edges start sizes) index ↔ (InBox ds chunk index × AreWithin start sizes index)
-    others = rest start sizes index (omega arith) (omega arith) fit.1
-
-    split : AreWithin (counted_from (o ∷ origin) (distances (o ∷ origin) (s ∷ start))) (shared_sizes (o ∷ origin) (e ∷ edges) (s ∷ start) (n ∷ sizes)) (i ∷ index)
-        → InBox (d ∷ ds) (c ∷ chunk) (i ∷ index) × AreWithin (s ∷ start) (n ∷ sizes) (i ∷ index)
-    split within =
-        let start_is = starts.start in
-        let end_is = long.edge in
-        let (from, below, first, end) = in_both o e s n i fit.0 within.0 within.1 in
-        let (box, inside) = others.0 within.2 in
-        ((record { chunk = starts.chunk; from = omega arith; below = omega arith }, box), (first, end, inside))
-
-    join : InBox (d ∷ ds) (c ∷ chunk) (i ∷ index) × AreWithin (s ∷ start) (n ∷ sizes) (i ∷ index)
-        → AreWithin (counted_from (o ∷ origin) (distances (o ∷ origin) (s ∷ start))) (shared_sizes (o ∷ origin) (e ∷ edges) (s ∷ start) (n ∷ sizes)) (i ∷ index)
-    join both =
-        let start_is = starts.start in
-        let end_is = long.edge in
-        let low = both.0.0.from in
-        let high = both.0.0.below in
-        let (from, below) = in_shared o e s n i fit.0 (omega arith) (omega arith) both.1.0 both.1.1 in
-        (from, below, others.1 (both.0.1, both.1.2))
-
--- counted from either, the shared ranges start at the same numbers
-pub same_starts : (origin start : List ℕ) → counted_from origin (distances origin start) ≡ counted_from start (distances start origin)
-same_starts (o ∷ origin) (s ∷ start) = let here : o + (s - o) ≡ s + (o - s) = omega arith in ap₂ (λ x xs. x ∷ xs) here (same_starts origin start)
-same_starts [] [] = refl
-same_starts [] (_ ∷ _) = refl
-same_starts (_ ∷ _) [] = refl
-
--- and they are boxes
-pub from_chunk_is_box : (origin edges start sizes : List ℕ) → length edges ≡ length origin → length start ≡ length origin → length sizes ≡ length start
-    → AllFit (ends start sizes) → IsBox (record { start = distances origin start; shape = shared_sizes origin edges start sizes })
-from_chunk_is_box [] [] [] [] a b c fit = record { lengths = refl; fits = tt }
-from_chunk_is_box (o ∷ origin) (e ∷ edges) (s ∷ start) (n ∷ sizes) a b c fit =
-    let end : s + n ≤ greatest = fit.0 in
-    let rest = from_chunk_is_box origin edges start sizes (omega arith) (omega arith) (omega arith) fit.1 in
+-- a box that is counted from an earlier start is one
+counted_is_box : (from to sizes : List ℕ) → length to ≡ length from → IsBox (record { start = counted_from from (distances from to); shape = sizes })
+    → IsBox (record { start = distances from to; shape = sizes })
+counted_is_box [] [] [] same is = is
+counted_is_box (f ∷ from) (t ∷ to) (n ∷ sizes) same is =
+    let end : f + (t - f) + n ≤ greatest = is.fits.0 in
+    let rest = counted_is_box from to sizes (omega arith) (record { lengths = omega (arith, is.lengths); fits = is.fits.1 }) in
     record { lengths = ap suc rest.lengths; fits = (omega arith, rest.fits) }
-from_chunk_is_box _ _ _ _ a b c fit = absurd (omega arith)
+counted_is_box _ _ _ same is = absurd (omega (arith, is.lengths))
 
-pub from_start_is_box : (origin edges start sizes : List ℕ) → length edges ≡ length origin → length start ≡ length origin → length sizes ≡ length start
-    → AllFit origin → AllFit (ends start sizes) → IsBox (record { start = distances start origin; shape = shared_sizes origin edges start sizes })
-from_start_is_box [] [] [] [] a b c low fit = record { lengths = refl; fits = tt }
-from_start_is_box (o ∷ origin) (e ∷ edges) (s ∷ start) (n ∷ sizes) a b c low fit =
-    let first : o ≤ greatest = low.0 in
-    let end : s + n ≤ greatest = fit.0 in
-    let rest = from_start_is_box origin edges start sizes (omega arith) (omega arith) (omega arith) low.1 fit.1 in
-    record { lengths = ap suc rest.lengths; fits = (omega arith, rest.fits) }
-from_start_is_box _ _ _ _ a b c low fit = absurd (omega arith)
+-- a chunk's indices are those from its origin on, as many as it is long
+abbrev HoldSame : List Dimension → List ℕ → List ℕ → List ℕ → Type 0
+HoldSame ds chunk origin edges = (index : List ℕ) → AreWithin origin edges index ↔ InBox ds chunk index
 
-pub shared_is_box : (origin edges start sizes : List ℕ) → length edges ≡ length origin → length start ≡ length origin → length sizes ≡ length start
-    → AllFit origin → AllFit (ends start sizes)
-    → IsBox (record { start = counted_from origin (distances origin start); shape = shared_sizes origin edges start sizes })
-shared_is_box [] [] [] [] a b c low fit = record { lengths = refl; fits = tt }
-shared_is_box (o ∷ origin) (e ∷ edges) (s ∷ start) (n ∷ sizes) a b c low fit =
-    let end : s + n ≤ greatest = fit.0 in
-    let first : o ≤ greatest = low.0 in
-    let rest = shared_is_box origin edges start sizes (omega arith) (omega arith) (omega arith) low.1 fit.1 in
-    record { lengths = ap suc rest.lengths; fits = (omega arith, rest.fits) }
-shared_is_box _ _ _ _ a b c low fit = absurd (omega arith)
+in_box : (ds : List Dimension) (chunk origin edges : List ℕ) → IsOrigin ds chunk origin → IsShape ds chunk edges → HoldSame ds chunk origin edges
+in_box = by_dimension_twice StartsAt HasEdge HoldSame none more where
+  none : HoldSame [] [] [] []
+  none [] = (λ _. tt, λ _. tt)
+  none (_ ∷ _) = (λ h. h, λ h. h)
 
--- ---- the elements that a chunk and a box share
+  more : (d : Dimension) (c o e : ℕ) (ds : List Dimension) (chunk origin edges : List ℕ) → StartsAt d c o → HasEdge d c e → HoldSame ds chunk origin edges
+      → HoldSame (d ∷ ds) (c ∷ chunk) (o ∷ origin) (e ∷ edges)
+  more d c o e ds chunk origin edges starts long rest [] = (λ h. h, λ h. h)
+  more d c o e ds chunk origin edges starts long rest (i ∷ index) =
+      let start = starts.start in
+      let edge = long.edge in (
+        λ within.
+            let from : o ≤ i = within.0 in
+            let below : i < o + e = within.1 in
+            (record { chunk = starts.chunk; from = omega arith; below = omega arith }, (rest index).0 within.2),
+        λ box. let from = box.0.from in let below = box.0.below in (omega arith, omega arith, (rest index).1 box.1),
+      )
 
 -- the origin that was found fits
 origin_fits : (ds : List Dimension) (b : Box) (chunk origin : List ℕ) → IsBox b → Meets ds b chunk → IsOrigin ds chunk origin → AllFit origin
@@ -122,28 +75,32 @@ boxes_are ds b chunk origin edges is_box meets is long = (in_chunk, in_subset, s
   edges_many : length edges ≡ length origin
   edges_many = length_values HasEdge ds chunk edges long ∙ sym (length_values StartsAt ds chunk origin is)
 
-  start_many : length b.start ≡ length ds
-  start_many = let (index, box, inside) = meets in sym (within_lengths b.start b.shape index inside) ∙ length_values Holds ds chunk index box
+  start_many : length b.start ≡ length origin
+  start_many =
+      let (index, box, inside) = meets in
+      sym (within_lengths b.start b.shape index inside) ∙ length_values Holds ds chunk index box ∙ sym (length_values StartsAt ds chunk origin is)
 
-  start_origin : length b.start ≡ length origin
-  start_origin = start_many ∙ sym (length_values StartsAt ds chunk origin is)
-
-  fit : AllFit origin
-  fit = origin_fits ds b chunk origin is_box meets is
+  shared_is_box : IsBox (record { start = later_starts origin b.start; shape = shared_sizes origin edges b.start b.shape })
+  shared_is_box =
+      let fit = origin_fits ds b chunk origin is_box meets is in
+      overlap_is_box origin edges b.start b.shape (sym edges_many) is_box.lengths (sym start_many) fit is_box.fits
 
   in_chunk : IsBox (from_chunk origin edges b)
-  in_chunk = from_chunk_is_box origin edges b.start b.shape edges_many start_origin (sym is_box.lengths) is_box.fits
+  in_chunk = counted_is_box origin b.start _ start_many (rw (← (reach_later origin b.start).0) shared_is_box)
 
   in_subset : IsBox (from_start origin edges b)
-  in_subset = from_start_is_box origin edges b.start b.shape edges_many start_origin (sym is_box.lengths) fit is_box.fits
+  in_subset = counted_is_box b.start origin _ (sym start_many) (rw (← (reach_later origin b.start).1) shared_is_box)
 
   shared : AreShared ds b chunk (from_chunk origin edges b) (from_start origin edges b)
   shared = record {
-    shared = record { start = counted_from origin (distances origin b.start); shape = shared_sizes origin edges b.start b.shape };
-    is_box = shared_is_box origin edges b.start b.shape edges_many start_origin (sym is_box.lengths) fit is_box.fits;
-    elements = λ index. hold_common ds chunk origin edges is long b.start b.shape index start_many (sym is_box.lengths) is_box.fits;
+    shared = record { start = later_starts origin b.start; shape = shared_sizes origin edges b.start b.shape };
+    is_box = shared_is_box;
+    elements = λ index.
+        let box = in_box ds chunk origin edges is long index in
+        let both = overlap_holds origin edges b.start b.shape index (sym edges_many) is_box.lengths (sym start_many) is_box.fits in
+        (λ within. let (one, other) = both.0 within in (box.0 one, other), λ (one, other). both.1 (box.1 one, other));
     origin = origin;
     is_origin = is;
-    from_chunk = record { is_box = in_chunk; start = refl; shape = refl };
-    from_subset = record { is_box = in_subset; start = same_starts origin b.start; shape = refl };
+    from_chunk = record { is_box = in_chunk; start = (reach_later origin b.start).0; shape = refl };
+    from_subset = record { is_box = in_subset; start = (reach_later origin b.start).1; shape = refl };
   }

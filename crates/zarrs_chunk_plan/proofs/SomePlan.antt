@@ -1,5 +1,5 @@
 -- Where each chunk has a key, each box of elements of the array has a plan, and so has each rechunking: there are the parts that a walk has not come to.
-use Rattle.std.proofs.Common.{◌≡◌, ℕ, suc, ◌+◌, ◌-◌, ◌≤◌, List, [], ◌∷◌, Contains, ap, ap₂, length, map, refl, subst, sym, arith}
+use Rattle.std.proofs.Common.{◌≡◌, ℕ, suc, ◌+◌, ◌-◌, ◌<◌, ◌≤◌, List, [], ◌∷◌, Contains, ap, ap₂, length, map, refl, arith}
 use Rattle.std.specs.List.{AllByRecursion, AllZip}
 use Rattle.zarrs_chunk_base.specs.ArraySubset.{AreWithin, Box, IsBox, IsEmptyBox, IsInside, ends, lasts}
 use Rattle.zarrs_chunk_base.specs.Dimension.{Dimension, Holds, InBox, IsChain, IsShape, array_sizes}
@@ -9,7 +9,6 @@ use Rattle.zarrs_chunk_axes.specs.InBounds.{AreBelow}
 use Rattle.zarrs_chunks.specs.Subsets.{IsCover}
 use Rattle.zarrs_chunks.specs.Walks.{chunks_in}
 use Rattle.zarrs_chunks.proofs.Boxes.{has_origin}
-use Rattle.zarrs_chunks.proofs.Chains.{at_most_start}
 use Rattle.zarrs_chunks.proofs.ChunksInBoxes.{are_those_inside, inside_fits}
 use Rattle.zarrs_chunks.proofs.Covers.{chunks_small, firsts_before_lasts, head_some, in_order, is_cover, lasts_small, tail_some}
 use Rattle.zarrs_chunks.proofs.FittingChunks.{counted_home}
@@ -19,8 +18,8 @@ use Rattle.zarrs_chunk_plan.specs.Plan.{IsPart, IsPlan, Meets}
 use Rattle.zarrs_chunk_plan.specs.Rechunking.{AreCopiesInto, Group, array_box}
 use Rattle.zarrs_chunk_plan.specs.declared.part.Part.{Part}
 use Rattle.zarrs_chunk_plan.specs.seen.Parts.{HasKeys}
-use Rattle.zarrs_chunk_plan.proofs.Plans.{all_of_each, not_empty_if_inside}
-use Rattle.zarrs_chunk_plan.proofs.Rechunkings.{below_array, has_those, takes_those}
+use Rattle.zarrs_chunk_plan.proofs.Plans.{all_of_each, not_empty}
+use Rattle.zarrs_chunk_plan.proofs.Rechunkings.{in_array, those_are}
 use Rattle.zarrs_chunk_plan.proofs.Shares.{boxes_are, from_chunk, from_start}
 
 -- ---- one chunk
@@ -36,61 +35,44 @@ has_shape =
 
 -- a chunk that holds an index of 64-bit numbers has such numbers
 chunk_fits : (ds : List Dimension) → AllByRecursion IsChain ds → (chunk index : List ℕ) → InBox ds chunk index → AllFit index → AllFit chunk
-chunk_fits ds chains chunk index box fit =
-    by_dimension Holds (λ ds chunk index. AllByRecursion IsChain ds → AllFit index → AllFit chunk) (λ chains fit. tt)
-    (λ d c i ds chunk index here rest chains fit.
-    let low : c ≤ d.start c = at_most_start d chains.0 c here.chunk in
-    let from = here.from in
-    let most : i ≤ greatest = fit.0 in
-    (omega arith, rest chains.1 fit.1))
-    ds chunk index box chains fit
+chunk_fits ds chains chunk index = chunks_small (λ n. n ≤ greatest) (λ m n low fits. omega arith) ds chunk index chains
 
 -- ---- the cover of a box of elements of the array
 
-first_inside : (start shape : List ℕ) → length start ≡ length shape → (¬ Contains shape 0) → AreWithin start shape start
-first_inside [] [] same some = tt
-first_inside (s ∷ start) (n ∷ shape) same some =
+-- it has its first and its last element
+both_inside : (start shape : List ℕ) → length start ≡ length shape → (¬ Contains shape 0)
+    → AreWithin start shape start × AreWithin start shape (lasts start shape)
+both_inside [] [] same some = (tt, tt)
+both_inside (s ∷ start) (n ∷ shape) same some =
     let here = head_some n shape some in
-    (omega arith, omega arith, first_inside start shape (omega arith) (tail_some n shape some))
-first_inside [] (_ ∷ _) same some = absurd (omega arith)
-first_inside (_ ∷ _) [] same some = absurd (omega arith)
-
-last_inside : (start shape : List ℕ) → length start ≡ length shape → (¬ Contains shape 0) → AreWithin start shape (lasts start shape)
-last_inside [] [] same some = tt
-last_inside (s ∷ start) (n ∷ shape) same some =
-    let here = head_some n shape some in
-    (omega arith, omega arith, last_inside start shape (omega arith) (tail_some n shape some))
-last_inside [] (_ ∷ _) same some = absurd (omega arith)
-last_inside (_ ∷ _) [] same some = absurd (omega arith)
+    let (first, last) = both_inside start shape (omega arith) (tail_some n shape some) in
+    ((omega arith, omega arith, first), (omega arith, omega arith, last))
+both_inside _ _ same some = absurd (omega arith)
 
 -- how many numbers there are from the first to the last one, in each dimension
-sizes_between : List ℕ → List ℕ → List ℕ
-sizes_between (f ∷ first) (l ∷ last) = (l - f + 1) ∷ sizes_between first last
-sizes_between _ _ = []
-
-ends_between : (first last : List ℕ) → AllZip ◌≤◌ first last
-    → (length first ≡ length (sizes_between first last)) × (ends first (sizes_between first last) ≡ map (λ n. n + 1) last)
-unfolding sizes_between
-ends_between [] [] order = (refl, refl)
-ends_between (f ∷ first) (l ∷ last) order =
-    let (lengths, same) = ends_between first last order.1 in
+sizes_between : (first last : List ℕ) → AllZip ◌≤◌ first last
+    → (sizes : List ℕ) × (length first ≡ length sizes) × (ends first sizes ≡ map (λ n. n + 1) last)
+sizes_between [] [] order = ([], refl, refl)
+sizes_between (f ∷ first) (l ∷ last) order =
+    let (sizes, lengths, same) = sizes_between first last order.1 in
     let low : f ≤ l = order.0 in
     let here : f + (l - f + 1) ≡ l + 1 = omega arith in
-    (ap suc lengths, ap₂ (λ n ns. n ∷ ns) here same)
-ends_between [] (_ ∷ _) order = absurd order
-ends_between (_ ∷ _) [] order = absurd order
+    ((l - f + 1) ∷ sizes, ap suc lengths, ap₂ (λ n ns. n ∷ ns) here same)
+sizes_between _ _ order = absurd order
 
 has_cover : (ds : List Dimension) → AllByRecursion IsChain ds → (b : Box) → IsBox b → (¬ IsEmptyBox b)
     → ((index : List ℕ) → IsInside b index → AreBelow (array_sizes ds) index) → (cover : Box) × IsCover ds b cover
 has_cover ds chains b is_box some within =
     let end = lasts b.start b.shape in
-    let (first, _, in_first) = counted_home ds b.start chains (within b.start (first_inside b.start b.shape is_box.lengths some)) in
-    let (last, _, in_last) = counted_home ds end chains (within end (last_inside b.start b.shape is_box.lengths some)) in
+    let (inside, also) = both_inside b.start b.shape is_box.lengths some in
+    let (first, _, in_first) = counted_home ds b.start chains (within b.start inside) in
+    let (last, _, in_last) = counted_home ds end chains (within end also) in
     let order = in_order ds first last b.start end chains (firsts_before_lasts b.start b.shape is_box.lengths) in_first in_last in
-    let small = chunks_small ds last end chains in_last (lasts_small b.start b.shape is_box.lengths is_box.fits some) in
-    let (lengths, same) = ends_between first last order in
-    let cover : Box = record { start = first; shape = sizes_between first last } in
-    (cover, is_cover ds b cover first last (record { lengths = lengths; fits = subst AllFit (sym same) (ones_fit last small) }) refl same order in_first in_last)
+    let end_small = lasts_small b.start b.shape is_box.lengths is_box.fits some in
+    let small = chunks_small (λ n. n < greatest) (λ m n low below. omega arith) ds last end chains in_last end_small in
+    let (sizes, lengths, same) = sizes_between first last order in
+    let cover : Box = record { start = first; shape = sizes } in
+    (cover, is_cover ds b cover first last (record { lengths = lengths; fits = rw same (ones_fit last small) }) refl same order in_first in_last)
 
 -- ---- the parts
 
@@ -137,11 +119,9 @@ module _ (source : List Dimension) (IsSourceKey : List ℕ → List ℕ → Type
   has_group : (chunk : List ℕ) → Meets target (array_box target) chunk → (group : Group) × AreCopiesInto source IsSourceKey target IsTargetKey chunk group
   has_group chunk meets =
       let (to, is) = has_part target IsTargetKey also_chains also_keys (array_box target) is_box chunk meets in
-      let (index, box, inside) = meets in
-      let some = not_empty_if_inside to.in_subset.start to.in_subset.shape index (takes_those target IsTargetKey chunk to is meets index (box, inside)) in
+      let some = not_empty target IsTargetKey (array_box target) chunk to is meets in
       let (from, plan) = has_plan source IsSourceKey chains keys to.in_subset is.boxes.from_subset.is_box some
-      (λ other lies.
-      subst (λ shape. AreBelow shape other) (sym one_array) (below_array target other (has_those target IsTargetKey chunk to is meets other lies).1))
+      (λ other lies. rw one_array ((in_array target other).1 ((those_are target IsTargetKey chunk to is meets other).0 lies).1))
       in
       ((to, from), record { to = is; from = plan })
 

@@ -1,6 +1,7 @@
 -- The parts of some of the chunks in a list, from one of them on.
 use Rattle.std.proofs.Common.{◌≡◌, ◌∙◌, ℕ, zero, suc, ◌+◌, ◌-◌, ◌≤◌, List, [], ◌∷◌, ◌++◌, Some, drop, get_or, length, min, take, refl, ap, subst, sym, arith}
 use Rattle.std.proofs.lemmas.List.{get_or-drop, length-drop}
+use Rattle.std.proofs.lemmas.Slice.Zip.{all_zipped_more}
 use Rattle.std.proofs.lemmas.Option.{get_or_from_slice_get, slice_get_within}
 use Rattle.std.proofs.Math.Seq.{drop-nil, take-nil, take-suc}
 use Rattle.std.specs.List.{AllByRecursion, AllZip, slice_get}
@@ -13,7 +14,6 @@ use Rattle.zarrs_chunk_plan.specs.Plan.{IsPart}
 use Rattle.zarrs_chunk_plan.specs.SomeParts.{AreSomeParts}
 use Rattle.zarrs_chunk_plan.specs.declared.pieces.SomeParts.{SomeParts}
 use Rattle.zarrs_chunk_plan.proofs.ByNumber.{as_many}
-use Rattle.zarrs_chunk_plan.proofs.Walked.{pushed}
 
 -- what holds of each holds at a place
 pub of_place : {X : Type 0} (P : X → Type 0) (xs : List X) (k : ℕ) (x : X) → AllByRecursion P xs → slice_get xs k ≡ Some x → P x
@@ -39,7 +39,7 @@ module _ {X Y : Type 0} (R : X → Y → Type 0) (xs : List X) (first : ℕ) whe
   pub one_more : (number : ℕ) (x : X) (y : Y) (ys : List Y) → first ≤ number → slice_get xs number ≡ Some x → R x y
       → AllZip R (take (number - first) (drop first xs)) ys → AllZip R (take (number + 1 - first) (drop first xs)) (ys ++ y ∷ [])
   one_more number x y ys from is also are =
-      rw (taken_more xs first number x from is) (pushed R (take (number - first) (drop first xs)) ys x y are also)
+      rw (taken_more xs first number x from is) (all_zipped_more R (take (number - first) (drop first xs)) ys x y are also)
 
 -- where there are no chunks there are no parts
 pub no_parts : {X Y : Type 0} (R : X → Y → Type 0) (xs : List X) (ys : List Y) → xs ≡ [] → AllZip R xs ys → ys ≡ []

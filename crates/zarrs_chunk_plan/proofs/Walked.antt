@@ -1,5 +1,6 @@
 -- The parts that came of a walk, one for each chunk that came; at the end they are a plan.
-use Rattle.std.proofs.Common.{◌≡◌, ◌∙◌, ℕ, List, [], ◌∷◌, ◌++◌, Some, None, Ok, append_assoc, append-nil, ap, subst, sym}
+use Rattle.std.proofs.Common.{◌≡◌, ◌∙◌, ℕ, List, [], ◌∷◌, ◌++◌, Some, None, Ok, append_assoc, append-nil, ap, refl, subst, sym}
+use Rattle.std.proofs.lemmas.Slice.Zip.{all_zipped_more}
 use Rattle.std.specs.List.{AllZip}
 use Rattle.zarrs_chunk_base.specs.ArraySubset.{Box}
 use Rattle.zarrs_chunk_base.specs.Dimension.{Dimension}
@@ -10,11 +11,15 @@ use Rattle.zarrs_chunk_plan.specs.declared.part.Part.{Part}
 use Rattle.zarrs_chunk_plan.specs.declared.walk.Parts.{Parts}
 use Rattle.zarrs_chunk_plan.specs.seen.Parts.{ArePartsToCome, GivesPart, IsAbout, MeetSubset, chunks_to_come}
 
-pub pushed : {X Y : Type 0} (R : X → Y → Type 0) (xs : List X) (ys : List Y) (x : X) (y : Y) → AllZip R xs ys → R x y → AllZip R (xs ++ x ∷ []) (ys ++ y ∷ [])
-pushed R [] [] x y are also = (also, tt)
-pushed R (a ∷ xs) (b ∷ ys) x y are also = (are.0, pushed R xs ys x y are.1 also)
-pushed R [] (_ ∷ _) x y are also = absurd are
-pushed R (_ ∷ _) [] x y are also = absurd are
+-- one more came, of those that were left
+pub one_came : {X Y : Type 0} (R : X → Y → Type 0) (all came before after : List X) (x : X) (y : Y) (ys more : List Y) → all ≡ came ++ before
+    → before ≡ x ∷ after → AllZip R came ys → R x y → more ≡ ys ++ y ∷ []
+    → (came_after : List X) × (all ≡ came_after ++ after) × AllZip R came_after more
+one_came R all came before after x y ys more left gives are is longer = (
+  came ++ x ∷ [],
+  left ∙ ap (λ xs. came ++ xs) gives ∙ sym (append_assoc came (x ∷ []) after),
+  rw longer (all_zipped_more R came ys x y are is),
+)
 
 module _ {G E : Type 0} (dimensions : G → List Dimension) (is_key : E → List ℕ → List ℕ → Type 0) (begin : Parts G E) where
   abbrev pub IsPartOf : List ℕ → Part → Type 0
@@ -26,28 +31,15 @@ module _ {G E : Type 0} (dimensions : G → List Dimension) (is_key : E → List
       × IsAbout begin.grid.now begin.encoding.now begin.array_subset now × MeetSubset dimensions now
 
   pub at_first : (now : Parts G E) (parts : List Part) → now ≡ begin → parts ≡ [] → MeetSubset dimensions begin → HaveCome now parts
-  at_first now parts same none meet = (
-    [],
-    ap chunks_to_come (sym same),
-    subst (AllZip IsPartOf []) (sym none) tt,
-    record { same_grid = ap (λ w. w.grid.now) same; same_encoding = ap (λ w. w.encoding.now) same; same_subset = ap (λ w. w.array_subset) same },
-    subst (MeetSubset dimensions) (sym same) meet,
-  )
+  at_first now parts same none meet = rw (same, none) ([], refl, tt, record { same_grid = refl; same_encoding = refl; same_subset = refl }, meet)
 
   pub one_more : (before after : Parts G E) (part : Part) (parts more : List Part) → HaveCome before parts → GivesPart dimensions is_key before (Some (Ok part)) after
       → more ≡ parts ++ part ∷ [] → HaveCome after more
-  one_more before after part parts more (came, left, are, about, meet) gives is = (
-    came ++ part.chunk.items ∷ [],
-    left ∙ ap (λ xs. came ++ xs) gives.gives ∙ sym (append_assoc came (part.chunk.items ∷ []) (chunks_to_come after)),
-    subst (AllZip IsPartOf (came ++ part.chunk.items ∷ [])) (sym is)
-        (pushed IsPartOf came parts part.chunk.items part are (rw (← about.same_grid, ← about.same_encoding, ← about.same_subset) (gives.part meet))),
-    record {
-      same_grid = gives.about.same_grid ∙ about.same_grid;
-      same_encoding = gives.about.same_encoding ∙ about.same_encoding;
-      same_subset = gives.about.same_subset ∙ about.same_subset;
-    },
-    gives.meet meet,
-  )
+  one_more before after part parts more (came, left, are, about, meet) gives is =
+      let (now_came, all, now_are) = one_came IsPartOf (chunks_to_come begin) came (chunks_to_come before) (chunks_to_come after) part.chunk.items
+      part parts more left gives.gives are (rw (← about.same_grid, ← about.same_encoding, ← about.same_subset) (gives.part meet)) is
+      in
+      (now_came, all, now_are, rw (about.same_grid, about.same_encoding, about.same_subset) at gives.about, gives.meet meet)
 
   pub at_last : (before after : Parts G E) (parts : List Part) → HaveCome before parts → GivesPart dimensions is_key before None after
       → ArePartsToCome dimensions is_key begin parts

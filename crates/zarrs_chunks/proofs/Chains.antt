@@ -1,6 +1,7 @@
 -- In a chain an index lies in one chunk at most, and so its box and its place are the only ones.
-use Rattle.std.proofs.Common.{◌≡◌, ◌↔◌, IfOk, Ok, Err, Some, None, Vec, Global, option_map, ℕ, zero, suc, ◌+◌, ◌<◌, ◌≤◌, IsTrue, List, refl, sym, ap, subst, ⊎_elim, add-one, arith}
+use Rattle.std.proofs.Common.{◌≡◌, ◌↔◌, IfOk, Ok, Err, Some, None, option_map, ℕ, zero, suc, ◌+◌, ◌<◌, ◌≤◌, IsTrue, List, refl, sym, ap, subst, ⊎_elim, add-one, arith}
 use Rattle.std.proofs.lemmas.Bool.{cases_lt}
+use Rattle.std.proofs.lemmas.Option.{none-some, same_Some}
 use Rattle.std.specs.List.{AllByRecursion}
 use Rattle.zarrs_chunk_base.specs.Dimension.{Dimension, Holds, IsChain, InBox}
 use Rattle.zarrs_chunk_base.proofs.InEach.{by_dimension_twice, turned}
@@ -29,6 +30,22 @@ apart d chain c (suc m) before has =
     (λ (not_earlier : m ≤ c). let same : c ≡ m = omega arith in let end : d.end c ≡ d.end m = ap d.end same in omega (arith, gap.1))
     (cases_lt c m)
 
+-- an earlier chunk starts and ends no later
+pub in_chain : (d : Dimension) → IsChain d → (c m : ℕ) → c ≤ m → IsTrue (d.has_chunk m) → (d.start c ≤ d.start m) × (d.end c ≤ d.end m)
+in_chain d chain c m low has =
+    ⊎_elim
+    (λ (before : c < m).
+    let gap = apart d chain c m before has in
+    let some = chain.not_empty c (earlier_has d chain c m low has) in
+    let some_later = chain.not_empty m has in
+    (omega arith, omega arith))
+    (λ (le : m ≤ c).
+    let same : c ≡ m = omega arith in
+    let start = ap d.start same in
+    let end = ap d.end same in
+    (omega arith, omega arith))
+    (cases_lt c m)
+
 -- a chunk's number is at most the index at which it starts
 pub at_most_start : (d : Dimension) → IsChain d → (c : ℕ) → IsTrue (d.has_chunk c) → c ≤ d.start c
 at_most_start d chain zero has = omega arith
@@ -39,18 +56,20 @@ at_most_start d chain (suc c) has =
     let some : d.start c < d.end c = chain.not_empty c gap.0 in
     omega (arith, gap.1)
 
--- no index lies in a chunk and in a later one
-not_later : (d : Dimension) → IsChain d → (c e i : ℕ) → Holds d c i → Holds d e i → c < e → ⊥
-not_later d chain c e i first second before =
-    let low = first.below in
-    let high = second.from in
-    absurd (omega (arith, apart d chain c e before second.chunk))
+-- a later index lies in no earlier chunk
+pub no_later : (d : Dimension) → IsChain d → (a b i j : ℕ) → i ≤ j → Holds d a i → Holds d b j → a ≤ b
+no_later d chain a b i j between low high =
+    ⊎_elim
+    (λ (before : b < a).
+    let low_in = low.from in
+    let high_in = high.below in
+    absurd (omega (arith, apart d chain b a before low.chunk)))
+    (λ (le : a ≤ b). le)
+    (cases_lt b a)
 
 same_chunk : (d : Dimension) → IsChain d → (c e i : ℕ) → Holds d c i → Holds d e i → c ≡ e
 same_chunk d chain c e i first second =
-    ⊎_elim (λ before. absurd (not_later d chain c e i first second before))
-    (λ le. ⊎_elim (λ after. absurd (not_later d chain e c i second first after)) (λ ge. let same : c ≡ e = omega arith in same) (cases_lt e c))
-    (cases_lt c e)
+    omega (arith, no_later d chain c e i i (omega arith) first second, no_later d chain e c i i (omega arith) second first)
 
 -- an index lies in the box of one chunk at most
 pub same_box : (ds : List Dimension) (chunk other index : List ℕ) → AllByRecursion IsChain ds → InBox ds chunk index → InBox ds other index → chunk ≡ other
@@ -66,10 +85,9 @@ same_box ds chunk other index chains first second =
 pub names_the_home : (ds : List Dimension) (index : List ℕ) → AllByRecursion IsChain ds → (r : Looked ℕ) → AnswersChunk ds index r
     → IfOk r (λ named. (chunk : List ℕ) → InBox ds chunk index ↔ option_map (λ v. v.items) named ≡ Some chunk)
 names_the_home ds index chains (Ok (Some v)) h =
-    λ chunk. (λ box. ap Some (same_box ds v.items chunk index chains h.1 box), λ same. subst (λ c. InBox ds c index) (some_is same) h.1) where
-      some_is : {chunk : List ℕ} → option_map (λ v. v.items) (Some v) ≡ Some chunk → v.items ≡ chunk
-      some_is same = cc
-names_the_home ds index chains (Ok None) h = λ chunk. (λ box. absurd (h.1 chunk box), λ same. absurd (none_is same)) where
-  none_is : {chunk : List ℕ} → option_map {T = Vec ℕ Global} (λ v. v.items) None ≡ Some chunk → ⊥
-  none_is same = cc
+    λ chunk. (
+      λ box. ap Some (same_box ds v.items chunk index chains h.1 box),
+      λ same. subst (λ c. InBox ds c index) (same_Some v.items chunk same) h.1,
+    )
+names_the_home ds index chains (Ok None) h = λ chunk. (λ box. absurd (h.1 chunk box), λ same. absurd (none-some chunk same))
 names_the_home ds index chains (Err e) h = tt

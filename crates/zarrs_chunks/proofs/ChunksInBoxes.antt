@@ -1,5 +1,8 @@
 -- The chunks in a box of chunk numbers: which they are, and their order.
-use Rattle.std.proofs.Common.{◌≡◌, ◌≢◌, ◌↔◌, ℕ, zero, suc, ◌+◌, ◌-◌, ◌<◌, ◌≤◌, List, [], ◌∷◌, Contains, get_or, length, map, refl, ap, ap₂, subst, sym, inl, inr, ⊎_elim, arith}
+use Rattle.std.proofs.Common.{◌≡◌, ◌≢◌, ◌↔◌, ◌∙◌, ℕ, zero, suc, ◌+◌, ◌-◌, ◌<◌, ◌≤◌, List, [], ◌∷◌, Contains, get_or, length, map, refl, ap, ap₂, subst, sym, inl, inr, ⊎_elim, arith}
+use Rattle.std.proofs.lemmas.List.{get_or-map, length-map}
+use Rattle.std.proofs.lemmas.List.Elements.{Contains-get_or}
+use Rattle.std.proofs.lemmas.Slice.Zip.{AllZip-long}
 use Rattle.std.specs.List.{AllByRecursion, AllPairs}
 use Rattle.zarrs_chunk_base.specs.ArraySubset.{AreWithin, Box, IsBox, IsEmptyBox, IsInside, ends}
 use Rattle.zarrs_chunk_base.specs.Dimension.{Dimension, IsChain, IsOrigin}
@@ -24,9 +27,7 @@ are_counted _ _ _ same as_many each = absurd (omega arith)
 
 -- there are as many numbers as sizes
 pub length_below : (shape numbers : List ℕ) → AreBelow shape numbers → length numbers ≡ length shape
-length_below [] [] below = refl
-length_below (_ ∷ shape) (_ ∷ numbers) below = ap suc (length_below shape numbers below.1)
-length_below _ _ below = absurd below
+length_below = AllZip-long (λ size n. n < size)
 
 -- numbers below a shape lie in the box from a start with this shape, counted from 0
 pub lie_within : (start shape numbers : List ℕ) → length start ≡ length shape → AreBelow shape numbers → AreWithin start shape (counted_from start numbers)
@@ -82,33 +83,15 @@ counted_in_order _ _ _ _ same below also before = absurd (omega arith)
 -- ---- lists of what is made of each
 
 module _ {X Y : Type 0} (f : X → Y) where
-  made_of : (xs : List X) (x : X) → Contains xs x → Contains (map f xs) (f x)
-  made_of [] x (k, within, is) = absurd (omega arith)
-  made_of (y ∷ xs) x (zero, within, is) = (zero, omega arith, ap₂ (λ g z. g z) {x = f} refl is)
-  made_of (y ∷ xs) x (suc k, within, is) =
-      let (j, below, same) = made_of xs x (k, omega arith, is) in
-      (suc j, omega arith, same)
+  pub made_of : (xs : List X) (x : X) → Contains xs x → Contains (map f xs) (f x)
+  made_of xs x (k, within, is) = (k, omega (arith, length-map xs f), get_or-map f xs k x (f x) within ∙ ap f is)
 
-  source_of : (xs : List X) (y : Y) → Contains (map f xs) y → (x : X) × Contains xs x × (f x ≡ y)
+  pub source_of : (xs : List X) (y : Y) → Contains (map f xs) y → (x : X) × Contains xs x × (f x ≡ y)
   source_of [] y (k, within, is) = absurd (omega arith)
   source_of (x ∷ xs) y (zero, within, is) = (x, (zero, omega arith, refl), is)
   source_of (x ∷ xs) y (suc k, within, is) =
       let (z, (j, below, same), made) = source_of xs y (k, omega arith, is) in
       (z, (suc j, omega arith, same), made)
-
-  at_place : (xs : List X) (k : ℕ) (d : Y) (e : X) → k < length (map f xs) → get_or (map f xs) k d ≡ f (get_or xs k e)
-  at_place [] k d e within = absurd (omega arith)
-  at_place (x ∷ xs) zero d e within = refl
-  at_place (x ∷ xs) (suc k) d e within = at_place xs k d e (omega arith)
-
-  from_any : (xs : List X) (k : ℕ) (d e : X) → k < length xs → get_or xs k d ≡ get_or xs k e
-  from_any [] k d e within = absurd (omega arith)
-  from_any (x ∷ xs) zero d e within = refl
-  from_any (x ∷ xs) (suc k) d e within = from_any xs k d e (omega arith)
-
-  as_many : (xs : List X) → length (map f xs) ≡ length xs
-  as_many [] = refl
-  as_many (x ∷ xs) = ap₂ (λ g n. suc n) {x = f} refl (as_many xs)
 
 -- ---- the chunks in a box
 
@@ -130,9 +113,9 @@ pub chunks_in_order : (b : Box) → IsBox b → AllPairs IsBefore (chunks_in b)
 chunks_in_order b is_box i j d before within =
     let lists = row_major b.shape in
     let f = counted_from b.start in
-    let many = as_many f lists in
-    let below = λ (k : ℕ) (counted : k < length lists). (are_those_below b.shape (get_or lists k d)).0 (k, counted, from_any f lists k _ d counted) in
-    rw (at_place f lists i d d (omega arith), at_place f lists j d d within)
+    let many = length-map lists f in
+    let below = λ (k : ℕ) (counted : k < length lists). (are_those_below b.shape (get_or lists k d)).0 (Contains-get_or lists k d counted) in
+    rw (get_or-map f lists i d d (omega arith), get_or-map f lists j d d (omega arith))
     (counted_in_order b.start b.shape _ _ is_box.lengths (below i (omega arith)) (below j (omega arith)) (in_order b.shape i j d before (omega arith)))
 
 -- so none comes twice

@@ -1,5 +1,5 @@
 -- The box of the chunks from that of a box's first element to that of its last.
-use Rattle.std.proofs.Common.{◌≡◌, ℕ, zero, suc, ◌+◌, ◌-◌, ◌<◌, ◌≤◌, List, [], ◌∷◌, length, map, replicate, Option, Some, None, MatchOption, Ok, Err, IsTrue, refl, ap, ◌∙◌, ⊎_elim, arith}
+use Rattle.std.proofs.Common.{◌≡◌, ℕ, zero, suc, ◌+◌, ◌-◌, ◌<◌, ◌≤◌, List, [], ◌∷◌, length, map, replicate, Option, Some, None, MatchOption, Ok, Err, refl, ap, ◌∙◌, ⊎_elim, arith}
 use Rattle.std.proofs.lemmas.Bool.{cases_lt}
 use Rattle.std.specs.List.{AllByRecursion, AllZip, Contains}
 use Rattle.zarrs_chunk_base.specs.declared.incompatible_dimensionality_error.IncompatibleDimensionalityError.{IncompatibleDimensionalityError}
@@ -12,7 +12,7 @@ use Rattle.zarrs_chunk_base.proofs.InEach.{along, by_dimension, by_dimension_twi
 use Rattle.zarrs_chunk_base.specs.Greatest.{greatest, AllFit}
 use Rattle.zarrs_chunks.specs.Subsets.{AnswersCover, IsCover}
 use Rattle.zarrs_chunks.proofs.UpTo.{after_ones, ones_fit}
-use Rattle.zarrs_chunks.proofs.Chains.{apart, at_most_start, earlier_has}
+use Rattle.zarrs_chunks.proofs.Chains.{at_most_start, in_chain, no_later}
 
 -- no range ends before it starts
 pub firsts_before_lasts : (start shape : List ℕ) → length start ≡ length shape → AllZip ◌≤◌ start (lasts start shape)
@@ -26,18 +26,11 @@ pub starts_in_order : (ds : List Dimension) (first last origin last_origin : Lis
 starts_in_order ds first last origin last_origin chains order starts last_starts =
     by_dimension_twice (λ d l o. (f : ℕ) × (f ≤ l) × StartsAt d f o) StartsAt (λ ds last origin others. AllByRecursion IsChain ds → AllZip ◌≤◌ origin others) (λ chains. tt)
     (λ d l o e ds last origin others (f, order, starts) later rest chains.
-    let before : d.start f ≤ d.start l = starts_at_most d chains.0 f l order later.chunk in
+    let (before, _) = in_chain d chains.0 f l order later.chunk in
     let start = starts.start in
     let last = later.start in
     (omega arith, rest chains.1))
-    ds last origin last_origin (along StartsAt ◌≤◌ ds first origin starts last order) last_starts chains where
-      starts_at_most : (d : Dimension) → IsChain d → (f l : ℕ) → f ≤ l → IsTrue (d.has_chunk l) → d.start f ≤ d.start l
-      starts_at_most d chain f l order has = ⊎_elim
-          (λ (before : f < l).
-          let some : d.start f < d.end f = chain.not_empty f (earlier_has d chain f l order has) in
-          omega (arith, apart d chain f l before has))
-          (λ (le : l ≤ f). let same : f ≡ l = omega arith in let start : d.start f ≡ d.start l = ap d.start same in omega arith)
-          (cases_lt f l)
+    ds last origin last_origin (along StartsAt ◌≤◌ ds first origin starts last order) last_starts chains
 
 -- a later index lies in no earlier chunk
 pub in_order : (ds : List Dimension) (first last low high : List ℕ) → AllByRecursion IsChain ds → AllZip ◌≤◌ low high
@@ -45,15 +38,7 @@ pub in_order : (ds : List Dimension) (first last low high : List ℕ) → AllByR
 in_order ds first last low high chains order f l =
     by_dimension_twice (λ d j a. (i : ℕ) × (i ≤ j) × Holds d a i) (λ d j b. Holds d b j) (λ ds high first last. AllByRecursion IsChain ds → AllZip ◌≤◌ first last) (λ chains. tt)
     (λ d j a b ds indices first last (i, order, low) high rest chains. (no_later d chains.0 a b i j order low high, rest chains.1))
-    ds high first last (along (λ d i c. Holds d c i) ◌≤◌ ds low first (turned Holds ds first low f) high order) (turned Holds ds last high l) chains where
-      no_later : (d : Dimension) → IsChain d → (a b i j : ℕ) → i ≤ j → Holds d a i → Holds d b j → a ≤ b
-      no_later d chain a b i j between low high = ⊎_elim
-          (λ (before : b < a).
-          let low_in = low.from in
-          let high_in = high.below in
-          absurd (omega (arith, apart d chain b a before low.chunk)))
-          (λ (le : a ≤ b). le)
-          (cases_lt b a)
+    ds high first last (along (λ d i c. Holds d c i) ◌≤◌ ds low first (turned Holds ds first low f) high order) (turned Holds ds last high l) chains
 
 pub length_lasts : (start shape : List ℕ) → length start ≡ length shape → length (lasts start shape) ≡ length start
 length_lasts [] [] same = refl
@@ -77,16 +62,15 @@ lasts_small (s ∷ start) (n ∷ shape) same fit some =
     (omega arith, lasts_small start shape (omega arith) fit.1 (tail_some n shape some))
 lasts_small _ _ same fit some = absurd (omega arith)
 
--- a chunk that holds an index below the greatest number has a smaller number still
-pub chunks_small : (ds : List Dimension) (chunk index : List ℕ) → AllByRecursion IsChain ds → InBox ds chunk index
-    → AllByRecursion (λ n. n < greatest) index → AllByRecursion (λ n. n < greatest) chunk
-chunks_small ds chunk index chains box small =
-    by_dimension Holds (λ ds chunk index. AllByRecursion IsChain ds → AllByRecursion (λ n. n < greatest) index → AllByRecursion (λ n. n < greatest) chunk) (λ chains small. tt)
+-- what holds of a number and of each that is at most that holds of the numbers of a chunk that holds an index, if it holds of the index
+pub chunks_small : (P : ℕ → Type 0) → ((m n : ℕ) → m ≤ n → P n → P m) → (ds : List Dimension) (chunk index : List ℕ)
+    → AllByRecursion IsChain ds → InBox ds chunk index → AllByRecursion P index → AllByRecursion P chunk
+chunks_small P lower ds chunk index chains box small =
+    by_dimension Holds (λ ds chunk index. AllByRecursion IsChain ds → AllByRecursion P index → AllByRecursion P chunk) (λ chains small. tt)
     (λ d c i ds chunk index here rest chains small.
     let low : c ≤ d.start c = at_most_start d chains.0 c here.chunk in
     let from = here.from in
-    let below : i < greatest = small.0 in
-    (omega arith, rest chains.1 small.1))
+    (lower c i (omega arith) small.0, rest chains.1 small.1))
     ds chunk index box chains small
 
 -- what ends after the last numbers has them as its last numbers
@@ -94,17 +78,12 @@ pub lasts_are : (start shape last : List ℕ) → length start ≡ length shape 
     → (lasts start shape ≡ last) × (¬ Contains shape 0)
 lasts_are [] [] [] same order end = (refl, λ (k, within, is). absurd (omega arith))
 lasts_are (s ∷ start) (n ∷ shape) (l ∷ last) same order end =
-    let here : s + n ≡ l + 1 = head_is end in
+    let here : s + n ≡ l + 1 = cc in
+    let others : ends start shape ≡ map (λ n. n + 1) last = cc in
     let le : s ≤ l = order.0 in
-    let (rest, some) = lasts_are start shape last (omega arith) order.1 (tail_is end) in
+    let (rest, some) = lasts_are start shape last (omega arith) order.1 others in
     let first : s + (n - 1) ≡ l = omega arith in
     (cc, not_here here le some) where
-      head_is : {x y : ℕ} {xs ys : List ℕ} → x ∷ xs ≡ y ∷ ys → x ≡ y
-      head_is same = cc
-
-      tail_is : {x y : ℕ} {xs ys : List ℕ} → x ∷ xs ≡ y ∷ ys → xs ≡ ys
-      tail_is same = cc
-
       not_here : s + n ≡ l + 1 → s ≤ l → (¬ Contains shape 0) → ¬ Contains (n ∷ shape) 0
       not_here here le some (zero, within, is) = absurd (omega arith)
       not_here here le some (suc k, within, is) = some (k, omega arith, is)

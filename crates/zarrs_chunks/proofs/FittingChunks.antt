@@ -1,9 +1,9 @@
 -- The chunks of a walk that have a box, and what is passed over.
-use Rattle.std.proofs.Common.{◌≡◌, ◌∙◌, ℕ, ◌-◌, ◌&&◌, ◌<◌, ◌≤◌, Bool, true, false, cond, List, [], ◌∷◌, ◌++◌, length, length-append, map, nat_le, suc, Some, None, Ok, le-leb, leb-true, refl, ap, ap₂, sym, subst, ⊎_elim, true≢false, arith}
-use Rattle.std.proofs.lemmas.Bool.{cases_lt}
+use Rattle.std.proofs.Common.{◌≡◌, ◌∙◌, ℕ, ◌-◌, ◌&&◌, ◌<◌, ◌≤◌, Bool, true, false, cond, List, [], ◌∷◌, ◌++◌, length, length-append, map, nat_le, suc, Some, None, Ok, le-leb, leb-true, refl, ap, ap₂, sym, subst, true≢false, arith}
+use Rattle.std.proofs.lemmas.Bool.{and_parts, false_from_ne_true}
 use Rattle.std.specs.List.{AllByRecursion, filter}
 use Rattle.zarrs_chunk_base.specs.ArraySubset.{Box, ends}
-use Rattle.zarrs_chunk_base.specs.Dimension.{Dimension, EndsAt, InBox, IsChain, IsEnd, IsOrigin, StartsAt}
+use Rattle.zarrs_chunk_base.specs.Dimension.{Dimension, EndsAt, HasEdge, InBox, IsChain, IsEnd, IsOrigin, IsShape, StartsAt}
 use Rattle.zarrs_chunk_base.specs.Greatest.{greatest, AllFit}
 use Rattle.zarrs_chunk_base.proofs.InEach.{by_dimension}
 use Rattle.zarrs_chunk_axes.specs.InBounds.{AreBelow}
@@ -13,15 +13,8 @@ use Rattle.zarrs_chunk_axes.specs.seen.RowMajorWalk.{IsAtList, IsPassing, Stands
 use Rattle.zarrs_chunk_axes.proofs.RowMajor.{all_after_below}
 use Rattle.zarrs_chunks.specs.Subsets.{AnswersSubset, HasNoBox, LookedBox, Spans}
 use Rattle.zarrs_chunks.specs.Walks.{box_at, boxed, ends_within, lengths_at, starts_at}
-use Rattle.zarrs_chunks.proofs.Chains.{apart}
-
-and_true : (a b : Bool) → (a && b) ≡ true → (a ≡ true) × (b ≡ true)
-and_true true b both = (refl, both)
-and_true false b both = absurd (true≢false (sym both))
-
-not_true : (a : Bool) → (a ≡ true → ⊥) → a ≡ false
-not_true true not = absurd (not refl)
-not_true false not = refl
+use Rattle.zarrs_chunks.proofs.Chains.{in_chain}
+use Rattle.zarrs_chunks.proofs.Subsets.{is_shape}
 
 -- a chunk's starts are those of its box, and so are its lengths
 starts_are : (ds : List Dimension) (chunk start : List ℕ) → IsOrigin ds chunk start → start ≡ starts_at ds chunk
@@ -29,22 +22,18 @@ starts_are =
     by_dimension StartsAt (λ ds chunk start. start ≡ starts_at ds chunk) refl
     (λ d c s ds chunk start here rest. ap₂ (λ x xs. x ∷ xs) (sym here.start) rest)
 
-lengths_are : (ds : List Dimension) (chunk start shape : List ℕ) → length start ≡ length shape → IsOrigin ds chunk start → IsEnd ds chunk (ends start shape)
-    → shape ≡ lengths_at ds chunk
-lengths_are [] [] [] [] same from to = refl
-lengths_are (d ∷ ds) (c ∷ chunk) (s ∷ start) (n ∷ shape) same from to =
-    let begins = from.0.start in
-    let finishes = to.0.end in
+lengths_are : (ds : List Dimension) (chunk shape : List ℕ) → IsShape ds chunk shape → shape ≡ lengths_at ds chunk
+lengths_are =
+    by_dimension HasEdge (λ ds chunk shape. shape ≡ lengths_at ds chunk) refl
+    (λ d c n ds chunk shape here rest.
+    let long = here.edge in
     let edge : n ≡ d.end c - d.start c = omega arith in
-    ap₂ (λ x xs. x ∷ xs) edge (lengths_are ds chunk start shape (omega arith) from.1 to.1)
-lengths_are [] [] [] (_ ∷ _) same from to = absurd (omega arith)
-lengths_are (_ ∷ _) (_ ∷ _) (_ ∷ _) [] same from to = absurd (omega arith)
-lengths_are _ _ _ shape same from to = absurd from
+    ap₂ (λ x xs. x ∷ xs) edge rest)
 
 pub box_is : (ds : List Dimension) (chunk : List ℕ) (b : Box) → Spans ds chunk chunk b → b ≡ box_at ds chunk
 box_is ds chunk b spans =
     let start = starts_are ds chunk b.start spans.start in
-    let shape = lengths_are ds chunk b.start b.shape spans.is_box.lengths spans.start spans.end in
+    let shape = lengths_are ds chunk b.shape (is_shape ds chunk b.start b.shape spans.is_box.lengths spans.start spans.end) in
     ap₂ (λ start shape. record { start = start; shape = shape }) start shape
 
 -- where each end fits, a chunk ends within the numbers
@@ -65,7 +54,7 @@ parts : (ds : List Dimension) (chunk : List ℕ) → AllByRecursion IsChain ds �
     × (length (starts_at ds chunk) ≡ length (lengths_at ds chunk)) × AllFit (ends (starts_at ds chunk) (lengths_at ds chunk))
 parts [] [] chains below fit = (tt, tt, refl, tt)
 parts (d ∷ ds) (c ∷ chunk) chains below fit =
-    let both = and_true (nat_le (d.end c) greatest) (ends_within ds chunk) fit in
+    let both = and_parts (nat_le (d.end c) greatest) (ends_within ds chunk) fit in
     let (starts, finish, same, all) = parts ds chunk chains.1 below.1 both.1 in
     let has = chains.0.counted c below.0 in
     let some : d.start c < d.end c = chains.0.not_empty c has in
@@ -82,24 +71,15 @@ has_box ds chunk chains below fit =
 -- so one without a box doesn't
 pub no_box : (ds : List Dimension) (chunk : List ℕ) → AllByRecursion IsChain ds → AreBelow (map (λ d. d.grid_size) ds) chunk → HasNoBox ds chunk
     → ends_within ds chunk ≡ false
-no_box ds chunk chains below none = not_true (ends_within ds chunk) (λ fit. none (box_at ds chunk) (has_box ds chunk chains below fit))
+no_box ds chunk chains below none = false_from_ne_true (ends_within ds chunk) (λ fit. none (box_at ds chunk) (has_box ds chunk chains below fit))
 
 -- and neither does a later one
-ends_later : (d : Dimension) → IsChain d → (c e : ℕ) → c ≤ e → e < d.grid_size → d.end c ≤ d.end e
-ends_later d chain c e low counted =
-    let has = chain.counted e counted in
-    let some : d.start e < d.end e = chain.not_empty e has in
-    ⊎_elim
-    (λ (before : c < e). let gap : d.end c ≤ d.start e = apart d chain c e before has in omega arith)
-    (λ (not_before : e ≤ c). let same : c ≡ e = omega arith in subst (λ k. d.end k ≤ d.end e) (sym same) (omega arith))
-    (cases_lt c e)
-
 later_fits : (ds : List Dimension) (chunk later : List ℕ) → AllByRecursion IsChain ds → AreBelow (map (λ d. d.grid_size) ds) later
     → AreAtLeast chunk later → ends_within ds later ≡ true → ends_within ds chunk ≡ true
 later_fits (d ∷ ds) (c ∷ chunk) (e ∷ later) chains below low fit =
-    let both = and_true (nat_le (d.end e) greatest) (ends_within ds later) fit in
+    let both = and_parts (nat_le (d.end e) greatest) (ends_within ds later) fit in
     let here : d.end e ≤ greatest = leb-true (d.end e) greatest both.0 in
-    let order : d.end c ≤ d.end e = ends_later d chains.0 c e low.0 below.0 in
+    let (_, order) = in_chain d chains.0 c e low.0 (chains.0.counted e below.0) in
     let first : d.end c ≤ greatest = omega arith in
     ap₂ (λ a b. a && b) (le-leb (d.end c) greatest first) (later_fits ds chunk later chains.1 below.1 low.1 both.1)
 later_fits (_ ∷ _) (_ ∷ _) [] chains below low fit = absurd below
@@ -108,7 +88,7 @@ later_fits _ _ later chains below low fit = refl
 none_later : (ds : List Dimension) (chunk later : List ℕ) → AllByRecursion IsChain ds → AreBelow (map (λ d. d.grid_size) ds) later
     → AreAtLeast chunk later → ends_within ds chunk ≡ false → ends_within ds later ≡ false
 none_later ds chunk later chains below low none =
-    not_true (ends_within ds later) (λ fit. true≢false (sym (later_fits ds chunk later chains below low fit) ∙ none))
+    false_from_ne_true (ends_within ds later) (λ fit. true≢false (sym (later_fits ds chunk later chains below low fit) ∙ none))
 
 -- chunks that don't fit are passed over
 pub all_passed_over : {X : Type 0} (test : X → Bool) (passed left : List X) → AllByRecursion (λ x. test x ≡ false) passed

@@ -7,7 +7,7 @@ use Rattle.zarrs_chunk_base.specs.ArraySubset.{AreWithin, Box, IsBox, IsEmptyBox
 use Rattle.zarrs_chunk_base.specs.Dimension.{Dimension, Holds, IsChain, InBox, IsEnd, IsOrigin, StartsAt}
 use Rattle.zarrs_chunk_base.proofs.InEach.{length_numbers, length_values}
 use Rattle.zarrs_chunks.specs.Subsets.{AnswersCover, AnswersChunksSubset, IsCover, LookedBox, Spans}
-use Rattle.zarrs_chunks.proofs.Chains.{apart, earlier_has}
+use Rattle.zarrs_chunks.proofs.Chains.{apart, earlier_has, in_chain, no_later}
 use Rattle.zarrs_chunks.proofs.Covers.{head_some, tail_some}
 
 -- what holds without dimensions, and of one more wherever it holds, holds of a range of chunks and a range of indices in each dimension
@@ -34,14 +34,7 @@ meets d chain first size low count c some any f l from below =
     let some_here : d.start c < d.end c = chain.not_empty c has in
     let low_in = f.below in
     let high_in = l.from in
-    let high : d.start c ≤ low + (count - 1) =
-    ⊎_elim
-    (λ (before : c < first + (size - 1)).
-    let ended : d.end c ≤ d.start (first + (size - 1)) = apart d chain c (first + (size - 1)) before l.chunk in omega arith)
-    (λ (not_before : first + (size - 1) ≤ c).
-    let same : c ≡ first + (size - 1) = omega arith in
-    subst (λ k. d.start k ≤ low + (count - 1)) (sym same) high_in)
-    (cases_lt c (first + (size - 1))) in
+    let (order, _) = in_chain d chain c (first + (size - 1)) (omega arith) l.chunk in
     (d.start c, record { chunk = has; from = omega arith; below = some_here }, omega arith, omega arith))
     (λ (not_later : c ≤ first).
     let same : c ≡ first = omega arith in
@@ -51,26 +44,9 @@ meets d chain first size low count c some any f l from below =
 -- a chunk that holds some of a range is one from the first to the last that do
 is_between : (d : Dimension) → IsChain d → (first size low count c i : ℕ) → 0 < size → 0 < count → Holds d first low → Holds d (first + (size - 1)) (low + (count - 1))
     → Holds d c i → low ≤ i → i < low + count → (first ≤ c) × (c < first + size)
-is_between d chain first size low count c i some any f l here from below = (not_before, not_after) where
-  not_before : first ≤ c
-  not_before = ⊎_elim
-      (λ (before : c < first).
-      let ended : d.end c ≤ d.start first = apart d chain c first before f.chunk in
-      let low_in = f.from in
-      let within = here.below in
-      absurd (omega arith))
-      (λ (le : first ≤ c). le)
-      (cases_lt c first)
-
-  not_after : c < first + size
-  not_after = ⊎_elim
-      (λ (after : first + (size - 1) < c).
-      let ended : d.end (first + (size - 1)) ≤ d.start c = apart d chain (first + (size - 1)) c after here.chunk in
-      let high_in = l.below in
-      let within = here.from in
-      absurd (omega arith))
-      (λ (le : c ≤ first + (size - 1)). omega arith)
-      (cases_lt (first + (size - 1)) c)
+is_between d chain first size low count c i some any f l here from below =
+    let at_most : c ≤ first + (size - 1) = no_later d chain c _ i (low + (count - 1)) (omega arith) here l in
+    (no_later d chain first c low i from f here, omega arith)
 
 -- the chunks from that of a box's first element to that of its last are those that hold some of the box
 abbrev AreThoseThatMeet : List Dimension → List ℕ → List ℕ → List ℕ → List ℕ → Type 0
@@ -164,26 +140,12 @@ answered_cover_meets ds b chains is_box some _ h = tt
 -- an index of a chunk between two lies from where the one starts to where the other ends
 lies_within : (d : Dimension) → IsChain d → (first last c i : ℕ) → IsTrue (d.has_chunk last) → first ≤ c → c ≤ last → Holds d c i
     → (d.start first ≤ i) × (i < d.end last)
-lies_within d chain first last c i has low high here = (from, below) where
-  from : d.start first ≤ i
-  from = ⊎_elim
-      (λ (later : first < c).
-      let ended : d.end first ≤ d.start c = apart d chain first c later here.chunk in
-      let some : d.start first < d.end first = chain.not_empty first (earlier_has d chain first c low here.chunk) in
-      let within = here.from in
-      omega arith)
-      (λ (not_later : c ≤ first). let same : c ≡ first = omega arith in subst (λ k. d.start k ≤ i) same here.from)
-      (cases_lt first c)
-
-  below : i < d.end last
-  below = ⊎_elim
-      (λ (earlier : c < last).
-      let ended : d.end c ≤ d.start last = apart d chain c last earlier has in
-      let some : d.start last < d.end last = chain.not_empty last has in
-      let within = here.below in
-      omega arith)
-      (λ (not_earlier : last ≤ c). let same : c ≡ last = omega arith in subst (λ k. i < d.end k) same here.below)
-      (cases_lt c last)
+lies_within d chain first last c i has low high here =
+    let (start, _) = in_chain d chain first c low here.chunk in
+    let (_, end) = in_chain d chain c last high has in
+    let from = here.from in
+    let below = here.below in
+    (omega arith, omega arith)
 
 -- the indices from where a box's first chunk starts to where its last one ends are those of its chunks
 abbrev AreThoseOfChunks : List Dimension → List ℕ → List ℕ → List ℕ → List ℕ → Type 0
@@ -192,17 +154,13 @@ AreThoseOfChunks ds first sizes low counts = AllByRecursion IsChain ds → (¬ C
 
 no_chunks : AreThoseOfChunks [] [] [] [] []
 no_chunks chains some f l [] = (λ _. ([], tt, tt), λ _. tt)
-no_chunks chains some f l (_ ∷ _) = (λ within. absurd within, λ (chunk, between, box). absurd (none chunk _ _ box)) where
-  none : (chunk : List ℕ) (j : ℕ) (index : List ℕ) → InBox [] chunk (j ∷ index) → ⊥
-  none [] j index box = box
-  none (_ ∷ _) j index box = box
+no_chunks chains some f l (j ∷ index) =
+    (λ within. absurd within, λ (chunk, between, box). absurd (omega (arith, length_values Holds [] chunk (j ∷ index) box)))
 
 one_more_of_chunks : (d : Dimension) (a n i m : ℕ) (ds : List Dimension) (first sizes low counts : List ℕ) → AreThoseOfChunks ds first sizes low counts
     → AreThoseOfChunks (d ∷ ds) (a ∷ first) (n ∷ sizes) (i ∷ low) (m ∷ counts)
-one_more_of_chunks d a n i m ds first sizes low counts rest chains some f l [] = (λ within. absurd within, λ (chunk, between, box). absurd (none chunk box)) where
-  none : (chunk : List ℕ) → InBox (d ∷ ds) chunk [] → ⊥
-  none [] box = box
-  none (_ ∷ _) box = box
+one_more_of_chunks d a n i m ds first sizes low counts rest chains some f l [] =
+    (λ within. absurd within, λ (chunk, between, box). absurd (omega (arith, length_values Holds (d ∷ ds) chunk [] box)))
 one_more_of_chunks d a n i m ds first sizes low counts rest chains some f l (j ∷ index) = (find, λ (chunk, between, box). lie chunk between box) where
   others : AreWithin low counts index ↔ ((chunk : List ℕ) × AreWithin first sizes chunk × InBox ds chunk index)
   others = rest chains.1 (tail_some n sizes some) f.1 l.1 index

@@ -135,17 +135,14 @@ is_again grid again e is made =
 -- ---- a `rectilinear` grid, of its configuration
 
 -- what the members say is what the grid was made of
-said_edges : (grid : RectilinearChunkGrid) (configuration : Members) (said : List EdgeLengths) → HasMembers grid configuration → Say configuration said
+pub said_edges : (grid : RectilinearChunkGrid) (configuration : Members) (said : List EdgeLengths) → HasMembers grid configuration
+    → Say configuration said
     → AreRectilinear (array_sizes (rectilinear_of grid).dimensions) (map edges_of_lengths said) × ((rectilinear_of grid).edges ≡ map edges_of_lengths said)
 said_edges grid configuration said (x, accepted, made, form, written, is) says =
     let both : Some x ≡ Some said = sym is.1 ∙ says.1 in
     let same : x ≡ said = cc in
     let shape = array_sizes (rectilinear_of grid).dimensions in
     (subst (λ y. AreRectilinear shape (map edges_of_lengths y)) same accepted, made.1 ∙ ap (map edges_of_lengths) same)
-
-pub said_accepted : (grid : RectilinearChunkGrid) (configuration : Members) (said : List EdgeLengths) → HasMembers grid configuration → Say configuration said
-    → AreRectilinear (array_sizes (rectilinear_of grid).dimensions) (map edges_of_lengths said)
-said_accepted grid configuration said has says = (said_edges grid configuration said has says).0
 
 pub edges_again : (grid again : RectilinearChunkGrid) (configuration : Members) (said : List EdgeLengths) → HasMembers grid configuration → Say configuration said
     → array_sizes (rectilinear_of again).dimensions ≡ array_sizes (rectilinear_of grid).dimensions → (rectilinear_of again).edges ≡ map edges_of_lengths said

@@ -1,9 +1,11 @@
 use Rattle.std.proofs.Common.{[], ◌∷◌, ◌++◌, ◌∙◌, ap, inl, refl, subst, sym}
+use Rattle.std.proofs.lemmas.Slice.Zip.{all_zipped_more}
 use Rattle.std.specs.List.{AllZip}
-use Rattle.zarrs_chunk_plan.proofs.Walked.{IsPartOf, at_first, at_last, one_more, plan_of, pushed}
+use Rattle.zarrs_chunk_plan.proofs.Taken.{no_parts}
+use Rattle.zarrs_chunk_plan.proofs.Walked.{IsPartOf, at_first, at_last, one_more, plan_of}
 use Rattle.zarrs_chunk_plan.specs.seen.Parts.{IsAbout, MeetSubset, chunks_to_come}
 use Rattle.callers.specs.Reading.{IsRead}
-use Rattle.callers.proofs.Pieces.{are_pieces, no_pieces}
+use Rattle.callers.proofs.Pieces.{are_pieces}
 use Rattle.callers.proofs.reading.read_box.Goals as goal
 
 pub loop-part-init : goal.loop-part-init
@@ -28,7 +30,7 @@ loop-part-preserved g c =
       one_more g.G.ChunkGridTraits.dimensions g.E.ChunkKeyEncodingTraits.is_key c.into_iter-part-iterator.result c.loop-part.part-iterator c.next.new.self part
           came more have gives refl,
       subst (AllZip IsOne more) (sym c.in_ok-push.ensures.items)
-          (pushed IsOne came c.loop-part.pieces.items part c.in_ok-read_part.field-0 are c.in_ok-read_part.ensures),
+          (all_zipped_more IsOne came c.loop-part.pieces.items part c.in_ok-read_part.field-0 are c.in_ok-read_part.ensures),
     )
 
 pub returns-clause-empty : goal.returns-clause-empty
@@ -39,8 +41,8 @@ returns-clause-empty g c = λ is_empty some.
     let (came, have, are) = c.loop-part.invariant in
     let none = rw c.in-Some.is at (c.in_ok-walk.ensures.empty is_empty some) in
     let parts = at_last dimensions is_key begin c.loop-part.part-iterator c.next.new.self came have c.in-None.ensures.steps in
-    no_pieces (g.S.ChunkStore.answers c.args.store.now) (chunks_to_come begin) came c.loop-part.pieces.items (IsPartOf dimensions is_key begin)
-    (ap chunks_to_come c.into_iter-part-iterator.ensures.into_iter_gives ∙ none) parts are
+    no_parts (IsRead (g.S.ChunkStore.answers c.args.store.now)) came c.loop-part.pieces.items
+    (no_parts (IsPartOf dimensions is_key begin) (chunks_to_come begin) came (ap chunks_to_come c.into_iter-part-iterator.ensures.into_iter_gives ∙ none) parts) are
 
 pub returns-clause-answers : goal.returns-clause-answers
 returns-clause-answers g c = λ some.

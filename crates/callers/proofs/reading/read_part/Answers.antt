@@ -2,7 +2,7 @@ use Rattle.std.proofs.Common.{[], ◌++◌, ◌∙◌, ap, append-nil, refl, sub
 use Rattle.std.specs.List.{AllZip}
 use Rattle.zarrs_chunks.specs.Walks.{chunks_in}
 use Rattle.zarrs_chunks.specs.seen.Walks.{chunks_in_left}
-use Rattle.callers.proofs.Pieces.{one_more_came}
+use Rattle.zarrs_chunk_plan.proofs.Walked.{one_came}
 use Rattle.callers.proofs.reading.read_part.Goals as goal
 
 pub loop-place-init : goal.loop-place-init
@@ -18,8 +18,8 @@ loop-place-preserved g c =
     let answers = g.S.ChunkStore.answers c.args.store.now c.args.part.key in
     let (came, all, are) = c.loop-place.invariant in
     let gives = rw c.in_ok-place.was at c.in-Some.ensures.steps in
-    one_more_came answers (chunks_in c.args.part.in_chunk) came (chunks_in_left c.loop-place.place-iterator) (chunks_in_left c.next.new.self)
-    c.loop-place.elements.items c.push.new.self.items c.in_ok-place.place.items c.element.result all gives are
+    one_came answers (chunks_in c.args.part.in_chunk) came (chunks_in_left c.loop-place.place-iterator) (chunks_in_left c.next.new.self)
+    c.in_ok-place.place.items c.element.result c.loop-place.elements.items c.push.new.self.items all gives are
     (subst (λ place. answers place c.element.result) c.as_slice.ensures c.element.ensures) c.in_ok-push.ensures.items
 
 pub loop-place-preserved-in_ok-push : goal.loop-place-preserved-in_ok-push
@@ -27,8 +27,8 @@ loop-place-preserved-in_ok-push g c =
     let answers = g.S.ChunkStore.answers c.args.store.now c.args.part.key in
     let (came, all, are) = c.loop-place.invariant in
     let gives = rw c.in_ok-place.was at c.in-Some.ensures.steps in
-    one_more_came answers (chunks_in c.args.part.in_chunk) came (chunks_in_left c.loop-place.place-iterator) (chunks_in_left c.next.new.self)
-    c.loop-place.elements.items c.push.new.self.items c.in_ok-place.place.items c.element.result all gives are
+    one_came answers (chunks_in c.args.part.in_chunk) came (chunks_in_left c.loop-place.place-iterator) (chunks_in_left c.next.new.self)
+    c.in_ok-place.place.items c.element.result c.loop-place.elements.items c.push.new.self.items all gives are
     (subst (λ place. answers place c.element.result) c.as_slice.ensures c.element.ensures) c.in_ok-push.ensures.items
 
 pub returns : goal.returns

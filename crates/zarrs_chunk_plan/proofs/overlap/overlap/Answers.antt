@@ -1,3 +1,4 @@
+use Rattle.zarrs_chunks.proofs.Subsets.{starts_fit}
 use Rattle.zarrs_chunk_plan.proofs.Overlaps.{overlap_holds, overlap_is_box}
 use Rattle.zarrs_chunk_plan.proofs.overlap.overlap.Goals as goal
 
@@ -8,8 +9,9 @@ box_of-requires c =
     let starts = rw (c.start.ensures.value, c.start-2.ensures.value) at c.in_ok-start.ensures in
     let is_one = c.start.ensures.is_box in
     let is_other = c.start-2.ensures.is_box in
+    let fit = starts_fit one.start one.shape is_one.lengths is_one.fits in
     rw (starts, c.in_ok-shape.ensures)
-    (overlap_is_box one.start one.shape other.start other.shape is_one.lengths is_other.lengths c.requires is_one.fits is_other.fits)
+    (overlap_is_box one.start one.shape other.start other.shape is_one.lengths is_other.lengths c.requires fit is_other.fits)
 
 pub returns-clause-common : goal.returns-clause-common
 returns-clause-common c = λ index.
@@ -19,4 +21,4 @@ returns-clause-common c = λ index.
     let is_one = c.start.ensures.is_box in
     let is_other = c.start-2.ensures.is_box in
     rw (c.box_of.ensures, starts, c.in_ok-shape.ensures)
-    (overlap_holds one.start one.shape other.start other.shape index is_one.lengths is_other.lengths c.requires is_one.fits is_other.fits)
+    (overlap_holds one.start one.shape other.start other.shape index is_one.lengths is_other.lengths c.requires is_other.fits)
