@@ -1,0 +1,146 @@
+"""What a call tells of a refusal, and how much a walk may take: `test.py` runs it.
+
+Words of metadata's faults, of codes, and which list of a batch is wrong; walks whose items are longer than the buffer for their answer, and walks that
+are read page by page; of two faults the same one through `zarrs_answer` and through a call of its own; how much stack a call needs.
+"""
+import ctypes
+import json
+import pathlib
+import resource
+
+import numpy as np
+
+GREATEST = 2**64 - 1
+HERE = pathlib.Path(__file__).resolve().parent
+SHAPE = np.array([4, 7], np.uint64)
+REGULAR = {"name": "regular", "configuration": {"chunk_shape": [2, 3]}}
+# Metadata of a grid of this array, the code that they end with, and the words.
+GRIDS = [
+    (REGULAR, 0, ""),
+    (None, -4, "not an extension"),
+    ({}, -4, "name is missing"),
+    ({"name": 3}, -4, "name is not a text"),
+    ({"name": "regular", "configuration": []}, -4, "configuration is not an object"),
+    ("hexagonal", -5, "name `hexagonal` is not supported"),
+    ({"name": "regular", "configuration": {}}, -5, "configuration is unsupported: missing field `chunk_shape`"),
+    ({"name": "regular", "configuration": {"chunk_shape": [0, 3]}}, -5, "configuration is unsupported: wrong value in field `chunk_shape`"),
+    ({"name": "rectangular", "configuration": {"chunk_shape": [[1, 1], 3]}}, -5,
+     "rectangular chunk grid configuration: [[1, 1], 3] not compatible with array shape [4, 7]"),
+]  # fmt: skip
+ENCODINGS = [
+    ("v2", 0, ""),
+    ("octal", -5, "name `octal` is not supported"),
+    ({"name": "zarrs.default_suffix", "configuration": {"suffix": "a/"}}, -5, "chunk key suffix must not end with a slash"),
+]
+# What the header says of each code.
+CODES = {
+    0: "the call has answered",
+    -1: "out of memory",
+    -2: "an array has more or fewer items than the others demand",
+    -3: "the metadata is not JSON",
+    -4: "the metadata is no extension's",
+    -5: "the grid or the encoding is refused",
+    -6: "a box ends past 18446744073709551615",
+    -7: "offsets descend, or lie past the text",
+    -8: "the text of the answer is longer than its buffer",
+    -9: "no call ends with this code",
+    1: "no call ends with this code",
+    -(2**31): "no call ends with this code",
+}
+
+
+def text_of(call, name, *arguments):
+    """What a call writes to a buffer that its text fills, with its code; and whether a buffer one shorter stays as it was, with that code."""
+    needed = ctypes.c_size_t(77)
+    call(name, *arguments, np.zeros(0, np.uint8), ctypes.byref(needed))
+    length = needed.value
+    text, short = np.full(length + 1, 7, np.uint8), np.full(max(length - 1, 0), 7, np.uint8)
+    code = call(name, *arguments, text[:length], ctypes.byref(needed))
+    short_code = call(name, *arguments, short, ctypes.byref(needed))
+    kept = (short == 7).all() and text[length] == 7 and needed.value == length
+    return code, text[:length].tobytes().decode(), short_code, bool(kept)
+
+
+def words(tally, call):
+    for metadata, code, said in GRIDS:
+        found = text_of(call, "zarrs_grid_fault", SHAPE, json.dumps(metadata).encode())
+        tally.same(f"the fault of {metadata}", found, (code, said, code, True))
+    tally.same("a grid that isn't JSON", text_of(call, "zarrs_grid_fault", SHAPE, b"{"), (-3, CODES[-3], -3, True))
+    for metadata, code, said in ENCODINGS:
+        found = text_of(call, "zarrs_encoding_fault", json.dumps(metadata).encode())
+        tally.same(f"the fault of {metadata}", found, (code, said, code, True))
+    tally.same("an encoding that isn't JSON", text_of(call, "zarrs_encoding_fault", b"\xff"), (-3, CODES[-3], -3, True))
+    for code, said in CODES.items():
+        tally.same(f"the code {code}", text_of(call, "zarrs_code_words", ctypes.c_int32(code)), (0, said, -8, True))
+    tally.same("the version", call("zarrs_abi_version"), 1)
+
+
+def answered(call, question, room):
+    line, needed = np.full(room + 1, 7, np.uint8), ctypes.c_size_t()
+    code = call("zarrs_answer", json.dumps(question).encode(), line[:room], ctypes.byref(needed))
+    return code, needed.value, line[: needed.value].tobytes() if code == 0 else bool((line == 7).all())
+
+
+def walks(tally, call):
+    grid = {"shape": [10**9, 10**9], "chunk_grid": {"name": "regular", "configuration": {"chunk_shape": [1, 1]}}}
+    plan = {"call": "parts", "of": [[0, 0], [10**9, 10**9]], "chunk_key_encoding": "default"}
+    calls = [{"call": name} for name in ("iter_chunk_indices", "iter_chunk_subsets", "iter_chunk_indices_and_subsets")] + [plan]
+    used = int(pathlib.Path("/proc/self/statm").read_text().split()[0]) * resource.getpagesize()
+    resource.setrlimit(resource.RLIMIT_AS, (used + 2**25, resource.RLIM_INFINITY))
+    for asked in calls:
+        for more in ({}, {"first": 10**17}):
+            for room in (0, 1, 256, 10000):
+                found = answered(call, {**grid, **asked, **more, "items": GREATEST}, room)
+                tally.same(f"{asked['call']}, {more}, all items and {room} bytes", found, (-8, GREATEST, True))
+    resource.setrlimit(resource.RLIMIT_AS, (resource.RLIM_INFINITY, resource.RLIM_INFINITY))
+    # What isn't too long is told as before, also where it fills its buffer.
+    small = {"shape": [4, 7], "chunk_grid": REGULAR, "call": "iter_chunk_indices", "items": GREATEST}
+    whole = b'{"items":[[0,0],[0,1],[0,2],[1,0],[1,1],[1,2]],"more":false}\n'
+    tally.same("a walk that fills its buffer", answered(call, small, len(whole)), (0, len(whole), whole))
+    tally.same("a walk that is one too long", answered(call, small, len(whole) - 1), (-8, len(whole), True))
+    # Pages, one after another, are the whole walk.
+    for name, lists in (("iter_chunk_indices", 1), ("iter_chunk_subsets", 2), ("iter_chunk_indices_and_subsets", 3), ("parts", 5)):
+        asked = {**small, "call": name, "of": [[1, 1], [3, 5]], "chunk_key_encoding": "v2"}
+        expected = json.loads(answered(call, asked, 4000)[2])["items"]
+        for size in (1, 2, 4, 7):
+            pages = [json.loads(answered(call, {**asked, "first": first, "items": size}, 4000)[2]) for first in range(0, len(expected), size)]
+            tally.same(f"{name} by pages of {size}", [item for page in pages for item in page["items"]], expected)
+            tally.same(f"{name} by pages of {size}: more", [page["more"] for page in pages], [True] * (len(pages) - 1) + [False])
+
+
+def one_order(tally, call):
+    """A bad grid, a bad encoding and a bad box, by a call of their own and as a question."""
+    bad = {"chunk_grid": "hexagonal", "chunk_key_encoding": "octal", "of": [[GREATEST, 0], [1, 1]]}
+    said = {"chunk_grid": -5, "chunk_key_encoding": -5, "of": -6}
+    right = {"chunk_grid": REGULAR, "chunk_key_encoding": "default", "of": [[0, 0], [1, 1]]}
+    words_of = {"chunk_grid": "name `hexagonal`", "chunk_key_encoding": "name `octal`", "of": "box end exceeds"}
+    names = list(bad)
+    for chosen in [(one, other) for place, one in enumerate(names) for other in names[place:]]:
+        asked = {**right, **{name: bad[name] for name in chosen}}
+        room, told = np.zeros(0, np.uint64), [ctypes.c_size_t(), ctypes.c_size_t(), ctypes.c_uint64(), ctypes.c_uint8()]
+        metadata = [json.dumps(asked[name]).encode() for name in names[:2]]
+        box = [np.array(numbers, np.uint64) for numbers in asked["of"]]
+        code = call(
+            "zarrs_parts_of", SHAPE, *metadata, *box, ctypes.c_uint64(0), *[room] * 4, np.zeros(0, np.uint8), np.zeros(1, np.uint64),
+            *map(ctypes.byref, told),
+        )  # fmt: skip
+        line = answered(call, {"shape": SHAPE.tolist(), "call": "parts", "items": 1, **asked}, 200)[2]
+        found = (code, line.startswith(f"refused: {words_of[chosen[0]]}".encode()))
+        tally.same(f"{' and '.join(sorted(set(chosen)))} of a plan", found, (said[chosen[0]], True))
+
+
+def limits(tally, run, out):
+    """The C program that makes each call on a small stack and under a trap for floats."""
+    program = out / "limits"
+    flags = ["-std=c11", "-Wall", "-Wextra", "-Wpedantic", "-Werror", f"-I{HERE}", HERE / "c" / "limits.c"]
+    linked = [f"-L{out}", "-lzarrs_chunks", f"-Wl,-rpath,{out}", "-lpthread", "-lm"]
+    tally.same("cc, limits", run(["cc", *flags, *linked, "-o", program]), (0, b"", ""))
+    expected = b"deepest metadata: 0 otherwise\nplain metadata: 0 otherwise\nunder a trap: 0 otherwise\n"
+    tally.same("stack and traps", run([program]), (0, expected, ""))
+
+
+def words_and_bounds(tally, library, run, out):
+    words(tally, library.call)
+    walks(tally, library.call)
+    one_order(tally, library.call)
+    limits(tally, run, out)
