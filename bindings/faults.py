@@ -156,7 +156,7 @@ def grid_calls(rng, dimensions):
     yield Asked("zarrs_chunk_boxes_of", asked, ["chunks", "origins", "shapes", "found"]), {"origins": written[0], "shapes": written[1], "found": marks}
     written, marks = batch([grid.cover(*box) for box in zip(indices, sizes)], 2, dimensions)
     asked = {**given, "starts": flat(indices), "shapes": flat(sizes), "first_chunks": lists(), "chunk_counts": lists()}
-    asked["found"] = filled(count, np.uint8)
+    asked |= {"found": filled(count, np.uint8), "wrong": Count(LEFT)}
     expected = {"first_chunks": written[0], "chunk_counts": written[1], "found": marks}
     yield Asked("zarrs_covers_of", asked, ["starts", "shapes", "first_chunks", "chunk_counts", "found"]), expected
 
@@ -172,7 +172,7 @@ def key_calls(rng, dimensions):
     text, offsets = b"".join(keys), list(itertools.accumulate(map(len, keys), initial=0))
     written, marks = batch([None if k == 1 else (chunk,) for k, chunk in enumerate(chunks)], 1, dimensions)
     asked = {**given, "text": np.frombuffer(text, np.uint8), "offsets": np.array(offsets, np.uint64), "chunks": filled(count * dimensions)}
-    asked["found"] = filled(count, np.uint8)
+    asked |= {"found": filled(count, np.uint8), "wrong": Count(LEFT)}
     yield Asked("zarrs_chunks_of_keys", asked, ["offsets", "chunks", "found"]), {"chunks": written[0], "found": marks}
 
 
@@ -246,6 +246,16 @@ def wrong_arguments(asked):
         yield 5, "a short buffer", SHORT, {"text": given["text"][:-1]}
 
 
+def first_wrong(asked, exchanged):
+    """The number of the first box that ends too far, or of the first key whose offsets descend or lie past the text."""
+    given = {name: part.tolist() for name, part in {**asked.arguments, **exchanged}.items() if isinstance(part, np.ndarray)}
+    if "starts" in given:
+        width = len(given["shape"])
+        return next(k // width for k, (start, size) in enumerate(zip(given["starts"], given["shapes"])) if start + size > GREATEST)
+    pairs = zip(given["offsets"], given["offsets"][1:])
+    return next(k for k, (start, end) in enumerate(pairs) if start > end or end > len(given["text"]))
+
+
 def merged(first, second):
     """Both faults in one call, where they are of different arguments."""
     return None if first.keys() & second.keys() else {**first, **second}
@@ -260,7 +270,10 @@ def ends_of(tally, library, dimensions):
         has_plan = expected.get("found") != 0
         wrong = sorted((fault for fault in wrong_arguments(asked) if has_plan or fault[2] != SHORT), key=lambda fault: fault[0])
         for _place, fault, told, exchanged in wrong:
-            tally.same(f"{what}, {fault}", asked.ends(library, **exchanged)[0], told)
+            code, left = asked.ends(library, **exchanged)
+            tally.same(f"{what}, {fault}", code, told)
+            if "wrong" in left and told in (NOT_A_BOX, OFFSETS):
+                tally.same(f"{what}, {fault}: of which", left["wrong"], first_wrong(asked, exchanged))
         for one, other in itertools.combinations(wrong, 2):
             both = merged(one[3], other[3])
             if one[0] != other[0] and both is not None:

@@ -10,6 +10,7 @@ one. What is compared:
 - batches and plans with the same questions one by one, and batches with numpy's own division and `searchsorted`;
 - each call at one to three hundred dimensions with plain arithmetic, and each fault of each call, alone and with a later one (`faults.py`);
 - no lists, null, strided, misaligned and negative numbers, other types, buffers of other lengths, offsets that descend;
+- what the Python package takes, refuses and keeps, also while another thread changes it (`python_test.py`);
 - memory that is refused: under an address space that gets smaller, and allocation by allocation;
 - the examples in C, Python and Rust, the C one under memcheck, and those of the docstrings.
 """
@@ -236,14 +237,18 @@ def buffers(tally, library):
     tally.same("read-only", grid.chunk_indices(readonly)[0].tolist(), expected)
     tally.same("more axes", grid.chunk_indices(numbers.reshape(3, 2, 2, 2))[0].shape, (3, 2, 2, 2))
     tally.same("no lists", [part.shape for part in grid.find_home(np.zeros((0, 2), np.uint64))], [(0, 2), (0, 2), (0,)])
-    tally.raises("floats", TypeError, "whole numbers are wanted, and the array is of float64", lambda: grid.chunk_indices([[0.0, 1.0]]))
-    tally.raises("below 0", ValueError, "numbers below 0 are no indices", lambda: grid.chunk_indices([[0, -1]]))
-    shaped = "the last axis is to have 2 numbers, one a dimension, and the array's shape is (1, 3)"
+    tally.raises("floats", TypeError, "indices: whole numbers are wanted, and the array is of float64", lambda: grid.chunk_indices([[0.0, 1.0]]))
+    below = "indices: numbers are those from 0 to 18446744073709551615, and one is below"
+    tally.raises("below 0", ValueError, below, lambda: grid.chunk_indices([[0, -1]]))
+    shaped = "indices: the last axis is to have 2 numbers, one a dimension, and the array's shape is (1, 3)"
     tally.raises("three numbers", ValueError, shaped, lambda: grid.chunk_indices([[0, 1, 2]]))
-    tally.raises("a box too far", ValueError, "a box ends past 18446744073709551615", lambda: grid.chunks_in_array_subset([GREATEST, 0], [1, 1]))
-    descending = "offsets descend, or lie past the text"
-    tally.raises("descending offsets", ValueError, descending, lambda: encoding.decode_text(b"c/1", [3, 0], 1))
-    tally.raises("offsets past the text", ValueError, descending, lambda: encoding.decode_text(b"c/1", [0, 4], 1))
+    far = "box 1 ends past 18446744073709551615"
+    tally.raises("a box too far", ValueError, far, lambda: grid.chunks_in_array_subset([[0, 0], [GREATEST, 0]], [[1, 1], [1, 1]]))
+    far = "a box ends past 18446744073709551615"
+    tally.raises("a read too far", ValueError, far, lambda: grid.parts(encoding, [GREATEST, 0], [1, 1]))
+    descending = "the offsets of key {} descend, or lie past the text"
+    tally.raises("descending offsets", ValueError, descending.format(0), lambda: encoding.decode_text(b"c/1", [3, 0], 1))
+    tally.raises("offsets past the text", ValueError, descending.format(1), lambda: encoding.decode_text(b"c/1", [0, 3, 4], 1))
     tally.raises("a name", ValueError, "name `no` is not supported", lambda: Grid([1], "no"))
     tally.raises("no extension", ValueError, "not an extension", lambda: Grid([1], 3))
     tally.raises("no encoding", ValueError, "name is missing", lambda: Encoding({}))
@@ -313,7 +318,7 @@ def plan_lengths(tally, library, shape, text, encoding):
 def refused_memory(backend):
     """In a process of its own: under an address space that grows, a call is out of memory or right, writes nothing beside its buffers, and leaves
     the next one right. It prints how many calls ended either way, and ends with the status 1 where one did otherwise."""
-    from zarrs_chunks import _library as library
+    import raw_calls as library
 
     edges = [1] * 20000
     listed = json.dumps({"name": "rectangular", "configuration": {"chunk_shape": [edges]}}).encode()
@@ -386,7 +391,8 @@ def examples(tally, backend):
 
 
 def docstrings(tally):
-    for name in ("zarrs_chunks", "zarrs_chunks._library", "zarrs_chunks._grid", "zarrs_chunks._encoding"):
+    for path in sorted((HERE / "python" / "zarrs_chunks").glob("*.py")):
+        name = f"zarrs_chunks.{path.stem}".removesuffix(".__init__")
         found = doctest.testmod(importlib.import_module(name))
         tally.made += found.attempted
         tally.same(f"docstrings of {name}", found.failed, 0)
@@ -394,7 +400,8 @@ def docstrings(tally):
 
 def in_this_process(backend):
     """All that is asked of one build."""
-    from zarrs_chunks import _library as library
+    import raw_calls as library
+    from python_test import python_package
 
     tally = Tally()
     count = vectors(tally, library)
@@ -403,6 +410,7 @@ def in_this_process(backend):
     keys_against_single_calls(tally, library)
     against_numpy(tally)
     buffers(tally, library)
+    python_package(tally)
     faults(tally, library)
     docstrings(tally)
     examples(tally, backend)

@@ -10,14 +10,20 @@ chunk is stored. `Grid` and `Encoding` answer many questions at once, over numpy
     >>> Encoding("default").encode(chunks)
     ['c/3/2/16', 'c/0/0/0']
 
-Lists of numbers are arrays whose last axis has a number for each dimension; the other axes are those of the answer. Numbers are integers from 0
-to 18446744073709551615 of any integer type, and what is answered is `uint64`. An array that isn't `uint64`, contiguous and aligned is copied. Each
-answer is a new array, so it overlaps nothing. `found` tells where there is an answer; where there is none the numbers are 0.
+Lists of numbers are arrays whose last axis has a number for each dimension; the other axes are those of the answer. Numbers are whole ones from 0
+to 18446744073709551615: ints, numpy's integers, what has `__index__`, and arrays of any integer type. Floats are refused, and so are arrays of
+truth values; an array without items may be of any type. What is answered is `uint64`. An array that isn't `uint64`, contiguous and aligned is
+copied. Each answer is a new array, so it overlaps nothing. `found` tells where there is an answer; where there is none the numbers are 0.
 
-What the library refuses is raised as a `ValueError` with its own words, and want of memory as a `MemoryError`.
+A `Grid` and an `Encoding` keep copies of what they are made of, and never change, so any number of threads may ask them at once. An answer takes
+as much memory as its numbers and keys.
+
+What the library refuses is raised as a ValueError with its own words; what is given of the wrong type as a TypeError, and a wrong value as a
+ValueError, which say in which argument; and too little memory as a MemoryError, after which all objects can be used as before.
 """
 
+from ._answer import answer
 from ._encoding import Encoding
 from ._grid import Grid, Parts
 
-__all__ = ["Encoding", "Grid", "Parts"]
+__all__ = ["Encoding", "Grid", "Parts", "answer"]

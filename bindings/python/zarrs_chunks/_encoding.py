@@ -1,16 +1,22 @@
 """Chunk key encodings."""
 
-import ctypes
-import json
+import itertools
 import math
 
 import numpy as np
 
 from . import _library
+from ._answer import refuse, text_of
+from ._metadata import Metadata
+from ._numbers import list_of_numbers, longest_level, numbers, whole_number
+from ._texts import as_bytes, keys_as_bytes
+
+# An array without items takes no memory, however many lists it stands for.
+_MOST_EMPTY_LISTS = 2**24
 
 
 class Encoding:
-    """A chunk key encoding: under which key each chunk of an array is stored.
+    """A chunk key encoding: under which key each chunk of an array is stored. It never changes, and two are equal that were made of the same.
 
     `chunk_key_encoding` is what the member `chunk_key_encoding` of the array's `zarr.json` holds: an object as a `dict`, or a name alone.
 
@@ -22,12 +28,52 @@ class Encoding:
     """
 
     def __init__(self, chunk_key_encoding):
-        self._chunk_key_encoding = chunk_key_encoding
-        self._text = json.dumps(chunk_key_encoding).encode()
-        self.encode(np.zeros(0, np.uint64))
+        self._metadata = Metadata("chunk_key_encoding", chunk_key_encoding)
+        code, words = text_of("zarrs_encoding_fault", "words", chunk_key_encoding=self._metadata.text)
+        if code != _library.OK:
+            refuse(code, words)
 
     def __repr__(self):
-        return f"Encoding({self._chunk_key_encoding!r})"
+        return f"Encoding({self.metadata!r})"
+
+    def __eq__(self, other):
+        return self._identity() == other._identity() if isinstance(other, Encoding) else NotImplemented
+
+    def __hash__(self):
+        return hash(self._identity())
+
+    def __reduce__(self):
+        return type(self), (self.metadata,)
+
+    def _identity(self):
+        return self._metadata.canonical()
+
+    @property
+    def metadata(self):
+        """What the encoding was made of, as a new `dict` or the name alone.
+
+        >>> Encoding({"name": "v2", "configuration": {"separator": "/"}}).metadata
+        {'name': 'v2', 'configuration': {'separator': '/'}}
+        """
+        return self._metadata.value()
+
+    @property
+    def name(self):
+        """The name of the encoding, as it was given.
+
+        >>> Encoding("default").name
+        'default'
+        """
+        return self._metadata.name()
+
+    @property
+    def configuration(self):
+        """The configuration, as it was given, as a new `dict`; None where there was none.
+
+        >>> Encoding({"name": "v2", "configuration": {"separator": "/"}}).configuration
+        {'separator': '/'}
+        """
+        return self._metadata.configuration()
 
     def encode(self, chunks):
         """The key of each chunk, in lists that nest as the chunks do.
@@ -37,13 +83,13 @@ class Encoding:
         >>> Encoding("default").encode([10, 2])
         'c/10/2'
         """
-        chunks = _library.numbers(chunks)
-        text, offsets = self.encode_text(chunks)
-        ends = offsets.tolist()
-        keys = [text[start:end].decode() for start, end in zip(ends, ends[1:])]
-        for length in reversed(chunks.shape[1:-1]):
-            keys = [keys[start : start + length] for start in range(0, len(keys), length)] if length else []
-        return keys if chunks.ndim > 1 else keys[0]
+        chunks = _chunks(chunks)
+        if chunks.size == 0 and longest_level(chunks.shape[:-1]) > _MOST_EMPTY_LISTS:
+            raise MemoryError(f"chunks: out of memory: keys of an array of the shape {chunks.shape} are too many lists")
+        text, offsets = self._keys(chunks)
+        keys = np.empty(offsets.size - 1, object)
+        keys[:] = keys_between(text, offsets)
+        return keys.reshape(chunks.shape[:-1]).tolist()
 
     def encode_text(self, chunks):
         """The keys of chunks as one text of bytes, and where each begins there, with the end of the last one: for very many keys.
@@ -52,46 +98,72 @@ class Encoding:
         >>> text, offsets.tolist()
         (b'c/0/0c/10/2', [0, 5, 11])
         """
-        chunks = _library.numbers(chunks)
-        if chunks.ndim == 0:
-            raise ValueError("a chunk is a list of numbers, one a dimension")
-        count, dimensionality = math.prod(chunks.shape[:-1]), chunks.shape[-1]
-        offsets, needed = np.zeros(count + 1, np.uint64), ctypes.c_size_t()
-        text = np.empty(count * (2 + 6 * dimensionality), np.uint8)
-        code = self._call("zarrs_keys_of", dimensionality, chunks, text, offsets, ctypes.byref(needed))
-        if code == _library.SHORT_BUFFER:
-            text = np.empty(needed.value, np.uint8)
-            self._call("zarrs_keys_of", dimensionality, chunks, text, offsets, ctypes.byref(needed))
-        return text[: needed.value].tobytes(), offsets
+        return self._keys(_chunks(chunks))
 
     def decode(self, keys, dimensionality):
-        """The chunk with this many numbers whose key each text is, and whether there is one. The chunk may lie outside of the grid.
+        """The chunk with this many numbers whose key each text is, and whether there is one. The chunk may lie outside of the grid. Each key is
+        a `str` or bytes.
 
         >>> chunks, found = Encoding("default").decode(["c/10/2", "c/10/02"], 2)
         >>> chunks.tolist(), found.tolist()
         ([[10, 2], [0, 0]], [True, False])
         """
-        texts = [key.encode() for key in keys]
-        offsets = np.zeros(len(texts) + 1, np.uint64)
-        np.cumsum([len(text) for text in texts], out=offsets[1:])
-        return self.decode_text(b"".join(texts), offsets, dimensionality)
+        dimensionality, texts = whole_number("dimensionality", dimensionality), keys_as_bytes(keys)
+        offsets = np.array([0, *itertools.accumulate(map(len, texts))], np.uint64)
+        return self._chunks_of_keys(b"".join(texts), offsets, dimensionality)
 
     def decode_text(self, text, offsets, dimensionality):
-        """The same of keys as `encode_text` gives them.
+        """The same of keys as `encode_text` gives them. The text is bytes, a bytearray, a memoryview or an array of `uint8`.
 
         >>> Encoding("default").decode_text(b"c/0/0c/10/2", [0, 5, 11], 2)[0].tolist()
         [[0, 0], [10, 2]]
         """
-        offsets = _library.numbers(offsets).reshape(-1)
+        text, offsets = as_bytes("text", text), list_of_numbers("offsets", offsets)
         if offsets.size == 0:
-            raise ValueError("offsets have one number more than there are keys")
-        chunks = np.zeros((offsets.size - 1, dimensionality), np.uint64)
-        found = np.zeros(offsets.size - 1, np.uint8)
-        self._call("zarrs_chunks_of_keys", dimensionality, text, offsets, chunks, found)
+            raise ValueError("offsets: there is one more than there are keys, and none was given")
+        return self._chunks_of_keys(text, offsets, whole_number("dimensionality", dimensionality))
+
+    def _keys(self, chunks):
+        """The keys of chunks as one text, and their offsets."""
+        count, dimensionality = math.prod(chunks.shape[:-1]), chunks.shape[-1]
+        offsets, length, code = _library.room(count + 1), usual_length(count, dimensionality), _library.SHORT_BUFFER
+        while code == _library.SHORT_BUFFER:
+            text = _library.text_room(length)
+            code, told = self._call("zarrs_keys_of", dimensionality=dimensionality, chunks=chunks, text=text, offsets=offsets)
+            if code == _library.SHORT_BUFFER:
+                # Another thread may change the caller's array until the next call; its copy has one length.
+                length, chunks = told["needed"], chunks.copy()
+        if code != _library.OK:
+            refuse(code)
+        return text[: told["needed"]].tobytes(), offsets
+
+    def _chunks_of_keys(self, text, offsets, dimensionality):
+        """The chunks of keys of which nobody changes the text or the offsets meanwhile: the library reads them twice."""
+        chunks, found = _library.room((offsets.size - 1, dimensionality)), _library.room(offsets.size - 1, np.uint8)
+        code, told = self._call("zarrs_chunks_of_keys", dimensionality=dimensionality, text=text, offsets=offsets, chunks=chunks, found=found)
+        if code == _library.WRONG_OFFSETS:
+            refuse(code, f"the offsets of key {told['wrong']} descend, or lie past the text")
+        if code != _library.OK:
+            refuse(code)
         return chunks, found.view(np.bool_)
 
-    def _call(self, name, *arguments):
-        code = _library.call(name, self._text, *arguments)
-        if code != _library.SHORT_BUFFER:
-            _library.check(code, {"chunk_key_encoding": self._chunk_key_encoding, "call": "encode", "of": []})
-        return code
+    def _call(self, name, **arguments):
+        return _library.call(name, chunk_key_encoding=self._metadata.text, **arguments)
+
+
+def _chunks(chunks):
+    chunks = numbers("chunks", chunks)
+    if chunks.ndim == 0:
+        raise ValueError("chunks: a chunk is a list of numbers, one a dimension")
+    return chunks
+
+
+def usual_length(count, dimensionality):
+    """How many bytes so many keys seldom exceed."""
+    return count * (2 + 6 * dimensionality)
+
+
+def keys_between(text, offsets):
+    """The keys of a text, each from an offset up to the next one."""
+    ends = offsets.tolist()
+    return [text[start:end].decode() for start, end in zip(ends, ends[1:])]

@@ -1,14 +1,18 @@
 """Chunk grids."""
 
-import ctypes
-import json
 from typing import NamedTuple
 
 import numpy as np
 
 from . import _library
+from ._answer import refuse, text_of
+from ._encoding import Encoding, keys_between, usual_length
+from ._metadata import Metadata
+from ._numbers import GREATEST, list_of_numbers, lists_of_numbers, whole_number
 
-_GREATEST = 2**64 - 1
+# How much a single answer of `parts` holds at most, which then takes some gigabytes of memory: so many numbers of each kind, where each part
+# counts as four numbers more.
+_MOST_NUMBERS = 2**25
 
 
 class Parts(NamedTuple):
@@ -29,9 +33,10 @@ class Parts(NamedTuple):
 
 
 class Grid:
-    """A chunk grid: the chunks into which an array of this shape is cut.
+    """A chunk grid: the chunks into which an array of this shape is cut. It never changes, and two are equal that were made of the same.
 
-    `chunk_grid` is what the member `chunk_grid` of the array's `zarr.json` holds: an object as a `dict`, or a name alone.
+    `shape` is a list of the array's sizes, in elements, and `chunk_grid` what the member `chunk_grid` of the array's `zarr.json` holds: an object
+    as a `dict`, or a name alone.
 
     >>> Grid([100], {"name": "rectilinear", "configuration": {"kind": "inline", "chunk_shapes": [[[25, 4]]]}}).grid_shape
     (4,)
@@ -41,15 +46,57 @@ class Grid:
     """
 
     def __init__(self, shape, chunk_grid):
-        self._shape = _library.numbers(shape).reshape(-1)
-        self._chunk_grid = chunk_grid
-        self._text = json.dumps(chunk_grid).encode()
-        sizes = np.zeros_like(self._shape)
-        self._call("zarrs_grid_shape", sizes)
+        self._shape = list_of_numbers("shape", shape)
+        self._shape.flags.writeable = False
+        self._metadata = Metadata("chunk_grid", chunk_grid)
+        code, words = text_of("zarrs_grid_fault", "words", shape=self._shape, chunk_grid=self._metadata.text)
+        if code != _library.OK:
+            refuse(code, words)
+        sizes = _library.room(self._shape.shape)
+        self._call("zarrs_grid_shape", grid_shape=sizes)
         self._grid_shape = tuple(sizes.tolist())
 
     def __repr__(self):
-        return f"Grid({list(self.array_shape)}, {self._chunk_grid!r})"
+        return f"Grid({list(self.array_shape)}, {self.metadata!r})"
+
+    def __eq__(self, other):
+        return self._identity() == other._identity() if isinstance(other, Grid) else NotImplemented
+
+    def __hash__(self):
+        return hash(self._identity())
+
+    def __reduce__(self):
+        return type(self), (self.array_shape, self.metadata)
+
+    def _identity(self):
+        return self.array_shape, self._metadata.canonical()
+
+    @property
+    def metadata(self):
+        """The `chunk_grid` that the grid was made of, as a new `dict` or the name alone.
+
+        >>> Grid([5, 7], {"name": "regular", "configuration": {"chunk_shape": (2, 3)}}).metadata
+        {'name': 'regular', 'configuration': {'chunk_shape': [2, 3]}}
+        """
+        return self._metadata.value()
+
+    @property
+    def name(self):
+        """The name of the grid, as it was given.
+
+        >>> Grid([5, 7], {"name": "regular", "configuration": {"chunk_shape": [2, 3]}}).name
+        'regular'
+        """
+        return self._metadata.name()
+
+    @property
+    def configuration(self):
+        """The configuration, as it was given, as a new `dict`; None where there was none.
+
+        >>> Grid([5, 7], {"name": "regular", "configuration": {"chunk_shape": [2, 3]}}).configuration
+        {'chunk_shape': [2, 3]}
+        """
+        return self._metadata.configuration()
 
     @property
     def dimensionality(self):
@@ -86,9 +133,9 @@ class Grid:
         >>> chunks.tolist(), found.tolist()
         ([[2, 2], [0, 0]], [True, False])
         """
-        indices = self._lists(indices)
-        chunks, found = np.zeros_like(indices), self._marks(indices)
-        self._call("zarrs_chunk_indices_of", indices, chunks, found)
+        indices = self._lists("indices", indices)
+        chunks, found = _library.room(indices.shape), _marks(indices)
+        self._call("zarrs_chunk_indices_of", indices=indices, chunks=chunks, found=found)
         return chunks, found.view(np.bool_)
 
     def chunk_element_indices(self, indices):
@@ -109,9 +156,9 @@ class Grid:
         >>> chunks.tolist(), places.tolist(), found.tolist()
         ([[2, 1]], [[0, 2]], [True])
         """
-        indices = self._lists(indices)
-        chunks, places, found = np.zeros_like(indices), np.zeros_like(indices), self._marks(indices)
-        self._call("zarrs_homes_of", indices, chunks, places, found)
+        indices = self._lists("indices", indices)
+        chunks, places, found = _library.room(indices.shape), _library.room(indices.shape), _marks(indices)
+        self._call("zarrs_homes_of", indices=indices, chunks=chunks, places=places, found=found)
         return chunks, places, found.view(np.bool_)
 
     def subset(self, chunks):
@@ -122,9 +169,9 @@ class Grid:
         >>> origins.tolist(), shapes.tolist(), found.tolist()
         ([[4, 6]], [[1, 1]], [True])
         """
-        chunks = self._lists(chunks)
-        origins, shapes, found = np.zeros_like(chunks), np.zeros_like(chunks), self._marks(chunks)
-        self._call("zarrs_chunk_boxes_of", chunks, origins, shapes, found)
+        chunks = self._lists("chunks", chunks)
+        origins, shapes, found = _library.room(chunks.shape), _library.room(chunks.shape), _marks(chunks)
+        self._call("zarrs_chunk_boxes_of", chunks=chunks, origins=origins, shapes=shapes, found=found)
         return origins, shapes, found.view(np.bool_)
 
     def chunks_in_array_subset(self, starts, shapes):
@@ -136,17 +183,18 @@ class Grid:
         >>> first.tolist(), counts.tolist(), bool(found)
         ([0, 0], [2, 2], True)
         """
-        starts, shapes = self._lists(starts), self._lists(shapes)
+        starts, shapes = self._lists("starts", starts), self._lists("shapes", shapes)
         if starts.shape != shapes.shape:
-            raise ValueError(f"there are to be as many shapes as starts, and they are arrays of {shapes.shape} and {starts.shape}")
-        first, counts, found = np.zeros_like(starts), np.zeros_like(starts), self._marks(starts)
-        self._call("zarrs_covers_of", starts, shapes, first, counts, found)
+            raise ValueError(f"shapes: there are to be as many as starts, and the arrays' shapes are {shapes.shape} and {starts.shape}")
+        first, counts, found = _library.room(starts.shape), _library.room(starts.shape), _marks(starts)
+        self._call("zarrs_covers_of", starts=starts, shapes=shapes, first_chunks=first, chunk_counts=counts, found=found)
         return first, counts, found.view(np.bool_)
 
     def parts(self, encoding, start, shape, first=0, most=None):
         """The plan of reading a box of elements, which is given as its start and its shape: the parts of the chunks that hold some of them, in
         row-major order of the chunks. Of the plan the part with the number `first` and those after it, at most `most` of them. `None` where the
-        first or the last element of the box lies in no chunk.
+        first or the last element of the box lies in no chunk. Raises MemoryError where more parts are asked for than one answer holds, some
+        millions.
 
         >>> from zarrs_chunks import Encoding
         >>> grid = Grid([6, 6], {"name": "regular", "configuration": {"chunk_shape": [4, 3]}})
@@ -157,42 +205,48 @@ class Grid:
         >>> parts.chunks.tolist(), parts.in_all
         ([[1, 1]], 4)
         """
-        asked = [_library.numbers(numbers, self.dimensionality).reshape(-1) for numbers in (start, shape)]
-        if [numbers.size for numbers in asked] != [self.dimensionality] * 2:
-            raise ValueError(f"one box is asked for, with {self.dimensionality} numbers each")
-        first, most = _library.numbers([first, _GREATEST if most is None else most]).tolist()
-        none = self._some_parts(encoding, asked, first, 0, 0)
-        if none is None:
+        if not isinstance(encoding, Encoding):
+            raise TypeError(f"encoding: an Encoding is wanted, and not a {type(encoding).__name__}")
+        box = {"start": list_of_numbers("start", start), "box_shape": list_of_numbers("shape", shape)}
+        if [numbers.size for numbers in box.values()] != [self.dimensionality] * 2:
+            raise ValueError(f"start and shape: one box is asked for, with {self.dimensionality} numbers each")
+        first, most = whole_number("first", first), GREATEST if most is None else whole_number("most", most)
+        counted = self._some_parts(encoding, box, first, 0)
+        if counted is None:
             return None
-        room = min(max(0, none[-1] - first), most)
-        return Parts(*self._some_parts(encoding, asked, first, room, room * (2 + 6 * self.dimensionality)))
+        room = min(max(0, counted.in_all - first), most)
+        most_at_once = _MOST_NUMBERS // (self.dimensionality + 4)
+        if room > most_at_once:
+            raise MemoryError(f"out of memory: {room} parts are asked for, and at most {most_at_once} fit into one answer: give `first` and `most`")
+        return self._some_parts(encoding, box, first, room)
 
-    def _some_parts(self, encoding, asked, first, room, text_room):
-        """So many parts of a plan, of which the keys are tried with so much room first."""
-        lists = [np.zeros((room, self.dimensionality), np.uint64) for _ in range(4)]
-        text, offsets = np.empty(text_room, np.uint8), np.zeros(room + 1, np.uint64)
-        needed, count, in_all, found = ctypes.c_size_t(), ctypes.c_size_t(), ctypes.c_uint64(), ctypes.c_uint8()
-        told = [ctypes.byref(number) for number in (needed, count, in_all, found)]
-        code = _library.call(
-            "zarrs_parts_of", self._shape, self._text, encoding._text, *asked, ctypes.c_uint64(first), *lists, text, offsets, *told
-        )
-        if code == _library.SHORT_BUFFER:
-            return self._some_parts(encoding, asked, first, room, needed.value)
-        self._check(code)
-        if not found.value:
+    def _some_parts(self, encoding, box, first, room):
+        """So many parts of the plan of a box, or as many as it has; None where there is no plan. Nobody else has the box's arrays."""
+        lists = {name: _library.room((room, self.dimensionality)) for name in ("chunks", "in_chunk", "in_subset", "shapes")}
+        offsets, length, code = _library.room(room + 1), usual_length(room, self.dimensionality), _library.SHORT_BUFFER
+        asked = {"shape": self._shape, "chunk_grid": self._metadata.text, "chunk_key_encoding": encoding._metadata.text, **box, "first": first}
+        while code == _library.SHORT_BUFFER:
+            text = _library.text_room(length)
+            code, told = _library.call("zarrs_parts_of", **asked, **lists, text=text, offsets=offsets)
+            length = told["needed"]
+        if code != _library.OK:
+            refuse(code)
+        if not told["found"]:
             return None
-        written, ends = text.tobytes(), offsets[: count.value + 1].tolist()
-        keys = [written[start:end].decode() for start, end in zip(ends, ends[1:])]
-        return (*(numbers[: count.value] for numbers in lists), keys, in_all.value)
+        keys = keys_between(text[:length].tobytes(), offsets[: told["count"] + 1])
+        return Parts(*(numbers[: told["count"]] for numbers in lists.values()), keys, told["in_all"])
 
-    def _lists(self, values):
-        return _library.numbers(values, self.dimensionality)
+    def _lists(self, argument, values):
+        return lists_of_numbers(argument, values, self.dimensionality)
 
-    def _marks(self, lists):
-        return np.zeros(lists.shape[:-1], np.uint8)
+    def _call(self, name, **arguments):
+        code, told = _library.call(name, shape=self._shape, chunk_grid=self._metadata.text, **arguments)
+        if code == _library.NOT_A_BOX:
+            refuse(code, f"box {told['wrong']} ends past 18446744073709551615")
+        if code != _library.OK:
+            refuse(code)
 
-    def _call(self, name, *arguments):
-        self._check(_library.call(name, self._shape, self._text, *arguments))
 
-    def _check(self, code):
-        _library.check(code, {"shape": self._shape.tolist(), "chunk_grid": self._chunk_grid, "call": "grid_shape"})
+def _marks(lists):
+    """A byte for each list."""
+    return _library.room(lists.shape[:-1], np.uint8)

@@ -1,96 +1,149 @@
-"""The shared library: where it is, how its calls are made, and what its codes mean."""
+"""The shared library: where it lies, which calls it has, and how each is made.
+
+Every argument of every call passes through `call`. It takes arrays and bytes that are fit for the library, and makes pointers and lengths of
+them. What a caller of the package gives becomes such an array or bytes in `_numbers`, `_texts` and `_metadata`.
+"""
 
 import ctypes
-import json
 import os
 import pathlib
 
 import numpy as np
 
+from . import _processor
+
+# The version of zarrs_chunks.h that the calls below are those of.
+VERSION = 1
+
 OK, OUT_OF_MEMORY, WRONG_LENGTH, NOT_JSON, NOT_METADATA, REFUSED, NOT_A_BOX, WRONG_OFFSETS, SHORT_BUFFER = range(0, -9, -1)
 
-_MEANINGS = {
-    WRONG_LENGTH: "an array has more or fewer items than the others demand",
-    NOT_JSON: "the metadata is no text of JSON",
-    NOT_METADATA: "the metadata is no extension's",
-    REFUSED: "the grid or the encoding is refused",
-    NOT_A_BOX: "a box ends past 18446744073709551615",
-    WRONG_OFFSETS: "offsets descend, or lie past the text",
-}
+# What an argument may be, as its types in C. An array is passed as a pointer and a length.
+_READ, _WRITTEN = "C_CONTIGUOUS,ALIGNED", "C_CONTIGUOUS,ALIGNED,WRITEABLE"
+NUMBERS = (np.ctypeslib.ndpointer(np.uint64, flags=_READ), ctypes.c_size_t)
+BYTES = (ctypes.c_char_p, ctypes.c_size_t)
+WRITTEN_NUMBERS = (np.ctypeslib.ndpointer(np.uint64, flags=_WRITTEN), ctypes.c_size_t)
+WRITTEN_BYTES = (np.ctypeslib.ndpointer(np.uint8, flags=_WRITTEN), ctypes.c_size_t)
+NUMBER, SIZE, CODE = (ctypes.c_uint64,), (ctypes.c_size_t,), (ctypes.c_int32,)
+TOLD_NUMBER, TOLD_SIZE, TOLD_BYTE = ((ctypes.POINTER(kind),) for kind in (ctypes.c_uint64, ctypes.c_size_t, ctypes.c_uint8))
+
+_GRID = {"shape": NUMBERS, "chunk_grid": BYTES}
+_ENCODING = {"chunk_key_encoding": BYTES}
+
+# The calls of zarrs_chunks.h, with the names and the order of their arguments there. Each answers a code, and the first one the version.
+CALLS = {
+    "zarrs_abi_version": {},
+    "zarrs_grid_shape": {**_GRID, "grid_shape": WRITTEN_NUMBERS},
+    "zarrs_chunk_indices_of": {**_GRID, "indices": NUMBERS, "chunks": WRITTEN_NUMBERS, "found": WRITTEN_BYTES},
+    "zarrs_homes_of": {**_GRID, "indices": NUMBERS, "chunks": WRITTEN_NUMBERS, "places": WRITTEN_NUMBERS, "found": WRITTEN_BYTES},
+    "zarrs_chunk_boxes_of": {**_GRID, "chunks": NUMBERS, "origins": WRITTEN_NUMBERS, "shapes": WRITTEN_NUMBERS, "found": WRITTEN_BYTES},
+    "zarrs_covers_of": {
+        **_GRID, "starts": NUMBERS, "shapes": NUMBERS,
+        "first_chunks": WRITTEN_NUMBERS, "chunk_counts": WRITTEN_NUMBERS, "found": WRITTEN_BYTES, "wrong": TOLD_SIZE,
+    },
+    "zarrs_keys_of": {
+        **_ENCODING, "dimensionality": SIZE, "chunks": NUMBERS,
+        "text": WRITTEN_BYTES, "offsets": WRITTEN_NUMBERS, "needed": TOLD_SIZE,
+    },
+    "zarrs_chunks_of_keys": {
+        **_ENCODING, "dimensionality": SIZE, "text": BYTES, "offsets": NUMBERS,
+        "chunks": WRITTEN_NUMBERS, "found": WRITTEN_BYTES, "wrong": TOLD_SIZE,
+    },
+    "zarrs_parts_of": {
+        **_GRID, **_ENCODING, "start": NUMBERS, "box_shape": NUMBERS, "first": NUMBER,
+        "chunks": WRITTEN_NUMBERS, "in_chunk": WRITTEN_NUMBERS, "in_subset": WRITTEN_NUMBERS, "shapes": WRITTEN_NUMBERS,
+        "text": WRITTEN_BYTES, "offsets": WRITTEN_NUMBERS,
+        "needed": TOLD_SIZE, "count": TOLD_SIZE, "in_all": TOLD_NUMBER, "found": TOLD_BYTE,
+    },
+    "zarrs_answer": {"question": BYTES, "line": WRITTEN_BYTES, "needed": TOLD_SIZE},
+    "zarrs_grid_fault": {**_GRID, "words": WRITTEN_BYTES, "needed": TOLD_SIZE},
+    "zarrs_encoding_fault": {**_ENCODING, "words": WRITTEN_BYTES, "needed": TOLD_SIZE},
+    "zarrs_code_words": {"code": CODE, "words": WRITTEN_BYTES, "needed": TOLD_SIZE},
+}  # fmt: skip
+
+_TOLD = {TOLD_NUMBER: ctypes.c_uint64, TOLD_SIZE: ctypes.c_size_t, TOLD_BYTE: ctypes.c_uint8}
+_ITEMS = {NUMBERS: np.dtype(np.uint64), WRITTEN_NUMBERS: np.dtype(np.uint64), WRITTEN_BYTES: np.dtype(np.uint8)}
+
+
+def path():
+    """Where the library lies: what ZARRS_CHUNKS_LIBRARY names, or what `bindings/build.py` made."""
+    named = os.environ.get("ZARRS_CHUNKS_LIBRARY")
+    made = pathlib.Path(__file__).resolve().parents[2] / "out" / "llvm" / "libzarrs_chunks.so"
+    return pathlib.Path(named).absolute() if named else made
 
 
 def _load():
-    """The library that ZARRS_CHUNKS_LIBRARY names, or the one that `bindings/build.py` made."""
-    named = os.environ.get("ZARRS_CHUNKS_LIBRARY")
-    path = pathlib.Path(named) if named else pathlib.Path(__file__).resolve().parents[2] / "out" / "llvm" / "libzarrs_chunks.so"
-    if not path.exists():
-        raise ImportError(f"{path} is missing: run bindings/build.py, or set ZARRS_CHUNKS_LIBRARY")
-    return ctypes.CDLL(str(path))
+    """The functions of the library, by name, each with the types of its arguments."""
+    _processor.check()
+    place = path()
+    if not place.exists():
+        raise ImportError(f"{place} is missing: run bindings/build.py, or set ZARRS_CHUNKS_LIBRARY")
+    functions = {}
+    try:
+        library = ctypes.CDLL(str(place))
+        for name, arguments in CALLS.items():
+            functions[name] = getattr(library, name)
+            functions[name].argtypes = [kind for kinds in arguments.values() for kind in kinds]
+            functions[name].restype = ctypes.c_int32
+    except (OSError, AttributeError) as error:
+        raise ImportError(f"{place} can't be used: {error}") from error
+    version = functions["zarrs_abi_version"]()
+    if version != VERSION:
+        raise ImportError(f"{place} has the version {version} of the calls, and this package is for the version {VERSION}")
+    return functions
 
 
-_LIBRARY = _load()
+_FUNCTIONS = _load()
 
 
-def call(name, *arguments):
-    """Makes a call. An array or bytes are passed as a pointer and a length, a whole number as `size_t`, and else what ctypes takes."""
+def room(shape, kind=np.uint64):
+    """A new array of zeros, which a call may write to. Raises MemoryError where there is no room for it."""
+    return _new(np.zeros, shape, kind)
+
+
+def text_room(length):
+    """A new array of bytes for a text, which hold anything. What a call has written is at its front, and nothing else of it is given out."""
+    return _new(np.empty, length, np.uint8)
+
+
+def _new(make, shape, kind):
+    try:
+        return make(shape, kind)
+    except (MemoryError, OverflowError, ValueError) as error:
+        raise MemoryError(f"out of memory: there is no room for an array of the shape {shape}") from error
+
+
+def call(name, **arguments):
+    """Makes a call, with its arguments by the names of zarrs_chunks.h. Those by which it tells a number aren't given. Answers the code and, by
+    name, the numbers that it told."""
+    kinds = CALLS[name]
+    told = {argument: _TOLD[kind]() for argument, kind in kinds.items() if kind in _TOLD}
+    if arguments.keys() != kinds.keys() - told.keys():
+        raise TypeError(f"{name} takes {', '.join(kinds.keys() - told.keys())}, and was given {', '.join(arguments)}")
     passed = []
-    for argument in arguments:
-        if isinstance(argument, np.ndarray):
-            passed += [ctypes.c_void_p(argument.ctypes.data), ctypes.c_size_t(argument.size)]
-        elif isinstance(argument, bytes):
-            passed += [ctypes.c_char_p(argument), ctypes.c_size_t(len(argument))]
-        elif isinstance(argument, int):
-            passed.append(ctypes.c_size_t(argument))
-        else:
-            passed.append(argument)
-    function = getattr(_LIBRARY, name)
-    function.restype = ctypes.c_int32
-    return function(*passed)
+    for argument, kind in kinds.items():
+        passed += [ctypes.byref(told[argument])] if kind in _TOLD else _passed(argument, kind, arguments[argument])
+    code = _FUNCTIONS[name](*passed)
+    return code, {argument: number.value for argument, number in told.items()}
 
 
-def check(code, question):
-    """Raises what a code means. Where the library refuses the metadata, its words are those of the answer to a question."""
-    if code == OK:
-        return
-    if code == OUT_OF_MEMORY:
-        raise MemoryError("out of memory")
-    if code in (NOT_METADATA, REFUSED):
-        raise ValueError(answer(question).removeprefix("refused: "))
-    raise ValueError(_MEANINGS[code])
+def _passed(argument, kind, value):
+    """An argument as it is passed. Raises TypeError where it isn't fit for the library."""
+    if kind in (NUMBER, SIZE):
+        if type(value) is int and 0 <= value < 2**64:
+            return [value]
+    elif kind is CODE:
+        if type(value) is int and -(2**31) <= value < 2**31:
+            return [value]
+    elif kind is BYTES:
+        if type(value) is bytes:
+            return [value, len(value)]
+    elif _is_fit(kind, value):
+        return [value, value.size]
+    raise TypeError(f"{argument}: the library can't be given this {type(value).__name__}")
 
 
-def answer(question):
-    """The library's answer to a question of `chunkcalls`: compact JSON, or why there is none.
-
-    >>> answer({"chunk_key_encoding": "v2", "call": "encode", "of": [1, 23, 45]})
-    '"1.23.45"'
-    >>> answer({"chunk_key_encoding": "v3", "call": "encode", "of": []})
-    'refused: name `v3` is not supported'
-    """
-    asked = json.dumps(question).encode()
-    line, needed = np.empty(256, np.uint8), ctypes.c_size_t()
-    code = call("zarrs_answer", asked, line, ctypes.byref(needed))
-    if code == SHORT_BUFFER:
-        line = np.empty(needed.value, np.uint8)
-        code = call("zarrs_answer", asked, line, ctypes.byref(needed))
-    if code != OK:
-        raise MemoryError("out of memory")
-    return line[: needed.value].tobytes().decode().removesuffix("\n")
-
-
-def numbers(values, dimensionality=None):
-    """Whole numbers as an array that the library reads: `uint64`, contiguous and aligned; a copy only where the array isn't that."""
-    array = np.asarray(values)
-    kind = array.dtype
-    if kind == np.float64 and not isinstance(values, np.ndarray):
-        # A list without numbers, or with some from 2 ** 63 on, which numpy takes for floats.
-        array = np.asarray(values, object)
-    if array.dtype == object and all(isinstance(value, int) and 0 <= value < 2**64 for value in array.flat):
-        array = array.astype(np.uint64)
-    if array.dtype.kind not in "iu":
-        raise TypeError(f"whole numbers are wanted, and the array is of {kind}")
-    if array.dtype.kind == "i" and array.size > 0 and array.min() < 0:
-        raise ValueError("numbers below 0 are no indices")
-    if dimensionality is not None and (array.ndim == 0 or array.shape[-1] != dimensionality):
-        raise ValueError(f"the last axis is to have {dimensionality} numbers, one a dimension, and the array's shape is {array.shape}")
-    return np.require(array, np.uint64, ["C", "A"])
+def _is_fit(kind, array):
+    """Whether the library may read an array, or write to it: then it is one that `room` or `text_room` made, whole."""
+    if type(array) is not np.ndarray or array.dtype != _ITEMS[kind] or not (array.flags.c_contiguous and array.flags.aligned):
+        return False
+    return kind is NUMBERS or (array.flags.writeable and array.flags.owndata)
