@@ -1,6 +1,6 @@
 """What the Python package takes, refuses and keeps: `test.py` runs it.
 
-Each group of comparisons is a function over the tally of `test.py`.
+Each group of comparisons is a function over the tally of `test.py`. Beside them `fuzz.py` gives each call any values.
 """
 import array
 import copy

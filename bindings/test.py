@@ -10,7 +10,8 @@ one. What is compared:
 - batches and plans with the same questions one by one, and batches with numpy's own division and `searchsorted`;
 - each call at one to three hundred dimensions with plain arithmetic, and each fault of each call, alone and with a later one (`faults.py`);
 - no lists, null, strided, misaligned and negative numbers, other types, buffers of other lengths, offsets that descend;
-- what the Python package takes, refuses and keeps, also while another thread changes it (`python_test.py`);
+- what the Python package takes, refuses and keeps, also while another thread changes it (`python_test.py`), and any values for all its arguments
+  (`fuzz.py`);
 - memory that is refused: under an address space that gets smaller, and allocation by allocation;
 - the examples in C, Python and Rust, the C one under memcheck, and those of the docstrings.
 """
@@ -436,6 +437,7 @@ def main():
         environment = {**os.environ, "ZARRS_CHUNKS_LIBRARY": str(HERE / "out" / backend / "libzarrs_chunks.so")}
         for more in ([], ["--memory"]):
             ended.append(subprocess.run([sys.executable, __file__, "--backend", backend, *more], env=environment).returncode)
+        ended.append(subprocess.run([sys.executable, HERE / "fuzz.py", "--seconds", "5"], env=environment).returncode)
     sys.exit(1 if any(ended) else 0)
 
 

@@ -1,0 +1,514 @@
+#!/usr/bin/env python3
+"""Gives any values to the arguments of the Python package's public calls, and tells what they do that they shouldn't.
+
+    bindings/fuzz.py [--seconds 5] [--seed 1]
+    bindings/fuzz.py --seed 17 --call 203
+
+It needs numpy and the shared library, as the package does. The calls are made in processes of their own, each with a seed, and each call draws its
+values from the seed and its number alone; so the second form makes one call again. A call may answer, or raise TypeError or ValueError with words,
+or MemoryError. Where the values are whole numbers in any dress, it has to answer, and the answer is compared with plain arithmetic; where one of
+them is no such number, it has to be refused. It is a fault besides where a process is ended by a signal, as it is by a call that takes longer than
+30 seconds. The status is then 1.
+"""
+import argparse
+import array
+import itertools
+import json
+import os
+import pathlib
+import pickle
+import random
+import resource
+import signal
+import subprocess
+import sys
+import tempfile
+import time
+
+HERE = pathlib.Path(__file__).resolve().parent
+sys.path[:0] = [str(HERE / "python"), str(HERE)]
+sys.dont_write_bytecode = True
+
+GREATEST = 2**64 - 1
+CALLS_OF_A_SEED = 3000
+LONGEST = 30  # seconds
+MOST_MEMORY = 2**30  # bytes of address space, beside what the process has at first
+REFUSED = "refused"
+ALLOWED = (TypeError, ValueError, MemoryError)
+
+
+class Wrong(Exception):
+    """A call did what it shouldn't."""
+
+
+# ---- values of any kind
+
+
+class Index:
+    """An object with an `__index__`, which may be no number."""
+
+    def __init__(self, number):
+        self.number = number
+
+    def __index__(self):
+        return self.number
+
+
+class Raising:
+    """An object whose methods raise an error."""
+
+    def __init__(self, error):
+        self.error = error
+
+    def fail(self, *_arguments, **_named):
+        raise self.error
+
+    __array__ = __index__ = __len__ = __iter__ = __getitem__ = __float__ = __bytes__ = fail
+
+
+class Lying:
+    """A sequence that says another length than it has."""
+
+    def __init__(self, told, items):
+        self.told, self.items = told, items
+
+    def __len__(self):
+        return self.told
+
+    def __getitem__(self, place):
+        return self.items[place]
+
+    def __array__(self, *_arguments, **_named):
+        return self.items
+
+
+def any_number(rng):
+    near = rng.choice([0, 1, 2, 5, 255, 2**31, 2**32, 2**53, 2**63, 2**64, 2**70, 10**5000])
+    return rng.choice([1, -1]) * (near + rng.randrange(-2, 3))
+
+
+def any_text(rng):
+    return rng.choice(
+        ["", "c", "c/1", "default", "v2", "regular", "\ud800", "c/\udcff", "\0", "é漢", "0" * 5000, "nan", "18446744073709551616", "[1]", "null"]
+    )
+
+
+def any_bytes(rng):
+    return rng.choice([b"", b"c/1", b"c/1c/2", b"\xff\xfe", b"\0" * 9, bytes(rng.randrange(256) for _ in range(rng.randrange(40)))])
+
+
+def any_shape(rng):
+    shape = [rng.choice([0, 1, 1, 2, 2, 3, 5]) for _ in range(rng.randrange(5))]
+    if shape and rng.random() < 0.05:
+        shape[0] = rng.choice([10**4, 2**31, 2**40])
+        return [*shape, 0] if rng.random() < 0.5 else shape
+    return shape
+
+
+def any_array(rng):
+    kind = rng.choice("? b B h H i I q Q e f d g F D S3 U2 V5 O M8[s] m8[s] >u8 >i4 <i8 u8,u8".split())
+    shape = any_shape(rng)
+    if any(size > 10 for size in shape):
+        return np.broadcast_to(np.zeros((), kind), shape)
+    numbers = np.zeros(shape, kind)
+    if numbers.dtype.kind in "biufO" and numbers.size:
+        numbers.ravel()[:] = np.array([rng.choice([0, 1, 3, 100]) for _ in range(numbers.size)]).astype(numbers.dtype)
+    return any_layout(rng, numbers)
+
+
+def any_layout(rng, numbers):
+    """The same items, laid out otherwise in memory."""
+    how = rng.randrange(8)
+    if numbers.dtype.hasobject or numbers.ndim == 0 or how == 0:
+        return numbers
+    if how == 1:
+        return np.asfortranarray(numbers)
+    if how == 2:
+        return np.repeat(numbers, 2, axis=0)[::2]
+    if how == 3:
+        return np.flip(np.flip(numbers).copy())
+    if how == 4 and numbers.size:
+        shifted = np.zeros(numbers.nbytes + 1, np.uint8)[1:].view(numbers.dtype).reshape(numbers.shape)
+        shifted[...] = numbers
+        return shifted
+    if how == 5:
+        numbers = numbers.copy()
+        numbers.flags.writeable = False
+    if how == 6:
+        return numbers.view(type("Derived", (np.ndarray,), {}))
+    return numbers.astype(numbers.dtype.newbyteorder()) if how == 7 else numbers
+
+
+def any_object(rng):
+    errors = [IndexError, KeyError, RuntimeError, ZeroDivisionError, StopIteration, RecursionError]
+    errors += [OverflowError, AttributeError, OSError, MemoryError]
+    regular = {"name": "regular", "configuration": {"chunk_shape": [1]}}
+    endless, deep = [], []
+    endless.append(endless)
+    for _ in range(rng.choice([30, 200, 5000])):
+        deep = [deep]
+    makers = [
+        lambda: None, lambda: rng.random() < 0.5, lambda: rng.choice([0.0, -0.0, 1.0, 0.5, 1e308, float("nan"), float("inf")]), lambda: 1j,
+        lambda: Raising(rng.choice(errors)("of its own")), lambda: Index(rng.choice([1, -1, 2**64, "1", None, 1.0])), lambda: endless, lambda: deep,
+        lambda: Lying(rng.choice([-1, 0, 1, 2**70, "1"]), rng.choice([[1], [1, 2], None, np.zeros(2)])), lambda: {1, 2}, lambda: {"name": {1}}, dict,
+        lambda: (number for number in [1, 2]), lambda: range(rng.randrange(4)), lambda: Grid([5], regular), lambda: Encoding("v2"),
+        lambda: {rng.choice([1, None, "name", b"name"]): any_value(rng)}, lambda: rng.choice([np.uint64, np.int8, np.float32, np.bool_])(1),
+        lambda: Grid, lambda: len, lambda: np.str_("c/1"),
+        lambda: array.array("Q", [1, 2]), lambda: array.array("d", [1]), lambda: np.datetime64("NaT"), lambda: np.ma.masked, lambda: Ellipsis, object,
+    ]  # fmt: skip
+    return rng.choice(makers)()
+
+
+def any_value(rng):
+    how = rng.randrange(8)
+    if how == 0:
+        return any_number(rng)
+    if how == 1:
+        return any_text(rng)
+    if how == 2:
+        given = any_bytes(rng)
+        return rng.choice([given, bytearray(given), memoryview(given), memoryview(given)[:: rng.choice([1, 2, -1])], np.bytes_(given)])
+    if how in (3, 4):
+        return any_array(rng)
+    if how == 5:
+        return [any_value(rng) if rng.random() < 0.2 else rng.choice([1, 2, np.uint64(3)]) for _ in range(rng.randrange(4))]
+    return any_object(rng)
+
+
+# ---- values that stand for whole numbers
+
+
+def dressed(rng, numbers):
+    """Whole numbers in another form: an array of uint64 becomes lists, objects, or an array of another type and layout."""
+    most = int(numbers.max()) if numbers.size else 0
+    if numbers.size == 0:
+        return numbers.astype(rng.choice(["f8", "u8", "i4", "?", "O"]))
+    how = rng.randrange(6)
+    if how == 0:
+        return numbers.tolist()
+    if how == 1:
+        scalars = [kind for kind in (np.uint64, np.int64, np.uint8, int, Index) if kind not in (np.int64, np.uint8) or most <= np.iinfo(kind).max]
+        objects = np.empty(numbers.size, object)
+        objects[:] = [rng.choice(scalars)(number) for number in numbers.ravel().tolist()]
+        objects = objects.reshape(numbers.shape)
+        return objects if rng.random() < 0.3 else objects.tolist()
+    if how == 2 and numbers.ndim > 1:
+        return rng.choice([list, tuple])(numbers)
+    fitting = [kind for kind in ("u8", "i8", "u4", "i4", "u2", "i2", "u1", "i1", ">u8", ">i8", "O") if kind == "O" or most <= np.iinfo(kind).max]
+    return any_layout(rng, numbers.astype(rng.choice(fitting)))
+
+
+def draw(rng, good):
+    """A good value and True, or any value and False."""
+    return (good, True) if rng.random() < 0.7 else (any_value(rng), False)
+
+
+def spoiled(rng, numbers):
+    """Numbers of which one is no whole number from 0 to 18446744073709551615."""
+    place, how = rng.randrange(numbers.size), rng.randrange(4)
+    if how == 0:
+        kind = rng.choice(["i1", "i8", ">i4"])
+        signed = (numbers & np.uint64(127)).astype(kind)
+        signed.ravel()[place] = -rng.choice([1, 128])
+        return any_layout(rng, signed)
+    objects = numbers.astype(object)
+    objects.ravel()[place] = rng.choice(
+        [-1, 2**64, 10**5000, -(2**63), 0.5, 1.0, None, "1", np.float64(1), Index(2**64), Index(-1), Index("1"), np.int8(-1)]
+    )
+    return objects if how == 1 else objects.tolist()
+
+
+def draw_lists(rng, lists, width):
+    """Lists of so many numbers, in some shape and dress, and what they stand for, as an array. That is None where any value is taken instead, and
+    REFUSED where one of them is no such number."""
+    numbers = np.array(lists, np.uint64).reshape(len(lists), width)
+    how = rng.random()
+    if how < 0.3:
+        return any_value(rng), None
+    if how < 0.4 and numbers.size:
+        return spoiled(rng, numbers), REFUSED
+    shapes = [numbers.shape, (1, *numbers.shape), (len(lists), 1, width)]
+    shapes += [(width,)] if len(lists) == 1 else []
+    numbers = numbers.reshape(rng.choice(shapes))
+    return dressed(rng, numbers), numbers
+
+
+def some_lists(rng, sizes):
+    """Lists of numbers, most of them below these sizes."""
+    return [[number_near(rng, size) for size in sizes] for _ in range(rng.choice([0, 1, 1, 2, 7]))]
+
+
+def number_near(rng, size):
+    return rng.choice([rng.randrange(size), rng.randrange(size), size, rng.choice([0, GREATEST, 2**63, size + 1])])
+
+
+# ---- calls, and what they may answer
+
+
+def attempt(call):
+    """The answer of a call, and whether there is one; what it raises has to be an allowed error with words."""
+    try:
+        return call(), True
+    except ALLOWED as error:
+        if not isinstance(error, MemoryError) and (type(error) not in ALLOWED or not str(error) or "ctypes" in str(error)):
+            raise Wrong(f"raised {error!r}") from error
+        return error, False
+    except Exception as error:
+        raise Wrong(f"raised {error!r}") from error
+
+
+def demand(what, found, expected):
+    if found != expected:
+        raise Wrong(f"{what}: {str(found)[:300]}, and {str(expected)[:300]} is right")
+
+
+def check_form(answer):
+    """The arrays of a batch are uint64, new and of one shape, and the last one says which answers there are."""
+    *lists, found = answer
+    demand("types", [part.dtype for part in answer], [np.dtype(np.uint64)] * len(lists) + [np.dtype(bool)])
+    demand("shapes", {part.shape[:-1] for part in lists}, {found.shape})
+    for part in lists:
+        demand("numbers of no answer", bool(part[~found].any()), False)
+
+
+def check_batch(answer, is_answered, numbers, expected):
+    """The answer to lists of numbers, beside plain arithmetic: `expected` gives the lists of one answer, or None."""
+    if numbers is None or numbers is REFUSED:
+        if is_answered:
+            check_form(answer)
+            demand("an answer to what are no such numbers", numbers, None)
+        return
+    if not is_answered:
+        raise Wrong(f"{numbers.tolist()} is refused: {answer!r}")
+    check_form(answer)
+    *lists, found = answer
+    demand("shapes", [part.shape for part in lists], [numbers.shape] * len(lists))
+    width = numbers.shape[-1]
+    rows = [numbers.reshape(found.size, width).tolist(), *(part.reshape(found.size, width).tolist() for part in lists)]
+    for index, *parts, mark in zip(*rows, found.ravel().tolist()):
+        right = expected(index)
+        demand(index, parts if mark else None, None if right is None else list(right))
+
+
+def model_of(rng, most_dimensions=3):
+    model = Bounded(rng, rng.randrange(most_dimensions + 1))
+    return model, Grid(model.shape, json.loads(model.text))
+
+
+def ask_of_grid(rng):
+    model, grid = model_of(rng)
+    calls = {
+        "chunk_indices": lambda index: None if model.home(index) is None else model.home(index)[:1],
+        "chunk_element_indices": lambda index: None if model.home(index) is None else model.home(index)[1:],
+        "find_home": model.home, "subset": model.box,
+    }  # fmt: skip
+    name = rng.choice(list(calls))
+    given, numbers = draw_lists(rng, some_lists(rng, model.counts if name == "subset" else model.shape), len(model.shape))
+    answer, is_answered = attempt(lambda: getattr(grid, name)(given))
+    check_batch(answer, is_answered, numbers, calls[name])
+
+
+def ask_covers(rng):
+    model, grid = model_of(rng)
+    starts = some_lists(rng, model.shape)
+    shapes = [
+        [0 if start + size > GREATEST else rng.choice([0, 1, rng.randrange(size + 1)]) for start, size in zip(row, model.shape)] for row in starts
+    ]
+    width = len(model.shape)
+    numbers = [np.array(lists, np.uint64).reshape(len(starts), width) for lists in (starts, shapes)]
+    given = [draw(rng, dressed(rng, part)) for part in numbers]
+    answer, is_answered = attempt(lambda: grid.chunks_in_array_subset(given[0][0], given[1][0]))
+    if given[0][1] and given[1][1]:
+        boxes = iter(shapes)
+        check_batch(answer, is_answered, numbers[0], lambda start: model.cover(start, next(boxes)))
+    elif is_answered:
+        check_form(answer)
+
+
+def ask_parts(rng):
+    model, grid = model_of(rng)
+    start = [rng.randrange(size) for size in model.shape]
+    sizes = [rng.choice([0, 1, rng.randrange(min(9, size - begin) + 1), size - begin + 1]) for begin, size in zip(start, model.shape)]
+    first, most = rng.choice([0, 0, 1, 7, 10**6, GREATEST]), rng.choice([None, 0, 1, 3, 10**4, GREATEST])
+    drawn = [draw(rng, good) for good in (Encoding("default"), dressed(rng, np.array(start, np.uint64)), dressed(rng, np.array(sizes, np.uint64)))]
+    drawn += [draw(rng, first), draw(rng, most)]
+    answer, is_answered = attempt(lambda: grid.parts(*(value for value, _good in drawn)))
+    if not all(good for _value, good in drawn):
+        return
+    if not is_answered:
+        raise Wrong(f"the parts of {start} {sizes} from {first} at most {most} are refused: {answer!r}")
+    cover = model.cover(start, sizes)
+    demand("whether there is a plan", answer is not None, cover is not None)
+    if answer is not None:
+        counted = 1
+        for count in cover[1]:
+            counted *= count
+        right = list(model.parts(start, sizes))[first : None if most is None else first + most] if counted else []
+        rows = list(zip(*(part.tolist() for part in answer[:4])))
+        demand("parts", (rows, answer.keys, answer.in_all), (right, [key_of(part[0]) for part in right], counted))
+
+
+def ask_keys(rng):
+    width = rng.randrange(4)
+    encoding = Encoding(rng.choice(["default", {"name": "default", "configuration": {"separator": "/"}}]))
+    given, numbers = draw_lists(rng, some_lists(rng, [rng.choice([1, 10, 2**40])] * width), width)
+    name = rng.choice(["encode", "encode_text"])
+    answer, is_answered = attempt(lambda: getattr(encoding, name)(given))
+    if numbers is None or numbers is REFUSED:
+        demand("an answer to what are no such numbers", is_answered and numbers is REFUSED, False)
+        return
+    if not is_answered:
+        raise Wrong(f"{numbers.tolist()} has no keys: {answer!r}")
+    keys = list(map(key_of, numbers.reshape(-1, width).tolist() if width else [[]] * int(np.prod(numbers.shape[:-1]))))
+    if name == "encode_text":
+        offsets = list(itertools.accumulate(map(len, keys), initial=0))
+        demand("keys", (answer[0], answer[1].tolist(), answer[1].dtype), ("".join(keys).encode(), offsets, np.dtype(np.uint64)))
+        return
+    nested = np.empty(len(keys), object)
+    nested[:] = keys
+    demand("keys", answer, nested.reshape(numbers.shape[:-1]).tolist())
+
+
+def ask_chunks_of_keys(rng):
+    width = rng.choice([0, 1, 2, 2, 5])
+    chunks = some_lists(rng, [rng.choice([1, 10, 2**40])] * width)
+    no_keys = ["", "c", "c/01", "c/1/", "/", "c/+1", "c/18446744073709551616", "0", "é"]
+    keys = [key_of(chunk) if rng.random() < 0.8 else rng.choice(no_keys) for chunk in chunks]
+    right = [chunk_of(key, width) for key in keys]
+    expected = [chunk or [0] * width for chunk in right], [chunk is not None for chunk in right]
+    dimensionality = draw(rng, rng.choice([int, np.int64, np.uint8, Index])(width))
+    encoding = Encoding("default")
+    if rng.random() < 0.5:
+        dress = rng.choice([str, str.encode, lambda key: bytearray(key.encode()), lambda key: memoryview(key.encode()), np.str_])
+        drawn = [draw(rng, rng.choice([list, tuple, iter])(map(dress, keys))), dimensionality]
+        answer, is_answered = attempt(lambda: encoding.decode(*(value for value, _good in drawn)))
+    else:
+        texts = [key.encode() for key in keys]
+        text, offsets = b"".join(texts), np.array(list(itertools.accumulate(map(len, texts), initial=0)), np.uint64)
+        laid = rng.choice([bytes, bytearray, memoryview, lambda text: memoryview(text[::-1])[::-1], lambda text: any_layout(rng, as_array(text))])
+        drawn = [draw(rng, laid(text)), draw(rng, dressed(rng, offsets)), dimensionality]
+        answer, is_answered = attempt(lambda: encoding.decode_text(*(value for value, _good in drawn)))
+    if all(good for _value, good in drawn):
+        if not is_answered:
+            raise Wrong(f"{keys} are refused: {answer!r}")
+        demand(keys, (answer[0].tolist(), answer[1].tolist()), expected)
+    if is_answered:
+        check_form(answer)
+
+
+def as_array(text):
+    return np.frombuffer(text, np.uint8)
+
+
+def chunk_of(key, width):
+    """The chunk with so many numbers whose key this is, by the rules of the default encoding."""
+    start, *numbers = key.split("/")
+    if start != "c" or len(numbers) != width or not all(number.isascii() and number.isdigit() and str(int(number)) == number for number in numbers):
+        return None
+    chunk = [int(number) for number in numbers]
+    return chunk if all(number <= GREATEST for number in chunk) else None
+
+
+def make_things(rng):
+    """Grids and encodings of any values, and what each made one is asked for."""
+    edges = [rng.randrange(1, 5) for _ in range(rng.randrange(3))]
+    shape = draw(rng, dressed(rng, np.array([7] * len(edges), np.uint64)))
+    configuration = {"chunk_shape": draw(rng, dressed(rng, np.array(edges, np.uint64)))[0]}
+    metadata = {"name": draw(rng, "regular")[0], "configuration": draw(rng, configuration)[0]}
+    for make in (
+        lambda: Grid(shape[0], draw(rng, metadata)[0]), lambda: Encoding(any_value(rng)),
+        lambda: Encoding({"name": draw(rng, "v2")[0], "configuration": draw(rng, {"separator": draw(rng, "/")[0]})[0]}),
+    ):  # fmt: skip
+        made, is_made = attempt(make)
+        if is_made:
+            again, _is_made = attempt(lambda: (eval(repr(made)), pickle.loads(pickle.dumps(made)), {made: 1}))
+            demand("copies", again[:2], (made, made))
+            demand("its form", (type(made.metadata) in (str, dict), type(made.name), made == any_text(rng)), (True, str, False))
+
+
+def ask_any_question(rng):
+    model, grid = model_of(rng, 2)
+    calls = "dimensionality array_shape grid_shape configuration metadata chunk_shape chunk_origin subset chunk_indices locate chunks_subset".split()
+    calls += "chunks_in_array_subset iter_chunk_indices iter_chunk_subsets parts encode decode".split()
+    index = [rng.randrange(size) for size in model.shape]
+    of = rng.choice([index, [index, [1] * len(index)], "c/1", 0])
+    members = {
+        "call": rng.choice(calls), "shape": model.shape, "chunk_grid": grid.metadata, "chunk_key_encoding": "default", "of": of,
+        "items": rng.choice([0, 1, 100, GREATEST]), "dimensionality": rng.choice([0, 1, 2, GREATEST]),
+    }  # fmt: skip
+    question = {name: value if rng.random() < 0.9 else any_value(rng) for name, value in members.items() if rng.random() < 0.95}
+    told, is_answered = attempt(lambda: answer(draw(rng, question)[0]))
+    if is_answered and not told.startswith(("refused: ", "unreadable: ")):
+        json.loads(told)
+
+
+KINDS = (ask_of_grid, ask_of_grid, ask_covers, ask_parts, ask_keys, ask_chunks_of_keys, make_things, ask_any_question)
+
+
+# ---- processes
+
+
+def make_calls(seed, numbers, at, deadline):
+    """In a process of its own: makes the calls with these numbers, and leaves in a file the number of the one that it is at."""
+    used = int(pathlib.Path("/proc/self/statm").read_text().split()[0]) * resource.getpagesize()
+    resource.setrlimit(resource.RLIMIT_AS, (used + MOST_MEMORY, resource.RLIM_INFINITY))
+    np.seterr(all="ignore")
+    wrong = made = 0
+    for number in numbers:
+        if time.monotonic() > deadline or wrong >= 5:
+            break
+        os.pwrite(at, b"%20d" % number, 0)
+        signal.alarm(LONGEST)
+        rng = random.Random(f"{seed} {number}")
+        kind = rng.choice(KINDS)
+        try:
+            kind(rng)
+        except Wrong as fault:
+            wrong += 1
+            print(f"seed {seed}, call {number}, {kind.__name__}: {fault}", flush=True)
+        signal.alarm(0)
+        made += 1
+    os.pwrite(at, b"%20d" % made, 32)
+    return wrong
+
+
+def one_seed(seed, deadline, call):
+    """Makes the calls of a seed. Gives how many were made and whether one did what it shouldn't."""
+    with tempfile.TemporaryFile() as at:
+        words = [sys.executable, "-W", "ignore", __file__, "--seed", str(seed), "--at", str(at.fileno()), "--until", str(deadline)]
+        ended = subprocess.run(words + ([] if call is None else ["--call", str(call)]), pass_fds=[at.fileno()]).returncode
+        told = os.pread(at.fileno(), 64, 0)
+        if ended < 0 or len(told) < 52:
+            how = f"by signal {-ended} ({signal.Signals(-ended).name})" if ended < 0 else f"with status {ended}"
+            print(f"seed {seed}, call {told[:20].decode().strip()}: the process ended {how}", flush=True)
+            return int(told[:20] or b"0"), True
+        return int(told[32:]), ended != 0
+
+
+def main():
+    parser = argparse.ArgumentParser()
+    parser.add_argument("--seconds", type=float, default=5)
+    parser.add_argument("--seed", type=int, default=1)
+    parser.add_argument("--call", type=int)
+    parser.add_argument("--at", type=int, help=argparse.SUPPRESS)
+    parser.add_argument("--until", type=float, help=argparse.SUPPRESS)
+    chosen = parser.parse_args()
+    if chosen.at is not None:
+        numbers = range(CALLS_OF_A_SEED) if chosen.call is None else [chosen.call]
+        sys.exit(1 if make_calls(chosen.seed, numbers, chosen.at, chosen.until) else 0)
+    deadline = time.monotonic() + chosen.seconds
+    seed, calls, faults = chosen.seed, 0, 0
+    while seed == chosen.seed or (chosen.call is None and time.monotonic() < deadline):
+        made, is_wrong = one_seed(seed, deadline, chosen.call)
+        seed, calls, faults = seed + 1, calls + made, faults + is_wrong
+    print(f"{calls} calls with any values, by {seed - chosen.seed} seeds from {chosen.seed} on, {faults} of them with faults")
+    sys.exit(1 if faults else 0)
+
+
+if __name__ == "__main__":
+    import numpy as np
+
+    if "--at" in sys.argv:
+        from faults import Bounded, key_of
+        from zarrs_chunks import Encoding, Grid, answer
+    main()
