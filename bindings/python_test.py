@@ -5,6 +5,7 @@ Each group of comparisons is a function over the tally of `test.py`. Beside them
 import array
 import copy
 import ctypes
+import itertools
 import json
 import pathlib
 import pickle
@@ -13,7 +14,7 @@ import resource
 import threading
 
 import numpy as np
-from zarrs_chunks import Encoding, Grid, _library, _processor, answer
+from zarrs_chunks import Encoding, Grid, _library, _processor, _texts, answer
 from zarrs_chunks._answer import refuse
 
 GREATEST = 2**64 - 1
@@ -290,8 +291,13 @@ def huge(tally):
     last = [f"c/{10**12 - 1}/{10**6 - 1}"]
     tally.same("the last of them, all from it on", grid.parts(encoding, [0, 0], shape, 10**18 - 1).keys, last)
     tally.same("the last of them, with the most after it", grid.parts(encoding, [0, 0], shape, 10**18 - 1, GREATEST).keys, last)
-    for shape in ((2**40, 0, 2), (2**20, 2**20, 0, 1), (2**40, 0)):
+    for shape in ((2**40, 0, 2), (2**20, 2**20, 0, 1), (2**40, 0), (2**24 + 1, 0)):
         tally.same(f"keys of {shape}", kind_of_error(lambda: encoding.encode(np.zeros(shape))), MemoryError)
+    most, _texts.MOST_KEYS = _texts.MOST_KEYS, 1000
+    more = "keys: out of memory: more than 1000 keys are given at once; `decode_text` takes more"
+    tally.raises("keys without end", MemoryError, more, lambda: encoding.decode(itertools.repeat("c/1"), 1))
+    tally.same("as many keys as are taken", len(encoding.decode(["c/1"] * 1000, 1)[1]), 1000)
+    _texts.MOST_KEYS = most
     lists = np.broadcast_to(np.uint64(1), (2**45, 2))
     for call in (grid.chunk_indices, grid.find_home, grid.subset, encoding.encode, encoding.encode_text):
         tally.same("more lists than fit", kind_of_error(lambda: call(lists)), MemoryError)

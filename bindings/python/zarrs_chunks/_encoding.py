@@ -9,10 +9,7 @@ from . import _library
 from ._answer import refuse, text_of
 from ._metadata import Metadata
 from ._numbers import list_of_numbers, longest_level, numbers, whole_number
-from ._texts import as_bytes, keys_as_bytes
-
-# An array without items takes no memory, however many lists it stands for.
-_MOST_EMPTY_LISTS = 2**24
+from ._texts import MOST_KEYS, as_bytes, keys_as_bytes
 
 
 class Encoding:
@@ -76,7 +73,7 @@ class Encoding:
         return self._metadata.configuration()
 
     def encode(self, chunks):
-        """The key of each chunk, in lists that nest as the chunks do.
+        """The key of each chunk, in lists that nest as the chunks do. Raises MemoryError where there are more than 16777216.
 
         >>> Encoding("default").encode([[0, 0], [10, 2]])
         ['c/0/0', 'c/10/2']
@@ -84,8 +81,9 @@ class Encoding:
         'c/10/2'
         """
         chunks = _chunks(chunks)
-        if chunks.size == 0 and longest_level(chunks.shape[:-1]) > _MOST_EMPTY_LISTS:
-            raise MemoryError(f"chunks: out of memory: keys of an array of the shape {chunks.shape} are too many lists")
+        # An array without items takes no memory, and may yet be very many lists.
+        if longest_level(chunks.shape[:-1]) > MOST_KEYS:
+            raise MemoryError(f"chunks: out of memory: more than {MOST_KEYS} keys or lists of them are wanted at once; `encode_text` gives more")
         text, offsets = self._keys(chunks)
         keys = np.empty(offsets.size - 1, object)
         keys[:] = keys_between(text, offsets)
@@ -102,7 +100,7 @@ class Encoding:
 
     def decode(self, keys, dimensionality):
         """The chunk with this many numbers whose key each text is, and whether there is one. The chunk may lie outside of the grid. Each key is
-        a `str` or bytes.
+        a `str` or bytes. Raises MemoryError where there are more than 16777216.
 
         >>> chunks, found = Encoding("default").decode(["c/10/2", "c/10/02"], 2)
         >>> chunks.tolist(), found.tolist()

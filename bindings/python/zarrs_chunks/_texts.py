@@ -1,6 +1,11 @@
 """Bytes and keys, as they are given and as the library takes them."""
 
+import itertools
+
 from ._reading import reading
+
+# How many keys are taken or given out in one call as Python's own texts, which take a gigabyte then.
+MOST_KEYS = 2**24
 
 
 def as_bytes(argument, text):
@@ -28,7 +33,7 @@ def _bytes_of(text):
 
 
 def keys_as_bytes(keys):
-    """Each of some keys, which are `str` or bytes.
+    """Each of some keys, which are `str` or bytes. Raises MemoryError where there are more than `MOST_KEYS`, as of an iterator without end.
 
     >>> keys_as_bytes(["c/1", b"c/2"])
     [b'c/1', b'c/2']
@@ -39,7 +44,10 @@ def keys_as_bytes(keys):
     if isinstance(keys, (str, bytes, bytearray, memoryview)):
         raise TypeError(f"keys: a list of keys is wanted, and not one {type(keys).__name__}")
     with reading("keys"):
-        return [_bytes_of_key(key) for key in keys]
+        texts = [_bytes_of_key(key) for key in itertools.islice(keys, MOST_KEYS + 1)]
+        if len(texts) > MOST_KEYS:
+            raise MemoryError(f"more than {MOST_KEYS} keys are given at once; `decode_text` takes more")
+        return texts
 
 
 def _bytes_of_key(key):
