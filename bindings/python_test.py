@@ -487,15 +487,16 @@ def processor(tally):
 def little_memory(tally):
     """After a call that was out of memory everything answers as before."""
     grid, encoding = Grid([10**6, 7], REGULAR), Encoding("default")
-    indices = np.arange(2 * 10**6, dtype=np.uint64).reshape(-1, 2) % 7
+    # Each answer is larger than what the process may have freed before and keeps.
+    indices = np.arange(12 * 10**6, dtype=np.uint64).reshape(-1, 2) % 7
     signed, text, offsets = indices.astype(np.int32), bytes(3 * 10**6), np.arange(0, 3 * 10**6 + 1, 3)
     calls = [
         lambda: grid.find_home(indices), lambda: grid.chunk_indices(signed), lambda: encoding.encode_text(indices),
-        lambda: encoding.decode_text(text, offsets, 5), lambda: grid.parts(encoding, [0, 0], [10**6, 7]),
+        lambda: encoding.decode_text(text, offsets, 50), lambda: grid.parts(encoding, [0, 0], [10**6, 7]),
         lambda: Grid([10**6], {"name": "rectangular", "configuration": {"chunk_shape": [[1] * 10**6]}}),
     ]  # fmt: skip
-    used = int(pathlib.Path("/proc/self/statm").read_text().split()[0]) * resource.getpagesize()
     for call in calls:
+        used = int(pathlib.Path("/proc/self/statm").read_text().split()[0]) * resource.getpagesize()
         resource.setrlimit(resource.RLIMIT_AS, (used + 2**20, resource.RLIM_INFINITY))
         found = kind_of_error(call)
         resource.setrlimit(resource.RLIMIT_AS, (resource.RLIM_INFINITY, resource.RLIM_INFINITY))

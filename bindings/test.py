@@ -12,6 +12,8 @@ one. What is compared:
 - no lists, null, strided, misaligned and negative numbers, other types, buffers of other lengths, offsets that descend;
 - what the Python package takes, refuses and keeps, also while another thread changes it (`python_test.py`), and any values for all its arguments
   (`fuzz.py`);
+- what a call tells of a refusal, walks that are longer than their buffer, pages, the stack that a call needs, and traps for floats
+  (`words_and_bounds.py`);
 - memory that is refused: under an address space that gets smaller, and allocation by allocation;
 - the examples in C, Python and Rust, the C one under memcheck, and those of the docstrings.
 """
@@ -403,6 +405,7 @@ def in_this_process(backend):
     """All that is asked of one build."""
     import raw_calls as library
     from python_test import python_package
+    from words_and_bounds import words_and_bounds
 
     tally = Tally()
     count = vectors(tally, library)
@@ -412,6 +415,7 @@ def in_this_process(backend):
     against_numpy(tally)
     buffers(tally, library)
     python_package(tally)
+    words_and_bounds(tally, library, run, HERE / "out" / backend)
     faults(tally, library)
     docstrings(tally)
     examples(tally, backend)
