@@ -134,7 +134,7 @@ class Grid:
         ([[2, 2], [0, 0]], [True, False])
         """
         indices = self._lists("indices", indices)
-        chunks, found = _library.room(indices.shape), _marks(indices)
+        chunks, found = _library.room_like(indices), _marks(indices)
         self._call("zarrs_chunk_indices_of", indices=indices, chunks=chunks, found=found)
         return chunks, found.view(np.bool_)
 
@@ -157,7 +157,7 @@ class Grid:
         ([[2, 1]], [[0, 2]], [True])
         """
         indices = self._lists("indices", indices)
-        chunks, places, found = _library.room(indices.shape), _library.room(indices.shape), _marks(indices)
+        chunks, places, found = _library.room_like(indices), _library.room_like(indices), _marks(indices)
         self._call("zarrs_homes_of", indices=indices, chunks=chunks, places=places, found=found)
         return chunks, places, found.view(np.bool_)
 
@@ -170,7 +170,7 @@ class Grid:
         ([[4, 6]], [[1, 1]], [True])
         """
         chunks = self._lists("chunks", chunks)
-        origins, shapes, found = _library.room(chunks.shape), _library.room(chunks.shape), _marks(chunks)
+        origins, shapes, found = _library.room_like(chunks), _library.room_like(chunks), _marks(chunks)
         self._call("zarrs_chunk_boxes_of", chunks=chunks, origins=origins, shapes=shapes, found=found)
         return origins, shapes, found.view(np.bool_)
 
@@ -186,7 +186,7 @@ class Grid:
         starts, shapes = self._lists("starts", starts), self._lists("shapes", shapes)
         if starts.shape != shapes.shape:
             raise ValueError(f"shapes: there are to be as many as starts, and the arrays' shapes are {shapes.shape} and {starts.shape}")
-        first, counts, found = _library.room(starts.shape), _library.room(starts.shape), _marks(starts)
+        first, counts, found = _library.room_like(starts), _library.room_like(starts), _marks(starts)
         self._call("zarrs_covers_of", starts=starts, shapes=shapes, first_chunks=first, chunk_counts=counts, found=found)
         return first, counts, found.view(np.bool_)
 

@@ -17,12 +17,31 @@ VERSION = 1
 
 OK, OUT_OF_MEMORY, WRONG_LENGTH, NOT_JSON, NOT_METADATA, REFUSED, NOT_A_BOX, WRONG_OFFSETS, SHORT_BUFFER = range(0, -9, -1)
 
+
+class _Array:
+    """The type in C of an array's pointer: ctypes makes it by `from_param`, and of nothing but an array that is fit."""
+
+    def __init__(self, kind, is_written):
+        self.kind, self.is_written = np.dtype(kind), is_written
+
+    def is_fit(self, array):
+        """Whether the library may read an array, or write to it: then it is one that `room`, `room_like` or `text_room` made, whole."""
+        if type(array) is not np.ndarray or array.dtype != self.kind:
+            return False
+        flags = array.flags
+        return flags.c_contiguous and flags.aligned and (not self.is_written or (flags.writeable and flags.owndata))
+
+    def from_param(self, array):
+        if not self.is_fit(array):
+            raise TypeError(f"the library can't be given this {type(array).__name__}")
+        return ctypes.c_void_p(array.__array_interface__["data"][0])
+
+
 # What an argument may be, as its types in C. An array is passed as a pointer and a length.
-_READ, _WRITTEN = "C_CONTIGUOUS,ALIGNED", "C_CONTIGUOUS,ALIGNED,WRITEABLE"
-NUMBERS = (np.ctypeslib.ndpointer(np.uint64, flags=_READ), ctypes.c_size_t)
+NUMBERS = (_Array(np.uint64, is_written=False), ctypes.c_size_t)
 BYTES = (ctypes.c_char_p, ctypes.c_size_t)
-WRITTEN_NUMBERS = (np.ctypeslib.ndpointer(np.uint64, flags=_WRITTEN), ctypes.c_size_t)
-WRITTEN_BYTES = (np.ctypeslib.ndpointer(np.uint8, flags=_WRITTEN), ctypes.c_size_t)
+WRITTEN_NUMBERS = (_Array(np.uint64, is_written=True), ctypes.c_size_t)
+WRITTEN_BYTES = (_Array(np.uint8, is_written=True), ctypes.c_size_t)
 NUMBER, SIZE, CODE = (ctypes.c_uint64,), (ctypes.c_size_t,), (ctypes.c_int32,)
 TOLD_NUMBER, TOLD_SIZE, TOLD_BYTE = ((ctypes.POINTER(kind),) for kind in (ctypes.c_uint64, ctypes.c_size_t, ctypes.c_uint8))
 
@@ -60,8 +79,10 @@ CALLS = {
     "zarrs_code_words": {"code": CODE, "words": WRITTEN_BYTES, "needed": TOLD_SIZE},
 }  # fmt: skip
 
+# The types of the numbers that a call tells, and, by call, the names of those and of what it is given.
 _TOLD = {TOLD_NUMBER: ctypes.c_uint64, TOLD_SIZE: ctypes.c_size_t, TOLD_BYTE: ctypes.c_uint8}
-_ITEMS = {NUMBERS: np.dtype(np.uint64), WRITTEN_NUMBERS: np.dtype(np.uint64), WRITTEN_BYTES: np.dtype(np.uint8)}
+_TOLD_BY = {name: {argument: _TOLD[kind] for argument, kind in kinds.items() if kind in _TOLD} for name, kinds in CALLS.items()}
+_GIVEN_TO = {name: kinds.keys() - _TOLD_BY[name].keys() for name, kinds in CALLS.items()}
 
 
 def path():
@@ -100,6 +121,14 @@ def room(shape, kind=np.uint64):
     return _new(np.zeros, shape, kind)
 
 
+def room_like(lists):
+    """The same in the shape of lists of numbers, which the caller has in memory. The library fills it sooner than one of `room`."""
+    try:
+        return np.zeros_like(lists)
+    except MemoryError as error:
+        raise MemoryError(f"out of memory: there is no room for an array of the shape {lists.shape}") from error
+
+
 def text_room(length):
     """A new array of bytes for a text, which hold anything. What a call has written is at its front, and nothing else of it is given out."""
     return _new(np.empty, length, np.uint8)
@@ -115,20 +144,19 @@ def _new(make, shape, kind):
 def call(name, **arguments):
     """Makes a call, with its arguments by the names of zarrs_chunks.h. Those by which it tells a number aren't given. Answers the code and, by
     name, the numbers that it told."""
-    kinds = CALLS[name]
-    told = {argument: _TOLD[kind]() for argument, kind in kinds.items() if kind in _TOLD}
-    if arguments.keys() != kinds.keys() - told.keys():
-        raise TypeError(f"{name} takes {', '.join(kinds.keys() - told.keys())}, and was given {', '.join(arguments)}")
+    told = {argument: number() for argument, number in _TOLD_BY[name].items()}
+    if arguments.keys() != _GIVEN_TO[name]:
+        raise TypeError(f"{name} takes {', '.join(_GIVEN_TO[name])}, and was given {', '.join(arguments)}")
     passed = []
-    for argument, kind in kinds.items():
-        passed += [ctypes.byref(told[argument])] if kind in _TOLD else _passed(argument, kind, arguments[argument])
+    for argument, kind in CALLS[name].items():
+        passed += [ctypes.byref(told[argument])] if argument in told else _passed(argument, kind, arguments[argument])
     code = _FUNCTIONS[name](*passed)
     return code, {argument: number.value for argument, number in told.items()}
 
 
 def _passed(argument, kind, value):
     """An argument as it is passed. Raises TypeError where it isn't fit for the library."""
-    if kind in (NUMBER, SIZE):
+    if kind is NUMBER or kind is SIZE:
         if type(value) is int and 0 <= value < 2**64:
             return [value]
     elif kind is CODE:
@@ -137,13 +165,6 @@ def _passed(argument, kind, value):
     elif kind is BYTES:
         if type(value) is bytes:
             return [value, len(value)]
-    elif _is_fit(kind, value):
+    elif kind[0].is_fit(value):
         return [value, value.size]
     raise TypeError(f"{argument}: the library can't be given this {type(value).__name__}")
-
-
-def _is_fit(kind, array):
-    """Whether the library may read an array, or write to it: then it is one that `room` or `text_room` made, whole."""
-    if type(array) is not np.ndarray or array.dtype != _ITEMS[kind] or not (array.flags.c_contiguous and array.flags.aligned):
-        return False
-    return kind is NUMBERS or (array.flags.writeable and array.flags.owndata)

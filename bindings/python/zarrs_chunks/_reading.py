@@ -1,19 +1,22 @@
 """Errors that come while an argument is read."""
 
-import contextlib
 
+class reading:
+    """Says in which argument something is wrong, in a `with` around what reads it. What an object's own methods raise, as its `__array__` or
+    `__index__`, becomes a TypeError; ValueError and MemoryError stay what they are, and OverflowError becomes a ValueError."""
 
-@contextlib.contextmanager
-def reading(argument):
-    """Says in which argument something is wrong. What an object's own methods raise, as its `__array__` or `__index__`, becomes a TypeError;
-    ValueError and MemoryError stay what they are, and OverflowError becomes a ValueError."""
-    try:
-        yield
-    except MemoryError as error:
-        raise MemoryError(f"{argument}: out of memory: {error}") from error
-    except (ValueError, OverflowError) as error:
-        raise ValueError(f"{argument}: {error}") from error
-    except RecursionError as error:
-        raise ValueError(f"{argument}: lists are nested too deep") from error
-    except Exception as error:
-        raise TypeError(f"{argument}: {error}") from error
+    def __init__(self, argument):
+        self.argument = argument
+
+    def __enter__(self):
+        return self
+
+    def __exit__(self, _kind, error, _traceback):
+        if isinstance(error, MemoryError):
+            raise MemoryError(f"{self.argument}: out of memory: {error}") from error
+        if isinstance(error, (ValueError, OverflowError)):
+            raise ValueError(f"{self.argument}: {error}") from error
+        if isinstance(error, RecursionError):
+            raise ValueError(f"{self.argument}: lists are nested too deep") from error
+        if isinstance(error, Exception):
+            raise TypeError(f"{self.argument}: {error}") from error
