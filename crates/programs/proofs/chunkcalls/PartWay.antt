@@ -72,11 +72,6 @@ part_way_at_end input held left holds all at_end =
     let ended = all.ended in
     (all.answers, record { lines = omega arith; ended = omega arith }, all.is_held)
 
--- what is said of a known value
-pub for_known : {X : Type 0} (o : Option X) (P : X → Type 0) → ((x : X) → o ≡ Some x → P x) → IfSome o P
-for_known None P h = tt
-for_known (Some x) P h = h x refl
-
 -- where a list grew by bytes of a reader, and isn't as long as before, there were some left
 pub some_left : (left : Option (List ℕ)) (byte n : ℕ) (old new : List ℕ) → length new ≡ length old + n → n ≢ 0
     → IfSome left (λ xs. new ≡ old ++ take_through byte xs) → IfSome left (λ xs. 0 < length xs)

@@ -1,32 +1,23 @@
 -- What the members of a tree say of its first fault.
-use Rattle.std.proofs.Common.{◌≡◌, ◌∙◌, ℕ, zero, suc, List, IsSome, None, Some, codes, sym, refl, inl, inr, arith}
+use Rattle.std.proofs.Common.{◌≡◌, ◌∙◌, ℕ, zero, suc, List, IsSome, None, Some, codes, sym, arith}
+use Rattle.std.proofs.lemmas.Option.{none-some}
 use Rattle.serde_json.specs.Data.{Data}
 use Rattle.serde_json.specs.Find.{as_object, get}
+use Rattle.zarrs_chunk_base.specs.First.{IsFirst}
 use Rattle.programs.specs.Document.{IsMissingFault}
 use Rattle.programs.specs.declared.document_fault.DocumentFault.{DocumentFault}
 use Rattle.programs.specs.declared.document_fault.DocumentFault.TheVariants.{Missing}
 use Rattle.programs.proofs.Members.{found}
-use Rattle.programs.specs.chunkplan.DocumentFault.{HasMembers, IsFormFault, missing}
+use Rattle.programs.specs.chunkplan.DocumentFault.{HasMembers, IsFormFault, document_members, missing}
 
-is_absent : (d : Data) (field name : List ℕ) (fault : DocumentFault) → IsMissingFault d field name fault → get field d ≡ None
-is_absent d field name (Missing told) is = is.1
-is_absent d field name _ is = absurd is
+-- a member that has to be there is missing
+pub no_member : (d : Data) (name : List ℕ) (fault : DocumentFault) → IsSome (as_object d)
+    → (get name d ≡ None → IsFirst (λ member. get member d ≡ None) document_members name) → IsMissingFault d name name fault → IsFormFault d fault
+no_member d name (Missing told) object first is = missing name object (first is.1) is
+no_member d name _ object first is = absurd is
 
-is_there : (d m : Data) (field : List ℕ) → get field d ≡ Some m → ¬ (get field d ≡ None)
-is_there d m field there none = let bad : Some m ≡ None = sym there ∙ none in cc
-
-pub no_shape : (d : Data) (fault : DocumentFault) → IsSome (as_object d) → IsMissingFault d (codes "shape") (codes "shape") fault → IsFormFault d fault
-no_shape d fault object is = missing (codes "shape") object (inl (is_absent d (codes "shape") (codes "shape") fault is, refl)) is
-
-pub no_grid : (d s : Data) (fault : DocumentFault) → IsSome (as_object d) → get (codes "shape") d ≡ Some s
-    → IsMissingFault d (codes "chunk_grid") (codes "chunk_grid") fault → IsFormFault d fault
-no_grid d s fault object shape is =
-    missing (codes "chunk_grid") object (inr (is_there d s (codes "shape") shape, inl (is_absent d (codes "chunk_grid") (codes "chunk_grid") fault is, refl))) is
-
-pub no_encoding : (d s g : Data) (fault : DocumentFault) → IsSome (as_object d) → get (codes "shape") d ≡ Some s → get (codes "chunk_grid") d ≡ Some g
-    → IsMissingFault d (codes "chunk_key_encoding") (codes "chunk_key_encoding") fault → IsFormFault d fault
-no_encoding d s g fault object shape grid is =
-    missing (codes "chunk_key_encoding") object (inr (is_there d s (codes "shape") shape, inr (is_there d g (codes "chunk_grid") grid, inl (is_absent d (codes "chunk_key_encoding") (codes "chunk_key_encoding") fault is, refl)))) is
+pub is_there : (d m : Data) (field : List ℕ) → get field d ≡ Some m → ¬ (get field d ≡ None)
+is_there d m field there none = none-some m (sym none ∙ there)
 
 -- ---- all are there
 

@@ -22,30 +22,23 @@ has_box_fault d left field fault same (m, there, is) = (m, sym same ∙ there, i
 abbrev pub AreLeft : (d left : Data) → Type 0
 AreLeft d left = (other : List ℕ) → other ≢ codes "chunk_grid" → other ≢ codes "chunk_key_encoding" → get other left ≡ get other d
 
-short : (d left : Data) → AreLeft d left → (name : List ℕ) → length name ≡ 6 → get name left ≡ get name d
-short d left are_left name six =
-    are_left name (λ same. absurd (omega (arith, six, ap length same))) (λ same. absurd (omega (arith, six, ap length same)))
-
 module _ (d left : Data) (are_left : AreLeft d left) where
-  target : get (codes "target") left ≡ get (codes "target") d
-  target = short d left are_left (codes "target") refl
-
-  subset : get (codes "subset") left ≡ get (codes "subset") d
-  subset = short d left are_left (codes "subset") refl
-
-  chunks : get (codes "chunks") left ≡ get (codes "chunks") d
-  chunks = short d left are_left (codes "chunks") refl
+  short : (name : List ℕ) → length name ≡ 6 → get name left ≡ get name d
+  short name six = are_left name (λ same. absurd (omega (arith, six, ap length same))) (λ same. absurd (omega (arith, six, ap length same)))
 
   pub is_task : (task : Task) → IsTask left task → IsTask d task
-  is_task (read_of b) (none, box) = (sym target ∙ none, has_box d left (codes "subset") b subset box)
-  is_task (rechunk_to stored b) (m, there, has, box) = (m, sym target ∙ there, has, has_box d left (codes "chunks") b chunks box)
+  is_task (read_of b) (none, box) = (sym (short (codes "target") refl) ∙ none, has_box d left (codes "subset") b (short (codes "subset") refl) box)
+  is_task (rechunk_to stored b) (m, there, has, box) =
+      (m, sym (short (codes "target") refl) ∙ there, has, has_box d left (codes "chunks") b (short (codes "chunks") refl) box)
 
   pub is_task_fault : (fault : DocumentFault) → IsTaskFault left fault → IsTaskFault d fault
-  is_task_fault fault (of_subset none is) = of_subset (sym target ∙ none) (has_box_fault d left (codes "subset") fault subset is)
-  is_task_fault fault (of_target m there none tells) = of_target m (sym target ∙ there) none tells
-  is_task_fault fault (of_target_stored m there object is) = of_target_stored m (sym target ∙ there) object is
+  is_task_fault fault (of_subset none is) =
+      of_subset (sym (short (codes "target") refl) ∙ none) (has_box_fault d left (codes "subset") fault (short (codes "subset") refl) is)
+  is_task_fault fault (of_target m there none tells) = of_target m (sym (short (codes "target") refl) ∙ there) none tells
+  is_task_fault fault (of_target_stored m there object is) = of_target_stored m (sym (short (codes "target") refl) ∙ there) object is
   is_task_fault fault (of_chunks m stored there has is) =
-      of_chunks m stored (sym target ∙ there) has (has_box_fault d left (codes "chunks") fault chunks is)
+      let same = short (codes "target") refl in
+      of_chunks m stored (sym same ∙ there) has (has_box_fault d left (codes "chunks") fault (short (codes "chunks") refl) is)
 
 -- ---- names of one length
 

@@ -1,6 +1,5 @@
 -- What a walk over the parts of a box gave is the plan of reading the box.
-use Rattle.std.proofs.Common.{◌≡◌, ◌≢◌, ◌⊎◌, ℕ, List, [], ◌∷◌, inl, length, refl, subst, arith}
-use Rattle.std.specs.List.{AllZip}
+use Rattle.std.proofs.Common.{◌≡◌, ◌≢◌, ◌⊎◌, ℕ, List, [], inl, length, arith}
 use Rattle.zarrs_chunk_base.specs.ArraySubset.{Box, IsBox, IsEmptyBox}
 use Rattle.zarrs_chunk_base.specs.Dimension.{Dimension}
 use Rattle.zarrs_chunks.specs.Subsets.{IsCover}
@@ -9,12 +8,9 @@ use Rattle.zarrs_chunk_plan.specs.Plan.{IsPart, IsPlan}
 use Rattle.zarrs_chunk_plan.specs.declared.part.Part.{Part}
 use Rattle.zarrs_chunk_plan.specs.declared.walk.Parts.{Parts}
 use Rattle.zarrs_chunk_plan.specs.seen.Parts.{ArePartsToCome, IsAbout, chunks_to_come}
+use Rattle.zarrs_chunk_plan.proofs.Taken.{no_parts}
 use Rattle.zarrs_chunk_plan.proofs.Walked.{plan_of}
 use Rattle.programs.specs.chunkplan.Planned.{IsReadPlan}
-
-none_of_none : {X Y : Type 0} (R : X → Y → Type 0) (ys : List Y) → AllZip R [] ys → ys ≡ []
-none_of_none R [] zipped = refl
-none_of_none R (y ∷ ys) zipped = absurd zipped
 
 pub is_read_plan : {G E : Type 0} (dimensions : G → List Dimension) (is_key : E → List ℕ → List ℕ → Type 0) (grid : G) (encoding : E) (subset : Box)
     (walk : Parts G E) (parts : List Part) → IsBox subset → length subset.start ≡ length (dimensions grid) → IsAbout grid encoding subset walk
@@ -31,5 +27,5 @@ is_read_plan dimensions is_key grid encoding subset walk parts is_box many about
   none : IsEmptyBox subset → parts ≡ []
   none (k, within, is) =
       let some_dimension : length (dimensions grid) ≢ 0 = λ zero. let lengths = is_box.lengths in absurd (omega arith) in
-      let IsOne = IsPart (dimensions walk.grid.now) (is_key walk.encoding.now) walk.array_subset in
-      none_of_none IsOne parts (subst (λ chunks. AllZip IsOne chunks parts) (if_empty (k, within, is) some_dimension) are)
+      no_parts (IsPart (dimensions walk.grid.now) (is_key walk.encoding.now) walk.array_subset) (chunks_to_come walk) parts
+      (if_empty (k, within, is) some_dimension) are

@@ -1,5 +1,6 @@
 -- Trees that are lists of sizes, one after another.
-use Rattle.std.proofs.Common.{◌≡◌, ℕ, zero, suc, ◌+◌, ◌<◌, ◌≤◌, false, List, [], ◌∷◌, IsSome, is_some, Option, None, Some, length, take, get_or, option_and_then, option_map, unwrap_or, Vec, Global, codes, add-one, refl, sym, ap, ◌∙◌, arith}
+use Rattle.std.proofs.Common.{◌≡◌, ℕ, zero, suc, ◌+◌, ◌<◌, ◌≤◌, false, List, [], ◌∷◌, IsSome, is_some, Option, None, Some, length, take, get_or, option_and_then, option_map, unwrap_or, Vec, Global, codes, refl, sym, ap, subst, ◌∙◌, arith}
+use Rattle.std.proofs.lemmas.List.Elements.{All-from_recursion, All-more, recursion_from_All}
 use Rattle.std.specs.List.{AllByRecursion}
 use Rattle.serde_json.specs.Data.{Data}
 use Rattle.serde_json.specs.Find.{get}
@@ -15,12 +16,9 @@ IsIndexList tree = IsSome (list_of size_of (view tree))
 
 pub one_more : (trees : List Value) (i : ℕ) (tree : Value) → i < length trees → tree ≡ get_or trees i tree → IsIndexList tree
     → AllByRecursion IsIndexList (take i trees) → AllByRecursion IsIndexList (take (i + 1) trees)
-one_more trees i tree within at is so_far = rw (add-one) (from_place trees i within at so_far) where
-  from_place : (trees : List Value) (i : ℕ) → i < length trees → tree ≡ get_or trees i tree → AllByRecursion IsIndexList (take i trees)
-      → AllByRecursion IsIndexList (take (suc i) trees)
-  from_place [] i within at so_far = absurd (omega arith)
-  from_place (t ∷ trees) zero within at so_far = (rw (← at) is, tt)
-  from_place (t ∷ trees) (suc i) within at so_far = (so_far.0, from_place trees i (omega arith) at so_far.1)
+one_more trees i tree within at is so_far =
+    recursion_from_All IsIndexList (take (i + 1) trees)
+    (All-more IsIndexList trees i tree within (All-from_recursion IsIndexList (take i trees) so_far) (subst IsIndexList at is))
 
 -- what is there is what it is
 present : (o : Option (List ℕ)) → IsSome o → o ≡ Some (unwrap_or o [])

@@ -1,30 +1,17 @@
 -- The lines so far, and what they leave to say of the indices that are left.
-use Rattle.std.proofs.Common.{◌≡◌, ◌≢◌, ℕ, suc, ◌+◌, List, [], ◌∷◌, ◌++◌, length, map, String, Global, string_bytes, refl, sym, ap, ◌∙◌, subst, append_assoc, append-nil, arith}
+use Rattle.std.proofs.Common.{◌≡◌, ◌≢◌, ℕ, suc, ◌+◌, List, [], ◌∷◌, ◌++◌, length, refl, sym, ap, ◌∙◌, subst, append_assoc, append-nil, arith}
 use Rattle.std.specs.List.{AllByRecursion}
 use Rattle.zarrs_chunk_base.specs.declared.incompatible_dimensionality_error.IncompatibleDimensionalityError.{IncompatibleDimensionalityError}
-use Rattle.serde_json.specs.declared.value.Value.{Value}
 use Rattle.programs.specs.chunkwhere.Answer.{HasLengthOf, IsFirstWrongLength}
-use Rattle.programs.specs.chunkwhere.Document.{lists_in}
 use Rattle.zarrs_chunk_base.specs.Dimension.{Dimension}
 use Rattle.programs.specs.chunkwhere.Output.{AreLines, IsLine}
 use Rattle.zarrs_chunk_base.specs.Refusal.{TellsLengths}
-
-pub none_left : (trees : List Value) → length trees ≡ 0 → lists_in trees ≡ []
-none_left [] none = refl
-none_left (t ∷ trees) none = absurd (omega arith)
-
-pub no_texts : (texts : List (String Global)) → length texts ≡ 0 → map string_bytes texts ≡ []
-no_texts [] none = refl
-no_texts (text ∷ texts) none = absurd (omega arith)
 
 -- the text has the lines of all lists before the rest: the lines of the rest, behind the text, are the lines of all
 pub record HasLines (IsOne : List ℕ → List ℕ → Type 0) (all rest : List (List ℕ)) (text : List ℕ) : Type 0 where
   pub followed : (more : List ℕ) → AreLines IsOne rest more → AreLines IsOne all (text ++ more)
 
 module _ (IsOne : List ℕ → List ℕ → Type 0) (all : List (List ℕ)) where
-  pub lines_at_start : (text : List ℕ) → text ≡ [] → HasLines IsOne all all text
-  lines_at_start text empty = record { followed = λ more h. rw empty h }
-
   pub lines_with_one : (rest : List (List ℕ)) (text x line : List ℕ) (rest_after : List (List ℕ)) (text_after : List ℕ) → HasLines IsOne all rest text
       → rest ≡ x ∷ rest_after → IsOne x line → text_after ≡ text ++ line → HasLines IsOne all rest_after text_after
   lines_with_one rest text x line rest_after text_after so_far first is_line longer = record {
@@ -47,7 +34,7 @@ module _ (ds : List Dimension) (IsKey : List ℕ → List ℕ → Type 0) (all :
   pub so_far_at_start : (text : List ℕ) → text ≡ [] → IsSoFar ds IsKey all all 0 text
   so_far_at_start text empty = record {
     lengths = λ h. h;
-    lines = lines_at_start (IsLine ds IsKey) all text empty;
+    lines = record { followed = λ more h. rw empty h };
     wrong = λ n e h. let same : 0 + n ≡ n = omega arith in rw same h;
   }
 

@@ -1,5 +1,6 @@
 use Rattle.std.specs.Io.Buffered.{reader_remaining}
-use Rattle.programs.proofs.chunkcalls.PartWay.{part_way_with_line, part_way_kept, part_way_at_end, for_known}
+use Rattle.programs.proofs.Known.{for_known}
+use Rattle.programs.proofs.chunkcalls.PartWay.{part_way_with_line, part_way_kept, part_way_at_end}
 use Rattle.programs.proofs.chunkcalls.program.answer_lines.Goals as goal
 
 pub returns-in_default : goal.returns-in_default

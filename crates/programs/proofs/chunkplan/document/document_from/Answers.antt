@@ -1,13 +1,12 @@
-use Rattle.std.proofs.Common.{◌≡◌, ◌∙◌, Some, IsSome, is_some, option_map, ap, refl, rules}
+use Rattle.std.proofs.Common.{codes, ◌∙◌, IsSome, is_some, option_map, ap, inl, inr, refl, rules}
 use Rattle.std.proofs.lemmas.Result.{err_from_is_err_and}
 use Rattle.serde_json.specs.Find.{as_object}
 use Rattle.serde_json.specs.View.{view}
-use Rattle.programs.specs.Document.{shape_in}
 use Rattle.programs.proofs.Refusals.{follows, follows_own}
 use Rattle.programs.specs.chunkplan.Document.{stored_of}
 use Rattle.programs.specs.chunkplan.DocumentFault.{HasMembers, IsFormFault, misfit, misformed_shape, misformed_stored, misformed_task}
 use Rattle.programs.proofs.Members.{shape_is}
-use Rattle.programs.proofs.chunkplan.FormFaults.{has_members, no_encoding, no_grid, no_shape}
+use Rattle.programs.proofs.chunkplan.FormFaults.{has_members, is_there, no_member}
 use Rattle.programs.proofs.chunkplan.LeftMembers.{is_task, is_task_fault}
 use Rattle.programs.proofs.chunkplan.document.document_from.Goals as goal
 
@@ -16,22 +15,27 @@ returns-in_err-shape c =
     let p = err_from_is_err_and c.from_residual.result c.from_residual.ensures.1 in
     let tree = view c.args.tree in
     let object : IsSome (as_object tree) = search rules in
-    rw (p.1, p.2) (follows_own _ _ (IsFormFault tree) (λ fault is. no_shape tree fault object is) c.in_err-shape.ensures)
+    rw (p.1, p.2) (follows_own _ _ (IsFormFault tree) (λ fault. no_member tree _ fault object (λ none. inl (none, refl))) c.in_err-shape.ensures)
 
 pub returns-in_err-required_member : goal.returns-in_err-required_member
 returns-in_err-required_member c =
     let p = err_from_is_err_and c.from_residual-in_err-required_member.result c.from_residual-in_err-required_member.ensures.1 in
     let tree = view c.args.tree in
     let object : IsSome (as_object tree) = search rules in
-    rw (p.1, p.2) (follows_own _ _ (IsFormFault tree) (λ fault is. no_grid tree _ fault object c.in_ok-shape.ensures is) c.in_err-required_member.ensures)
+    let shape = is_there tree _ (codes "shape") c.in_ok-shape.ensures in
+    rw (p.1, p.2)
+    (follows_own _ _ (IsFormFault tree) (λ fault. no_member tree _ fault object (λ none. inr (shape, inl (none, refl))))
+    c.in_err-required_member.ensures)
 
 pub returns-in_err-required_member-2 : goal.returns-in_err-required_member-2
 returns-in_err-required_member-2 c =
     let p = err_from_is_err_and c.from_residual-in_err-required_member-2.result c.from_residual-in_err-required_member-2.ensures.1 in
     let tree = view c.args.tree in
     let object : IsSome (as_object tree) = search rules in
+    let shape = is_there tree _ (codes "shape") c.in_ok-shape.ensures in
+    let grid = is_there tree _ (codes "chunk_grid") c.in_ok-required_member.ensures in
     rw (p.1, p.2)
-    (follows_own _ _ (IsFormFault tree) (λ fault is. no_encoding tree _ _ fault object c.in_ok-shape.ensures c.in_ok-required_member.ensures is)
+    (follows_own _ _ (IsFormFault tree) (λ fault. no_member tree _ fault object (λ none. inr (shape, inr (grid, inl (none, refl)))))
     c.in_err-required_member-2.ensures)
 
 pub returns-in_err-check_fitting : goal.returns-in_err-check_fitting
@@ -52,9 +56,7 @@ returns-in_err-stored c =
     let p = err_from_is_err_and c.from_residual-in_err-stored.result c.from_residual-in_err-stored.ensures.1 in
     let tree = view c.args.tree in
     let members : HasMembers tree = has_members tree _ _ _ c.in_ok-shape.ensures c.in_ok-required_member.ensures c.in_ok-required_member-2.ensures in
-    let shape : shape_in tree ≡ Some c.in-Some.shape.items =
-    shape_is tree _ _ c.in_ok-shape.ensures c.in_ok-shape-2.ensures ∙ ap (option_map (λ v. v.items)) c.in-Some.is
-    in
+    let shape = shape_is tree _ _ c.in_ok-shape.ensures c.in_ok-shape-2.ensures ∙ ap (option_map (λ v. v.items)) c.in-Some.is in
     rw (p.1, p.2)
     (follows _ _ (IsFormFault tree) (λ fault is. misformed_stored members c.in_ok-check_fitting.ensures (ap is_some shape) is) c.in_err-stored.ensures.stored)
 
@@ -63,9 +65,7 @@ returns-in_err-task c =
     let p = err_from_is_err_and c.from_residual-in_err-task.result c.from_residual-in_err-task.ensures.1 in
     let tree = view c.args.tree in
     let members : HasMembers tree = has_members tree _ _ _ c.in_ok-shape.ensures c.in_ok-required_member.ensures c.in_ok-required_member-2.ensures in
-    let shape : shape_in tree ≡ Some c.in-Some.shape.items =
-    shape_is tree _ _ c.in_ok-shape.ensures c.in_ok-shape-2.ensures ∙ ap (option_map (λ v. v.items)) c.in-Some.is
-    in
+    let shape = shape_is tree _ _ c.in_ok-shape.ensures c.in_ok-shape-2.ensures ∙ ap (option_map (λ v. v.items)) c.in-Some.is in
     rw (p.1, p.2)
     (follows _ _ (IsFormFault tree)
     (λ fault is.

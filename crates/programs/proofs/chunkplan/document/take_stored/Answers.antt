@@ -48,8 +48,5 @@ pub returns-clause-grid_gone : goal.returns-clause-grid_gone
 returns-clause-grid_gone c =
     c.in_ok-chunk_key_encoding.ensures.others (codes "chunk_grid") (λ same. absurd (omega (arith, ap length same))) ∙ c.in_ok-chunk_grid.ensures.gone
 
-pub returns-clause-encoding_gone : goal.returns-clause-encoding_gone
-returns-clause-encoding_gone c = c.in_ok-chunk_key_encoding.ensures.gone
-
 pub returns-clause-others : goal.returns-clause-others
 returns-clause-others c = λ other grid encoding. c.in_ok-chunk_key_encoding.ensures.others other encoding ∙ c.in_ok-chunk_grid.ensures.others other grid

@@ -1,8 +1,10 @@
-use Rattle.programs.specs.Watched.{watched, has_failed}
-use Rattle.programs.proofs.chunkplan.RunOutcomes.{with_status}
+use Rattle.programs.specs.Watched.{watched}
+use Rattle.programs.proofs.Known.{for_both}
 use Rattle.programs.proofs.chunkplan.program.run_to_status.Goals as goal
 
 pub returns-clause-outcome : goal.returns-clause-outcome
 returns-clause-outcome g c =
-    with_status (g.R.Read.remaining (watched c.args.reader.now)) (g.W.Write.contents (watched c.args.writer.now)) (has_failed c.args.reader.now) (has_failed c.args.writer.now)
-    c.run-outcome.result _ _ c.run-outcome.ensures c.finish.ensures.status
+    for_both (g.R.Read.remaining (watched c.args.reader.now)) (g.W.Write.contents (watched c.args.writer.now)) _
+    (λ input held is_input is_held not_read not_written.
+    let leaves = rw (is_input, is_held) at c.run-outcome.ensures in
+    (c.run-outcome.result, leaves not_read not_written, c.finish.ensures.status))

@@ -1,6 +1,7 @@
 use Rattle.std.proofs.Common.{◌≡◌, ◌++◌, ◌∙◌, length, map, ap, append_assoc, refl, string_bytes, arith}
+use Rattle.std.proofs.lemmas.List.{nil_from_length}
 use Rattle.programs.specs.chunkwhere.Output.{IsKeyLine}
-use Rattle.programs.proofs.chunkwhere.Lines.{lines_at_end, lines_with_one, no_texts}
+use Rattle.programs.proofs.chunkwhere.Lines.{lines_at_end, lines_with_one}
 use Rattle.programs.proofs.chunkwhere.answer.append_key_lines.Goals as goal
 
 pub loop-key-preserved : goal.loop-key-preserved
@@ -22,4 +23,5 @@ returns g c =
     let left = c.loop-key.key-iterator.rest.items in
     let (lines, so_far, text) = c.loop-key.invariant in
     let none : length left ≡ 0 = omega (arith, c.in-None.ensures.steps.0) in
-    (lines, lines_at_end IsOne (map string_bytes c.args.keys.items) (map string_bytes left) lines so_far (no_texts left none), text)
+    let empty = ap (map string_bytes) (nil_from_length left none) in
+    (lines, lines_at_end IsOne (map string_bytes c.args.keys.items) (map string_bytes left) lines so_far empty, text)

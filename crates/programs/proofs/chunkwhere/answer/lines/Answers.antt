@@ -1,11 +1,11 @@
 use Rattle.std.proofs.Common.{◌≡◌, ◌≢◌, length, string_bytes, sym, ap, ◌∙◌, arith}
-use Rattle.std.proofs.lemmas.List.{map-id}
+use Rattle.std.proofs.lemmas.List.{map-id, nil_from_length}
 use Rattle.std.proofs.lemmas.Result.{err_from_is_err_and}
 use Rattle.zarrs_chunk_base.specs.Refusal.{TellsLengths}
 use Rattle.zarrs_chunk_base.specs.declared.incompatible_dimensionality_error.IncompatibleDimensionalityError.{IncompatibleDimensionalityError}
 use Rattle.programs.specs.chunkwhere.Answer.{IsFirstWrongLength}
 use Rattle.programs.specs.chunkwhere.Document.{lists_in, sizes_in}
-use Rattle.programs.proofs.chunkwhere.Lines.{none_left, so_far_at_start, so_far_with_line, wrong_length_is_first, so_far_at_end}
+use Rattle.programs.proofs.chunkwhere.Lines.{so_far_at_start, so_far_with_line, wrong_length_is_first, so_far_at_end}
 use Rattle.zarrs_chunk_base.proofs.MappedErrors.{value_is_kept}
 use Rattle.programs.proofs.chunkwhere.answer.lines.Goals as goal
 
@@ -46,4 +46,4 @@ pub returns : goal.returns
 returns g c =
     let left = c.loop-position.position-iterator.iter.rest in
     let none : length left.items ≡ 0 = omega (arith, c.in-None.ensures.steps.0.0) in
-    so_far_at_end _ _ _ _ _ _ c.loop-position.invariant (none_left left.items none)
+    so_far_at_end _ _ _ _ _ _ c.loop-position.invariant (ap lists_in (nil_from_length left.items none))

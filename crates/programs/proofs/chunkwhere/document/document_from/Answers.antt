@@ -35,19 +35,18 @@ returns-in_default c =
 pub returns-in_default-2 : goal.returns-in_default-2
 returns-in_default-2 c =
     let tree = view c.args.tree in
-    let after = view c.take_metadata.new.tree in
-    let left = view c.take_metadata-2.new.tree in
     let first = c.in_ok-chunk_grid.ensures.others in
     let second = c.in_ok-chunk_key_encoding.ensures.others in
-    let encoding = has_encoding tree after first _ c.in_ok-chunk_key_encoding.ensures.metadata in
     let shape : shape_in tree ≡ Some c.in-Some.shape.items = shape_is tree _ c.in_ok-shape-2.field-0 c.in_ok-shape.ensures c.in_ok-shape-2.ensures ∙ ap (option_map numbers) c.in-Some.is in
-    let no_indices : indices_in tree ≡ None = sym (indices_left tree after left first second) ∙ sym c.in_ok-indices.ensures ∙ ap (option_map (λ v. lists_in v.items)) c.in_default-2.is in (
+    let no_indices : indices_in tree ≡ None =
+    sym (indices_left tree _ _ first second) ∙ sym c.in_ok-indices.ensures ∙ ap (option_map (λ v. lists_in v.items)) c.in_default-2.is
+    in (
       has_members _ _ _ _ _ c.in_ok-shape.ensures c.in_ok-required_member.ensures c.in_ok-required_member-2.ensures c.in_ok-required_member-3.ensures,
       inr (inl (
         refl,
         ap is_some shape,
         (extension_of c.in_ok-chunk_grid.chunk_grid, c.in_ok-chunk_grid.ensures.metadata),
-        (extension_of c.in_ok-chunk_key_encoding.chunk_key_encoding, encoding),
+        (extension_of c.in_ok-chunk_key_encoding.chunk_key_encoding, has_encoding tree _ first _ c.in_ok-chunk_key_encoding.ensures.metadata),
         no_indices,
       )),
     )
@@ -55,20 +54,21 @@ returns-in_default-2 c =
 pub returns-in_default-keys : goal.returns-in_default-keys
 returns-in_default-keys c =
     let tree = view c.args.tree in
-    let after = view c.take_metadata.new.tree in
-    let left = view c.take_metadata-2.new.tree in
     let first = c.in_ok-chunk_grid.ensures.others in
     let second = c.in_ok-chunk_key_encoding.ensures.others in
-    let encoding = has_encoding tree after first _ c.in_ok-chunk_key_encoding.ensures.metadata in
     let shape : shape_in tree ≡ Some c.in-Some.shape.items = shape_is tree _ c.in_ok-shape-2.field-0 c.in_ok-shape.ensures c.in_ok-shape-2.ensures ∙ ap (option_map numbers) c.in-Some.is in
-    let indices : indices_in tree ≡ Some (lists_in c.in-Some-2.indices.items) = sym (indices_left tree after left first second) ∙ sym c.in_ok-indices.ensures ∙ ap (option_map (λ v. lists_in v.items)) c.in-Some-2.is in
-    let no_keys : keys_in tree ≡ None = sym (keys_left tree after left first second) ∙ sym c.in_ok-keys.ensures ∙ ap (option_map (λ v. map string_bytes v.items)) c.in_default-keys.is in (
+    let indices : indices_in tree ≡ Some (lists_in c.in-Some-2.indices.items) =
+    sym (indices_left tree _ _ first second) ∙ sym c.in_ok-indices.ensures ∙ ap (option_map (λ v. lists_in v.items)) c.in-Some-2.is
+    in
+    let no_keys : keys_in tree ≡ None =
+    sym (keys_left tree _ _ first second) ∙ sym c.in_ok-keys.ensures ∙ ap (option_map (λ v. map string_bytes v.items)) c.in_default-keys.is
+    in (
       has_members _ _ _ _ _ c.in_ok-shape.ensures c.in_ok-required_member.ensures c.in_ok-required_member-2.ensures c.in_ok-required_member-3.ensures,
       inr (inr (
         refl,
         ap is_some shape,
         (extension_of c.in_ok-chunk_grid.chunk_grid, c.in_ok-chunk_grid.ensures.metadata),
-        (extension_of c.in_ok-chunk_key_encoding.chunk_key_encoding, encoding),
+        (extension_of c.in_ok-chunk_key_encoding.chunk_key_encoding, has_encoding tree _ first _ c.in_ok-chunk_key_encoding.ensures.metadata),
         ap is_some indices,
         no_keys,
       )),
@@ -77,15 +77,12 @@ returns-in_default-keys c =
 pub returns : goal.returns
 returns c =
     let tree = view c.args.tree in
-    let after = view c.take_metadata.new.tree in
-    let left = view c.take_metadata-2.new.tree in
     let first = c.in_ok-chunk_grid.ensures.others in
     let second = c.in_ok-chunk_key_encoding.ensures.others in
-    let encoding = has_encoding tree after first _ c.in_ok-chunk_key_encoding.ensures.metadata in
     record {
       shape = shape_is tree _ c.in_ok-shape-2.field-0 c.in_ok-shape.ensures c.in_ok-shape-2.ensures ∙ ap (option_map numbers) c.in-Some.is;
       chunk_grid = c.in_ok-chunk_grid.ensures.metadata;
-      chunk_key_encoding = encoding;
-      indices = sym (indices_left tree after left first second) ∙ sym c.in_ok-indices.ensures ∙ ap (option_map (λ v. lists_in v.items)) c.in-Some-2.is;
-      keys = sym (keys_left tree after left first second) ∙ sym c.in_ok-keys.ensures ∙ ap (option_map (λ v. map string_bytes v.items)) c.in-Some-keys.is;
+      chunk_key_encoding = has_encoding tree _ first _ c.in_ok-chunk_key_encoding.ensures.metadata;
+      indices = sym (indices_left tree _ _ first second) ∙ sym c.in_ok-indices.ensures ∙ ap (option_map (λ v. lists_in v.items)) c.in-Some-2.is;
+      keys = sym (keys_left tree _ _ first second) ∙ sym c.in_ok-keys.ensures ∙ ap (option_map (λ v. map string_bytes v.items)) c.in-Some-keys.is;
     }
