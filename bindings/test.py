@@ -33,8 +33,10 @@ import tempfile
 
 HERE = pathlib.Path(__file__).resolve().parent
 TOP = HERE.parent
-sys.path[:0] = [str(HERE / "python"), str(TOP / "measure")]
+sys.path[:0] = [str(HERE / "python"), str(TOP / "measure"), str(TOP / "tools")]
 sys.dont_write_bytecode = True
+from built import vectors as questions_and_answers  # noqa: E402
+
 BACKENDS = ("llvm", "rattle")
 GREATEST = 2**64 - 1
 REGULAR = {"name": "regular", "configuration": {"chunk_shape": [2, 3]}}
@@ -65,12 +67,8 @@ class Tally:
 
 
 def vectors(tally, library):
-    folder = TOP / "crates" / "chunkcalls"
-    questions, answers = ((folder / name).read_bytes().split(b"\n") for name in ("stdin", "stdout"))
-    questions, answers = questions[:-1], answers[:-1]
-    tally.same("as many answers as vectors", len(answers), len(questions))
-    needed = ctypes.c_size_t()
-    for question, answer in zip(questions, answers):
+    needed, rows = ctypes.c_size_t(), questions_and_answers()
+    for question, answer in ((question.encode(), answer.encode()) for question, answer in rows):
         asked = np.frombuffer(question, np.uint8)
         line = np.full(len(answer) + 2, 7, np.uint8)
         code = library.call("zarrs_answer", asked, line[:-1], ctypes.byref(needed))
@@ -78,7 +76,7 @@ def vectors(tally, library):
         line = np.full(len(answer) + 1, 7, np.uint8)
         code = library.call("zarrs_answer", asked, line[:-1], ctypes.byref(needed))
         tally.same(question, (code, needed.value, line.tobytes()), (library.SHORT_BUFFER, len(answer) + 1, b"\7" * (len(answer) + 1)))
-    return len(questions)
+    return len(rows)
 
 
 # ---- batches

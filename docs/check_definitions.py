@@ -5,8 +5,8 @@
 
 A table of the page is about the crate in its heading, or about a part of a crate, `CRATE::PART`, whose definitions stand in the folder
 `specs/PART`. In a row the names before a file stand in that file; names after which no file comes
-stand in the file that was named last. The script prints each public definition that its crate's tables don't name, each definition of the
-repository that one of them uses and the page doesn't name, each name that its file doesn't define, and each file that isn't there. It ends
+stand in the file that was named last. The script prints each public definition, and each case of one, that its crate's tables don't name, each
+definition of the repository that one of them uses and the page doesn't name, each name that its file doesn't define, and each file that isn't there. It ends
 with the status 1 where it printed any. The crates of tests and of callers have definitions of their own and are passed over.
 """
 import pathlib
@@ -88,7 +88,7 @@ def main():
             faults.append(f"DEFINITIONS.md: {where} doesn't define {name}")
     for crate in sorted({crate for crate, _ in rows()}):
         for path in sorted(specs(crate).glob("*.antt")):
-            for name in definitions(path):
+            for name in definitions(path) + CASE.findall(path.read_text()):
                 if (crate, name) not in named:
                     faults.append(f"{path.relative_to(ROOT)}: {name} isn't in the tables of {crate}")
             for used in taken(path):

@@ -1,12 +1,16 @@
 #!/usr/bin/env python3
 """Sees that the vectors ask every call of every kind of grid at the ends of numbers, along a size of 0, without dimensions, and with a list of a
-wrong length, and that the answer is one of the call's. It prints each call that is missing somewhere, and then ends with the status 1.
+wrong length, and that the answer is one of the call's. The calls are those that the sources of `zarrs_chunk_questions` tell apart. It prints each call
+that is missing somewhere, and then ends with the status 1.
 """
 import json
 import pathlib
+import re
 import sys
 
-CALLS = pathlib.Path(__file__).resolve().parent.parent / "crates" / "chunkcalls"
+sys.path.insert(0, str(pathlib.Path(__file__).resolve().parent.parent / "tools"))
+from built import CRATES, vectors  # noqa: E402
+
 GRIDS = ["regular", "zarrs.regular_bounded", "rectangular", "rectilinear"]
 OF_NOTHING = ["dimensionality", "array_shape", "grid_shape", "configuration", "metadata"]
 OF_NOTHING += ["iter_chunk_indices", "iter_chunk_subsets", "iter_chunk_indices_and_subsets"]
@@ -16,6 +20,7 @@ OF_A_BOX = ["chunks_subset", "chunks_in_array_subset", "parts"]
 # Of a rectilinear grid alone: one of a dimension, one of a list.
 RUNS, COUNTED = "runs", "chunk_indices_counted"
 KNOWN = {*OF_NOTHING, *OF_A_LIST, *OF_A_BOX, RUNS, COUNTED}
+OF_AN_ENCODING = {"encode", "decode"}
 # From this number on, twice a number is past the greatest.
 GREAT = 2**63
 ENDS, ZERO, NONE, LENGTH = "at the ends of numbers", "along a size of 0", "without dimensions", "with a list of a wrong length"
@@ -36,10 +41,15 @@ def has_a_wrong_length(call, of, shape):
     return is_list_of_lists(lists) and len(lists) > 0 and all(len(numbers) != len(shape) for numbers in lists)
 
 
-def vectors():
+def calls_of_sources():
+    """The names of the calls, as the sources tell them apart."""
+    for path in (CRATES / "zarrs_chunk_questions" / "src").glob("*.rt"):
+        yield from re.findall(r'^ +(?:Some\()?"(\w+)"\)? =>', path.read_text(), re.MULTILINE)
+
+
+def questions():
     """Each question to a grid, with its answer."""
-    lines = zip((CALLS / "stdin").read_text().splitlines(), (CALLS / "stdout").read_text().splitlines())
-    for line, answer in lines:
+    for line, answer in vectors():
         try:
             question = json.loads(line)
         except ValueError:
@@ -73,17 +83,17 @@ def wanted():
 
 
 def main():
-    asked, unknown = set(), set()
-    for question, answer in vectors():
+    asked, listed = set(), KNOWN | OF_AN_ENCODING
+    for question, answer in questions():
         call = str(question.get("call"))
         asked.update((question["chunk_grid"].get("name"), call, point) for point in points(question, answer))
-        if call not in KNOWN and not answer.startswith(("refused: ", "unreadable: ")):
-            unknown.add(call)
+    unknown = set(calls_of_sources()) ^ listed
     missing = [row for row in wanted() if row not in asked]
     for grid, call, point in missing:
         print(f"no vector asks `{call}` of a {grid} grid {point}")
     for call in sorted(unknown):
-        print(f"`{call}` stands in no list of {pathlib.Path(__file__).name}")
+        where = "the sources" if call in listed else f"the lists of {pathlib.Path(__file__).name}"
+        print(f"the call `{call}` isn't in {where}")
     sys.exit(1 if missing or unknown else 0)
 
 

@@ -22,8 +22,9 @@ import random
 import subprocess
 import sys
 
-TOP = pathlib.Path(__file__).resolve().parent.parent
-sys.path.insert(0, str(TOP / "measure"))
+for folder in ("measure", "tools"):
+    sys.path.insert(0, str(pathlib.Path(__file__).resolve().parent.parent / folder))
+from built import builds  # noqa: E402
 from chunk_model import GREATEST, Encoding, Grid, Refused, box_of, document_lines, first_of  # noqa: E402
 
 ENDS = [1, 2, 3, 2**31, 2**32, 2**32 + 1, 2**53 + 1, 2**63 - 1, 2**63, 2**63 + 1, GREATEST - 1, GREATEST]
@@ -542,10 +543,12 @@ def main():
     parser.add_argument("--documents", type=int, default=1000)
     parser.add_argument("--arrays", type=int, default=400)
     parser.add_argument("--seed", type=int, default=1)
-    parser.add_argument("--calls", default=str(TOP / "crates" / "chunkcalls" / "out" / "chunkcalls"))
-    parser.add_argument("--where", default=str(TOP / "crates" / "chunkwhere" / "out" / "chunkwhere"))
+    parser.add_argument("--calls", default=None, help="a build of chunkcalls")
+    parser.add_argument("--where", default=None, help="a build of chunkwhere")
     parser.add_argument("--without-zarr", action="store_true")
     arguments = parser.parse_args()
+    arguments.calls = arguments.calls or str(builds("chunkcalls")[0])
+    arguments.where = arguments.where or str(builds("chunkwhere")[0])
     tally = Tally()
     compare_calls(arguments, tally)
     compare_documents(arguments, tally)

@@ -15,7 +15,8 @@ import subprocess
 import sys
 
 HERE = pathlib.Path(__file__).resolve().parent
-CALLS = HERE.parent / "crates" / "chunkcalls"
+sys.path.insert(0, str(HERE.parent / "tools"))
+from built import vectors as questions_and_answers  # noqa: E402
 
 # The file of each call whose question is answered.
 SUBJECTS = {
@@ -89,13 +90,9 @@ def vector_of(line, question, answer, note):
 
 def vectors():
     """The text of each file."""
-    questions = (CALLS / "stdin").read_text().splitlines()
-    answers = (CALLS / "stdout").read_text().splitlines()
-    if len(questions) != len(answers):
-        sys.exit(f"{len(questions)} questions have {len(answers)} answers")
     texts = {name: [] for name in FILES}
     note = ""
-    for line, printed in zip(questions, answers):
+    for line, printed in questions_and_answers():
         question, answer = members(line), answer_of(printed)
         note = (question or {}).get("note", note)
         texts[file_of(question, answer)].append(vector_of(line, question, answer, note))
@@ -125,8 +122,7 @@ def differences():
         if path.stem not in FILES:
             yield f"vectors/{path.name} is written by nothing"
     here = [asked(line) for name in FILES if (HERE / f"{name}.jsonl").exists() for line in (HERE / f"{name}.jsonl").read_text().splitlines()]
-    questions = [line if members(line) is None else without_note(line) for line in (CALLS / "stdin").read_text().splitlines()]
-    there = list(zip(questions, (CALLS / "stdout").read_text().splitlines()))
+    there = [(line if members(line) is None else without_note(line), answer) for line, answer in questions_and_answers()]
     if sorted(here) != sorted(there):
         yield "the vectors and the files of chunkcalls don't say the same"
 
