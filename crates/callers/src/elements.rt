@@ -1,7 +1,7 @@
 //! Where an element lies, and under which key its chunk is stored: in any grid, under any encoding.
 ghost use Rattle.std.specs.Prelude.{◌≡◌, ◌≢◌, ◌↔◌, ◌⊎◌, ℕ, IfErr, IfOk, IsTrue, List, length};
 ghost use Rattle.zarrs_chunk_base.specs.Dimension.{InBox};
-ghost use Rattle.zarrs_chunk_base.specs.Refusal.{AnswersOrMemory, IfRefused};
+ghost use Rattle.zarrs_chunk_base.specs.Refusal.{AnswersOrMemory, OrMemory};
 ghost use Rattle.zarrs_chunks.specs.Subsets.{HasNoHome};
 
 use std::alloc::Global;
@@ -38,7 +38,7 @@ pub fn share_a_chunk<G: ChunkGridTraits>(
     ensures shared { IfOk result (λ shared. IsTrue shared ↔ ((chunk : List ℕ)
         × InBox (G.dimensions grid.now) chunk one.now
         × InBox (G.dimensions grid.now) chunk other.now)) }
-    ensures refused { IfErr result (λ refusal. IfRefused refusal
+    ensures refused { IfErr result (OrMemory
         (λ _. (length one.now ≢ length (G.dimensions grid.now))
         ⊎ (length other.now ≢ length (G.dimensions grid.now)))) }
 {

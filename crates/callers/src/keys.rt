@@ -1,7 +1,7 @@
 //! The keys of chunks.
 ghost use Rattle.std.specs.Prelude.{MatchResult};
 ghost use Rattle.zarrs_chunk_base.specs.Metadata.{extension_of};
-ghost use Rattle.zarrs_chunk_base.specs.Refusal.{IfRefused};
+ghost use Rattle.zarrs_chunk_base.specs.Refusal.{OrMemory};
 ghost use Rattle.zarrs_chunk_keys.specs.ChunkKey.{Encoding, IsKey};
 ghost use Rattle.zarrs_chunk_keys.specs.KeyKinds.{IsEncoding, IsEncodingFault};
 
@@ -18,7 +18,7 @@ pub fn key_by_name(
     ensures { MatchResult result
         (λ key. (encoding : Encoding) × IsEncoding (extension_of metadata.now) encoding
         × IsKey encoding chunk_indices.now key)
-        (λ refusal. IfRefused refusal (IsEncodingFault (extension_of metadata.now))) }
+        (OrMemory (IsEncodingFault (extension_of metadata.now))) }
 {
     let encoding = ChunkKeyEncoding::from_metadata(alloc, metadata)?;
     Ok(encoding.encode(alloc, chunk_indices)?)

@@ -1,8 +1,7 @@
 -- What follows of why a call is refused.
-use Rattle.zarrs_chunk_base.specs.Refusal.{IsRefusedAnd}
+use Rattle.zarrs_chunk_base.specs.Refusal.{IsRefusedAnd, OrMemory}
 use Rattle.zarrs_chunk_base.specs.declared.refusal.Refusal.{Refusal}
 use Rattle.zarrs_chunk_base.specs.declared.refusal.Refusal.TheVariants.{Refused, Memory}
-use Rattle.programs.specs.OrMemory.{OrMemory}
 
 pub follows : {E : Type 0} (refusal : Refusal E) (P Q : E → Type 0) → ((e : E) → P e → Q e) → OrMemory P refusal → OrMemory Q refusal
 follows (Refused e) P Q step says = step e says

@@ -1,5 +1,4 @@
 pub mod Document
-pub mod OrMemory
 pub mod Streams
 pub mod Watched
 pub mod chunkcalls

@@ -4,9 +4,8 @@ ghost use Rattle.serde_json.specs.Find.{get};
 ghost use Rattle.serde_json.specs.View.{view};
 ghost use Rattle.zarrs_chunk_base.specs.Json.{list_of, size_of};
 ghost use Rattle.zarrs_chunk_base.specs.Metadata.{extension_of, IsExtension};
-ghost use Rattle.zarrs_chunk_base.specs.Refusal.{IsRefusedAnd};
+ghost use Rattle.zarrs_chunk_base.specs.Refusal.{IsRefusedAnd, OrMemory};
 ghost use Rattle.programs.specs.Document.{HasExtension, HasExtensionFault, IsExtensionFault, IsMissingFault, IsTextFault, IsTreeOf};
-ghost use Rattle.programs.specs.OrMemory.{OrMemory};
 
 use crate::document_fault::DocumentFault;
 use serde_json::Value;

@@ -1,7 +1,7 @@
 -- The axes that were made so far, and those of the array sizes and configurations that are left.
 use Rattle.std.proofs.Common.{◌≡◌, ◌≢◌, ◌↔◌, ℕ, suc, ap, List, [], ◌∷◌, ◌++◌, length, map, subst, sym, append_assoc, append-nil, refl, arith}
 use Rattle.std.specs.List.{AllZip}
-use Rattle.zarrs_chunk_base.specs.Refusal.{IfRefused}
+use Rattle.zarrs_chunk_base.specs.Refusal.{OrMemory}
 use Rattle.zarrs_chunk_base.specs.declared.refusal.Refusal.{Refusal}
 use Rattle.zarrs_chunk_base.proofs.Refusals.{IsMapped, refused_through}
 use Rattle.zarrs_chunk_base.specs.Dimension.{Dimension, InEach}
@@ -78,7 +78,8 @@ any_accepted f _ _ = (λ h. absurd h, λ same. absurd (omega arith))
 
 -- so a refusal that was made of theirs tells unequal lengths
 pub unequal_lengths : {C E X Y : Type 0} (f : C → E) (shape : List ℕ) (configurations : List C) (R : X → Y → Type 0) (r : Refusal X) (s : Refusal Y)
-    → IsMapped R r s → IfRefused r (λ _. ¬ AllZip (λ _ _. Unit {0}) shape (map f configurations)) → IfRefused s (λ _. length configurations ≢ length shape)
+    → IsMapped R r s → OrMemory (λ _. ¬ AllZip (λ _ _. Unit {0}) shape (map f configurations)) r
+    → OrMemory (λ _. length configurations ≢ length shape) s
 unequal_lengths f shape configurations R r s is h =
     refused_through R r s (λ _. ¬ AllZip (λ _ _. Unit {0}) shape (map f configurations)) (λ _. length configurations ≢ length shape) is h
     (λ x y made not same. not ((any_accepted f shape configurations).1 same))

@@ -6,7 +6,7 @@ ghost use Rattle.std.specs.Prelude.{◌≡◌, ◌↔◌, ◌≤◌, ℕ, [], If
 ghost use Rattle.std.specs.List.{AllByRecursion, AllZip};
 ghost use Rattle.std.specs.Vec.{vec_capacity};
 ghost use Rattle.zarrs_chunk_base.specs.Dimension.{InBox, InEach, IsPlace, array_sizes, grid_sizes};
-ghost use Rattle.zarrs_chunk_base.specs.Refusal.{Answers, HasMemory, IfRefused, IsRefusedAnd, TellsLengths};
+ghost use Rattle.zarrs_chunk_base.specs.Refusal.{Answers, HasMemory, IsRefusedAnd, OrMemory, TellsLengths};
 ghost use Rattle.zarrs_chunk_axes.specs.InBounds.{AreBelow, AreInBounds, AreIndicesInBounds, IsIndexInBounds};
 ghost use Rattle.zarrs_chunk_axes.specs.LookUp.{AnswersShape, AnswersOrigin, AnswersChunk, AnswersHome, AnswersPlace, AnswersRanges};
 ghost use Rattle.zarrs_chunk_axes.specs.lemmas.LookUpEach.{AreFound, SomeMisses};
@@ -51,9 +51,9 @@ impl<A: Axis + Drop> AxisGrid<A> {
         ensures edges { IfOk result (λ grid. edges_of grid ≡ map A.tells configurations.now) }
         ensures sizes { IfOk result (λ grid. array_sizes (dimensions_of grid)
             ≡ array_shape.items) }
-        ensures refused { IfErr result (λ refusal. IfRefused refusal
+        ensures refused { IfErr result (OrMemory
             (λ _. ¬ AllZip A.accepted array_shape.items (map A.tells configurations.now))) }
-        ensures handed_back { IfErr result (λ refusal. IfRefused refusal
+        ensures handed_back { IfErr result (OrMemory
             (λ shape. shape ≡ array_shape)) }
         ensures refused_first { (¬ AllZip A.accepted array_shape.items
             (map A.tells configurations.now)) → HasMemory result }
@@ -163,7 +163,7 @@ impl<A: Axis + Drop> AxisGrid<A> {
     ) -> Result<bool, Refusal<IncompatibleDimensionalityError>>
         ensures answers { AnswersHome (dimensions_of self.now) indices.now result
             chunk.new.items place.new.items }
-        ensures unchanged { IfErr result (λ refusal. IfRefused refusal
+        ensures unchanged { IfErr result (OrMemory
             (λ _. (chunk.new ≡ chunk.old) × (place.new ≡ place.old))) }
         ensures chunk_unchanged { OnErr result (chunk.new.items ≡ chunk.old.items) }
         ensures place_unchanged { OnErr result (place.new.items ≡ place.old.items) }

@@ -5,7 +5,7 @@ use Rattle.serde_json.specs.Data.{Members, no_members}
 use Rattle.zarrs_chunk_base.specs.Configuration.{IsConfiguration, IsFitting}
 use Rattle.zarrs_chunk_base.specs.Kinds.{IsConfigurationOf, IsFault, IsFaultOf, IsMadeOf, IsMetadata, IsOf, Kind, fault_of, name_unsupported, names}
 use Rattle.zarrs_chunk_base.specs.Metadata.{Extension, configuration_of}
-use Rattle.zarrs_chunk_base.specs.Refusal.{IfRefused}
+use Rattle.zarrs_chunk_base.specs.Refusal.{OrMemory}
 use Rattle.zarrs_chunk_base.specs.declared.plugin_create_error.PluginCreateError.{PluginCreateError}
 use Rattle.zarrs_chunk_base.specs.declared.plugin_create_error.PluginCreateError.TheVariants.{NameUnsupported, ConfigurationUnsupported, Other}
 use Rattle.zarrs_chunk_base.specs.declared.refusal.Refusal.{Refusal}
@@ -80,11 +80,11 @@ module _ {K G M : Type 0} (kind : K → Kind G M) where
 
   -- a kind's refusal that is handed on is that of the extension's name
   pub handed_on : (kinds : List K) {A : Type 0} (P : A → Type 0) (k : K) (given : G) (e : Extension) (refusal : Refusal PluginCreateError)
-      (answer : Result A (Refusal PluginCreateError)) → e.name ≡ (kind k).name → IfRefused refusal (IsFaultOf (kind k) e given)
-      → IsErrAnd answer (λ other. other ≡ refusal) → MatchResult answer P (λ other. IfRefused other (IsFault kind kinds e given))
+      (answer : Result A (Refusal PluginCreateError)) → e.name ≡ (kind k).name → OrMemory (IsFaultOf (kind k) e given) refusal
+      → IsErrAnd answer (λ other. other ≡ refusal) → MatchResult answer P (OrMemory (IsFault kind kinds e given))
   handed_on kinds P k given e refusal (Ok x) name refused is = absurd is
   handed_on kinds P k given e refusal (Err other) name refused is =
-      subst (λ r. IfRefused r (IsFault kind kinds e given)) (sym is)
+      subst (OrMemory (IsFault kind kinds e given)) (sym is)
       (refused_weaker refusal (IsFaultOf (kind k) e given) (IsFault kind kinds e given) refused (λ fault. fault_of k name))
 
   -- the metadata of what was made is never refused for what it was made of

@@ -6,9 +6,9 @@ use Rattle.zarrs_chunk_base.specs.declared.refusal.Refusal.{Refusal}
 use Rattle.zarrs_chunk_base.specs.declared.refusal.Refusal.TheVariants.{Refused, Memory}
 
 -- what holds of a call's own refusal; nothing is said of out of memory
-abbrev pub IfRefused : {E : Type 0} → Refusal E → (E → Type 0) → Type 0
-IfRefused (Refused e) P = P e
-IfRefused (Memory _) P = Unit {0}
+abbrev pub OrMemory : {E : Type 0} → (E → Type 0) → Refusal E → Type 0
+OrMemory P (Refused e) = P e
+OrMemory P (Memory _) = Unit {0}
 
 -- what holds of a call's own refusal, and what where it is out of memory
 abbrev pub MatchRefusal : {E : Type 0} → Refusal E → (E → Type 0) → (AllocError → Type 0) → Type 0

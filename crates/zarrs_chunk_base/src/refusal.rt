@@ -18,12 +18,12 @@ pub enum Refusal<E> {
 
 impl<E> Refusal<E> {
     ghost use Rattle.std.specs.Prelude.{◌≡◌, Err, Ok};
-    ghost use Rattle.zarrs_chunk_base.specs.Refusal.{IfRefused, IsRefusedAnd, MatchRefusal};
+    ghost use Rattle.zarrs_chunk_base.specs.Refusal.{IsRefusedAnd, MatchRefusal, OrMemory};
     ghost use Rattle.zarrs_chunk_base.specs.declared.refusal.Refusal.TheVariants.{Memory};
 
     /// The refusal that `op` makes of the call's own; that it is out of memory stays.
     pub fn map<F, O: FnOnce(E) -> F>(self, op: O) -> Refusal<F>
-        requires { IfRefused self (O.pre op) }
+        requires { OrMemory (O.pre op) self }
         ensures { MatchRefusal self
             (λ error. IsRefusedAnd result (O.post op error))
             (λ error. result ≡ Memory error) }
@@ -36,7 +36,7 @@ impl<E> Refusal<E> {
 
     /// The same where `op` takes memory; where it finds none, that there was none.
     pub fn try_map<F, O: FnOnce(E) -> Result<F, AllocError>>(self, op: O) -> Refusal<F>
-        requires { IfRefused self (O.pre op) }
+        requires { OrMemory (O.pre op) self }
         ensures { MatchRefusal self
             (λ error. MatchRefusal result (λ made. O.post op error (Ok made))
             (λ memory. O.post op error (Err memory)))

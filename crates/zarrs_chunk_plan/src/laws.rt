@@ -14,7 +14,7 @@ ghost use Rattle.std.specs.List.{AllPairs, AllZip, Contains, flat_map};
 ghost use Rattle.zarrs_chunk_axes.specs.InBounds.{AreBelow};
 ghost use Rattle.zarrs_chunk_base.specs.ArraySubset.{Box, IsEmptyBox, IsInside};
 ghost use Rattle.zarrs_chunk_base.specs.Dimension.{InBox, IsPlace, array_sizes};
-ghost use Rattle.zarrs_chunk_base.specs.Refusal.{HasMemory, IfRefused};
+ghost use Rattle.zarrs_chunk_base.specs.Refusal.{HasMemory, OrMemory};
 ghost use Rattle.zarrs_chunk_plan.specs.Plan.{AnswersNoPart, AnswersPlan, HasElement, IsPart, IsPlan};
 ghost use Rattle.zarrs_chunk_plan.specs.Rechunking.{Group, IsRechunking, Moves, ShareOut, copies_of};
 ghost use Rattle.zarrs_chunk_plan.specs.seen.Copies.{AreGroupsToCome, CanCopy, IsCopiesFault, groups_of};
@@ -151,7 +151,7 @@ pub fn the_walk_gives_the_rechunking<
         ≡ array_sizes (H.dimensions target.now)) }
     ensures lengths { IfOk result (λ _. length chunks.now.start
         ≡ length (H.dimensions target.now)) }
-    ensures refused { IfErr result (λ refusal. IfRefused refusal (IsCopiesFault
+    ensures refused { IfErr result (OrMemory (IsCopiesFault
         (array_sizes (G.dimensions source.now)) (array_sizes (H.dimensions target.now))
         (length chunks.now.start) (length (H.dimensions target.now)))) }
     ensures shapes_first { array_sizes (G.dimensions source.now)

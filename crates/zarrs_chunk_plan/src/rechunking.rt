@@ -2,7 +2,7 @@
 ghost use Rattle.std.specs.Prelude.{◌≡◌, ◌≢◌, ◌↔◌, ℕ, IfErr, IfOk, IsTrue, List, length};
 ghost use Rattle.zarrs_chunk_base.specs.ArraySubset.{Box, IsBox, IsInside};
 ghost use Rattle.zarrs_chunk_base.specs.Dimension.{array_sizes};
-ghost use Rattle.zarrs_chunk_base.specs.Refusal.{HasMemory, IfRefused};
+ghost use Rattle.zarrs_chunk_base.specs.Refusal.{HasMemory, OrMemory};
 ghost use Rattle.zarrs_chunks.specs.Walks.{chunks_in};
 ghost use Rattle.zarrs_chunk_plan.specs.Plan.{Meets};
 ghost use Rattle.zarrs_chunk_plan.specs.Rechunking.{AreTargets, array_box};
@@ -54,7 +54,7 @@ pub fn copies<
         ≡ array_sizes (H.dimensions target.now)) }
     ensures lengths { IfOk result (λ _. length chunks.now.start
         ≡ length (H.dimensions target.now)) }
-    ensures refused { IfErr result (λ refusal. IfRefused refusal (IsCopiesFault
+    ensures refused { IfErr result (OrMemory (IsCopiesFault
         (array_sizes (G.dimensions source.now)) (array_sizes (H.dimensions target.now))
         (length chunks.now.start) (length (H.dimensions target.now)))) }
     ensures shapes_first { array_sizes (G.dimensions source.now)

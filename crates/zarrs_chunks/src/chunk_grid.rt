@@ -12,7 +12,7 @@ ghost use Rattle.std.specs.Prelude.{◌≡◌, ◌≢◌, ◌↔◌, ◌⊎◌, 
 ghost use Rattle.std.specs.List.{AllByRecursion};
 ghost use Rattle.zarrs_chunk_base.specs.ArraySubset.{IsEmptyBox};
 ghost use Rattle.zarrs_chunk_base.specs.Dimension.{Dimension, IsChain, array_sizes, grid_sizes};
-ghost use Rattle.zarrs_chunk_base.specs.Refusal.{IfRefused};
+ghost use Rattle.zarrs_chunk_base.specs.Refusal.{OrMemory};
 ghost use Rattle.zarrs_chunk_axes.specs.InBounds.{AreBelow, AreInBounds};
 ghost use Rattle.zarrs_chunk_axes.specs.LookUp.{AnswersShape, AnswersShapeNumbers, AnswersOrigin, AnswersChunk, AnswersHome, AnswersPlace};
 ghost use Rattle.zarrs_chunks.specs.Subsets.{AnswersSubset, AnswersChunksSubset, AnswersCover, AnswersEmptyCover};
@@ -162,7 +162,7 @@ pub trait ChunkGridTraits: Sized + Drop {
     ) -> Result<bool, Refusal<IncompatibleDimensionalityError>>
         ensures answers { AnswersHome (dimensions self.now) array_indices.now result
             home.new.chunk.items home.new.element.items }
-        ensures unchanged { IfErr result (λ refusal. IfRefused refusal (λ _. home.new ≡ home.old)) }
+        ensures unchanged { IfErr result (OrMemory (λ _. home.new ≡ home.old)) }
         ensures chunk_unchanged { OnErr result (home.new.chunk.items ≡ home.old.chunk.items) }
         ensures element_unchanged { OnErr result (home.new.element.items ≡ home.old.element.items) }
     {

@@ -3,7 +3,7 @@ use Rattle.std.proofs.Common.{◌≡◌, ◌∙◌, ℕ, List, [], ◌++◌, Opt
 use Rattle.zarrs_chunk_base.specs.declared.refusal.Refusal.{Refusal}
 use Rattle.zarrs_chunk_base.specs.declared.refusal.Refusal.TheVariants.{Refused, Memory}
 use Rattle.programs.proofs.Known.{for_known}
-use Rattle.programs.specs.OrMemory.{OrMemory}
+use Rattle.zarrs_chunk_base.specs.Refusal.{OrMemory}
 use Rattle.programs.specs.Watched.{IsFailure}
 use Rattle.programs.specs.chunkplan.seen.Sent.{HasBegun, Output, Sends, StepLeaves}
 use Rattle.programs.specs.declared.chunkplan.run_fault.RunFault.{RunFault}

@@ -2,7 +2,7 @@
 use Rattle.std.proofs.Common.{◌≡◌, ℕ, Bool, true, false, List, ◌++◌, Some, Result, Ok, Err, IfErr, OnOk, OnErr, ◌∙◌}
 use Rattle.zarrs_chunk_base.specs.declared.refusal.Refusal.{Refusal}
 use Rattle.zarrs_chunk_base.specs.declared.refusal.Refusal.TheVariants.{Refused, Memory}
-use Rattle.programs.specs.OrMemory.{OrMemory}
+use Rattle.zarrs_chunk_base.specs.Refusal.{OrMemory}
 use Rattle.programs.specs.declared.chunkwhere.run_fault.RunFault.{RunFault}
 use Rattle.programs.specs.declared.chunkwhere.run_fault.RunFault.TheVariants.{Read, Write}
 use Rattle.programs.specs.Streams.{IsReadToEnd, IsWritten, Streams}

@@ -3,9 +3,8 @@ ghost use Rattle.std.specs.Prelude.{◌≡◌, ◌≢◌, ℕ, List, IfOk, Match
 ghost use Rattle.serde_json.specs.Data.{Data};
 ghost use Rattle.serde_json.specs.Find.{get};
 ghost use Rattle.serde_json.specs.View.{view};
-ghost use Rattle.zarrs_chunk_base.specs.Refusal.{IsRefusedAnd};
+ghost use Rattle.zarrs_chunk_base.specs.Refusal.{IsRefusedAnd, OrMemory};
 ghost use Rattle.programs.specs.Document.{IsTreeOf};
-ghost use Rattle.programs.specs.OrMemory.{OrMemory};
 ghost use Rattle.programs.specs.chunkplan.Document.{Fit, HasStored, IsDocument, IsTask, document_of, stored_of, task_of};
 ghost use Rattle.programs.specs.chunkplan.DocumentFault.{IsFormFault, IsInputFault, IsMisfit, IsStoredFault, IsTaskFault};
 

@@ -6,7 +6,7 @@ ghost use Rattle.zarrs_chunks.specs.seen.Grids.{grid_in};
 ghost use Rattle.zarrs_chunk_plan.specs.Rechunking.{Group, IsRechunking, all_chunks_box, array_box};
 ghost use Rattle.zarrs_chunk_plan.specs.declared.part.Part.{Part as PartValue};
 ghost use Rattle.zarrs_chunk_plan.specs.seen.Parts.{HasKeys};
-ghost use Rattle.programs.specs.OrMemory.{OrMemory};
+ghost use Rattle.zarrs_chunk_base.specs.Refusal.{OrMemory};
 ghost use Rattle.programs.specs.chunkplan.Document.{document_of, stored_of};
 ghost use Rattle.programs.specs.chunkplan.Line.{copy_lines, part_lines};
 ghost use Rattle.programs.specs.chunkplan.PlanFault.{IsChunksFault, IsCreateFault, IsPlanFault, IsReadFault, IsSourceFault, IsTargetFault};

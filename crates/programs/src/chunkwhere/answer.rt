@@ -10,8 +10,7 @@ ghost use Rattle.zarrs_chunk_keys.specs.seen.Encodings.{encoding_in};
 ghost use Rattle.zarrs_chunks.specs.GridKinds.{IsGrid};
 ghost use Rattle.zarrs_chunks.specs.seen.Grids.{grid_in};
 ghost use Rattle.programs.specs.chunkwhere.Output.{AreLines, IsKeyLine, IsKeyOf, IsLine};
-ghost use Rattle.zarrs_chunk_base.specs.Refusal.{IfRefused, TellsLengths};
-ghost use Rattle.programs.specs.OrMemory.{OrMemory};
+ghost use Rattle.zarrs_chunk_base.specs.Refusal.{OrMemory, TellsLengths};
 
 use crate::chunkwhere::document::Document;
 use crate::chunkwhere::run_fault::RunFault;
@@ -108,7 +107,7 @@ fn append_line<G: ChunkGridTraits, E: ChunkKeyEncodingTraits>(
         (λ _. HasLengthOf (G.dimensions grid.now) index.now
         × (line : List ℕ) × IsLine (G.dimensions grid.now) (E.is_key encoding.now) index.now line
         × (string_bytes text.new ≡ string_bytes text.old ++ line))
-        (λ refusal. IfRefused refusal (λ e. (length index.now ≢ length (G.dimensions grid.now))
+        (OrMemory (λ e. (length index.now ≢ length (G.dimensions grid.now))
         × TellsLengths (length index.now) (length (G.dimensions grid.now)) e)) }
 {
     if !grid.find_home(index, home)? {

@@ -3,7 +3,7 @@ ghost use Rattle.std.specs.Prelude.{◌≡◌, IfOk, MatchResult, map, option_ma
 ghost use Rattle.serde_json.specs.Data.{Data};
 ghost use Rattle.serde_json.specs.View.{view};
 ghost use Rattle.programs.specs.Document.{IsTreeOf};
-ghost use Rattle.programs.specs.OrMemory.{OrMemory};
+ghost use Rattle.zarrs_chunk_base.specs.Refusal.{OrMemory};
 ghost use Rattle.programs.specs.chunkwhere.Document.{document_of, indices_in, keys_in, lists_in, IsDocument, IsFormFault, IsInputFault};
 
 use crate::{DocumentFault, read_sizes, read_tree, required_member, take_metadata};

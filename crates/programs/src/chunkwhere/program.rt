@@ -2,7 +2,7 @@
 ghost use Rattle.std.specs.Prelude.{◌≡◌, ◌≤◌, false, IfSome, MatchResult, OnOk, string_bytes};
 ghost use Rattle.std.specs.Io.KnownBytes.{Keeps};
 ghost use Rattle.programs.specs.chunkwhere.Run.{IsFirstFault, IsTextFor, RunEndsWith, RunLeaves};
-ghost use Rattle.programs.specs.OrMemory.{OrMemory};
+ghost use Rattle.zarrs_chunk_base.specs.Refusal.{OrMemory};
 ghost use Rattle.programs.specs.Watched.{watched, has_failed};
 
 use crate::chunkwhere::answer::answer;

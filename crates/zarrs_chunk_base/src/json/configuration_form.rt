@@ -5,7 +5,7 @@ ghost use Rattle.serde_json.specs.View.{members_view};
 ghost use Rattle.zarrs_chunk_base.specs.Configuration.{Table, AreInOrder, HasRequired, IsConfiguration, IsConfigurationFault, IsFirstWrong, IsFitting, IsUnsupported, names_of, required_names_of};
 ghost use Rattle.std.specs.List.{AllByRecursion};
 ghost use Rattle.zarrs_chunk_base.specs.Metadata.{configuration_of, extension_of};
-ghost use Rattle.zarrs_chunk_base.specs.Refusal.{IfRefused};
+ghost use Rattle.zarrs_chunk_base.specs.Refusal.{OrMemory};
 
 use crate::json::members::{refuse_missing, refuse_unknown};
 use crate::{Configuration, ConfigurationFault, MetadataV3, PluginCreateError, Refusal};
@@ -59,7 +59,7 @@ pub trait ConfigurationForm: Sized + Drop {
         requires { HasRequired table.members (members_view members.now.entries) }
         ensures { MatchResult result
             (λ c. value (members_view members.now.entries) ≡ Some (seen c))
-            (λ refusal. IfRefused refusal
+            (OrMemory
             (IsFirstWrong table.members (members_view members.now.entries))) };
 
     /// The members of the configuration, which stand for it.
@@ -82,7 +82,7 @@ pub trait ConfigurationForm: Sized + Drop {
     ) -> Result<Self, Refusal<ConfigurationFault>>
         ensures { MatchResult result
             (λ c. IsConfiguration table value (members_view members.now.entries) (seen c))
-            (λ refusal. IfRefused refusal
+            (OrMemory
             (IsConfigurationFault table (members_view members.now.entries))) }
     {
         let table = Self::names();
@@ -101,7 +101,7 @@ pub trait ConfigurationForm: Sized + Drop {
     ) -> Result<Self, Refusal<PluginCreateError>>
         ensures { MatchResult result
             (λ c. IsConfiguration table value (configuration_of (extension_of metadata.now)) (seen c))
-            (λ refusal. IfRefused refusal
+            (OrMemory
             (IsUnsupported table (configuration_of (extension_of metadata.now)))) }
     {
         let empty = Map::new(alloc);

@@ -5,7 +5,7 @@ ghost use Rattle.std.specs.BTreeMap.{keys, IsOrdered};
 ghost use Rattle.serde_json.specs.Find.{get, get_member};
 ghost use Rattle.zarrs_chunk_base.specs.Configuration.{HasNoUnknown, IsUnknownFault, value_of};
 ghost use Rattle.zarrs_chunk_base.specs.lemmas.Members.{IsFirstMissing, IsValueFault};
-ghost use Rattle.zarrs_chunk_base.specs.Refusal.{IfRefused};
+ghost use Rattle.zarrs_chunk_base.specs.Refusal.{OrMemory};
 ghost use Rattle.serde_json.specs.View.{view, members_view};
 
 use crate::json::tree_form::TreeForm;
@@ -40,7 +40,7 @@ pub(super) fn refuse_unknown(
 ) -> Result<(), Refusal<ConfigurationFault>>
     ensures { MatchResult result (λ _. HasNoUnknown (map
         (λ name. name.now) known.now) (members_view members.now.entries))
-        (λ refusal. IfRefused refusal (IsUnknownFault (map
+        (OrMemory (IsUnknownFault (map
         (λ name. name.now) known.now) expected.now (members_view members.now.entries))) }
 {
     let Some(name) = first_unknown(members, known) else {
@@ -77,7 +77,7 @@ pub(super) fn refuse_missing(
     ensures { MatchResult result (λ _. AllByRecursion
         (λ name. IsSome (get_member name (members_view members.now.entries)))
         (map (λ name. name.now) required.now))
-        (λ refusal. IfRefused refusal (IsFirstMissing (map
+        (OrMemory (IsFirstMissing (map
         (λ name. name.now) required.now) (members_view members.now.entries))) }
 {
     for field in required {
@@ -98,7 +98,7 @@ pub(super) fn optional_value<T: TreeForm>(
         (get_member field.now (members_view members.now.entries) ≡ None)
         (λ value. value_of field.now T.form (members_view members.now.entries)
         ≡ Some (T.seen value)))
-        (λ refusal. IfRefused refusal
+        (OrMemory
         (IsValueFault field.now T.form (members_view members.now.entries))) }
 {
     let Some(tree) = member(members, field) else {
@@ -120,7 +120,7 @@ pub(super) fn required_value<T: TreeForm>(
     ensures { MatchResult result
         (λ value. value_of field.now T.form (members_view members.now.entries)
         ≡ Some (T.seen value))
-        (λ refusal. IfRefused refusal
+        (OrMemory
         (IsValueFault field.now T.form (members_view members.now.entries))) }
 {
     match optional_value(alloc, members, field)? {

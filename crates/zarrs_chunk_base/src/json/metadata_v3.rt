@@ -3,7 +3,7 @@ ghost use Rattle.std.specs.Prelude.{◌≡◌, Bool, IfOk, MatchResult, Option, 
 ghost use Rattle.serde_json.specs.Find.{get, as_bool, as_object};
 ghost use Rattle.serde_json.specs.View.{view, members_view};
 ghost use Rattle.zarrs_chunk_base.specs.Metadata.{IsExtension, IsMetadataFault, IsMisformed, IsOptional};
-ghost use Rattle.zarrs_chunk_base.specs.Refusal.{IfRefused};
+ghost use Rattle.zarrs_chunk_base.specs.Refusal.{OrMemory};
 ghost use Rattle.zarrs_chunk_base.specs.lemmas.ConfigurationIn.{configuration_in};
 
 use crate::json::members::take_member;
@@ -28,7 +28,7 @@ impl MetadataV3 {
     ghost use Rattle.std.specs.Prelude.{◌≡◌, IfOk, MatchResult, option_map, string_bytes};
     ghost use Rattle.serde_json.specs.View.{view, members_view};
     ghost use Rattle.zarrs_chunk_base.specs.Metadata.{extension_of, extension_tree, IsExtension, IsMetadataFault};
-    ghost use Rattle.zarrs_chunk_base.specs.Refusal.{IfRefused};
+    ghost use Rattle.zarrs_chunk_base.specs.Refusal.{OrMemory};
 
     /// The metadata of a name and, where there is one, a configuration.
     pub fn new(name: String, configuration: Option<Configuration>) -> MetadataV3
@@ -50,7 +50,7 @@ impl MetadataV3 {
     /// The first fault of the tree; or out of memory.
     pub fn from_tree(alloc: Global, tree: &Value) -> Result<MetadataV3, Refusal<MetadataError>>
         ensures { MatchResult result (λ m. IsExtension (view tree.now) (extension_of m))
-            (λ refusal. IfRefused refusal (IsMetadataFault (view tree.now))) }
+            (OrMemory (IsMetadataFault (view tree.now))) }
     {
         let name = String::from_str(alloc, checked_name(tree)?)?;
         Ok(MetadataV3 {
@@ -65,7 +65,7 @@ impl MetadataV3 {
     /// The first fault of the tree; or out of memory.
     pub fn from_value(alloc: Global, tree: Value) -> Result<MetadataV3, Refusal<MetadataError>>
         ensures { MatchResult result (λ m. IsExtension (view tree) (extension_of m))
-            (λ refusal. IfRefused refusal (IsMetadataFault (view tree))) }
+            (OrMemory (IsMetadataFault (view tree))) }
     {
         let name = String::from_str(alloc, checked_name(&tree)?)?;
         Ok(MetadataV3 {
@@ -139,7 +139,7 @@ fn copy_of(configuration: &Configuration) -> Result<Configuration, AllocError>
 fn checked_name(tree: &Value) -> Result<&str, Refusal<MetadataError>>
     ensures { MatchResult result (λ name. IsExtension (view tree.now)
         (record { name = name.now; configuration = configuration_in (view tree.now) }))
-        (λ refusal. IfRefused refusal (IsMetadataFault (view tree.now))) }
+        (OrMemory (IsMetadataFault (view tree.now))) }
 {
     if let Some(name) = tree.as_str() {
         return Ok(name);
@@ -184,7 +184,7 @@ fn check_configuration(tree: &Value) -> Result<(), Refusal<MetadataError>>
     ensures { MatchResult result
         (λ _. IsOptional as_object (get (codes "configuration") (view tree.now))
         (configuration_in (view tree.now)))
-        (λ refusal. IfRefused refusal (λ error. (error ≡ MetadataError.ConfigurationNotObject)
+        (OrMemory (λ error. (error ≡ MetadataError.ConfigurationNotObject)
         × IsMisformed as_object (get (codes "configuration") (view tree.now)))) }
 {
     let Some(configuration) = tree.get("configuration") else {
@@ -202,7 +202,7 @@ fn check_must_understand(tree: &Value) -> Result<(), Refusal<MetadataError>>
     ensures { MatchResult result
         (λ _. (b : Option Bool) × IsOptional as_bool
         (get (codes "must_understand") (view tree.now)) b)
-        (λ refusal. IfRefused refusal (λ error. (error ≡ MetadataError.MustUnderstandNotBool)
+        (OrMemory (λ error. (error ≡ MetadataError.MustUnderstandNotBool)
         × IsMisformed as_bool (get (codes "must_understand") (view tree.now)))) }
 {
     let Some(must_understand) = tree.get("must_understand") else {

@@ -5,7 +5,7 @@ ghost use Rattle.zarrs_chunk_base.specs.Configuration.{value_or};
 ghost use Rattle.zarrs_chunk_base.specs.declared.chunk_key_separator.ChunkKeySeparator.{ChunkKeySeparator};
 ghost use Rattle.zarrs_chunk_base.specs.KeyConfigurations.{separator_in, separator_members, separator_tree};
 ghost use Rattle.zarrs_chunk_base.specs.lemmas.Members.{IsValueFault};
-ghost use Rattle.zarrs_chunk_base.specs.Refusal.{IfRefused};
+ghost use Rattle.zarrs_chunk_base.specs.Refusal.{OrMemory};
 
 use crate::json::members::optional_value;
 use crate::json::tree_form::TreeForm;
@@ -25,7 +25,7 @@ pub(super) fn separator_or(
     ensures { MatchResult result
         (λ separator. value_or usual (codes "separator") separator_in
         (members_view members.now.entries) ≡ Some separator)
-        (λ refusal. IfRefused refusal (IsValueFault (codes "separator") separator_in
+        (OrMemory (IsValueFault (codes "separator") separator_in
         (members_view members.now.entries))) }
 {
     Ok(optional_value(alloc, members, SEPARATOR)?.unwrap_or(usual))

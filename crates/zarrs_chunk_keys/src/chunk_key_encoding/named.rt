@@ -12,7 +12,7 @@ ghost use Rattle.std.specs.Prelude.{◌≡◌, IfOk, MatchResult};
 ghost use Rattle.serde_json.specs.View.{members_view};
 ghost use Rattle.zarrs_chunk_base.specs.Kinds.{IsConfigurationOf, IsMetadata};
 ghost use Rattle.zarrs_chunk_base.specs.Metadata.{extension_of};
-ghost use Rattle.zarrs_chunk_base.specs.Refusal.{IfRefused};
+ghost use Rattle.zarrs_chunk_base.specs.Refusal.{OrMemory};
 ghost use Rattle.zarrs_chunk_keys.specs.ChunkKey.{IsKey};
 ghost use Rattle.zarrs_chunk_keys.specs.KeyKinds.{IsEncoding, IsEncodingFault, key_kind, kind_of};
 ghost use Rattle.zarrs_chunk_keys.specs.declared.chunk_key_encoding.named.ChunkKeyEncoding.TheVariants.{Default, DefaultSuffix, V2};
@@ -70,7 +70,7 @@ impl ChunkKeyEncoding {
     ) -> Result<ChunkKeyEncoding, Refusal<PluginCreateError>>
         ensures { MatchResult result
             (λ encoding. IsEncoding (extension_of metadata.now) (encoding_in encoding))
-            (λ refusal. IfRefused refusal (IsEncodingFault (extension_of metadata.now))) }
+            (OrMemory (IsEncodingFault (extension_of metadata.now))) }
     {
         match metadata.name() {
             DEFAULT => Ok(ChunkKeyEncoding::Default(DefaultChunkKeyEncoding::create(
@@ -140,7 +140,7 @@ impl ChunkKeyEncodingTraits for ChunkKeyEncoding {
     ) -> Result<ChunkKeyEncoding, Refusal<PluginCreateError>>
         ensures { MatchResult result
             (λ encoding. IsEncoding (extension_of metadata.now) (encoding_in encoding))
-            (λ refusal. IfRefused refusal (IsEncodingFault (extension_of metadata.now))) }
+            (OrMemory (IsEncodingFault (extension_of metadata.now))) }
     {
         ChunkKeyEncoding::from_metadata(alloc, metadata)
     }

@@ -3,7 +3,7 @@ ghost use Rattle.std.specs.Prelude.{◌≡◌, ◌++◌, ℕ, IfOk, List, MatchR
 ghost use Rattle.serde_json.specs.View.{members_view};
 ghost use Rattle.zarrs_chunk_base.specs.Kinds.{IsConfigurationOf, IsFaultOf, IsMadeOf};
 ghost use Rattle.zarrs_chunk_base.specs.Metadata.{extension_of};
-ghost use Rattle.zarrs_chunk_base.specs.Refusal.{IfRefused};
+ghost use Rattle.zarrs_chunk_base.specs.Refusal.{OrMemory};
 ghost use Rattle.zarrs_chunk_base.specs.StoreKey.{EndsInSlash};
 ghost use Rattle.zarrs_chunk_keys.specs.ChunkKey.{Encoding, IsKey};
 ghost use Rattle.zarrs_chunk_keys.specs.Decoded.{IsDecoded};
@@ -33,7 +33,7 @@ pub(crate) trait OfKind: EncodingOfKind + Sized + Drop {
     fn of_metadata(alloc: Global, metadata: &MetadataV3) -> Result<Self, Refusal<PluginCreateError>>
         ensures { MatchResult result
             (λ made. IsMadeOf (key_kind Self.kind) (extension_of metadata.now) tt (Self.encoding made))
-            (λ refusal. IfRefused refusal (IsFaultOf (key_kind Self.kind)
+            (OrMemory (IsFaultOf (key_kind Self.kind)
             (extension_of metadata.now) tt)) };
 
     /// Its configuration, in the form in which one is written.
@@ -79,7 +79,7 @@ impl<E: OfKind> ChunkKeyEncodingTraits for E {
     fn create(alloc: Global, metadata: &MetadataV3) -> Result<E, Refusal<PluginCreateError>>
         ensures { MatchResult result
             (λ made. IsMadeOf (key_kind E.kind) (extension_of metadata.now) tt (E.encoding made))
-            (λ refusal. IfRefused refusal (IsFaultOf (key_kind E.kind)
+            (OrMemory (IsFaultOf (key_kind E.kind)
             (extension_of metadata.now) tt)) }
     {
         E::of_metadata(alloc, metadata)

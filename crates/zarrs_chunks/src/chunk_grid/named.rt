@@ -14,7 +14,7 @@ ghost use Rattle.serde_json.specs.View.{members_view};
 ghost use Rattle.zarrs_chunk_base.specs.Dimension.{array_sizes};
 ghost use Rattle.zarrs_chunk_base.specs.Kinds.{IsConfigurationOf, IsMetadata, IsOf};
 ghost use Rattle.zarrs_chunk_base.specs.Metadata.{extension_of};
-ghost use Rattle.zarrs_chunk_base.specs.Refusal.{IfRefused};
+ghost use Rattle.zarrs_chunk_base.specs.Refusal.{OrMemory};
 ghost use Rattle.zarrs_chunk_axes.specs.InBounds.{AreBelow, AreInBounds, AreIndicesInBounds};
 ghost use Rattle.zarrs_chunks.specs.GridKinds.{IsGridFault, grid_kind};
 ghost use Rattle.zarrs_chunks.specs.declared.chunk_grid.named.ChunkGrid.TheVariants.{Rectangular, Rectilinear, Regular, RegularBounded};
@@ -83,7 +83,7 @@ impl ChunkGrid {
         ensures made { MatchResult result
             (λ grid. IsOf (grid_kind (kind_in grid)) (extension_of metadata.now)
             array_shape.now (grid_in grid))
-            (λ refusal. IfRefused refusal
+            (OrMemory
             (IsGridFault (extension_of metadata.now) array_shape.now)) }
     {
         match metadata.name() {
@@ -173,7 +173,7 @@ impl ChunkGridTraits for ChunkGrid {
         ensures made { MatchResult result
             (λ grid. IsOf (grid_kind (kind_in grid)) (extension_of metadata.now)
             array_shape.now (grid_in grid))
-            (λ refusal. IfRefused refusal
+            (OrMemory
             (IsGridFault (extension_of metadata.now) array_shape.now)) }
     {
         ChunkGrid::from_metadata(alloc, metadata, array_shape)

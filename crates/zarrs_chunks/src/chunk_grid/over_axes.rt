@@ -6,7 +6,7 @@ ghost use Rattle.zarrs_chunk_base.specs.Dimension.{IsChain, array_sizes};
 ghost use Rattle.zarrs_chunk_base.specs.Grid.{Grid};
 ghost use Rattle.zarrs_chunk_base.specs.Kinds.{IsConfigurationOf, IsFaultOf, IsMadeOf};
 ghost use Rattle.zarrs_chunk_base.specs.Metadata.{extension_of};
-ghost use Rattle.zarrs_chunk_base.specs.Refusal.{IfRefused};
+ghost use Rattle.zarrs_chunk_base.specs.Refusal.{OrMemory};
 ghost use Rattle.zarrs_chunk_axes.specs.InBounds.{AreBelow, AreInBounds, AreIndicesInBounds};
 ghost use Rattle.zarrs_chunk_axes.specs.seen.AxisGrid.{dimensions_of, edges_of};
 ghost use Rattle.zarrs_chunks.specs.GridKinds.{GridKind, grid_kind};
@@ -52,7 +52,7 @@ pub(crate) trait OverAxes: GridOfKind + Sized + Drop {
         ensures made { MatchResult result
             (λ grid. IsMadeOf (grid_kind Self.kind) (extension_of metadata.now)
             array_shape.now (Self.grid grid))
-            (λ refusal. IfRefused refusal (IsFaultOf (grid_kind Self.kind)
+            (OrMemory (IsFaultOf (grid_kind Self.kind)
             (extension_of metadata.now) array_shape.now)) };
 
     /// The configuration that tells its edges, in the form in which one is written.
@@ -80,7 +80,7 @@ impl<G: OverAxes> ChunkGridTraits for G {
         ensures made { MatchResult result
             (λ grid. IsMadeOf (grid_kind G.kind) (extension_of metadata.now)
             array_shape.now (G.grid grid))
-            (λ refusal. IfRefused refusal (IsFaultOf (grid_kind G.kind)
+            (OrMemory (IsFaultOf (grid_kind G.kind)
             (extension_of metadata.now) array_shape.now)) }
     {
         G::of_metadata(alloc, metadata, array_shape)

@@ -51,7 +51,7 @@ impl RectangularChunkGrid {
     ghost use Rattle.zarrs_chunk_base.specs.Dimension.{array_sizes};
     ghost use Rattle.std.specs.Prelude.{◌≡◌, IfOk, IfErr, map};
     ghost use Rattle.zarrs_chunk_base.specs.DimensionEdges.{rectangular_edges};
-    ghost use Rattle.zarrs_chunk_base.specs.Refusal.{IfRefused};
+    ghost use Rattle.zarrs_chunk_base.specs.Refusal.{OrMemory};
     ghost use Rattle.zarrs_chunk_axes.specs.EqualOrListed.{AreEqualOrListed};
     ghost use Rattle.zarrs_chunk_axes.specs.Rectangular.{AreRectangular};
     ghost use Rattle.zarrs_chunks.specs.seen.Grids.{rectangular_of};
@@ -76,12 +76,12 @@ impl RectangularChunkGrid {
             array_shape.items (map rectangular_edges chunk_shape.now)) }
         ensures edges { IfOk result (λ grid. (rectangular_of grid).edges
             ≡ map rectangular_edges chunk_shape.now) }
-        ensures refused { IfErr result (λ refusal. IfRefused refusal
+        ensures refused { IfErr result (OrMemory
             (λ _. ¬ AreRectangular array_shape.items (map rectangular_edges chunk_shape.now))) }
         ensures shape_handed_back { IfErr result
-            (λ refusal. IfRefused refusal (λ e. e.0 ≡ array_shape)) }
+            (OrMemory (λ e. e.0 ≡ array_shape)) }
         ensures edges_handed_back { IfErr result
-            (λ refusal. IfRefused refusal (λ e. map rectangular_edges e.1.items
+            (OrMemory (λ e. map rectangular_edges e.1.items
             ≡ map rectangular_edges chunk_shape.now)) }
     {
         match AxisGrid::new(alloc, array_shape, chunk_shape) {

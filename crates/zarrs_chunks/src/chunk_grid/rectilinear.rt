@@ -57,7 +57,7 @@ pub struct RectilinearChunkGrid {
 impl RectilinearChunkGrid {
     ghost use Rattle.zarrs_chunk_base.specs.Dimension.{array_sizes};
     ghost use Rattle.std.specs.List.{AllZip};
-    ghost use Rattle.zarrs_chunk_base.specs.Refusal.{IfRefused};
+    ghost use Rattle.zarrs_chunk_base.specs.Refusal.{OrMemory};
     ghost use Rattle.zarrs_chunk_base.specs.RunLength.{rectilinear_edges, IsSameChunkEdgeLengths};
     ghost use Rattle.zarrs_chunk_axes.specs.Counted.{AreCounted, HasOneForEach, TellsRuns};
     ghost use Rattle.zarrs_chunk_axes.specs.EqualOrListed.{AreEqualOrListed};
@@ -86,12 +86,12 @@ impl RectilinearChunkGrid {
             array_shape.items (map rectilinear_edges chunk_shapes.now)) }
         ensures edges { IfOk result (λ grid. (rectilinear_of grid).edges
             ≡ map rectilinear_edges chunk_shapes.now) }
-        ensures refused { IfErr result (λ refusal. IfRefused refusal
+        ensures refused { IfErr result (OrMemory
             (λ _. ¬ AreRectilinear array_shape.items (map rectilinear_edges chunk_shapes.now))) }
         ensures shape_handed_back { IfErr result
-            (λ refusal. IfRefused refusal (λ e. e.0 ≡ array_shape)) }
+            (OrMemory (λ e. e.0 ≡ array_shape)) }
         ensures edges_handed_back { IfErr result
-            (λ refusal. IfRefused refusal
+            (OrMemory
             (λ e. AllZip IsSameChunkEdgeLengths e.1.items chunk_shapes.now)) }
     {
         match AxisGrid::new(alloc, array_shape, chunk_shapes) {

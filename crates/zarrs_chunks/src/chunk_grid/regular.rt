@@ -52,7 +52,7 @@ pub struct RegularChunkGrid {
 impl RegularChunkGrid {
     ghost use Rattle.zarrs_chunk_base.specs.Dimension.{array_sizes};
     ghost use Rattle.std.specs.Prelude.{◌≡◌, ◌≢◌, IfErr, IfOk, length, map};
-    ghost use Rattle.zarrs_chunk_base.specs.Refusal.{HasMemory, IfRefused};
+    ghost use Rattle.zarrs_chunk_base.specs.Refusal.{HasMemory, OrMemory};
     ghost use Rattle.zarrs_chunk_base.specs.DimensionEdges.{equal};
     ghost use Rattle.zarrs_chunk_axes.specs.EqualEdges.{AreEqualEdges, HaveEqualEdges};
     ghost use Rattle.zarrs_chunks.specs.seen.Grids.{regular_of};
@@ -74,9 +74,9 @@ impl RegularChunkGrid {
             array_shape.items (map non_zero_u64_get chunk_shape.items)) }
         ensures edges { IfOk result (λ grid. (regular_of grid).edges ≡ map equal
             (map non_zero_u64_get chunk_shape.items)) }
-        ensures refused { IfErr result (λ refusal. IfRefused refusal
+        ensures refused { IfErr result (OrMemory
             (λ _. length chunk_shape.items ≢ length array_shape.items)) }
-        ensures handed_back { IfErr result (λ refusal. IfRefused refusal (λ e. (e.0 ≡ array_shape)
+        ensures handed_back { IfErr result (OrMemory (λ e. (e.0 ≡ array_shape)
             × (e.1 ≡ chunk_shape))) }
         ensures refused_first { length chunk_shape.items ≢ length array_shape.items
             → HasMemory result }

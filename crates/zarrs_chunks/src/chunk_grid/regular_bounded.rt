@@ -43,7 +43,7 @@ impl RegularBoundedChunkGrid {
     ghost use Rattle.zarrs_chunk_base.specs.Dimension.{array_sizes};
     ghost use Rattle.std.specs.Prelude.{◌≡◌, ◌≢◌, IfOk, IfErr, length, map};
     ghost use Rattle.std.specs.Int.NonZero.{non_zero_u64_get};
-    ghost use Rattle.zarrs_chunk_base.specs.Refusal.{HasMemory, IfRefused, TellsLengths};
+    ghost use Rattle.zarrs_chunk_base.specs.Refusal.{HasMemory, OrMemory, TellsLengths};
     ghost use Rattle.zarrs_chunk_base.specs.DimensionEdges.{equal};
     ghost use Rattle.zarrs_chunk_axes.specs.Bounded.{AreBounded};
     ghost use Rattle.zarrs_chunks.specs.seen.Grids.{regular_bounded_of};
@@ -66,9 +66,9 @@ impl RegularBoundedChunkGrid {
             array_shape.items (map non_zero_u64_get chunk_shape.items)) }
         ensures edges { IfOk result (λ grid. (regular_bounded_of grid).edges ≡ map equal
             (map non_zero_u64_get chunk_shape.items)) }
-        ensures refused { IfErr result (λ refusal. IfRefused refusal
+        ensures refused { IfErr result (OrMemory
             (λ _. length chunk_shape.items ≢ length array_shape.items)) }
-        ensures told { IfErr result (λ refusal. IfRefused refusal
+        ensures told { IfErr result (OrMemory
             (TellsLengths (length chunk_shape.items) (length array_shape.items))) }
         ensures refused_first { length chunk_shape.items ≢ length array_shape.items
             → HasMemory result }

@@ -2,7 +2,7 @@ use Rattle.std.proofs.Common.{arith}
 use Rattle.std.proofs.lemmas.Result.{err_from_is_err_and, MatchResult-weaker}
 use Rattle.zarrs_chunk_base.proofs.MappedErrors.{value_is_kept}
 use Rattle.programs.proofs.Refusals.{follows}
-use Rattle.programs.specs.OrMemory.{OrMemory}
+use Rattle.zarrs_chunk_base.specs.Refusal.{OrMemory}
 use Rattle.programs.specs.chunkwhere.Answer.{IsAnswerFault}
 use Rattle.programs.specs.chunkwhere.Document.{document_of}
 use Rattle.programs.specs.chunkwhere.Run.{IsDocumentFault, IsFirstFault, no_document, no_answer}

@@ -4,7 +4,7 @@ use Rattle.std.proofs.lemmas.Result.{MatchResult-weaker, err_from_is_err_and}
 use Rattle.serde_json.specs.Find.{get_member}
 use Rattle.serde_json.specs.View.{members_view}
 use Rattle.zarrs_chunk_base.specs.Configuration.{HasNoUnknown, HasRequired, IsConfigurationFault, names_of, required_names_of}
-use Rattle.zarrs_chunk_base.specs.Refusal.{IfRefused}
+use Rattle.zarrs_chunk_base.specs.Refusal.{OrMemory}
 use Rattle.zarrs_chunk_base.specs.lemmas.Members.{IsFirstMissing}
 use Rattle.zarrs_chunk_base.proofs.FirstMembers.{missing_is_first, wrong_is_first}
 use Rattle.zarrs_chunk_base.proofs.Refusals.{refused_weaker}
@@ -19,7 +19,7 @@ returns-in_err-refuse_missing g c =
     subst (λ names. HasNoUnknown names members) c.names-table.ensures.known c.in_ok-refuse_unknown.ensures in
     rw (p.1, p.2)
     (refused_weaker c.in_err-refuse_missing.field-0.0 (IsFirstMissing (required_names_of table.members) members) (IsConfigurationFault table members)
-    (subst (λ names. IfRefused c.in_err-refuse_missing.field-0.0 (IsFirstMissing names members)) c.names-table.ensures.required c.in_err-refuse_missing.ensures)
+    (subst (λ names. OrMemory (IsFirstMissing names members) c.in_err-refuse_missing.field-0.0) c.names-table.ensures.required c.in_err-refuse_missing.ensures)
     (λ fault first. missing_is_first table members fault g.met.Self.ConfigurationForm.in_order known first))
 
 pub from_members-requires : goal.from_members-requires
