@@ -62,5 +62,5 @@ abbrev pub suffix_members : Suffixed → Members
 suffix_members s = member (codes "separator") (separator_tree s.separator) (member (codes "suffix") (string s.suffix) no_members)
 
 -- what a configuration is seen as
-abbrev pub suffixed_of : DefaultSuffixChunkKeyEncodingConfiguration → Suffixed
-suffixed_of c = record { separator = c.separator; suffix = string_bytes c.suffix }
+abbrev pub suffix_configuration_of : DefaultSuffixChunkKeyEncodingConfiguration → Suffixed
+suffix_configuration_of c = record { separator = c.separator; suffix = string_bytes c.suffix }

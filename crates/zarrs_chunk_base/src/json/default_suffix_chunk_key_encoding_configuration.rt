@@ -33,14 +33,14 @@ impl DefaultSuffixChunkKeyEncodingConfiguration {
     ghost use Rattle.std.specs.Prelude.{◌≡◌, IfOk, string_bytes};
     ghost use Rattle.serde_json.specs.Data.{object};
     ghost use Rattle.serde_json.specs.Written.{compact_text};
-    ghost use Rattle.zarrs_chunk_base.specs.KeyConfigurations.{suffix_members, suffixed_of};
+    ghost use Rattle.zarrs_chunk_base.specs.KeyConfigurations.{suffix_configuration_of, suffix_members};
 
     /// A configuration with the same separator and an equal suffix.
     ///
     /// # Errors
     /// Out of memory.
     pub fn clone(&self) -> Result<DefaultSuffixChunkKeyEncodingConfiguration, AllocError>
-        ensures { IfOk result (λ copy. suffixed_of copy ≡ suffixed_of self.now) }
+        ensures { IfOk result (λ copy. suffix_configuration_of copy ≡ suffix_configuration_of self.now) }
     {
         Ok(DefaultSuffixChunkKeyEncodingConfiguration {
             separator: self.separator,
@@ -54,18 +54,18 @@ impl DefaultSuffixChunkKeyEncodingConfiguration {
     /// Out of memory.
     pub fn to_text(&self, alloc: Global) -> Result<String, AllocError>
         ensures { IfOk result (λ text. string_bytes text
-            ≡ compact_text (object (suffix_members (suffixed_of self.now)))) }
+            ≡ compact_text (object (suffix_members (suffix_configuration_of self.now)))) }
     {
         Value::Object(self.to_tree(alloc)?).to_string(alloc)
     }
 }
 
 impl ConfigurationForm for DefaultSuffixChunkKeyEncodingConfiguration {
-    ghost use Rattle.zarrs_chunk_base.specs.KeyConfigurations.{suffixed_of};
+    ghost use Rattle.zarrs_chunk_base.specs.KeyConfigurations.{suffix_configuration_of};
 
     ghost Seen = { Suffixed };
 
-    ghost seen = { suffixed_of };
+    ghost seen = { suffix_configuration_of };
 
     ghost table = { suffix_table };
 
