@@ -31,12 +31,13 @@ by_step answers array shape first other (step ∷ steps) (element ∷ elements) 
     (same step element below.0 read.0, by_step answers array shape first other steps elements same below.1 read.1)
 
 has_elements : (ds : List Dimension) (IsKey : List ℕ → List ℕ → Type 0) (subset : Box) (answers : List ℕ → List ℕ → ℕ → Type 0) (array : List ℕ → ℕ)
-    (chunk : List ℕ) (part : Part) (piece : Piece) → HavePlaces ds IsKey subset → HoldsArray ds IsKey answers array → IsPart ds IsKey subset chunk part
-    → IsRead answers part piece → HasElements array subset piece
+    (chunk : List ℕ) (part : Part) (piece : Piece) → HavePlaces ds IsKey subset → HoldsArray ds IsKey answers array
+    → IsPart ds IsKey subset chunk part → IsRead answers part piece → HasElements array subset piece
 has_elements ds IsKey subset answers array chunk part piece places stored is (box, read) =
     let shape = part.in_chunk.shape in
     let same_shape : shape ≡ part.in_subset.shape = sym is.boxes.from_chunk.shape ∙ is.boxes.from_subset.shape in
-    let elements = by_step (answers part.key) (λ place. array (counted_from subset.start place)) shape part.in_chunk.start part.in_subset.start (row_major shape)
+    let elements =
+    by_step (answers part.key) (λ place. array (counted_from subset.start place)) shape part.in_chunk.start part.in_subset.start (row_major shape)
     piece.elements.items
     (λ step element below found.
     let index = counted_from subset.start (counted_from part.in_subset.start step) in
@@ -45,7 +46,8 @@ has_elements ds IsKey subset answers array chunk part piece places stored is (bo
     stored index chunk part.key place element lies.0 is.key lies.1 found) (all_below shape) read
     in
     subst (λ b. AllZip (λ place element. element ≡ array (counted_from subset.start place)) (chunks_in b) piece.elements.items) (sym box)
-    (subst (λ sizes. AllZip (λ place element. element ≡ array (counted_from subset.start place)) (map (counted_from part.in_subset.start) (row_major sizes)) piece.elements.items)
+    (subst (λ sizes. AllZip (λ place element. element ≡ array (counted_from subset.start place))
+    (map (counted_from part.in_subset.start) (row_major sizes)) piece.elements.items)
     same_shape elements)
 
 each_has : (ds : List Dimension) (IsKey : List ℕ → List ℕ → Type 0) (subset : Box) (answers : List ℕ → List ℕ → ℕ → Type 0) (array : List ℕ → ℕ)
@@ -55,8 +57,10 @@ each_has ds IsKey subset answers array chunks [] [] places stored are read = tt
 each_has ds IsKey subset answers array chunks [] (_ ∷ _) places stored are read = absurd read
 each_has ds IsKey subset answers array chunks (_ ∷ _) [] places stored are read = absurd read
 each_has ds IsKey subset answers array [] (_ ∷ _) (_ ∷ _) places stored are read = absurd are
-each_has ds IsKey subset answers array (chunk ∷ chunks) (part ∷ parts) (piece ∷ pieces) places stored are read =
-    (has_elements ds IsKey subset answers array chunk part piece places stored are.0 read.0, each_has ds IsKey subset answers array chunks parts pieces places stored are.1 read.1)
+each_has ds IsKey subset answers array (chunk ∷ chunks) (part ∷ parts) (piece ∷ pieces) places stored are read = (
+  has_elements ds IsKey subset answers array chunk part piece places stored are.0 read.0,
+  each_has ds IsKey subset answers array chunks parts pieces places stored are.1 read.1,
+)
 
 -- two pieces share no place, since two parts don't
 abbrev IsApart : Box → Box → Type 0
@@ -65,7 +69,8 @@ IsApart one other = (place : List ℕ) → IsInside one place → IsInside other
 are_apart : (answers : List ℕ → List ℕ → ℕ → Type 0) (parts : List Part) (pieces : List Piece) → AllZip (IsRead answers) parts pieces
     → AllPairs (λ part other. IsApart part.in_subset other.in_subset) parts → AllPairs (λ piece other. IsApart piece.in_subset other.in_subset) pieces
 are_apart answers parts pieces read apart =
-    pairs_by (IsRead answers) (λ part other. IsApart part.in_subset other.in_subset) (λ piece other. IsApart piece.in_subset other.in_subset) parts pieces read apart
+    pairs_by (IsRead answers) (λ part other. IsApart part.in_subset other.in_subset)
+    (λ piece other. IsApart piece.in_subset other.in_subset) parts pieces read apart
     (λ part other piece next _ _ apart is is_next. rw (is.0, is_next.0) apart)
 
 pub are_pieces : (ds : List Dimension) (IsKey : List ℕ → List ℕ → Type 0) (subset : Box) (answers : List ℕ → List ℕ → ℕ → Type 0) (array : List ℕ → ℕ)

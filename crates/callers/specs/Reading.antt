@@ -37,7 +37,8 @@ pub record ArePieces (array : List ℕ → ℕ) (subset : Box) (pieces : List Pi
   pub each : AllByRecursion (HasElements array subset) pieces
 
 -- what is answered of a box that isn't empty: its pieces, of each array that is held, and none where its first or its last element lies in no chunk
-abbrev pub AnswersPieces : List Dimension → ((List ℕ → ℕ) → Type 0) → Box → Result (Option (Vec Piece Global)) (Refusal IncompatibleDimensionalityError) → Type 0
+abbrev pub AnswersPieces : List Dimension → ((List ℕ → ℕ) → Type 0) → Box
+    → Result (Option (Vec Piece Global)) (Refusal IncompatibleDimensionalityError) → Type 0
 AnswersPieces ds IsHeld b =
     AnswersOrMemory (length b.start) (length ds) (λ pieces. (array : List ℕ → ℕ) → IsHeld array → ArePieces array b pieces.items)
     (HasNoHome ds b.start ⊎ HasNoHome ds (lasts b.start b.shape))

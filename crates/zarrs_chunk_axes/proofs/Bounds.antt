@@ -27,26 +27,29 @@ module _ {A : Type 0} (dimension : A → Dimension) (edges : A → DimensionEdge
   IsAxisInBounds i axis = IsIndexInBounds (dimension axis) i (edges axis)
 
   -- indices in bounds of each axis are in bounds of each dimension
-  pub in_each_axis : (indices : List ℕ) (axes : List A) → AllZip IsAxisInBounds indices axes → InEach IsIndexInBounds (map dimension axes) indices (map edges axes)
+  pub in_each_axis : (indices : List ℕ) (axes : List A) → AllZip IsAxisInBounds indices axes
+      → InEach IsIndexInBounds (map dimension axes) indices (map edges axes)
   in_each_axis [] [] within = tt
   in_each_axis (i ∷ indices) (a ∷ axes) within = (within.0, in_each_axis indices axes within.1)
   in_each_axis _ _ within = absurd within
 
   -- and the other way round
-  pub axes_in_bounds : (indices : List ℕ) (axes : List A) → InEach IsIndexInBounds (map dimension axes) indices (map edges axes) → AllZip IsAxisInBounds indices axes
+  pub axes_in_bounds : (indices : List ℕ) (axes : List A) → InEach IsIndexInBounds (map dimension axes) indices (map edges axes)
+      → AllZip IsAxisInBounds indices axes
   axes_in_bounds [] [] within = tt
   axes_in_bounds (i ∷ indices) (a ∷ axes) within = (within.0, axes_in_bounds indices axes within.1)
   axes_in_bounds _ _ within = absurd within
 
   -- and they are in bounds of each array size
-  pub each_in_bounds : (indices : List ℕ) (axes : List A) → AllZip IsAxisInBounds indices axes → AreInBounds (array_sizes (map dimension axes)) indices
+  pub each_in_bounds : (indices : List ℕ) (axes : List A) → AllZip IsAxisInBounds indices axes
+      → AreInBounds (array_sizes (map dimension axes)) indices
   each_in_bounds [] [] within = tt
   each_in_bounds (i ∷ indices) (a ∷ axes) within = (in_array_size (dimension a) (edges a) i within.0, each_in_bounds indices axes within.1)
   each_in_bounds _ _ within = absurd within
 
   -- indices below the array sizes are in bounds of each axis
-  pub below_in_bounds : (indices : List ℕ) (axes : List A) → AllByRecursion IsChain (map dimension axes) → AreBelow (array_sizes (map dimension axes)) indices
-      → AllZip IsAxisInBounds indices axes
+  pub below_in_bounds : (indices : List ℕ) (axes : List A) → AllByRecursion IsChain (map dimension axes)
+      → AreBelow (array_sizes (map dimension axes)) indices → AllZip IsAxisInBounds indices axes
   below_in_bounds [] [] chains below = tt
   below_in_bounds (i ∷ indices) (a ∷ axes) chains below =
       (below_in_dimension (dimension a) (edges a) i chains.0 below.0, below_in_bounds indices axes chains.1 below.1)

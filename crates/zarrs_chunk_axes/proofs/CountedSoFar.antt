@@ -9,7 +9,8 @@ use Rattle.zarrs_chunk_axes.specs.Counted.{AreCounted, HasOneForEach, IsSearchBo
 -- the count so far, and what the rests can add
 pub record CountedSoFar (edges left : List DimensionEdges) (before now : ℕ) : Type 0 where
   pub grows : before ≤ now
-  pub at_most : (most : List ℕ) → AllZip IsSearchBound edges most → (rest : List ℕ) × AllZip IsSearchBound left rest × (now + sum rest ≤ before + sum most)
+  pub at_most : (most : List ℕ) → AllZip IsSearchBound edges most
+      → (rest : List ℕ) × AllZip IsSearchBound left rest × (now + sum rest ≤ before + sum most)
   pub at_least : min (before + listed_dimensions edges) greatest ≤ now + listed_dimensions left
   pub stays : before ≡ greatest → now ≡ greatest
 

@@ -22,7 +22,8 @@ pub answers_weaker : {X : Type 0} (given n m : ℕ) (Found Sought : X → Type 0
 answers_weaker = answers_storing_weaker (λ n. n ≢ 0)
 
 -- where there is nothing to find for one of the numbers, no list is related to all of them
-pub none_in_each : {Y : Type 0} (misses : Dimension → ℕ → Type 0) (R : Dimension → ℕ → Y → Type 0) → ((d : Dimension) (n : ℕ) (y : Y) → misses d n → ¬ R d n y)
+pub none_in_each : {Y : Type 0} (misses : Dimension → ℕ → Type 0) (R : Dimension → ℕ → Y → Type 0)
+    → ((d : Dimension) (n : ℕ) (y : Y) → misses d n → ¬ R d n y)
     → (ds : List Dimension) (numbers : List ℕ) (ys : List Y) → SomeMisses misses ds numbers → InEach R ds numbers ys → ⊥
 none_in_each misses R none (d ∷ ds) (n ∷ numbers) (y ∷ ys) some each =
     ⊎_elim (λ here. none d n y here each.0) (λ rest. none_in_each misses R none ds numbers ys rest each.1) some

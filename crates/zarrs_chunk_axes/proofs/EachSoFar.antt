@@ -24,8 +24,8 @@ module _ {X : Type 0} (finds : Dimension → ℕ → X → Type 0) (misses : Dim
       none = λ h. so_far.none (inr h);
     }
 
-    pub at_end : (ds_left : List Dimension) (numbers_left : List ℕ) (found : List X) → length ds_left ≡ 0 → EachSoFar ds numbers ds_left numbers_left found
-        → InEach finds ds numbers found
+    pub at_end : (ds_left : List Dimension) (numbers_left : List ℕ) (found : List X) → length ds_left ≡ 0
+        → EachSoFar ds numbers ds_left numbers_left found → InEach finds ds numbers found
     at_end [] [] found none so_far = subst (InEach finds ds numbers) (append-nil found) (so_far.all [] tt)
     at_end [] (n ∷ numbers_left) found none so_far = absurd (omega (arith, so_far.lengths))
     at_end (d ∷ ds_left) numbers_left found none so_far = absurd (omega arith)

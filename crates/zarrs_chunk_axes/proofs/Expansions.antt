@@ -20,7 +20,8 @@ none_of_sum (element ∷ elements) is =
       of_count edge (suc count) some none = absurd (omega (arith, sum_by-cons (λ x. x) edge (replicate count edge)))
 
       none_of_element : (e : RunLengthElement) → sum (element_edges e) ≡ 0 → element_edges e ≡ []
-      none_of_element (Single edge) none = let some : 0 < non_zero_u64_get edge = edge.ok in absurd (omega (arith, sum_by-cons (λ x. x) (non_zero_u64_get edge) []))
+      none_of_element (Single edge) none =
+          let some : 0 < non_zero_u64_get edge = edge.ok in absurd (omega (arith, sum_by-cons (λ x. x) (non_zero_u64_get edge) []))
       none_of_element (Repeated []) none = refl
       none_of_element (Repeated (edge ∷ [])) none = refl
       none_of_element (Repeated (edge ∷ count ∷ rest)) none = of_count (non_zero_u64_get edge) (non_zero_u64_get count) edge.ok none

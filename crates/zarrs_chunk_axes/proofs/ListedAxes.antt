@@ -1,5 +1,6 @@
 -- What running sums of edges tell of the chunks.
-use Rattle.std.proofs.Common.{◌≡◌, ℕ, zero, suc, ◌+◌, ◌-◌, ◌<◌, ◌≤◌, List, [], ◌∷◌, length, map, take, get_or, Option, Some, None, MatchOption, add-one, ap, refl, subst, sym, true, false, leb, leb-true, leb-false, arith, ltb-true, lt-ltb}
+use Rattle.std.proofs.Common.{◌≡◌, ℕ, zero, suc, ◌+◌, ◌-◌, ◌<◌, ◌≤◌, List, [], ◌∷◌, length, map, take, get_or, Option, Some, None, MatchOption}
+use Rattle.std.proofs.Common.{add-one, ap, refl, subst, sym, true, false, leb, leb-true, leb-false, arith, ltb-true, lt-ltb}
 use Rattle.std.specs.List.{AllWithin, sum}
 use Rattle.std.specs.List.Sorted.{IsNonDecreasingBy}
 use Rattle.std.proofs.lemmas.List.Sums.{sum_by-take-le}
@@ -43,7 +44,8 @@ pub end_at : (start : ℕ) (edges : List ℕ) (c d : ℕ) → c < length edges �
 end_at start [] c d within = absurd (omega arith)
 end_at start (edge ∷ edges) zero d within = omega (arith, take_next edge edges zero)
 end_at start (edge ∷ edges) (suc c) d within =
-    let rest : get_or (ends_from start (edge ∷ edges)) (suc c) d ≡ start + edge + sum (take (suc c) edges) = end_at (start + edge) edges c d (omega arith) in
+    let rest : get_or (ends_from start (edge ∷ edges)) (suc c) d ≡ start + edge + sum (take (suc c) edges) =
+    end_at (start + edge) edges c d (omega arith) in
     omega (arith, take_next edge edges (suc c))
 
 -- running sums rise

@@ -32,14 +32,16 @@ module _ {C : Type 0} (accepted : ℕ → C → Type 0) where
   all_accepted shape configurations [] (c ∷ left) so_far none = absurd (omega (arith, so_far.lengths))
   all_accepted shape configurations (a ∷ shape_left) left so_far none = absurd (omega arith)
 
-module _ {C A : Type 0} (accepted : ℕ → C → Type 0) (dimension : A → Dimension) (made : Dimension → ℕ → C → Type 0) (edges : A → DimensionEdges) (tells : C → DimensionEdges) where
+module _ {C A : Type 0} (accepted : ℕ → C → Type 0) (dimension : A → Dimension) (made : Dimension → ℕ → C → Type 0) (edges : A → DimensionEdges)
+    (tells : C → DimensionEdges) where
   -- what is left is accepted, and what is made of it makes all
   pub record MadeSoFar (shape : List ℕ) (configurations : List C) (shape_left : List ℕ) (left : List C) (axes : List A) : Type 0 where
     pub accepted_left : AllZip accepted shape_left left
     pub all : (more : List A) → InEach made (map dimension more) shape_left left → InEach made (map dimension (axes ++ more)) shape configurations
     pub told : (more : List A) → map edges more ≡ map tells left → map edges (axes ++ more) ≡ map tells configurations
 
-  pub none_made : (shape : List ℕ) (configurations : List C) → AllZip accepted shape configurations → MadeSoFar shape configurations shape configurations []
+  pub none_made : (shape : List ℕ) (configurations : List C) → AllZip accepted shape configurations
+      → MadeSoFar shape configurations shape configurations []
   none_made shape configurations all = record { accepted_left = all; all = λ more h. h; told = λ more h. h }
 
   pub one_made : (shape : List ℕ) (configurations : List C) (a : ℕ) (c : C) (shape_left : List ℕ) (left : List C) (axes : List A) (axis : A)
@@ -48,9 +50,11 @@ module _ {C A : Type 0} (accepted : ℕ → C → Type 0) (dimension : A → Dim
   one_made shape configurations a c shape_left left axes axis so_far is same = record {
     accepted_left = so_far.accepted_left.1;
     all = λ more h.
-        subst (λ (v : List A). InEach made (map dimension v) shape configurations) (sym (append_assoc axes (axis ∷ []) more)) (so_far.all (axis ∷ more) (is, h));
+        subst (λ (v : List A). InEach made (map dimension v) shape configurations) (sym (append_assoc axes (axis ∷ []) more))
+        (so_far.all (axis ∷ more) (is, h));
     told = λ more h.
-        subst (λ (v : List A). map edges v ≡ map tells configurations) (sym (append_assoc axes (axis ∷ []) more)) (so_far.told (axis ∷ more) (rw (same, h) refl));
+        subst (λ (v : List A). map edges v ≡ map tells configurations) (sym (append_assoc axes (axis ∷ []) more))
+        (so_far.told (axis ∷ more) (rw (same, h) refl));
   }
 
   pub all_made : (shape : List ℕ) (configurations : List C) (shape_left : List ℕ) (left : List C) (axes : List A)

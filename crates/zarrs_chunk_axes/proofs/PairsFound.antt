@@ -50,19 +50,22 @@ IsHomeIn d i home = Holds d home.0 i × (d.start home.0 + home.1 ≡ i)
 pub homes : (ds : List Dimension) (index : List ℕ) (pairs : List (ℕ × ℕ)) → InEach IsHomeIn ds index pairs
     → InBox ds (map first_of pairs) index × IsPlace ds (map first_of pairs) index (map second_of pairs)
 homes =
-    by_dimension IsHomeIn (λ ds index pairs. InBox ds (map first_of pairs) index × IsPlace ds (map first_of pairs) index (map second_of pairs)) (tt, tt)
+    by_dimension IsHomeIn
+    (λ ds index pairs. InBox ds (map first_of pairs) index × IsPlace ds (map first_of pairs) index (map second_of pairs)) (tt, tt)
     (λ d i home ds index pairs here rest. ((here.0, rest.0), (here.1, rest.1)))
 
 -- where a chunk starts in all dimensions, and how long it is there
 pub ranges : (ds : List Dimension) (chunk : List ℕ) (pairs : List (ℕ × ℕ)) → InEach HasRange ds chunk pairs
     → AreRanges ds chunk (map first_of pairs) (map second_of pairs)
 ranges =
-    by_dimension HasRange (λ ds chunk pairs. AreRanges ds chunk (map first_of pairs) (map second_of pairs)) (record { origin = tt; shape = tt; fits = tt })
+    by_dimension HasRange (λ ds chunk pairs. AreRanges ds chunk (map first_of pairs) (map second_of pairs))
+    (record { origin = tt; shape = tt; fits = tt })
     (λ d c range ds chunk pairs here rest.
     record { origin = (here.start, rest.origin); shape = (here.edge, rest.shape); fits = (here.fits, rest.fits) })
 
 -- the other way round
-pub each_range : (ds : List Dimension) (chunk starts sizes : List ℕ) → AreRanges ds chunk starts sizes → (pairs : List (ℕ × ℕ)) × InEach HasRange ds chunk pairs
+pub each_range : (ds : List Dimension) (chunk starts sizes : List ℕ) → AreRanges ds chunk starts sizes
+    → (pairs : List (ℕ × ℕ)) × InEach HasRange ds chunk pairs
 each_range ds chunk starts sizes are = paired ds chunk starts sizes are.origin are.shape are.fits where
   paired : (ds : List Dimension) (chunk starts sizes : List ℕ) → IsOrigin ds chunk starts → IsShape ds chunk sizes → AllFit (ends starts sizes)
       → (pairs : List (ℕ × ℕ)) × InEach HasRange ds chunk pairs

@@ -1,5 +1,6 @@
 -- What a step through the lists below a shape passes over.
-use Rattle.std.proofs.Common.{◌≡◌, ℕ, zero, suc, ◌+◌, ◌-◌, ◌<◌, ◌≤◌, List, [], ◌∷◌, ◌++◌, length, map, get_or, refl, ap, sym, ◌∙◌, append_assoc, append-nil, arith}
+use Rattle.std.proofs.Common.{◌≡◌, ℕ, zero, suc, ◌+◌, ◌-◌, ◌<◌, ◌≤◌, List, [], ◌∷◌, ◌++◌, length, map, get_or, refl, ap, sym, ◌∙◌, append_assoc}
+use Rattle.std.proofs.Common.{append-nil, arith}
 use Rattle.std.proofs.lemmas.List.{length-map, map-append}
 use Rattle.std.specs.List.{AllByRecursion}
 use Rattle.zarrs_chunk_axes.specs.InBounds.{AreBelow}
@@ -26,7 +27,8 @@ zeros_below (size ∷ shape) (n ∷ numbers) below = let here : n < size = below
 zeros_below _ _ below = absurd below
 
 -- a raised list is below the shape
-pub raised_below : (shape numbers : List ℕ) (k : ℕ) → AreBelow shape numbers → get_or numbers k 0 + 1 < get_or shape k 0 → AreBelow shape (raised k numbers)
+pub raised_below : (shape numbers : List ℕ) (k : ℕ) → AreBelow shape numbers → get_or numbers k 0 + 1 < get_or shape k 0
+    → AreBelow shape (raised k numbers)
 raised_below [] [] k below fits = tt
 raised_below (size ∷ shape) (n ∷ numbers) zero below fits = (fits, zeros_below shape numbers below.1)
 raised_below (size ∷ shape) (n ∷ numbers) (suc k) below fits = (below.0, raised_below shape numbers k below.1 fits)
@@ -38,7 +40,8 @@ at_least_itself [] = tt
 at_least_itself (n ∷ numbers) = (omega arith, at_least_itself numbers)
 
 -- nor below 0
-at_least_zeros : (shape zeros numbers : List ℕ) → AreBelow shape zeros → ((k : ℕ) → get_or zeros k 0 ≡ 0) → AreBelow shape numbers → AreAtLeast zeros numbers
+at_least_zeros : (shape zeros numbers : List ℕ) → AreBelow shape zeros → ((k : ℕ) → get_or zeros k 0 ≡ 0) → AreBelow shape numbers
+    → AreAtLeast zeros numbers
 at_least_zeros [] [] [] low are high = tt
 at_least_zeros (size ∷ shape) (z ∷ zeros) (n ∷ numbers) low are high =
     let first : z ≡ 0 = are zero in
@@ -117,7 +120,8 @@ raised_passed (size ∷ shape) (n ∷ numbers) (suc end) zero below is zeros =
       record {
         all = beginning size n shape numbers [] passed behind
             ∙ ap (λ count. map (λ more. n ∷ more) passed ++ rows (n + 1) count (row_major shape)) count_is
-            ∙ ap (λ others. map (λ more. n ∷ more) passed ++ (map (λ more. (n + 1) ∷ more) others ++ rows (n + 1 + 1) (size - (n + 1 + 1)) (row_major shape)))
+            ∙ ap (λ others. map (λ more. n ∷ more) passed
+            ++ (map (λ more. (n + 1) ∷ more) others ++ rows (n + 1 + 1) (size - (n + 1 + 1)) (row_major shape)))
             (first_is_zeros shape numbers below.1);
         at_least = at_least size n shape numbers [] passed behind;
         some = some size n shape numbers [] passed behind;
@@ -162,7 +166,8 @@ one_passed (size ∷ shape) (n ∷ numbers) zero below is =
     let none = none_after shape numbers below.1 (λ k first last. is.last (suc k) (omega arith) (omega arith)) in
     ap (λ lists. map (λ more. n ∷ more) lists ++ rows (n + 1) (size - (n + 1)) (row_major shape)) none
     ∙ ap (λ count. rows (n + 1) count (row_major shape)) some
-    ∙ ap (λ others. map (λ more. (n + 1) ∷ more) others ++ rows (n + 1 + 1) (size - (n + 1 + 1)) (row_major shape)) (first_is_zeros shape numbers below.1)
+    ∙ ap (λ others. map (λ more. (n + 1) ∷ more) others ++ rows (n + 1 + 1) (size - (n + 1 + 1)) (row_major shape))
+    (first_is_zeros shape numbers below.1)
 one_passed (size ∷ shape) (n ∷ numbers) (suc k) below is =
     ap (λ lists. map (λ more. n ∷ more) lists ++ rows (n + 1) (size - (n + 1)) (row_major shape)) (one_passed shape numbers k below.1 (record {
       before = omega (arith, is.before);

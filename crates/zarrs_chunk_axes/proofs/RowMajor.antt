@@ -35,7 +35,8 @@ pub all_below : (shape : List ℕ) → AllByRecursion (AreBelow shape) (row_majo
 unfolding row_major
 all_below [] = (tt, tt)
 all_below (size ∷ shape) =
-    all_in_rows (AreBelow shape) (AreBelow (size ∷ shape)) 0 size (λ n numbers low high below. (omega arith, below)) (row_major shape) (all_below shape)
+    all_in_rows (AreBelow shape) (AreBelow (size ∷ shape)) 0 size (λ n numbers low high below. (omega arith, below))
+    (row_major shape) (all_below shape)
 
 -- and so are those that come after one
 pub all_after_below : (shape numbers : List ℕ) → AreBelow shape numbers → AllByRecursion (AreBelow shape) (after shape numbers)
@@ -45,5 +46,6 @@ all_after_below (size ∷ shape) (n ∷ numbers) below =
     let here : n < size = below.0 in
     all_of_both (AreBelow (size ∷ shape)) (map (λ others. n ∷ others) (after shape numbers)) (rows (n + 1) (size - (n + 1)) (row_major shape))
     (all_beginning (AreBelow shape) (AreBelow (size ∷ shape)) n (λ others h. (here, h)) (after shape numbers) (all_after_below shape numbers below.1))
-    (all_in_rows (AreBelow shape) (AreBelow (size ∷ shape)) (n + 1) (size - (n + 1)) (λ m others low high h. (omega arith, h)) (row_major shape) (all_below shape))
+    (all_in_rows (AreBelow shape) (AreBelow (size ∷ shape)) (n + 1) (size - (n + 1)) (λ m others low high h. (omega arith, h))
+    (row_major shape) (all_below shape))
 all_after_below _ _ below = absurd below

@@ -1,5 +1,6 @@
 -- The lists of numbers below a shape are all that are below it, each once and each after the one before.
-use Rattle.std.proofs.Common.{◌≡◌, ◌≢◌, ◌↔◌, ℕ, zero, suc, ◌+◌, ◌<◌, ◌≤◌, List, [], ◌∷◌, ◌++◌, Contains, get_or, length, map, refl, ap, subst, sym, inl, inr, ⊎_elim, arith}
+use Rattle.std.proofs.Common.{◌≡◌, ◌≢◌, ◌↔◌, ℕ, zero, suc, ◌+◌, ◌<◌, ◌≤◌, List, [], ◌∷◌, ◌++◌, Contains, get_or, length, map, refl, ap, subst, sym}
+use Rattle.std.proofs.Common.{inl, inr, ⊎_elim, arith}
 use Rattle.std.proofs.lemmas.Bool.{cases_lt}
 use Rattle.std.specs.List.{AllByRecursion, AllPairs}
 use Rattle.zarrs_chunk_axes.specs.InBounds.{AreBelow}
@@ -47,7 +48,8 @@ in_rows first (suc count) n others numbers low high has =
 has_all : (shape numbers : List ℕ) → AreBelow shape numbers → Contains (row_major shape) numbers
 unfolding row_major
 has_all [] [] below = (zero, omega arith, refl)
-has_all (size ∷ shape) (n ∷ numbers) below = in_rows 0 size n (row_major shape) numbers (omega arith) (omega (arith, below.0)) (has_all shape numbers below.1)
+has_all (size ∷ shape) (n ∷ numbers) below =
+    in_rows 0 size n (row_major shape) numbers (omega arith) (omega (arith, below.0)) (has_all shape numbers below.1)
 has_all _ _ below = absurd below
 
 -- they are the lists below the shape
@@ -96,7 +98,8 @@ rows_ordered first (suc count) others ordered =
     both_ordered IsBefore (map (λ more. first ∷ more) others) (rows (first + 1) count others) (beginning_ordered first others ordered)
     (rows_ordered (first + 1) count others ordered)
     (all_beginning (λ _. Unit {0}) (λ one. AllByRecursion (IsBefore one) (rows (first + 1) count others)) first
-    (λ numbers _. all_in_rows (λ _. Unit {0}) (IsBefore (first ∷ numbers)) (first + 1) count (λ n more low high _. inl (omega arith)) others (anything others))
+    (λ numbers _. all_in_rows (λ _. Unit {0}) (IsBefore (first ∷ numbers)) (first + 1) count
+    (λ n more low high _. inl (omega arith)) others (anything others))
     others (anything others))
 
 all_ordered : (shape : List ℕ) → IsOrdered IsBefore (row_major shape)
@@ -116,4 +119,5 @@ not_before_itself (n ∷ numbers) before = ⊎_elim (λ (less : n < n). absurd (
 -- so none comes twice
 pub each_once : (shape : List ℕ) → AllPairs (λ one other. one ≢ other) (row_major shape)
 each_once shape i j d before within same =
-    not_before_itself (get_or (row_major shape) i d) (subst (λ other. IsBefore (get_or (row_major shape) i d) other) (sym same) (in_order shape i j d before within))
+    not_before_itself (get_or (row_major shape) i d)
+    (subst (λ other. IsBefore (get_or (row_major shape) i d) other) (sym same) (in_order shape i j d before within))

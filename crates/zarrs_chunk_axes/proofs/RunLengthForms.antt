@@ -1,5 +1,6 @@
 -- The run-length form of runs, one element after another.
-use Rattle.std.proofs.Common.{◌≡◌, ℕ, suc, ◌+◌, ◌<◌, ◌≤◌, List, [], ◌∷◌, ◌++◌, length, map, take, drop, get_or, append_assoc, append-nil, sym, ap, ◌∙◌, arith}
+use Rattle.std.proofs.Common.{◌≡◌, ℕ, suc, ◌+◌, ◌<◌, ◌≤◌, List, [], ◌∷◌, ◌++◌, length, map, take, drop, get_or, append_assoc, append-nil, sym, ap}
+use Rattle.std.proofs.Common.{◌∙◌, arith}
 use Rattle.std.proofs.lemmas.List.{length-append, map-append, take_all, take_more}
 use Rattle.std.proofs.lemmas.Grind.{flat_map-append}
 use Rattle.std.specs.List.{AllByRecursion}
@@ -15,7 +16,8 @@ edge_of_run run = run.0
 joined_one_more : (elements : List Element) (x : Element) → joined (elements ++ x ∷ []) ≡ joined elements ++ edges_of_element x
 joined_one_more [] x = append-nil (edges_of_element x)
 joined_one_more (e ∷ elements) x =
-    ap (λ rest. edges_of_element e ++ rest) (joined_one_more elements x) ∙ sym (append_assoc (edges_of_element e) (joined elements) (edges_of_element x))
+    ap (λ rest. edges_of_element e ++ rest) (joined_one_more elements x)
+    ∙ sym (append_assoc (edges_of_element e) (joined elements) (edges_of_element x))
 
 no_pair_one_more : (elements : List Element) (x : Element) → AllByRecursion IsNoPairOfOne elements → IsNoPairOfOne x
     → AllByRecursion IsNoPairOfOne (elements ++ x ∷ [])
@@ -30,7 +32,8 @@ pub record SoFar (runs : List (ℕ × ℕ)) (elements : List Element) : Type 0 w
 
 -- and one for the next run
 pub next_run : (runs : List (ℕ × ℕ)) (elements : List Element) (x : Element) (run : ℕ × ℕ) → SoFar runs elements → length elements < length runs
-    → get_or runs (length elements) (0, 0) ≡ run → edges_of_element x ≡ edges_of_run run → edge_in x ≡ run.0 → IsNoPairOfOne x → SoFar runs (elements ++ x ∷ [])
+    → get_or runs (length elements) (0, 0) ≡ run → edges_of_element x ≡ edges_of_run run → edge_in x ≡ run.0 → IsNoPairOfOne x
+    → SoFar runs (elements ++ x ∷ [])
 next_run runs elements x run so_far within is edges edge no_pair =
     let longer : length (elements ++ x ∷ []) ≡ length elements + 1 = length-append elements (x ∷ []) in
     let taken : take (length (elements ++ x ∷ [])) runs ≡ take (length elements) runs ++ run ∷ [] =

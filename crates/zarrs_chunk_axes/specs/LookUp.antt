@@ -61,7 +61,8 @@ pub record AreRanges (ds : List Dimension) (chunk starts sizes : List ℕ) : Typ
 -- greatest number
 abbrev pub AnswersRanges : List Dimension → List ℕ → Result (Option (Vec ℕ Global × Vec ℕ Global)) (Refusal IncompatibleDimensionalityError) → Type 0
 AnswersRanges ds chunk =
-    Answers (length chunk) (length ds) (λ ranges. AreRanges ds chunk ranges.0.items ranges.1.items) ((starts sizes : List ℕ) → ¬ AreRanges ds chunk starts sizes)
+    Answers (length chunk) (length ds) (λ ranges. AreRanges ds chunk ranges.0.items ranges.1.items)
+    ((starts sizes : List ℕ) → ¬ AreRanges ds chunk starts sizes)
 
 -- The chunk whose box holds the index and the index's place in it, as two lists hold them after the call; `false` where no box does.
 abbrev pub AnswersHome : List Dimension → List ℕ → Result Bool (Refusal IncompatibleDimensionalityError) → (chunk place : List ℕ) → Type 0

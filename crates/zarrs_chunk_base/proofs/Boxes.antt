@@ -1,5 +1,6 @@
 -- What lists of starts and sizes have to do with their ends and with an index, dimension by dimension.
-use Rattle.std.proofs.Common.{◌≡◌, ℕ, zero, suc, ◌+◌, ◌-◌, ◌^◌, ◌<◌, ◌≤◌, min, Bool, true, false, IsTrue, ◌↔◌, Option, Some, None, MatchOption, List, [], ◌∷◌, ◌++◌, length, map, zip, replicate, get_or, refl, sym, ap, arith, true≢false}
+use Rattle.std.proofs.Common.{◌≡◌, ℕ, zero, suc, ◌+◌, ◌-◌, ◌^◌, ◌<◌, ◌≤◌, min, Bool, true, false, IsTrue, ◌↔◌, Option, Some, None, MatchOption, List}
+use Rattle.std.proofs.Common.{[], ◌∷◌, ◌++◌, length, map, zip, replicate, get_or, refl, sym, ap, arith, true≢false}
 use Rattle.std.specs.Bool.{MatchBool}
 use Rattle.std.specs.List.{AllWithin, HoldsAt}
 use Rattle.std.specs.Prelude.{slice_index}

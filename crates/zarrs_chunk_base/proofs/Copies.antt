@@ -8,7 +8,8 @@ use Rattle.zarrs_chunk_base.specs.declared.chunk_edge_lengths.ChunkEdgeLengths.T
 use Rattle.zarrs_chunk_base.specs.RunLength.{IsSameChunkEdgeLengths, lengths_of, element_of, varying}
 
 -- copies, each of which stands for the same as what it is a copy of, stand for the same list
-pub all_equal : {A B : Type 0} (f : A → B) (IsCopy : A → A → Type 0) → ((x y : A) → IsCopy x y → f y ≡ f x) → (xs ys : List A) → AllZip IsCopy xs ys → map f ys ≡ map f xs
+pub all_equal : {A B : Type 0} (f : A → B) (IsCopy : A → A → Type 0) → ((x y : A) → IsCopy x y → f y ≡ f x) → (xs ys : List A)
+    → AllZip IsCopy xs ys → map f ys ≡ map f xs
 all_equal f IsCopy same [] [] h = refl
 all_equal f IsCopy same (x ∷ xs) (y ∷ ys) h =
     let first = same x y h.0 in

@@ -1,12 +1,15 @@
 -- The first of a list in the order of names has the least name.
-use Rattle.std.proofs.Common.{◌≡◌, ◌≢◌, ℕ, zero, suc, Bool, true, false, if◌then◌else◌, List, [], ◌∷◌, Option, None, Some, option_and_then, MatchOption, IsSome, is_some, Ordering, Less, Equal, Greater, nat_cmp, Contains, refl, sym, ap, ◌∙◌, subst, inl, inr, ◌⊎◌, ⊎_elim, true≢false, arith}
+use Rattle.std.proofs.Common.{◌≡◌, ◌≢◌, ℕ, zero, suc, Bool, true, false, if◌then◌else◌, List, [], ◌∷◌, Option, None, Some, option_and_then}
+use Rattle.std.proofs.Common.{MatchOption, IsSome, is_some, Ordering, Less, Equal, Greater, nat_cmp, Contains, refl, sym, ap, ◌∙◌, subst, inl, inr}
+use Rattle.std.proofs.Common.{◌⊎◌, ⊎_elim, true≢false, arith}
 use Rattle.std.proofs.lemmas.Cmp.{nat_list_cmp_total, tied_itself}
 use Rattle.std.specs.Cmp.Lexicographic.{slice_cmp}
 use Rattle.std.specs.List.{AllByRecursion}
 use Rattle.std.specs.Option.{option_map_or}
 use Rattle.serde_json.specs.Data.{Data, Members}
 use Rattle.serde_json.specs.Find.{get_member}
-use Rattle.zarrs_chunk_base.specs.Configuration.{AreInOrder, HasNoUnknown, HasRequired, IsFirstWrong, IsConfigurationFault, IsFitting, IsLeastName, HasWrongValue, IsMissing, IsWrong, Member, Table, names_of, required_names_of, value_of, value_or}
+use Rattle.zarrs_chunk_base.specs.Configuration.{AreInOrder, HasNoUnknown, HasRequired, IsFirstWrong, IsConfigurationFault, IsFitting, IsLeastName}
+use Rattle.zarrs_chunk_base.specs.Configuration.{HasWrongValue, IsMissing, IsWrong, Member, Table, names_of, required_names_of, value_of, value_or}
 use Rattle.zarrs_chunk_base.specs.First.{IsFirst}
 use Rattle.zarrs_chunk_base.specs.declared.configuration_fault.ConfigurationFault.{ConfigurationFault}
 use Rattle.zarrs_chunk_base.specs.declared.configuration_fault.ConfigurationFault.TheVariants.{UnknownField, MissingField, WrongValue}
@@ -48,8 +51,10 @@ module _ {X : Type 0} (name_of : X → List ℕ) where
         in_list = (0, omega arith, sym same);
         holds = subst P (sym same) holds;
         least = λ z c _. rw same
-            (⊎_elim (λ it. subst (λ w. slice_cmp nat_cmp (name_of y) (name_of w) ≢ Greater) it (Equal≢Greater _ (tied_itself nat_list_cmp_total (name_of y))))
-            (λ later. Less≢Greater _ (all_contained (λ w. slice_cmp nat_cmp (name_of y) (name_of w) ≡ Less) ys order.0 z later)) (contained y ys z c));
+            (⊎_elim (λ it. subst (λ w. slice_cmp nat_cmp (name_of y) (name_of w) ≢ Greater) it
+            (Equal≢Greater _ (tied_itself nat_list_cmp_total (name_of y))))
+            (λ later. Less≢Greater _ (all_contained (λ w. slice_cmp nat_cmp (name_of y) (name_of w) ≡ Less) ys order.0 z later))
+            (contained y ys z c));
       })
       (λ (not_here, later).
       let rest = first_is_least P ys x order.1 later in
@@ -71,10 +76,11 @@ all_if P false name names here rest = rest
 required_after : (name : List ℕ) (table : List Member) → AllByRecursion (λ m. slice_cmp nat_cmp name m.name ≡ Less) table
     → AllByRecursion (λ n. slice_cmp nat_cmp name n ≡ Less) (required_names_of table)
 required_after name [] h = tt
-required_after name (m ∷ table) h = all_if (λ n. slice_cmp nat_cmp name n ≡ Less) m.required m.name (required_names_of table) h.0 (required_after name table h.1)
+required_after name (m ∷ table) h =
+    all_if (λ n. slice_cmp nat_cmp name n ≡ Less) m.required m.name (required_names_of table) h.0 (required_after name table h.1)
 
-in_order_if : (b : Bool) (name : List ℕ) (names : List (List ℕ)) → AllByRecursion (λ n. slice_cmp nat_cmp name n ≡ Less) names → InOrder (λ n. n) names
-    → InOrder (λ n. n) (if b then name ∷ names else names)
+in_order_if : (b : Bool) (name : List ℕ) (names : List (List ℕ)) → AllByRecursion (λ n. slice_cmp nat_cmp name n ≡ Less) names
+    → InOrder (λ n. n) names → InOrder (λ n. n) (if b then name ∷ names else names)
 in_order_if true name names after rest = (after, rest)
 in_order_if false name names after rest = rest
 
@@ -91,7 +97,8 @@ least_missing table members name order first =
     record { holds = (least.in_list, least.holds); least = λ other missing. least.least other missing.0 missing.1 }
 
 -- where each is there, none is missing
-pub none_missing : (table : List Member) (members : Members) → HasRequired table members → (name : List ℕ) → ¬ IsMissing (required_names_of table) members name
+pub none_missing : (table : List Member) (members : Members) → HasRequired table members → (name : List ℕ)
+    → ¬ IsMissing (required_names_of table) members name
 none_missing table members there name missing =
     true≢false (sym (all_contained (λ n. IsSome (get_member n members)) (required_names_of table) there name missing.0) ∙ ap is_some missing.1)
 
@@ -114,13 +121,15 @@ least_wrong table members m order first =
 -- ---- faults
 
 -- the first name that is missing is a configuration's first fault, where each name is known
-pub missing_is_first : (table : Table) (members : Members) (fault : ConfigurationFault) → AreInOrder table.members → HasNoUnknown (names_of table.members) members
+pub missing_is_first : (table : Table) (members : Members) (fault : ConfigurationFault) → AreInOrder table.members
+    → HasNoUnknown (names_of table.members) members
     → IsFirstMissing (required_names_of table.members) members fault → IsConfigurationFault table members fault
 missing_is_first table members (MissingField field) order known first = (known, least_missing table.members members field.now order first)
 missing_is_first table _ _ order known first = absurd first
 
 -- the first value that isn't of its form is, where besides no name is missing
-pub wrong_is_first : (table : Table) (members : Members) (fault : ConfigurationFault) → AreInOrder table.members → HasNoUnknown (names_of table.members) members
+pub wrong_is_first : (table : Table) (members : Members) (fault : ConfigurationFault) → AreInOrder table.members
+    → HasNoUnknown (names_of table.members) members
     → HasRequired table.members members → IsFirstWrong table.members members fault → IsConfigurationFault table members fault
 wrong_is_first table members (WrongValue field) order known there (m, named, first) = (
   known,
@@ -131,7 +140,8 @@ wrong_is_first table _ _ order known there first = absurd first
 
 -- ---- tables, member by member
 
-module _ {X : Type 0} (form : Data → Option X) (m : Member) (rest : List Member) (members : Members) (of_form : (d : Data) → m.of_form d ≡ is_some (form d)) where
+module _ {X : Type 0} (form : Data → Option X) (m : Member) (rest : List Member) (members : Members)
+    (of_form : (d : Data) → m.of_form d ≡ is_some (form d)) where
   misformed : (d : Data) → form d ≡ None → m.of_form d ≡ false
   misformed d none = of_form d ∙ ap is_some none
 

@@ -6,7 +6,8 @@ use Rattle.zarrs_chunk_base.specs.Greatest.{greatest, AllFit}
 
 -- what holds without dimensions, and of one more wherever it holds, holds of all lists that are related in each dimension
 pub by_dimension : {X : Type 0} (R : Dimension → ℕ → X → Type 0) (P : List Dimension → List ℕ → List X → Type 0) → P [] [] []
-    → ((d : Dimension) (c : ℕ) (x : X) (ds : List Dimension) (chunk : List ℕ) (xs : List X) → R d c x → P ds chunk xs → P (d ∷ ds) (c ∷ chunk) (x ∷ xs))
+    → ((d : Dimension) (c : ℕ) (x : X) (ds : List Dimension) (chunk : List ℕ) (xs : List X) → R d c x → P ds chunk xs
+    → P (d ∷ ds) (c ∷ chunk) (x ∷ xs))
     → (ds : List Dimension) (chunk : List ℕ) (xs : List X) → InEach R ds chunk xs → P ds chunk xs
 by_dimension R P none more [] [] [] h = none
 by_dimension R P none more (d ∷ ds) (c ∷ chunk) (x ∷ xs) h = more d c x ds chunk xs h.0 (by_dimension R P none more ds chunk xs h.1)
@@ -25,7 +26,8 @@ by_dimension_twice {X} {Y} R S P none more ds chunk xs ys first second =
       at_end (_ ∷ _) h = absurd h
 
       with_next : (d : Dimension) (c : ℕ) (x : X) (ds : List Dimension) (chunk : List ℕ) (xs : List X) → R d c x
-          → ((ys : List Y) → InEach S ds chunk ys → P ds chunk xs ys) → (ys : List Y) → InEach S (d ∷ ds) (c ∷ chunk) ys → P (d ∷ ds) (c ∷ chunk) (x ∷ xs) ys
+          → ((ys : List Y) → InEach S ds chunk ys → P ds chunk xs ys) → (ys : List Y) → InEach S (d ∷ ds) (c ∷ chunk) ys
+          → P (d ∷ ds) (c ∷ chunk) (x ∷ xs) ys
       with_next d c x ds chunk xs here rest [] h = absurd h
       with_next d c x ds chunk xs here rest (y ∷ ys) h = more d c x y ds chunk xs ys here h.0 (rest ys h.1)
 
@@ -51,16 +53,17 @@ module _ {X : Type 0} (R : Dimension → ℕ → X → Type 0) where
   -- numbers that are tied to others, place by place
   pub along : (S : ℕ → ℕ → Type 0) (ds : List Dimension) (chunk : List ℕ) (xs : List X) → InEach R ds chunk xs
       → (others : List ℕ) → AllZip S chunk others → InEach (λ d n x. (c : ℕ) × S c n × R d c x) ds others xs
-  along S = by_dimension R (λ ds chunk xs. (others : List ℕ) → AllZip S chunk others → InEach (λ d n x. (c : ℕ) × S c n × R d c x) ds others xs) none more where
-    none : (others : List ℕ) → AllZip S [] others → InEach (λ d n x. (c : ℕ) × S c n × R d c x) [] others []
-    none [] tied = tt
-    none (_ ∷ _) tied = absurd tied
+  along S = by_dimension R
+      (λ ds chunk xs. (others : List ℕ) → AllZip S chunk others → InEach (λ d n x. (c : ℕ) × S c n × R d c x) ds others xs) none more where
+        none : (others : List ℕ) → AllZip S [] others → InEach (λ d n x. (c : ℕ) × S c n × R d c x) [] others []
+        none [] tied = tt
+        none (_ ∷ _) tied = absurd tied
 
-    more : (d : Dimension) (c : ℕ) (x : X) (ds : List Dimension) (chunk : List ℕ) (xs : List X) → R d c x
-        → ((others : List ℕ) → AllZip S chunk others → InEach (λ d n x. (c : ℕ) × S c n × R d c x) ds others xs)
-        → (others : List ℕ) → AllZip S (c ∷ chunk) others → InEach (λ d n x. (c : ℕ) × S c n × R d c x) (d ∷ ds) others (x ∷ xs)
-    more d c x ds chunk xs here rest [] tied = absurd tied
-    more d c x ds chunk xs here rest (n ∷ others) tied = ((c, tied.0, here), rest others tied.1)
+        more : (d : Dimension) (c : ℕ) (x : X) (ds : List Dimension) (chunk : List ℕ) (xs : List X) → R d c x
+            → ((others : List ℕ) → AllZip S chunk others → InEach (λ d n x. (c : ℕ) × S c n × R d c x) ds others xs)
+            → (others : List ℕ) → AllZip S (c ∷ chunk) others → InEach (λ d n x. (c : ℕ) × S c n × R d c x) (d ∷ ds) others (x ∷ xs)
+        more d c x ds chunk xs here rest [] tied = absurd tied
+        more d c x ds chunk xs here rest (n ∷ others) tied = ((c, tied.0, here), rest others tied.1)
 
 -- what is related to what values stand for
 pub mapped : {X Y : Type 0} (f : X → Y) (R : Dimension → ℕ → Y → Type 0) (ds : List Dimension) (chunk : List ℕ) (xs : List X)

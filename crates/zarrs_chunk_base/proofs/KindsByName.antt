@@ -1,5 +1,6 @@
 -- Kinds of extensions: they are told apart by their whole names, and what was made is made again of its metadata.
-use Rattle.std.proofs.Common.{◌≡◌, ◌≢◌, ℕ, suc, Bool, true, false, cond, List, [], ◌∷◌, Option, Some, Contains, find, bytes_eq, Result, Ok, Err, IsErrAnd, MatchResult, sym, ap, ◌∙◌, subst, unwrap_or, true≢false, is_some, arith}
+use Rattle.std.proofs.Common.{◌≡◌, ◌≢◌, ℕ, suc, Bool, true, false, cond, List, [], ◌∷◌, Option, Some, Contains, find, bytes_eq, Result, Ok, Err}
+use Rattle.std.proofs.Common.{IsErrAnd, MatchResult, sym, ap, ◌∙◌, subst, unwrap_or, true≢false, is_some, arith}
 use Rattle.std.specs.List.{AllByRecursion}
 use Rattle.serde_json.specs.Data.{Members, no_members}
 use Rattle.zarrs_chunk_base.specs.Configuration.{IsConfiguration, IsFitting}
@@ -88,7 +89,8 @@ module _ {K G M : Type 0} (kind : K → Kind G M) where
       (refused_weaker refusal (IsFaultOf (kind k) e given) (IsFault kind kinds e given) refused (λ fault. fault_of k name))
 
   -- the metadata of what was made is never refused for what it was made of
-  pub never_refused : (kinds : List K) → AreFound kinds → ((k : K) → Fits (kind k)) → (k : K) (given : G) (made : M) (e : Extension) (fault : PluginCreateError)
+  pub never_refused : (kinds : List K) → AreFound kinds → ((k : K) → Fits (kind k))
+      → (k : K) (given : G) (made : M) (e : Extension) (fault : PluginCreateError)
       → IsMetadata (kind k) given made e → ¬ IsFault kind kinds e given fault
   never_refused kinds found fits k given made e fault is (name_unsupported _ _ _ none) =
       none (subst (Contains (names kind kinds)) (sym is.name) (is_named kinds found k))

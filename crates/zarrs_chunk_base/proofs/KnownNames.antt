@@ -1,5 +1,7 @@
 -- The first member that isn't known has the least name, since members are kept in the order of their names.
-use Rattle.std.proofs.Common.{◌≡◌, ◌≢◌, ℕ, suc, Bool, true, false, cond, not, List, [], ◌∷◌, map, Option, None, Some, String, Global, Ordering, Less, Equal, Greater, string_bytes, string_cmp, nat_cmp, Contains, IsSome, find, bytes_eq, Bor, Result, Ok, Err, IfOk, refl, sym, ap, ◌∙◌, subst, inl, inr, ◌⊎◌, ⊎_elim, true≢false, arith}
+use Rattle.std.proofs.Common.{◌≡◌, ◌≢◌, ℕ, suc, Bool, true, false, cond, not, List, [], ◌∷◌, map, Option, None, Some, String, Global, Ordering, Less}
+use Rattle.std.proofs.Common.{Equal, Greater, string_bytes, string_cmp, nat_cmp, Contains, IsSome, find, bytes_eq, Bor, Result, Ok, Err, IfOk, refl}
+use Rattle.std.proofs.Common.{sym, ap, ◌∙◌, subst, inl, inr, ◌⊎◌, ⊎_elim, true≢false, arith}
 use Rattle.std.proofs.lemmas.Bool.{not-true, not-false, both_ways}
 use Rattle.std.proofs.lemmas.Cmp.{nat_list_cmp_total, tied_itself}
 use Rattle.std.proofs.lemmas.List.Folds.{list_any_at}
@@ -62,8 +64,8 @@ member_later Equal d rest h = refl
 member_later Greater d rest h = h
 
 -- a member of the rest comes after the first key
-after_first : (k : String Global) (es : List Entry) (name : List ℕ) → AllByRecursion (λ y. string_cmp k y ≡ Less) (keys_of es) → IsSome (get_member name (members_view es))
-    → slice_cmp nat_cmp (string_bytes k) name ≡ Less
+after_first : (k : String Global) (es : List Entry) (name : List ℕ) → AllByRecursion (λ y. string_cmp k y ≡ Less) (keys_of es)
+    → IsSome (get_member name (members_view es)) → slice_cmp nat_cmp (string_bytes k) name ≡ Less
 after_first k [] name above h = absurd (true≢false (sym h))
 after_first k (e ∷ es) name above h =
     ⊎_elim
@@ -73,20 +75,22 @@ after_first k (e ∷ es) name above h =
 
 -- ---- none is unknown
 
-find_none : (test : String Global → Bool) (k : String Global) (rest : Option (String Global)) → cond (test k) (Some k) rest ≡ None → (test k ≡ false) × (rest ≡ None)
+find_none : (test : String Global → Bool) (k : String Global) (rest : Option (String Global)) → cond (test k) (Some k) rest ≡ None
+    → (test k ≡ false) × (rest ≡ None)
 find_none test k rest h = by_test (test k) refl h where
   by_test : (b : Bool) → test k ≡ b → cond b (Some k) rest ≡ None → (test k ≡ false) × (rest ≡ None)
   by_test true e h = cc
   by_test false e h = (e, h)
 
-find_some : (test : String Global → Bool) (k : String Global) (rest : Option (String Global)) (found : String Global) → cond (test k) (Some k) rest ≡ Some found
-    → ((test k ≡ true) × (k ≡ found)) ⊎ ((test k ≡ false) × (rest ≡ Some found))
+find_some : (test : String Global → Bool) (k : String Global) (rest : Option (String Global)) (found : String Global)
+    → cond (test k) (Some k) rest ≡ Some found → ((test k ≡ true) × (k ≡ found)) ⊎ ((test k ≡ false) × (rest ≡ Some found))
 find_some test k rest found h = by_test (test k) refl h where
   by_test : (b : Bool) → test k ≡ b → cond b (Some k) rest ≡ Some found → ((test k ≡ true) × (k ≡ found)) ⊎ ((test k ≡ false) × (rest ≡ Some found))
   by_test true e h = inl (e, cc)
   by_test false e h = inr (e, h)
 
-pub none_unknown : (known : List (Bor (List ℕ))) (es : List Entry) → find (is_unknown_key known) (keys_of es) ≡ None → HasNoUnknown (texts known) (members_view es)
+pub none_unknown : (known : List (Bor (List ℕ))) (es : List Entry) → find (is_unknown_key known) (keys_of es) ≡ None
+    → HasNoUnknown (texts known) (members_view es)
 none_unknown known [] none name unknown = true≢false (sym unknown.0)
 none_unknown known (e ∷ es) none name unknown =
     let parts = find_none (is_unknown_key known) e.0 (find (is_unknown_key known) (keys_of es)) none in
@@ -150,8 +154,8 @@ pub all_named : (ms : Members) → HasNoUnknown (keys_of_members ms) ms
 all_named ms name unknown = unknown.1 (named name ms unknown.0)
 
 -- what is written as members of these names, and is their value, is a configuration
-pub reads_back : {X : Type 0} (table : Table) (value : Members → Option X) (ms written : Members) (x : X) → ms ≡ written → names_of table.members ≡ keys_of_members written
-    → value written ≡ Some x → IsConfiguration table value ms x
+pub reads_back : {X : Type 0} (table : Table) (value : Members → Option X) (ms written : Members) (x : X) → ms ≡ written
+    → names_of table.members ≡ keys_of_members written → value written ≡ Some x → IsConfiguration table value ms x
 reads_back table value ms written x same names is =
     rw (same, names) (all_named written, is)
 
@@ -164,7 +168,8 @@ pub not_first : (first name : List ℕ) (names : List (List ℕ)) → name ≢ f
 not_first first name names other rest known = ⊎_elim (λ same. other (sym same)) rest (contained first names name known)
 
 -- also where it may not have been written
-pub reads_back_if_ok : {X C E : Type 0} (table : Table) (value : Members → Option X) (members : C → Members) (answer : Result C E) (written : Members) (x : X)
+pub reads_back_if_ok : {X C E : Type 0} (table : Table) (value : Members → Option X) (members : C → Members) (answer : Result C E)
+    (written : Members) (x : X)
     → IfOk answer (λ c. members c ≡ written) → names_of table.members ≡ keys_of_members written → value written ≡ Some x
     → IfOk answer (λ c. IsConfiguration table value (members c) x)
 reads_back_if_ok table value members (Ok c) written x same names is = reads_back table value (members c) written x same names is

@@ -10,8 +10,8 @@ module _ {E F : Type 0} (R : E → F → Type 0) where
   IsMapped r s = MatchRefusal r (λ e. IsRefusedAnd s (R e)) (λ error. s ≡ Memory error)
 
   -- what holds of the call's own
-  pub refused_through : (r : Refusal E) (s : Refusal F) (P : E → Type 0) (Q : F → Type 0) → IsMapped r s → OrMemory P r → ((e : E) (f : F) → R e f → P e → Q f)
-      → OrMemory Q s
+  pub refused_through : (r : Refusal E) (s : Refusal F) (P : E → Type 0) (Q : F → Type 0) → IsMapped r s → OrMemory P r
+      → ((e : E) (f : F) → R e f → P e → Q f) → OrMemory Q s
   refused_through (Refused e) (Refused f) P Q is h follows = follows e f is h
   refused_through (Refused e) (Memory b) P Q is h follows = absurd is
   refused_through (Memory a) s P Q is h follows = rw is tt

@@ -1,5 +1,6 @@
 -- What members are left where one was taken out.
-use Rattle.std.proofs.Common.{◌≡◌, ◌≢◌, ℕ, Bool, true, false, cond, List, [], ◌∷◌, Some, String, Global, None, option_map, unwrap_or, string_bytes, refl, sym, ap, ◌∙◌}
+use Rattle.std.proofs.Common.{◌≡◌, ◌≢◌, ℕ, Bool, true, false, cond, List, [], ◌∷◌, Some, String, Global, None, option_map, unwrap_or, string_bytes}
+use Rattle.std.proofs.Common.{refl, sym, ap, ◌∙◌}
 use Rattle.std.proofs.lemmas.Bool.{false_from_ne_true}
 use Rattle.std.proofs.lemmas.Option.{none-some}
 use Rattle.std.proofs.lemmas.Map.Text.{is_eq-slice_cmp}
@@ -38,7 +39,8 @@ pub others_stay : (name other : List ℕ) (es : List (String Global × Value)) �
     → get_member other (members_view (remove_entry (is_name name) es)) ≡ get_member other (members_view es)
 others_stay name other es differs =
     sym (view-lookup other (remove_entry (is_name name) es))
-    ∙ ap (option_map view) (lookup_stays (is_name name) (is_name other) (λ k one both. differs (bytes_of_name other k both ∙ sym (bytes_of_name name k one))) es)
+    ∙ ap (option_map view)
+    (lookup_stays (is_name name) (is_name other) (λ k one both. differs (bytes_of_name other k both ∙ sym (bytes_of_name name k one))) es)
     ∙ view-lookup other es
 
 -- a name is looked up in an object's members

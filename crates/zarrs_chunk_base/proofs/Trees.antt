@@ -25,7 +25,8 @@ module _ {A X : Type 0} (seen : A → X) (form : Data → Option X) (written : X
   items_are _ _ h = absurd h
 
   -- and stand for them
-  pub items_stand_for : (trees : List Value) (values : List A) → AllZip IsTreeOf trees values → each_of form (items_view trees) ≡ Some (map seen values)
+  pub items_stand_for : (trees : List Value) (values : List A) → AllZip IsTreeOf trees values
+      → each_of form (items_view trees) ≡ Some (map seen values)
   items_stand_for [] [] h = refl
   items_stand_for (t ∷ trees) (x ∷ values) h = rw (h.0.1, items_stand_for trees values h.1) refl
   items_stand_for _ _ h = absurd h

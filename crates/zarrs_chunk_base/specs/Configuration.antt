@@ -1,6 +1,7 @@
 -- The configuration of an extension: an object with the members that its kind has, and no others. A kind has a table of its members,
 -- from which the faults and their order follow.
-use Rattle.std.specs.Prelude.{◌≡◌, ◌≢◌, ℕ, Bool, true, false, if◌then◌else◌, List, [], ◌∷◌, map, Contains, IsSome, is_some, Option, Some, None, option_and_then, MatchOption, string_bytes}
+use Rattle.std.specs.Prelude.{◌≡◌, ◌≢◌, ℕ, Bool, true, false, if◌then◌else◌, List, [], ◌∷◌, map, Contains, IsSome, is_some, Option, Some, None}
+use Rattle.std.specs.Prelude.{option_and_then, MatchOption, string_bytes}
 use Rattle.std.specs.Option.{option_map_or}
 use Rattle.std.specs.List.{AllByRecursion}
 use Rattle.std.specs.Ordering.{nat_cmp}
@@ -91,7 +92,8 @@ IsFirstWrong _ _ _ = ⊥
 
 -- the fault names the first unknown member, and lists what was expected
 abbrev pub IsUnknownFault : List (List ℕ) → List ℕ → Members → ConfigurationFault → Type 0
-IsUnknownFault known expected members (UnknownField field listed) = IsLeastName (IsUnknown known members) (string_bytes field) × (listed.now ≡ expected)
+IsUnknownFault known expected members (UnknownField field listed) =
+    IsLeastName (IsUnknown known members) (string_bytes field) × (listed.now ≡ expected)
 IsUnknownFault _ _ _ _ = ⊥
 
 -- The first fault of a configuration: an unknown member, a missing one, or a value that isn't of its form; of

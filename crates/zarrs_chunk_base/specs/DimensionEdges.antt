@@ -2,8 +2,10 @@
 -- Sources: ZEP 3, variable chunks; the `rectilinear` extension of zarr-extensions.
 use Rattle.std.specs.Prelude.{ℕ, List, map}
 use Rattle.std.specs.Int.NonZero.{non_zero_u64_get}
-use Rattle.zarrs_chunk_base.specs.declared.rectangular_chunk_grid_dimension_configuration.RectangularChunkGridDimensionConfiguration.{RectangularChunkGridDimensionConfiguration}
-use Rattle.zarrs_chunk_base.specs.declared.rectangular_chunk_grid_dimension_configuration.RectangularChunkGridDimensionConfiguration.TheVariants.{Fixed, Varying}
+use Rattle.zarrs_chunk_base.specs.declared.dimension_configuration.RectangularChunkGridDimensionConfiguration.{
+  RectangularChunkGridDimensionConfiguration,
+}
+use Rattle.zarrs_chunk_base.specs.declared.dimension_configuration.RectangularChunkGridDimensionConfiguration.TheVariants.{Fixed, Varying}
 
 -- one edge for all chunks, or an edge for each chunk
 pub data DimensionEdges : Type 0 where

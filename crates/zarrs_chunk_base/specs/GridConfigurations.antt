@@ -4,8 +4,8 @@ use Rattle.std.specs.Prelude.{ℕ, ⊤, if◌then◌else◌, List, [], ◌∷◌
 use Rattle.serde_json.specs.Data.{Data, string, Members, no_members, member}
 use Rattle.serde_json.specs.Find.{as_str}
 use Rattle.zarrs_chunk_base.specs.Configuration.{Table, required, value_of}
-use Rattle.zarrs_chunk_base.specs.declared.json.rectilinear_chunk_grid_configuration.RectilinearChunkGridConfiguration.{RectilinearChunkGridConfiguration}
-use Rattle.zarrs_chunk_base.specs.declared.json.rectilinear_chunk_grid_configuration.RectilinearChunkGridConfiguration.TheVariants.{Inline}
+use Rattle.zarrs_chunk_base.specs.declared.json.rectilinear_configuration.RectilinearChunkGridConfiguration.{RectilinearChunkGridConfiguration}
+use Rattle.zarrs_chunk_base.specs.declared.json.rectilinear_configuration.RectilinearChunkGridConfiguration.TheVariants.{Inline}
 use Rattle.zarrs_chunk_base.specs.DimensionEdges.{DimensionEdges, equal, listed}
 use Rattle.zarrs_chunk_base.specs.Json.{edge_of, edge_or, list_of, list_tree, pair_of, size_tree}
 use Rattle.zarrs_chunk_base.specs.RunLength.{EdgeLengths, Element, lengths_of, repeated, scalar, single, varying}
@@ -78,11 +78,13 @@ rectilinear_table = record {
 -- the edges of each dimension that the members stand for
 abbrev pub rectilinear_value : Members → Option (List EdgeLengths)
 rectilinear_value members =
-    option_and_then (λ lengths. option_map (λ _. lengths) (value_of (codes "kind") inline_in members)) (value_of (codes "chunk_shapes") (list_of lengths_in) members)
+    option_and_then (λ lengths. option_map (λ _. lengths) (value_of (codes "kind") inline_in members))
+    (value_of (codes "chunk_shapes") (list_of lengths_in) members)
 
 -- the members that the edges of each dimension are written as
 abbrev pub rectilinear_members : List EdgeLengths → Members
-rectilinear_members lengths = member (codes "chunk_shapes") (list_tree lengths_tree lengths) (member (codes "kind") (string (codes "inline")) no_members)
+rectilinear_members lengths =
+    member (codes "chunk_shapes") (list_tree lengths_tree lengths) (member (codes "kind") (string (codes "inline")) no_members)
 
 -- the edges of each dimension that a value of the program holds
 abbrev pub rectilinear_lengths : RectilinearChunkGridConfiguration → List EdgeLengths

@@ -7,7 +7,9 @@ use Rattle.zarrs_chunk_base.specs.ChunkKeySeparator.{separator_byte}
 use Rattle.zarrs_chunk_base.specs.Configuration.{Table, optional, required, value_of, value_or}
 use Rattle.zarrs_chunk_base.specs.declared.chunk_key_separator.ChunkKeySeparator.{ChunkKeySeparator}
 use Rattle.zarrs_chunk_base.specs.declared.chunk_key_separator.ChunkKeySeparator.TheVariants.{Slash, Dot}
-use Rattle.zarrs_chunk_base.specs.declared.json.default_suffix_chunk_key_encoding_configuration.DefaultSuffixChunkKeyEncodingConfiguration.{DefaultSuffixChunkKeyEncodingConfiguration}
+use Rattle.zarrs_chunk_base.specs.declared.json.default_suffix_configuration.DefaultSuffixChunkKeyEncodingConfiguration.{
+  DefaultSuffixChunkKeyEncodingConfiguration,
+}
 
 -- the text of a separator: its byte alone
 abbrev pub separator_text : ChunkKeySeparator → List ℕ

@@ -7,7 +7,8 @@ use Rattle.serde_json.specs.Find.{get, as_str, as_object, as_bool}
 use Rattle.serde_json.specs.View.{members_view}
 use Rattle.zarrs_chunk_base.specs.declared.json.metadata_v3.MetadataV3.{MetadataV3}
 use Rattle.zarrs_chunk_base.specs.declared.metadata_error.MetadataError.{MetadataError}
-use Rattle.zarrs_chunk_base.specs.declared.metadata_error.MetadataError.TheVariants.{NotAnExtension, NameMissing, NameNotText, ConfigurationNotObject, MustUnderstandNotBool}
+use Rattle.zarrs_chunk_base.specs.declared.metadata_error.MetadataError.TheVariants.{NotAnExtension, NameMissing, NameNotText, ConfigurationNotObject}
+use Rattle.zarrs_chunk_base.specs.declared.metadata_error.MetadataError.TheVariants.{MustUnderstandNotBool}
 
 -- an extension's metadata, without where it lies in memory
 pub record Extension : Type 0 where

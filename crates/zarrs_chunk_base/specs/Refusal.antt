@@ -37,7 +37,8 @@ RefusesLength given expected (Refused e) = (given ≢ expected) × TellsLengths 
 RefusesLength given expected (Memory _) = ⊥
 
 -- A look-up refuses a wrong length first; then it finds what was sought, or nothing, or is out of memory, if it stores anything.
-abbrev pub AnswersStoring : {X : Type 0} → Type 0 → ℕ → ℕ → (X → Type 0) → Type 0 → Result (Option X) (Refusal IncompatibleDimensionalityError) → Type 0
+abbrev pub AnswersStoring : {X : Type 0} → Type 0 → ℕ → ℕ → (X → Type 0) → Type 0
+    → Result (Option X) (Refusal IncompatibleDimensionalityError) → Type 0
 AnswersStoring Stores given expected Found Absent (Ok (Some x)) = (given ≡ expected) × Found x
 AnswersStoring Stores given expected Found Absent (Ok None) = (given ≡ expected) × Absent
 AnswersStoring Stores given expected Found Absent (Err (Refused e)) = (given ≢ expected) × TellsLengths given expected e

@@ -19,13 +19,13 @@
 //! | `chunk_key_separator` | what stands between the parts of a chunk key |
 //! | `refusal` | a call's own refusal, or out of memory |
 //! | `incompatible_dimensionality_error` | a list of another length than there are dimensions |
-//! | `rectangular_chunk_grid_dimension_configuration`, `chunk_edge_lengths`, `run_length_element` | the chunk edges of one dimension |
+//! | `dimension_configuration`, `chunk_edge_lengths`, `run_length_element` | the chunk edges of one dimension |
 //! | `in_brackets` | a list as a text, for those that refuse one |
 //! | `json` | what extensions look like in JSON |
 //! | `json::metadata_v3` | the metadata of an extension: its name and its configuration |
 //! | `json::configuration_form`, `members` | a configuration as a table of members, and how members are read |
-//! | `json::regular_chunk_grid_configuration`, `rectangular_..`, `rectilinear_..` | the configurations of chunk grids |
-//! | `json::default_chunk_key_encoding_configuration`, `v2_..`, `default_suffix_..`, `separator_member` | those of chunk key encodings, and the member that they share |
+//! | `json::regular_configuration`, `rectangular_..`, `rectilinear_..` | the configurations of chunk grids |
+//! | `json::default_configuration`, `v2_..`, `default_suffix_..`, `separator_member` | those of chunk key encodings, and the member that they share |
 //! | `json::tree_form` | sizes, edges, texts and lists of them in a tree |
 //! | `plugin_create_error`, `configuration_fault`, `metadata_error` | why an extension isn't made of its metadata |
 #![tactic(auto)]
@@ -38,12 +38,12 @@ mod array_subset_error;
 mod chunk_edge_lengths;
 mod chunk_key_separator;
 mod configuration_fault;
+mod dimension_configuration;
 mod in_brackets;
 mod incompatible_dimensionality_error;
 mod json;
 mod metadata_error;
 mod plugin_create_error;
-mod rectangular_chunk_grid_dimension_configuration;
 mod refusal;
 mod run_length_element;
 mod store_key;
@@ -53,23 +53,23 @@ pub use array_subset_error::{ArraySubsetError, BoxEndError};
 pub use chunk_edge_lengths::ChunkEdgeLengths;
 pub use chunk_key_separator::ChunkKeySeparator;
 pub use configuration_fault::ConfigurationFault;
+pub use dimension_configuration::RectangularChunkGridDimensionConfiguration;
 pub use in_brackets::InBrackets;
 pub use incompatible_dimensionality_error::IncompatibleDimensionalityError;
 pub use json::configuration_form::{ConfigurationForm, MemberNames};
-pub use json::default_chunk_key_encoding_configuration::DefaultChunkKeyEncodingConfiguration;
-pub use json::default_suffix_chunk_key_encoding_configuration::DefaultSuffixChunkKeyEncodingConfiguration;
+pub use json::default_configuration::DefaultChunkKeyEncodingConfiguration;
+pub use json::default_suffix_configuration::DefaultSuffixChunkKeyEncodingConfiguration;
 pub use json::members::take_member;
 pub use json::metadata_v3::MetadataV3;
-pub use json::rectangular_chunk_grid_configuration::RectangularChunkGridConfiguration;
-pub use json::rectilinear_chunk_grid_configuration::RectilinearChunkGridConfiguration;
-pub use json::regular_chunk_grid_configuration::{
+pub use json::rectangular_configuration::RectangularChunkGridConfiguration;
+pub use json::rectilinear_configuration::RectilinearChunkGridConfiguration;
+pub use json::regular_configuration::{
     RegularBoundedChunkGridConfiguration, RegularChunkGridConfiguration,
 };
 pub use json::tree_form::{TreeForm, read_list};
-pub use json::v2_chunk_key_encoding_configuration::V2ChunkKeyEncodingConfiguration;
+pub use json::v2_configuration::V2ChunkKeyEncodingConfiguration;
 pub use metadata_error::MetadataError;
 pub use plugin_create_error::PluginCreateError;
-pub use rectangular_chunk_grid_dimension_configuration::RectangularChunkGridDimensionConfiguration;
 pub use refusal::Refusal;
 pub use run_length_element::RunLengthElement;
 pub use store_key::{StoreKey, StoreKeyError};

@@ -1,5 +1,6 @@
 -- The numeral that a text begins with, up to a byte that is no digit.
-use Rattle.std.proofs.Common.{◌≡◌, ◌≢◌, ◌∙◌, ℕ, ◌+◌, ◌*◌, ◌<◌, ◌≤◌, List, [], ◌∷◌, ◌++◌, ap, append_assoc, length, length-append, refl, subst, sym, arith}
+use Rattle.std.proofs.Common.{◌≡◌, ◌≢◌, ◌∙◌, ℕ, ◌+◌, ◌*◌, ◌<◌, ◌≤◌, List, [], ◌∷◌, ◌++◌, ap, append_assoc, length, length-append, refl, subst, sym}
+use Rattle.std.proofs.Common.{arith}
 use Rattle.zarrs_chunk_base.specs.Greatest.{AllFit, greatest}
 use Rattle.zarrs_chunk_keys.specs.Numeral.{IsNumeral, IsNumerals, digit, more_digits, one_digit}
 use Rattle.zarrs_chunk_keys.specs.lemmas.Numerals.{same_number}
@@ -10,7 +11,8 @@ tails : {x y : ℕ} {xs ys : List ℕ} → x ∷ xs ≡ y ∷ ys → xs ≡ ys
 tails same = cc
 
 -- digits up to the byte are known
-pub same_digits : (b : ℕ) (s t x y : List ℕ) → b < 48 → AreDigits s → AreDigits t → s ++ x ≡ t ++ y → EndsBefore b x → EndsBefore b y → (s ≡ t) × (x ≡ y)
+pub same_digits : (b : ℕ) (s t x y : List ℕ) → b < 48 → AreDigits s → AreDigits t → s ++ x ≡ t ++ y → EndsBefore b x
+    → EndsBefore b y → (s ≡ t) × (x ≡ y)
 same_digits b [] [] x y low are also same ends other = (refl, same)
 same_digits b [] (d ∷ t) [] y low are also same ends other = cc
 same_digits b [] (d ∷ t) (c ∷ x) y low are also same ends other =
@@ -83,7 +85,8 @@ pub first_is : (b n : ℕ) (numeral tail rest : List ℕ) (numbers : List ℕ) �
 first_is b n numeral tail rest [] low is begins stops none = cc
 first_is b n numeral tail rest (m ∷ numbers) low is begins stops (other, behind, also, are, same) =
     let whole : numeral ++ tail ≡ other ++ behind = sym begins ∙ tails same in
-    let (digits, texts) = same_digits b numeral other tail behind low (numeral_is_digits n numeral is) (numeral_is_digits m other also) whole stops (ends b numbers behind are) in
+    let (digits, texts) = same_digits b numeral other tail behind low (numeral_is_digits n numeral is) (numeral_is_digits m other also) whole stops
+    (ends b numbers behind are) in
     let number : m ≡ n = same_number m n other also (subst (IsNumeral n) digits is) in
     (numbers, ap (λ k. k ∷ numbers) number, subst (IsNumerals b numbers) (sym texts) are)
 
@@ -128,11 +131,12 @@ no_more b n text rest numeral numbers all low so_far is begins are =
 
 -- something is left
 pub some_left : (b : ℕ) (text rest numbers all : List ℕ) → AreRead b text rest numbers → IsNumerals b all (b ∷ text) → length numbers < length all
-some_left b text rest numbers all so_far are = let (behind, same, behind_are) = so_far.from all are in more_than b rest numbers all behind same behind_are where
-  more_than : (b : ℕ) (rest numbers all behind : List ℕ) → all ≡ numbers ++ behind → IsNumerals b behind (b ∷ rest) → length numbers < length all
-  more_than b rest numbers all [] same none = cc
-  more_than b rest numbers all (n ∷ behind) same are =
-      let lengths = ap length same in let sum = length-append numbers (n ∷ behind) in omega arith
+some_left b text rest numbers all so_far are =
+    let (behind, same, behind_are) = so_far.from all are in more_than b rest numbers all behind same behind_are where
+      more_than : (b : ℕ) (rest numbers all behind : List ℕ) → all ≡ numbers ++ behind → IsNumerals b behind (b ∷ rest) → length numbers < length all
+      more_than b rest numbers all [] same none = cc
+      more_than b rest numbers all (n ∷ behind) same are =
+          let lengths = ap length same in let sum = length-append numbers (n ∷ behind) in omega arith
 
 fits_behind : (numbers : List ℕ) (n : ℕ) (behind : List ℕ) → AllFit (numbers ++ n ∷ behind) → n ≤ greatest
 fits_behind [] n behind fit = fit.0

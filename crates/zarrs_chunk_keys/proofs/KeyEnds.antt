@@ -52,7 +52,7 @@ default_has_no_slash separator chunk key is = no_slash key (default_past separat
 pub v2_has_no_slash : (separator : ChunkKeySeparator) (chunk key : List ℕ) → IsV2Key separator chunk key → ¬ EndsInSlash key
 v2_has_no_slash separator chunk key is = no_slash key (v2_past separator chunk key 99 is)
 
-pub suffixed_has_no_slash : (separator : ChunkKeySeparator) (suffix chunk key : List ℕ) → ¬ EndsInSlash suffix → IsSuffixedKey separator suffix chunk key
-    → ¬ EndsInSlash key
+pub suffixed_has_no_slash : (separator : ChunkKeySeparator) (suffix chunk key : List ℕ) → ¬ EndsInSlash suffix
+    → IsSuffixedKey separator suffix chunk key → ¬ EndsInSlash key
 suffixed_has_no_slash separator suffix chunk key none (suffixed {front = front} is ends) =
     subst (λ text. ¬ EndsInSlash text) (sym ends) (behind_no_slash front suffix (default_past separator chunk front 99 is) none)

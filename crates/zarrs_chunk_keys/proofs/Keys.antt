@@ -9,7 +9,8 @@ use Rattle.zarrs_chunk_keys.proofs.NumeralLemmas.{appended}
 pub is_default_key : (separator : ChunkKeySeparator) (chunk numerals : List ℕ) → IsNumerals (separator_byte separator) chunk numerals
     → IsDefaultKey separator chunk (codes "c" ++ numerals)
 is_default_key separator chunk numerals are =
-    appended (separator_byte separator) (IsDefaultKey separator) (λ numbers key numeral n is one. one_more is one refl refl) [] (codes "c") chunk numerals
+    appended (separator_byte separator) (IsDefaultKey separator) (λ numbers key numeral n is one. one_more is one refl refl) []
+    (codes "c") chunk numerals
     (c_alone refl refl) are
 
 not_empty : (numbers : List ℕ) (n : ℕ) → numbers ++ n ∷ [] ≢ []

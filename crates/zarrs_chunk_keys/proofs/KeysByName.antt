@@ -33,7 +33,8 @@ pub never_refused : (encoding : Encoding) (e : Extension) → IsMetadata (key_ki
 never_refused encoding e is error = kinds.never_refused key_kind key_kinds found fits (kind_of encoding) tt encoding e error is
 
 -- and what is made of them is the same encoding
-pub is_again : (encoding again : Encoding) (e : Extension) → IsMetadata (key_kind (kind_of encoding)) tt encoding e → IsEncoding e again → again ≡ encoding
+pub is_again : (encoding again : Encoding) (e : Extension) → IsMetadata (key_kind (kind_of encoding)) tt encoding e
+    → IsEncoding e again → again ≡ encoding
 is_again encoding again e is (kind, made) =
     let (_, (x, makes, makes_again)) = kinds.made_again key_kind key_kinds found (kind_of encoding) kind tt encoding again e is made in
     one_encoding (kind_of encoding) encoding again x makes makes_again

@@ -1,5 +1,6 @@
 -- The digits of a numeral: which bytes it holds, how it begins, and how it goes on.
-use Rattle.std.proofs.Common.{◌≡◌, ℕ, ◌+◌, ◌-◌, ◌*◌, ◌≤◌, ◌<◌, List, [], ◌∷◌, ◌++◌, add-one, ap, drop, get_or, length, length-append, refl, suc, take, arith}
+use Rattle.std.proofs.Common.{◌≡◌, ℕ, ◌+◌, ◌-◌, ◌*◌, ◌≤◌, ◌<◌, List, [], ◌∷◌, ◌++◌, add-one, ap, drop, get_or, length, length-append, refl, suc, take}
+use Rattle.std.proofs.Common.{arith}
 use Rattle.std.proofs.Math.Seq.{split_at, take-suc}
 use Rattle.std.specs.List.{AllByRecursion}
 use Rattle.zarrs_chunk_keys.specs.Numeral.{IsNumeral, digit, more_digits, one_digit}

@@ -20,10 +20,11 @@ IsNumerals-push before (m ∷ ns) text n numeral (first, rest, is_first, are_res
 )
 
 -- a byte and a numeral, pushed onto a text one after the other
-pub pushed : (first so_far text middle done encoded numeral format : List ℕ) (before : ℕ) → text ≡ first ++ so_far → middle ≡ text ++ encoded → encoded ≡ before ∷ []
-    → done ≡ middle ++ format → format ≡ numeral → done ≡ first ++ (so_far ++ before ∷ numeral)
+pub pushed : (first so_far text middle done encoded numeral format : List ℕ) (before : ℕ) → text ≡ first ++ so_far
+    → middle ≡ text ++ encoded → encoded ≡ before ∷ [] → done ≡ middle ++ format → format ≡ numeral → done ≡ first ++ (so_far ++ before ∷ numeral)
 pushed first so_far text middle done encoded numeral format before a b c d e =
-    d ∙ ap (λ m. m ++ format) (b ∙ ap (λ t. t ++ encoded) a ∙ ap (λ t. (first ++ so_far) ++ t) c) ∙ ap (λ t. ((first ++ so_far) ++ before ∷ []) ++ t) e
+    d ∙ ap (λ m. m ++ format) (b ∙ ap (λ t. t ++ encoded) a ∙ ap (λ t. (first ++ so_far) ++ t) c)
+    ∙ ap (λ t. ((first ++ so_far) ++ before ∷ []) ++ t) e
     ∙ append_assoc (first ++ so_far) (before ∷ []) numeral ∙ append_assoc first so_far (before ∷ numeral)
 
 -- where one more numeral behind a byte goes on as a key of one more number, so do numerals

@@ -1,5 +1,6 @@
 -- Keys are taken apart into numerals again.
-use Rattle.std.proofs.Common.{◌≡◌, ◌≢◌, ◌∙◌, ℕ, ◌<◌, List, [], ◌∷◌, ◌++◌, Option, Some, None, Result, Ok, Err, IfOk, Vec, codes, ap, append-nil, length, length-append, option_map, refl, subst, sym, arith}
+use Rattle.std.proofs.Common.{◌≡◌, ◌≢◌, ◌∙◌, ℕ, ◌<◌, List, [], ◌∷◌, ◌++◌, Option, Some, None, Result, Ok, Err, IfOk, Vec, codes, ap, append-nil}
+use Rattle.std.proofs.Common.{length, length-append, option_map, refl, subst, sym, arith}
 use Rattle.std.specs.declared.alloc.Global.{Global}
 use Rattle.zarrs_chunk_base.specs.declared.chunk_key_separator.ChunkKeySeparator.{ChunkKeySeparator}
 use Rattle.zarrs_chunk_base.specs.ChunkKeySeparator.{separator_byte}
@@ -93,8 +94,8 @@ pub ends_in_suffix : (separator : ChunkKeySeparator) (suffix chunk key : List �
 ends_in_suffix separator suffix chunk key (suffixed {front = front} is ends) = (front, ends)
 
 -- what stands before the suffix of a key is a default key
-pub before_suffix : (separator : ChunkKeySeparator) (suffix chunk key front : List ℕ) → key ≡ front ++ suffix → IsSuffixedKey separator suffix chunk key
-    → IsDefaultKey separator chunk front
+pub before_suffix : (separator : ChunkKeySeparator) (suffix chunk key front : List ℕ) → key ≡ front ++ suffix
+    → IsSuffixedKey separator suffix chunk key → IsDefaultKey separator chunk front
 before_suffix separator suffix chunk key front ends (suffixed {front = other} is also) =
     subst (IsDefaultKey separator chunk) (same_front other front suffix (sym also ∙ ends)) is
 
@@ -106,8 +107,8 @@ has_key HasKey dimensionality None chunk is same = cc
 
 -- where one list at most has the key, it is read
 pub read_back : (HasKey : List ℕ → Type 0) (chunk : List ℕ) (read : Option (Vec ℕ Global))
-    → ((other : List ℕ) → AllFit other → AllFit chunk → length other ≡ length chunk → HasKey other → HasKey chunk → other ≡ chunk) → AllFit chunk → HasKey chunk
-    → IsDecoded HasKey (length chunk) read → option_map (λ v. v.items) read ≡ Some chunk
+    → ((other : List ℕ) → AllFit other → AllFit chunk → length other ≡ length chunk → HasKey other → HasKey chunk → other ≡ chunk)
+    → AllFit chunk → HasKey chunk → IsDecoded HasKey (length chunk) read → option_map (λ v. v.items) read ≡ Some chunk
 read_back HasKey chunk (Some found) one fit has (long, also_fit, also) = ap Some (one found.items also_fit fit long also has)
 read_back HasKey chunk None one fit has none = absurd (none chunk fit refl has)
 

@@ -3,7 +3,8 @@
 use Rattle.std.specs.Prelude.{◌≡◌, List, [], ◌∷◌, codes}
 use Rattle.zarrs_chunk_base.specs.declared.chunk_key_separator.ChunkKeySeparator.{ChunkKeySeparator}
 use Rattle.zarrs_chunk_base.specs.declared.plugin_create_error.PluginCreateError.{PluginCreateError}
-use Rattle.zarrs_chunk_base.specs.KeyConfigurations.{Suffixed, default_value, separator_members, separator_table, suffix_members, suffix_table, suffix_value, v2_value}
+use Rattle.zarrs_chunk_base.specs.KeyConfigurations.{Suffixed, default_value, separator_members, separator_table, suffix_members, suffix_table}
+use Rattle.zarrs_chunk_base.specs.KeyConfigurations.{suffix_value, v2_value}
 use Rattle.zarrs_chunk_base.specs.Kinds.{IsFault, IsMade, Kind}
 use Rattle.zarrs_chunk_base.specs.Metadata.{Extension}
 use Rattle.zarrs_chunk_base.specs.StoreKey.{EndsInSlash}

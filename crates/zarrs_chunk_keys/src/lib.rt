@@ -1,8 +1,8 @@
 //! Chunk key encodings: under which key each chunk of an array is stored.
 //!
 //! [`ChunkKeyEncodingTraits`] says what every encoding answers, the key of a chunk and the chunk of a key; each proves that equal keys of
-//! equally long lists of chunk numbers come from equal lists. A call that needs memory can answer that there is none. It takes the allocator, except for
-//! a few that `docs/MEMORY.md` lists, as `clone`. `CALLING.md` has callers.
+//! equally long lists of chunk numbers come from equal lists. A call that needs memory can answer that there is none. It takes the allocator,
+//! except for a few that `docs/MEMORY.md` lists, as `clone`. `CALLING.md` has callers.
 //!
 //! | Encoding | Separator | Key of the chunk `[3, 2, 16]` |
 //! |---|---|---|

@@ -1,5 +1,6 @@
 -- The chunks in a box, by their number.
-use Rattle.std.proofs.Common.{◌≡◌, ◌∙◌, ℕ, zero, suc, ◌+◌, ◌*◌, ◌<◌, ◌≤◌, List, [], ◌∷◌, ◌++◌, Option, Some, None, length, map, min, get_or, drop, take, set, refl, ap, sym, ⊎_elim, arith, length-append, ◌/◌, ◌%◌}
+use Rattle.std.proofs.Common.{◌≡◌, ◌∙◌, ℕ, zero, suc, ◌+◌, ◌*◌, ◌<◌, ◌≤◌, List, [], ◌∷◌, ◌++◌, Option, Some, None, length, map, min, get_or, drop}
+use Rattle.std.proofs.Common.{take, set, refl, ap, sym, ⊎_elim, arith, length-append, ◌/◌, ◌%◌}
 use Rattle.std.proofs.Math.Nat.{div-add-mod, mul-suc, mul-zero}
 use Rattle.std.proofs.Math.Seq.{drop-length}
 use Rattle.std.proofs.lemmas.List.{length-map, length-set, drop-set, drop_more, take_more}
@@ -46,7 +47,8 @@ at_row first (suc count) (suc digit) place others less within =
     let one = length-map others (λ (numbers : List ℕ). first ∷ numbers) in
     let same : first + suc digit ≡ first + 1 + digit = omega arith in
     rw (
-      in_second (map (λ numbers. first ∷ numbers) others) (rows (first + 1) count others) (digit * length others + place) (suc digit * length others + place)
+      in_second (map (λ numbers. first ∷ numbers) others) (rows (first + 1) count others) (digit * length others + place)
+          (suc digit * length others + place)
           (omega arith),
       same,
     )
@@ -69,10 +71,18 @@ pub at_digit : (first size digit place : ℕ) (start shape chunk : List ℕ) →
 unfolding row_major
 at_digit first size digit place start shape chunk less is =
     let lists = row_major shape in
-    let (numbers, found, same) = some_of (counted_from start) (slice_get lists place) chunk (sym (slice_get-map (counted_from start) lists place) ∙ is) in
+    let (numbers, found, same) =
+    some_of (counted_from start) (slice_get lists place) chunk (sym (slice_get-map (counted_from start) lists place) ∙ is) in
     let within = slice_get_within lists place numbers found in
     let zero_digit : 0 + digit ≡ digit = omega arith in
-    rw (slice_get-map (counted_from (first ∷ start)) (rows 0 size lists) (digit * length lists + place), at_row 0 size digit place lists less within, found, zero_digit, same)
+    rw (
+      slice_get-map (counted_from (first ∷ start)) (rows 0 size lists)
+          (digit * length lists + place),
+      at_row 0 size digit place lists less within,
+      found,
+      zero_digit,
+      same,
+    )
     refl
 
 -- ---- numbers
@@ -95,10 +105,12 @@ pub some_size : (shape : List ℕ) (k : ℕ) → 0 < length (row_major shape) �
 some_size [] k some within = absurd (omega arith)
 some_size (zero ∷ shape) k some within = let none = length-shape 0 shape in absurd (omega arith)
 some_size (suc size ∷ shape) zero some within = omega arith
-some_size (suc size ∷ shape) (suc k) some within = some_size shape k (positive_factor (suc size) (length (row_major shape)) (rw (length-shape (suc size) shape) at some)) (omega arith)
+some_size (suc size ∷ shape) (suc k) some within =
+    some_size shape k (positive_factor (suc size) (length (row_major shape)) (rw (length-shape (suc size) shape) at some)) (omega arith)
 
 -- a number of the box's start and one below its size fit together
-pub sum_fits : (start shape : List ℕ) (k digit : ℕ) → AllFit (ends start shape) → k < length start → k < length shape → digit < get_or shape k 0 → get_or start k 0 + digit ≤ greatest
+pub sum_fits : (start shape : List ℕ) (k digit : ℕ) → AllFit (ends start shape) → k < length start → k < length shape → digit < get_or shape k 0
+    → get_or start k 0 + digit ≤ greatest
 sum_fits [] shape k digit fit one other less = absurd (omega arith)
 sum_fits (s ∷ start) [] k digit fit one other less = absurd (omega arith)
 sum_fits (s ∷ start) (n ∷ shape) zero digit fit one other less = let end : s + n ≤ greatest = fit.0 in omega arith
@@ -112,7 +124,8 @@ pub record IsNumbered (start shape : List ℕ) (number dimension rest : ℕ) (ch
   pub found : slice_get (chunks_in (record { start = drop dimension start; shape = drop dimension shape })) place ≡ Some (drop dimension chunk)
 
 module _ (start shape : List ℕ) (number : ℕ) where
-  pub numbered_none : (chunk : List ℕ) → length chunk ≡ length start → length start ≡ length shape → IsNumbered start shape number (length shape) number chunk
+  pub numbered_none : (chunk : List ℕ) → length chunk ≡ length start → length start ≡ length shape
+      → IsNumbered start shape number (length shape) number chunk
   unfolding row_major
   numbered_none chunk long lengths = record {
     long = long;
@@ -123,7 +136,8 @@ module _ (start shape : List ℕ) (number : ℕ) where
 
   pub numbered_more : (dimension rest : ℕ) (chunk : List ℕ) → IsNumbered start shape number (dimension + 1) rest chunk → length start ≡ length shape
       → dimension < length shape → 0 < get_or shape dimension 0
-      → IsNumbered start shape number dimension (rest / get_or shape dimension 0) (set chunk dimension (get_or start dimension 0 + rest % get_or shape dimension 0))
+      → IsNumbered start shape number dimension (rest / get_or shape dimension 0)
+      (set chunk dimension (get_or start dimension 0 + rest % get_or shape dimension 0))
   numbered_more dimension rest chunk before lengths within some =
       let size = get_or shape dimension 0 in
       let first = get_or start dimension 0 in
@@ -140,9 +154,11 @@ module _ (start shape : List ℕ) (number : ℕ) where
       record {
         long = length-set chunk dimension (first + digit) ∙ long;
         place = digit * lists + before.place;
-        number_is = rw (shape_is, length-shape size (drop (dimension + 1) shape)) (split_number number rest size lists before.place (rest / size) digit counted parts);
+        number_is = rw (shape_is, length-shape size (drop (dimension + 1) shape))
+            (split_number number rest size lists before.place (rest / size) digit counted parts);
         found = rw (shape_is, start_is, drop-set chunk dimension (first + digit) in_chunk)
-            (at_digit first size digit before.place (drop (dimension + 1) start) (drop (dimension + 1) shape) (drop (dimension + 1) chunk) less before.found);
+            (at_digit first size digit before.place (drop (dimension + 1) start) (drop (dimension + 1) shape)
+            (drop (dimension + 1) chunk) less before.found);
       }
 
   pub numbered_all : (rest : ℕ) (chunk : List ℕ) → number < length (row_major shape) → IsNumbered start shape number 0 rest chunk

@@ -36,8 +36,10 @@ module _ {G E H F : Type 0} (source_dimensions : G → List Dimension) (target_d
         not_empty _ _ before.targets.array_subset to.chunk.items to (steps.part can.meet) meets.0
 
     pub gives_copies : (from : Parts G E)
-        → (CanCopy source_dimensions target_dimensions before → IsPlanned source_dimensions before.source.now before.source_encoding.now to.in_subset from)
-        → (after : Copies G E H F) → after.targets ≡ targets → after.source.now ≡ before.source.now → after.source_encoding.now ≡ before.source_encoding.now
+        → (CanCopy source_dimensions target_dimensions before
+            → IsPlanned source_dimensions before.source.now before.source_encoding.now to.in_subset from)
+        → (after : Copies G E H F) → after.targets ≡ targets → after.source.now ≡ before.source.now
+        → after.source_encoding.now ≡ before.source_encoding.now
         → GivesCopies source_dimensions target_dimensions target_key before (Some (Ok (record { to = to; from = from }))) after
     gives_copies from planned after same_targets same_source same_encoding =
         let about = steps.about in record {
@@ -54,7 +56,8 @@ module _ {G E H F : Type 0} (source_dimensions : G → List Dimension) (target_d
 
 -- ---- the groups that came of a walk, one for each chunk that came; at the end they are a rechunking
 
-module _ {G E H F : Type 0} (source_dimensions : G → List Dimension) (source_key : E → List ℕ → List ℕ → Type 0) (target_dimensions : H → List Dimension)
+module _ {G E H F : Type 0} (source_dimensions : G → List Dimension) (source_key : E → List ℕ → List ℕ → Type 0)
+    (target_dimensions : H → List Dimension)
     (target_key : F → List ℕ → List ℕ → Type 0) (begin : Copies G E H F) where
   abbrev pub IsGroupOf : List ℕ → Group → Type 0
   IsGroupOf =
@@ -75,9 +78,10 @@ module _ {G E H F : Type 0} (source_dimensions : G → List Dimension) (source_k
       in
       rw (same, none) ([], refl, tt, record { same_source = refl; same_source_encoding = refl; targets = targets }, can)
 
-  pub one_more_group : (before after : Copies G E H F) (group : ChunkCopies G E) (from : List Part) (groups more : List Group) → GroupsHaveCome before groups
-      → GivesCopies source_dimensions target_dimensions target_key before (Some (Ok group)) after → ArePartsToCome source_dimensions source_key group.from from
-      → more ≡ groups ++ (group.to, from) ∷ [] → GroupsHaveCome after more
+  pub one_more_group : (before after : Copies G E H F) (group : ChunkCopies G E) (from : List Part) (groups more : List Group)
+      → GroupsHaveCome before groups
+      → GivesCopies source_dimensions target_dimensions target_key before (Some (Ok group)) after
+      → ArePartsToCome source_dimensions source_key group.from from → more ≡ groups ++ (group.to, from) ∷ [] → GroupsHaveCome after more
   one_more_group before after group from groups more (came, left, are, about, can) gives parts is =
       let planned = gives.from can in
       let chunk = group.to.chunk.items in
@@ -107,12 +111,15 @@ module _ {G E H F : Type 0} (source_dimensions : G → List Dimension) (source_k
 
 -- the groups of all chunks that were to come are a rechunking
 pub rechunking_of : {G E H F : Type 0} (source_dimensions : G → List Dimension) (source_key : E → List ℕ → List ℕ → Type 0)
-    (target_dimensions : H → List Dimension) (target_key : F → List ℕ → List ℕ → Type 0) (source : G) (source_encoding : E) (target : H) (target_encoding : F)
-    (array chunks targets : Box) (walk : Copies G E H F) (groups : List Group) → IsAboutCopies source source_encoding target target_encoding array walk → IsBox targets
+    (target_dimensions : H → List Dimension) (target_key : F → List ℕ → List ℕ → Type 0) (source : G) (source_encoding : E)
+    (target : H) (target_encoding : F)
+    (array chunks targets : Box) (walk : Copies G E H F) (groups : List Group)
+    → IsAboutCopies source source_encoding target target_encoding array walk → IsBox targets
     → AreTargets (target_dimensions target) chunks targets → targets_to_come walk ≡ chunks_in targets
     → AreGroupsToCome source_dimensions source_key target_dimensions target_key walk groups
     → IsRechunking (source_dimensions source) (source_key source_encoding) (target_dimensions target) (target_key target_encoding) chunks groups
-rechunking_of source_dimensions source_key target_dimensions target_key source source_encoding target target_encoding array chunks targets walk groups about is_box are
+rechunking_of source_dimensions source_key target_dimensions target_key source source_encoding target target_encoding array chunks targets
+walk groups about is_box are
     left come = record {
       targets = targets;
       is_box = is_box;

@@ -1,5 +1,6 @@
 -- The parts of a plan: which elements they have, and that they differ.
-use Rattle.std.proofs.Common.{◌≡◌, ◌≢◌, ◌↔◌, ◌⊎◌, ◌∙◌, ℕ, zero, suc, ◌+◌, ◌<◌, ◌≤◌, List, [], ◌∷◌, Contains, get_or, length, refl, ap, ap₂, subst, sym, inl, inr, ⊎_elim, arith}
+use Rattle.std.proofs.Common.{◌≡◌, ◌≢◌, ◌↔◌, ◌⊎◌, ◌∙◌, ℕ, zero, suc, ◌+◌, ◌<◌, ◌≤◌, List, [], ◌∷◌, Contains, get_or, length, refl, ap, ap₂, subst}
+use Rattle.std.proofs.Common.{sym, inl, inr, ⊎_elim, arith}
 use Rattle.std.proofs.lemmas.Bool.{cases_lt}
 use Rattle.std.proofs.lemmas.Slice.Zip.{AllZip-long}
 use Rattle.std.specs.List.{AllByRecursion, AllPairs, AllZip}
@@ -69,7 +70,8 @@ pub added : (a b c : List ℕ) → counted_from a (counted_from b c) ≡ counted
 added (x ∷ a) (y ∷ b) (z ∷ c) = let here : x + (y + z) ≡ (x + y) + z = omega arith in ap₂ (λ n ns. n ∷ ns) here (added a b c)
 added _ _ _ = refl
 
-pub counted_once : (start one other : List ℕ) → length one ≡ length start → length other ≡ length start → counted_from start one ≡ counted_from start other → one ≡ other
+pub counted_once : (start one other : List ℕ) → length one ≡ length start → length other ≡ length start
+    → counted_from start one ≡ counted_from start other → one ≡ other
 counted_once [] [] [] a b same = refl
 counted_once (s ∷ start) (m ∷ one) (n ∷ other) a b same =
     let here : s + m ≡ s + n = cc in
@@ -101,14 +103,15 @@ not_empty_if_inside (s ∷ start) (n ∷ shape) (i ∷ index) within (zero, coun
     let from : s ≤ i = within.0 in
     let below : i < s + n = within.1 in
     absurd (omega arith)
-not_empty_if_inside (s ∷ start) (n ∷ shape) (i ∷ index) within (suc k, counted, is) = not_empty_if_inside start shape index within.2 (k, omega arith, is)
+not_empty_if_inside (s ∷ start) (n ∷ shape) (i ∷ index) within (suc k, counted, is) =
+    not_empty_if_inside start shape index within.2 (k, omega arith, is)
 not_empty_if_inside _ _ _ within h = absurd within
 
 -- ---- one part
 
 -- the part of a chunk has an element that chunk and box share
-pub takes : (ds : List Dimension) (IsKey : List ℕ → List ℕ → Type 0) (b : Box) (chunk : List ℕ) (part : Part) (index : List ℕ) → IsPart ds IsKey b chunk part
-    → IsCommon ds b chunk index → (place : List ℕ) × HasElement b part index place
+pub takes : (ds : List Dimension) (IsKey : List ℕ → List ℕ → Type 0) (b : Box) (chunk : List ℕ) (part : Part) (index : List ℕ)
+    → IsPart ds IsKey b chunk part → IsCommon ds b chunk index → (place : List ℕ) × HasElement b part index place
 takes ds IsKey b chunk part index is common =
     let boxes = is.boxes in
     let (steps, below, counts) = offset_of boxes.shared.start boxes.shared.shape index ((boxes.elements index).1 common) in (
@@ -122,8 +125,8 @@ takes ds IsKey b chunk part index is common =
     )
 
 -- what it has is what they share
-pub has_common : (ds : List Dimension) (IsKey : List ℕ → List ℕ → Type 0) (b : Box) (chunk : List ℕ) (part : Part) (index place : List ℕ) → IsPart ds IsKey b chunk part
-    → HasElement b part index place → IsCommon ds b chunk index
+pub has_common : (ds : List Dimension) (IsKey : List ℕ → List ℕ → Type 0) (b : Box) (chunk : List ℕ) (part : Part) (index place : List ℕ)
+    → IsPart ds IsKey b chunk part → HasElement b part index place → IsCommon ds b chunk index
 has_common ds IsKey b chunk part index place is has =
     let boxes = is.boxes in
     let shared = boxes.shared in
@@ -131,7 +134,8 @@ has_common ds IsKey b chunk part index place is has =
     let counts : counted_from shared.start has.steps ≡ index =
     ap (λ start. counted_from start has.steps) boxes.from_subset.start ∙ sym (added b.start part.in_subset.start has.steps) ∙ sym has.index_is
     in
-    (boxes.elements index).0 (subst (AreWithin shared.start shared.shape) counts (lie_within shared.start shared.shape has.steps boxes.is_box.lengths below))
+    (boxes.elements index).0
+    (subst (AreWithin shared.start shared.shape) counts (lie_within shared.start shared.shape has.steps boxes.is_box.lengths below))
 
 -- and each of its lists of numbers is as long as there are dimensions
 pub all_long : (ds : List Dimension) (IsKey : List ℕ → List ℕ → Type 0) (b : Box) (chunk : List ℕ) (part : Part) (index : List ℕ)
@@ -148,13 +152,14 @@ all_long ds IsKey b chunk part index is common =
     (many, omega arith, omega arith, omega arith, omega arith)
 
 -- it has an element at its place in the chunk
-pub has_place : (ds : List Dimension) (IsKey : List ℕ → List ℕ → Type 0) (b : Box) (chunk : List ℕ) (part : Part) (index place : List ℕ) → IsPart ds IsKey b chunk part
-    → HasElement b part index place → InBox ds chunk index × IsPlace ds chunk index place
+pub has_place : (ds : List Dimension) (IsKey : List ℕ → List ℕ → Type 0) (b : Box) (chunk : List ℕ) (part : Part) (index place : List ℕ)
+    → IsPart ds IsKey b chunk part → HasElement b part index place → InBox ds chunk index × IsPlace ds chunk index place
 has_place ds IsKey b chunk part index place is has =
     let boxes = is.boxes in
     let common = has_common ds IsKey b chunk part index place is has in
     let from_origin : index ≡ counted_from boxes.origin place =
-    has.index_is ∙ added b.start part.in_subset.start has.steps ∙ ap (λ start. counted_from start has.steps) (sym boxes.from_subset.start ∙ boxes.from_chunk.start)
+    has.index_is ∙ added b.start part.in_subset.start has.steps
+    ∙ ap (λ start. counted_from start has.steps) (sym boxes.from_subset.start ∙ boxes.from_chunk.start)
     ∙ sym (added boxes.origin part.in_chunk.start has.steps) ∙ ap (counted_from boxes.origin) (sym has.place_is)
     in
     let long = all_long ds IsKey b chunk part index is common in
@@ -230,7 +235,8 @@ module _ (ds : List Dimension) (IsKey : List ℕ → List ℕ → Type 0) (b : B
       (has_common ds IsKey b other next index also is_other has_other).0))
 
   -- chunks of a plan that have one key are one
-  pub keys_differ : ((chunk other key : List ℕ) → AllFit chunk → AllFit other → length chunk ≡ length other → IsKey chunk key → IsKey other key → chunk ≡ other)
+  pub keys_differ :
+      ((chunk other key : List ℕ) → AllFit chunk → AllFit other → length chunk ≡ length other → IsKey chunk key → IsKey other key → chunk ≡ other)
       → (parts : List Part) → IsPlan ds IsKey b parts → AllPairs (λ part other. part.key ≢ other.key) parts
   keys_differ exact parts plan =
       let cover = plan.cover in

@@ -1,5 +1,6 @@
 -- The copies of a rechunking: which elements they move, and that they differ.
-use Rattle.std.proofs.Common.{◌≡◌, ◌≢◌, ◌↔◌, ◌∙◌, ℕ, zero, suc, ◌+◌, List, [], ◌∷◌, Contains, length, map, replicate, refl, ap, ap₂, subst, sym, arith}
+use Rattle.std.proofs.Common.{◌≡◌, ◌≢◌, ◌↔◌, ◌∙◌, ℕ, zero, suc, ◌+◌, List, [], ◌∷◌, Contains, length, map, replicate, refl, ap, ap₂, subst, sym}
+use Rattle.std.proofs.Common.{arith}
 use Rattle.std.specs.List.{AllByRecursion, AllPairs, AllZip, flat_map}
 use Rattle.zarrs_chunk_base.specs.ArraySubset.{AreWithin, Box, IsInside}
 use Rattle.zarrs_chunk_base.specs.Dimension.{Dimension, Holds, InBox, IsChain, IsOrigin, StartsAt, array_sizes}
@@ -14,7 +15,8 @@ use Rattle.zarrs_chunk_plan.specs.Plan.{HasElement, IsCommon, IsPart, Meets}
 use Rattle.zarrs_chunk_plan.specs.Rechunking.{AreCopiesInto, Group, IsRechunking, Moves, ShareOut, all_chunks_box, array_box, copies_of}
 use Rattle.zarrs_chunk_plan.specs.declared.part.Part.{Part}
 use Rattle.zarrs_chunk_plan.proofs.Joined.{in_joined, in_some, pairs_joined, pairs_mapped}
-use Rattle.zarrs_chunk_plan.proofs.Plans.{all_long, has_common, has_place, length_counted, pair_of, pairs_by, pairs_of, place_from_origin, some_part, source_of}
+use Rattle.zarrs_chunk_plan.proofs.Plans.{all_long, has_common, has_place, length_counted, pair_of, pairs_by, pairs_of, place_from_origin, some_part}
+use Rattle.zarrs_chunk_plan.proofs.Plans.{source_of}
 
 -- ---- the whole array
 
@@ -40,7 +42,8 @@ pub in_array : (ds : List Dimension) (index : List ℕ) → AreBelow (array_size
 in_array = from_zero (λ d. d.array_size)
 
 -- a chunk that holds an element of the array is counted
-pub is_counted : (ds : List Dimension) → AllByRecursion IsChain ds → (chunk : List ℕ) → Meets ds (array_box ds) chunk → IsInside (all_chunks_box ds) chunk
+pub is_counted : (ds : List Dimension) → AllByRecursion IsChain ds → (chunk : List ℕ) → Meets ds (array_box ds) chunk
+    → IsInside (all_chunks_box ds) chunk
 is_counted ds chains chunk (index, box, inside) =
     let (home, counted, also) = counted_home ds index chains ((in_array ds index).1 inside) in
     subst (IsInside (all_chunks_box ds)) (same_box ds home chunk index chains also box) ((from_zero (λ d. d.grid_size) ds home).0 counted)
@@ -97,8 +100,8 @@ module _ (ds : List Dimension) (IsKey : List ℕ → List ℕ → Type 0) (chunk
 module _ (source : List Dimension) (IsSourceKey : List ℕ → List ℕ → Type 0) (target : List Dimension) (IsTargetKey : List ℕ → List ℕ → Type 0) where
   -- a part of the elements of a chunk moves each element that it has
   moves : (chunk : List ℕ) (to : Part) → IsPart target IsTargetKey (array_box target) chunk to → Meets target (array_box target) chunk
-      → (s : List ℕ) (from : Part) → IsPart source IsSourceKey to.in_subset s from → (index place : List ℕ) (has : HasElement to.in_subset from index place)
-      → Moves source target (from, to) has.steps index
+      → (s : List ℕ) (from : Part) → IsPart source IsSourceKey to.in_subset s from
+      → (index place : List ℕ) (has : HasElement to.in_subset from index place) → Moves source target (from, to) has.steps index
   moves chunk to is meets s from is_from index place has =
       let (in_source, at) = has_place source IsSourceKey to.in_subset s from index place is_from has in
       let common = has_common source IsSourceKey to.in_subset s from index place is_from has in
@@ -137,27 +140,32 @@ module _ (source : List Dimension) (IsSourceKey : List ℕ → List ℕ → Type
   origin_of chunks groups plan copy among =
       let (group, in_groups, in_group) = in_some (λ g. map (λ from. (from, g.0)) g.1) groups copy among in
       let (from, in_parts, same) = is_of (λ from. (from, group.0)) group.1 copy in_group in
-      let (chunk, counted, into) = source_of (AreCopiesInto source IsSourceKey target IsTargetKey) (chunks_in plan.targets) groups plan.are_groups group in_groups in
+      let (chunk, counted, into) =
+      source_of (AreCopiesInto source IsSourceKey target IsTargetKey) (chunks_in plan.targets) groups plan.are_groups group in_groups in
       let (inside, meets) = (plan.are_targets chunk).0 ((are_those_inside plan.targets plan.is_box chunk).0 counted) in
-      let (s, _, is_from) = source_of (IsPart source IsSourceKey group.0.in_subset) (chunks_in into.from.cover) group.1 into.from.are_parts from in_parts in
+      let (s, _, is_from) =
+      source_of (IsPart source IsSourceKey group.0.in_subset) (chunks_in into.from.cover) group.1 into.from.are_parts from in_parts in
       subst (IsOf chunks) same (record { chunk = chunk; inside = inside; meets = meets; to = into.to; s = s; from = is_from })
 
   -- each element whose chunk is asked for is moved by some copy
-  pub some_copy : AllByRecursion IsChain source → (chunks : Box) (groups : List Group) → IsRechunking source IsSourceKey target IsTargetKey chunks groups
+  pub some_copy : AllByRecursion IsChain source → (chunks : Box) (groups : List Group)
+      → IsRechunking source IsSourceKey target IsTargetKey chunks groups
       → (index chunk : List ℕ) → AreBelow (array_sizes target) index → InBox target chunk index → IsInside chunks chunk
       → (copy : Part × Part) × Contains (copies_of groups) copy × ((steps : List ℕ) × Moves source target copy steps index)
   some_copy chains chunks groups plan index chunk below box inside =
       let in_all = (in_array target index).0 below in
       let meets : Meets target (array_box target) chunk = (index, box, in_all) in
       let counted = (are_those_inside plan.targets plan.is_box chunk).1 ((plan.are_targets chunk).1 (inside, meets)) in
-      let (group, in_groups, into) = pair_of (AreCopiesInto source IsSourceKey target IsTargetKey) (chunks_in plan.targets) groups plan.are_groups chunk counted in
+      let (group, in_groups, into) =
+      pair_of (AreCopiesInto source IsSourceKey target IsTargetKey) (chunks_in plan.targets) groups plan.are_groups chunk counted in
       let subset = group.0.in_subset in
       let (from, in_parts, (place, has)) = some_part source IsSourceKey subset chains into.to.boxes.from_subset.is_box group.1 into.from index
       ((those_are target IsTargetKey chunk group.0 into.to meets index).1 (box, in_all))
       in
       let (s, _, is_from) = source_of (IsPart source IsSourceKey subset) (chunks_in into.from.cover) group.1 into.from.are_parts from in_parts in (
         (from, group.0),
-        in_joined (λ g. map (λ from. (from, g.0)) g.1) groups group (from, group.0) in_groups (among_mapped (λ from. (from, group.0)) group.1 from in_parts),
+        in_joined (λ g. map (λ from. (from, g.0)) g.1) groups group (from, group.0) in_groups
+            (among_mapped (λ from. (from, group.0)) group.1 from in_parts),
         (has.steps, moves chunk group.0 into.to meets s from is_from index place has),
       )
 
@@ -168,11 +176,13 @@ module _ (source : List Dimension) (IsSourceKey : List ℕ → List ℕ → Type
   no_other_copy chains also_chains chunks groups plan =
       pairs_joined (λ g. map (λ from. (from, g.0)) g.1) Apart groups within
       (pairs_of (AreCopiesInto source IsSourceKey target IsTargetKey)
-      (λ g h. (copy other : Part × Part) → Contains (map (λ from. (from, g.0)) g.1) copy → Contains (map (λ from. (from, h.0)) h.1) other → Apart copy other)
+      (λ g h. (copy other : Part × Part) → Contains (map (λ from. (from, g.0)) g.1) copy
+      → Contains (map (λ from. (from, h.0)) h.1) other → Apart copy other)
       (chunks_in plan.targets) groups plan.are_groups (chunks_once plan.targets plan.is_box) across) where
         within : (g : Group) → Contains groups g → AllPairs Apart (map (λ from. (from, g.0)) g.1)
         within g among =
-            let (chunk, _, into) = source_of (AreCopiesInto source IsSourceKey target IsTargetKey) (chunks_in plan.targets) groups plan.are_groups g among in
+            let (chunk, _, into) =
+            source_of (AreCopiesInto source IsSourceKey target IsTargetKey) (chunks_in plan.targets) groups plan.are_groups g among in
             let cover = into.from.cover in
             pairs_mapped (λ from. (from, g.0)) Apart g.1
             (pairs_of (IsPart source IsSourceKey g.0.in_subset) (λ from next. Apart (from, g.0) (next, g.0)) (chunks_in cover) g.1 into.from.are_parts
@@ -183,7 +193,8 @@ module _ (source : List Dimension) (IsSourceKey : List ℕ → List ℕ → Type
 
         across : (one other : List ℕ) (g h : Group) → Contains (chunks_in plan.targets) one → Contains (chunks_in plan.targets) other → one ≢ other
             → AreCopiesInto source IsSourceKey target IsTargetKey one g → AreCopiesInto source IsSourceKey target IsTargetKey other h
-            → (copy next : Part × Part) → Contains (map (λ from. (from, g.0)) g.1) copy → Contains (map (λ from. (from, h.0)) h.1) next → Apart copy next
+            → (copy next : Part × Part) → Contains (map (λ from. (from, g.0)) g.1) copy
+            → Contains (map (λ from. (from, h.0)) h.1) next → Apart copy next
         across one other g h _ _ differ into into_other copy next among also_among steps also index moved again =
             let (from, _, same) = is_of (λ from. (from, g.0)) g.1 copy among in
             let (from_next, _, same_next) = is_of (λ from. (from, h.0)) h.1 next also_among in
@@ -207,7 +218,8 @@ module _ (source : List Dimension) (IsSourceKey : List ℕ → List ℕ → Type
 
   -- under the keys of its chunks, of which that of the target is one of those that were asked for
   pub has_keys : (chunks : Box) (groups : List Group) → IsRechunking source IsSourceKey target IsTargetKey chunks groups → (copy : Part × Part)
-      → Contains (copies_of groups) copy → IsSourceKey copy.0.chunk.items copy.0.key × IsTargetKey copy.1.chunk.items copy.1.key × IsInside chunks copy.1.chunk.items
+      → Contains (copies_of groups) copy
+      → IsSourceKey copy.0.chunk.items copy.0.key × IsTargetKey copy.1.chunk.items copy.1.key × IsInside chunks copy.1.chunk.items
   has_keys chunks groups plan copy among =
       let of = origin_of chunks groups plan copy among in (
         subst (λ c. IsSourceKey c copy.0.key) (sym of.from.numbers) of.from.key,
@@ -225,7 +237,8 @@ module _ (source : List Dimension) (IsSourceKey : List ℕ → List ℕ → Type
   -- ---- rechunkings that share the target's chunks out
 
   -- each element of the array is moved by some copy of one of them
-  pub some_copy_of_all : AllByRecursion IsChain source → AllByRecursion IsChain target → (boxes : List Box) (plans : List (List Group)) → ShareOut target boxes
+  pub some_copy_of_all : AllByRecursion IsChain source → AllByRecursion IsChain target
+      → (boxes : List Box) (plans : List (List Group)) → ShareOut target boxes
       → AllZip (IsRechunking source IsSourceKey target IsTargetKey) boxes plans → (index : List ℕ) → AreBelow (array_sizes target) index
       → (copy : Part × Part) × Contains (flat_map copies_of plans) copy × ((steps : List ℕ) × Moves source target copy steps index)
   some_copy_of_all chains also_chains boxes plans shared zipped index below =
@@ -236,7 +249,8 @@ module _ (source : List Dimension) (IsSourceKey : List ℕ → List ℕ → Type
       (copy, in_joined copies_of plans groups copy in_plans among, moved)
 
   -- and by no other
-  pub no_other_copy_of_all : AllByRecursion IsChain source → AllByRecursion IsChain target → (boxes : List Box) (plans : List (List Group)) → ShareOut target boxes
+  pub no_other_copy_of_all : AllByRecursion IsChain source → AllByRecursion IsChain target
+      → (boxes : List Box) (plans : List (List Group)) → ShareOut target boxes
       → AllZip (IsRechunking source IsSourceKey target IsTargetKey) boxes plans
       → AllPairs Apart (flat_map copies_of plans)
   no_other_copy_of_all chains also_chains boxes plans shared zipped =
@@ -244,8 +258,10 @@ module _ (source : List Dimension) (IsSourceKey : List ℕ → List ℕ → Type
       (λ groups among.
       let (b, _, plan) = source_of (IsRechunking source IsSourceKey target IsTargetKey) boxes plans zipped groups among in
       no_other_copy chains also_chains b groups plan)
-      (pairs_by (IsRechunking source IsSourceKey target IsTargetKey) (λ b other. (chunk : List ℕ) → Meets target (array_box target) chunk → IsInside b chunk → IsInside other chunk → ⊥)
-      (λ one other. (copy next : Part × Part) → Contains (copies_of one) copy → Contains (copies_of other) next → Apart copy next) boxes plans zipped shared.apart across)
+      (pairs_by (IsRechunking source IsSourceKey target IsTargetKey)
+      (λ b other. (chunk : List ℕ) → Meets target (array_box target) chunk → IsInside b chunk → IsInside other chunk → ⊥)
+      (λ one other. (copy next : Part × Part) → Contains (copies_of one) copy → Contains (copies_of other) next → Apart copy next) boxes plans
+      zipped shared.apart across)
     where
       across : (b other : Box) (groups more : List Group) → Contains boxes b → Contains boxes other
           → ((chunk : List ℕ) → Meets target (array_box target) chunk → IsInside b chunk → IsInside other chunk → ⊥)

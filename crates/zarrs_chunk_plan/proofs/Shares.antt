@@ -44,8 +44,8 @@ in_box = by_dimension_twice StartsAt HasEdge HoldSame none more where
   none [] = (λ _. tt, λ _. tt)
   none (_ ∷ _) = (λ h. h, λ h. h)
 
-  more : (d : Dimension) (c o e : ℕ) (ds : List Dimension) (chunk origin edges : List ℕ) → StartsAt d c o → HasEdge d c e → HoldSame ds chunk origin edges
-      → HoldSame (d ∷ ds) (c ∷ chunk) (o ∷ origin) (e ∷ edges)
+  more : (d : Dimension) (c o e : ℕ) (ds : List Dimension) (chunk origin edges : List ℕ) → StartsAt d c o → HasEdge d c e
+      → HoldSame ds chunk origin edges → HoldSame (d ∷ ds) (c ∷ chunk) (o ∷ origin) (e ∷ edges)
   more d c o e ds chunk origin edges starts long rest [] = (λ h. h, λ h. h)
   more d c o e ds chunk origin edges starts long rest (i ∷ index) =
       let start = starts.start in
@@ -69,8 +69,10 @@ from_chunk origin edges b = record { start = distances origin b.start; shape = s
 abbrev pub from_start : List ℕ → List ℕ → Box → Box
 from_start origin edges b = record { start = distances b.start origin; shape = shared_sizes origin edges b.start b.shape }
 
-pub boxes_are : (ds : List Dimension) (b : Box) (chunk origin edges : List ℕ) → IsBox b → Meets ds b chunk → IsOrigin ds chunk origin → IsShape ds chunk edges
-    → IsBox (from_chunk origin edges b) × IsBox (from_start origin edges b) × AreShared ds b chunk (from_chunk origin edges b) (from_start origin edges b)
+pub boxes_are : (ds : List Dimension) (b : Box) (chunk origin edges : List ℕ) → IsBox b → Meets ds b chunk → IsOrigin ds chunk origin
+    → IsShape ds chunk edges
+    → IsBox (from_chunk origin edges b) × IsBox (from_start origin edges b)
+    × AreShared ds b chunk (from_chunk origin edges b) (from_start origin edges b)
 boxes_are ds b chunk origin edges is_box meets is long = (in_chunk, in_subset, shared) where
   edges_many : length edges ≡ length origin
   edges_many = length_values HasEdge ds chunk edges long ∙ sym (length_values StartsAt ds chunk origin is)

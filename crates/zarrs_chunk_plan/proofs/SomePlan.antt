@@ -1,4 +1,4 @@
--- Where each chunk has a key, each box of elements of the array has a plan, and so has each rechunking: there are the parts that a walk has not come to.
+-- Where each chunk has a key, each box of elements of the array has a plan, and each rechunking too: the parts ahead of a walk exist.
 use Rattle.std.proofs.Common.{◌≡◌, ℕ, suc, ◌+◌, ◌-◌, ◌<◌, ◌≤◌, List, [], ◌∷◌, Contains, ap, ap₂, length, map, refl, arith}
 use Rattle.std.specs.List.{AllByRecursion, AllZip}
 use Rattle.zarrs_chunk_base.specs.ArraySubset.{AreWithin, Box, IsBox, IsEmptyBox, IsInside, ends, lasts}
@@ -94,7 +94,8 @@ module _ (ds : List Dimension) (IsKey : List ℕ → List ℕ → Type 0) (chain
         record { numbers = refl; key = is_key; boxes = shared },
       )
 
-  pub have_parts : (b : Box) → IsBox b → (chunks : List (List ℕ)) → AllByRecursion (Meets ds b) chunks → (parts : List Part) × AllZip (IsPart ds IsKey b) chunks parts
+  pub have_parts : (b : Box) → IsBox b → (chunks : List (List ℕ)) → AllByRecursion (Meets ds b) chunks
+      → (parts : List Part) × AllZip (IsPart ds IsKey b) chunks parts
   have_parts b is_box [] meet = ([], tt)
   have_parts b is_box (chunk ∷ chunks) meet =
       let (part, is) = has_part b is_box chunk meet.0 in
@@ -114,9 +115,11 @@ module _ (ds : List Dimension) (IsKey : List ℕ → List ℕ → Type 0) (chain
 -- ---- the groups
 
 module _ (source : List Dimension) (IsSourceKey : List ℕ → List ℕ → Type 0) (target : List Dimension) (IsTargetKey : List ℕ → List ℕ → Type 0)
-    (chains : AllByRecursion IsChain source) (also_chains : AllByRecursion IsChain target) (keys : HasKeys IsSourceKey) (also_keys : HasKeys IsTargetKey)
+    (chains : AllByRecursion IsChain source) (also_chains : AllByRecursion IsChain target) (keys : HasKeys IsSourceKey)
+    (also_keys : HasKeys IsTargetKey)
     (one_array : array_sizes source ≡ array_sizes target) (is_box : IsBox (array_box target)) where
-  has_group : (chunk : List ℕ) → Meets target (array_box target) chunk → (group : Group) × AreCopiesInto source IsSourceKey target IsTargetKey chunk group
+  has_group : (chunk : List ℕ) → Meets target (array_box target) chunk
+      → (group : Group) × AreCopiesInto source IsSourceKey target IsTargetKey chunk group
   has_group chunk meets =
       let (to, is) = has_part target IsTargetKey also_chains also_keys (array_box target) is_box chunk meets in
       let some = not_empty target IsTargetKey (array_box target) chunk to is meets in

@@ -1,5 +1,6 @@
 -- The parts of some of the chunks in a list, from one of them on.
-use Rattle.std.proofs.Common.{◌≡◌, ◌∙◌, ℕ, zero, suc, ◌+◌, ◌-◌, ◌≤◌, List, [], ◌∷◌, ◌++◌, Some, drop, get_or, length, min, take, refl, ap, subst, sym, arith}
+use Rattle.std.proofs.Common.{◌≡◌, ◌∙◌, ℕ, zero, suc, ◌+◌, ◌-◌, ◌≤◌, List, [], ◌∷◌, ◌++◌, Some, drop, get_or, length, min, take, refl, ap, subst, sym}
+use Rattle.std.proofs.Common.{arith}
 use Rattle.std.proofs.lemmas.List.{get_or-drop, length-drop}
 use Rattle.std.proofs.lemmas.Slice.Zip.{all_zipped_more}
 use Rattle.std.proofs.lemmas.Option.{get_or_from_slice_get, slice_get_within}
@@ -55,7 +56,8 @@ module _ (ds : List Dimension) (IsKey : List ℕ → List ℕ → Type 0) (subse
   -- the parts up to an end that is at most as far as there are parts, and as were asked for
   pub some_of_plan : (end : ℕ) (some : SomeParts) → some.in_all ≡ min (length (row_major cover.shape)) greatest
       → end ≡ min (min (first + most) greatest) some.in_all
-      → AllZip (IsPart ds IsKey subset) (take (end - first) (drop first (chunks_in cover))) some.parts.items → AreSomeParts ds IsKey subset cover first most some
+      → AllZip (IsPart ds IsKey subset) (take (end - first) (drop first (chunks_in cover))) some.parts.items
+      → AreSomeParts ds IsKey subset cover first most some
   some_of_plan end some counted ends are =
       let lists = as_many cover.start cover.shape in
       let same : end - first ≡ min (some.in_all - first) most = omega arith in
@@ -64,7 +66,8 @@ module _ (ds : List Dimension) (IsKey : List ℕ → List ℕ → Type 0) (subse
         are_parts = subst (λ n. AllZip (IsPart ds IsKey subset) (take n (drop first (chunks_in cover))) some.parts.items) same are;
       }
 
-  pub none_of_plan : (some : SomeParts) → AreSomeParts ds IsKey subset cover first most some → chunks_in cover ≡ [] → (some.in_all ≡ 0) × (some.parts.items ≡ [])
+  pub none_of_plan : (some : SomeParts) → AreSomeParts ds IsKey subset cover first most some → chunks_in cover ≡ []
+      → (some.in_all ≡ 0) × (some.parts.items ≡ [])
   none_of_plan some are none =
       let long : length (chunks_in cover) ≡ 0 = ap length none in
       let counted = are.in_all in (

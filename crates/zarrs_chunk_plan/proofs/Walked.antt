@@ -33,8 +33,8 @@ module _ {G E : Type 0} (dimensions : G → List Dimension) (is_key : E → List
   pub at_first : (now : Parts G E) (parts : List Part) → now ≡ begin → parts ≡ [] → MeetSubset dimensions begin → HaveCome now parts
   at_first now parts same none meet = rw (same, none) ([], refl, tt, record { same_grid = refl; same_encoding = refl; same_subset = refl }, meet)
 
-  pub one_more : (before after : Parts G E) (part : Part) (parts more : List Part) → HaveCome before parts → GivesPart dimensions is_key before (Some (Ok part)) after
-      → more ≡ parts ++ part ∷ [] → HaveCome after more
+  pub one_more : (before after : Parts G E) (part : Part) (parts more : List Part) → HaveCome before parts
+      → GivesPart dimensions is_key before (Some (Ok part)) after → more ≡ parts ++ part ∷ [] → HaveCome after more
   one_more before after part parts more (came, left, are, about, meet) gives is =
       let (now_came, all, now_are) = one_came IsPartOf (chunks_to_come begin) came (chunks_to_come before) (chunks_to_come after) part.chunk.items
       part parts more left gives.gives are (rw (← about.same_grid, ← about.same_encoding, ← about.same_subset) (gives.part meet)) is
@@ -48,7 +48,7 @@ module _ {G E : Type 0} (dimensions : G → List Dimension) (is_key : E → List
 
 -- the parts of all chunks of the cover are a plan
 pub plan_of : {G E : Type 0} (dimensions : G → List Dimension) (is_key : E → List ℕ → List ℕ → Type 0) (grid : G) (encoding : E) (subset cover : Box)
-    (walk : Parts G E) (all : List Part) → IsAbout grid encoding subset walk → IsCover (dimensions grid) subset cover → chunks_to_come walk ≡ chunks_in cover
-    → ArePartsToCome dimensions is_key walk all → IsPlan (dimensions grid) (is_key encoding) subset all
+    (walk : Parts G E) (all : List Part) → IsAbout grid encoding subset walk → IsCover (dimensions grid) subset cover
+    → chunks_to_come walk ≡ chunks_in cover → ArePartsToCome dimensions is_key walk all → IsPlan (dimensions grid) (is_key encoding) subset all
 plan_of dimensions is_key grid encoding subset cover walk all about is left are =
     record { cover = cover; is_cover = is; are_parts = rw (← left, ← about.same_grid, ← about.same_encoding, ← about.same_subset) are }

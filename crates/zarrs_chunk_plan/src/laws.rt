@@ -5,9 +5,9 @@
 //! | What [`parts`] gives of a box, one after another, is a plan of the box | [`the_walk_gives_the_plan`] |
 //! | Each element of the box lies in exactly one part, at its place in that part's chunk | [`each_element_lies_in_one_part`] |
 //! | No two parts have one key | [`no_two_parts_have_one_key`] |
-//! | The parts' boxes tile the box: each place in it lies in exactly one of them, they reach nowhere else, and none is empty | [`the_parts_tile_the_box`] |
+//! | The parts' boxes tile the box: each place in it lies in exactly one, they reach nowhere else, and none is empty | [`the_parts_tile_the_box`] |
 //! | What [`copies`] gives, one group after another, is a rechunking | [`the_walk_gives_the_rechunking`] |
-//! | Each element of the array whose target chunk is asked for is moved by exactly one copy: from its place in the source's chunk to that in the target's | [`each_element_is_copied_once`] |
+//! | Each element whose target chunk is asked for is moved, place to place, by exactly one copy | [`each_element_is_copied_once`] |
 //! | Rechunkings that share the target's chunks out are together the whole one | [`rechunkings_that_share_out_are_the_whole_one`] |
 ghost use Rattle.std.specs.Prelude.{◌≡◌, ◌≢◌, ◌↔◌, ◌⊎◌, ℕ, IfErr, IfOk, List, length};
 ghost use Rattle.std.specs.List.{AllPairs, AllZip, Contains, flat_map};

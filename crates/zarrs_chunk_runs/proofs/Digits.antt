@@ -19,7 +19,8 @@ there_are (suc n) =
       suc d,
       record {
         below = omega arith;
-        least = λ e small. ⊎_elim (λ (fewer : e < suc d). absurd (omega (arith, powers_rise e d (omega arith)))) (λ (more : suc d ≤ e). more) (cases_lt e (suc d));
+        least = λ e small. ⊎_elim (λ (fewer : e < suc d). absurd (omega (arith, powers_rise e d (omega arith))))
+            (λ (more : suc d ≤ e). more) (cases_lt e (suc d));
       },
     ))
     (cases_lt (suc n) (2 ^ d))

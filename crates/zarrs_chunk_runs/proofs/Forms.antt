@@ -1,5 +1,6 @@
 -- The run-length form of a list of edges: there is one, and it is the shortest.
-use Rattle.std.proofs.Common.{◌≡◌, ◌≢◌, ℕ, zero, suc, ◌+◌, ◌<◌, ◌≤◌, List, [], ◌∷◌, ◌++◌, length, replicate, get_or, drop, cond, map, nat_eq, refl, sym, ap, ◌∙◌, subst, ⊎_elim, arith}
+use Rattle.std.proofs.Common.{◌≡◌, ◌≢◌, ℕ, zero, suc, ◌+◌, ◌<◌, ◌≤◌, List, [], ◌∷◌, ◌++◌, length, replicate, get_or, drop, cond, map, nat_eq, refl}
+use Rattle.std.proofs.Common.{sym, ap, ◌∙◌, subst, ⊎_elim, arith}
 use Rattle.std.proofs.lemmas.List.{length-map}
 use Rattle.std.proofs.lemmas.Bool.{cases_eq, eq-eqb, ne_eqb}
 use Rattle.zarrs_chunk_base.specs.RunLength.{AreApart, Element, IsNoPairOfOne, IsRunLengthForm, edge_in, edges_of_element, joined, repeated, single}
@@ -78,7 +79,8 @@ at_least_runs (x ∷ elements) =
     omega (arith, own, copies_at_most (edge_in x) (count_in x) (joined elements), at_least_runs elements)
 
 -- some copies of an edge, and behind them none or another edge, are one run more
-copies_are_one : (edge count : ℕ) (edges : List ℕ) → 0 < count → runs_after edge edges ≡ runs_in edges → runs_in (replicate count edge ++ edges) ≡ suc (runs_in edges)
+copies_are_one : (edge count : ℕ) (edges : List ℕ) → 0 < count → runs_after edge edges ≡ runs_in edges
+    → runs_in (replicate count edge ++ edges) ≡ suc (runs_in edges)
 copies_are_one edge zero edges some other = absurd (omega arith)
 copies_are_one edge (suc count) edges some other = omega (arith, after_copies edge count edges)
 
@@ -89,7 +91,8 @@ first_of (repeated edge zero) edges d some = absurd (omega arith)
 first_of (repeated edge (suc count)) edges d some = (replicate count edge ++ edges, refl)
 
 -- behind an element stands none or one of another edge
-behind : (x : Element) (elements : List Element) → IsRunLengthForm (x ∷ elements) → runs_after (edge_in x) (joined elements) ≡ runs_in (joined elements)
+behind : (x : Element) (elements : List Element) → IsRunLengthForm (x ∷ elements)
+    → runs_after (edge_in x) (joined elements) ≡ runs_in (joined elements)
 behind x [] form = refl
 behind x (y ∷ elements) form =
     let (rest, is) = first_of y (joined elements) 0 (counts_some y form.no_pair_of_one.1.0) in
@@ -209,12 +212,14 @@ behind_run run (next ∷ items) merged =
     let (rest, is) = first_of (repeated (non_zero_u64_get next.0) (non_zero_u64_get next.1)) (edges_of_runs (map run_of items)) 0 next.1.ok in
     rw is (after_other run.0 (non_zero_u64_get next.0) rest (merged 0 (omega arith)))
 
-pub as_many_as_kept : (items : List (NonZeroU64 × NonZeroU64)) → AreMerged (map run_of items) → length (map run_of items) ≡ runs_in (edges_of_runs (map run_of items))
+pub as_many_as_kept : (items : List (NonZeroU64 × NonZeroU64)) → AreMerged (map run_of items)
+    → length (map run_of items) ≡ runs_in (edges_of_runs (map run_of items))
 as_many_as_kept [] merged = refl
 as_many_as_kept (run ∷ items) merged =
     omega (
       arith,
-      copies_are_one (non_zero_u64_get run.0) (non_zero_u64_get run.1) (edges_of_runs (map run_of items)) run.1.ok (behind_run (run_of run) items merged),
+      copies_are_one (non_zero_u64_get run.0) (non_zero_u64_get run.1) (edges_of_runs (map run_of items)) run.1.ok
+          (behind_run (run_of run) items merged),
       as_many_as_kept items (later_merged (run_of run) (map run_of items) merged),
     )
 

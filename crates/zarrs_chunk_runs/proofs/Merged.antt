@@ -1,12 +1,14 @@
 -- Runs that are made of elements, one after another.
-use Rattle.std.proofs.Common.{◌≡◌, ◌≢◌, ℕ, zero, suc, ◌+◌, ◌<◌, ◌≤◌, List, [], ◌∷◌, ◌++◌, length, map, min, set, replicate, get_or, sym, ap, ◌∙◌, append_assoc, append-nil, subst, ⊎_elim, arith}
+use Rattle.std.proofs.Common.{◌≡◌, ◌≢◌, ℕ, zero, suc, ◌+◌, ◌<◌, ◌≤◌, List, [], ◌∷◌, ◌++◌, length, map, min, set, replicate, get_or, sym, ap, ◌∙◌}
+use Rattle.std.proofs.Common.{append_assoc, append-nil, subst, ⊎_elim, arith}
 use Rattle.std.specs.List.{sum}
 use Rattle.std.specs.Int.NonZero.{non_zero_u64_get}
 use Rattle.std.specs.declared.num.NonZeroU64.{NonZeroU64}
 use Rattle.std.proofs.Math.ListN.{get_or-map}
 use Rattle.std.proofs.Math.Seq.{get_or-append_seam, map-set_same}
 use Rattle.std.proofs.lemmas.Bool.{cases_lt}
-use Rattle.std.proofs.lemmas.List.{get_or-map as get_or-map-at, get_or_append_left, length-append, length-map, length-set, map-append, map-set, replicate-append-replicate}
+use Rattle.std.proofs.lemmas.List.{get_or-map as get_or-map-at, get_or_append_left, length-append, length-map, length-set, map-append, map-set}
+use Rattle.std.proofs.lemmas.List.{replicate-append-replicate}
 use Rattle.std.proofs.lemmas.List.Folds.{sum_by-replicate}
 use Rattle.std.proofs.lemmas.List.Sums.{sum_by-append}
 use Rattle.zarrs_chunk_base.specs.Greatest.{greatest}
@@ -53,9 +55,11 @@ longer_last (run ∷ next ∷ runs) (suc i) edge count more last is =
 -- where edges stay, the runs stay merged
 pub still_merged : (runs : List (ℕ × ℕ)) (i : ℕ) (run : ℕ × ℕ) → run.0 ≡ (get_or runs i (0, 0)).0 → AreMerged runs → AreMerged (set runs i run)
 still_merged runs i run same merged =
-    let edges : map (λ (r : ℕ × ℕ). r.0) (set runs i run) ≡ map (λ (r : ℕ × ℕ). r.0) runs = map-set_same (λ (r : ℕ × ℕ). r.0) runs i run (0, 0) same in
+    let edges : map (λ (r : ℕ × ℕ). r.0) (set runs i run) ≡ map (λ (r : ℕ × ℕ). r.0) runs =
+    map-set_same (λ (r : ℕ × ℕ). r.0) runs i run (0, 0) same in
     let at : (k : ℕ) → (get_or (set runs i run) k (0, 0)).0 ≡ (get_or runs k (0, 0)).0 = λ k.
-    sym (get_or-map (λ (r : ℕ × ℕ). r.0) (set runs i run) k (0, 0)) ∙ ap (λ edges. get_or edges k 0) edges ∙ get_or-map (λ (r : ℕ × ℕ). r.0) runs k (0, 0) in
+    sym (get_or-map (λ (r : ℕ × ℕ). r.0) (set runs i run) k (0, 0)) ∙ ap (λ edges. get_or edges k 0) edges
+    ∙ get_or-map (λ (r : ℕ × ℕ). r.0) runs k (0, 0) in
     λ k within equal. merged k (omega (arith, length-set runs i run)) (sym (at k) ∙ equal ∙ at (k + 1))
 
 -- one more run behind a last one of another edge
@@ -66,14 +70,17 @@ one_more_merged runs run merged other = λ k within equal.
     let left : k < length runs = omega arith in
     let here = get_or_append_left runs (run ∷ []) (0, 0) k left in
     ⊎_elim
-    (λ (both : k + 1 < length runs). merged k both (ap (λ r. r.0) (sym here) ∙ equal ∙ ap (λ r. r.0) (get_or_append_left runs (run ∷ []) (0, 0) (k + 1) both)))
+    (λ (both : k + 1 < length runs). merged k both
+    (ap (λ r. r.0) (sym here) ∙ equal ∙ ap (λ r. r.0) (get_or_append_left runs (run ∷ []) (0, 0) (k + 1) both)))
     (λ (last : length runs ≤ k + 1).
     let at : k + 1 ≡ length runs = omega arith in
-    let there : get_or (runs ++ run ∷ []) (k + 1) (0, 0) ≡ run = ap (λ n. get_or (runs ++ run ∷ []) n (0, 0)) at ∙ get_or-append_seam runs run [] (0, 0) in
+    let there : get_or (runs ++ run ∷ []) (k + 1) (0, 0) ≡ run =
+    ap (λ n. get_or (runs ++ run ∷ []) n (0, 0)) at ∙ get_or-append_seam runs run [] (0, 0) in
     other k (omega arith) (ap (λ r. r.0) (sym here) ∙ equal ∙ ap (λ r. r.0) there))
     (cases_lt (k + 1) (length runs))
 
-module _ (items : List (NonZeroU64 × NonZeroU64)) (i : ℕ) (last : NonZeroU64 × NonZeroU64) (is_last : suc i ≡ length items) (at : last ≡ get_or items i last) where
+module _ (items : List (NonZeroU64 × NonZeroU64)) (i : ℕ) (last : NonZeroU64 × NonZeroU64) (is_last : suc i ≡ length items)
+    (at : last ≡ get_or items i last) where
   -- the last run as numbers
   pub last_run : get_or (map run_of items) i (0, 0) ≡ run_of last
   last_run = get_or-map-at run_of items i last (0, 0) (omega arith) ∙ ap run_of (sym at)
@@ -81,7 +88,8 @@ module _ (items : List (NonZeroU64 × NonZeroU64)) (i : ℕ) (last : NonZeroU64 
   -- the edges with a longer last run
   pub lengthened : (count longer : NonZeroU64) → length (edges_of_runs (map run_of items)) + non_zero_u64_get count ≤ greatest
       → non_zero_u64_get longer ≡ min (non_zero_u64_get last.1 + non_zero_u64_get count) greatest
-      → edges_of_runs (map run_of (set items i (last.0, longer))) ≡ edges_of_runs (map run_of items) ++ replicate (non_zero_u64_get count) (non_zero_u64_get last.0)
+      → edges_of_runs (map run_of (set items i (last.0, longer)))
+      ≡ edges_of_runs (map run_of items) ++ replicate (non_zero_u64_get count) (non_zero_u64_get last.0)
   lengthened count longer room is =
       let runs = map run_of items in
       let lengths = length-map items run_of in
@@ -93,7 +101,8 @@ module _ (items : List (NonZeroU64 × NonZeroU64)) (i : ℕ) (last : NonZeroU64 
   -- and they are merged still
   pub merged_with_longer : (longer : NonZeroU64) → AreMerged (map run_of items) → AreMerged (map run_of (set items i (last.0, longer)))
   merged_with_longer longer merged =
-      subst AreMerged (sym (map-set run_of items i (last.0, longer))) (still_merged (map run_of items) i (run_of (last.0, longer)) (ap (λ r. r.0) (sym last_run)) merged)
+      subst AreMerged (sym (map-set run_of items i (last.0, longer)))
+      (still_merged (map run_of items) i (run_of (last.0, longer)) (ap (λ r. r.0) (sym last_run)) merged)
 
 -- one more run, which isn't of the last one's edge
 pub pushed : (items after : List (NonZeroU64 × NonZeroU64)) (run : NonZeroU64 × NonZeroU64) → after ≡ items ++ run ∷ [] → AreMerged (map run_of items)

@@ -1,5 +1,6 @@
 -- What running sums tell of the chunks in a run.
-use Rattle.std.proofs.Common.{◌≡◌, ℕ, zero, suc, ◌+◌, ◌-◌, ◌*◌, ◌/◌, ◌%◌, ◌<◌, ◌≤◌, List, [], ◌∷◌, ◌++◌, length, map, take, replicate, get_or, refl, sym, ap, ◌∙◌, append_assoc, add-one, subst, drop, arith}
+use Rattle.std.proofs.Common.{◌≡◌, ℕ, zero, suc, ◌+◌, ◌-◌, ◌*◌, ◌/◌, ◌%◌, ◌<◌, ◌≤◌, List, [], ◌∷◌, ◌++◌, length, map, take, replicate, get_or, refl}
+use Rattle.std.proofs.Common.{sym, ap, ◌∙◌, append_assoc, add-one, subst, drop, arith}
 use Rattle.std.specs.List.{sum}
 use Rattle.std.specs.Int.NonZero.{non_zero_u64_get}
 use Rattle.std.specs.declared.num.NonZeroU64.{NonZeroU64}
@@ -41,14 +42,23 @@ module _ (runs : List (ℕ × ℕ)) (k d : ℕ) (within : k < length runs) where
   pub end_after : get_or (ends_of runs) k d ≡ sum (edges_of_runs (take k runs)) + (get_or runs k (0, 0)).0 * (get_or runs k (0, 0)).1
   end_after =
       let run = get_or runs k (0, 0) in
-      let more : sum (edges_of_runs (take (suc k) runs)) ≡ sum (edges_of_runs (take k runs) ++ edges_of_run run) = ap sum (one_run_more runs k (0, 0) within) in
-      omega (arith, end_at runs k d within, more, sum_by-append (λ x. x) (edges_of_runs (take k runs)) (edges_of_run run), sum_by-replicate (λ x. x) run.1 run.0)
+      let more : sum (edges_of_runs (take (suc k) runs)) ≡ sum (edges_of_runs (take k runs) ++ edges_of_run run) =
+      ap sum (one_run_more runs k (0, 0) within) in
+      omega (
+        arith,
+        end_at runs k d within,
+        more,
+        sum_by-append (λ x. x) (edges_of_runs (take k runs))
+            (edges_of_run run),
+        sum_by-replicate (λ x. x) run.1 run.0,
+      )
 
   -- and so many chunks
   pub chunk_end_after : get_or (chunk_ends_of runs) k d ≡ length (edges_of_runs (take k runs)) + (get_or runs k (0, 0)).1
   chunk_end_after =
       let run = get_or runs k (0, 0) in
-      let more : length (edges_of_runs (take (suc k) runs)) ≡ length (edges_of_runs (take k runs) ++ edges_of_run run) = ap length (one_run_more runs k (0, 0) within) in
+      let more : length (edges_of_runs (take (suc k) runs)) ≡ length (edges_of_runs (take k runs) ++ edges_of_run run) =
+      ap length (one_run_more runs k (0, 0) within) in
       omega (arith, chunk_end_at runs k d within, more, length-append (edges_of_runs (take k runs)) (edges_of_run run), length-replicate run.1 run.0)
 
 -- the same of a run that was looked up
@@ -73,7 +83,8 @@ take_within (run ∷ runs) zero j d within own =
 take_within (run ∷ runs) (suc k) j d within own =
     let before = edges_of_runs (take k runs) in
     let edge = (get_or runs k d).0 in
-    let counted : length (edges_of_run run ++ before) + j ≡ length (edges_of_run run) + (length before + j) = omega (arith, length-append (edges_of_run run) before) in
+    let counted : length (edges_of_run run ++ before) + j ≡ length (edges_of_run run) + (length before + j) =
+    omega (arith, length-append (edges_of_run run) before) in
     ap (λ n. take n (edges_of_run run ++ edges_of_runs runs)) counted
     ∙ take-append-add (edges_of_run run) (edges_of_runs runs) (length before + j)
     ∙ ap (λ rest. edges_of_run run ++ rest) (take_within runs k j d (omega arith) own)
@@ -86,7 +97,8 @@ module _ (runs : List (ℕ × ℕ)) (k : ℕ) (within : k < length runs) where
   start_within j own =
       let run = get_or runs k (0, 0) in
       let before = edges_of_runs (take k runs) in
-      let taken : sum (take (length before + j) (edges_of_runs runs)) ≡ sum (before ++ replicate j run.0) = ap sum (take_within runs k j (0, 0) within own) in
+      let taken : sum (take (length before + j) (edges_of_runs runs)) ≡ sum (before ++ replicate j run.0) =
+      ap sum (take_within runs k j (0, 0) within own) in
       omega (arith, taken, sum_by-append (λ x. x) before (replicate j run.0), sum_by-replicate (λ x. x) j run.0)
 
   -- its edge
@@ -103,7 +115,8 @@ module _ (runs : List (ℕ × ℕ)) (k : ℕ) (within : k < length runs) where
       omega (arith, length-flat_map-take edges_of_run runs k (0, 0) within, length-replicate run.1 run.0)
 
 -- what is before the first sum above a number isn't past it
-pub starts_before : (runs : List (ℕ × ℕ)) (sought k : ℕ) → IsFirstAbove (ends_of runs) sought k → k ≤ length runs → sum (edges_of_runs (take k runs)) ≤ sought
+pub starts_before : (runs : List (ℕ × ℕ)) (sought k : ℕ) → IsFirstAbove (ends_of runs) sought k → k ≤ length runs
+    → sum (edges_of_runs (take k runs)) ≤ sought
 starts_before runs sought zero is within = omega arith
 starts_before runs sought (suc k) is within =
     let low : get_or (ends_of runs) k 0 ≤ sought = is.low k (omega arith) in
@@ -158,8 +171,10 @@ chunk_found runs i k is within positive =
     let own : rest / run.0 < run.1 = own_chunk runs i k is within positive in
     let low : rest / run.0 * run.0 ≤ rest = div-mul-le_self rest run.0 in
     let above : rest < rest / run.0 * run.0 + run.0 = lt-div-mul-add positive in
-    let here : sum (take (first + rest / run.0) (edges_of_runs runs)) ≡ start + rest / run.0 * run.0 = start_within runs k within (rest / run.0) (omega arith) in
-    let next : sum (take (first + (rest / run.0 + 1)) (edges_of_runs runs)) ≡ start + (rest / run.0 + 1) * run.0 = start_within runs k within (rest / run.0 + 1) (omega arith) in
+    let here : sum (take (first + rest / run.0) (edges_of_runs runs)) ≡ start + rest / run.0 * run.0 =
+    start_within runs k within (rest / run.0) (omega arith) in
+    let next : sum (take (first + (rest / run.0 + 1)) (edges_of_runs runs)) ≡ start + (rest / run.0 + 1) * run.0 =
+    start_within runs k within (rest / run.0 + 1) (omega arith) in
     let same : first + rest / run.0 + 1 ≡ first + (rest / run.0 + 1) = omega arith in
     record {
       chunk = omega (arith, chunks_within runs k within);
@@ -209,9 +224,11 @@ pub next_run : (items : List (NonZeroU64 × NonZeroU64)) (k : ℕ) (x : NonZeroU
 next_run items k x within at = ap (map run_of) (drop-cons items k x within ∙ ap (λ next. next ∷ drop (suc k) items) (sym at))
 
 pub next_size : (items : List (NonZeroU64 × NonZeroU64)) (k : ℕ) (x : NonZeroU64 × NonZeroU64) → k < length items → x ≡ get_or items k x
-    → sum (map size_of (map run_of (drop k items))) ≡ non_zero_u64_get x.0 * non_zero_u64_get x.1 + sum (map size_of (map run_of (drop (suc k) items)))
+    → sum (map size_of (map run_of (drop k items)))
+    ≡ non_zero_u64_get x.0 * non_zero_u64_get x.1 + sum (map size_of (map run_of (drop (suc k) items)))
 next_size items k x within at =
-    ap (λ runs. sum (map size_of runs)) (next_run items k x within at) ∙ sum_by-cons (λ x. x) (size_of (run_of x)) (map size_of (map run_of (drop (suc k) items)))
+    ap (λ runs. sum (map size_of runs)) (next_run items k x within at)
+    ∙ sum_by-cons (λ x. x) (size_of (run_of x)) (map size_of (map run_of (drop (suc k) items)))
 
 pub next_count : (items : List (NonZeroU64 × NonZeroU64)) (k : ℕ) (x : NonZeroU64 × NonZeroU64) → k < length items → x ≡ get_or items k x
     → sum (map count_of_run (map run_of (drop k items))) ≡ non_zero_u64_get x.1 + sum (map count_of_run (map run_of (drop (suc k) items)))
@@ -238,8 +255,11 @@ pub edge_found : (runs : List (ℕ × ℕ)) (c k : ℕ) → IsRunOf runs c k
 edge_found runs c k is =
     let own = place_in_run runs c k is in
     let from = is.from in
-    let at : length (edges_of_runs (take k runs)) + (c - length (edges_of_runs (take k runs))) ≡ c = omega arith in
-    (omega (arith, chunks_within runs k is.run), ap (λ n. get_or (edges_of_runs runs) n 0) (sym at) ∙ edge_within runs k is.run (c - length (edges_of_runs (take k runs))) own)
+    let at : length (edges_of_runs (take k runs)) + (c - length (edges_of_runs (take k runs))) ≡ c = omega arith in (
+      omega (arith, chunks_within runs k is.run),
+      ap (λ n. get_or (edges_of_runs runs) n 0) (sym at)
+          ∙ edge_within runs k is.run (c - length (edges_of_runs (take k runs))) own,
+    )
 
 -- where it starts
 pub start_found : (runs : List (ℕ × ℕ)) (c k : ℕ) → IsRunOf runs c k

@@ -1,5 +1,6 @@
 -- What running sums tell of the edges that runs stand for.
-use Rattle.std.proofs.Common.{◌≡◌, ℕ, zero, suc, ◌+◌, ◌<◌, ◌≤◌, List, [], ◌∷◌, ◌++◌, length, map, take, get_or, refl, sym, ap, ◌∙◌, append_assoc, ⊎_elim, ltb-true, lt-ltb, arith}
+use Rattle.std.proofs.Common.{◌≡◌, ℕ, zero, suc, ◌+◌, ◌<◌, ◌≤◌, List, [], ◌∷◌, ◌++◌, length, map, take, get_or, refl, sym, ap, ◌∙◌, append_assoc}
+use Rattle.std.proofs.Common.{⊎_elim, ltb-true, lt-ltb, arith}
 use Rattle.std.specs.List.{sum}
 use Rattle.std.specs.List.Sorted.{IsNonDecreasingBy}
 use Rattle.std.proofs.lemmas.Bool.{cases_lt}
@@ -22,7 +23,14 @@ sum_of_edges (run ∷ runs) =
 pub count_of_edges : (runs : List (ℕ × ℕ)) → length (edges_of_runs runs) ≡ sum (map count_of_run runs)
 count_of_edges [] = refl
 count_of_edges (run ∷ runs) =
-    omega (arith, length-append (edges_of_run run) (edges_of_runs runs), length-replicate run.1 run.0, count_of_edges runs, sum_by-cons (λ x. x) (count_of_run run) (map count_of_run runs))
+    omega (
+      arith,
+      length-append (edges_of_run run) (edges_of_runs runs),
+      length-replicate run.1 run.0,
+      count_of_edges runs,
+      sum_by-cons (λ x. x)
+          (count_of_run run) (map count_of_run runs),
+    )
 
 pub length_running : (from : ℕ) (numbers : List ℕ) → length (running from numbers) ≡ length numbers
 length_running from [] = refl
@@ -60,7 +68,8 @@ module _ (runs : List (ℕ × ℕ)) (k d : ℕ) (within : k < length runs) where
   pub chunk_end_at : get_or (chunk_ends_of runs) k d ≡ length (edges_of_runs (take (suc k) runs))
   chunk_end_at =
       let counted : k < length (map count_of_run runs) = omega (arith, length-map runs count_of_run) in
-      let taken : sum (take (suc k) (map count_of_run runs)) ≡ sum (map count_of_run (take (suc k) runs)) = ap sum (take-map count_of_run (suc k) runs) in
+      let taken : sum (take (suc k) (map count_of_run runs)) ≡ sum (map count_of_run (take (suc k) runs)) =
+      ap sum (take-map count_of_run (suc k) runs) in
       omega (arith, running_at 0 (map count_of_run runs) k d counted, taken, count_of_edges (take (suc k) runs))
 
 -- the edges up to a run's end are those before it and its own

@@ -1,10 +1,12 @@
 -- Grids of like dimensions answer alike.
-use Rattle.std.proofs.Common.{◌≡◌, ◌∙◌, ℕ, ◌+◌, ◌-◌, ◌&&◌, ◌<◌, ◌≤◌, Bool, true, false, cond, List, [], ◌∷◌, length, map, nat_le, Some, None, Result, Ok, Err, sym, refl, ap, ap₂, subst, arith, ⊎_elim, inl, inr}
+use Rattle.std.proofs.Common.{◌≡◌, ◌∙◌, ℕ, ◌+◌, ◌-◌, ◌&&◌, ◌<◌, ◌≤◌, Bool, true, false, cond, List, [], ◌∷◌, length, map, nat_le, Some, None, Result}
+use Rattle.std.proofs.Common.{Ok, Err, sym, refl, ap, ap₂, subst, arith, ⊎_elim, inl, inr}
 use Rattle.std.proofs.lemmas.List.Elements.{length_all_zip}
 use Rattle.std.specs.List.{AllByRecursion}
 use Rattle.zarrs_chunk_base.specs.ArraySubset.{Box, lasts, zero_box}
 use Rattle.zarrs_chunk_base.specs.declared.refusal.Refusal.TheVariants.{Refused, Memory}
-use Rattle.zarrs_chunk_base.specs.Dimension.{Dimension, EndsAt, HasEdge, Holds, InBox, InEach, IsChain, IsChunk, IsEnd, IsOrigin, IsPlace, IsShape, StartsAt, array_sizes, grid_sizes}
+use Rattle.zarrs_chunk_base.specs.Dimension.{Dimension, EndsAt, HasEdge, Holds, InBox, InEach, IsChain, IsChunk, IsEnd, IsOrigin, IsPlace, IsShape}
+use Rattle.zarrs_chunk_base.specs.Dimension.{StartsAt, array_sizes, grid_sizes}
 use Rattle.zarrs_chunk_base.specs.Greatest.{greatest}
 use Rattle.zarrs_chunk_axes.specs.InBounds.{AreBelow}
 use Rattle.zarrs_chunk_axes.specs.LookUp.{AnswersHome}
@@ -66,10 +68,12 @@ module _ (ds es : List Dimension) (alike : AreAllAlike ds es) where
 
   origin_alike : (chunk origin : List ℕ) → IsOrigin ds chunk origin → IsOrigin es chunk origin
   origin_alike =
-      each_alike StartsAt (λ d e c o alike h. record { chunk = (alike.chunks c).0 h.chunk; start = sym (alike.start c h.chunk) ∙ h.start }) ds es alike
+      each_alike StartsAt
+      (λ d e c o alike h. record { chunk = (alike.chunks c).0 h.chunk; start = sym (alike.start c h.chunk) ∙ h.start }) ds es alike
 
   end_alike : (chunk end : List ℕ) → IsEnd ds chunk end → IsEnd es chunk end
-  end_alike = each_alike EndsAt (λ d e c o alike h. record { chunk = (alike.chunks c).0 h.chunk; end = sym (alike.end c h.chunk) ∙ h.end }) ds es alike
+  end_alike = each_alike EndsAt
+      (λ d e c o alike h. record { chunk = (alike.chunks c).0 h.chunk; end = sym (alike.end c h.chunk) ∙ h.end }) ds es alike
 
   shape_alike : (chunk shape : List ℕ) → IsShape ds chunk shape → IsShape es chunk shape
   shape_alike = each_alike HasEdge edge ds es alike where
@@ -125,7 +129,8 @@ empty_cover_alike ds es alike (Ok None) is = is
 empty_cover_alike ds es alike (Err (Refused _)) is = is
 empty_cover_alike ds es alike (Err (Memory _)) is = is
 
-home_alike : (ds es : List Dimension) → AreAllAlike ds es → (index : List ℕ) (found : Result Bool (Refusal IncompatibleDimensionalityError)) (chunk place : List ℕ)
+home_alike : (ds es : List Dimension) → AreAllAlike ds es
+    → (index : List ℕ) (found : Result Bool (Refusal IncompatibleDimensionalityError)) (chunk place : List ℕ)
     → AnswersHome ds index found chunk place → AnswersHome es index found chunk place
 home_alike ds es alike index (Ok true) chunk place h =
     let (same, box, at) = h in
@@ -217,9 +222,11 @@ answer_alike ds es alike chains =
           let last = lasts chunks.start chunks.shape in
           answers_storing_weaker (λ _. Unit {0}) (length chunks.start) (length ds) (length es) _ _ _ _ answer same
           (λ b is. (λ empty. is.0 empty ∙ ap zero_box same, λ some. spans_alike ds es alike chunks.start last b (is.1 some)))
-          (λ none. (none.0, ⊎_elim (λ first. inl (no_box_alike ds es alike chunks.start first)) (λ end. inr (no_box_alike ds es alike last end)) none.1));
+          (λ none.
+          (none.0, ⊎_elim (λ first. inl (no_box_alike ds es alike chunks.start first)) (λ end. inr (no_box_alike ds es alike last end)) none.1));
       cover = λ b answer.
-          answers_storing_weaker (λ _. Unit {0}) (length b.start) (length ds) (length es) _ _ _ _ answer same (λ cover is. cover_alike ds es alike b cover is)
+          answers_storing_weaker (λ _. Unit {0}) (length b.start) (length ds) (length es) _ _ _ _ answer same
+          (λ cover is. cover_alike ds es alike b cover is)
           (⊎_elim (λ first. inl (no_home_alike ds es alike b.start first)) (λ last. inr (no_home_alike ds es alike (lasts b.start b.shape) last)));
       empty_cover = empty_cover_alike ds es alike;
       walk = chunks_alike ds es alike;

@@ -24,7 +24,8 @@ abbrev IsBehind : List Dimension → List ℕ → List ℕ → List ℕ → Type
 IsBehind ds chunk index origin = (place : List ℕ) → length place ≡ length origin
     → ((k : ℕ) → k < length place → get_or place k 0 ≡ get_or index k 0 - get_or origin k 0) → IsPlace ds chunk index place
 
-pub is_place : (ds : List Dimension) (chunk index origin place : List ℕ) → InBox ds chunk index → IsOrigin ds chunk origin → length place ≡ length origin
+pub is_place : (ds : List Dimension) (chunk index origin place : List ℕ) → InBox ds chunk index → IsOrigin ds chunk origin
+    → length place ≡ length origin
     → ((k : ℕ) → k < length place → get_or place k 0 ≡ get_or index k 0 - get_or origin k 0) → IsPlace ds chunk index place
 is_place ds chunk index origin place box is same differ =
     by_dimension_twice Holds StartsAt IsBehind none more ds chunk index origin box is place same differ where
@@ -42,8 +43,8 @@ is_place ds chunk index origin place box is same differ =
           (omega arith, rest place (omega arith) (λ k within. differ (suc k) (omega arith)))
 
 -- the origin of a chunk that holds an index is refused for memory alone
-pub home_refused : (ds : List Dimension) (chunk index home_chunk place : List ℕ) (refusal : Refusal IncompatibleDimensionalityError) → InBox ds chunk index
-    → AnswersOrigin ds chunk (Err refusal) → length index ≡ length ds → AnswersHome ds index (Err refusal) home_chunk place
+pub home_refused : (ds : List Dimension) (chunk index home_chunk place : List ℕ) (refusal : Refusal IncompatibleDimensionalityError)
+    → InBox ds chunk index → AnswersOrigin ds chunk (Err refusal) → length index ≡ length ds → AnswersHome ds index (Err refusal) home_chunk place
 home_refused ds chunk index home_chunk place (Refused e) box refused same = absurd (refused.0 (length_numbers Holds ds chunk index box))
 home_refused ds chunk index home_chunk place (Memory e) box refused same = (same, refused.1)
 

@@ -1,5 +1,6 @@
 -- In a chain an index lies in one chunk at most, and so its box and its place are the only ones.
-use Rattle.std.proofs.Common.{◌≡◌, ◌↔◌, IfOk, Ok, Err, Some, None, option_map, ℕ, zero, suc, ◌+◌, ◌<◌, ◌≤◌, IsTrue, List, refl, sym, ap, subst, ⊎_elim, add-one, arith}
+use Rattle.std.proofs.Common.{◌≡◌, ◌↔◌, IfOk, Ok, Err, Some, None, option_map, ℕ, zero, suc, ◌+◌, ◌<◌, ◌≤◌, IsTrue, List, refl, sym, ap, subst}
+use Rattle.std.proofs.Common.{⊎_elim, add-one, arith}
 use Rattle.std.proofs.lemmas.Bool.{cases_lt}
 use Rattle.std.proofs.lemmas.Option.{none-some, same_Some}
 use Rattle.std.specs.List.{AllByRecursion}
@@ -72,9 +73,11 @@ same_chunk d chain c e i first second =
     omega (arith, no_later d chain c e i i (omega arith) first second, no_later d chain e c i i (omega arith) second first)
 
 -- an index lies in the box of one chunk at most
-pub same_box : (ds : List Dimension) (chunk other index : List ℕ) → AllByRecursion IsChain ds → InBox ds chunk index → InBox ds other index → chunk ≡ other
+pub same_box : (ds : List Dimension) (chunk other index : List ℕ) → AllByRecursion IsChain ds → InBox ds chunk index
+    → InBox ds other index → chunk ≡ other
 same_box ds chunk other index chains first second =
-    by_dimension_twice (λ d i c. Holds d c i) (λ d i c. Holds d c i) (λ ds index chunk other. AllByRecursion IsChain ds → chunk ≡ other) (λ chains. refl)
+    by_dimension_twice (λ d i c. Holds d c i) (λ d i c. Holds d c i)
+    (λ ds index chunk other. AllByRecursion IsChain ds → chunk ≡ other) (λ chains. refl)
     (λ d i c e ds index chunk other first second rest chains.
     let here = same_chunk d chains.0 c e i first second in
     let others = rest chains.1 in

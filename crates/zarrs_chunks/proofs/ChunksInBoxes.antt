@@ -1,5 +1,6 @@
 -- The chunks in a box of chunk numbers: which they are, and their order.
-use Rattle.std.proofs.Common.{◌≡◌, ◌≢◌, ◌↔◌, ◌∙◌, ℕ, zero, suc, ◌+◌, ◌-◌, ◌<◌, ◌≤◌, List, [], ◌∷◌, Contains, get_or, length, map, refl, ap, ap₂, subst, sym, inl, inr, ⊎_elim, arith}
+use Rattle.std.proofs.Common.{◌≡◌, ◌≢◌, ◌↔◌, ◌∙◌, ℕ, zero, suc, ◌+◌, ◌-◌, ◌<◌, ◌≤◌, List, [], ◌∷◌, Contains, get_or, length, map, refl, ap, ap₂}
+use Rattle.std.proofs.Common.{subst, sym, inl, inr, ⊎_elim, arith}
 use Rattle.std.proofs.lemmas.List.{get_or-map, length-map}
 use Rattle.std.proofs.lemmas.List.Elements.{Contains-get_or}
 use Rattle.std.proofs.lemmas.Slice.Zip.{AllZip-long}
@@ -30,7 +31,8 @@ pub length_below : (shape numbers : List ℕ) → AreBelow shape numbers → len
 length_below = AllZip-long (λ size n. n < size)
 
 -- numbers below a shape lie in the box from a start with this shape, counted from 0
-pub lie_within : (start shape numbers : List ℕ) → length start ≡ length shape → AreBelow shape numbers → AreWithin start shape (counted_from start numbers)
+pub lie_within : (start shape numbers : List ℕ) → length start ≡ length shape → AreBelow shape numbers
+    → AreWithin start shape (counted_from start numbers)
 lie_within [] [] [] same below = tt
 lie_within (s ∷ start) (n ∷ shape) (i ∷ numbers) same below =
     let here : i < n = below.0 in
@@ -76,7 +78,8 @@ counted_in_order : (start shape one other : List ℕ) → length start ≡ lengt
 counted_in_order [] [] [] [] same below also before = before
 counted_in_order (s ∷ start) (n ∷ shape) (i ∷ one) (j ∷ other) same below also before =
     ⊎_elim (λ (less : i < j). inl (omega arith))
-    (λ rest. let first : s + i ≡ s + j = ap₂ ◌+◌ refl rest.0 in inr (first, counted_in_order start shape one other (omega arith) below.1 also.1 rest.1))
+    (λ rest. let first : s + i
+    ≡ s + j = ap₂ ◌+◌ refl rest.0 in inr (first, counted_in_order start shape one other (omega arith) below.1 also.1 rest.1))
     before
 counted_in_order _ _ _ _ same below also before = absurd (omega arith)
 
@@ -116,7 +119,8 @@ chunks_in_order b is_box i j d before within =
     let many = length-map lists f in
     let below = λ (k : ℕ) (counted : k < length lists). (are_those_below b.shape (get_or lists k d)).0 (Contains-get_or lists k d counted) in
     rw (get_or-map f lists i d d (omega arith), get_or-map f lists j d d (omega arith))
-    (counted_in_order b.start b.shape _ _ is_box.lengths (below i (omega arith)) (below j (omega arith)) (in_order b.shape i j d before (omega arith)))
+    (counted_in_order b.start b.shape _ _ is_box.lengths (below i (omega arith)) (below j (omega arith))
+    (in_order b.shape i j d before (omega arith)))
 
 -- so none comes twice
 pub chunks_once : (b : Box) → IsBox b → AllPairs (λ one other. one ≢ other) (chunks_in b)

@@ -1,5 +1,6 @@
 -- A bounded dimension is that of its clipped edges.
-use Rattle.std.proofs.Common.{◌≡◌, ℕ, zero, suc, ◌+◌, ◌-◌, ◌*◌, ◌/◌, ◌%◌, ◌<◌, ◌≤◌, min, IsTrue, List, [], ◌∷◌, ◌++◌, length, take, replicate, add-one, refl, sym, ◌∙◌, ⊎_elim, arith}
+use Rattle.std.proofs.Common.{◌≡◌, ℕ, zero, suc, ◌+◌, ◌-◌, ◌*◌, ◌/◌, ◌%◌, ◌<◌, ◌≤◌, min, IsTrue, List, [], ◌∷◌, ◌++◌, length, take, replicate}
+use Rattle.std.proofs.Common.{add-one, refl, sym, ◌∙◌, ⊎_elim, arith}
 use Rattle.std.proofs.lemmas.Bool.{cases_lt}
 use Rattle.std.proofs.Math.Nat.{div-add-mod', min-eq_left, min-eq_right, mul-le-mul_right, lt_of_mul-lt-mul_right}
 use Rattle.std.specs.List.{sum}
@@ -50,7 +51,8 @@ module _ (size edge : ℕ) (edges : List ℕ) (clipped : AreClipped size edge ed
       let whole = clipped.whole in
       ⊎_elim
       (λ (inner : c < whole).
-      let within : (c + 1) * edge ≤ size = let up : (c + 1) * edge ≤ whole * edge = mul-le-mul_right edge (omega arith) in omega (arith, clipped.size_is) in
+      let within : (c + 1) * edge ≤ size =
+      let up : (c + 1) * edge ≤ whole * edge = mul-le-mul_right edge (omega arith) in omega (arith, clipped.size_is) in
       min-eq_left within ∙ rw clipped.edges_are (sym (sum_whole whole edge clipped.rest (c + 1) (omega arith))))
       (λ (last : whole ≤ c).
       let same : c ≡ whole = omega arith in
@@ -63,7 +65,8 @@ counts_alike : (bounded : Dimension) (size edge : ℕ) (edges : List ℕ) (clipp
     → bounded.grid_size ≡ clipped.whole + 1
 counts_alike bounded size edge edges clipped is_bounded =
     let whole = clipped.whole in
-    let most : bounded.grid_size ≤ whole + 1 = is_bounded.least (whole + 1) (omega (arith, clipped.at_most, clipped.size_is, next_multiple whole edge)) in
+    let most : bounded.grid_size ≤ whole + 1 =
+    is_bounded.least (whole + 1) (omega (arith, clipped.at_most, clipped.size_is, next_multiple whole edge)) in
     ⊎_elim
     (λ (fewer : bounded.grid_size < whole + 1).
     let low : bounded.grid_size * edge ≤ whole * edge = mul-le-mul_right edge (omega arith) in
@@ -91,8 +94,8 @@ bounded_is_listed bounded listed size edge edges clipped is_bounded is_listed =
     }
 
 -- and so in each dimension
-pub all_bounded_are_listed : (bounded listed : List Dimension) (sizes edges : List ℕ) → AreBounded bounded sizes edges → AreClippedLists listed sizes edges
-    → AreAllAlike bounded listed
+pub all_bounded_are_listed : (bounded listed : List Dimension) (sizes edges : List ℕ) → AreBounded bounded sizes edges
+    → AreClippedLists listed sizes edges → AreAllAlike bounded listed
 all_bounded_are_listed [] [] [] [] first second = tt
 all_bounded_are_listed (b ∷ bounded) (l ∷ listed) (size ∷ sizes) (edge ∷ edges) first second = (
   bounded_is_listed b l size edge second.0.edges second.0.clipped first.0 second.0.listed,
@@ -108,5 +111,7 @@ has_clipped size edge some positive =
     let whole = (size - 1) / edge in
     let rest = (size - 1) % edge + 1 in
     let divided : (size - 1) / edge * edge + (size - 1) % edge ≡ size - 1 = div-add-mod' (size - 1) edge in
-    let small : (size - 1) % edge < edge = omega arith in
-    (replicate whole edge ++ rest ∷ [], record { whole = whole; rest = rest; some = omega arith; at_most = omega arith; size_is = omega arith; edges_are = refl })
+    let small : (size - 1) % edge < edge = omega arith in (
+      replicate whole edge ++ rest ∷ [],
+      record { whole = whole; rest = rest; some = omega arith; at_most = omega arith; size_is = omega arith; edges_are = refl },
+    )

@@ -1,5 +1,6 @@
 -- The box of the chunks from that of a box's first element to that of its last.
-use Rattle.std.proofs.Common.{◌≡◌, ℕ, zero, suc, ◌+◌, ◌-◌, ◌<◌, ◌≤◌, List, [], ◌∷◌, length, map, replicate, Option, Some, None, MatchOption, Ok, Err, refl, ap, ◌∙◌, ⊎_elim, arith}
+use Rattle.std.proofs.Common.{◌≡◌, ℕ, zero, suc, ◌+◌, ◌-◌, ◌<◌, ◌≤◌, List, [], ◌∷◌, length, map, replicate, Option, Some, None, MatchOption, Ok, Err}
+use Rattle.std.proofs.Common.{refl, ap, ◌∙◌, ⊎_elim, arith}
 use Rattle.std.proofs.lemmas.Bool.{cases_lt}
 use Rattle.std.specs.List.{AllByRecursion, AllZip, Contains}
 use Rattle.zarrs_chunk_base.specs.declared.incompatible_dimensionality_error.IncompatibleDimensionalityError.{IncompatibleDimensionalityError}
@@ -24,7 +25,8 @@ firsts_before_lasts _ _ same = absurd (omega arith)
 pub starts_in_order : (ds : List Dimension) (first last origin last_origin : List ℕ) → AllByRecursion IsChain ds → AllZip ◌≤◌ first last
     → IsOrigin ds first origin → IsOrigin ds last last_origin → AllZip ◌≤◌ origin last_origin
 starts_in_order ds first last origin last_origin chains order starts last_starts =
-    by_dimension_twice (λ d l o. (f : ℕ) × (f ≤ l) × StartsAt d f o) StartsAt (λ ds last origin others. AllByRecursion IsChain ds → AllZip ◌≤◌ origin others) (λ chains. tt)
+    by_dimension_twice (λ d l o. (f : ℕ) × (f ≤ l) × StartsAt d f o) StartsAt
+    (λ ds last origin others. AllByRecursion IsChain ds → AllZip ◌≤◌ origin others) (λ chains. tt)
     (λ d l o e ds last origin others (f, order, starts) later rest chains.
     let (before, _) = in_chain d chains.0 f l order later.chunk in
     let start = starts.start in
@@ -36,7 +38,8 @@ starts_in_order ds first last origin last_origin chains order starts last_starts
 pub in_order : (ds : List Dimension) (first last low high : List ℕ) → AllByRecursion IsChain ds → AllZip ◌≤◌ low high
     → InBox ds first low → InBox ds last high → AllZip ◌≤◌ first last
 in_order ds first last low high chains order f l =
-    by_dimension_twice (λ d j a. (i : ℕ) × (i ≤ j) × Holds d a i) (λ d j b. Holds d b j) (λ ds high first last. AllByRecursion IsChain ds → AllZip ◌≤◌ first last) (λ chains. tt)
+    by_dimension_twice (λ d j a. (i : ℕ) × (i ≤ j) × Holds d a i) (λ d j b. Holds d b j)
+    (λ ds high first last. AllByRecursion IsChain ds → AllZip ◌≤◌ first last) (λ chains. tt)
     (λ d j a b ds indices first last (i, order, low) high rest chains. (no_later d chains.0 a b i j order low high, rest chains.1))
     ds high first last (along (λ d i c. Holds d c i) ◌≤◌ ds low first (turned Holds ds first low f) high order) (turned Holds ds last high l) chains
 
@@ -47,7 +50,8 @@ length_lasts _ _ same = absurd (omega arith)
 
 -- a list without a 0 begins with none
 pub head_some : (n : ℕ) (shape : List ℕ) → (¬ Contains (n ∷ shape) 0) → 0 < n
-head_some n shape some = ⊎_elim (λ (below : 0 < n). below) (λ (none : n ≤ 0). let is : n ≡ 0 = omega arith in absurd (some (0, omega arith, is))) (cases_lt 0 n)
+head_some n shape some =
+    ⊎_elim (λ (below : 0 < n). below) (λ (none : n ≤ 0). let is : n ≡ 0 = omega arith in absurd (some (0, omega arith, is))) (cases_lt 0 n)
 
 pub tail_some : (n : ℕ) (shape : List ℕ) → (¬ Contains (n ∷ shape) 0) → ¬ Contains shape 0
 tail_some n shape some (k, within, is) = some (suc k, omega arith, is)

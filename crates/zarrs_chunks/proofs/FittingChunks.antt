@@ -1,5 +1,6 @@
 -- The chunks of a walk that have a box, and what is passed over.
-use Rattle.std.proofs.Common.{◌≡◌, ◌∙◌, ℕ, ◌-◌, ◌&&◌, ◌<◌, ◌≤◌, Bool, true, false, cond, List, [], ◌∷◌, ◌++◌, length, length-append, map, nat_le, suc, Some, None, Ok, le-leb, leb-true, refl, ap, ap₂, sym, subst, true≢false, arith}
+use Rattle.std.proofs.Common.{◌≡◌, ◌∙◌, ℕ, ◌-◌, ◌&&◌, ◌<◌, ◌≤◌, Bool, true, false, cond, List, [], ◌∷◌, ◌++◌, length, length-append, map, nat_le, suc}
+use Rattle.std.proofs.Common.{Some, None, Ok, le-leb, leb-true, refl, ap, ap₂, sym, subst, true≢false, arith}
 use Rattle.std.proofs.lemmas.Bool.{and_parts, false_from_ne_true}
 use Rattle.std.specs.List.{AllByRecursion, filter}
 use Rattle.zarrs_chunk_base.specs.ArraySubset.{Box, ends}
@@ -62,8 +63,8 @@ parts (d ∷ ds) (c ∷ chunk) chains below fit =
     ((record { chunk = has; start = refl }, starts), (record { chunk = has; end = omega arith }, finish), ap suc same, (omega arith, all))
 parts _ _ chains below fit = absurd below
 
-pub has_box : (ds : List Dimension) (chunk : List ℕ) → AllByRecursion IsChain ds → AreBelow (map (λ d. d.grid_size) ds) chunk → ends_within ds chunk ≡ true
-    → Spans ds chunk chunk (box_at ds chunk)
+pub has_box : (ds : List Dimension) (chunk : List ℕ) → AllByRecursion IsChain ds → AreBelow (map (λ d. d.grid_size) ds) chunk
+    → ends_within ds chunk ≡ true → Spans ds chunk chunk (box_at ds chunk)
 has_box ds chunk chains below fit =
     let (starts, finish, same, all) = parts ds chunk chains below fit in
     record { is_box = record { lengths = same; fits = all }; start = starts; end = finish }
@@ -120,7 +121,8 @@ module _ {X : Type 0} where
 
 -- what is passed over leaves fewer lists
 pub passes_fewer : (old walk : RowMajorWalk) (found : Bool) (new : RowMajorWalk) (passed : List (List ℕ))
-    → length (lists_from true walk) ≤ length (lists_left old) → IsPassing walk found new passed → length (lists_from found new) ≤ length (lists_left old)
+    → length (lists_from true walk) ≤ length (lists_left old) → IsPassing walk found new passed
+    → length (lists_from found new) ≤ length (lists_left old)
 passes_fewer old walk found new passed low is =
     let shorter = ap length is.all in
     let sum = length-append passed (lists_from found new) in
@@ -140,9 +142,11 @@ all_below_shape walk at = (
       (all_after_below (shape_of walk) (numbers_at walk) at.below),
 )
 
-module _ (ds : List Dimension) (chains : AllByRecursion IsChain ds) (walk : RowMajorWalk) (at : IsAtList walk) (over : shape_of walk ≡ map (λ d. d.grid_size) ds) where
+module _ (ds : List Dimension) (chains : AllByRecursion IsChain ds) (walk : RowMajorWalk) (at : IsAtList walk)
+    (over : shape_of walk ≡ map (λ d. d.grid_size) ds) where
   -- where the chunk has no box, neither has one that is passed over
-  none_passed : (passed others : List (List ℕ)) → numbers_at walk ∷ lists_left walk ≡ passed ++ others → AllByRecursion (AreAtLeast (numbers_at walk)) passed
+  none_passed : (passed others : List (List ℕ)) → numbers_at walk ∷ lists_left walk ≡ passed ++ others
+      → AllByRecursion (AreAtLeast (numbers_at walk)) passed
       → HasNoBox ds (numbers_at walk) → AllByRecursion (λ chunk. ends_within ds chunk ≡ false) passed
   none_passed passed others all low none =
       let chunk = numbers_at walk in
@@ -152,8 +156,8 @@ module _ (ds : List Dimension) (chains : AllByRecursion IsChain ds) (walk : RowM
       (λ later below low. none_later ds chunk later chains below low no) passed
       (first_part (AreBelow (map (λ d. d.grid_size) ds)) passed others (subst (AllByRecursion (AreBelow (map (λ d. d.grid_size) ds))) all below)) low
 
-  pub passes : (old : RowMajorWalk) (found : Bool) (new : RowMajorWalk) (passed : List (List ℕ)) → ComesBy ds old true walk → IsPassing walk found new passed
-      → Stands found new → HasNoBox ds (numbers_at walk) → ComesBy ds old found new
+  pub passes : (old : RowMajorWalk) (found : Bool) (new : RowMajorWalk) (passed : List (List ℕ)) → ComesBy ds old true walk
+      → IsPassing walk found new passed → Stands found new → HasNoBox ds (numbers_at walk) → ComesBy ds old found new
   passes old found new passed by is stands none = record {
     stands = stands;
     boxed = by.boxed ∙ ap (boxed ds) is.all

@@ -1,5 +1,6 @@
 -- The chunks that meet a box are those of its cover, and a box of chunks is the union of their boxes.
-use Rattle.std.proofs.Common.{◌≡◌, ◌↔◌, ℕ, zero, suc, ◌+◌, ◌-◌, ◌<◌, ◌≤◌, IsTrue, List, [], ◌∷◌, length, Ok, Some, IfOk, sym, ap, subst, ⊎_elim, arith}
+use Rattle.std.proofs.Common.{◌≡◌, ◌↔◌, ℕ, zero, suc, ◌+◌, ◌-◌, ◌<◌, ◌≤◌, IsTrue, List, [], ◌∷◌, length, Ok, Some, IfOk, sym, ap, subst, ⊎_elim}
+use Rattle.std.proofs.Common.{arith}
 use Rattle.std.specs.Prelude.{IfSome}
 use Rattle.std.proofs.lemmas.Bool.{cases_lt}
 use Rattle.std.specs.List.{AllByRecursion, Contains}
@@ -24,8 +25,8 @@ by_ranges P none more _ _ _ _ _ e f g h = absurd (omega arith)
 -- ---- the cover
 
 -- a chunk from the first to the last one that meet a range holds some of it
-meets : (d : Dimension) → IsChain d → (first size low count c : ℕ) → 0 < size → 0 < count → Holds d first low → Holds d (first + (size - 1)) (low + (count - 1))
-    → first ≤ c → c < first + size → (i : ℕ) × Holds d c i × (low ≤ i) × (i < low + count)
+meets : (d : Dimension) → IsChain d → (first size low count c : ℕ) → 0 < size → 0 < count → Holds d first low
+    → Holds d (first + (size - 1)) (low + (count - 1)) → first ≤ c → c < first + size → (i : ℕ) × Holds d c i × (low ≤ i) × (i < low + count)
 meets d chain first size low count c some any f l from below =
     ⊎_elim
     (λ (later : first < c).
@@ -42,8 +43,8 @@ meets d chain first size low count c some any f l from below =
     (cases_lt first c)
 
 -- a chunk that holds some of a range is one from the first to the last that do
-is_between : (d : Dimension) → IsChain d → (first size low count c i : ℕ) → 0 < size → 0 < count → Holds d first low → Holds d (first + (size - 1)) (low + (count - 1))
-    → Holds d c i → low ≤ i → i < low + count → (first ≤ c) × (c < first + size)
+is_between : (d : Dimension) → IsChain d → (first size low count c i : ℕ) → 0 < size → 0 < count → Holds d first low
+    → Holds d (first + (size - 1)) (low + (count - 1)) → Holds d c i → low ≤ i → i < low + count → (first ≤ c) × (c < first + size)
 is_between d chain first size low count c i some any f l here from below =
     let at_most : c ≤ first + (size - 1) = no_later d chain c _ i (low + (count - 1)) (omega arith) here l in
     (no_later d chain first c low i from f here, omega arith)
@@ -81,15 +82,20 @@ one_more_meets d a n i m ds first sizes low counts rest chains some any f l (c �
 pub cover_meets : (ds : List Dimension) (b cover : Box) → AllByRecursion IsChain ds → IsBox b → (¬ IsEmptyBox b) → IsCover ds b cover
     → (chunk : List ℕ) → IsInside cover chunk ↔ ((index : List ℕ) × InBox ds chunk index × IsInside b index)
 cover_meets ds b cover chains is_box some is =
-    by_ranges AreThoseThatMeet none_meet one_more_meets ds cover.start cover.shape b.start b.shape (length_numbers Holds ds cover.start b.start is.first)
+    by_ranges AreThoseThatMeet none_meet one_more_meets ds cover.start cover.shape b.start b.shape
+    (length_numbers Holds ds cover.start b.start is.first)
     is.is_box.lengths (length_values Holds ds cover.start b.start is.first) is_box.lengths chains is.some some is.first is.last
 
 -- an index from where one chunk starts to where a later one ends lies in a chunk from the one to the other
 lies_between : (d : Dimension) → IsChain d → (first k i : ℕ) → IsTrue (d.has_chunk (first + k)) → d.start first ≤ i → i < d.end (first + k)
     → (c : ℕ) × (first ≤ c) × (c ≤ first + k) × Holds d c i
 lies_between d chain first zero i has from below =
-    let same : first + zero ≡ first = omega arith in
-    (first, omega arith, omega arith, record { chunk = subst (λ c. IsTrue (d.has_chunk c)) same has; from = from; below = subst (λ c. i < d.end c) same below })
+    let same : first + zero ≡ first = omega arith in (
+      first,
+      omega arith,
+      omega arith,
+      record { chunk = subst (λ c. IsTrue (d.has_chunk c)) same has; from = from; below = subst (λ c. i < d.end c) same below },
+    )
 lies_between d chain first (suc k) i has from below =
     let next : first + suc k ≡ (first + k) + 1 = omega arith in
     let gap = chain.no_gap (first + k) (subst (λ c. IsTrue (d.has_chunk c)) next has) in
@@ -104,7 +110,8 @@ lies_between d chain first (suc k) i has from below =
 
 -- each element of a box lies in one of the chunks from that of its first element to that of its last
 abbrev HaveHomes : List Dimension → List ℕ → List ℕ → List ℕ → List ℕ → Type 0
-HaveHomes ds first sizes low counts = AllByRecursion IsChain ds → (¬ Contains sizes 0) → InBox ds first low → InBox ds (lasts first sizes) (lasts low counts)
+HaveHomes ds first sizes low counts =
+    AllByRecursion IsChain ds → (¬ Contains sizes 0) → InBox ds first low → InBox ds (lasts first sizes) (lasts low counts)
     → (index : List ℕ) → AreWithin low counts index → (chunk : List ℕ) × AreWithin first sizes chunk × InBox ds chunk index
 
 one_more_has_home : (d : Dimension) (a n i m : ℕ) (ds : List Dimension) (first sizes low counts : List ℕ) → HaveHomes ds first sizes low counts
@@ -124,13 +131,15 @@ one_more_has_home d a n i m ds first sizes low counts rest chains some f l (j �
 pub cover_holds : (ds : List Dimension) (b cover : Box) → AllByRecursion IsChain ds → IsBox b → IsCover ds b cover
     → (index : List ℕ) → IsInside b index → (chunk : List ℕ) × IsInside cover chunk × InBox ds chunk index
 cover_holds ds b cover chains is_box is =
-    by_ranges HaveHomes none_has_home one_more_has_home ds cover.start cover.shape b.start b.shape (length_numbers Holds ds cover.start b.start is.first)
+    by_ranges HaveHomes none_has_home one_more_has_home ds cover.start cover.shape b.start b.shape
+    (length_numbers Holds ds cover.start b.start is.first)
     is.is_box.lengths (length_values Holds ds cover.start b.start is.first) is_box.lengths chains is.some is.first is.last where
       none_has_home : HaveHomes [] [] [] [] []
       none_has_home chains some f l [] within = ([], tt, tt)
       none_has_home chains some f l (_ ∷ _) within = absurd within
 
-pub answered_cover_meets : (ds : List Dimension) (b : Box) → AllByRecursion IsChain ds → IsBox b → (¬ IsEmptyBox b) → (r : LookedBox) → AnswersCover ds b r
+pub answered_cover_meets : (ds : List Dimension) (b : Box) → AllByRecursion IsChain ds → IsBox b → (¬ IsEmptyBox b)
+    → (r : LookedBox) → AnswersCover ds b r
     → IfOk r (λ found. IfSome found (λ cover. (chunk : List ℕ) → IsInside cover chunk ↔ ((index : List ℕ) × InBox ds chunk index × IsInside b index)))
 answered_cover_meets ds b chains is_box some (Ok (Some cover)) h = cover_meets ds b cover chains is_box some h.1
 answered_cover_meets ds b chains is_box some _ h = tt
@@ -149,7 +158,8 @@ lies_within d chain first last c i has low high here =
 
 -- the indices from where a box's first chunk starts to where its last one ends are those of its chunks
 abbrev AreThoseOfChunks : List Dimension → List ℕ → List ℕ → List ℕ → List ℕ → Type 0
-AreThoseOfChunks ds first sizes low counts = AllByRecursion IsChain ds → (¬ Contains sizes 0) → IsOrigin ds first low → IsEnd ds (lasts first sizes) (ends low counts)
+AreThoseOfChunks ds first sizes low counts =
+    AllByRecursion IsChain ds → (¬ Contains sizes 0) → IsOrigin ds first low → IsEnd ds (lasts first sizes) (ends low counts)
     → (index : List ℕ) → AreWithin low counts index ↔ ((chunk : List ℕ) × AreWithin first sizes chunk × InBox ds chunk index)
 
 no_chunks : AreThoseOfChunks [] [] [] [] []
@@ -157,8 +167,8 @@ no_chunks chains some f l [] = (λ _. ([], tt, tt), λ _. tt)
 no_chunks chains some f l (j ∷ index) =
     (λ within. absurd within, λ (chunk, between, box). absurd (omega (arith, length_values Holds [] chunk (j ∷ index) box)))
 
-one_more_of_chunks : (d : Dimension) (a n i m : ℕ) (ds : List Dimension) (first sizes low counts : List ℕ) → AreThoseOfChunks ds first sizes low counts
-    → AreThoseOfChunks (d ∷ ds) (a ∷ first) (n ∷ sizes) (i ∷ low) (m ∷ counts)
+one_more_of_chunks : (d : Dimension) (a n i m : ℕ) (ds : List Dimension) (first sizes low counts : List ℕ)
+    → AreThoseOfChunks ds first sizes low counts → AreThoseOfChunks (d ∷ ds) (a ∷ first) (n ∷ sizes) (i ∷ low) (m ∷ counts)
 one_more_of_chunks d a n i m ds first sizes low counts rest chains some f l [] =
     (λ within. absurd within, λ (chunk, between, box). absurd (omega (arith, length_values Holds (d ∷ ds) chunk [] box)))
 one_more_of_chunks d a n i m ds first sizes low counts rest chains some f l (j ∷ index) = (find, λ (chunk, between, box). lie chunk between box) where
@@ -187,13 +197,16 @@ one_more_of_chunks d a n i m ds first sizes low counts rest chains some f l (j �
       (omega arith, omega arith, others.1 (chunk, between.2, box.1))
 
 -- so the box of a box of chunks that isn't empty is the union of their boxes
-pub is_union : (ds : List Dimension) (chunks b : Box) → AllByRecursion IsChain ds → IsBox chunks → (¬ IsEmptyBox chunks) → Spans ds chunks.start (lasts chunks.start chunks.shape) b
+pub is_union : (ds : List Dimension) (chunks b : Box) → AllByRecursion IsChain ds → IsBox chunks → (¬ IsEmptyBox chunks)
+    → Spans ds chunks.start (lasts chunks.start chunks.shape) b
     → (index : List ℕ) → IsInside b index ↔ ((chunk : List ℕ) × IsInside chunks chunk × InBox ds chunk index)
 is_union ds chunks b chains is_box some spans =
-    by_ranges AreThoseOfChunks no_chunks one_more_of_chunks ds chunks.start chunks.shape b.start b.shape (length_numbers StartsAt ds chunks.start b.start spans.start)
+    by_ranges AreThoseOfChunks no_chunks one_more_of_chunks ds chunks.start chunks.shape b.start b.shape
+    (length_numbers StartsAt ds chunks.start b.start spans.start)
     is_box.lengths (length_values StartsAt ds chunks.start b.start spans.start) spans.is_box.lengths chains some spans.start spans.end
 
-pub answered_union : (ds : List Dimension) (chunks : Box) → AllByRecursion IsChain ds → IsBox chunks → (¬ IsEmptyBox chunks) → (r : LookedBox) → AnswersChunksSubset ds chunks r
+pub answered_union : (ds : List Dimension) (chunks : Box) → AllByRecursion IsChain ds → IsBox chunks → (¬ IsEmptyBox chunks) → (r : LookedBox)
+    → AnswersChunksSubset ds chunks r
     → IfOk r (λ found. IfSome found (λ b. (index : List ℕ) → IsInside b index ↔ ((chunk : List ℕ) × IsInside chunks chunk × InBox ds chunk index)))
 answered_union ds chunks chains is_box some (Ok (Some b)) h = is_union ds chunks b chains is_box some (h.1.1 some)
 answered_union ds chunks chains is_box some _ h = tt

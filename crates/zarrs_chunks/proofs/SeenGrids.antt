@@ -27,7 +27,8 @@ use Rattle.zarrs_chunk_axes.specs.seen.EqualOr.{equal_or, equal_or_edges, equal_
 use Rattle.zarrs_chunk_axes.specs.seen.ListedAxis.{edges_in, listed_is_made, listed_of}
 use Rattle.zarrs_chunk_axes.specs.seen.RunsAxis.{run_edges_in, runs_dimension, runs_is_made}
 use Rattle.zarrs_chunks.specs.GridKinds.{GridKind, IsGridFault, grid_kind, grid_kinds, is_bounded, rectangular, rectilinear, regular, regular_bounded}
-use Rattle.zarrs_chunks.specs.seen.Grids.{HasMembers, HasMetadata, IsMadeBy, Say, grid_in, kind_in, sizes_in, rectangular_of, rectilinear_of, regular_bounded_of, regular_of}
+use Rattle.zarrs_chunks.specs.seen.Grids.{HasMembers, HasMetadata, IsMadeBy, Say, grid_in, kind_in, sizes_in, rectangular_of, rectilinear_of}
+use Rattle.zarrs_chunks.specs.seen.Grids.{regular_bounded_of, regular_of}
 use Rattle.zarrs_chunks.specs.declared.chunk_grid.named.ChunkGrid.{ChunkGrid}
 use Rattle.zarrs_chunks.specs.declared.chunk_grid.named.ChunkGrid.TheVariants.{Rectangular, Rectilinear, Regular, RegularBounded}
 use Rattle.zarrs_chunks.specs.declared.chunk_grid.rectangular.RectangularChunkGrid.{RectangularChunkGrid}
@@ -38,7 +39,8 @@ use Rattle.zarrs_chunks.proofs.WrittenLengths.{written_alike}
 
 -- ---- the dimensions are made of the array sizes and the edges
 
-pub regular_made : (grid : RegularChunkGrid) → InEach IsEqualOrListed (regular_of grid).dimensions (array_sizes (regular_of grid).dimensions) (regular_of grid).edges
+pub regular_made : (grid : RegularChunkGrid)
+    → InEach IsEqualOrListed (regular_of grid).dimensions (array_sizes (regular_of grid).dimensions) (regular_of grid).edges
 regular_made grid = made_of IsEqualOrListed equal_is_made grid.axes
 
 pub regular_bounded_made : (grid : RegularBoundedChunkGrid)
@@ -106,11 +108,13 @@ size_of : (d : Dimension) (size : ℕ) (edges : DimensionEdges) → IsEqualOrLis
 size_of d size (equal edge) is = is.array_size
 size_of d size (listed edges) is = is.array_size
 
-same_sizes : (kind : GridKind) (shape : List ℕ) (grid : Grid) (x : (grid_kind kind).Said) → (grid_kind kind).makes grid shape x → shape ≡ array_sizes grid.dimensions
+same_sizes : (kind : GridKind) (shape : List ℕ) (grid : Grid) (x : (grid_kind kind).Said) → (grid_kind kind).makes grid shape x
+    → shape ≡ array_sizes grid.dimensions
 same_sizes regular shape grid x made = numbers_are IsEqualEdges (λ d. d.array_size) (λ d n edge is. is.array_size) grid.dimensions shape x made.0
 same_sizes regular_bounded shape grid x made = numbers_are IsBounded (λ d. d.array_size) (λ d n edge is. is.array_size) grid.dimensions shape x made.0
 same_sizes rectangular shape grid x made = numbers_are IsEqualOrListed (λ d. d.array_size) size_of grid.dimensions shape x made.0
-same_sizes rectilinear shape grid x made = numbers_are IsEqualOrListed (λ d. d.array_size) size_of grid.dimensions shape (map edges_of_lengths x) made.0
+same_sizes rectilinear shape grid x made =
+    numbers_are IsEqualOrListed (λ d. d.array_size) size_of grid.dimensions shape (map edges_of_lengths x) made.0
 
 pub never_refused : (grid : ChunkGrid) (e : Extension) → HasMetadata grid e → (error : PluginCreateError) → ¬ IsGridFault e (sizes_in grid) error
 never_refused grid e is error = kinds.never_refused grid_kind grid_kinds found fits (kind_in grid) (sizes_in grid) (grid_in grid) e error is
@@ -124,7 +128,8 @@ pub record IsAgain (grid again : ChunkGrid) : Type 0 where
 pub is_again : (grid again : ChunkGrid) (e : Extension) → HasMetadata grid e → IsMadeBy e (sizes_in grid) again → IsAgain grid again
 is_again grid again e is made =
     let sizes = sizes_in grid in
-    let (same, (x, makes, remakes)) = kinds.made_again grid_kind grid_kinds found (kind_in grid) (kind_in again) sizes (grid_in grid) (grid_in again) e is made in
+    let (same, (x, makes, remakes)) =
+    kinds.made_again grid_kind grid_kinds found (kind_in grid) (kind_in again) sizes (grid_in grid) (grid_in again) e is made in
     let edges = same_edges (kind_in grid) sizes (grid_in grid) (grid_in again) x makes remakes in
     record {
       kind = sym same;
@@ -137,20 +142,23 @@ is_again grid again e is made =
 -- what the members say is what the grid was made of
 pub said_edges : (grid : RectilinearChunkGrid) (configuration : Members) (said : List EdgeLengths) → HasMembers grid configuration
     → Say configuration said
-    → AreRectilinear (array_sizes (rectilinear_of grid).dimensions) (map edges_of_lengths said) × ((rectilinear_of grid).edges ≡ map edges_of_lengths said)
+    → AreRectilinear (array_sizes (rectilinear_of grid).dimensions) (map edges_of_lengths said)
+    × ((rectilinear_of grid).edges ≡ map edges_of_lengths said)
 said_edges grid configuration said (x, accepted, made, form, written, is) says =
     let both : Some x ≡ Some said = sym is.1 ∙ says.1 in
     let same : x ≡ said = cc in
     let shape = array_sizes (rectilinear_of grid).dimensions in
     (subst (λ y. AreRectilinear shape (map edges_of_lengths y)) same accepted, made.1 ∙ ap (map edges_of_lengths) same)
 
-pub edges_again : (grid again : RectilinearChunkGrid) (configuration : Members) (said : List EdgeLengths) → HasMembers grid configuration → Say configuration said
-    → array_sizes (rectilinear_of again).dimensions ≡ array_sizes (rectilinear_of grid).dimensions → (rectilinear_of again).edges ≡ map edges_of_lengths said
-    → (rectilinear_of again).dimensions ≡ (rectilinear_of grid).dimensions
+pub edges_again : (grid again : RectilinearChunkGrid) (configuration : Members) (said : List EdgeLengths) → HasMembers grid configuration
+    → Say configuration said
+    → array_sizes (rectilinear_of again).dimensions ≡ array_sizes (rectilinear_of grid).dimensions
+    → (rectilinear_of again).edges ≡ map edges_of_lengths said → (rectilinear_of again).dimensions ≡ (rectilinear_of grid).dimensions
 edges_again grid again configuration said has says sizes edges =
     same_dimensions (Rectilinear again) (Rectilinear grid) refl sizes (edges ∙ sym (said_edges grid configuration said has says).1)
 
-pub configured_again : (grid again : RectilinearChunkGrid) (configuration others : Members) (said : List EdgeLengths) → HasMembers grid configuration → Say configuration said
-    → (rectilinear_of again).edges ≡ map edges_of_lengths said → HasMembers again others → others ≡ configuration
+pub configured_again : (grid again : RectilinearChunkGrid) (configuration others : Members) (said : List EdgeLengths) → HasMembers grid configuration
+    → Say configuration said → (rectilinear_of again).edges ≡ map edges_of_lengths said → HasMembers again others → others ≡ configuration
 configured_again grid again configuration others said has says edges also =
-    (written_alike _ _ (rectilinear_of again) (rectilinear_of grid) others configuration also has).1 (edges ∙ sym (said_edges grid configuration said has says).1)
+    (written_alike _ _ (rectilinear_of again) (rectilinear_of grid) others configuration also has).1
+    (edges ∙ sym (said_edges grid configuration said has says).1)

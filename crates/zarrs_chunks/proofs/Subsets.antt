@@ -1,5 +1,6 @@
 -- The box of a chunk, from its origin and its shape.
-use Rattle.std.proofs.Common.{◌≡◌, ℕ, zero, suc, ◌+◌, ◌<◌, ◌≤◌, List, [], ◌∷◌, length, Option, Some, None, MatchOption, Result, Ok, Err, inr, sym, subst, ◌∙◌, arith}
+use Rattle.std.proofs.Common.{◌≡◌, ℕ, zero, suc, ◌+◌, ◌<◌, ◌≤◌, List, [], ◌∷◌, length, Option, Some, None, MatchOption, Result, Ok, Err, inr, sym}
+use Rattle.std.proofs.Common.{subst, ◌∙◌, arith}
 use Rattle.std.specs.Prelude.{slice_index, MatchResult}
 use Rattle.std.specs.Result.{result_ok}
 use Rattle.zarrs_chunk_base.specs.declared.array_subset_error.ArraySubsetError.{ArraySubsetError}
@@ -26,7 +27,8 @@ pub is_chunk : (ds : List Dimension) (chunk origin : List ℕ) → IsOrigin ds c
 is_chunk = by_dimension StartsAt (λ ds chunk origin. IsChunk ds chunk) tt (λ d c o ds chunk origin here rest. (here.chunk, rest))
 
 -- a chunk ends as far behind its start as it is long
-pub is_end : (ds : List Dimension) (chunk origin shape : List ℕ) → IsOrigin ds chunk origin → IsShape ds chunk shape → IsEnd ds chunk (ends origin shape)
+pub is_end : (ds : List Dimension) (chunk origin shape : List ℕ) → IsOrigin ds chunk origin → IsShape ds chunk shape
+    → IsEnd ds chunk (ends origin shape)
 is_end =
     by_dimension_twice StartsAt HasEdge (λ ds chunk origin shape. IsEnd ds chunk (ends origin shape)) tt
     (λ d c o s ds chunk origin shape starts long rest.
@@ -43,8 +45,8 @@ pub no_chunk : (ds : List Dimension) (chunk : List ℕ) → (¬ IsChunk ds chunk
 no_chunk ds chunk none b spans = none (is_chunk ds chunk b.start spans.start)
 
 -- a chunk is as long as from its start to its end
-pub is_shape : (ds : List Dimension) (chunk origin shape : List ℕ) → length origin ≡ length shape → IsOrigin ds chunk origin → IsEnd ds chunk (ends origin shape)
-    → IsShape ds chunk shape
+pub is_shape : (ds : List Dimension) (chunk origin shape : List ℕ) → length origin ≡ length shape → IsOrigin ds chunk origin
+    → IsEnd ds chunk (ends origin shape) → IsShape ds chunk shape
 is_shape [] [] [] [] same starts ended = tt
 is_shape (d ∷ ds) (c ∷ chunk) (o ∷ origin) (s ∷ shape) same starts ended =
     let start = starts.0.start in
@@ -104,13 +106,16 @@ last_refused ds last chunks (Refused e) same agree refused = absurd (refused.0 s
 last_refused ds last chunks (Memory e) same agree refused = (agree, tt)
 
 -- a chunk whose end is past the greatest number has no box
-pub no_end : (ds : List Dimension) (chunk origin shape : List ℕ) → IsOrigin ds chunk origin → IsShape ds chunk shape → ¬ AllFit (ends origin shape) → HasNoBox ds chunk
+pub no_end : (ds : List Dimension) (chunk origin shape : List ℕ) → IsOrigin ds chunk origin → IsShape ds chunk shape
+    → ¬ AllFit (ends origin shape) → HasNoBox ds chunk
 no_end ds chunk origin shape starts long past b spans =
     past (subst AllFit (same_end ds chunk _ _ spans.end (is_end ds chunk origin shape starts long)) spans.is_box.fits)
 
 -- a box from where the first chunk starts to where the last one ends, or none where the last one has no box
-pub spans_or_none : (ds : List Dimension) (first last start origin shape : List ℕ) (chunks : Box) (made : Option Box) → length chunks.start ≡ length ds
-    → (¬ IsEmptyBox chunks) → chunks.start ≡ first → lasts chunks.start chunks.shape ≡ last → IsOrigin ds first start → IsOrigin ds last origin → IsShape ds last shape
+pub spans_or_none : (ds : List Dimension) (first last start origin shape : List ℕ) (chunks : Box) (made : Option Box)
+    → length chunks.start ≡ length ds
+    → (¬ IsEmptyBox chunks) → chunks.start ≡ first → lasts chunks.start chunks.shape ≡ last → IsOrigin ds first start
+    → IsOrigin ds last origin → IsShape ds last shape
     → MatchOption made (¬ AllFit (ends origin shape)) (λ b. IsBox b × (b.start ≡ start) × (ends b.start b.shape ≡ ends origin shape))
     → AnswersChunksSubset ds chunks (Ok made)
 spans_or_none ds first last start origin shape chunks (Some b) agree some is_first is_last starts last_starts long (is_box, at, end) = (

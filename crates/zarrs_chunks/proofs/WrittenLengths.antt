@@ -18,7 +18,8 @@ same_lengths (scalar edge) (varying others) form form' same = cc
 same_lengths (varying elements) (scalar other) form form' same = cc
 
 -- of all
-all_same : (xs ys : List EdgeLengths) → AllByRecursion IsWrittenLengths xs → AllByRecursion IsWrittenLengths ys → map edges_of_lengths xs ≡ map edges_of_lengths ys → xs ≡ ys
+all_same : (xs ys : List EdgeLengths) → AllByRecursion IsWrittenLengths xs → AllByRecursion IsWrittenLengths ys
+    → map edges_of_lengths xs ≡ map edges_of_lengths ys → xs ≡ ys
 all_same [] [] form form' same = refl
 all_same (x ∷ xs) (y ∷ ys) form form' same =
     let first : edges_of_lengths x ≡ edges_of_lengths y = cc in

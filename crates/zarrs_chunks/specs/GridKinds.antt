@@ -5,7 +5,8 @@ use Rattle.std.specs.Prelude.{◌≡◌, ℕ, Bool, true, false, List, [], ◌�
 use Rattle.std.specs.List.{AllByRecursion}
 use Rattle.zarrs_chunk_base.specs.DimensionEdges.{DimensionEdges, equal}
 use Rattle.zarrs_chunk_base.specs.Grid.{Grid}
-use Rattle.zarrs_chunk_base.specs.GridConfigurations.{rectangular_members, rectangular_table, rectangular_value, rectilinear_members, rectilinear_table, rectilinear_value, regular_members, regular_table, regular_value}
+use Rattle.zarrs_chunk_base.specs.GridConfigurations.{rectangular_members, rectangular_table, rectangular_value, rectilinear_members}
+use Rattle.zarrs_chunk_base.specs.GridConfigurations.{rectilinear_table, rectilinear_value, regular_members, regular_table, regular_value}
 use Rattle.zarrs_chunk_base.specs.Kinds.{IsFault, IsMade, Kind}
 use Rattle.zarrs_chunk_base.specs.Metadata.{Extension}
 use Rattle.zarrs_chunk_base.specs.RunLength.{EdgeLengths, IsWrittenLengths, edges_of_lengths}

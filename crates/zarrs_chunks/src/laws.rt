@@ -1,12 +1,13 @@
 //! What holds of every chunk grid and every encoding, whoever wrote them. It follows from the contracts of [`ChunkGridTraits`] and
 //! [`ChunkKeyEncodingTraits`] and from their laws: each dimension is a chain, and equal keys of equally long lists come from equal lists.
-//! The last five lines of the table are about the grids of this library; the very last is no law but the contract of a call.
+//! The last seven lines of the table are about the grids of this library; the very last is no law but the contract of a call.
 //!
 //! | What holds | The function whose contract says it |
 //! |---|---|
 //! | An index lies in a chunk's box exactly where `chunk_indices` names that chunk | [`chunk_indices_names_the_home`] |
 //! | Two chunks share no index | [`chunks_share_no_index`] |
-//! | The key and the place of an element determine its index | [`key_and_place_determine_the_index`]; of two answers of `locate` [`answers_of_locate_determine_the_index`] |
+//! | The key and the place of an element determine its index | [`key_and_place_determine_the_index`] |
+//! | So do the answers of `locate` | [`answers_of_locate_determine_the_index`] |
 //! | The cover of a box names exactly the chunks that meet it | [`the_cover_names_the_chunks_that_meet_a_box`] |
 //! | The box of a box of chunks is the union of their boxes | [`the_box_of_chunks_is_the_union_of_their_boxes`] |
 //! | The walk has each chunk below the grid shape once, in row-major order | [`the_walk_gives_each_chunk_once`] |
@@ -14,12 +15,14 @@
 //! | The walk over the chunks in a box gives each that lies in it once, in row-major order | [`the_walk_over_a_box_gives_each_chunk_once`] |
 //! | Each element of a box that has a cover lies in a chunk of the cover | [`each_element_of_a_box_lies_in_a_chunk_of_its_cover`] |
 //! | A chunk of a cover has an origin, also where it ends past 18446744073709551615 | [`a_chunk_of_a_cover_has_an_origin`] |
-//! | A chunk that is counted has a box exactly where it ends at 18446744073709551615 or before it; these are the boxes of the walks | [`the_boxes_of_a_walk_are_those_of_its_chunks`] |
-//! | A grid of run-length elements has the dimensions of one with the edges written out; two bounded grids of the same edges have the same | [`the_edges_determine_the_dimensions`] |
-//! | A bounded grid answers as its clipped edges, where no array size is 0 | [`a_bounded_dimension_is_that_of_its_edges`], [`grids_of_like_dimensions_answer_alike`] |
-//! | A [`ChunkGrid`] is made again of its metadata, a `rectilinear` grid also of its own configuration | [`a_grid_is_made_again_of_its_metadata`], [`a_rectilinear_grid_is_made_again_of_its_configuration`] |
+//! | A counted chunk has a box exactly where it ends by 18446744073709551615; walks give it | [`the_boxes_of_a_walk_are_those_of_its_chunks`] |
+//! | Grids of the same edges have the same dimensions, whether these are written out or in runs | [`the_edges_determine_the_dimensions`] |
+//! | A bounded dimension is that of its clipped edges, where the array has elements | [`a_bounded_dimension_is_that_of_its_edges`] |
+//! | Grids of like dimensions answer alike | [`grids_of_like_dimensions_answer_alike`] |
+//! | A [`ChunkGrid`] is made again of its metadata | [`a_grid_is_made_again_of_its_metadata`] |
+//! | A `rectilinear` grid is made again of its own configuration | [`a_rectilinear_grid_is_made_again_of_its_configuration`] |
 //! | `rectilinear` grids have equal configurations exactly where they have equal edges | [`equal_edges_are_written_alike`] |
-//! | A look-up in runs makes, over all dimensions, at most as many comparisons as the numbers of runs have binary digits | [`chunk_indices_counted`](crate::RectilinearChunkGrid::chunk_indices_counted) |
+//! | A look-up in runs makes at most as many comparisons as the numbers of runs have binary digits | `RectilinearChunkGrid::chunk_indices_counted` |
 ghost use Rattle.std.specs.Prelude.{◌≡◌, ◌≢◌, ◌↔◌, ◌⊎◌, ℕ, ◌<◌, IfOk, IfSome, IsTrue, List, Some, length, map, option_map};
 ghost use Rattle.std.specs.List.{AllPairs, Contains};
 ghost use Rattle.serde_json.specs.Data.{Members};

@@ -1,5 +1,6 @@
 -- How long the lists of answers are.
-use Rattle.std.proofs.Common.{◌≡◌, ◌∙◌, ℕ, suc, List, [], ◌∷◌, length, Option, Some, None, Ok, MatchOption, Bool, true, false, cond, refl, ap, subst, sym, ⊎_elim}
+use Rattle.std.proofs.Common.{◌≡◌, ◌∙◌, ℕ, suc, List, [], ◌∷◌, length, Option, Some, None, Ok, MatchOption, Bool, true, false, cond, refl, ap, subst}
+use Rattle.std.proofs.Common.{sym, ⊎_elim}
 use Rattle.std.proofs.lemmas.List.{length-replicate}
 use Rattle.zarrs_chunk_base.proofs.InEach.{length_numbers, length_values}
 use Rattle.zarrs_chunk_base.specs.ArraySubset.{Box}

@@ -1,5 +1,6 @@
 -- Lists of one length, one after another, and the answers of a batch.
-use Rattle.std.proofs.Common.{◌≡◌, ◌≢◌, ◌∙◌, ℕ, ◌+◌, ◌*◌, ◌<◌, ◌≤◌, Bool, true, false, List, length, cond, slice_index_or, slice_set, take, inl, inr, ⊎_elim, refl, ap, subst, sym, arith}
+use Rattle.std.proofs.Common.{◌≡◌, ◌≢◌, ◌∙◌, ℕ, ◌+◌, ◌*◌, ◌<◌, ◌≤◌, Bool, true, false, List, length, cond, slice_index_or, slice_set, take, inl, inr}
+use Rattle.std.proofs.Common.{⊎_elim, refl, ap, subst, sym, arith}
 use Rattle.std.proofs.lemmas.List.{drop-take, get_or-set_other, get_or-set_same}
 use Rattle.std.proofs.lemmas.Bool.{cases_lt}
 use Rattle.std.proofs.lemmas.Slice.{drop-put_mid, take-put_mid_below}
@@ -54,7 +55,8 @@ kept_one_more width number found before now after marks kept within none others 
       last le = ⊎_elim earlier
           (λ (from : number ≤ k).
           let at : number ≡ k = omega arith in
-          let own = subst (λ n. slice_index_or (slice_set marks number (cond found 1 0)) n 0 ≡ cond found 1 0) at (get_or-set_same marks number (cond found 1 0) 0 within) in
+          let own = subst (λ n. slice_index_or (slice_set marks number (cond found 1 0)) n 0 ≡ cond found 1 0) at
+          (get_or-set_same marks number (cond found 1 0) 0 within) in
           let is_none = unmarked found (sym own ∙ without (omega arith)) in
           ap (λ numbers. list_at width numbers k) (none is_none) ∙ kept k (λ less. absurd (omega arith)))
           (cases_lt k number)
@@ -75,7 +77,8 @@ module _ (Answer : ℕ → List ℕ → List ℕ → Type 0) (None : ℕ → Typ
       (λ (last : number ≤ k).
       let at : number ≡ k = omega arith in
       let own = get_or-set_same marks number mark 0 within in
-      subst (λ n. IsMarked (slice_index_or (slice_set marks number mark) n 0) (Answer n (list_at widths.0 first_after n) (list_at widths.1 second_after n)) (None n)) at (rw own is))
+      subst (λ n. IsMarked (slice_index_or (slice_set marks number mark) n 0)
+      (Answer n (list_at widths.0 first_after n) (list_at widths.1 second_after n)) (None n)) at (rw own is))
       (cases_lt k number)
 
 -- answers that say more

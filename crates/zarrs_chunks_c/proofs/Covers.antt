@@ -1,5 +1,6 @@
 -- The cover of any box, empty or not.
-use Rattle.std.proofs.Common.{◌≡◌, ◌≢◌, ◌⊎◌, List, [], ◌∷◌, length, Option, None, Some, Result, Ok, Err, IfOk, MatchOption, Bool, true, false, cond, inl, inr, refl, subst, arith}
+use Rattle.std.proofs.Common.{◌≡◌, ◌≢◌, ◌⊎◌, List, [], ◌∷◌, length, Option, None, Some, Result, Ok, Err, IfOk, MatchOption, Bool, true, false, cond}
+use Rattle.std.proofs.Common.{inl, inr, refl, subst, arith}
 use Rattle.zarrs_chunk_base.specs.ArraySubset.{Box, IsBox, IsEmptyBox}
 use Rattle.zarrs_chunk_base.specs.Dimension.{Dimension}
 use Rattle.zarrs_chunks.specs.Subsets.{AnswersCover, AnswersEmptyCover}
@@ -20,8 +21,10 @@ cover_of_any (d ∷ ds) b (Some cover) is_box empty answers =
     (λ some. (answers (inl some)).1, λ is_empty. empty is_empty (λ none. absurd (omega arith)))
 
 -- what holds of a box that may be there holds of the one that was left
-pub of_left : {X : Type 0} (result : Result Bool X) (found : Option Box) (left : Box) (None_holds : Type 0) (P : Box → Type 0) → MatchOption found None_holds P
-    → IfOk result (λ is_found. MatchOption found (is_found ≡ false) (λ b. (is_found ≡ true) × (b ≡ left))) → IfOk result (λ is_found. cond is_found (P left) None_holds)
+pub of_left : {X : Type 0} (result : Result Bool X) (found : Option Box) (left : Box) (None_holds : Type 0) (P : Box → Type 0)
+    → MatchOption found None_holds P
+    → IfOk result (λ is_found. MatchOption found (is_found ≡ false) (λ b. (is_found ≡ true) × (b ≡ left)))
+    → IfOk result (λ is_found. cond is_found (P left) None_holds)
 of_left (Err e) found left None_holds P holds told = tt
 of_left (Ok is_found) None left None_holds P holds told = rw told holds
 of_left (Ok is_found) (Some b) left None_holds P holds (is, same) = rw is (subst P same holds)

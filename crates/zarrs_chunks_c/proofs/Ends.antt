@@ -1,5 +1,6 @@
 -- How calls end.
-use Rattle.std.proofs.Common.{◌≡◌, ◌⊎◌, ℕ, ◌<◌, ◌≤◌, List, length, take, Result, Ok, Err, IfErr, IsOk, MatchResult, OnOk, inl, inr, ⊎_elim, subst, sym, arith}
+use Rattle.std.proofs.Common.{◌≡◌, ◌⊎◌, ℕ, ◌<◌, ◌≤◌, List, length, take, Result, Ok, Err, IfErr, IsOk, MatchResult, OnOk, inl, inr, ⊎_elim, subst}
+use Rattle.std.proofs.Common.{sym, arith}
 use Rattle.zarrs_chunks_c.specs.Batch.{IsTooLong, IsWhole}
 use Rattle.zarrs_chunks_c.specs.Calls.{Call, IsEndOf, early, late, no_metadata}
 use Rattle.zarrs_chunks_c.specs.Codes.{End}
@@ -32,7 +33,8 @@ memory_alone (Err fault) Refuses None refused = ⊎_elim (λ memory. inl memory)
 
 -- a text that was written, or is longer than its buffer
 module _ (P : List ℕ → Type 0) (text buffer : List ℕ) (needed : ℕ) (told : needed ≡ length text) (is : P text) where
-  pub is_whole : (end : End) → OnOk end (length text ≤ length buffer) → OnOk end (take (length text) buffer ≡ text) → OnOk end (IsWhole P buffer needed)
+  pub is_whole : (end : End) → OnOk end (length text ≤ length buffer) → OnOk end (take (length text) buffer ≡ text)
+      → OnOk end (IsWhole P buffer needed)
   is_whole (Ok _) fits written = (omega arith, subst P (sym (subst (λ n. take n buffer ≡ text) (sym told) written)) is)
   is_whole (Err _) fits written = tt
 

@@ -1,5 +1,6 @@
 -- Parts of a plan that were found, and what is written of them.
-use Rattle.std.proofs.Common.{◌≡◌, ◌≢◌, ◌⊎◌, ◌∙◌, ℕ, zero, suc, ◌+◌, ◌-◌, ◌<◌, ◌≤◌, List, [], ◌∷◌, Option, Some, None, Ok, Err, IfErr, MatchOption, OnOk, drop, get_or, length, min, take, inl, inr, ⊎_elim, refl, ap, subst, sym, arith}
+use Rattle.std.proofs.Common.{◌≡◌, ◌≢◌, ◌⊎◌, ◌∙◌, ℕ, zero, suc, ◌+◌, ◌-◌, ◌<◌, ◌≤◌, List, [], ◌∷◌, Option, Some, None, Ok, Err, IfErr, MatchOption}
+use Rattle.std.proofs.Common.{OnOk, drop, get_or, length, min, take, inl, inr, ⊎_elim, refl, ap, subst, sym, arith}
 use Rattle.std.proofs.lemmas.Bool.{cases_lt}
 use Rattle.std.proofs.lemmas.List.{get_or-drop, get_or-take, length-drop, length-take}
 use Rattle.std.proofs.lemmas.Option.{get_or_from_slice_get}
@@ -61,10 +62,12 @@ module _ (IsKey : List ℕ → List ℕ → Type 0) (first most : ℕ) where
 -- ---- what is written
 
 -- one part more
-pub written_more : (width number : ℕ) (parts : List Part) (part : Part) (chunks in_chunk in_subset shapes chunks' in_chunk' in_subset' shapes' : List ℕ)
+pub written_more : (width number : ℕ) (parts : List Part) (part : Part)
+    (chunks in_chunk in_subset shapes chunks' in_chunk' in_subset' shapes' : List ℕ)
     → AreWrittenBelow number width parts chunks in_chunk in_subset shapes → part ≡ get_or parts number part
     → IsWritten width part chunks' in_chunk' in_subset' shapes' number
-    → ((k : ℕ) → k < number → (p : Part) → IsWritten width p chunks in_chunk in_subset shapes k → IsWritten width p chunks' in_chunk' in_subset' shapes' k)
+    → ((k : ℕ) → k < number → (p : Part) → IsWritten width p chunks in_chunk in_subset shapes k
+    → IsWritten width p chunks' in_chunk' in_subset' shapes' k)
     → AreWrittenBelow (number + 1) width parts chunks' in_chunk' in_subset' shapes'
 written_more width number parts part chunks in_chunk in_subset shapes chunks' in_chunk' in_subset' shapes' before is here earlier k less p found =
     ⊎_elim (λ (below : k < number). earlier k below p (before k below p found))
@@ -94,9 +97,11 @@ module _ {X Y : Type 0} (R : X → Y → Type 0) where
   at_place (_ ∷ _) [] k are less = absurd are
 
 -- what is taken from a place on, by place
-taken_at : (xs : List (List ℕ)) (first count k : ℕ) (x : List ℕ) → k < count → slice_get (take count (drop first xs)) k ≡ Some x → get_or xs (first + k) [] ≡ x
+taken_at : (xs : List (List ℕ)) (first count k : ℕ) (x : List ℕ) → k < count → slice_get (take count (drop first xs)) k ≡ Some x
+    → get_or xs (first + k) [] ≡ x
 taken_at xs first count k x less found =
-    sym (get_or-drop first xs k []) ∙ sym (get_or-take count (drop first xs) k [] less) ∙ get_or_from_slice_get (take count (drop first xs)) k x [] found
+    sym (get_or-drop first xs k []) ∙ sym (get_or-take count (drop first xs) k [] less)
+    ∙ get_or_from_slice_get (take count (drop first xs)) k x [] found
 
 module _ (ds : List Dimension) (IsKey : List ℕ → List ℕ → Type 0) (subset : Box) where
   -- a part, of which these lists are written
@@ -133,7 +138,8 @@ module _ (ds : List Dimension) (IsKey : List ℕ → List ℕ → Type 0) (subse
 
     written_of_cover : (written : Written) → IsCoverOf ds subset cover
         → AreWrittenBelow (length parts) (length ds) parts written.chunks written.in_chunk written.in_subset written.shapes
-        → AreTexts (IsKeyOf parts) (length parts) written.keys written.offsets → ArePartsFrom ds IsKey subset first room some.in_all (length parts) written
+        → AreTexts (IsKeyOf parts) (length parts) written.keys written.offsets
+        → ArePartsFrom ds IsKey subset first room some.in_all (length parts) written
     written_of_cover written is_cover lists texts = record {
       cover = cover;
       is_cover = is_cover;

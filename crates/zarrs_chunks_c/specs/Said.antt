@@ -36,12 +36,14 @@ IsNoJson text fault = (fault ≡ NotJson) × ((tree : Data) → ¬ IsJsonOf text
 -- why a text isn't an extension's metadata: it is no JSON; or JSON of something else
 pub data IsTextFault (text : List ℕ) (fault : Fault) : Type 0 where
   not_json : IsNoJson text fault → IsTextFault text fault
-  not_metadata : (error : MetadataError) → fault ≡ NotMetadata error → (tree : Data) → IsJsonOf text tree → IsMetadataFault tree error → IsTextFault text fault
+  not_metadata : (error : MetadataError) → fault ≡ NotMetadata error → (tree : Data) → IsJsonOf text tree → IsMetadataFault tree error
+      → IsTextFault text fault
 
 -- why nothing is made of a text: it isn't an extension's metadata; or the extension is refused
 pub data IsSaidFault (IsRefused : Extension → PluginCreateError → Type 0) (text : List ℕ) (fault : Fault) : Type 0 where
   not_extension : IsTextFault text fault → IsSaidFault IsRefused text fault
-  not_made : (error : PluginCreateError) → fault ≡ NotMade error → (e : Extension) → SaysExtension text e → IsRefused e error → IsSaidFault IsRefused text fault
+  not_made : (error : PluginCreateError) → fault ≡ NotMade error → (e : Extension) → SaysExtension text e → IsRefused e error
+      → IsSaidFault IsRefused text fault
 
 -- why a text says no grid of an array of this shape
 abbrev pub IsNoGrid : List ℕ → List ℕ → Fault → Type 0

@@ -24,7 +24,8 @@ abbrev pub grid_of : {A : Type 0} {axis : Ghosts A} → AxisGrid A axis → Grid
 grid_of grid = record { dimensions = dimensions_of grid; edges = edges_of grid }
 
 -- they are chains, where the dimension of each axis is one
-pub chains_of : {A : Type 0} {axis : Ghosts A} → ((a : A) → IsChain (axis.dimension a)) → (grid : AxisGrid A axis) → AllByRecursion IsChain (dimensions_of grid)
+pub chains_of : {A : Type 0} {axis : Ghosts A} → ((a : A) → IsChain (axis.dimension a)) → (grid : AxisGrid A axis)
+    → AllByRecursion IsChain (dimensions_of grid)
 chains_of {A} {axis} chain grid = are_chains axis.dimension chain grid.axes.items
 
 -- and each is made of its array size and its edges

@@ -41,7 +41,8 @@ quotient_within a s i positive within =
 -- a number below the count has a chunk
 counted : (a s c : ℕ) → 0 < s → c < div_ceil a s → c * s < a
 counted a s c positive below =
-    ⊎_elim (λ h. h) (λ (reached : a ≤ c * s). absurd (let least : div_ceil a s ≤ c = ceil_least a s c positive reached in omega arith)) (cases_lt (c * s) a)
+    ⊎_elim (λ h. h)
+    (λ (reached : a ≤ c * s). absurd (let least : div_ceil a s ≤ c = ceil_least a s c positive reached in omega arith)) (cases_lt (c * s) a)
 
 pub bounded_is_chain : (axis : BoundedAxis) → IsChain (bounded_of axis)
 bounded_is_chain axis =

@@ -17,7 +17,8 @@ abbrev pub equal_or_edges : {A : Type 0} → (A → DimensionEdges) → EqualOr 
 equal_or_edges edges (Equal axis) = equal (non_zero_u64_get axis.edge)
 equal_or_edges edges (Other axis) = edges axis
 
-pub equal_or_is_chain : {A : Type 0} (dimension : A → Dimension) → ((axis : A) → IsChain (dimension axis)) → (axis : EqualOr A) → IsChain (equal_or dimension axis)
+pub equal_or_is_chain : {A : Type 0} (dimension : A → Dimension) → ((axis : A) → IsChain (dimension axis)) → (axis : EqualOr A)
+    → IsChain (equal_or dimension axis)
 equal_or_is_chain dimension chained (Equal axis) = equal_is_chain axis
 equal_or_is_chain dimension chained (Other axis) = chained axis
 

@@ -39,7 +39,8 @@ reached size edges i within =
     (c, counted, record { chunk = lt-ltb c (length edges) counted; from = from; below = rw add-one below })
 
 -- where no edge is 0 and they reach over the array, the dimension is a chain
-pub listed_from_is_chain : (size : ℕ) (edges : List ℕ) → ((c : ℕ) → c < length edges → 0 < get_or edges c 0) → size ≤ sum edges → IsChain (listed_from size edges)
+pub listed_from_is_chain : (size : ℕ) (edges : List ℕ) → ((c : ℕ) → c < length edges → 0 < get_or edges c 0) → size ≤ sum edges
+    → IsChain (listed_from size edges)
 listed_from_is_chain size edges positive covers =
     record {
       from_zero = λ _. refl;

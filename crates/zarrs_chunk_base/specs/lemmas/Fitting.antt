@@ -8,7 +8,8 @@ use Rattle.std.specs.List.{AllByRecursion}
 use Rattle.zarrs_chunk_base.specs.declared.chunk_key_separator.ChunkKeySeparator.{ChunkKeySeparator}
 use Rattle.zarrs_chunk_base.specs.declared.chunk_key_separator.ChunkKeySeparator.TheVariants.{Slash, Dot}
 use Rattle.zarrs_chunk_base.specs.DimensionEdges.{DimensionEdges}
-use Rattle.zarrs_chunk_base.specs.GridConfigurations.{dimension_edges_of, inline_in, lengths_in, rectangular_table, rectangular_value, rectilinear_table, rectilinear_value, regular_table, regular_value}
+use Rattle.zarrs_chunk_base.specs.GridConfigurations.{dimension_edges_of, inline_in, lengths_in, rectangular_table, rectangular_value}
+use Rattle.zarrs_chunk_base.specs.GridConfigurations.{rectilinear_table, rectilinear_value, regular_table, regular_value}
 use Rattle.zarrs_chunk_base.specs.Json.{edge_of, list_of}
 use Rattle.zarrs_chunk_base.specs.KeyConfigurations.{Suffixed, default_value, separator_in, separator_table, suffix_table, suffix_value, v2_value}
 use Rattle.zarrs_chunk_base.specs.RunLength.{EdgeLengths}
@@ -30,8 +31,8 @@ found_or_fits form None usual x is = refl
 found_or_fits form (Some d) usual x is = ap is_some is
 
 -- a member that may be absent
-optional_fits : {X : Type 0} (usual : X) (name : List ℕ) (form : Data → Option X) (members : Members) (x : X) → value_or usual name form members ≡ Some x
-    → IsFitting members (optional name form)
+optional_fits : {X : Type 0} (usual : X) (name : List ℕ) (form : Data → Option X) (members : Members) (x : X)
+    → value_or usual name form members ≡ Some x → IsFitting members (optional name form)
 optional_fits usual name form members x is = found_or_fits form (get_member name members) usual x is
 
 both_some : {X Y : Type 0} (first : Option X) (second : Option Y) (x : X) → option_and_then (λ v. option_map (λ _. v) second) first ≡ Some x
@@ -63,7 +64,8 @@ rectilinear_fits members x is =
     let both = both_fit (codes "chunk_shapes") (codes "kind") (list_of lengths_in) inline_in members x is in
     (both.0, (both.1, tt))
 
-pub default_fits : (members : Members) (x : ChunkKeySeparator) → default_value members ≡ Some x → AllByRecursion (IsFitting members) separator_table.members
+pub default_fits : (members : Members) (x : ChunkKeySeparator) → default_value members ≡ Some x
+    → AllByRecursion (IsFitting members) separator_table.members
 default_fits members x is = (optional_fits Slash (codes "separator") separator_in members x is, tt)
 
 pub v2_fits : (members : Members) (x : ChunkKeySeparator) → v2_value members ≡ Some x → AllByRecursion (IsFitting members) separator_table.members
@@ -79,5 +81,8 @@ pub suffix_fits : (members : Members) (x : Suffixed) → suffix_value members �
 suffix_fits members x is =
     let both = made_of_both (λ separator suffix. record { separator = separator; suffix = suffix }) (default_value members)
     (value_of (codes "suffix") as_str members) x is
-    in
-    (optional_fits Slash (codes "separator") separator_in members both.0.0 both.0.1, (required_fits (codes "suffix") as_str members both.1.0 both.1.1, tt))
+    in (
+      optional_fits Slash
+          (codes "separator") separator_in members both.0.0 both.0.1,
+      (required_fits (codes "suffix") as_str members both.1.0 both.1.1, tt),
+    )

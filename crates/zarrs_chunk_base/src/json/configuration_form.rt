@@ -2,7 +2,8 @@
 ghost use Rattle.std.specs.Prelude.{◌≡◌, IfOk, MatchResult, Option, Some, map};
 ghost use Rattle.serde_json.specs.Data.{Members};
 ghost use Rattle.serde_json.specs.View.{members_view};
-ghost use Rattle.zarrs_chunk_base.specs.Configuration.{Table, AreInOrder, HasRequired, IsConfiguration, IsConfigurationFault, IsFirstWrong, IsFitting, IsUnsupported, names_of, required_names_of};
+ghost use Rattle.zarrs_chunk_base.specs.Configuration.{Table, AreInOrder, HasRequired, IsConfiguration, IsConfigurationFault, IsFirstWrong};
+ghost use Rattle.zarrs_chunk_base.specs.Configuration.{IsFitting, IsUnsupported, names_of, required_names_of};
 ghost use Rattle.std.specs.List.{AllByRecursion};
 ghost use Rattle.zarrs_chunk_base.specs.Metadata.{configuration_of, extension_of};
 ghost use Rattle.zarrs_chunk_base.specs.Refusal.{OrMemory};

@@ -1,5 +1,6 @@
 //! The members of a configuration: those that aren't known, those that are missing, and their values.
-ghost use Rattle.std.specs.Prelude.{◌≡◌, ◌≢◌, ℕ, List, None, IsSome, bytes_eq, find, not, MatchOption, MatchResult, Some, map, option_map, string_bytes, string_cmp};
+ghost use Rattle.std.specs.Prelude.{◌≡◌, ◌≢◌, ℕ, List, None, IsSome, bytes_eq, find, not, MatchOption, MatchResult, Some, map, option_map};
+ghost use Rattle.std.specs.Prelude.{string_bytes, string_cmp};
 ghost use Rattle.std.specs.List.{AllByRecursion, list_any};
 ghost use Rattle.std.specs.BTreeMap.{keys, IsOrdered};
 ghost use Rattle.serde_json.specs.Find.{get, get_member};

@@ -1,5 +1,6 @@
 //! Values that a JSON tree may stand for: sizes, edges, texts, and lists of them.
-ghost use Rattle.std.specs.Prelude.{◌≡◌, ◌++◌, IfOk, List, OnOk, Option, Some, [], ◌∷◌, is_some, length, map, option_map, slice_index, string_bytes, take, unwrap_or, ℕ, OnErr, if◌then◌else◌, None};
+ghost use Rattle.std.specs.Prelude.{◌≡◌, ◌++◌, IfOk, List, OnOk, Option, Some, [], ◌∷◌, is_some, length, map, option_map, slice_index, string_bytes};
+ghost use Rattle.std.specs.Prelude.{take, unwrap_or, ℕ, OnErr, if◌then◌else◌, None};
 ghost use Rattle.std.specs.Int.NonZero.{non_zero_u64_get};
 ghost use Rattle.serde_json.specs.Data.{Data, string};
 ghost use Rattle.serde_json.specs.Find.{as_str};

@@ -55,7 +55,8 @@ IfGroup P None = Unit {0}
 
 -- `next` gives the group of the first chunk to come, and the others are to come then; nothing, at the end; or out of memory. The walk is
 -- over the same as before. Of a walk as `copies` makes one, it is what is copied into the chunk.
-pub record GivesCopies {G E H F : Type 0} (source_dimensions : G → List Dimension) (target_dimensions : H → List Dimension) (target_key : F → List ℕ → List ℕ → Type 0)
+pub record GivesCopies {G E H F : Type 0} (source_dimensions : G → List Dimension) (target_dimensions : H → List Dimension)
+    (target_key : F → List ℕ → List ℕ → Type 0)
     (before : Copies G E H F) (given : Option (Result (ChunkCopies G E) AllocError)) (after : Copies G E H F) : Type 0 where
   pub gives : Gives target_offsets targets_to_come (λ group. group.to.chunk.items) (λ offsets. offsets ≢ []) before given after
   pub to : CanCopy source_dimensions target_dimensions before
@@ -63,7 +64,8 @@ pub record GivesCopies {G E H F : Type 0} (source_dimensions : G → List Dimens
       group.to.chunk.items group.to) given
   pub from : CanCopy source_dimensions target_dimensions before
       → IfGroup (λ group. IsPlanned source_dimensions before.source.now before.source_encoding.now group.to.in_subset group.from) given
-  pub about : IsAboutCopies before.source.now before.source_encoding.now before.targets.grid.now before.targets.encoding.now before.targets.array_subset after
+  pub about : IsAboutCopies before.source.now before.source_encoding.now before.targets.grid.now before.targets.encoding.now
+      before.targets.array_subset after
   pub can : CanCopy source_dimensions target_dimensions before → CanCopy source_dimensions target_dimensions after
 
 -- groups, without where they lie in memory
@@ -71,8 +73,8 @@ abbrev pub groups_of : List (Part × Vec Part Global) → List Group
 groups_of = map (λ group. (group.0, group.1.items))
 
 -- the groups that the walk has to give: one for each chunk to come
-abbrev pub AreGroupsToCome : {G E H F : Type 0} → (G → List Dimension) → (E → List ℕ → List ℕ → Type 0) → (H → List Dimension) → (F → List ℕ → List ℕ → Type 0)
-    → Copies G E H F → List Group → Type 0
+abbrev pub AreGroupsToCome : {G E H F : Type 0} → (G → List Dimension) → (E → List ℕ → List ℕ → Type 0) → (H → List Dimension)
+    → (F → List ℕ → List ℕ → Type 0) → Copies G E H F → List Group → Type 0
 AreGroupsToCome source_dimensions source_key target_dimensions target_key walk =
     AllZip
     (AreCopiesInto (source_dimensions walk.source.now) (source_key walk.source_encoding.now) (target_dimensions walk.targets.grid.now)

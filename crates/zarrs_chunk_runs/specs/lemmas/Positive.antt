@@ -17,7 +17,13 @@ joined : (first rest : List ℕ) → ArePositive first → ArePositive rest → 
 joined first rest some others k within =
     ⊎_elim (λ (below : k < length first). omega (arith, get_or_append_left first rest 0 k below, some k below))
     (λ (past : length first ≤ k).
-    omega (arith, get_or-append_right first rest (length first) k 0 refl past, length-append first rest, others (k - length first) (omega (arith, length-append first rest))))
+    omega (
+      arith,
+      get_or-append_right first rest (length first) k 0 refl past,
+      length-append first rest,
+      others (k - length first)
+          (omega (arith, length-append first rest)),
+    ))
     (cases_lt k (length first))
 
 repeated : (count edge : ℕ) → 0 < edge → ArePositive (replicate count edge)
@@ -28,7 +34,8 @@ repeated count edge some k within =
 of_runs : (runs : List (NonZeroU64 × NonZeroU64)) → ArePositive (edges_of_runs (map run_of runs))
 of_runs [] = λ k within. absurd (omega arith)
 of_runs (run ∷ runs) =
-    joined (edges_of_run (run_of run)) (edges_of_runs (map run_of runs)) (repeated (non_zero_u64_get run.1) (non_zero_u64_get run.0) run.0.ok) (of_runs runs)
+    joined (edges_of_run (run_of run)) (edges_of_runs (map run_of runs))
+    (repeated (non_zero_u64_get run.1) (non_zero_u64_get run.0) run.0.ok) (of_runs runs)
 
 pub edges_are_positive : (edges : RunEdges) (c : ℕ) → c < length (expanded edges) → 0 < get_or (expanded edges) c 0
 edges_are_positive edges = of_runs edges.runs.items

@@ -15,7 +15,7 @@
 //!
 //! | | |
 //! |---|---|
-//! | Standard | the extension [rectilinear](https://github.com/zarr-developers/zarr-extensions/tree/main/chunk-grids/rectilinear) of zarr-extensions |
+//! | Standard | the extension [rectilinear](https://github.com/zarr-developers/zarr-extensions/tree/main/chunk-grids/rectilinear) |
 //! | Configuration | `kind`, the text `inline`, and `chunk_shapes`, an item a dimension: one edge, or a list of edges and of pairs `[edge, count]` |
 //! | Accepted | as many items as dimensions; a list isn't empty, and its sum is at least the array size and at most 18446744073709551615 |
 //! | Chunks | of one edge: every number; of a list: one for each edge, and each is counted |

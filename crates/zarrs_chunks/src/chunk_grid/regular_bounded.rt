@@ -16,7 +16,7 @@
 //!
 //! | | |
 //! |---|---|
-//! | Standard | none: an experimental extension, [regular_bounded](https://chunkgrid.zarrs.dev/regular_bounded), after the regular grid of Zarr V3 core |
+//! | Standard | none: the experimental [regular_bounded](https://chunkgrid.zarrs.dev/regular_bounded), after the regular grid of Zarr V3 core |
 //! | Configuration | `chunk_shape`, a list of edges: one a dimension, from 1 on |
 //! | Accepted | array shape and chunk shape have the same number of dimensions |
 //! | Chunks | those that hold some element of the array; the last one ends where the array does |

@@ -15,7 +15,8 @@ loop-part-init g c =
     let begin = c.into_iter-part-iterator.result in
     let meet = rw c.in-Some.is at c.in_ok-walk.ensures.meet in (
       [],
-      at_first dimensions is_key begin begin [] refl refl (subst (MeetSubset dimensions) (sym c.into_iter-part-iterator.ensures.into_iter_gives) meet),
+      at_first dimensions is_key begin begin [] refl refl
+          (subst (MeetSubset dimensions) (sym c.into_iter-part-iterator.ensures.into_iter_gives) meet),
       subst (AllZip (IsRead (g.S.ChunkStore.answers c.args.store.now)) []) (sym c.new-pieces.ensures.items) tt,
     )
 
@@ -27,7 +28,8 @@ loop-part-preserved g c =
     let gives = rw c.in_ok-part.was at c.in-Some-part.ensures.steps in
     let IsOne = IsRead (g.S.ChunkStore.answers c.args.store.now) in (
       more,
-      one_more g.G.ChunkGridTraits.dimensions g.E.ChunkKeyEncodingTraits.is_key c.into_iter-part-iterator.result c.loop-part.part-iterator c.next.new.self part
+      one_more g.G.ChunkGridTraits.dimensions g.E.ChunkKeyEncodingTraits.is_key c.into_iter-part-iterator.result
+          c.loop-part.part-iterator c.next.new.self part
           came more have gives refl,
       subst (AllZip IsOne more) (sym c.in_ok-push.ensures.items)
           (all_zipped_more IsOne came c.loop-part.pieces.items part c.in_ok-read_part.field-0 are c.in_ok-read_part.ensures),
@@ -42,7 +44,8 @@ returns-clause-empty g c = λ is_empty some.
     let none = rw c.in-Some.is at (c.in_ok-walk.ensures.empty is_empty some) in
     let parts = at_last dimensions is_key begin c.loop-part.part-iterator c.next.new.self came have c.in-None.ensures.steps in
     no_parts (IsRead (g.S.ChunkStore.answers c.args.store.now)) came c.loop-part.pieces.items
-    (no_parts (IsPartOf dimensions is_key begin) (chunks_to_come begin) came (ap chunks_to_come c.into_iter-part-iterator.ensures.into_iter_gives ∙ none) parts) are
+    (no_parts (IsPartOf dimensions is_key begin) (chunks_to_come begin) came
+    (ap chunks_to_come c.into_iter-part-iterator.ensures.into_iter_gives ∙ none) parts) are
 
 pub returns-clause-answers : goal.returns-clause-answers
 returns-clause-answers g c = λ some.
@@ -59,7 +62,8 @@ returns-clause-answers g c = λ some.
     let parts = at_last dimensions is_key begin c.loop-part.part-iterator c.next.new.self came have c.in-None.ensures.steps in
     let plan = plan_of dimensions is_key grid encoding subset cover begin came about is (ap chunks_to_come same ∙ left) parts in (
       lengths,
-      λ array stored. are_pieces (dimensions grid) (is_key encoding) subset (g.S.ChunkStore.answers c.args.store.now) array came c.loop-part.pieces.items
+      λ array stored. are_pieces (dimensions grid) (is_key encoding) subset
+          (g.S.ChunkStore.answers c.args.store.now) array came c.loop-part.pieces.items
           c.each_element_lies_in_one_part.ensures.place stored (c.the_parts_tile_the_box.ensures.all came plan)
           (c.the_parts_tile_the_box.ensures.apart came plan) plan are,
     )

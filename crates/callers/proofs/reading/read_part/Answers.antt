@@ -9,7 +9,8 @@ pub loop-place-init : goal.loop-place-init
 loop-place-init g c =
     let answers = g.S.ChunkStore.answers c.args.store.now c.args.part.key in (
       [],
-      ap chunks_in (sym c.in_ok-clone.ensures) ∙ sym c.in_ok-place-items.ensures ∙ ap chunks_in_left (sym c.into_iter-place-iterator.ensures.into_iter_gives),
+      ap chunks_in (sym c.in_ok-clone.ensures) ∙ sym c.in_ok-place-items.ensures
+          ∙ ap chunks_in_left (sym c.into_iter-place-iterator.ensures.into_iter_gives),
       subst (AllZip answers []) (sym c.new-elements.ensures.items) tt,
     )
 
@@ -34,5 +35,8 @@ loop-place-preserved-in_ok-push g c =
 pub returns : goal.returns
 returns g c =
     let answers = g.S.ChunkStore.answers c.args.store.now c.args.part.key in
-    let (came, all, are) = c.loop-place.invariant in
-    (refl, subst (λ places. AllZip answers places c.loop-place.elements.items) (sym (all ∙ ap (λ xs. came ++ xs) c.in-None.ensures.steps.0 ∙ append-nil came)) are)
+    let (came, all, are) = c.loop-place.invariant in (
+      refl,
+      subst (λ places. AllZip answers places c.loop-place.elements.items)
+          (sym (all ∙ ap (λ xs. came ++ xs) c.in-None.ensures.steps.0 ∙ append-nil came)) are,
+    )

@@ -5,7 +5,8 @@ use Rattle.zarrs_chunk_axes.proofs.Passing.{none_after, one_passed, raised_below
 use Rattle.zarrs_chunk_axes.proofs.row_major.advance.Goals as goal
 
 abbrev Stepped : Bool → List ℕ → List ℕ → List ℕ → Type 0
-Stepped found shape old new = MatchBool found ((k : ℕ) × IsRaisable shape old (length shape) k × (new ≡ raised k old)) (AreFull shape old 0 (length shape))
+Stepped found shape old new =
+    MatchBool found ((k : ℕ) × IsRaisable shape old (length shape) k × (new ≡ raised k old)) (AreFull shape old 0 (length shape))
 
 below : (found : Bool) (shape old new : List ℕ) → AreBelow shape old → Stepped found shape old new → IsTrue found → AreBelow shape new
 below true shape old new low (k, is, same) found = subst (AreBelow shape) (sym same) (raised_below shape old k low is.below)

@@ -25,7 +25,9 @@ returns-in-Some-clause-below c =
 
 pub returns-in-Some-clause-passed : goal.returns-in-Some-clause-passed
 returns-in-Some-clause-passed c =
-    passed c.raise_last.result c.args.shape.now c.in-Some.place c.args.numbers.now c.raise_last.new.numbers (search rules) (search rules) (search rules)
+    passed c.raise_last.result c.args.shape.now c.in-Some.place c.args.numbers.now c.raise_last.new.numbers (search rules)
+    (search rules) (search rules)
 
 pub returns-in-None-clause-passed : goal.returns-in-None-clause-passed
-returns-in-None-clause-passed c = all_passed c.args.shape.now c.args.numbers.now 0 (search rules) (λ k first last. absurd (omega arith)) (search rules)
+returns-in-None-clause-passed c =
+    all_passed c.args.shape.now c.args.numbers.now 0 (search rules) (λ k first last. absurd (omega arith)) (search rules)

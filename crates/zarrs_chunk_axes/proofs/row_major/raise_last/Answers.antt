@@ -1,5 +1,6 @@
 use borrow.Rule.Slice.PartMut.{put_mid}
-use Rattle.std.proofs.Common.{◌≡◌, ℕ, zero, suc, ◌+◌, ◌-◌, List, [], ◌∷◌, ◌++◌, drop, get_or, length, length-set, map, replicate, set, take, length-take, length-drop, add-one, append-nil, ap, refl, ◌∙◌, arith, rules}
+use Rattle.std.proofs.Common.{◌≡◌, ℕ, zero, suc, ◌+◌, ◌-◌, List, [], ◌∷◌, ◌++◌, drop, get_or, length, length-set, map, replicate, set, take}
+use Rattle.std.proofs.Common.{length-take, length-drop, add-one, append-nil, ap, refl, ◌∙◌, arith, rules}
 use Rattle.std.proofs.lemmas.List.{drop_all}
 use Rattle.zarrs_chunk_axes.specs.seen.Counting.{IsRaisable, raised}
 use Rattle.zarrs_chunk_axes.proofs.row_major.raise_last.Goals as goal
@@ -26,8 +27,10 @@ returns c =
     let changed = set numbers k (get_or numbers k 0 + 1) in
     let count = length changed - (k + 1) in
     let same : length changed ≡ length numbers = length-set numbers k (get_or numbers k 0 + 1) in
-    let one_filled : put_mid (suc k) count changed (replicate {A = ℕ} count 0) ≡ raised k numbers = filled numbers k count (omega (arith, is.before)) in
-    let long : length (take count (drop (k + 1) changed)) ≡ count = omega (arith, length-take count (drop (k + 1) changed), length-drop (k + 1) changed) in
+    let one_filled : put_mid (suc k) count changed (replicate {A = ℕ} count 0) ≡ raised k numbers =
+    filled numbers k count (omega (arith, is.before)) in
+    let long : length (take count (drop (k + 1) changed)) ≡ count =
+    omega (arith, length-take count (drop (k + 1) changed), length-drop (k + 1) changed) in
     let zeros : c.fill.new.self ≡ replicate {A = ℕ} count 0 = c.fill.ensures.after (λ y same. same) ∙ ap (λ m. replicate {A = ℕ} m 0) long in (
       k,
       is,

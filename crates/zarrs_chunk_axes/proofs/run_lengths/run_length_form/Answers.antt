@@ -28,4 +28,5 @@ returns-clause-edges c =
 pub returns-clause-form : goal.returns-clause-form
 returns-clause-form c =
     in_form (runs_of c.args.edges.now) _ c.loop-edge.invariant
-    (omega (arith, c.in_default.ensures, c.len.ensures, length-map c.loop-edge.elements.items element_of)) (c.neighbours_differ.ensures c.args.edges.now)
+    (omega (arith, c.in_default.ensures, c.len.ensures, length-map c.loop-edge.elements.items element_of))
+    (c.neighbours_differ.ensures c.args.edges.now)

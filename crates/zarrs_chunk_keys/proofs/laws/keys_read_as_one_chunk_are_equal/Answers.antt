@@ -9,4 +9,5 @@ returns-clause-equal c = λ chunk one other.
     let encoding = encoding_in c.args.encoding.now in
     one_key encoding chunk c.args.one.now c.args.other.now
     (has_key (λ chunk. IsKey encoding chunk c.args.one.now) c.args.dimensionality c.in_ok-chunk.chunk chunk c.in_ok-chunk.ensures one)
-    (has_key (λ chunk. IsKey encoding chunk c.args.other.now) c.args.dimensionality c.in_ok-other_chunk.other_chunk chunk c.in_ok-other_chunk.ensures other)
+    (has_key (λ chunk. IsKey encoding chunk c.args.other.now) c.args.dimensionality c.in_ok-other_chunk.other_chunk chunk
+    c.in_ok-other_chunk.ensures other)

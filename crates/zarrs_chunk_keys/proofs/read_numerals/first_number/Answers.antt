@@ -10,7 +10,8 @@ pub returns-in_err-number : goal.returns-in_err-number
 returns-in_err-number c =
     rw c.from_residual-in_err-number.ensures
     (λ n numeral rest fits is same ends.
-    let (d, small, first) = begins_text n c.in_ok-first.first.now c.in_ok-first.others.now numeral rest is (sym c.in_ok-first.ensures.cases.0 ∙ same) in
+    let (d, small, first) =
+    begins_text n c.in_ok-first.first.now c.in_ok-first.others.now numeral rest is (sym c.in_ok-first.ensures.cases.0 ∙ same) in
     c.in_err-number.ensures d small first)
 
 pub loop-i-init : goal.loop-i-init
@@ -44,7 +45,8 @@ returns-then-number-eq0 c = λ n numeral rest fits is same ends.
     let text = c.args.text.now in
     let within : i < length others = omega arith in
     let cut = cut_before text c.in_ok-first.first.now others i c.in_ok-first.ensures.cases.0 within in
-    zero_ends c.args.separator c.loop-i.number n (get_or others i 0) (take (i + 1) text) (drop (suc i) others) numeral rest c.requires c.if-byte-separator.false
+    zero_ends c.args.separator c.loop-i.number n (get_or others i 0) (take (i + 1) text)
+    (drop (suc i) others) numeral rest c.requires c.if-byte-separator.false
     c.loop-i.invariant.is_numeral c.if-number-eq0.true is (sym cut ∙ same) ends
 
 pub returns-in_err-number-2 : goal.returns-in_err-number-2
@@ -56,7 +58,8 @@ returns-in_err-number-2 c =
     let text = c.args.text.now in
     let within : i < length others = omega arith in
     let cut = cut_before text c.in_ok-first.first.now others i c.in_ok-first.ensures.cases.0 within in
-    let (d, small, is_digit, least) = further c.args.separator c.loop-i.number n (get_or others i 0) (take (i + 1) text) (drop (suc i) others) numeral rest c.requires
+    let (d, small, is_digit, least) =
+    further c.args.separator c.loop-i.number n (get_or others i 0) (take (i + 1) text) (drop (suc i) others) numeral rest c.requires
     c.if-byte-separator.false c.loop-i.invariant.is_numeral is (sym cut ∙ same) ends
     in
     let past = c.in_err-number-2.ensures d small is_digit in

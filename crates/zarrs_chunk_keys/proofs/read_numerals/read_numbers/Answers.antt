@@ -18,10 +18,13 @@ returns-then-count-text c = λ numbers fit lengths are.
 
 pub returns-in_default : goal.returns-in_default
 returns-in_default c = λ numbers fit lengths are.
-    let none = subst (λ x. (n : ℕ) (numeral behind : List ℕ) → n ≤ greatest → IsNumeral n numeral → c.loop-rest.rest.now ≡ numeral ++ behind → ¬ EndsBefore x behind)
+    let none = subst
+    (λ x. (n : ℕ) (numeral behind : List ℕ) → n ≤ greatest → IsNumeral n numeral → c.loop-rest.rest.now ≡ numeral ++ behind
+    → ¬ EndsBefore x behind)
     c.as_char-byte.ensures c.in_default.ensures
     in
-    none_reads (separator_byte c.args.separator) c.args.text.now c.loop-rest.rest.now c.loop-rest.numbers.items numbers c.loop-rest.invariant.read none fit are
+    none_reads (separator_byte c.args.separator) c.args.text.now c.loop-rest.rest.now c.loop-rest.numbers.items numbers
+    c.loop-rest.invariant.read none fit are
 
 pub returns-in_default-split_first : goal.returns-in_default-split_first
 returns-in_default-split_first c =
@@ -64,7 +67,8 @@ loop-rest-preserved c =
     let counted = c.len.ensures in
     record {
       fit = rw c.push_reserved.ensures.items (fit_pushed numbers n c.loop-rest.invariant.fit fits);
-      read = one_read b n c.args.text.now rest numeral others numbers c.push_reserved.new.self.items (low c.args.separator) c.loop-rest.invariant.read is behind
+      read = one_read b n c.args.text.now rest numeral others numbers c.push_reserved.new.self.items
+          (low c.args.separator) c.loop-rest.invariant.read is behind
           c.push_reserved.ensures.items;
       within = omega arith;
       room = let capacity = c.push_reserved.ensures.capacity in let room = c.loop-rest.invariant.room in omega arith;

@@ -25,4 +25,5 @@ returns-in_default c =
 pub returns-then-first-as_char : goal.returns-then-first-as_char
 returns-then-first-as_char c = λ numbers fit lengths are.
     c.if-first-as_char.true
-    (begins_with (separator_byte c.args.separator) numbers c.args.text.now c.in-Some.first.now c.in-Some.numerals.now c.in-Some.ensures.cases.0 are ∙ sym c.as_char.ensures)
+    (begins_with (separator_byte c.args.separator) numbers c.args.text.now c.in-Some.first.now c.in-Some.numerals.now c.in-Some.ensures.cases.0 are
+    ∙ sym c.as_char.ensures)

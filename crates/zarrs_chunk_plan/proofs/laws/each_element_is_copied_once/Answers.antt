@@ -5,7 +5,8 @@ pub returns-clause-one : goal.returns-clause-one
 returns-clause-one g c = some_copy _ _ _ _ (g.met.G.ChunkGridTraits.chained c.args.source.now)
 
 pub returns-clause-no_other : goal.returns-clause-no_other
-returns-clause-no_other g c = no_other_copy _ _ _ _ (g.met.G.ChunkGridTraits.chained c.args.source.now) (g.met.H.ChunkGridTraits.chained c.args.target.now)
+returns-clause-no_other g c =
+    no_other_copy _ _ _ _ (g.met.G.ChunkGridTraits.chained c.args.source.now) (g.met.H.ChunkGridTraits.chained c.args.target.now)
 
 pub returns-clause-nothing_else : goal.returns-clause-nothing_else
 returns-clause-nothing_else g c = moves_elements _ _ _ _

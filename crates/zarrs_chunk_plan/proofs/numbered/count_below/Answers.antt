@@ -11,7 +11,8 @@ loop-size-init c = refl
 
 pub loop-size-preserved : goal.loop-size-preserved
 loop-size-preserved c =
-    c.saturating_mul-count.ensures ∙ counted_more c.args.shape.now c.loop-size.size-index c.loop-size.count greatest c.loop-size-test.true c.loop-size.invariant
+    c.saturating_mul-count.ensures
+    ∙ counted_more c.args.shape.now c.loop-size.size-index c.loop-size.count greatest c.loop-size-test.true c.loop-size.invariant
 
 pub returns : goal.returns
 returns c =

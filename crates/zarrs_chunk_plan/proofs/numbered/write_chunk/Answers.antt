@@ -34,7 +34,8 @@ loop-dimension-preserved c =
     let before = c.loop-dimension.dimension - 1 in
     let is : c.loop-dimension.dimension ≡ before + 1 = omega arith in
     numbered_more c.args.start.now c.args.shape.now c.args.number before c.loop-dimension.rest c.loop-dimension.chunk
-    (subst (λ d. IsNumbered c.args.start.now c.args.shape.now c.args.number d c.loop-dimension.rest c.loop-dimension.chunk) is c.loop-dimension.invariant)
+    (subst (λ d. IsNumbered c.args.start.now c.args.shape.now c.args.number d c.loop-dimension.rest c.loop-dimension.chunk) is
+    c.loop-dimension.invariant)
     c.requires.is_box.lengths (omega arith)
     (some_size c.args.shape.now before (omega arith) (omega arith))
 
@@ -43,4 +44,5 @@ returns c =
     let lists = as_many c.args.start.now c.args.shape.now in
     let ended : c.loop-dimension.dimension ≡ 0 = omega arith in
     numbered_all c.args.start.now c.args.shape.now c.args.number c.loop-dimension.rest c.loop-dimension.chunk (omega arith)
-    (subst (λ d. IsNumbered c.args.start.now c.args.shape.now c.args.number d c.loop-dimension.rest c.loop-dimension.chunk) ended c.loop-dimension.invariant)
+    (subst (λ d. IsNumbered c.args.start.now c.args.shape.now c.args.number d c.loop-dimension.rest c.loop-dimension.chunk) ended
+    c.loop-dimension.invariant)

@@ -14,6 +14,7 @@ returns c =
     let others = YieldsList-from_zip {s = c.zip-others.result} (YieldsList-from_slice other.start (cc)) (YieldsList-from_slice other.shape (cc)) in
     let both = YieldsList-from_zip {s = c.zip.result} (YieldsList-at c.zip.ensures.first pairs) (YieldsList-at c.zip.ensures.second others) in
     let h = items_from_extend c.extend.result c.extend.ensures.ran
-    (YieldsList-from_map _ (λ p. min (p.0.0 + p.0.1) (min (p.1.0 + p.1.1) greatest) - max p.0.0 p.1.0) (YieldsList-at c.map.ensures.source both) c.map.ensures.closure (λ x r q k. search (rules, tests))) in
+    (YieldsList-from_map _ (λ p. min (p.0.0 + p.0.1) (min (p.1.0 + p.1.1) greatest) - max p.0.0 p.1.0)
+    (YieldsList-at c.map.ensures.source both) c.map.ensures.closure (λ x r q k. search (rules, tests))) in
     let e : c.extend.new.self.items ≡ shared_sizes one.start one.shape other.start other.shape = search rules in
     e

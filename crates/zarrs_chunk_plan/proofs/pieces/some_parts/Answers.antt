@@ -10,7 +10,8 @@ use Rattle.zarrs_chunk_plan.proofs.pieces.some_parts.Goals as goal
 pub parts_between-requires-clause-meet : goal.parts_between-requires-clause-meet
 parts_between-requires-clause-meet g c =
     covered_meet (g.G.ChunkGridTraits.dimensions c.args.grid.now) c.args.array_subset.now c.in-Some.cover c.start-start.ensures.is_box
-    (rw c.in-Some.is at c.in_ok-cover.ensures.empty) (rw c.in-Some.is at c.in_ok-cover.ensures.answers) (rw c.in-Some.is at c.in_ok-cover.ensures.cover)
+    (rw c.in-Some.is at c.in_ok-cover.ensures.empty) (rw c.in-Some.is at c.in_ok-cover.ensures.answers)
+    (rw c.in-Some.is at c.in_ok-cover.ensures.cover)
 
 pub returns-clause-answers : goal.returns-clause-answers
 returns-clause-answers g c = λ some.
@@ -18,7 +19,8 @@ returns-clause-answers g c = λ some.
     let IsKey = g.E.ChunkKeyEncodingTraits.is_key c.args.encoding.now in
     let cover = c.in-Some.cover in
     let (same, is) = rw c.in-Some.is at (c.in_ok-cover.ensures.answers some) in
-    let counted : c.count_below-in_all.result ≡ min (length (row_major cover.shape)) greatest = rw c.shape.ensures.value at c.count_below-in_all.ensures in
+    let counted : c.count_below-in_all.result ≡ min (length (row_major cover.shape)) greatest =
+    rw c.shape.ensures.value at c.count_below-in_all.ensures in
     let ends : c.min-end.result ≡ min (min (c.args.first + c.args.most) greatest) c.count_below-in_all.result = omega arith in (
       same,
       (
@@ -35,7 +37,8 @@ returns-clause-empty g c = λ empty some.
     let IsKey = g.E.ChunkKeyEncodingTraits.is_key c.args.encoding.now in
     let cover = c.in-Some.cover in
     let none : chunks_in cover ≡ [] = ap chunks_in (rw c.in-Some.is at (c.in_ok-cover.ensures.empty empty some)) ∙ none_in_zeros _ some in
-    let counted : c.count_below-in_all.result ≡ min (length (row_major cover.shape)) greatest = rw c.shape.ensures.value at c.count_below-in_all.ensures in
+    let counted : c.count_below-in_all.result ≡ min (length (row_major cover.shape)) greatest =
+    rw c.shape.ensures.value at c.count_below-in_all.ensures in
     let ends : c.min-end.result ≡ min (min (c.args.first + c.args.most) greatest) c.count_below-in_all.result = omega arith in
     let found : SomeParts = record { in_all = c.count_below-in_all.result; parts = c.in_ok-parts.parts } in
     none_of_plan ds IsKey c.args.array_subset.now cover c.args.first c.args.most found

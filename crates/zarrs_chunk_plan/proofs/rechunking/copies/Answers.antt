@@ -15,8 +15,10 @@ returns-clause-targets g c =
     let named = c.in_ok-written.ensures.named in (
       c.in_ok-wanted.wanted,
       c.in_ok-wanted.ensures.is_box,
-      λ chunk.
-          (λ inside. (((both chunk).0 inside).1, (named chunk).0 ((both chunk).0 inside).0), λ (wanted, meets). (both chunk).1 ((named chunk).1 meets, wanted)),
+      λ chunk. (
+        λ inside. (((both chunk).0 inside).1, (named chunk).0 ((both chunk).0 inside).0),
+        λ (wanted, meets). (both chunk).1 ((named chunk).1 meets, wanted),
+      ),
       ap chunks_to_come c.new-3.ensures.targets ∙ c.in_ok-targets.ensures.left,
     )
 
@@ -29,6 +31,7 @@ returns-clause-can_copy g c =
     (λ chunk has. (named chunk).0 ((both chunk).0 ((are_those_inside c.in_ok-wanted.wanted c.in_ok-wanted.ensures.is_box chunk).0 has)).0)
     in
     let one : array_sizes (g.G.ChunkGridTraits.dimensions c.args.source.now) ≡ array_sizes ds = search rules in
-    can_copy g.G.ChunkGridTraits.dimensions g.H.ChunkGridTraits.dimensions c.args.source.now c.args.target.now c.args.target_encoding.now c.new-3.result
+    can_copy g.G.ChunkGridTraits.dimensions g.H.ChunkGridTraits.dimensions c.args.source.now c.args.target.now
+    c.args.target_encoding.now c.new-3.result
     c.in_ok-targets.targets c.in_ok-wanted.wanted c.new-3.ensures.same_source c.new-3.ensures.targets
     (rw c.in_ok-array.ensures.elements at c.in_ok-targets.ensures.about) c.in_ok-targets.ensures.left one meet

@@ -19,13 +19,15 @@ of_numbers (o ∷ origin) (edge ∷ edges) (other ∷ others) =
 
 pub returns : goal.returns
 returns c =
-    let pairs = YieldsList-from_zip {s = c.zip-ranges.result} (YieldsList-from_slice c.args.origin.now (cc)) (YieldsList-from_slice c.args.edges.now (cc)) in
+    let pairs = YieldsList-from_zip {s = c.zip-ranges.result} (YieldsList-from_slice c.args.origin.now (cc))
+    (YieldsList-from_slice c.args.edges.now (cc)) in
     let start = c.args.array_subset.now.start in
     let shape = c.args.array_subset.now.shape in
     let others = YieldsList-from_zip {s = c.zip-others.result} (YieldsList-from_slice start (cc)) (YieldsList-from_slice shape (cc)) in
     let both = YieldsList-from_zip {s = c.zip.result} (YieldsList-at c.zip.ensures.first pairs) (YieldsList-at c.zip.ensures.second others) in
     let h = items_from_extend c.extend.result c.extend.ensures.ran
-    (YieldsList-from_map _ (λ p. min (p.0.0 + non_zero_u64_get p.0.1) (min (p.1.0 + p.1.1) greatest) - max p.0.0 p.1.0) (YieldsList-at c.map.ensures.source both) c.map.ensures.closure (λ x r q k. search (rules, tests))) in
+    (YieldsList-from_map _ (λ p. min (p.0.0 + non_zero_u64_get p.0.1) (min (p.1.0 + p.1.1) greatest) - max p.0.0 p.1.0)
+    (YieldsList-at c.map.ensures.source both) c.map.ensures.closure (λ x r q k. search (rules, tests))) in
     let same = of_numbers c.args.origin.now c.args.edges.now (zip start shape) in
     let e : c.extend.new.self.items ≡ shared_sizes c.args.origin.now (map non_zero_u64_get c.args.edges.now) start shape = search (rules, same) in
     e

@@ -6,7 +6,8 @@ use Rattle.zarrs_chunk_plan.proofs.shared.steps_to.Goals as goal
 
 pub returns : goal.returns
 returns c =
-    let pairs = YieldsList-from_zip {s = c.zip-pairs.result} (YieldsList-from_slice c.args.from.now (cc)) (YieldsList-from_slice c.args.to.now (cc)) in
+    let pairs = YieldsList-from_zip {s = c.zip-pairs.result} (YieldsList-from_slice c.args.from.now (cc))
+    (YieldsList-from_slice c.args.to.now (cc)) in
     let h = items_from_extend c.extend.result c.extend.ensures.ran
     (YieldsList-from_map _ (λ p. p.1 - p.0) (YieldsList-at c.map.ensures.source pairs) c.map.ensures.closure (λ x r q k. search (rules, tests))) in
     let e : c.extend.new.self.items ≡ map (λ p. p.1 - p.0) (zip c.args.from.now c.args.to.now) = search rules in

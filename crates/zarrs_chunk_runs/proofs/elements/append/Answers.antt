@@ -22,7 +22,8 @@ pub returns-then-eq-clause-merged : goal.returns-then-eq-clause-merged
 returns-then-eq-clause-merged c merged =
     let items = c.args.runs.now.items in
     let some : 0 < length items = omega (arith, c.in-Some.ensures.variant.0 refl) in
-    merged_with_longer items (vec_len c.args.runs.now - 1) c.in-Some.last.now (omega arith) c.in-Some.ensures.value c.saturating_add-last.result merged
+    merged_with_longer items (vec_len c.args.runs.now - 1) c.in-Some.last.now
+    (omega arith) c.in-Some.ensures.value c.saturating_add-last.result merged
 
 pub returns-in_ok-push-2-clause-merged : goal.returns-in_ok-push-2-clause-merged
 returns-in_ok-push-2-clause-merged c merged =

@@ -17,4 +17,5 @@ append-requires c =
     let left : expansion (drop k elements) ≡ replicate (non_zero_u64_get run.1) (non_zero_u64_get run.0) ++ rest =
     ap expansion (drop-cons elements k c.element-item.result within ∙ ap (λ e. e ∷ drop (suc k) elements) (sym c.element-item.is))
     ∙ ap (λ own. own ++ rest) c.run.ensures in
-    room_for_run items run rest (expansion elements) (ap (λ rest. edges_of_runs (map run_of items) ++ rest) (sym left) ∙ c.loop-element.invariant.0) c.requires
+    room_for_run items run rest (expansion elements)
+    (ap (λ rest. edges_of_runs (map run_of items) ++ rest) (sym left) ∙ c.loop-element.invariant.0) c.requires

@@ -16,4 +16,5 @@ returns g c =
     let same_key = subst (λ text. g.E.ChunkKeyEncodingTraits.is_key c.args.encoding.now other text) (sym key) also.key in
     let same = g.met.E.ChunkKeyEncodingTraits.exact c.args.encoding.now one other c.args.one.now.key fit other_fit lengths is.key same_key in
     same_index ds one index other_index c.args.one.now.element.items is.place
-    (subst (λ list. IsPlace ds one other_index list) (sym place) (subst (λ list. IsPlace ds list other_index c.args.other.now.element.items) (sym same) also.place))
+    (subst (λ list. IsPlace ds one other_index list) (sym place)
+    (subst (λ list. IsPlace ds list other_index c.args.other.now.element.items) (sym same) also.place))

@@ -12,4 +12,5 @@ returns-clause-one g c =
     (chunk, (are_those_below (grid_sizes ds) chunk).1 counted, box)
 
 pub returns-clause-no_other : goal.returns-clause-no_other
-returns-clause-no_other g c = λ index chunk other first second. same_box _ chunk other index (g.met.G.ChunkGridTraits.chained c.args.grid.now) first second
+returns-clause-no_other g c =
+    λ index chunk other first second. same_box _ chunk other index (g.met.G.ChunkGridTraits.chained c.args.grid.now) first second

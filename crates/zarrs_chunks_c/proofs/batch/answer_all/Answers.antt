@@ -17,9 +17,11 @@ loop-number-preserved g c =
           c.loop-number.found c.loop-number.number c.mark_of.result before.answered within answers.other_first answers.other_second
           (rw c.mark_of.ensures (marked found _ _ answers.answered));
       first_kept = rw c.mark_of.ensures
-          (kept_one_more widths.0 c.loop-number.number found _ _ _ c.loop-number.found before.first_kept within answers.first_kept answers.other_first);
+          (kept_one_more widths.0 c.loop-number.number found _ _ _ c.loop-number.found before.first_kept within
+          answers.first_kept answers.other_first);
       second_kept = rw c.mark_of.ensures
-          (kept_one_more widths.1 c.loop-number.number found _ _ _ c.loop-number.found before.second_kept within answers.second_kept answers.other_second);
+          (kept_one_more widths.1 c.loop-number.number found _ _ _ c.loop-number.found before.second_kept within
+          answers.second_kept answers.other_second);
       asked = below_more _ _ before.asked answers.asked;
     }
 

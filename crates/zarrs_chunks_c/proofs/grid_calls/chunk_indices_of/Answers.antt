@@ -1,6 +1,5 @@
 use Rattle.std.proofs.Common.{ℕ, List, [], length, inl, inr, ⊎_elim}
-use Rattle.std.proofs.lemmas.Result.{err_from_is_err_and}
-use Rattle.std.proofs.lemmas.Result.{on_ok_weaker}
+use Rattle.std.proofs.lemmas.Result.{err_from_is_err_and, on_ok_weaker}
 use Rattle.zarrs_chunk_base.specs.Dimension.{InBox, IsPlace}
 use Rattle.zarrs_chunks.specs.Subsets.{HasNoHome}
 use Rattle.zarrs_chunks.specs.seen.Grids.{grid_in}
@@ -25,7 +24,8 @@ returns-clause-ends c =
     ends_late (chunk_indices_call c.args.shape.now c.args.chunk_grid.now c.args.indices.now wrote.first wrote.found) grid c.answer_all.result
     c.in_ok-grid.ensures.says (rw (c.answer_all.auto.first, c.answer_all.auto.found) c.in_ok-grid.ensures.fits)
     (on_ok_weaker c.answer_all.result
-    (answered_weaker (λ k chunk _. (dropped : List ℕ) × (InBox ds chunk (index k) × IsPlace ds chunk (index k) dropped)) (λ k chunk _. InBox ds chunk (index k))
+    (answered_weaker (λ k chunk _. (dropped : List ℕ) × (InBox ds chunk (index k) × IsPlace ds chunk (index k) dropped))
+    (λ k chunk _. InBox ds chunk (index k))
     (λ k. HasNoHome ds (index k)) (length ds, 0) wrote.first [] wrote.found (λ k chunk _ is. is.1.0))
     c.answer_all.ensures.answered)
     (memory_alone c.answer_all.result (RefusesNone grid) _ c.answer_all.ensures.refused)

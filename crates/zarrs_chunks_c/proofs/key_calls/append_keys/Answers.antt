@@ -9,7 +9,8 @@ loop-number-init g c =
     let counted = c.requires.offsets in
     let some : 0 < length c.args.offsets.now = omega arith in
     rw c.new-keys.ensures.bytes
-    (no_texts (λ number. g.E.ChunkKeyEncodingTraits.is_key c.args.encoding.now (list_at c.args.dimensionality c.args.chunks.now number)) c.args.offsets.now some)
+    (no_texts (λ number. g.E.ChunkKeyEncodingTraits.is_key c.args.encoding.now (list_at c.args.dimensionality c.args.chunks.now number))
+    c.args.offsets.now some)
 
 pub loop-number-preserved : goal.loop-number-preserved
 loop-number-preserved g c =
@@ -22,7 +23,9 @@ loop-number-preserved g c =
     let room : c.loop-number.number + 1 < length c.loop-number.offsets = omega arith in
     let at : c.byte_length.result ≡ length (text ++ key) = rw (c.as_str.ensures.value, is) at c.byte_length.ensures in
     rw (is, at)
-    (one_text_more (λ number. g.E.ChunkKeyEncodingTraits.is_key c.args.encoding.now (list_at c.args.dimensionality c.args.chunks.now number)) text c.loop-number.offsets key
+    (one_text_more
+    (λ number. g.E.ChunkKeyEncodingTraits.is_key c.args.encoding.now (list_at c.args.dimensionality c.args.chunks.now number)) text
+    c.loop-number.offsets key
     c.loop-number.number c.loop-number.invariant room (rw c.list_of.ensures at is_key))
 
 pub returns : goal.returns

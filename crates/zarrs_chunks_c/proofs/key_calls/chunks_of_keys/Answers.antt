@@ -15,7 +15,9 @@ pub returns-in_err-count-clause-ends : goal.returns-in_err-count-clause-ends
 returns-in_err-count-clause-ends c =
     let p = err_from_is_err_and c.from_residual-in_err-count.result c.from_residual-in_err-count.ensures.1 in
     let (is_length, differ) = c.in_err-count.ensures in
-    rw (p.1, p.2) (inr (early (wrong_length (encoding_in c.in_ok-encoding.encoding) c.in_ok-encoding.ensures (λ fits. differ (length c.args.found.now, fits)) is_length)))
+    rw (p.1, p.2) (inr
+    (early (wrong_length (encoding_in c.in_ok-encoding.encoding) c.in_ok-encoding.ensures
+    (λ fits. differ (length c.args.found.now, fits)) is_length)))
 
 pub returns-then-count-found-clause-ends : goal.returns-then-count-found-clause-ends
 returns-then-count-found-clause-ends c =
@@ -28,6 +30,7 @@ returns-clause-ends c =
     let encoding = encoding_in c.in_ok-encoding.encoding in
     let wrote = c.answer_all.new in
     let same = c.answer_all.auto in
-    ends_late (chunks_of_keys_call c.args.chunk_key_encoding.now c.args.dimensionality c.args.text.now c.args.offsets.now wrote.first wrote.found wrote.wrong) encoding
+    ends_late (chunks_of_keys_call c.args.chunk_key_encoding.now c.args.dimensionality c.args.text.now c.args.offsets.now wrote.first
+    wrote.found wrote.wrong) encoding
     c.answer_all.result c.in_ok-encoding.ensures (rw (same.first, same.found, ← c.if-count-found.false) c.in_ok-count.ensures)
     (both c.answer_all.result _ _ c.answer_all.ensures.asked c.answer_all.ensures.answered) c.answer_all.ensures.refused

@@ -12,4 +12,5 @@ returns-in_err-metadata-clause-made c =
 pub returns-clause-made : goal.returns-clause-made
 returns-clause-made c =
     let refused = c.in-Err-Refused in
-    inr (not_made refused.error refl (extension_of c.in_ok-metadata.metadata) c.in_ok-metadata.ensures (rw refused.field-0-is at refused.ensures.made))
+    inr (not_made refused.error refl (extension_of c.in_ok-metadata.metadata) c.in_ok-metadata.ensures
+    (rw refused.field-0-is at refused.ensures.made))

@@ -10,10 +10,13 @@ returns-clause-found g c =
 
 pub returns-clause-few : goal.returns-clause-few
 returns-clause-few g c =
-    few_found (g.G.ChunkGridTraits.dimensions c.args.grid.now) (g.E.ChunkKeyEncodingTraits.is_key c.args.encoding.now) c.args.elements.now c.args.first
+    few_found (g.G.ChunkGridTraits.dimensions c.args.grid.now)
+    (g.E.ChunkKeyEncodingTraits.is_key c.args.encoding.now) c.args.elements.now c.args.first
     c.args.most c.in_ok-some_parts.field-0 (returns-clause-found g c)
 
 pub returns-clause-long : goal.returns-clause-long
 returns-clause-long g c =
-    long_found (g.G.ChunkGridTraits.dimensions c.args.grid.now) (g.E.ChunkKeyEncodingTraits.is_key c.args.encoding.now) c.args.elements.now c.args.first
-    c.args.most (g.met.G.ChunkGridTraits.chained c.args.grid.now) c.start-start.ensures.is_box c.requires c.in_ok-some_parts.field-0 (returns-clause-found g c)
+    long_found (g.G.ChunkGridTraits.dimensions c.args.grid.now)
+    (g.E.ChunkKeyEncodingTraits.is_key c.args.encoding.now) c.args.elements.now c.args.first
+    c.args.most (g.met.G.ChunkGridTraits.chained c.args.grid.now) c.start-start.ensures.is_box c.requires c.in_ok-some_parts.field-0
+    (returns-clause-found g c)

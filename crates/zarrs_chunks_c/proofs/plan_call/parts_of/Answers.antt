@@ -22,13 +22,15 @@ pub returns-in_err-encoding-clause-ends : goal.returns-in_err-encoding-clause-en
 returns-in_err-encoding-clause-ends c =
     let p = err_from_is_err_and c.from_residual-in_err-encoding.result c.from_residual-in_err-encoding.ensures.1 in
     rw (p.1, p.2)
-    (⊎_elim (λ memory. inl memory) (λ is. inr (early (no_metadata (no_encoding (grid_in c.in_ok-grid.grid) c.in_ok-grid.ensures.made is)))) c.in_err-encoding.ensures)
+    (⊎_elim (λ memory. inl memory)
+    (λ is. inr (early (no_metadata (no_encoding (grid_in c.in_ok-grid.grid) c.in_ok-grid.ensures.made is)))) c.in_err-encoding.ensures)
 
 pub returns-in_err-check_lengths-clause-ends : goal.returns-in_err-check_lengths-clause-ends
 returns-in_err-check_lengths-clause-ends c =
     let p = err_from_is_err_and c.from_residual-in_err-check_lengths.result c.from_residual-in_err-check_lengths.ensures.1 in
     let (is_length, differ) = c.in_err-check_lengths.ensures in
-    let not_fit = subst (λ width. ¬ AreLengths width 1 (length c.args.start.now ∷ length c.args.box_shape.now ∷ [])) c.dimensionality-width.ensures differ in
+    let not_fit =
+    subst (λ width. ¬ AreLengths width 1 (length c.args.start.now ∷ length c.args.box_shape.now ∷ [])) c.dimensionality-width.ensures differ in
     rw (p.1, p.2)
     (inr (early (wrong_length (grid_in c.in_ok-grid.grid, encoding_in c.in_ok-encoding.encoding) (c.in_ok-grid.ensures.made, c.in_ok-encoding.ensures)
     (λ fits. not_fit fits.0) is_length)))
@@ -38,7 +40,8 @@ returns-in_err-room-clause-ends c =
     let p = err_from_is_err_and c.from_residual-in_err-room.result c.from_residual-in_err-room.ensures.1 in
     let (is_length, differ) = c.in_err-room.ensures in
     let arrays = length c.args.chunks.now ∷ length c.args.in_chunk.now ∷ length c.args.in_subset.now ∷ length c.args.shapes.now ∷ [] in
-    let not_fit = subst (λ width. ¬ ((count : ℕ) × AreTextLengths width (length c.args.offsets.now) arrays count)) c.dimensionality-width.ensures differ in
+    let not_fit =
+    subst (λ width. ¬ ((count : ℕ) × AreTextLengths width (length c.args.offsets.now) arrays count)) c.dimensionality-width.ensures differ in
     rw (p.1, p.2)
     (inr (early (wrong_length (grid_in c.in_ok-grid.grid, encoding_in c.in_ok-encoding.encoding) (c.in_ok-grid.ensures.made, c.in_ok-encoding.ensures)
     (λ fits. not_fit fits.1) is_length)))
@@ -66,11 +69,13 @@ returns-clause-ends c =
     let written = written_with wrote.chunks wrote.in_chunk wrote.in_subset wrote.shapes wrote.offsets in
     let is_box = subst IsBox c.in_ok-elements.ensures.value c.in_ok-elements.ensures.is_box in
     let ends = subst
-    (λ b. IsPlanned grid.dimensions (IsKey encoding) b c.args.first written wrote.text wrote.needed wrote.count wrote.in_all wrote.found c.write_plan.result)
+    (λ b. IsPlanned grid.dimensions
+    (IsKey encoding) b c.args.first written wrote.text wrote.needed wrote.count wrote.in_all wrote.found c.write_plan.result)
     c.in_ok-elements.ensures.value c.write_plan.ensures.ends
     in
     ends_late
-    (parts_call c.args.shape.now c.args.chunk_grid.now c.args.chunk_key_encoding.now c.args.start.now c.args.box_shape.now c.args.first wrote.chunks wrote.in_chunk
+    (parts_call c.args.shape.now c.args.chunk_grid.now c.args.chunk_key_encoding.now c.args.start.now c.args.box_shape.now c.args.first
+    wrote.chunks wrote.in_chunk
     wrote.in_subset wrote.shapes wrote.text wrote.offsets wrote.needed wrote.count wrote.in_all wrote.found)
     (grid, encoding) c.write_plan.result (c.in_ok-grid.ensures.made, c.in_ok-encoding.ensures)
     (of_box, (c.in_ok-room.room, rw (same.chunks, same.in_chunk, same.in_subset, same.shapes, same.offsets) of_parts))

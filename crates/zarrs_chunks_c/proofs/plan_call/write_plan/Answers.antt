@@ -21,7 +21,8 @@ returns-clause-ends g c =
     let as_long = c.join_keys.auto.offsets in
     let had = c.requires.room.0 in
     let room : c.args.room ≡ length offsets - 1 = omega arith in
-    let found = subst (λ n. AreFoundParts ds IsKey c.args.elements.now c.args.first n some) room (rw c.in-Some.is at c.in_ok-found_parts.ensures.found) in
+    let found = subst (λ n. AreFoundParts ds IsKey c.args.elements.now c.args.first n some) room
+    (rw c.in-Some.is at c.in_ok-found_parts.ensures.found) in
     let of_parts = subst (λ ps. AreWrittenBelow (length ps) c.dimensionality.result ps lists.chunks lists.in_chunk lists.in_subset lists.shapes)
     c.deref.ensures.value c.write_parts.ensures
     in
@@ -29,7 +30,8 @@ returns-clause-ends g c =
     c.dimensionality.ensures of_parts
     in
     let counted : c.len.result ≡ length parts = omega (arith, some.parts.ok.0, c.len.ensures) in
-    let of_keys = subst (λ ps. AreTexts (IsKeyOf ps) (length ps) (string_bytes c.in_ok-keys.keys) offsets) c.deref-2.ensures.value c.in_ok-keys.ensures in
+    let of_keys =
+    subst (λ ps. AreTexts (IsKeyOf ps) (length ps) (string_bytes c.in_ok-keys.keys) offsets) c.deref-2.ensures.value c.in_ok-keys.ensures in
     let texts = subst (λ text. AreTexts (IsKeyOf parts) (length parts) text offsets) (sym c.as_bytes.ensures.value) of_keys in
     let written = written_with lists.chunks lists.in_chunk lists.in_subset lists.shapes offsets in
     let IsPlan = IsPlanWith ds IsKey c.args.elements.now c.args.first some.in_all c.len.result written in

@@ -6,7 +6,8 @@ use Rattle.zarrs_chunk_axes.proofs.EachAxis.{answers_weaker, none_in_each}
 use Rattle.zarrs_chunk_axes.proofs.axis_grid.AxisGrid.chunk_element_indices.Goals as goal
 
 -- what lies at a place in each dimension lies in a chunk
-in_chunk : (ds : List Dimension) (index place : List ℕ) → InEach LiesAt ds index place → (chunk : List ℕ) × InBox ds chunk index × IsPlace ds chunk index place
+in_chunk : (ds : List Dimension) (index place : List ℕ) → InEach LiesAt ds index place
+    → (chunk : List ℕ) × InBox ds chunk index × IsPlace ds chunk index place
 in_chunk [] [] [] h = ([], tt, tt)
 in_chunk (d ∷ ds) (i ∷ index) (p ∷ place) h =
     let (chunk, box, behind) = in_chunk ds index place h.1 in

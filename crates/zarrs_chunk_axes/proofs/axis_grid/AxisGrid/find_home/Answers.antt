@@ -10,7 +10,8 @@ use Rattle.zarrs_chunk_axes.proofs.axis_grid.AxisGrid.find_home.Goals as goal
 
 -- what the look-ups find is the home in all dimensions
 answer : (ds : List Dimension) (index chunk place : List ℕ) (found : Bool) → length index ≡ length ds
-    → cond found (AreFound IsHomeIn ds index chunk place) (SomeMisses (λ d i. (c : ℕ) → ¬ Holds d c i) ds index) → AnswersHome ds index (Ok found) chunk place
+    → cond found (AreFound IsHomeIn ds index chunk place) (SomeMisses (λ d i. (c : ℕ) → ¬ Holds d c i) ds index)
+    → AnswersHome ds index (Ok found) chunk place
 answer ds index chunk place true same h = let (box, at) = homes _ _ _ h.each in rw (h.firsts_are, h.seconds_are) (same, box, at)
 answer ds index chunk place false same h =
     (same, λ chunk box. none_in_each _ (λ d i c. Holds d c i) (λ d i c absent. absent c) ds index chunk h (turned Holds ds chunk index box))

@@ -13,7 +13,8 @@ pub returns-in_default-clause-found : goal.returns-in_default-clause-found
 returns-in_default-clause-found c =
     let (axes, numbers) = c.in-Some.ensures.steps in
     let (so_far, _, _) = rw (axes, numbers) at c.loop-axis.invariant in
-    λ chunk box. none_in_each _ (λ d i c. Holds d c i) (λ d i c absent. absent c) _ _ chunk (so_far.none (inl c.in_default.ensures.found)) (turned Holds _ chunk _ box)
+    λ chunk box. none_in_each _ (λ d i c. Holds d c i) (λ d i c absent. absent c) _ _ chunk (so_far.none (inl c.in_default.ensures.found))
+    (turned Holds _ chunk _ box)
 
 pub returns-in_default-clause-counted : goal.returns-in_default-clause-counted
 returns-in_default-clause-counted c =

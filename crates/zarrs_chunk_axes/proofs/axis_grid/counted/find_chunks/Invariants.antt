@@ -14,6 +14,7 @@ invariant-loop-axis l =
     let rest = l.axis-iterator.a.rest.now in
     let dimensions = map (equal_or runs_dimension) in
     let edges = map (equal_or_edges runs_edges) in
-    EachSoFar (λ d i c. Holds d c i) (λ d i. (c : ℕ) → ¬ Holds d c i) (dimensions l.axes) l.indices (dimensions rest) l.axis-iterator.b.rest.now l.chunk.items
+    EachSoFar (λ d i c. Holds d c i) (λ d i. (c : ℕ) → ¬ Holds d c i) (dimensions l.axes) l.indices
+    (dimensions rest) l.axis-iterator.b.rest.now l.chunk.items
     × CountedSoFar (edges l.axes) (edges rest) (count_of l.fn.comparisons) (count_of l.comparisons)
     × (length l.chunk.items + length rest ≤ vec_capacity l.chunk)

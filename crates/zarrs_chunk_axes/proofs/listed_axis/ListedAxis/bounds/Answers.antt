@@ -12,4 +12,5 @@ returns-in-Some c =
     let found = rw c.deref.ensures.value at c.in_ok-end.ensures.lookup in
     let before = c.in-Some.ensures in
     let same : c.in_ok-chunk.chunk ≡ c.args.chunk = search rules in
-    rw (sym same) (bounds_after c.args.self.now.ends.items c.args.self.now.rising c.in_ok-chunk.chunk c.in-Some.before _ (omega (arith, before)) found.3.0 (sym c.index.ensures) (sym found.1))
+    rw (sym same) (bounds_after c.args.self.now.ends.items c.args.self.now.rising c.in_ok-chunk.chunk c.in-Some.before _
+    (omega (arith, before)) found.3.0 (sym c.index.ensures) (sym found.1))

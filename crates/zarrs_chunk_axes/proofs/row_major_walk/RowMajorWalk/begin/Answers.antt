@@ -13,7 +13,8 @@ on_err (Ok _) h = tt
 on_err (Err _) h = h
 
 -- whether a list has a 0, of the same list
-has_zero : (list shape : List ℕ) (answer : Bool) → list ≡ shape → list_any (λ size. size == 0) list ≡ answer → list_any (λ size. size == 0) shape ≡ answer
+has_zero : (list shape : List ℕ) (answer : Bool) → list ≡ shape → list_any (λ size. size == 0) list ≡ answer
+    → list_any (λ size. size == 0) shape ≡ answer
 has_zero list shape answer same has = subst (λ xs. list_any (λ size. size == 0) xs ≡ answer) same has
 
 pub returns-then-contains-clause-gives : goal.returns-then-contains-clause-gives
@@ -24,7 +25,8 @@ pub returns-in_err-self-clause-fails : goal.returns-in_err-self-clause-fails
 returns-in_err-self-clause-fails c =
     let shape = shape_of c.args.self.now in
     let long : 4 < length shape = search rules in
-    on_err c.from_residual.result (needs_memory shape (has_zero _ _ _ c.as_slice.ensures.value (sym c.contains.ensures.value ∙ c.if-contains.false)) long)
+    on_err c.from_residual.result
+    (needs_memory shape (has_zero _ _ _ c.as_slice.ensures.value (sym c.contains.ensures.value ∙ c.if-contains.false)) long)
 
 pub invariant_of-self-2 : goal.invariant_of-self-2
 invariant_of-self-2 c =

@@ -10,7 +10,8 @@ returns-in_default c = none_unknown c.args.known.now c.args.members.now.entries 
 -- the fault's text is the name that was found
 pub returns : goal.returns
 returns c = (
-  subst (IsLeastName (IsUnknown (texts c.args.known.now) (members_view c.args.members.now.entries))) (sym (c.in_ok-from_str.ensures.ok ∙ c.as_str.ensures.value))
+  subst (IsLeastName (IsUnknown (texts c.args.known.now) (members_view c.args.members.now.entries)))
+      (sym (c.in_ok-from_str.ensures.ok ∙ c.as_str.ensures.value))
       (first_unknown c.args.known.now c.args.members.now.entries c.in-Some.name.now c.first_unknown.ensures.ordered (sym c.in-Some.ensures.first)),
   refl,
 )

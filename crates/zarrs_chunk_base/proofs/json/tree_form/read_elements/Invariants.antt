@@ -10,5 +10,6 @@ invariant-loop-element g l =
     let form = g.T.TreeForm.form in
     let before = map g.T.TreeForm.seen l.fn.values.items in
     let so_far = map g.T.TreeForm.seen l.values.items in
-    (option_map (λ rest. before ++ rest) (each_of form (items_view l.elements)) ≡ option_map (λ rest. so_far ++ rest) (each_of form (items_view (drop l.element-index l.elements))))
+    (option_map (λ rest. before ++ rest) (each_of form (items_view l.elements))
+    ≡ option_map (λ rest. so_far ++ rest) (each_of form (items_view (drop l.element-index l.elements))))
     × (take (length l.fn.values.items) l.values.items ≡ l.fn.values.items)

@@ -11,11 +11,13 @@ first_greater-run-requires c = rw (c.deref.ensures.value, c.args.self.now.counte
 
 pub returns-then-run-len-clause-found : goal.returns-then-run-len-clause-found
 returns-then-run-len-clause-found c =
-    run_found _ _ _ (rw (c.deref.ensures.value, c.args.self.now.counted) at c.first_greater-run.ensures.first) (omega (arith, length-map c.args.self.now.runs.items run_of))
+    run_found _ _ _ (rw (c.deref.ensures.value, c.args.self.now.counted) at c.first_greater-run.ensures.first)
+    (omega (arith, length-map c.args.self.now.runs.items run_of))
 
 pub returns-else-run-len-clause-found : goal.returns-else-run-len-clause-found
 returns-else-run-len-clause-found c =
-    none_counted _ _ _ (rw (c.deref.ensures.value, c.args.self.now.counted) at c.first_greater-run.ensures.first) (omega (arith, length-map c.args.self.now.runs.items run_of))
+    none_counted _ _ _ (rw (c.deref.ensures.value, c.args.self.now.counted) at c.first_greater-run.ensures.first)
+    (omega (arith, length-map c.args.self.now.runs.items run_of))
 
 pub returns-then-run-len-clause-counted : goal.returns-then-run-len-clause-counted
 returns-then-run-len-clause-counted c =

@@ -9,7 +9,8 @@ first_greater-requires c = rw (c.deref.ensures.value, c.args.self.now.summed) (r
 
 pub returns-in_err-place-clause-found : goal.returns-in_err-place-clause-found
 returns-in_err-place-clause-found c =
-    rw c.from_residual.ensures (none_starts _ _ _ (rw (c.deref.ensures.value, c.args.self.now.summed) at c.first_greater.ensures.first) c.in_err-place.ensures)
+    rw c.from_residual.ensures
+    (none_starts _ _ _ (rw (c.deref.ensures.value, c.args.self.now.summed) at c.first_greater.ensures.first) c.in_err-place.ensures)
 
 pub overflow_sub-index : goal.overflow_sub-index
 overflow_sub-index c =
@@ -22,7 +23,8 @@ returns-clause-found c =
     let above = rw (c.deref.ensures.value, c.args.self.now.summed) at c.first_greater.ensures.first in
     let (within, place) = c.in_ok-place.ensures in
     let positive = rw place.edge at c.in_ok-place.place.edge.ok in
-    rw (place.first, c.quotient_and_rest-chunks.ensures.quotient, c.quotient_and_rest-chunks.ensures.rest, place.start, place.edge) (home_found _ _ _ above within positive)
+    rw (place.first, c.quotient_and_rest-chunks.ensures.quotient, c.quotient_and_rest-chunks.ensures.rest, place.start, place.edge)
+    (home_found _ _ _ above within positive)
 
 pub overflow_add-result : goal.overflow_add-result
 overflow_add-result c =

@@ -41,7 +41,8 @@ returns c =
         edge = ap (λ run. run.0) (sym found);
         first = omega (arith, counted, chunk_end_of_run _ _ c.index.result.now _ within found);
         start = rw (c.get-2.ensures.value, c.get-3.ensures.value) (omega (arith, summed, end_of_run _ _ c.index-2.result.now _ within found));
-        counted = omega (arith, counted, chunk_end_of_run _ _ c.index.result.now _ within found, chunk_end_after runs c.args.run c.index.result.now within);
+        counted = omega
+            (arith, counted, chunk_end_of_run _ _ c.index.result.now _ within found, chunk_end_after runs c.args.run c.index.result.now within);
         fits = rw (c.get-2.ensures.value, c.get-3.ensures.value)
             (omega (arith, summed, end_of_run _ _ c.index-2.result.now _ within found, end_after runs c.args.run c.index-2.result.now within));
       },

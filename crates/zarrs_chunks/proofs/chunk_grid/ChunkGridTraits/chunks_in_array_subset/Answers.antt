@@ -5,7 +5,8 @@ use Rattle.zarrs_chunk_base.specs.Dimension.{Holds}
 use Rattle.zarrs_chunk_base.specs.Greatest.{greatest}
 use Rattle.zarrs_chunk_base.proofs.InEach.{length_numbers, length_values}
 use Rattle.zarrs_chunk_axes.specs.LookUp.{AnswersChunk}
-use Rattle.zarrs_chunks.proofs.Covers.{chunks_small, cover_refused, covers, firsts_before_lasts, in_order, lasts_small, length_lasts, none_is_not_empty}
+use Rattle.zarrs_chunks.proofs.Covers.{chunks_small, cover_refused, covers, firsts_before_lasts, in_order, lasts_small, length_lasts}
+use Rattle.zarrs_chunks.proofs.Covers.{none_is_not_empty}
 use Rattle.zarrs_chunks.proofs.chunk_grid.ChunkGridTraits.chunks_in_array_subset.Goals as goal
 
 pub returns-in_default-clause-answers : goal.returns-in_default-clause-answers
@@ -53,5 +54,6 @@ returns-clause-answers g c =
     let numbers = lasts_small _ _ is_box.lengths is_box.fits some in
     let small = chunks_small (λ n. n < greatest) (λ m n low below. omega arith) _ _ c.in-Some.last_element.items chains last (rw end_is numbers) in
     let many = sym c.deref.ensures.len ∙ ap length c.deref.ensures.value ∙ length_values Holds _ _ _ last ∙ sym (length_numbers Holds _ _ _ last) in
-    λ _. covers _ _ _ _ c.fill.new.self.items _ agree chunks small (c.fill.ensures.items (λ y h. h) ∙ ap (λ n. replicate n 1) many) first (rw (← end_is) last)
+    λ _. covers _ _ _ _ c.fill.new.self.items _ agree chunks small
+    (c.fill.ensures.items (λ y h. h) ∙ ap (λ n. replicate n 1) many) first (rw (← end_is) last)
     (rw c.deref-2.ensures.value at c.box_up_to.ensures)

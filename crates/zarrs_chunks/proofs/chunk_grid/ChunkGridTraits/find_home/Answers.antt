@@ -29,7 +29,8 @@ returns-clause-answers g c =
 pub returns-in_err-origin-clause-answers : goal.returns-in_err-origin-clause-answers
 returns-in_err-origin-clause-answers g c =
     let (same, box) = rw c.in-Some.is at c.in_ok-chunk.ensures in
-    let refused = subst (λ chunk. AnswersOrigin (g.Self.ChunkGridTraits.dimensions c.args.self.now) chunk (Err c.in_err-origin.field-0.0)) c.deref.ensures.value
+    let refused =
+    subst (λ chunk. AnswersOrigin (g.Self.ChunkGridTraits.dimensions c.args.self.now) chunk (Err c.in_err-origin.field-0.0)) c.deref.ensures.value
     c.in_err-origin.ensures
     in
     let told = err_from_is_err_and c.from_residual-in_err-origin.result c.from_residual-in_err-origin.ensures.1 in

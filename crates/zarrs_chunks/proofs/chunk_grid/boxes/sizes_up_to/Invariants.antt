@@ -6,5 +6,6 @@ abbrev pub invariant-loop-dimension : goal.invariant-loop-dimension
 invariant-loop-dimension l =
     let before = l.initial.sizes.items in
     (length l.sizes.items ≡ length before)
-    × ((k : ℕ) → k < l.dimension → slice_index_or l.sizes.items k 0 ≡ slice_index_or l.last_start k 0 - slice_index_or l.start k 0 + slice_index_or before k 0)
+    × ((k : ℕ) → k < l.dimension
+    → slice_index_or l.sizes.items k 0 ≡ slice_index_or l.last_start k 0 - slice_index_or l.start k 0 + slice_index_or before k 0)
     × ((k : ℕ) → l.dimension ≤ k → slice_index_or l.sizes.items k 0 ≡ slice_index_or before k 0)

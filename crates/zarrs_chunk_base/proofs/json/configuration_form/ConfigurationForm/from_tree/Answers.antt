@@ -19,12 +19,14 @@ returns-in_err-refuse_missing g c =
     subst (λ names. HasNoUnknown names members) c.names-table.ensures.known c.in_ok-refuse_unknown.ensures in
     rw (p.1, p.2)
     (refused_weaker c.in_err-refuse_missing.field-0.0 (IsFirstMissing (required_names_of table.members) members) (IsConfigurationFault table members)
-    (subst (λ names. OrMemory (IsFirstMissing names members) c.in_err-refuse_missing.field-0.0) c.names-table.ensures.required c.in_err-refuse_missing.ensures)
+    (subst (λ names. OrMemory (IsFirstMissing names members) c.in_err-refuse_missing.field-0.0) c.names-table.ensures.required
+    c.in_err-refuse_missing.ensures)
     (λ fault first. missing_is_first table members fault g.met.Self.ConfigurationForm.in_order known first))
 
 pub from_members-requires : goal.from_members-requires
 from_members-requires g c =
-    subst (AllByRecursion (λ name. IsSome (get_member name (members_view c.args.members.now.entries)))) c.names-table.ensures.required c.in_ok-refuse_missing.ensures
+    subst (AllByRecursion (λ name. IsSome (get_member name (members_view c.args.members.now.entries)))) c.names-table.ensures.required
+    c.in_ok-refuse_missing.ensures
 
 pub returns : goal.returns
 returns g c =
@@ -35,4 +37,5 @@ returns g c =
     let there : HasRequired table.members members =
     subst (AllByRecursion (λ name. IsSome (get_member name members))) c.names-table.ensures.required c.in_ok-refuse_missing.ensures in
     MatchResult-weaker c.from_members.result c.from_members.ensures (λ x is. (known, is))
-    (λ refusal first. refused_weaker refusal _ _ first (λ fault wrong. wrong_is_first table members fault g.met.Self.ConfigurationForm.in_order known there wrong))
+    (λ refusal first. refused_weaker refusal _ _ first
+    (λ fault wrong. wrong_is_first table members fault g.met.Self.ConfigurationForm.in_order known there wrong))

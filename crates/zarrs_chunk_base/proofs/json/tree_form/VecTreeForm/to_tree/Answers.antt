@@ -31,5 +31,6 @@ returns-clause-reads_back g c =
     let values = c.deref-value-items.result.now in
     let all = subst (AllZip (IsTreeOf g.T.TreeForm.seen g.T.TreeForm.form g.T.TreeForm.written) trees.items)
     (take_all c.loop-value.value-index values (omega arith)) c.loop-value.invariant in
-    ap (list_of g.T.TreeForm.form) (view-Array trees) ∙ items_stand_for g.T.TreeForm.seen g.T.TreeForm.form g.T.TreeForm.written trees.items values all
+    ap (list_of g.T.TreeForm.form) (view-Array trees)
+    ∙ items_stand_for g.T.TreeForm.seen g.T.TreeForm.form g.T.TreeForm.written trees.items values all
     ∙ ap (λ xs. Some (map g.T.TreeForm.seen xs)) c.deref-value-items.ensures.value

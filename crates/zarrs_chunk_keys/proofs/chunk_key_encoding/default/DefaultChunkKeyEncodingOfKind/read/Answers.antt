@@ -14,7 +14,8 @@ returns-in-Some c =
     let key = c.args.key.now in
     let numerals = c.in-Some.numerals.now in
     let begins : key ≡ codes "c" ++ numerals =
-    strip_prefix_is Decides-eqb key c.as_slice.result.now (Some c.in-Some.numerals) c.in-Some.ensures.cases ∙ ap (λ text. text ++ numerals) c.as_slice.ensures
+    strip_prefix_is Decides-eqb key c.as_slice.result.now (Some c.in-Some.numerals) c.in-Some.ensures.cases
+    ∙ ap (λ text. text ++ numerals) c.as_slice.ensures
     in
     read_as (λ chunk. IsNumerals (separator_byte separator) chunk numerals) (λ chunk. IsDefaultKey separator chunk key) c.args.dimensionality
     c.read_numerals.result (λ chunk long are. subst (IsDefaultKey separator chunk) (sym begins) (is_default_key separator chunk numerals are))

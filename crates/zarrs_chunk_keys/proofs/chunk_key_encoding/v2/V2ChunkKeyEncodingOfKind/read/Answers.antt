@@ -19,5 +19,8 @@ returns-then-dimensionality-gt0 c =
 
 pub returns-then-eq : goal.returns-then-eq
 returns-then-eq c =
-    let same = (slice_eq-Decides Decides-eqb _ _ _ c.eq.ensures).0 c.if-eq.true in
-    (ap length c.new.ensures.items ∙ omega arith, subst AllFit (sym c.new.ensures.items) tt, zero_alone c.new.ensures.items (same ∙ c.as_slice.ensures))
+    let same = (slice_eq-Decides Decides-eqb _ _ _ c.eq.ensures).0 c.if-eq.true in (
+      ap length c.new.ensures.items ∙ omega arith,
+      subst AllFit (sym c.new.ensures.items) tt,
+      zero_alone c.new.ensures.items (same ∙ c.as_slice.ensures),
+    )

@@ -18,20 +18,24 @@ returns-in_ok-from_str-in_default-clause-made c =
 
 pub returns-in_err-create-in-regular-clause-made : goal.returns-in_err-create-in-regular-clause-made
 returns-in_err-create-in-regular-clause-made c =
-    handed_on grid_kind grid_kinds _ regular c.args.array_shape.now (extension_of c.args.metadata.now) _ c.from_residual.result (sym c.name.ensures ∙ c.in-regular.is)
+    handed_on grid_kind grid_kinds _ regular c.args.array_shape.now (extension_of c.args.metadata.now) _ c.from_residual.result
+    (sym c.name.ensures ∙ c.in-regular.is)
     c.in_err-create-in-regular.ensures.made c.from_residual.ensures.1
 
 pub returns-in_err-create-in-text-clause-made : goal.returns-in_err-create-in-text-clause-made
 returns-in_err-create-in-text-clause-made c =
-    handed_on grid_kind grid_kinds _ regular_bounded c.args.array_shape.now (extension_of c.args.metadata.now) _ c.from_residual-in_err-create-in-text.result (sym c.name.ensures ∙ c.in-text.is)
+    handed_on grid_kind grid_kinds _ regular_bounded c.args.array_shape.now
+    (extension_of c.args.metadata.now) _ c.from_residual-in_err-create-in-text.result (sym c.name.ensures ∙ c.in-text.is)
     c.in_err-create-in-text.ensures.made c.from_residual-in_err-create-in-text.ensures.1
 
 pub returns-in_err-create-in-rectangular-clause-made : goal.returns-in_err-create-in-rectangular-clause-made
 returns-in_err-create-in-rectangular-clause-made c =
-    handed_on grid_kind grid_kinds _ rectangular c.args.array_shape.now (extension_of c.args.metadata.now) _ c.from_residual-in_err-create-in-rectangular.result (sym c.name.ensures ∙ c.in-rectangular.is)
+    handed_on grid_kind grid_kinds _ rectangular c.args.array_shape.now
+    (extension_of c.args.metadata.now) _ c.from_residual-in_err-create-in-rectangular.result (sym c.name.ensures ∙ c.in-rectangular.is)
     c.in_err-create-in-rectangular.ensures.made c.from_residual-in_err-create-in-rectangular.ensures.1
 
 pub returns-in_err-create-in-rectilinear-clause-made : goal.returns-in_err-create-in-rectilinear-clause-made
 returns-in_err-create-in-rectilinear-clause-made c =
-    handed_on grid_kind grid_kinds _ rectilinear c.args.array_shape.now (extension_of c.args.metadata.now) _ c.from_residual-in_err-create-in-rectilinear.result (sym c.name.ensures ∙ c.in-rectilinear.is)
+    handed_on grid_kind grid_kinds _ rectilinear c.args.array_shape.now
+    (extension_of c.args.metadata.now) _ c.from_residual-in_err-create-in-rectilinear.result (sym c.name.ensures ∙ c.in-rectilinear.is)
     c.in_err-create-in-rectilinear.ensures.made c.from_residual-in_err-create-in-rectilinear.ensures.1

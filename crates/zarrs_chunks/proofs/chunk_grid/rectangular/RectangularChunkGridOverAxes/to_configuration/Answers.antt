@@ -12,5 +12,6 @@ pub returns : goal.returns
 returns c =
     let edges = c.in_ok-configurations.field-0.items in
     let told = sym c.in_ok-configurations.ensures.edges in
-    is_written (grid_kind rectangular) (λ m. members_view m.entries) c.to_tree.result _ _ (map rectangular_edges edges) c.to_tree.ensures.members c.to_tree.ensures.reads_back
+    is_written (grid_kind rectangular) (λ m. members_view m.entries) c.to_tree.result _ _
+    (map rectangular_edges edges) c.to_tree.ensures.members c.to_tree.ensures.reads_back
     (subst (AreRectangular _) told c.args.self.now.accepted) (subst (AreEqualOrListed _ _) told (rectangular_made c.args.self.now), told) tt

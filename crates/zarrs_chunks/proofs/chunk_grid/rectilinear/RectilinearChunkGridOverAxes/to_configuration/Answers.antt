@@ -13,6 +13,7 @@ pub returns : goal.returns
 returns c =
     let lengths = c.in_ok-configurations.field-0.items in
     let told = sym (map-map edges_of_lengths lengths_of lengths ∙ c.in_ok-configurations.ensures.edges) in
-    is_written (grid_kind rectilinear) (λ m. members_view m.entries) c.to_tree.result _ _ (map lengths_of lengths) c.to_tree.ensures.members c.to_tree.ensures.reads_back
+    is_written (grid_kind rectilinear) (λ m. members_view m.entries) c.to_tree.result _ _
+    (map lengths_of lengths) c.to_tree.ensures.members c.to_tree.ensures.reads_back
     (subst (AreRectilinear _) told c.args.self.now.accepted) (subst (AreEqualOrListed _ _) told (rectilinear_made c.args.self.now), told)
     (all_seen lengths_of IsWrittenLengths lengths c.in_ok-configurations.ensures.written)

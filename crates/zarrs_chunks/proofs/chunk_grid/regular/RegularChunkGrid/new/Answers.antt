@@ -10,7 +10,10 @@ use Rattle.zarrs_chunk_axes.proofs.MadeSoFar.{any_accepted, unequal_lengths}
 use Rattle.zarrs_chunks.proofs.chunk_grid.regular.RegularChunkGrid.new.Goals as goal
 
 pub invariant_of-result : goal.invariant_of-result
-invariant_of-result c = record { edges = edges_are _ _ _ (of_one_edge IsEqualOrListed _ _ _ _ (rw c.deref.ensures.value at c.in-Ok.ensures.made) (sym (map-map equal non_zero_u64_get _))) }
+invariant_of-result c = record {
+  edges = edges_are _ _ _
+      (of_one_edge IsEqualOrListed _ _ _ _ (rw c.deref.ensures.value at c.in-Ok.ensures.made) (sym (map-map equal non_zero_u64_get _)));
+}
 
 pub returns-in-Ok-clause-made : goal.returns-in-Ok-clause-made
 returns-in-Ok-clause-made c =

@@ -14,5 +14,6 @@ returns c =
     let edges = c.in_ok-configurations.field-0.items in
     let told = c.in_ok-configurations.ensures.edges in
     let same = sym (map-map equal non_zero_u64_get edges ∙ told) in
-    is_written (grid_kind regular_bounded) (λ m. members_view m.entries) c.to_tree.result _ _ (map non_zero_u64_get edges) c.to_tree.ensures.members c.to_tree.ensures.reads_back
+    is_written (grid_kind regular_bounded) (λ m. members_view m.entries) c.to_tree.result _ _
+    (map non_zero_u64_get edges) c.to_tree.ensures.members c.to_tree.ensures.reads_back
     (told_lengths _ _ edges _ told) (of_one_edge IsBoundedBy _ _ _ _ (regular_bounded_made c.args.self.now) same, same) tt

@@ -15,7 +15,8 @@ returns-in-Ok-Some-clause-steps g c = λ over.
     subst (λ found. ComesBy (dimensions old.grid.now) old.walk found new.walk) c.loop-found-test.true (c.loop-found.invariant.comes_by over)
     in
     let answers = subst (λ list. AnswersSubset (dimensions new.grid.now) list c.subset.result) c.numbers.ensures c.subset.ensures in
-    let spans = found_box (dimensions new.grid.now) chunk c.subset.result c.in-Ok-Some.subset answers (c.in-Ok-Some.is ∙ ap Ok c.in-Ok-Some.field-0-is) in
+    let spans = found_box (dimensions new.grid.now) chunk c.subset.result c.in-Ok-Some.subset answers
+    (c.in-Ok-Some.is ∙ ap Ok c.in-Ok-Some.field-0-is) in
     let (rest, is, fewer) = gives_box (dimensions old.grid.now) old.walk new.walk c.in-Ok-Some.subset by
     (subst (λ grid. Spans (dimensions grid) chunk chunk c.in-Ok-Some.subset) same spans)
     in
@@ -39,7 +40,8 @@ loop-found-preserved g c =
       fewer = passes_fewer old.walk now.walk c.pass_over-found.result c.pass_over-found.new.self passed
           (subst (λ found. length (lists_from found now.walk) ≤ length (lists_left old.walk)) c.loop-found-test.true c.loop-found.invariant.fewer) is;
       comes_by = λ over.
-          let by = subst (λ found. ComesBy (dimensions old.grid.now) old.walk found now.walk) c.loop-found-test.true (c.loop-found.invariant.comes_by over) in
+          let by = subst (λ found. ComesBy (dimensions old.grid.now) old.walk found now.walk) c.loop-found-test.true
+          (c.loop-found.invariant.comes_by over) in
           passes (dimensions old.grid.now) (g.met.G.ChunkGridTraits.chained old.grid.now) now.walk at (shape ∙ over) old.walk c.pass_over-found.result
           c.pass_over-found.new.self passed by is stands (subst (λ grid. HasNoBox (dimensions grid) chunk) same none);
       shape = c.pass_over-found.ensures.shape ∙ shape;

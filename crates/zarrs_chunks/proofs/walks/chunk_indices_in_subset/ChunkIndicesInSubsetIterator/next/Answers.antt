@@ -12,8 +12,8 @@ written (n ∷ new) (i ∷ items) same = ap (λ xs. n ∷ xs) (written new items
 written _ _ same = absurd (omega arith)
 
 -- the first of what was left, counted from the start, and the others
-gives_first : (start : List ℕ) (left rest others : List (List ℕ)) (numbers new : List ℕ) → left ≡ numbers ∷ rest → others ≡ rest → new ≡ counted_from start numbers
-    → map (counted_from start) left ≡ new ∷ map (counted_from start) others
+gives_first : (start : List ℕ) (left rest others : List (List ℕ)) (numbers new : List ℕ) → left ≡ numbers ∷ rest → others ≡ rest
+    → new ≡ counted_from start numbers → map (counted_from start) left ≡ new ∷ map (counted_from start) others
 gives_first start left rest others numbers new first same is =
     ap (map (counted_from start)) first ∙ ap₂ (λ x xs. x ∷ map (counted_from start) xs) (sym is) (sym same)
 
