@@ -58,8 +58,8 @@ module _ {K G M : Type 0} (kind : K → Kind G M) where
 
   -- kinds of one name are one
   pub same_kind : (kinds : List K) → AreFound kinds → (k l : K) → (kind k).name ≡ (kind l).name → k ≡ l
-  same_kind kinds found k l same =
-      let both : Some k ≡ Some l = sym (found k) ∙ ap (named kinds) same ∙ found l in cc
+  same_kind kinds are_found k l same =
+      let both : Some k ≡ Some l = sym (are_found k) ∙ ap (named kinds) same ∙ are_found l in cc
 
   -- what is found stands in the list
   found_within : (kinds : List K) (name : List ℕ) (k : K) → named kinds name ≡ Some k → Contains (names kind kinds) (kind k).name
@@ -72,7 +72,7 @@ module _ {K G M : Type 0} (kind : K → Kind G M) where
 
   -- the name of a kind is one of the names
   pub is_named : (kinds : List K) → AreFound kinds → (k : K) → Contains (names kind kinds) (kind k).name
-  is_named kinds found k = found_within kinds (kind k).name k (found k)
+  is_named kinds are_found k = found_within kinds (kind k).name k (are_found k)
 
   -- a name that is no kind's isn't
   pub unnamed : (kinds : List K) (name : List ℕ) → ((k : K) → name ≢ (kind k).name) → ¬ Contains (names kind kinds) name
@@ -92,17 +92,17 @@ module _ {K G M : Type 0} (kind : K → Kind G M) where
   pub never_refused : (kinds : List K) → AreFound kinds → ((k : K) → Fits (kind k))
       → (k : K) (given : G) (made : M) (e : Extension) (fault : PluginCreateError)
       → IsMetadata (kind k) given made e → ¬ IsFault kind kinds e given fault
-  never_refused kinds found fits k given made e fault is (name_unsupported _ _ _ none) =
-      none (subst (Contains (names kind kinds)) (sym is.name) (is_named kinds found k))
-  never_refused kinds found fits k given made e fault is (fault_of l name refused) =
-      let same = same_kind kinds found k l (sym is.name ∙ name) in
+  never_refused kinds are_found fits k given made e fault is (name_unsupported _ _ _ none) =
+      none (subst (Contains (names kind kinds)) (sym is.name) (is_named kinds are_found k))
+  never_refused kinds are_found fits k given made e fault is (fault_of l name refused) =
+      let same = same_kind kinds are_found k l (sym is.name ∙ name) in
       not_refused (kind k) (fits k) given made e fault (has_configuration (kind k) given made e is)
       (subst (λ j. IsFaultOf (kind j) e given fault) (sym same) refused)
 
   -- what is made of the metadata is of the same kind, and is made of what was said the first time
   pub made_again : (kinds : List K) → AreFound kinds → (k l : K) (given : G) (made again : M) (e : Extension) → IsMetadata (kind k) given made e
       → IsOf (kind l) e given again → (k ≡ l) × ((x : (kind k).Said) × (kind k).makes made given x × (kind k).makes again given x)
-  made_again kinds found k l given made again e is (name, of_kind) =
-      let same = same_kind kinds found k l (sym is.name ∙ name) in
+  made_again kinds are_found k l given made again e is (name, of_kind) =
+      let same = same_kind kinds are_found k l (sym is.name ∙ name) in
       let of_same = subst (λ j. IsMadeOf (kind j) e given again) (sym same) of_kind in
       (same, said_again (kind k) given made again e (has_configuration (kind k) given made e is) of_same)

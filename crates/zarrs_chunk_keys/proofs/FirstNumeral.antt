@@ -84,8 +84,8 @@ pub first_is : (b n : ℕ) (numeral tail rest : List ℕ) (numbers : List ℕ) �
     → IsNumerals b numbers (b ∷ rest) → (others : List ℕ) × (numbers ≡ n ∷ others) × IsNumerals b others tail
 first_is b n numeral tail rest [] low is begins stops none = cc
 first_is b n numeral tail rest (m ∷ numbers) low is begins stops (other, behind, also, are, same) =
-    let whole : numeral ++ tail ≡ other ++ behind = sym begins ∙ tails same in
-    let (digits, texts) = same_digits b numeral other tail behind low (numeral_is_digits n numeral is) (numeral_is_digits m other also) whole stops
+    let alike : numeral ++ tail ≡ other ++ behind = sym begins ∙ tails same in
+    let (digits, texts) = same_digits b numeral other tail behind low (numeral_is_digits n numeral is) (numeral_is_digits m other also) alike stops
     (ends b numbers behind are) in
     let number : m ≡ n = same_number m n other also (subst (IsNumeral n) digits is) in
     (numbers, ap (λ k. k ∷ numbers) number, subst (IsNumerals b numbers) (sym texts) are)

@@ -9,10 +9,10 @@ use Rattle.zarrs_chunk_keys.specs.ChunkKey.{Encoding}
 use Rattle.zarrs_chunk_keys.specs.KeyKinds.{IsEncoding, IsEncodingFault, KeyKind, default, default_suffix, key_kind, key_kinds, kind_of, v2}
 
 -- each kind is found by its name
-found : kinds.AreFound key_kind key_kinds
-found default = refl
-found v2 = refl
-found default_suffix = refl
+are_found : kinds.AreFound key_kind key_kinds
+are_found default = refl
+are_found v2 = refl
+are_found default_suffix = refl
 
 -- what members stand for fits its kind's table
 fits : (kind : KeyKind) → kinds.Fits (key_kind kind)
@@ -30,11 +30,11 @@ one_encoding default_suffix encoding other x is also = also ∙ sym is
 -- the metadata of an encoding are never refused
 pub never_refused : (encoding : Encoding) (e : Extension) → IsMetadata (key_kind (kind_of encoding)) tt encoding e → (error : PluginCreateError)
     → ¬ IsEncodingFault e error
-never_refused encoding e is error = kinds.never_refused key_kind key_kinds found fits (kind_of encoding) tt encoding e error is
+never_refused encoding e is error = kinds.never_refused key_kind key_kinds are_found fits (kind_of encoding) tt encoding e error is
 
 -- and what is made of them is the same encoding
 pub is_again : (encoding again : Encoding) (e : Extension) → IsMetadata (key_kind (kind_of encoding)) tt encoding e
     → IsEncoding e again → again ≡ encoding
 is_again encoding again e is (kind, made) =
-    let (_, (x, makes, makes_again)) = kinds.made_again key_kind key_kinds found (kind_of encoding) kind tt encoding again e is made in
+    let (_, (x, makes, makes_again)) = kinds.made_again key_kind key_kinds are_found (kind_of encoding) kind tt encoding again e is made in
     one_encoding (kind_of encoding) encoding again x makes makes_again

@@ -8,9 +8,12 @@ use std::alloc::AllocError;
 /// The most bytes that a number and a character before it take up.
 const LONGEST: usize = 21;
 
-/// Room for the numerals of numbers, each after a character, and so many bytes beside.
-pub(crate) fn room_for(numbers: &[u64], beside: usize) -> usize {
-    numbers.len().saturating_mul(LONGEST).saturating_add(beside)
+/// Room for the numerals of numbers, each after a character, and so many other bytes.
+pub(crate) fn room_for(numbers: &[u64], other_bytes: usize) -> usize {
+    numbers
+        .len()
+        .saturating_mul(LONGEST)
+        .saturating_add(other_bytes)
 }
 
 /// Appends a number's digits to a text.

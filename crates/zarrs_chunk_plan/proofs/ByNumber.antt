@@ -121,7 +121,7 @@ pub record IsNumbered (start shape : List ℕ) (number dimension rest : ℕ) (ch
   pub long : length chunk ≡ length start
   pub place : ℕ
   pub number_is : number ≡ rest * length (row_major (drop dimension shape)) + place
-  pub found : slice_get (chunks_in (record { start = drop dimension start; shape = drop dimension shape })) place ≡ Some (drop dimension chunk)
+  pub at_place : slice_get (chunks_in (record { start = drop dimension start; shape = drop dimension shape })) place ≡ Some (drop dimension chunk)
 
 module _ (start shape : List ℕ) (number : ℕ) where
   pub numbered_none : (chunk : List ℕ) → length chunk ≡ length start → length start ≡ length shape
@@ -131,7 +131,7 @@ module _ (start shape : List ℕ) (number : ℕ) where
     long = long;
     place = 0;
     number_is = rw (drop-length shape) (omega arith);
-    found = let same : length shape ≡ length chunk = omega arith in rw (drop-length shape, same, drop-length chunk, long, drop-length start) refl;
+    at_place = let same : length shape ≡ length chunk = omega arith in rw (drop-length shape, same, drop-length chunk, long, drop-length start) refl;
   }
 
   pub numbered_more : (dimension rest : ℕ) (chunk : List ℕ) → IsNumbered start shape number (dimension + 1) rest chunk → length start ≡ length shape
@@ -156,16 +156,16 @@ module _ (start shape : List ℕ) (number : ℕ) where
         place = digit * lists + before.place;
         number_is = rw (shape_is, length-shape size (drop (dimension + 1) shape))
             (split_number number rest size lists before.place (rest / size) digit counted parts);
-        found = rw (shape_is, start_is, drop-set chunk dimension (first + digit) in_chunk)
+        at_place = rw (shape_is, start_is, drop-set chunk dimension (first + digit) in_chunk)
             (at_digit first size digit before.place (drop (dimension + 1) start) (drop (dimension + 1) shape)
-            (drop (dimension + 1) chunk) less before.found);
+            (drop (dimension + 1) chunk) less before.at_place);
       }
 
   pub numbered_all : (rest : ℕ) (chunk : List ℕ) → number < length (row_major shape) → IsNumbered start shape number 0 rest chunk
       → slice_get (chunks_in (record { start = start; shape = shape })) number ≡ Some chunk
   numbered_all rest chunk within all =
       let none = no_rest number rest (length (row_major shape)) all.place all.number_is within in
-      rw none all.found
+      rw none all.at_place
 
 -- as many chunks lie in a box as there are lists below its shape
 pub as_many : (start shape : List ℕ) → length (chunks_in (record { start = start; shape = shape })) ≡ length (row_major shape)

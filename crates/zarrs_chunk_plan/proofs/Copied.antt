@@ -23,7 +23,7 @@ module _ {G E H F : Type 0} (source_dimensions : G → List Dimension) (target_d
       → CanCopy source_dimensions target_dimensions walk
   can_copy source target encoding walk targets wanted same_source same_targets about left one meet = record {
     one_array = rw (same_source, same_targets, about.same_grid) one;
-    whole = rw (same_targets, about.same_grid) about.same_subset;
+    whole_array = rw (same_targets, about.same_grid) about.same_subset;
     meet = rw (same_targets, about.same_grid, about.same_subset, left) meet;
   }
 
@@ -49,7 +49,7 @@ module _ {G E H F : Type 0} (source_dimensions : G → List Dimension) (target_d
           about = record { same_source = same_source; same_source_encoding = same_encoding; targets = rw same_targets about };
           can = λ can. record {
             one_array = rw (same_source, same_targets, about.same_grid) can.one_array;
-            whole = rw (same_targets, about.same_subset, about.same_grid) can.whole;
+            whole_array = rw (same_targets, about.same_subset, about.same_grid) can.whole_array;
             meet = rw same_targets (steps.meet can.meet);
           };
         }
@@ -90,7 +90,7 @@ module _ {G E H F : Type 0} (source_dimensions : G → List Dimension) (source_k
       let target = target_dimensions before.targets.grid.now in
       let target_is_key = target_key before.targets.encoding.now in
       let into : AreCopiesInto source source_is_key target target_is_key chunk (group.to, from) = record {
-        to = subst (λ b. IsPart target target_is_key b chunk group.to) can.whole (gives.to can);
+        to = subst (λ b. IsPart target target_is_key b chunk group.to) can.whole_array (gives.to can);
         from = plan_of source_dimensions source_key before.source.now before.source_encoding.now group.to.in_subset planned.cover group.from from
             planned.about planned.is_cover planned.left parts;
       }

@@ -1,6 +1,6 @@
+pub mod ArrayCover
 pub mod ByNumber
 pub mod Copied
-pub mod Found
 pub mod Joined
 pub mod Overlaps
 pub mod Plans

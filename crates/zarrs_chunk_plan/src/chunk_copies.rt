@@ -1,7 +1,7 @@
 //! The walk over what a rechunking copies.
 use crate::part::Part;
 use crate::plan::parts;
-use crate::shared::found;
+use crate::shared::expect_answer;
 use crate::walk::Parts;
 use std::alloc::{AllocError, Global};
 use zarrs_chunk_keys::ChunkKeyEncodingTraits;
@@ -72,7 +72,7 @@ impl<
             Err(error) => return Some(Err(error)),
         };
         let from = parts(self.alloc, self.source, self.source_encoding, &to.in_subset);
-        match found(from) {
+        match expect_answer(from) {
             Ok(from) => Some(Ok(ChunkCopies { to, from })),
             Err(error) => {
                 self.targets.end();

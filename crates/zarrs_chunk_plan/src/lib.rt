@@ -17,36 +17,36 @@
 //! | `part` | a part: a chunk, its key, and two boxes |
 //! | `plan` | `parts`: the plan of reading a box of elements |
 //! | `walk` | the walk over the parts |
-//! | `pieces` | `some_parts`: some of the parts of that plan, from any one on |
-//! | `numbered` | the chunks in a box of chunk numbers, by their number; `some_chunks`: those from any one on |
+//! | `numbered_parts` | `some_parts`: some of the parts of that plan, from any one on |
+//! | `numbered_chunks` | the chunks in a box of chunk numbers, by their number; `some_chunks`: those from any one on |
 //! | `rechunking` | `copies`: the plan of a rechunking |
 //! | `chunk_copies` | the walk over what a rechunking copies, a chunk of the target after another |
 //! | `copies_error` | why a rechunking can't be planned |
-//! | `whole` | the box of all elements of an array, and that of all chunks of a grid |
+//! | `boxes_from_zero` | the box of all elements of an array, and that of all chunks of a grid |
 //! | `shared` | the elements that a chunk and a box share, counted from either |
 //! | `overlap` | what two boxes have in common |
 //! | `laws` | what holds of every plan |
 #![tactic(auto)]
 
+mod boxes_from_zero;
 mod chunk_copies;
 mod copies_error;
 pub mod laws;
-mod numbered;
+mod numbered_chunks;
+mod numbered_parts;
 mod overlap;
 mod part;
-mod pieces;
 mod plan;
 mod rechunking;
 mod shared;
 mod walk;
-mod whole;
 
+pub use boxes_from_zero::{all_chunks, whole_array};
 pub use chunk_copies::{ChunkCopies, Copies};
 pub use copies_error::CopiesError;
-pub use numbered::{SomeChunks, some_chunks};
+pub use numbered_chunks::{SomeChunks, some_chunks};
+pub use numbered_parts::{SomeParts, some_parts};
 pub use part::Part;
-pub use pieces::{SomeParts, some_parts};
 pub use plan::parts;
 pub use rechunking::copies;
 pub use walk::Parts;
-pub use whole::{all_chunks, whole_array};

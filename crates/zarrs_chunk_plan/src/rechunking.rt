@@ -8,12 +8,12 @@ ghost use Rattle.zarrs_chunk_plan.specs.Plan.{Meets};
 ghost use Rattle.zarrs_chunk_plan.specs.Rechunking.{AreTargets, array_box};
 ghost use Rattle.zarrs_chunk_plan.specs.seen.Copies.{CanCopy, IsAboutCopies, IsCopiesFault, targets_to_come};
 
+use crate::boxes_from_zero::whole_array;
 use crate::chunk_copies::Copies;
 use crate::copies_error::CopiesError;
 use crate::overlap::overlap;
-use crate::shared::found;
+use crate::shared::expect_answer;
 use crate::walk::Parts;
-use crate::whole::whole_array;
 use std::alloc::{AllocError, Global};
 use zarrs_chunk_base::{ArraySubset, IncompatibleDimensionalityError, Refusal};
 use zarrs_chunk_keys::ChunkKeyEncodingTraits;
@@ -102,5 +102,5 @@ fn chunks_of_array<G: ChunkGridTraits>(
         ↔ Meets (G.dimensions grid.now) (array_box (G.dimensions grid.now)) chunk) }
 {
     let cover = the_cover_names_the_chunks_that_meet_a_box(alloc, grid, array);
-    Ok(found(cover)?)
+    Ok(expect_answer(cover)?)
 }

@@ -29,8 +29,8 @@ pub(crate) fn shared_boxes<G: ChunkGridTraits>(
         chunk.now boxes.0 boxes.1) }
 {
     let start = array_subset.start();
-    let origin = found(grid.chunk_origin(alloc, chunk))?;
-    let edges = found(grid.chunk_shape(alloc, chunk))?;
+    let origin = expect_answer(grid.chunk_origin(alloc, chunk))?;
+    let edges = expect_answer(grid.chunk_shape(alloc, chunk))?;
     let shape = sizes_shared(alloc, &origin, &edges, array_subset)?;
     let in_chunk = made_box(steps_to(alloc, &origin, start)?, shape.clone()?)?;
     let in_subset = made_box(steps_to(alloc, start, &origin)?, shape)?;
@@ -41,7 +41,7 @@ pub(crate) fn shared_boxes<G: ChunkGridTraits>(
 ///
 /// # Errors
 /// Out of memory.
-pub(crate) fn found<T: Drop>(
+pub(crate) fn expect_answer<T: Drop>(
     answer: Result<Option<T>, Refusal<IncompatibleDimensionalityError>>,
 ) -> Result<T, AllocError>
     ensures { IfOk result (λ value. answer ≡ Ok (Some value)) }

@@ -12,5 +12,5 @@ line_feeds-append (b ∷ front) back =
 -- one byte more that is no line feed
 pub line_feeds-push : (front : List ℕ) (b : ℕ) → b ≢ 10 → line_feeds front ≡ 0 → line_feeds (front ++ b ∷ []) ≡ 0
 line_feeds-push front b other none =
-    let whole = line_feeds-append front (b ∷ []) in
+    let sum = line_feeds-append front (b ∷ []) in
     grind (arith, nat_tests)

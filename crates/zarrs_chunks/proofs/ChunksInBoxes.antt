@@ -100,14 +100,14 @@ module _ {X Y : Type 0} (f : X → Y) where
 
 -- they are the lists that lie in it
 pub are_those_inside : (b : Box) → IsBox b → (chunk : List ℕ) → Contains (chunks_in b) chunk ↔ IsInside b chunk
-are_those_inside b is_box chunk = (inside, found) where
+are_those_inside b is_box chunk = (inside, contained) where
   inside : Contains (chunks_in b) chunk → IsInside b chunk
   inside has =
       let (numbers, among, is) = source_of (counted_from b.start) (row_major b.shape) chunk has in
       subst (AreWithin b.start b.shape) is (lie_within b.start b.shape numbers is_box.lengths ((are_those_below b.shape numbers).0 among))
 
-  found : IsInside b chunk → Contains (chunks_in b) chunk
-  found within =
+  contained : IsInside b chunk → Contains (chunks_in b) chunk
+  contained within =
       let (numbers, below, is) = offset_of b.start b.shape chunk within in
       subst (Contains (chunks_in b)) is (made_of (counted_from b.start) (row_major b.shape) numbers ((are_those_below b.shape numbers).1 below))
 

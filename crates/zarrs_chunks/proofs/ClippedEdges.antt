@@ -30,25 +30,25 @@ sum_all (suc n) edge rest = omega (arith, take_next edge (replicate n edge ++ re
 
 module _ (size edge : ℕ) (edges : List ℕ) (clipped : AreClipped size edge edges) where
   -- chunks up to the last start within the size
-  starts_within : (c : ℕ) → c < clipped.whole + 1 → c * edge < size
+  starts_within : (c : ℕ) → c < clipped.whole_edges + 1 → c * edge < size
   starts_within c before =
-      let whole = clipped.whole in
+      let whole = clipped.whole_edges in
       let low : c * edge ≤ whole * edge = mul-le-mul_right edge (omega arith) in
       omega (arith, clipped.some, clipped.size_is)
 
   -- and no others
-  counted : (c : ℕ) → c * edge < size → c < clipped.whole + 1
+  counted : (c : ℕ) → c * edge < size → c < clipped.whole_edges + 1
   counted c within =
-      let whole = clipped.whole in
+      let whole = clipped.whole_edges in
       let below : c * edge < (whole + 1) * edge = omega (arith, clipped.at_most, clipped.size_is, next_multiple whole edge) in
       lt_of_mul-lt-mul_right edge below
 
-  starts_alike : (c : ℕ) → c < clipped.whole + 1 → c * edge ≡ sum (take c edges)
-  starts_alike c before = rw clipped.edges_are (sym (sum_whole clipped.whole edge clipped.rest c (omega arith)))
+  starts_alike : (c : ℕ) → c < clipped.whole_edges + 1 → c * edge ≡ sum (take c edges)
+  starts_alike c before = rw clipped.edges_are (sym (sum_whole clipped.whole_edges edge clipped.rest c (omega arith)))
 
-  ends_alike : (c : ℕ) → c < clipped.whole + 1 → min ((c + 1) * edge) size ≡ sum (take (c + 1) edges)
+  ends_alike : (c : ℕ) → c < clipped.whole_edges + 1 → min ((c + 1) * edge) size ≡ sum (take (c + 1) edges)
   ends_alike c before =
-      let whole = clipped.whole in
+      let whole = clipped.whole_edges in
       ⊎_elim
       (λ (inner : c < whole).
       let within : (c + 1) * edge ≤ size =
@@ -62,9 +62,9 @@ module _ (size edge : ℕ) (edges : List ℕ) (clipped : AreClipped size edge ed
 
 -- as many are counted as there are edges
 counts_alike : (bounded : Dimension) (size edge : ℕ) (edges : List ℕ) (clipped : AreClipped size edge edges) → IsBounded bounded size edge
-    → bounded.grid_size ≡ clipped.whole + 1
+    → bounded.grid_size ≡ clipped.whole_edges + 1
 counts_alike bounded size edge edges clipped is_bounded =
-    let whole = clipped.whole in
+    let whole = clipped.whole_edges in
     let most : bounded.grid_size ≤ whole + 1 =
     is_bounded.least (whole + 1) (omega (arith, clipped.at_most, clipped.size_is, next_multiple whole edge)) in
     ⊎_elim
@@ -77,7 +77,7 @@ counts_alike bounded size edge edges clipped is_bounded =
 pub bounded_is_listed : (bounded listed : Dimension) (size edge : ℕ) (edges : List ℕ) → AreClipped size edge edges → IsBounded bounded size edge
     → IsListed listed size edges → AreAlike bounded listed
 bounded_is_listed bounded listed size edge edges clipped is_bounded is_listed =
-    let whole = clipped.whole in
+    let whole = clipped.whole_edges in
     let count : length edges ≡ whole + 1 = rw clipped.edges_are (length_clipped whole edge clipped.rest) in
     let in_both : (c : ℕ) → IsTrue (bounded.has_chunk c) → c < whole + 1 = λ c has. counted size edge edges clipped c ((is_bounded.chunks c).0 has) in
     let listed_has : (c : ℕ) → IsTrue (bounded.has_chunk c) → IsTrue (listed.has_chunk c) = λ c has.
@@ -113,5 +113,5 @@ has_clipped size edge some positive =
     let divided : (size - 1) / edge * edge + (size - 1) % edge ≡ size - 1 = div-add-mod' (size - 1) edge in
     let small : (size - 1) % edge < edge = omega arith in (
       replicate whole edge ++ rest ∷ [],
-      record { whole = whole; rest = rest; some = omega arith; at_most = omega arith; size_is = omega arith; edges_are = refl },
+      record { whole_edges = whole; rest = rest; some = omega arith; at_most = omega arith; size_is = omega arith; edges_are = refl },
     )

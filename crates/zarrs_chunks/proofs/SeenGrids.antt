@@ -83,11 +83,11 @@ same_dimensions grid other bounded sizes edges =
 -- ---- made again
 
 -- each kind is found by its name
-found : kinds.AreFound grid_kind grid_kinds
-found regular = refl
-found regular_bounded = refl
-found rectangular = refl
-found rectilinear = refl
+are_found : kinds.AreFound grid_kind grid_kinds
+are_found regular = refl
+are_found regular_bounded = refl
+are_found rectangular = refl
+are_found rectilinear = refl
 
 fits : (kind : GridKind) → kinds.Fits (grid_kind kind)
 fits regular = regular_fits
@@ -117,7 +117,7 @@ same_sizes rectilinear shape grid x made =
     numbers_are IsEqualOrListed (λ d. d.array_size) size_of grid.dimensions shape (map edges_of_lengths x) made.0
 
 pub never_refused : (grid : ChunkGrid) (e : Extension) → HasMetadata grid e → (error : PluginCreateError) → ¬ IsGridFault e (sizes_in grid) error
-never_refused grid e is error = kinds.never_refused grid_kind grid_kinds found fits (kind_in grid) (sizes_in grid) (grid_in grid) e error is
+never_refused grid e is error = kinds.never_refused grid_kind grid_kinds are_found fits (kind_in grid) (sizes_in grid) (grid_in grid) e error is
 
 -- the second grid is of the same kind, with the same edges and dimensions
 pub record IsAgain (grid again : ChunkGrid) : Type 0 where
@@ -129,7 +129,7 @@ pub is_again : (grid again : ChunkGrid) (e : Extension) → HasMetadata grid e �
 is_again grid again e is made =
     let sizes = sizes_in grid in
     let (same, (x, makes, remakes)) =
-    kinds.made_again grid_kind grid_kinds found (kind_in grid) (kind_in again) sizes (grid_in grid) (grid_in again) e is made in
+    kinds.made_again grid_kind grid_kinds are_found (kind_in grid) (kind_in again) sizes (grid_in grid) (grid_in again) e is made in
     let edges = same_edges (kind_in grid) sizes (grid_in grid) (grid_in again) x makes remakes in
     record {
       kind = sym same;

@@ -3,14 +3,14 @@ use Rattle.std.specs.Prelude.{◌≡◌, ℕ, ◌+◌, ◌*◌, ◌<◌, ◌≤�
 use Rattle.zarrs_chunk_base.specs.Dimension.{Dimension, InEach}
 use Rattle.zarrs_chunk_axes.specs.Listed.{IsListed}
 
--- the edges of a bounded dimension of non-zero size: whole ones, and what is left of the size
+-- the edges of a bounded dimension of non-zero size: whole edges, and what is left of the size
 pub record AreClipped (size edge : ℕ) (edges : List ℕ) : Type 0 where
-  pub whole : ℕ
+  pub whole_edges : ℕ
   pub rest : ℕ
   pub some : 0 < rest
   pub at_most : rest ≤ edge
-  pub size_is : size ≡ whole * edge + rest
-  pub edges_are : edges ≡ replicate whole edge ++ rest ∷ []
+  pub size_is : size ≡ whole_edges * edge + rest
+  pub edges_are : edges ≡ replicate whole_edges edge ++ rest ∷ []
 
 -- a dimension of these edges, listed
 pub record IsClippedList (d : Dimension) (size edge : ℕ) : Type 0 where

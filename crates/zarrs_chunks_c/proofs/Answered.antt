@@ -41,7 +41,7 @@ long_cover ds b cover (if_some, if_empty) =
     (first, sym is.is_box.lengths ∙ first))
     (empty_or_some b.shape)
 
-pub long_cover_found : (ds : List Dimension) (b : Box) (found : Option Box) → MatchOption found (HasNoCover ds b) (IsCoverOf ds b)
+pub long_cover_of_answer : (ds : List Dimension) (b : Box) (found : Option Box) → MatchOption found (HasNoCover ds b) (IsCoverOf ds b)
     → MatchOption found (Unit {0}) (IsLongBox ds)
-long_cover_found ds b None is = tt
-long_cover_found ds b (Some cover) is = long_cover ds b cover is
+long_cover_of_answer ds b None is = tt
+long_cover_of_answer ds b (Some cover) is = long_cover ds b cover is

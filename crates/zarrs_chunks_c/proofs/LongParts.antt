@@ -12,7 +12,7 @@ use Rattle.zarrs_chunks.specs.Walks.{chunks_in}
 use Rattle.zarrs_chunk_plan.proofs.Plans.{covered_meet}
 use Rattle.zarrs_chunk_plan.specs.Plan.{IsPart, Meets}
 use Rattle.zarrs_chunk_plan.specs.declared.part.Part.{Part}
-use Rattle.zarrs_chunk_plan.specs.declared.pieces.SomeParts.{SomeParts}
+use Rattle.zarrs_chunk_plan.specs.declared.numbered_parts.SomeParts.{SomeParts}
 use Rattle.zarrs_chunks_c.proofs.Covers.{none_is_not_empty}
 use Rattle.zarrs_chunks_c.proofs.Planned.{count_is}
 use Rattle.zarrs_chunks_c.specs.Asked.{HasNoCover}
@@ -73,13 +73,13 @@ module _ (ds : List Dimension) (IsKey : List ℕ → List ℕ → Type 0) (b : B
         all_zipped (Meets ds b) (IsPart ds IsKey b) (IsLongPart (length ds)) long_part (take count (drop first (chunks_in cover))) some.parts.items
         (all_taken (Meets ds b) count (drop first (chunks_in cover)) (all_dropped (Meets ds b) first (chunks_in cover) meet)) are.are_parts
 
-    pub few_found : (found : Option SomeParts) → MatchOption found (HasNoCover ds b) (AreFoundParts ds IsKey b first most)
+    pub few_of_answer : (found : Option SomeParts) → MatchOption found (HasNoCover ds b) (AreFoundParts ds IsKey b first most)
         → MatchOption found (Unit {0}) (λ some. length some.parts.items ≤ most)
-    few_found None is = tt
-    few_found (Some some) is = few_parts some is
+    few_of_answer None is = tt
+    few_of_answer (Some some) is = few_parts some is
 
-    pub long_found : AllByRecursion IsChain ds → IsBox b → length b.start ≡ length ds → (found : Option SomeParts)
+    pub long_of_answer : AllByRecursion IsChain ds → IsBox b → length b.start ≡ length ds → (found : Option SomeParts)
         → MatchOption found (HasNoCover ds b) (AreFoundParts ds IsKey b first most)
         → MatchOption found (Unit {0}) (λ some. AllByRecursion (IsLongPart (length ds)) some.parts.items)
-    long_found chains is_box long None is = tt
-    long_found chains is_box long (Some some) is = long_parts chains is_box long some is
+    long_of_answer chains is_box long None is = tt
+    long_of_answer chains is_box long (Some some) is = long_parts chains is_box long some is

@@ -11,7 +11,7 @@ use Rattle.zarrs_chunks.specs.Walks.{chunks_in}
 use Rattle.zarrs_chunk_plan.specs.Plan.{AreShared, IsPart}
 use Rattle.zarrs_chunk_plan.specs.SomeParts.{AnswersNone, AnswersSome, AreSomeParts}
 use Rattle.zarrs_chunk_plan.specs.declared.part.Part.{Part}
-use Rattle.zarrs_chunk_plan.specs.declared.pieces.SomeParts.{SomeParts}
+use Rattle.zarrs_chunk_plan.specs.declared.numbered_parts.SomeParts.{SomeParts}
 use Rattle.zarrs_chunk_plan.proofs.Plans.{empty_or_some, none_in_zeros}
 use Rattle.zarrs_chunk_plan.proofs.Taken.{none_taken}
 use Rattle.zarrs_chunks_c.specs.Asked.{HasNoCover, IsCoverOf}
@@ -42,16 +42,16 @@ module _ (IsKey : List ℕ → List ℕ → Type 0) (first most : ℕ) where
         },
       )
 
-  pub found_of_any : (ds : List Dimension) (b : Box) (found : Option SomeParts) → IsBox b → (IsEmptyBox b → length ds ≢ 0 → AnswersNone (Ok found))
+  pub parts_of_any : (ds : List Dimension) (b : Box) (found : Option SomeParts) → IsBox b → (IsEmptyBox b → length ds ≢ 0 → AnswersNone (Ok found))
       → ((¬ IsEmptyBox b) ⊎ (length ds ≡ 0) → AnswersSome ds IsKey b first most (Ok found))
       → MatchOption found (HasNoCover ds b) (AreFoundParts ds IsKey b first most)
-  found_of_any [] b None is_box empty answers = let is = answers (inr refl) in (none_is_not_empty b is_box is.0, is.1)
-  found_of_any [] b (Some some) is_box empty answers =
+  parts_of_any [] b None is_box empty answers = let is = answers (inr refl) in (none_is_not_empty b is_box is.0, is.1)
+  parts_of_any [] b (Some some) is_box empty answers =
       let (same, (cover, is_cover, are)) = answers (inr refl) in
       (cover, ((λ _. is_cover), (λ is_empty. absurd (none_is_not_empty b is_box same is_empty))), are)
-  found_of_any (d ∷ ds) b None is_box empty answers =
+  parts_of_any (d ∷ ds) b None is_box empty answers =
       let some : ¬ IsEmptyBox b = λ is_empty. empty is_empty (λ none. absurd (omega arith)) in (some, (answers (inl some)).1)
-  found_of_any (d ∷ ds) b (Some some) is_box empty answers =
+  parts_of_any (d ∷ ds) b (Some some) is_box empty answers =
       let dimensions : length (d ∷ ds) ≢ 0 = λ none. absurd (omega arith) in
       ⊎_elim (λ is_empty. none_of_empty (d ∷ ds) b some dimensions is_empty (empty is_empty dimensions))
       (λ not_empty.
@@ -73,8 +73,8 @@ written_more width number parts part chunks in_chunk in_subset shapes chunks' in
     ⊎_elim (λ (below : k < number). earlier k below p (before k below p found))
     (λ (last : number ≤ k).
     let at : number ≡ k = omega arith in
-    let found_here : slice_get parts number ≡ Some p = ap (slice_get parts) at ∙ found in
-    let same : part ≡ p = is ∙ get_or_from_slice_get parts number p part found_here in
+    let part_here : slice_get parts number ≡ Some p = ap (slice_get parts) at ∙ found in
+    let same : part ≡ p = is ∙ get_or_from_slice_get parts number p part part_here in
     subst (λ n. IsWritten width p chunks' in_chunk' in_subset' shapes' n) at
     (subst (λ q. IsWritten width q chunks' in_chunk' in_subset' shapes' number) same here))
     (cases_lt k number)

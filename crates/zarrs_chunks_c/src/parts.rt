@@ -29,7 +29,7 @@ pub(crate) fn find_parts<G: ChunkGridTraits, E: ChunkKeyEncodingTraits>(
     most: usize,
 ) -> Result<Option<SomeParts>, Fault>
     requires { length elements.now.start ≡ length (G.dimensions grid.now) }
-    ensures found { IfOk result (λ found. MatchOption found
+    ensures parts { IfOk result (λ found. MatchOption found
         (HasNoCover (G.dimensions grid.now) elements.now)
         (AreFoundParts (G.dimensions grid.now) (E.is_key encoding.now) elements.now first most)) }
     ensures few { IfOk result (λ found. MatchOption found (Unit {0})

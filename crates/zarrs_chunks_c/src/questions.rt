@@ -162,7 +162,7 @@ fn cover_of<G: ChunkGridTraits>(
 ) -> Result<Option<ArraySubset>, Fault>
     requires start_long { length start.now ≡ length (G.dimensions grid.now) }
     requires shape_long { length shape.now ≡ length (G.dimensions grid.now) }
-    ensures found { IfOk result (λ found. MatchOption found
+    ensures cover { IfOk result (λ found. MatchOption found
         (HasNoCover (G.dimensions grid.now)
         (record { start = start.now; shape = shape.now }))
         (IsCoverOf (G.dimensions grid.now)

@@ -105,10 +105,10 @@ module _ {G E H F : Type 0} (source_dimensions : G → List Dimension) (source_k
       let source = source_dimensions begin.source.now in
       let target = target_dimensions begin.targets.grid.now in
       let same_grid = about.targets.same_grid in
-      let whole = rw (about.targets.same_subset, same_grid) at can.whole in
+      let array_is = rw (about.targets.same_subset, same_grid) at can.whole_array in
       let IsOne = AreCopiesInto source (source_key begin.source_encoding.now) target (target_key begin.targets.encoding.now) in
       let (others, also) = have_groups source _ target _ chains also_chains keys also_keys (rw (about.same_source, same_grid) at can.one_array)
-      (rw whole at is_box) (targets_to_come now) (rw (can.whole, same_grid) at can.meet)
+      (rw array_is at is_box) (targets_to_come now) (rw (can.whole_array, same_grid) at can.meet)
       in
       begun copy_lines AreAllGroups before after came others rest (copy_lines_both came others)
       (rw left (both_zipped IsOne chunks (targets_to_come now) came others are also)) sends

@@ -107,7 +107,7 @@ impl OfKind for DefaultSuffixChunkKeyEncoding {
         configuration.to_tree(alloc)
     }
 
-    fn beside(&self) -> usize {
+    fn bytes_beside_numerals(&self) -> usize {
         self.suffix.as_str().len().saturating_add(1)
     }
 

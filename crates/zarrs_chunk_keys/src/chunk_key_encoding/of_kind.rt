@@ -42,7 +42,7 @@ pub(crate) trait OfKind: EncodingOfKind + Sized + Drop {
             (members_view c.entries)) };
 
     /// How many bytes a key has at most beside its numerals, each with a separator.
-    fn beside(&self) -> usize {
+    fn bytes_beside_numerals(&self) -> usize {
         1
     }
 
@@ -93,7 +93,10 @@ impl<E: OfKind> ChunkKeyEncodingTraits for E {
     }
 
     fn encode(&self, alloc: Global, chunk_indices: &[u64]) -> Result<StoreKey, AllocError> {
-        let mut key = String::with_capacity(alloc, room_for(chunk_indices, self.beside()))?;
+        let mut key = String::with_capacity(
+            alloc,
+            room_for(chunk_indices, self.bytes_beside_numerals()),
+        )?;
         self.append(&mut key, chunk_indices)?;
         // A key doesn't end in a slash, so it is a store key.
         Ok(StoreKey::new(key).unwrap())

@@ -35,7 +35,7 @@ module _ {G E H F : Type 0} where
   -- both grids are of one array, all of it is copied, and each chunk to come holds some of its elements
   pub record CanCopy (source_dimensions : G → List Dimension) (target_dimensions : H → List Dimension) (walk : Copies G E H F) : Type 0 where
     pub one_array : array_sizes (source_dimensions walk.source.now) ≡ array_sizes (target_dimensions walk.targets.grid.now)
-    pub whole : walk.targets.array_subset ≡ array_box (target_dimensions walk.targets.grid.now)
+    pub whole_array : walk.targets.array_subset ≡ array_box (target_dimensions walk.targets.grid.now)
     pub meet : MeetSubset target_dimensions walk.targets
 
 module _ {G E : Type 0} where

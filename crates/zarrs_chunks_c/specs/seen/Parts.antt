@@ -5,7 +5,7 @@ use Rattle.zarrs_chunk_base.specs.ArraySubset.{Box}
 use Rattle.zarrs_chunk_base.specs.Dimension.{Dimension}
 use Rattle.zarrs_chunk_plan.specs.declared.part.Part.{Part}
 use Rattle.zarrs_chunk_plan.specs.SomeParts.{AreSomeParts}
-use Rattle.zarrs_chunk_plan.specs.declared.pieces.SomeParts.{SomeParts}
+use Rattle.zarrs_chunk_plan.specs.declared.numbered_parts.SomeParts.{SomeParts}
 use Rattle.zarrs_chunks_c.specs.Asked.{HasNoCover, IsCoverOf}
 use Rattle.zarrs_chunks_c.specs.Batch.{IsMarked, IsTooLong, IsWhole, list_at}
 use Rattle.zarrs_chunks_c.specs.Codes.{End}

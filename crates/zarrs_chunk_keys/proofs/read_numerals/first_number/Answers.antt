@@ -26,15 +26,15 @@ returns-then-byte-separator c =
     let text = c.args.text.now in
     let within : i < length others = omega arith in
     let cut = cut_before text c.in_ok-first.first.now others i c.in_ok-first.ensures.cases.0 within in
-    let whole : take (length others - i) (drop i others) ≡ get_or others i 0 ∷ drop (suc i) others =
+    let from_here : take (length others - i) (drop i others) ≡ get_or others i 0 ∷ drop (suc i) others =
     take_all (length others - i) (drop i others) (omega (arith, length-drop i others)) ∙ drop-cons others i 0 within
     in (
       c.loop-i.invariant.fits,
       (
         take (i + 1) text,
         c.loop-i.invariant.is_numeral,
-        cut ∙ ap (λ t. take (i + 1) text ++ t) (sym whole),
-        subst (EndsBefore c.args.separator) (sym whole) c.if-byte-separator.true,
+        cut ∙ ap (λ t. take (i + 1) text ++ t) (sym from_here),
+        subst (EndsBefore c.args.separator) (sym from_here) c.if-byte-separator.true,
       ),
     )
 

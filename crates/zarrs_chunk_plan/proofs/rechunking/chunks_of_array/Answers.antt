@@ -1,4 +1,4 @@
-use Rattle.zarrs_chunk_plan.proofs.Found.{cover_many, cover_names}
+use Rattle.zarrs_chunk_plan.proofs.ArrayCover.{cover_many, cover_names}
 use Rattle.zarrs_chunk_plan.proofs.rechunking.chunks_of_array.Goals as goal
 
 pub returns-clause-lengths : goal.returns-clause-lengths

@@ -22,7 +22,7 @@ returns-clause-ends g c =
     let had = c.requires.room.0 in
     let room : c.args.room ≡ length offsets - 1 = omega arith in
     let found = subst (λ n. AreFoundParts ds IsKey c.args.elements.now c.args.first n some) room
-    (rw c.in-Some.is at c.in_ok-found_parts.ensures.found) in
+    (rw c.in-Some.is at c.in_ok-found_parts.ensures.parts) in
     let of_parts = subst (λ ps. AreWrittenBelow (length ps) c.dimensionality.result ps lists.chunks lists.in_chunk lists.in_subset lists.shapes)
     c.deref.ensures.value c.write_parts.ensures
     in

@@ -3,8 +3,8 @@ use Rattle.zarrs_chunks_c.specs.Asked.{HasNoCover, IsCoverOf}
 use Rattle.zarrs_chunks_c.proofs.Covers.{cover_of_any}
 use Rattle.zarrs_chunks_c.proofs.questions.cover_of.Goals as goal
 
-pub returns-clause-found : goal.returns-clause-found
-returns-clause-found g c =
+pub returns-clause-cover : goal.returns-clause-cover
+returns-clause-cover g c =
     let ds = g.G.ChunkGridTraits.dimensions c.args.grid.now in
     let made = c.in_ok-elements.ensures in
     let found = c.in_ok-chunks_in_array_subset in

@@ -1,5 +1,5 @@
 use Rattle.std.proofs.Common.{◌≡◌, length, MatchOption, subst, subst₂}
-use Rattle.zarrs_chunks_c.proofs.Answered.{IsLongBox, long_cover_found}
+use Rattle.zarrs_chunks_c.proofs.Answered.{IsLongBox, long_cover_of_answer}
 use Rattle.zarrs_chunks_c.proofs.Covers.{of_left}
 use Rattle.zarrs_chunks_c.specs.Asked.{HasNoCover, IsCoverOf}
 use Rattle.zarrs_chunks_c.specs.Batch.{list_at}
@@ -17,7 +17,7 @@ returns-clause-answers g c =
     let asked = box_asked (length ds) self.starts.now self.shapes.now c.args.number in
     let cover = subst₂
     (λ s h. MatchOption c.in_ok-cover_of.field-0 (HasNoCover ds (record { start = s; shape = h })) (IsCoverOf ds (record { start = s; shape = h })))
-    start shape c.in_ok-cover_of.ensures.found in
+    start shape c.in_ok-cover_of.ensures.cover in
     of_left c.leave_box.result c.in_ok-cover_of.field-0
     (record { start = c.leave_box.new.answer.chunk.items; shape = c.leave_box.new.answer.element.items })
     (HasNoCover ds asked) (IsCoverOf ds asked) cover c.leave_box.ensures.left
@@ -28,6 +28,6 @@ returns-clause-long g c =
     of_left c.leave_box.result c.in_ok-cover_of.field-0
     (record { start = c.leave_box.new.answer.chunk.items; shape = c.leave_box.new.answer.element.items })
     (Unit {0}) (IsLongBox ds)
-    (long_cover_found ds
-    (record { start = c.list_of-start.result.now; shape = c.list_of-shape.result.now }) c.in_ok-cover_of.field-0 c.in_ok-cover_of.ensures.found)
+    (long_cover_of_answer ds
+    (record { start = c.list_of-start.result.now; shape = c.list_of-shape.result.now }) c.in_ok-cover_of.field-0 c.in_ok-cover_of.ensures.cover)
     c.leave_box.ensures.left

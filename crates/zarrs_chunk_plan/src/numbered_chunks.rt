@@ -21,7 +21,7 @@ pub struct SomeChunks {
 }
 
 /// Of the chunks in a box of chunk numbers, in row-major order, the one with the number `first`, counted from 0, and those after it, at most `most`
-/// in all. Those before it take no time, so a walk over [all chunks of a grid](crate::all_chunks) can be taken piece by piece, or shared out.
+/// in all. Those before it take no time, so a walk over [all chunks of a grid](crate::all_chunks) can be taken a page at a time, or shared out.
 ///
 /// Only chunks whose number is below 18446744073709551615 can be asked for.
 ///
@@ -51,15 +51,15 @@ fn chunks_between(
     numbers: (u64, u64),
 ) -> Result<Vec<ArrayIndicesTinyVec>, AllocError>
     requires { numbers.1 ≤ length (chunks_in chunks.now) }
-    ensures { IfOk result (λ found. AllZip (λ numbers chunk. chunk.items ≡ numbers)
-        (take (numbers.1 - numbers.0) (drop numbers.0 (chunks_in chunks.now))) found.items) }
+    ensures { IfOk result (λ listed. AllZip (λ numbers chunk. chunk.items ≡ numbers)
+        (take (numbers.1 - numbers.0) (drop numbers.0 (chunks_in chunks.now))) listed.items) }
 {
     let (first, end) = numbers;
-    let mut found = Vec::new(alloc);
+    let mut listed = Vec::new(alloc);
     for number in first..end {
-        found.push(chunk_at(alloc, chunks, number)?)?;
+        listed.push(chunk_at(alloc, chunks, number)?)?;
     }
-    Ok(found)
+    Ok(listed)
 }
 
 /// How many lists of numbers are below a shape; 18446744073709551615 means that many or more.

@@ -2,7 +2,7 @@ use Rattle.std.proofs.Common.{◌-◌, ◌≤◌, drop, max, take}
 use Rattle.std.specs.List.{AllZip}
 use Rattle.zarrs_chunks.specs.Walks.{chunks_in}
 use Rattle.zarrs_chunk_plan.specs.Plan.{IsPart}
-use Rattle.zarrs_chunk_plan.proofs.pieces.parts_between.Given as goal
+use Rattle.zarrs_chunk_plan.proofs.numbered_parts.parts_between.Given as goal
 
 -- the parts so far are those of the chunks so far
 abbrev pub invariant-loop-number : goal.invariant-loop-number

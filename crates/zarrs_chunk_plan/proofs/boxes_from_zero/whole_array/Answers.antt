@@ -1,5 +1,5 @@
 use Rattle.std.proofs.lemmas.List.{length-map}
-use Rattle.zarrs_chunk_plan.proofs.whole.whole_array.Goals as goal
+use Rattle.zarrs_chunk_plan.proofs.boxes_from_zero.whole_array.Goals as goal
 
 pub returns-clause-elements : goal.returns-clause-elements
 returns-clause-elements g c =

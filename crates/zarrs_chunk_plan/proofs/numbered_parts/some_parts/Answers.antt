@@ -2,10 +2,10 @@ use Rattle.std.proofs.Common.{◌≡◌, ◌∙◌, ◌+◌, [], ap, length, min
 use Rattle.zarrs_chunk_base.specs.Greatest.{greatest}
 use Rattle.zarrs_chunk_axes.specs.RowMajor.{row_major}
 use Rattle.zarrs_chunks.specs.Walks.{chunks_in}
-use Rattle.zarrs_chunk_plan.specs.declared.pieces.SomeParts.{SomeParts}
+use Rattle.zarrs_chunk_plan.specs.declared.numbered_parts.SomeParts.{SomeParts}
 use Rattle.zarrs_chunk_plan.proofs.Plans.{covered_meet, none_in_zeros}
 use Rattle.zarrs_chunk_plan.proofs.Taken.{none_of_plan, some_of_plan}
-use Rattle.zarrs_chunk_plan.proofs.pieces.some_parts.Goals as goal
+use Rattle.zarrs_chunk_plan.proofs.numbered_parts.some_parts.Goals as goal
 
 pub parts_between-requires-clause-meet : goal.parts_between-requires-clause-meet
 parts_between-requires-clause-meet g c =

@@ -6,7 +6,7 @@ ghost use Rattle.zarrs_chunks.specs.Walks.{chunks_in};
 ghost use Rattle.zarrs_chunk_plan.specs.Plan.{IsPart, Meets};
 ghost use Rattle.zarrs_chunk_plan.specs.SomeParts.{AnswersNone, AnswersSome};
 
-use crate::numbered::{chunk_at, count_below};
+use crate::numbered_chunks::{chunk_at, count_below};
 use crate::part::{Part, part_of};
 use std::alloc::{AllocError, Global};
 use zarrs_chunk_base::{ArraySubset, IncompatibleDimensionalityError, Refusal};
@@ -24,7 +24,7 @@ pub struct SomeParts {
 }
 
 /// Of the parts that [`parts`](crate::parts) gives the one with the number `first`, counted from 0, and those after it, at most `most` in all.
-/// Those before it aren't made, so a plan can be taken piece by piece, or shared out. `None` where the box has no cover, as there.
+/// Those before it aren't made, so a plan can be taken a page at a time, or shared out. `None` where the box has no cover, as there.
 ///
 /// Only parts whose number is below 18446744073709551615 can be asked for.
 ///

@@ -2,7 +2,7 @@ use Rattle.std.proofs.Common.{◌≡◌, ◌+◌, ◌-◌, ◌≤◌, drop, refl
 use Rattle.std.specs.List.{AllZip}
 use Rattle.zarrs_chunks.specs.Walks.{chunks_in}
 use Rattle.zarrs_chunk_plan.proofs.Taken.{one_more}
-use Rattle.zarrs_chunk_plan.proofs.numbered.chunks_between.Goals as goal
+use Rattle.zarrs_chunk_plan.proofs.numbered_chunks.chunks_between.Goals as goal
 
 pub loop-number-preserved : goal.loop-number-preserved
 loop-number-preserved c =
@@ -13,7 +13,7 @@ loop-number-preserved c =
     let (within, are) = c.loop-number.invariant in (
       omega arith,
       subst (AllZip _ (take (number + 1 - first) (drop first chunks))) (sym c.in_ok-push.ensures.items)
-          (one_more _ chunks first number _ c.in_ok-chunk_at.field-0 c.loop-number.found.items from c.in_ok-chunk_at.ensures refl are),
+          (one_more _ chunks first number _ c.in_ok-chunk_at.field-0 c.loop-number.listed.items from c.in_ok-chunk_at.ensures refl are),
     )
 
 pub returns : goal.returns

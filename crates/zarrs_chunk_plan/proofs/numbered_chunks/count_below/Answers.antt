@@ -3,7 +3,7 @@ use Rattle.std.proofs.Math.Seq.{take-length}
 use Rattle.zarrs_chunk_plan.proofs.ByNumber.{counted_more}
 use Rattle.zarrs_chunk_base.specs.Greatest.{greatest}
 use Rattle.zarrs_chunk_axes.specs.RowMajor.{row_major}
-use Rattle.zarrs_chunk_plan.proofs.numbered.count_below.Goals as goal
+use Rattle.zarrs_chunk_plan.proofs.numbered_chunks.count_below.Goals as goal
 
 pub loop-size-init : goal.loop-size-init
 unfolding row_major

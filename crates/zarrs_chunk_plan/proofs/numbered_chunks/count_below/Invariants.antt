@@ -1,7 +1,7 @@
 use Rattle.std.proofs.Common.{◌≡◌, length, min, take}
 use Rattle.zarrs_chunk_base.specs.Greatest.{greatest}
 use Rattle.zarrs_chunk_axes.specs.RowMajor.{row_major}
-use Rattle.zarrs_chunk_plan.proofs.numbered.count_below.Given as goal
+use Rattle.zarrs_chunk_plan.proofs.numbered_chunks.count_below.Given as goal
 
 -- so many lists are below the sizes so far
 abbrev pub invariant-loop-size : goal.invariant-loop-size

@@ -3,7 +3,7 @@ use Rattle.std.proofs.lemmas.List.{length-replicate}
 use Rattle.zarrs_chunk_base.specs.ArraySubset.{IsBox, ends}
 use Rattle.zarrs_chunk_base.specs.Greatest.{AllFit, greatest}
 use Rattle.zarrs_chunk_base.proofs.Boxes.{fits}
-use Rattle.zarrs_chunk_plan.proofs.whole.box_from_zero.Goals as goal
+use Rattle.zarrs_chunk_plan.proofs.boxes_from_zero.box_from_zero.Goals as goal
 
 ends_fit : (shape : List ℕ) → AllFit shape → AllFit (ends (replicate (length shape) 0) shape)
 ends_fit [] fit = tt

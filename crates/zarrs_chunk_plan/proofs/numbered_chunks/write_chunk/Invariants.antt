@@ -1,5 +1,5 @@
 use Rattle.zarrs_chunk_plan.proofs.ByNumber.{IsNumbered}
-use Rattle.zarrs_chunk_plan.proofs.numbered.write_chunk.Given as goal
+use Rattle.zarrs_chunk_plan.proofs.numbered_chunks.write_chunk.Given as goal
 
 -- the dimensions that were looked at have their numbers
 abbrev pub invariant-loop-dimension : goal.invariant-loop-dimension

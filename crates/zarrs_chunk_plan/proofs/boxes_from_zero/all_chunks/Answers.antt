@@ -7,7 +7,7 @@ use Rattle.zarrs_chunk_base.specs.Dimension.{Dimension, IsChain}
 use Rattle.zarrs_chunk_plan.specs.Plan.{Meets}
 use Rattle.zarrs_chunk_plan.specs.Rechunking.{all_chunks_box, array_box}
 use Rattle.zarrs_chunk_plan.proofs.Rechunkings.{is_counted}
-use Rattle.zarrs_chunk_plan.proofs.whole.all_chunks.Goals as goal
+use Rattle.zarrs_chunk_plan.proofs.boxes_from_zero.all_chunks.Goals as goal
 
 pub returns-clause-counted : goal.returns-clause-counted
 returns-clause-counted g c =
