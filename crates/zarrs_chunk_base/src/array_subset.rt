@@ -93,6 +93,14 @@ impl ArraySubset {
         Ok(ArraySubset { start, shape })
     }
 
+    /// A law: as many starts as sizes, and no range ends past 18446744073709551615. The body of a caller sees of a box its two lists alone, and
+    /// gets this law by no other way than a call.
+    pub fn is_a_box(&self)
+        ensures { IsBox self.now }
+    {
+        let _ = &self.start;
+    }
+
     /// The first number of each range.
     pub fn start(&self) -> &[u64]
         ensures value { result.now ≡ self.now.start }

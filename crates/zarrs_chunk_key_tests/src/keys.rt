@@ -44,14 +44,6 @@ fn check_key(
     let (same, read) = a_key_is_read_back(rt.alloc(), encoding, &[1, 23])?;
     assert_eq!(rt; same.as_str(), key);
     assert_eq!(rt; read.ok_or("no chunk")?.as_slice(), [1, 23].as_slice());
-    let (one, other) = keys_read_as_one_chunk_are_equal(
-        rt.alloc(),
-        encoding,
-        2,
-        &encoded,
-        &encoded,
-    )?;
-    assert!(rt; one.is_some() && one == other);
     Ok(())
 }
 
@@ -98,6 +90,7 @@ fn encodings_of_each_kind_are_asked(rt: HostRuntime) -> Result<(), Fail> {
         assert_eq!(rt; again.metadata(alloc)?.name(), *name);
     }
     a_chunk_has_one_key();
+    keys_read_as_one_chunk_are_equal();
     a_default_key_names_one_chunk();
     Ok(())
 }

@@ -1,6 +1,7 @@
 //! What holds of the library's chunk key encodings. What every encoding has to prove, one of another crate too, is the law of
 //! [`ChunkKeyEncodingTraits`](crate::ChunkKeyEncodingTraits).
-ghost use Rattle.std.specs.Prelude.{◌≡◌, ℕ, IfOk, List, Some, length, option_map};
+ghost use Rattle.std.specs.Prelude.{◌≡◌, ℕ, IfOk, List, Option, Some, Vec, length, option_map};
+ghost use Rattle.std.specs.declared.alloc.Global.{Global};
 ghost use Rattle.zarrs_chunk_base.specs.declared.chunk_key_separator.ChunkKeySeparator.{ChunkKeySeparator};
 ghost use Rattle.zarrs_chunk_base.specs.declared.plugin_create_error.PluginCreateError.{PluginCreateError};
 ghost use Rattle.zarrs_chunk_base.specs.Kinds.{IsMetadata};
@@ -8,9 +9,8 @@ ghost use Rattle.zarrs_chunk_base.specs.Metadata.{Extension};
 ghost use Rattle.zarrs_chunk_keys.specs.ChunkKey.{Encoding, IsKey, default_keys, suffixed_keys};
 ghost use Rattle.zarrs_chunk_keys.specs.Decoded.{IsDecoded};
 ghost use Rattle.zarrs_chunk_keys.specs.KeyKinds.{IsEncoding, IsEncodingFault, key_kind, kind_of};
-ghost use Rattle.zarrs_chunk_keys.specs.seen.Encodings.{encoding_in};
 
-use crate::{ChunkKeyEncoding, ChunkKeyEncodingTraits};
+use crate::ChunkKeyEncodingTraits;
 use std::alloc::{AllocError, Global};
 use zarrs_chunk_base::{ArrayIndices, StoreKey};
 
@@ -51,29 +51,15 @@ pub fn a_key_is_read_back<E: ChunkKeyEncodingTraits>(
     Ok((key, chunk))
 }
 
-/// Two keys that are read as one chunk are equal.
-///
-/// # Errors
-/// Out of memory.
-pub fn keys_read_as_one_chunk_are_equal(
-    alloc: Global,
-    encoding: &ChunkKeyEncoding,
-    dimensionality: usize,
-    one: &StoreKey,
-    other: &StoreKey,
-) -> Result<(Option<ArrayIndices>, Option<ArrayIndices>), AllocError>
-    ensures one { IfOk result (λ read. IsDecoded
-        (λ chunk. IsKey (encoding_in encoding.now) chunk one.now) dimensionality read.0) }
-    ensures other { IfOk result (λ read. IsDecoded
-        (λ chunk. IsKey (encoding_in encoding.now) chunk other.now) dimensionality read.1) }
-    ensures equal { IfOk result (λ read. (chunk : List ℕ)
-        → option_map (λ v. v.items) read.0 ≡ Some chunk
-        → option_map (λ v. v.items) read.1 ≡ Some chunk → one.now ≡ other.now) }
-{
-    let chunk = encoding.decode(alloc, dimensionality, one)?;
-    let other_chunk = encoding.decode(alloc, dimensionality, other)?;
-    Ok((chunk, other_chunk))
-}
+/// Two keys that are read as one chunk, as `decode` reads them, are equal.
+pub fn keys_read_as_one_chunk_are_equal()
+    ensures { (encoding : Encoding) (dimensionality : ℕ) (one other chunk : List ℕ)
+        (read also : Option (Vec ℕ Global))
+        → IsDecoded (λ chunk. IsKey encoding chunk one) dimensionality read
+        → IsDecoded (λ chunk. IsKey encoding chunk other) dimensionality also
+        → option_map (λ v. v.items) read ≡ Some chunk
+        → option_map (λ v. v.items) also ≡ Some chunk → one ≡ other }
+{}
 
 /// An encoding is made again of its metadata: no fault of an encoding is theirs, and each encoding that is made of them is the same.
 pub fn an_encoding_is_made_again_of_its_metadata()

@@ -1,10 +1,12 @@
 -- The cover of the whole array.
 use Rattle.std.proofs.Common.{◌≡◌, ◌≢◌, ◌↔◌, ◌⊎◌, ◌∙◌, ℕ, zero, suc, List, [], ◌∷◌, Some, Ok, length, ap, refl, subst, inl, ⊎_elim, arith}
 use Rattle.std.proofs.lemmas.List.{length-map, length-replicate}
-use Rattle.zarrs_chunk_base.specs.ArraySubset.{Box, IsEmptyBox, IsInside, zero_box}
-use Rattle.zarrs_chunk_base.specs.Dimension.{Dimension, Holds, array_sizes}
+use Rattle.std.specs.List.{AllByRecursion}
+use Rattle.zarrs_chunk_base.specs.ArraySubset.{Box, IsBox, IsEmptyBox, IsInside, zero_box}
+use Rattle.zarrs_chunk_base.specs.Dimension.{Dimension, Holds, IsChain, array_sizes}
 use Rattle.zarrs_chunk_base.proofs.InEach.{length_numbers}
 use Rattle.zarrs_chunks.specs.Subsets.{AnswersCover, AnswersEmptyCover, LookedBox}
+use Rattle.zarrs_chunks.proofs.Meeting.{cover_meets}
 use Rattle.zarrs_chunk_plan.specs.Plan.{Meets}
 use Rattle.zarrs_chunk_plan.specs.Rechunking.{array_box}
 use Rattle.zarrs_chunk_plan.proofs.Plans.{empty_or_some, not_empty_if_inside}
@@ -28,10 +30,13 @@ module _ (ds : List Dimension) where
         (λ some. length_numbers Holds ds cover.start (array_box ds).start (subst (AnswersCover ds (array_box ds)) is (if_some (inl some))).1.first)
         (empty_or_some (array_sizes ds))
 
-    pub cover_names : (cover : Box) → r ≡ Ok (Some cover)
-        → ((¬ IsEmptyBox (array_box ds)) → (chunk : List ℕ) → IsInside cover chunk ↔ Meets ds (array_box ds) chunk)
+    pub cover_names : (cover : Box) → r ≡ Ok (Some cover) → AllByRecursion IsChain ds → IsBox (array_box ds)
         → (chunk : List ℕ) → IsInside cover chunk ↔ Meets ds (array_box ds) chunk
-    cover_names cover is if_meet chunk = ⊎_elim of_empty (λ some. if_meet some chunk) (empty_or_some (array_sizes ds)) where
+    cover_names cover is chains is_box chunk = ⊎_elim of_empty of_some (empty_or_some (array_sizes ds)) where
+      of_some : (¬ IsEmptyBox (array_box ds)) → IsInside cover chunk ↔ Meets ds (array_box ds) chunk
+      of_some some =
+          cover_meets ds (array_box ds) cover chains is_box some (subst (AnswersCover ds (array_box ds)) is (if_some (inl some))).1 chunk
+
       of_empty : IsEmptyBox (array_box ds) → IsInside cover chunk ↔ Meets ds (array_box ds) chunk
       of_empty empty =
           let same : cover ≡ zero_box (length ds) = subst (AnswersEmptyCover ds) is (if_empty empty (some_dimension empty)) in (

@@ -37,7 +37,7 @@ module _ {G E H F : Type 0} (source_dimensions : G → List Dimension) (target_d
 
     pub gives_copies : (from : Parts G E)
         → (CanCopy source_dimensions target_dimensions before
-            → IsPlanned source_dimensions before.source.now before.source_encoding.now to.in_subset from)
+        → IsPlanned source_dimensions before.source.now before.source_encoding.now to.in_subset from)
         → (after : Copies G E H F) → after.targets ≡ targets → after.source.now ≡ before.source.now
         → after.source_encoding.now ≡ before.source_encoding.now
         → GivesCopies source_dimensions target_dimensions target_key before (Some (Ok (record { to = to; from = from }))) after
@@ -112,15 +112,13 @@ module _ {G E H F : Type 0} (source_dimensions : G → List Dimension) (source_k
 -- the groups of all chunks that were to come are a rechunking
 pub rechunking_of : {G E H F : Type 0} (source_dimensions : G → List Dimension) (source_key : E → List ℕ → List ℕ → Type 0)
     (target_dimensions : H → List Dimension) (target_key : F → List ℕ → List ℕ → Type 0) (source : G) (source_encoding : E)
-    (target : H) (target_encoding : F)
-    (array chunks targets : Box) (walk : Copies G E H F) (groups : List Group)
+    (target : H) (target_encoding : F) (array chunks targets : Box) (walk : Copies G E H F) (groups : List Group)
     → IsAboutCopies source source_encoding target target_encoding array walk → IsBox targets
     → AreTargets (target_dimensions target) chunks targets → targets_to_come walk ≡ chunks_in targets
     → AreGroupsToCome source_dimensions source_key target_dimensions target_key walk groups
     → IsRechunking (source_dimensions source) (source_key source_encoding) (target_dimensions target) (target_key target_encoding) chunks groups
-rechunking_of source_dimensions source_key target_dimensions target_key source source_encoding target target_encoding array chunks targets
-walk groups about is_box are
-    left come = record {
+rechunking_of source_dimensions source_key target_dimensions target_key source source_encoding target target_encoding array chunks targets walk
+    groups about is_box are left come = record {
       targets = targets;
       is_box = is_box;
       are_targets = are;

@@ -42,15 +42,16 @@ module _ {X : Type 0} where
   all_of_each P (x ∷ xs) each = (each x (zero, omega arith, refl), all_of_each P xs (λ y (k, within, is). each y (suc k, omega arith, is)))
 
 -- each chunk of the cover that was found holds some element of the box
-pub covered_meet : (ds : List Dimension) (b cover : Box) → IsBox b → (IsEmptyBox b → length ds ≢ 0 → cover ≡ zero_box (length ds))
+pub covered_meet : (ds : List Dimension) (b cover : Box) → AllByRecursion IsChain ds → IsBox b
+    → (IsEmptyBox b → length ds ≢ 0 → cover ≡ zero_box (length ds))
     → ((¬ IsEmptyBox b) ⊎ (length ds ≡ 0) → (length b.start ≡ length ds) × IsCover ds b cover)
-    → ((¬ IsEmptyBox b) → (chunk : List ℕ) → IsInside cover chunk ↔ ((index : List ℕ) × InBox ds chunk index × IsInside b index))
     → AllByRecursion (Meets ds b) (chunks_in cover)
-covered_meet ds b cover is_box if_empty if_some meets = ⊎_elim of_empty of_some (empty_or_some b.shape) where
+covered_meet ds b cover chains is_box if_empty if_some = ⊎_elim of_empty of_some (empty_or_some b.shape) where
   of_some : (¬ IsEmptyBox b) → AllByRecursion (Meets ds b) (chunks_in cover)
   of_some some =
+      let is = (if_some (inl some)).1 in
       all_of_each (Meets ds b) (chunks_in cover)
-      (λ chunk has. (meets some chunk).0 ((are_those_inside cover (if_some (inl some)).1.is_box chunk).0 has))
+      (λ chunk has. (cover_meets ds b cover chains is_box some is chunk).0 ((are_those_inside cover is.is_box chunk).0 has))
 
   of_empty : IsEmptyBox b → AllByRecursion (Meets ds b) (chunks_in cover)
   of_empty empty =

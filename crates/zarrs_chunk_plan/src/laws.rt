@@ -89,8 +89,7 @@ pub fn each_element_lies_in_one_part<G: ChunkGridTraits, E: ChunkKeyEncodingTrai
         → InBox (G.dimensions grid.now) chunk index
         × IsPlace (G.dimensions grid.now) chunk index place }
 {
-    // The laws are about a box, and its start tells that it is one.
-    let _start = array_subset.start();
+    array_subset.is_a_box();
 }
 
 /// No two parts of the plan have one key, so no chunk is read twice.
@@ -123,8 +122,7 @@ pub fn the_parts_tile_the_box<G: ChunkGridTraits, E: ChunkKeyEncodingTraits>(
         → IsPlan (G.dimensions grid.now) (E.is_key encoding.now) array_subset.now parts
         → (part : Part) → Contains parts part → ¬ IsEmptyBox part.in_subset }
 {
-    // As above.
-    let _start = array_subset.start();
+    array_subset.is_a_box();
 }
 
 /// What the walk over a rechunking gives, one group after another, each with all of its parts, is a rechunking into the chunks that were asked for.

@@ -12,7 +12,6 @@ use std::alloc::{AllocError, Global};
 use zarrs_chunk_base::{ArraySubset, IncompatibleDimensionalityError, Refusal};
 use zarrs_chunk_keys::ChunkKeyEncodingTraits;
 use zarrs_chunks::ChunkGridTraits;
-use zarrs_chunks::laws::the_cover_names_the_chunks_that_meet_a_box;
 
 /// Some of the parts of a plan.
 #[derive(Debug, Drop)]
@@ -44,9 +43,8 @@ pub fn some_parts<G: ChunkGridTraits, E: ChunkKeyEncodingTraits>(
         → AnswersSome (G.dimensions grid.now) (E.is_key encoding.now) array_subset.now
         first most result }
 {
-    // The law: each chunk of the cover holds some element of the box. It is about a box, and the start tells that it is one.
-    let _start = array_subset.start();
-    let cover = the_cover_names_the_chunks_that_meet_a_box(alloc, grid, array_subset)?;
+    array_subset.is_a_box();
+    let cover = grid.chunks_in_array_subset(alloc, array_subset)?;
     let Some(cover) = cover else {
         return Ok(None);
     };

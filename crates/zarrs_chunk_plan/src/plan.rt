@@ -8,7 +8,6 @@ use std::alloc::Global;
 use zarrs_chunk_base::{ArraySubset, IncompatibleDimensionalityError, Refusal};
 use zarrs_chunk_keys::ChunkKeyEncodingTraits;
 use zarrs_chunks::ChunkGridTraits;
-use zarrs_chunks::laws::the_cover_names_the_chunks_that_meet_a_box;
 
 /// What to read for a box of elements: which part of which chunk, under which key, and where in the answer it goes. `None` where the box has no
 /// cover, since its first or its last element lies in no chunk. An empty box has no parts, whatever its number of dimensions, except
@@ -32,9 +31,8 @@ pub fn parts<'a, G: ChunkGridTraits, E: ChunkKeyEncodingTraits>(
         (IsAbout grid.now encoding.now array_subset.now)) }
     ensures meet { IfOk result (λ found. IfSome found (MeetSubset G.dimensions)) }
 {
-    // The law: each chunk of the cover holds some element of the box. It is about a box, and the start tells that it is one.
-    let _start = array_subset.start();
-    let cover = the_cover_names_the_chunks_that_meet_a_box(alloc, grid, array_subset)?;
+    array_subset.is_a_box();
+    let cover = grid.chunks_in_array_subset(alloc, array_subset)?;
     let Some(cover) = cover else {
         return Ok(None);
     };

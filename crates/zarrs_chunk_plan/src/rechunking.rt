@@ -18,7 +18,6 @@ use std::alloc::{AllocError, Global};
 use zarrs_chunk_base::{ArraySubset, IncompatibleDimensionalityError, Refusal};
 use zarrs_chunk_keys::ChunkKeyEncodingTraits;
 use zarrs_chunks::ChunkGridTraits;
-use zarrs_chunks::laws::the_cover_names_the_chunks_that_meet_a_box;
 
 /// What a rechunking copies: for each chunk of the target which parts of which chunks of the source, under which keys, and where in the target's
 /// chunk each goes. It is about the chunks of the target in a box of chunk numbers, so that a rechunking can be shared out by such boxes; the box
@@ -101,6 +100,7 @@ fn chunks_of_array<G: ChunkGridTraits>(
     ensures named { IfOk result (λ chunks. (chunk : List ℕ) → IsInside chunks chunk
         ↔ Meets (G.dimensions grid.now) (array_box (G.dimensions grid.now)) chunk) }
 {
-    let cover = the_cover_names_the_chunks_that_meet_a_box(alloc, grid, array);
+    array.is_a_box();
+    let cover = grid.chunks_in_array_subset(alloc, array);
     Ok(expect_answer(cover)?)
 }

@@ -95,8 +95,7 @@ pub fn the_cover_names_the_chunks_that_meet_a_box<G: ChunkGridTraits>(
         → IsInside cover chunk ↔ ((index : List ℕ) × InBox (G.dimensions grid.now) chunk index
         × IsInside array_subset.now index))) }
 {
-    // The law is about a box, and its start tells that it is one.
-    let _start = array_subset.start();
+    array_subset.is_a_box();
     grid.chunks_in_array_subset(alloc, array_subset)
 }
 
@@ -115,8 +114,7 @@ pub fn the_box_of_chunks_is_the_union_of_their_boxes<G: ChunkGridTraits>(
         → IsInside b index ↔ ((chunk : List ℕ) × IsInside chunks.now chunk
         × InBox (G.dimensions grid.now) chunk index))) }
 {
-    // As above.
-    let _start = chunks.start();
+    chunks.is_a_box();
     grid.chunks_subset(alloc, chunks)
 }
 
@@ -188,29 +186,21 @@ pub fn the_walk_over_a_box_gives_each_chunk_once()
 {}
 
 /// Each element of a box that has a cover lies in a chunk of the cover.
-pub fn each_element_of_a_box_lies_in_a_chunk_of_its_cover<G: ChunkGridTraits>(
-    grid: &G,
-    array_subset: &ArraySubset,
-)
-    ensures { (cover : Box) → IsCover (G.dimensions grid.now) array_subset.now cover
-        → (index : List ℕ) → IsInside array_subset.now index → (chunk : List ℕ)
+pub fn each_element_of_a_box_lies_in_a_chunk_of_its_cover<G: ChunkGridTraits>(grid: &G)
+    ensures { (elements cover : Box) → IsBox elements
+        → IsCover (G.dimensions grid.now) elements cover
+        → (index : List ℕ) → IsInside elements index → (chunk : List ℕ)
         × IsInside cover chunk × InBox (G.dimensions grid.now) chunk index }
-{
-    // As above.
-    let _start = array_subset.start();
-}
+{}
 
 /// A chunk of the cover of a box that isn't empty has an origin of 64-bit numbers: it starts at an element of the box or before one. It may
 /// end past 18446744073709551615, and then has no box.
-pub fn a_chunk_of_a_cover_has_an_origin<G: ChunkGridTraits>(grid: &G, array_subset: &ArraySubset)
-    ensures { (¬ IsEmptyBox array_subset.now) → (cover : Box)
-        → IsCover (G.dimensions grid.now) array_subset.now cover → (chunk : List ℕ)
+pub fn a_chunk_of_a_cover_has_an_origin<G: ChunkGridTraits>(grid: &G)
+    ensures { (elements cover : Box) → IsBox elements → (¬ IsEmptyBox elements)
+        → IsCover (G.dimensions grid.now) elements cover → (chunk : List ℕ)
         → IsInside cover chunk → (origin : List ℕ)
         × IsOrigin (G.dimensions grid.now) chunk origin × AllFit origin }
-{
-    // As above.
-    let _start = array_subset.start();
-}
+{}
 
 /// A chunk that is counted has a box exactly where it ends at 18446744073709551615 or before it: the one by which the contracts of the
 /// walks over boxes name their items.

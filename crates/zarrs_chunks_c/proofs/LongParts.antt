@@ -6,7 +6,6 @@ use Rattle.zarrs_chunk_base.proofs.Boxes.{within_lengths}
 use Rattle.zarrs_chunk_base.proofs.InEach.{length_numbers, length_values}
 use Rattle.zarrs_chunk_base.specs.ArraySubset.{Box, IsBox, IsEmptyBox}
 use Rattle.zarrs_chunk_base.specs.Dimension.{Dimension, Holds, IsChain}
-use Rattle.zarrs_chunks.proofs.Meeting.{cover_meets}
 use Rattle.zarrs_chunks.specs.Subsets.{IsCover}
 use Rattle.zarrs_chunks.specs.Walks.{chunks_in}
 use Rattle.zarrs_chunk_plan.proofs.Plans.{covered_meet}
@@ -67,9 +66,7 @@ module _ (ds : List Dimension) (IsKey : List ℕ → List ℕ → Type 0) (b : B
         let if_some : (¬ IsEmptyBox b) ⊎ (length ds ≡ 0) → (length b.start ≡ length ds) × IsCover ds b cover = λ which.
         (long, ⊎_elim is_cover.0 (λ none. is_cover.0 (none_is_not_empty b is_box (omega arith))) which)
         in
-        let meet = covered_meet ds b cover is_box (λ empty _. is_cover.1 empty) if_some
-        (λ not_empty. cover_meets ds b cover chains is_box not_empty (is_cover.0 not_empty))
-        in
+        let meet = covered_meet ds b cover chains is_box (λ empty _. is_cover.1 empty) if_some in
         all_zipped (Meets ds b) (IsPart ds IsKey b) (IsLongPart (length ds)) long_part (take count (drop first (chunks_in cover))) some.parts.items
         (all_taken (Meets ds b) count (drop first (chunks_in cover)) (all_dropped (Meets ds b) first (chunks_in cover) meet)) are.are_parts
 

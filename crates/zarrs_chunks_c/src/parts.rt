@@ -38,8 +38,7 @@ pub(crate) fn find_parts<G: ChunkGridTraits, E: ChunkKeyEncodingTraits>(
         (λ some. AllByRecursion (IsLongPart (length (G.dimensions grid.now))) some.parts.items)) }
     ensures refused { IfErr result (λ fault. fault ≡ Memory) }
 {
-    // The start tells that the box is one.
-    let _start = elements.start();
+    elements.is_a_box();
     Ok(some_parts(alloc, grid, encoding, elements, first, most)?)
 }
 

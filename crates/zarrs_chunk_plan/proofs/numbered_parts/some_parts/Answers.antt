@@ -9,9 +9,9 @@ use Rattle.zarrs_chunk_plan.proofs.numbered_parts.some_parts.Goals as goal
 
 pub parts_between-requires-clause-meet : goal.parts_between-requires-clause-meet
 parts_between-requires-clause-meet g c =
-    covered_meet (g.G.ChunkGridTraits.dimensions c.args.grid.now) c.args.array_subset.now c.in-Some.cover c.start-start.ensures.is_box
+    covered_meet (g.G.ChunkGridTraits.dimensions c.args.grid.now) c.args.array_subset.now c.in-Some.cover
+    (g.met.G.ChunkGridTraits.chained c.args.grid.now) c.is_a_box.ensures
     (rw c.in-Some.is at c.in_ok-cover.ensures.empty) (rw c.in-Some.is at c.in_ok-cover.ensures.answers)
-    (rw c.in-Some.is at c.in_ok-cover.ensures.cover)
 
 pub returns-clause-answers : goal.returns-clause-answers
 returns-clause-answers g c = λ some.

@@ -18,8 +18,7 @@ pub returns-clause-meet : goal.returns-clause-meet
 returns-clause-meet g c =
     let ds = g.G.ChunkGridTraits.dimensions c.args.grid.now in
     let about = c.in_ok-new.ensures.about in
-    let meet = covered_meet ds c.args.array_subset.now c.in-Some.cover c.start-start.ensures.is_box (rw c.in-Some.is at c.in_ok-cover.ensures.empty)
-    (rw c.in-Some.is at c.in_ok-cover.ensures.answers) (rw c.in-Some.is at c.in_ok-cover.ensures.cover)
-    in
+    let meet = covered_meet ds c.args.array_subset.now c.in-Some.cover (g.met.G.ChunkGridTraits.chained c.args.grid.now) c.is_a_box.ensures
+    (rw c.in-Some.is at c.in_ok-cover.ensures.empty) (rw c.in-Some.is at c.in_ok-cover.ensures.answers) in
     let left = subst (AllByRecursion (Meets ds c.args.array_subset.now)) (sym c.in_ok-new.ensures.left) meet in
     rw (about.same_grid, about.same_subset, c.in_ok-clone.ensures) left

@@ -2,5 +2,5 @@ use Rattle.zarrs_chunks.proofs.Meeting.{cover_holds}
 use Rattle.zarrs_chunks.proofs.laws.each_element_of_a_box_lies_in_a_chunk_of_its_cover.Goals as goal
 
 pub returns : goal.returns
-returns g c = λ cover is index inside.
-    cover_holds _ _ cover (g.met.G.ChunkGridTraits.chained c.args.grid.now) c.start-start.ensures.is_box is index inside
+returns g c = λ elements cover is_box is index inside.
+    cover_holds _ elements cover (g.met.G.ChunkGridTraits.chained c.args.grid.now) is_box is index inside

@@ -4,5 +4,5 @@ use Rattle.zarrs_chunks.proofs.laws.the_cover_names_the_chunks_that_meet_a_box.G
 
 pub returns-clause-cover : goal.returns-clause-cover
 returns-clause-cover g c = λ some.
-    answered_cover_meets _ _ (g.met.G.ChunkGridTraits.chained c.args.grid.now) c.start-start.ensures.is_box some
+    answered_cover_meets _ _ (g.met.G.ChunkGridTraits.chained c.args.grid.now) c.is_a_box.ensures some
     c.chunks_in_array_subset.result (c.chunks_in_array_subset.ensures.answers (inl some))
