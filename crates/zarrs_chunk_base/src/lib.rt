@@ -66,7 +66,7 @@ pub use json::rectilinear_configuration::RectilinearChunkGridConfiguration;
 pub use json::regular_configuration::{
     RegularBoundedChunkGridConfiguration, RegularChunkGridConfiguration,
 };
-pub use json::tree_form::{TreeForm, read_list};
+pub use json::tree_form::{TreeForm, read_list, write_list};
 pub use json::v2_configuration::V2ChunkKeyEncodingConfiguration;
 pub use metadata_error::MetadataError;
 pub use plugin_create_error::PluginCreateError;

@@ -180,14 +180,14 @@ impl TreeForm for RunLengthElement {
         if let Some(edge) = NonZeroU64::from_tree(alloc, tree)? {
             return Ok(Some(RunLengthElement::Single(edge)));
         }
-        let pair = <[NonZeroU64; 2]>::from_tree(alloc, tree)?;
-        Ok(pair.map(RunLengthElement::Repeated))
+        let pair = <(NonZeroU64, NonZeroU64)>::from_tree(alloc, tree)?;
+        Ok(pair.map(|(edge, count)| RunLengthElement::Repeated([edge, count])))
     }
 
     fn to_tree(&self, alloc: Global) -> Result<Value, AllocError> {
         match self {
             RunLengthElement::Single(edge) => edge.to_tree(alloc),
-            RunLengthElement::Repeated(pair) => pair.to_tree(alloc),
+            RunLengthElement::Repeated([edge, count]) => (*edge, *count).to_tree(alloc),
         }
     }
 }

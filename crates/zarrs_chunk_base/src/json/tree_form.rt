@@ -1,5 +1,5 @@
 //! Values that a JSON tree may stand for: sizes, edges, texts, and lists of them.
-ghost use Rattle.std.specs.Prelude.{◌≡◌, ◌++◌, IfOk, List, OnOk, Option, Some, [], ◌∷◌, is_some, length, map, option_map, slice_index, string_bytes};
+ghost use Rattle.std.specs.Prelude.{◌≡◌, ◌++◌, IfOk, List, OnOk, Option, Some, [], ◌∷◌, is_some, length, map, option_map, string_bytes};
 ghost use Rattle.std.specs.Prelude.{take, unwrap_or, ℕ, OnErr, if◌then◌else◌, None};
 ghost use Rattle.std.specs.Int.NonZero.{non_zero_u64_get};
 ghost use Rattle.serde_json.specs.Data.{Data, string};
@@ -120,10 +120,38 @@ impl<T: TreeForm> TreeForm for Vec<T> {
     }
 
     fn to_tree(&self, alloc: Global) -> Result<Value, AllocError> {
-        let mut trees = Vec::with_capacity(alloc, self.len())?;
-        for value in self {
-            trees.push(value.to_tree(alloc)?)?;
+        write_list(alloc, self.as_slice())
+    }
+}
+
+/// Two values of one form, as a list of both.
+impl<T: TreeForm> TreeForm for (T, T) {
+    ghost Seen = { T.Seen × T.Seen };
+
+    ghost seen = { λ pair. (T.seen pair.0, T.seen pair.1) };
+
+    ghost form = { pair_of T.form };
+
+    ghost written = { λ pair. list_tree T.written (pair.0 ∷ pair.1 ∷ []) };
+
+    fn from_tree(alloc: Global, tree: &Value) -> Result<Option<(T, T)>, AllocError> {
+        let Some(elements) = tree.as_array() else {
+            return Ok(None);
+        };
+        let [first, second] = elements.as_slice() else {
+            return Ok(None);
+        };
+        match (T::from_tree(alloc, first)?, T::from_tree(alloc, second)?) {
+            (Some(first), Some(second)) => Ok(Some((first, second))),
+            _ => Ok(None),
         }
+    }
+
+    fn to_tree(&self, alloc: Global) -> Result<Value, AllocError> {
+        let (first, second) = self;
+        let mut trees = Vec::with_capacity(alloc, 2)?;
+        trees.push(first.to_tree(alloc)?)?;
+        trees.push(second.to_tree(alloc)?)?;
         Ok(Value::Array(trees))
     }
 }
@@ -177,41 +205,19 @@ fn read_elements<T: TreeForm>(
     Ok(true)
 }
 
-/// Two edges, one after the other.
-impl TreeForm for [NonZeroU64; 2] {
-    ghost Seen = { ℕ × ℕ };
-
-    ghost seen = { λ pair. (
-      slice_index (map non_zero_u64_get pair) 0,
-      slice_index
-          (map non_zero_u64_get pair) 1,
-    ) };
-
-    ghost form = { pair_of edge_of };
-
-    ghost written = { λ pair. list_tree size_tree (pair.0 ∷ pair.1 ∷ []) };
-
-    fn from_tree(alloc: Global, tree: &Value) -> Result<Option<[NonZeroU64; 2]>, AllocError> {
-        let Some(elements) = tree.as_array() else {
-            return Ok(None);
-        };
-        let [first, second] = elements.as_slice() else {
-            return Ok(None);
-        };
-        match (
-            NonZeroU64::from_tree(alloc, first)?,
-            NonZeroU64::from_tree(alloc, second)?,
-        ) {
-            (Some(first), Some(second)) => Ok(Some([first, second])),
-            _ => Ok(None),
-        }
+/// The tree of a list of values of one form, which stands for them.
+///
+/// # Errors
+/// Out of memory.
+pub fn write_list<T: TreeForm>(alloc: Global, values: &[T]) -> Result<Value, AllocError>
+    ensures tree { IfOk result (λ value. view value
+        ≡ list_tree T.written (map T.seen values.now)) }
+    ensures reads_back { IfOk result (λ value. list_of T.form (view value)
+        ≡ Some (map T.seen values.now)) }
+{
+    let mut trees = Vec::with_capacity(alloc, values.len())?;
+    for value in values {
+        trees.push(value.to_tree(alloc)?)?;
     }
-
-    fn to_tree(&self, alloc: Global) -> Result<Value, AllocError> {
-        let [first, second] = self;
-        let mut trees = Vec::with_capacity(alloc, 2)?;
-        trees.push(first.to_tree(alloc)?)?;
-        trees.push(second.to_tree(alloc)?)?;
-        Ok(Value::Array(trees))
-    }
+    Ok(Value::Array(trees))
 }
