@@ -26,7 +26,7 @@
 //! | `json::configuration_form`, `members` | a configuration as a table of members, and how members are read |
 //! | `json::regular_configuration`, `rectangular_..`, `rectilinear_..` | the configurations of chunk grids |
 //! | `json::default_configuration`, `v2_..`, `default_suffix_..`, `separator_member` | those of chunk key encodings, and the member that they share |
-//! | `json::tree_form` | sizes, edges, texts and lists of them in a tree |
+//! | `json::tree_form` | sizes, edges, texts, boxes and lists in a tree |
 //! | `plugin_create_error`, `configuration_fault`, `metadata_error` | why an extension isn't made of its metadata |
 #![tactic(auto)]
 
@@ -66,7 +66,7 @@ pub use json::rectilinear_configuration::RectilinearChunkGridConfiguration;
 pub use json::regular_configuration::{
     RegularBoundedChunkGridConfiguration, RegularChunkGridConfiguration,
 };
-pub use json::tree_form::{TreeForm, read_list, write_list};
+pub use json::tree_form::{TreeForm, read_list, write_box, write_list};
 pub use json::v2_configuration::V2ChunkKeyEncodingConfiguration;
 pub use metadata_error::MetadataError;
 pub use plugin_create_error::PluginCreateError;

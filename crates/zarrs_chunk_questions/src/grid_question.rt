@@ -4,11 +4,12 @@ use crate::line_fault::LineFault;
 use crate::located::located_tree;
 use crate::pages::{Page, WalkOf, items_from, parts_from};
 use crate::question::{number, numbers, required_member};
-use crate::start_shape::{StartShape, box_tree, numbers_tree};
 use crate::walk_items::{Limits, first_items};
 use serde_json::{Map, Value};
 use std::alloc::{AllocError, Global};
-use zarrs_chunk_base::{ArraySubset, IncompatibleDimensionalityError, Refusal, TreeForm};
+use zarrs_chunk_base::{
+    ArraySubset, IncompatibleDimensionalityError, Refusal, TreeForm, write_box, write_list,
+};
 use zarrs_chunk_plan::parts;
 use zarrs_chunks::{ChunkGrid, ChunkGridTraits, Comparisons, RectilinearChunkGrid, locate};
 
@@ -37,8 +38,8 @@ impl GridQuestion<'_> {
     pub(crate) fn answer(&self, alloc: Global) -> Result<Value, Refusal<LineFault>> {
         match self.call {
             "dimensionality" => Ok(Value::from(self.grid(alloc)?.dimensionality())),
-            "array_shape" => Ok(numbers_tree(alloc, self.grid(alloc)?.array_shape())?),
-            "grid_shape" => Ok(numbers_tree(alloc, self.grid(alloc)?.grid_shape())?),
+            "array_shape" => Ok(write_list(alloc, self.grid(alloc)?.array_shape())?),
+            "grid_shape" => Ok(write_list(alloc, self.grid(alloc)?.grid_shape())?),
             "configuration" => Ok(Value::Object(self.grid(alloc)?.configuration(alloc)?)),
             "metadata" => Ok(self.grid(alloc)?.metadata(alloc)?.to_tree(alloc)?),
             "locate" => self.locate(alloc),
@@ -174,7 +175,7 @@ impl GridQuestion<'_> {
         let elements = self.box_asked(alloc)?;
         let grid = self.grid(alloc)?;
         let encoding = make_encoding(alloc, encoding)?;
-        let elements = elements.into_box()?;
+        let elements = box_of(elements)?;
         let limits = self.limits(&page, &grid, 5);
         if let Some(first) = page.first {
             return parts_from(alloc, &grid, &encoding, &elements, first, &limits);
@@ -216,14 +217,20 @@ impl GridQuestion<'_> {
     fn box_and_grid(&self, alloc: Global) -> Result<(ArraySubset, ChunkGrid), Refusal<LineFault>> {
         let elements = self.box_asked(alloc)?;
         let grid = self.grid(alloc)?;
-        Ok((elements.into_box()?, grid))
+        Ok((box_of(elements)?, grid))
     }
 
     /// The start and the shape that the call is asked of.
-    fn box_asked(&self, alloc: Global) -> Result<StartShape, Refusal<LineFault>> {
-        let start_shape = StartShape::from_tree(alloc, required_member(self.tree, "of")?)?;
-        start_shape.ok_or(Refusal::Refused(LineFault::WrongValue("of")))
+    fn box_asked(&self, alloc: Global) -> Result<(Vec<u64>, Vec<u64>), Refusal<LineFault>> {
+        let both = <(Vec<u64>, Vec<u64>)>::from_tree(alloc, required_member(self.tree, "of")?)?;
+        both.ok_or(Refusal::Refused(LineFault::WrongValue("of")))
     }
+}
+
+/// The box of a start and a shape.
+fn box_of((start, shape): (Vec<u64>, Vec<u64>)) -> Result<ArraySubset, Refusal<LineFault>> {
+    let subset = ArraySubset::new_with_start_shape(start, shape);
+    subset.map_err(|error| Refusal::Refused(LineFault::Box(error)))
 }
 
 /// The tree of an answer that is a list, or `null` where there is none.
@@ -256,7 +263,7 @@ fn box_or_null(
     answer: Result<Option<ArraySubset>, Refusal<IncompatibleDimensionalityError>>,
 ) -> Result<Value, Refusal<LineFault>> {
     match answer.map_err(|refusal| refusal.map(LineFault::Lengths))? {
-        Some(subset) => Ok(box_tree(alloc, &subset)?),
+        Some(subset) => Ok(write_box(alloc, &subset)?),
         None => Ok(Value::Null),
     }
 }

@@ -17,7 +17,6 @@
 //! | `question` | what is asked, and what answers it |
 //! | `grid_question` | the calls of a chunk grid, by their names, and what each answers |
 //! | `extensions` | the chunk grid and the chunk key encoding that metadata gives, as a tree or as text |
-//! | `start_shape` | a box as a question writes it |
 //! | `located` | where an element is stored, as an answer writes it |
 //! | `walk_items` | the items of a walk, as an answer writes them |
 //! | `pages` | the items of a walk and of a plan, from one of them on |
@@ -31,7 +30,6 @@ mod line_fault;
 mod located;
 mod pages;
 mod question;
-mod start_shape;
 mod walk_items;
 
 pub use answer_line::{answer, answer_within};

@@ -2,10 +2,9 @@
 ghost use Rattle.std.specs.Iterator.{IsFinite};
 
 use crate::line_fault::LineFault;
-use crate::start_shape::{box_tree, numbers_tree};
 use serde_json::{Map, Value};
 use std::alloc::{AllocError, Global};
-use zarrs_chunk_base::{ArraySubset, Refusal};
+use zarrs_chunk_base::{ArraySubset, Refusal, write_box, write_list};
 use zarrs_chunk_plan::Part;
 use zarrs_chunks::ArrayIndicesTinyVec;
 
@@ -18,14 +17,14 @@ pub(crate) trait WalkItem: Drop {
 /// A chunk: its numbers.
 impl WalkItem for ArrayIndicesTinyVec {
     fn to_tree(&self, alloc: Global) -> Result<Value, AllocError> {
-        numbers_tree(alloc, self.as_slice())
+        write_list(alloc, self.as_slice())
     }
 }
 
 /// A box: `[start, shape]`.
 impl WalkItem for ArraySubset {
     fn to_tree(&self, alloc: Global) -> Result<Value, AllocError> {
-        box_tree(alloc, self)
+        write_box(alloc, self)
     }
 }
 
@@ -44,9 +43,9 @@ impl WalkItem for Part {
     fn to_tree(&self, alloc: Global) -> Result<Value, AllocError> {
         let mut members = Map::new(alloc);
         serde_json::put(&mut members, alloc, "chunk", self.chunk.to_tree(alloc)?)?;
-        let in_chunk = box_tree(alloc, &self.in_chunk)?;
+        let in_chunk = write_box(alloc, &self.in_chunk)?;
         serde_json::put(&mut members, alloc, "in_chunk", in_chunk)?;
-        let in_subset = box_tree(alloc, &self.in_subset)?;
+        let in_subset = write_box(alloc, &self.in_subset)?;
         serde_json::put(&mut members, alloc, "in_subset", in_subset)?;
         let key = Value::try_from_str(alloc, self.key.as_str())?;
         serde_json::put(&mut members, alloc, "key", key)?;

@@ -1,4 +1,4 @@
-//! Values that a JSON tree may stand for: sizes, edges, texts, and lists of them.
+//! Values that a JSON tree may stand for: sizes, edges, texts, boxes, and lists of them.
 ghost use Rattle.std.specs.Prelude.{◌≡◌, ◌++◌, IfOk, List, OnOk, Option, Some, [], ◌∷◌, is_some, length, map, option_map, string_bytes};
 ghost use Rattle.std.specs.Prelude.{take, unwrap_or, ℕ, OnErr, if◌then◌else◌, None};
 ghost use Rattle.std.specs.Int.NonZero.{non_zero_u64_get};
@@ -7,6 +7,7 @@ ghost use Rattle.serde_json.specs.Find.{as_str};
 ghost use Rattle.serde_json.specs.View.{view, items_view};
 ghost use Rattle.zarrs_chunk_base.specs.Json.{size_of, edge_of, list_of, pair_of, size_tree, list_tree, each_of};
 
+use crate::ArraySubset;
 use serde_json::Value;
 use std::alloc::{AllocError, Global};
 use std::num::NonZeroU64;
@@ -220,4 +221,20 @@ pub fn write_list<T: TreeForm>(alloc: Global, values: &[T]) -> Result<Value, All
         trees.push(value.to_tree(alloc)?)?;
     }
     Ok(Value::Array(trees))
+}
+
+/// The tree of a box: a list of its start and its shape.
+///
+/// # Errors
+/// Out of memory.
+pub fn write_box(alloc: Global, subset: &ArraySubset) -> Result<Value, AllocError>
+    ensures tree { IfOk result (λ value. view value
+        ≡ list_tree (list_tree size_tree) (subset.now.start ∷ subset.now.shape ∷ [])) }
+    ensures reads_back { IfOk result (λ value. pair_of (list_of size_of) (view value)
+        ≡ Some (subset.now.start, subset.now.shape)) }
+{
+    let mut lists = Vec::with_capacity(alloc, 2)?;
+    lists.push(write_list(alloc, subset.start())?)?;
+    lists.push(write_list(alloc, subset.shape())?)?;
+    Ok(Value::Array(lists))
 }
