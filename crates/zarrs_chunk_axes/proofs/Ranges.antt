@@ -9,10 +9,6 @@ module _ (d : Dimension) (c : ℕ) where
   pub no_start : ((o : ℕ) → StartsAt d c o → greatest < o) → (range : ℕ × ℕ) → ¬ HasRange d c range
   no_start past range has = let large : greatest < range.0 = past range.0 has.start in let fits = has.fits in absurd (omega arith)
 
-  -- what is no chunk has none
-  pub no_edge : (¬ IsTrue (d.has_chunk c)) → (range : ℕ × ℕ) → ¬ HasRange d c range
-  no_edge none range has = none has.edge.chunk
-
   -- what ends past the greatest number has none
   pub no_end : (o s : ℕ) → StartsAt d c o → HasEdge d c s → greatest < o + s → (range : ℕ × ℕ) → ¬ HasRange d c range
   no_end o s starts long past range has =

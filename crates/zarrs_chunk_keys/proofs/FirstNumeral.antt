@@ -71,10 +71,6 @@ begins_text n c others (e ∷ numeral) rest is same =
     let (d, small, is_digit) = begins n e numeral is in
     (d, small, here ∙ is_digit)
 
-pub no_text_begins : (n : ℕ) (numeral rest : List ℕ) → IsNumeral n numeral → ¬ ([] ≡ numeral ++ rest)
-no_text_begins n [] rest is same = some_digit n is
-no_text_begins n (e ∷ numeral) rest is same = cc
-
 ends : (b : ℕ) (numbers text : List ℕ) → IsNumerals b numbers text → EndsBefore b text
 ends b [] text none = rw none tt
 ends b (n ∷ numbers) text (numeral, rest, is, are, same) = rw same refl
@@ -94,9 +90,6 @@ first_is b n numeral tail rest (m ∷ numbers) low is begins stops (other, behin
 pub record AreRead (b : ℕ) (text rest numbers : List ℕ) : Type 0 where
   pub to : (more : List ℕ) → IsNumerals b more (b ∷ rest) → IsNumerals b (numbers ++ more) (b ∷ text)
   pub from : (all : List ℕ) → IsNumerals b all (b ∷ text) → (more : List ℕ) × (all ≡ numbers ++ more) × IsNumerals b more (b ∷ rest)
-
-pub none_read : (b : ℕ) (text numbers : List ℕ) → numbers ≡ [] → AreRead b text text numbers
-none_read b text numbers none = rw none (record { to = λ more are. are; from = λ all are. (all, refl, are) })
 
 pub one_read : (b n : ℕ) (text rest numeral others numbers more : List ℕ) → b < 48 → AreRead b text rest numbers → IsNumeral n numeral
     → rest ≡ numeral ++ b ∷ others → more ≡ numbers ++ n ∷ [] → AreRead b text others more
@@ -135,8 +128,7 @@ some_left b text rest numbers all so_far are =
     let (behind, same, behind_are) = so_far.from all are in more_than b rest numbers all behind same behind_are where
       more_than : (b : ℕ) (rest numbers all behind : List ℕ) → all ≡ numbers ++ behind → IsNumerals b behind (b ∷ rest) → length numbers < length all
       more_than b rest numbers all [] same none = cc
-      more_than b rest numbers all (n ∷ behind) same are =
-          let lengths = ap length same in let sum = length-append numbers (n ∷ behind) in omega arith
+      more_than b rest numbers all (n ∷ behind) same are = let lengths = ap length same in let sum = length-append numbers (n ∷ behind) in omega arith
 
 fits_behind : (numbers : List ℕ) (n : ℕ) (behind : List ℕ) → AllFit (numbers ++ n ∷ behind) → n ≤ greatest
 fits_behind [] n behind fit = fit.0

@@ -72,13 +72,6 @@ v2_of_numerals separator (n ∷ others) key some (numeral, rest, is, are, begins
     let same : numeral ++ rest ≡ key = cc in
     subst (IsV2Key separator (n ∷ others)) same (is_v2_key separator n others numeral rest is are)
 
--- the v2 key of no numbers
-pub v2_key_of_none : (separator : ChunkKeySeparator) (chunk key : List ℕ) → length chunk ≡ 0 → IsV2Key separator chunk key → key ≡ codes "0"
-v2_key_of_none separator chunk key short (zero_alone none is) = is
-v2_key_of_none separator chunk key short (one_number last one) = let lengths = ap length one in absurd (omega arith)
-v2_key_of_none separator chunk key short (number_more {others = others} {n = n} rest some last more is) =
-    let lengths = ap length more in let sum = length-append others (n ∷ []) in absurd (omega arith)
-
 -- what stands behind the `c` of a default key is its numerals
 pub behind_c : (separator : ChunkKeySeparator) (chunk key numerals : List ℕ) → key ≡ codes "c" ++ numerals → IsDefaultKey separator chunk key
     → IsNumerals (separator_byte separator) chunk numerals

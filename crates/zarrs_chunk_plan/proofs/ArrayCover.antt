@@ -34,8 +34,7 @@ module _ (ds : List Dimension) where
         → (chunk : List ℕ) → IsInside cover chunk ↔ Meets ds (array_box ds) chunk
     cover_names cover is chains is_box chunk = ⊎_elim of_empty of_some (empty_or_some (array_sizes ds)) where
       of_some : (¬ IsEmptyBox (array_box ds)) → IsInside cover chunk ↔ Meets ds (array_box ds) chunk
-      of_some some =
-          cover_meets ds (array_box ds) cover chains is_box some (subst (AnswersCover ds (array_box ds)) is (if_some (inl some))).1 chunk
+      of_some some = cover_meets ds (array_box ds) cover chains is_box some (subst (AnswersCover ds (array_box ds)) is (if_some (inl some))).1 chunk
 
       of_empty : IsEmptyBox (array_box ds) → IsInside cover chunk ↔ Meets ds (array_box ds) chunk
       of_empty empty =

@@ -76,8 +76,7 @@ at_digit first size digit place start shape chunk less is =
     let within = slice_get_within lists place numbers found in
     let zero_digit : 0 + digit ≡ digit = omega arith in
     rw (
-      slice_get-map (counted_from (first ∷ start)) (rows 0 size lists)
-          (digit * length lists + place),
+      slice_get-map (counted_from (first ∷ start)) (rows 0 size lists) (digit * length lists + place),
       at_row 0 size digit place lists less within,
       found,
       zero_digit,

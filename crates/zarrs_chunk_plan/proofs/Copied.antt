@@ -79,8 +79,7 @@ module _ {G E H F : Type 0} (source_dimensions : G → List Dimension) (source_k
       rw (same, none) ([], refl, tt, record { same_source = refl; same_source_encoding = refl; targets = targets }, can)
 
   pub one_more_group : (before after : Copies G E H F) (group : ChunkCopies G E) (from : List Part) (groups more : List Group)
-      → GroupsHaveCome before groups
-      → GivesCopies source_dimensions target_dimensions target_key before (Some (Ok group)) after
+      → GroupsHaveCome before groups → GivesCopies source_dimensions target_dimensions target_key before (Some (Ok group)) after
       → ArePartsToCome source_dimensions source_key group.from from → more ≡ groups ++ (group.to, from) ∷ [] → GroupsHaveCome after more
   one_more_group before after group from groups more (came, left, are, about, can) gives parts is =
       let planned = gives.from can in

@@ -70,8 +70,7 @@ abbrev pub from_start : List ℕ → List ℕ → Box → Box
 from_start origin edges b = record { start = distances b.start origin; shape = shared_sizes origin edges b.start b.shape }
 
 pub boxes_are : (ds : List Dimension) (b : Box) (chunk origin edges : List ℕ) → IsBox b → Meets ds b chunk → IsOrigin ds chunk origin
-    → IsShape ds chunk edges
-    → IsBox (from_chunk origin edges b) × IsBox (from_start origin edges b)
+    → IsShape ds chunk edges → IsBox (from_chunk origin edges b) × IsBox (from_start origin edges b)
     × AreShared ds b chunk (from_chunk origin edges b) (from_start origin edges b)
 boxes_are ds b chunk origin edges is_box meets is long = (in_chunk, in_subset, shared) where
   edges_many : length edges ≡ length origin

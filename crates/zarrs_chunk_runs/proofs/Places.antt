@@ -44,14 +44,8 @@ module _ (runs : List (ℕ × ℕ)) (k d : ℕ) (within : k < length runs) where
       let run = get_or runs k (0, 0) in
       let more : sum (edges_of_runs (take (suc k) runs)) ≡ sum (edges_of_runs (take k runs) ++ edges_of_run run) =
       ap sum (one_run_more runs k (0, 0) within) in
-      omega (
-        arith,
-        end_at runs k d within,
-        more,
-        sum_by-append (λ x. x) (edges_of_runs (take k runs))
-            (edges_of_run run),
-        sum_by-replicate (λ x. x) run.1 run.0,
-      )
+      let parts = sum_by-append (λ x. x) (edges_of_runs (take k runs)) (edges_of_run run) in
+      omega (arith, end_at runs k d within, more, parts, sum_by-replicate (λ x. x) run.1 run.0)
 
   -- and so many chunks
   pub chunk_end_after : get_or (chunk_ends_of runs) k d ≡ length (edges_of_runs (take k runs)) + (get_or runs k (0, 0)).1
@@ -257,8 +251,7 @@ edge_found runs c k is =
     let from = is.from in
     let at : length (edges_of_runs (take k runs)) + (c - length (edges_of_runs (take k runs))) ≡ c = omega arith in (
       omega (arith, chunks_within runs k is.run),
-      ap (λ n. get_or (edges_of_runs runs) n 0) (sym at)
-          ∙ edge_within runs k is.run (c - length (edges_of_runs (take k runs))) own,
+      ap (λ n. get_or (edges_of_runs runs) n 0) (sym at) ∙ edge_within runs k is.run (c - length (edges_of_runs (take k runs))) own,
     )
 
 -- where it starts

@@ -23,14 +23,8 @@ sum_of_edges (run ∷ runs) =
 pub count_of_edges : (runs : List (ℕ × ℕ)) → length (edges_of_runs runs) ≡ sum (map count_of_run runs)
 count_of_edges [] = refl
 count_of_edges (run ∷ runs) =
-    omega (
-      arith,
-      length-append (edges_of_run run) (edges_of_runs runs),
-      length-replicate run.1 run.0,
-      count_of_edges runs,
-      sum_by-cons (λ x. x)
-          (count_of_run run) (map count_of_run runs),
-    )
+    let both = length-append (edges_of_run run) (edges_of_runs runs) in
+    omega (arith, both, length-replicate run.1 run.0, count_of_edges runs, sum_by-cons (λ x. x) (count_of_run run) (map count_of_run runs))
 
 pub length_running : (from : ℕ) (numbers : List ℕ) → length (running from numbers) ≡ length numbers
 length_running from [] = refl
@@ -83,19 +77,3 @@ one_run_more (run ∷ runs) zero d within = append_nil_both (edges_of_run run) w
 one_run_more (run ∷ runs) (suc k) d within =
     ap (λ rest. edges_of_run run ++ rest) (one_run_more runs k d (omega arith))
     ∙ sym (append_assoc (edges_of_run run) (edges_of_runs (take k runs)) (edges_of_run (get_or runs k d)))
-
-module _ (sums : List ℕ) (sought : ℕ) (rises : IsNonDecreasingBy (λ x. x) sums) where
-  -- those after a greater one are greater
-  pub stays_above : StaysTrue (length sums) (compared sums sought)
-  stays_above j k order within above =
-      let greater : sought < get_or sums j 0 = ltb-true sought (get_or sums j 0) above in
-      lt-ltb sought (get_or sums k 0) (omega (arith, rises j k 0 order within))
-
-  -- the first greater one, by what is asked at each place
-  pub is_first_above : (place : ℕ) → IsFirstTrue (length sums) (compared sums sought) place → IsFirstAbove sums sought place
-  is_first_above place first = record {
-    bound = first.bound;
-    low = λ k below. ⊎_elim (λ (greater : sought < get_or sums k 0). absurd (first.before k below (lt-ltb sought (get_or sums k 0) greater))) (λ h. h)
-        (cases_lt sought (get_or sums k 0));
-    high = λ k past within. ltb-true sought (get_or sums k 0) (stays_above place k past within (first.at (omega arith)));
-  }

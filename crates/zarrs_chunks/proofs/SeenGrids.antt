@@ -151,8 +151,7 @@ said_edges grid configuration said (x, accepted, made, form, written, is) says =
     (subst (λ y. AreRectilinear shape (map edges_of_lengths y)) same accepted, made.1 ∙ ap (map edges_of_lengths) same)
 
 pub edges_again : (grid again : RectilinearChunkGrid) (configuration : Members) (said : List EdgeLengths) → HasMembers grid configuration
-    → Say configuration said
-    → array_sizes (rectilinear_of again).dimensions ≡ array_sizes (rectilinear_of grid).dimensions
+    → Say configuration said → array_sizes (rectilinear_of again).dimensions ≡ array_sizes (rectilinear_of grid).dimensions
     → (rectilinear_of again).edges ≡ map edges_of_lengths said → (rectilinear_of again).dimensions ≡ (rectilinear_of grid).dimensions
 edges_again grid again configuration said has says sizes edges =
     same_dimensions (Rectilinear again) (Rectilinear grid) refl sizes (edges ∙ sym (said_edges grid configuration said has says).1)

@@ -22,8 +22,7 @@ cover_of_any (d ∷ ds) b (Some cover) is_box empty answers =
 
 -- what holds of a box that may be there holds of the one that was left
 pub of_left : {X : Type 0} (result : Result Bool X) (found : Option Box) (left : Box) (None_holds : Type 0) (P : Box → Type 0)
-    → MatchOption found None_holds P
-    → IfOk result (λ is_found. MatchOption found (is_found ≡ false) (λ b. (is_found ≡ true) × (b ≡ left)))
+    → MatchOption found None_holds P → IfOk result (λ is_found. MatchOption found (is_found ≡ false) (λ b. (is_found ≡ true) × (b ≡ left)))
     → IfOk result (λ is_found. cond is_found (P left) None_holds)
 of_left (Err e) found left None_holds P holds told = tt
 of_left (Ok is_found) None left None_holds P holds told = rw told holds

@@ -19,10 +19,3 @@ ends_before width other number less =
     let more = mul-le-mul_right {m = other + 1} {n = number} width (omega arith) in
     let split = add-mul other 1 width in
     omega arith
-
--- of as many numbers as so many lists have, there is each list
-pub has_list : (width count total number : ℕ) → total ≡ width * count → number < count → number * width + width ≤ total
-has_list width count total number is less =
-    let before = ends_before width number count less in
-    let turned = mul_comm width count in
-    omega arith

@@ -82,7 +82,6 @@ suffix_fits members x is =
     let both = made_of_both (λ separator suffix. record { separator = separator; suffix = suffix }) (default_value members)
     (value_of (codes "suffix") as_str members) x is
     in (
-      optional_fits Slash
-          (codes "separator") separator_in members both.0.0 both.0.1,
+      optional_fits Slash (codes "separator") separator_in members both.0.0 both.0.1,
       (required_fits (codes "suffix") as_str members both.1.0 both.1.1, tt),
     )

@@ -21,8 +21,7 @@ record AreParts (front other_front : List ℕ) (n m : ℕ) : Type 0 where
   same_number : n ≡ m
 
 parts : (separator : ChunkKeySeparator) (front other_front numeral other_numeral key : List ℕ) (n m : ℕ) → IsNumeral n numeral
-    → IsNumeral m other_numeral
-    → key ≡ front ++ separator_byte separator ∷ numeral → key ≡ other_front ++ separator_byte separator ∷ other_numeral
+    → IsNumeral m other_numeral → key ≡ front ++ separator_byte separator ∷ numeral → key ≡ other_front ++ separator_byte separator ∷ other_numeral
     → AreParts front other_front n m
 parts separator front other_front numeral other_numeral key n m is other first second =
     let both = same_parts (separator_byte separator) front other_front numeral other_numeral (low separator) (numeral_is_high n numeral is)

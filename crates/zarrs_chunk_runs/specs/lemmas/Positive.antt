@@ -17,13 +17,8 @@ joined : (first rest : List ℕ) → ArePositive first → ArePositive rest → 
 joined first rest some others k within =
     ⊎_elim (λ (below : k < length first). omega (arith, get_or_append_left first rest 0 k below, some k below))
     (λ (past : length first ≤ k).
-    omega (
-      arith,
-      get_or-append_right first rest (length first) k 0 refl past,
-      length-append first rest,
-      others (k - length first)
-          (omega (arith, length-append first rest)),
-    ))
+    let lengths = length-append first rest in
+    omega (arith, get_or-append_right first rest (length first) k 0 refl past, lengths, others (k - length first) (omega (arith, lengths))))
     (cases_lt k (length first))
 
 repeated : (count edge : ℕ) → 0 < edge → ArePositive (replicate count edge)
