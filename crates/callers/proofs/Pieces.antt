@@ -47,8 +47,7 @@ has_elements ds IsKey subset answers array chunk part piece places stored is (bo
     in
     subst (λ b. AllZip (λ place element. element ≡ array (counted_from subset.start place)) (chunks_in b) piece.elements.items) (sym box)
     (subst (λ sizes. AllZip (λ place element. element ≡ array (counted_from subset.start place))
-    (map (counted_from part.in_subset.start) (row_major sizes)) piece.elements.items)
-    same_shape elements)
+    (map (counted_from part.in_subset.start) (row_major sizes)) piece.elements.items) same_shape elements)
 
 each_has : (ds : List Dimension) (IsKey : List ℕ → List ℕ → Type 0) (subset : Box) (answers : List ℕ → List ℕ → ℕ → Type 0) (array : List ℕ → ℕ)
     (chunks : List (List ℕ)) (parts : List Part) (pieces : List Piece) → HavePlaces ds IsKey subset → HoldsArray ds IsKey answers array

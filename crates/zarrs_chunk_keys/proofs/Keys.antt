@@ -10,8 +10,7 @@ pub is_default_key : (separator : ChunkKeySeparator) (chunk numerals : List ℕ)
     → IsDefaultKey separator chunk (codes "c" ++ numerals)
 is_default_key separator chunk numerals are =
     appended (separator_byte separator) (IsDefaultKey separator) (λ numbers key numeral n is one. one_more is one refl refl) []
-    (codes "c") chunk numerals
-    (c_alone refl refl) are
+    (codes "c") chunk numerals (c_alone refl refl) are
 
 not_empty : (numbers : List ℕ) (n : ℕ) → numbers ++ n ∷ [] ≢ []
 not_empty [] n same = let lengths = ap length same in absurd (omega arith)

@@ -48,8 +48,7 @@ at_row first (suc count) (suc digit) place others less within =
     let same : first + suc digit ≡ first + 1 + digit = omega arith in
     rw (
       in_second (map (λ numbers. first ∷ numbers) others) (rows (first + 1) count others) (digit * length others + place)
-          (suc digit * length others + place)
-          (omega arith),
+          (suc digit * length others + place) (omega arith),
       same,
     )
     (at_row (first + 1) count digit place others (omega arith) within)
@@ -81,8 +80,7 @@ at_digit first size digit place start shape chunk less is =
       found,
       zero_digit,
       same,
-    )
-    refl
+    ) refl
 
 -- ---- numbers
 

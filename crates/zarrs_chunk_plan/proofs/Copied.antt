@@ -57,8 +57,7 @@ module _ {G E H F : Type 0} (source_dimensions : G → List Dimension) (target_d
 -- ---- the groups that came of a walk, one for each chunk that came; at the end they are a rechunking
 
 module _ {G E H F : Type 0} (source_dimensions : G → List Dimension) (source_key : E → List ℕ → List ℕ → Type 0)
-    (target_dimensions : H → List Dimension)
-    (target_key : F → List ℕ → List ℕ → Type 0) (begin : Copies G E H F) where
+    (target_dimensions : H → List Dimension) (target_key : F → List ℕ → List ℕ → Type 0) (begin : Copies G E H F) where
   abbrev pub IsGroupOf : List ℕ → Group → Type 0
   IsGroupOf =
       AreCopiesInto (source_dimensions begin.source.now) (source_key begin.source_encoding.now) (target_dimensions begin.targets.grid.now)

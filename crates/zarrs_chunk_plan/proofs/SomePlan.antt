@@ -116,8 +116,7 @@ module _ (ds : List Dimension) (IsKey : List ℕ → List ℕ → Type 0) (chain
 
 module _ (source : List Dimension) (IsSourceKey : List ℕ → List ℕ → Type 0) (target : List Dimension) (IsTargetKey : List ℕ → List ℕ → Type 0)
     (chains : AllByRecursion IsChain source) (also_chains : AllByRecursion IsChain target) (keys : HasKeys IsSourceKey)
-    (also_keys : HasKeys IsTargetKey)
-    (one_array : array_sizes source ≡ array_sizes target) (is_box : IsBox (array_box target)) where
+    (also_keys : HasKeys IsTargetKey) (one_array : array_sizes source ≡ array_sizes target) (is_box : IsBox (array_box target)) where
   has_group : (chunk : List ℕ) → Meets target (array_box target) chunk
       → (group : Group) × AreCopiesInto source IsSourceKey target IsTargetKey chunk group
   has_group chunk meets =

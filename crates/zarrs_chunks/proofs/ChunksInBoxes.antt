@@ -78,8 +78,9 @@ counted_in_order : (start shape one other : List ℕ) → length start ≡ lengt
 counted_in_order [] [] [] [] same below also before = before
 counted_in_order (s ∷ start) (n ∷ shape) (i ∷ one) (j ∷ other) same below also before =
     ⊎_elim (λ (less : i < j). inl (omega arith))
-    (λ rest. let first : s + i
-    ≡ s + j = ap₂ ◌+◌ refl rest.0 in inr (first, counted_in_order start shape one other (omega arith) below.1 also.1 rest.1))
+    (λ rest.
+    let first : s + i ≡ s + j = ap₂ ◌+◌ refl rest.0 in
+    inr (first, counted_in_order start shape one other (omega arith) below.1 also.1 rest.1))
     before
 counted_in_order _ _ _ _ same below also before = absurd (omega arith)
 

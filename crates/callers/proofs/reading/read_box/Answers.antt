@@ -29,8 +29,7 @@ loop-part-preserved g c =
     let IsOne = IsRead (g.S.ChunkStore.answers c.args.store.now) in (
       more,
       one_more g.G.ChunkGridTraits.dimensions g.E.ChunkKeyEncodingTraits.is_key c.into_iter-part-iterator.result
-          c.loop-part.part-iterator c.next.new.self part
-          came more have gives refl,
+          c.loop-part.part-iterator c.next.new.self part came more have gives refl,
       subst (AllZip IsOne more) (sym c.in_ok-push.ensures.items)
           (all_zipped_more IsOne came c.loop-part.pieces.items part c.in_ok-read_part.field-0 are c.in_ok-read_part.ensures),
     )

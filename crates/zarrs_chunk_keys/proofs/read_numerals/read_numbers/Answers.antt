@@ -68,8 +68,7 @@ loop-rest-preserved c =
     record {
       fit = rw c.push_reserved.ensures.items (fit_pushed numbers n c.loop-rest.invariant.fit fits);
       read = one_read b n c.args.text.now rest numeral others numbers c.push_reserved.new.self.items
-          (low c.args.separator) c.loop-rest.invariant.read is behind
-          c.push_reserved.ensures.items;
+          (low c.args.separator) c.loop-rest.invariant.read is behind c.push_reserved.ensures.items;
       within = omega arith;
       room = let capacity = c.push_reserved.ensures.capacity in let room = c.loop-rest.invariant.room in omega arith;
     }

@@ -17,8 +17,7 @@ loop-group-preserved g c =
     one_more_group g.G.ChunkGridTraits.dimensions g.E.ChunkKeyEncodingTraits.is_key g.H.ChunkGridTraits.dimensions
     g.F.ChunkKeyEncodingTraits.is_key c.args.walk
     c.loop-group.group-iterator c.next.new.self c.in_ok-group.group c.in_ok-from.from.items (groups_of c.loop-group.all.items)
-    (groups_of c.push.new.self.items)
-    c.loop-group.invariant gives c.in_ok-from.ensures (ap groups_of c.in_ok-push.ensures.items ∙ map-append _ _ _)
+    (groups_of c.push.new.self.items) c.loop-group.invariant gives c.in_ok-from.ensures (ap groups_of c.in_ok-push.ensures.items ∙ map-append _ _ _)
 
 pub returns : goal.returns
 returns g c =

@@ -6,5 +6,4 @@ use Rattle.zarrs_chunk_plan.proofs.laws.all_groups.Given as goal
 abbrev pub invariant-loop-group : goal.invariant-loop-group
 invariant-loop-group g l =
     GroupsHaveCome g.G.ChunkGridTraits.dimensions g.E.ChunkKeyEncodingTraits.is_key g.H.ChunkGridTraits.dimensions
-    g.F.ChunkKeyEncodingTraits.is_key l.fn.walk
-    l.group-iterator (groups_of l.all.items)
+    g.F.ChunkKeyEncodingTraits.is_key l.fn.walk l.group-iterator (groups_of l.all.items)

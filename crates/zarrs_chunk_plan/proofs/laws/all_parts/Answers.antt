@@ -10,11 +10,9 @@ pub loop-part-preserved : goal.loop-part-preserved
 loop-part-preserved g c =
     let gives = rw c.in_ok-part.was at c.in-Some.ensures.steps in
     one_more g.G.ChunkGridTraits.dimensions g.E.ChunkKeyEncodingTraits.is_key c.args.walk c.loop-part.part-iterator
-    c.next.new.self c.in_ok-part.field-0
-    c.loop-part.all.items c.push.new.self.items c.loop-part.invariant gives c.in_ok-push.ensures.items
+    c.next.new.self c.in_ok-part.field-0 c.loop-part.all.items c.push.new.self.items c.loop-part.invariant gives c.in_ok-push.ensures.items
 
 pub returns : goal.returns
 returns g c =
     at_last g.G.ChunkGridTraits.dimensions g.E.ChunkKeyEncodingTraits.is_key c.args.walk c.loop-part.part-iterator
-    c.next.new.self c.loop-part.all.items
-    c.loop-part.invariant c.in-None.ensures.steps
+    c.next.new.self c.loop-part.all.items c.loop-part.invariant c.in-None.ensures.steps

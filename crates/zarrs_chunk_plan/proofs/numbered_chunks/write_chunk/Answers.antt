@@ -35,8 +35,7 @@ loop-dimension-preserved c =
     let is : c.loop-dimension.dimension ≡ before + 1 = omega arith in
     numbered_more c.args.start.now c.args.shape.now c.args.number before c.loop-dimension.rest c.loop-dimension.chunk
     (subst (λ d. IsNumbered c.args.start.now c.args.shape.now c.args.number d c.loop-dimension.rest c.loop-dimension.chunk) is
-    c.loop-dimension.invariant)
-    c.requires.is_box.lengths (omega arith)
+    c.loop-dimension.invariant) c.requires.is_box.lengths (omega arith)
     (some_size c.args.shape.now before (omega arith) (omega arith))
 
 pub returns : goal.returns

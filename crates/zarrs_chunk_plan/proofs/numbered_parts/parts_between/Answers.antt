@@ -21,8 +21,7 @@ loop-number-preserved g c =
       omega arith,
       subst (AllZip IsPartOf (take (number + 1 - first) (drop first chunks))) (sym c.in_ok-push.ensures.items)
           (one_more IsPartOf chunks first number c.in_ok-chunk.chunk.items c.in_ok-part_of.field-0 c.loop-number.parts.items
-          from c.in_ok-chunk.ensures
-          (c.in_ok-part_of.ensures.part meets) are),
+          from c.in_ok-chunk.ensures (c.in_ok-part_of.ensures.part meets) are),
     )
 
 pub returns : goal.returns

@@ -32,6 +32,5 @@ returns-clause-can_copy g c =
     in
     let one : array_sizes (g.G.ChunkGridTraits.dimensions c.args.source.now) ≡ array_sizes ds = search rules in
     can_copy g.G.ChunkGridTraits.dimensions g.H.ChunkGridTraits.dimensions c.args.source.now c.args.target.now
-    c.args.target_encoding.now c.new-3.result
-    c.in_ok-targets.targets c.in_ok-wanted.wanted c.new-3.ensures.same_source c.new-3.ensures.targets
+    c.args.target_encoding.now c.new-3.result c.in_ok-targets.targets c.in_ok-wanted.wanted c.new-3.ensures.same_source c.new-3.ensures.targets
     (rw c.in_ok-array.ensures.elements at c.in_ok-targets.ensures.about) c.in_ok-targets.ensures.left one meet

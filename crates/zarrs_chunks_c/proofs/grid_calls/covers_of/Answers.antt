@@ -17,6 +17,5 @@ returns-clause-ends c =
     let wrote = c.answer_all.new in
     let same = c.answer_all.auto in
     ends_late (covers_call c.args.shape.now c.args.chunk_grid.now c.args.starts.now c.args.shapes.now wrote.first wrote.second
-    wrote.found wrote.wrong) grid
-    c.answer_all.result c.in_ok-grid.ensures.says (rw (same.first, same.second, same.found) c.in_ok-grid.ensures.fits)
+    wrote.found wrote.wrong) grid c.answer_all.result c.in_ok-grid.ensures.says (rw (same.first, same.second, same.found) c.in_ok-grid.ensures.fits)
     (both c.answer_all.result _ _ c.answer_all.ensures.asked c.answer_all.ensures.answered) c.answer_all.ensures.refused

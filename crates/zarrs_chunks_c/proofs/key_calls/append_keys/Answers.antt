@@ -22,11 +22,9 @@ loop-number-preserved g c =
     let below = c.loop-number-test.true in
     let room : c.loop-number.number + 1 < length c.loop-number.offsets = omega arith in
     let at : c.byte_length.result ≡ length (text ++ key) = rw (c.as_str.ensures.value, is) at c.byte_length.ensures in
-    rw (is, at)
-    (one_text_more
+    rw (is, at) (one_text_more
     (λ number. g.E.ChunkKeyEncodingTraits.is_key c.args.encoding.now (list_at c.args.dimensionality c.args.chunks.now number)) text
-    c.loop-number.offsets key
-    c.loop-number.number c.loop-number.invariant room (rw c.list_of.ensures at is_key))
+    c.loop-number.offsets key c.loop-number.number c.loop-number.invariant room (rw c.list_of.ensures at is_key))
 
 pub returns : goal.returns
 returns g c =

@@ -15,8 +15,7 @@ pub returns-in_err-count-clause-ends : goal.returns-in_err-count-clause-ends
 returns-in_err-count-clause-ends c =
     let p = err_from_is_err_and c.from_residual-in_err-count.result c.from_residual-in_err-count.ensures.1 in
     let (is_length, differ) = c.in_err-count.ensures in
-    rw (p.1, p.2) (inr
-    (early (wrong_length (encoding_in c.in_ok-encoding.encoding) c.in_ok-encoding.ensures
+    rw (p.1, p.2) (inr (early (wrong_length (encoding_in c.in_ok-encoding.encoding) c.in_ok-encoding.ensures
     (λ fits. differ (length c.args.found.now, fits)) is_length)))
 
 pub returns-then-count-found-clause-ends : goal.returns-then-count-found-clause-ends

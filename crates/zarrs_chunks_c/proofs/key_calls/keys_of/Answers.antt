@@ -29,7 +29,6 @@ returns-clause-ends c =
     let AreTheKeys = λ (keys : List ℕ). AreKeys (IsKey encoding) c.args.dimensionality (length offsets - 1) c.args.chunks.now keys offsets in
     let are_keys = subst AreTheKeys (sym c.as_bytes.ensures.value) c.in_ok-keys.ensures in
     ends_late (keys_call c.args.chunk_key_encoding.now c.args.dimensionality c.args.chunks.now wrote.buffer offsets wrote.needed)
-    encoding c.write_text.result
-    c.in_ok-encoding.ensures (c.in_ok-count.count, rw c.append_keys.auto.offsets c.in_ok-count.ensures)
+    encoding c.write_text.result c.in_ok-encoding.ensures (c.in_ok-count.count, rw c.append_keys.auto.offsets c.in_ok-count.ensures)
     (is_whole AreTheKeys text wrote.buffer wrote.needed told.told are_keys c.write_text.result told.fits told.written)
     (is_too_long AreTheKeys text wrote.buffer wrote.needed told.told are_keys c.write_text.result told.short)

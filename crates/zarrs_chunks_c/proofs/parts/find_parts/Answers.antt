@@ -18,5 +18,4 @@ pub returns-clause-long : goal.returns-clause-long
 returns-clause-long g c =
     long_of_answer (g.G.ChunkGridTraits.dimensions c.args.grid.now)
     (g.E.ChunkKeyEncodingTraits.is_key c.args.encoding.now) c.args.elements.now c.args.first
-    c.args.most (g.met.G.ChunkGridTraits.chained c.args.grid.now) c.is_a_box.ensures c.requires c.in_ok-some_parts.field-0
-    (returns-clause-parts g c)
+    c.args.most (g.met.G.ChunkGridTraits.chained c.args.grid.now) c.is_a_box.ensures c.requires c.in_ok-some_parts.field-0 (returns-clause-parts g c)

@@ -21,8 +21,7 @@ returns-in_err-grid-clause-ends c =
 pub returns-in_err-encoding-clause-ends : goal.returns-in_err-encoding-clause-ends
 returns-in_err-encoding-clause-ends c =
     let p = err_from_is_err_and c.from_residual-in_err-encoding.result c.from_residual-in_err-encoding.ensures.1 in
-    rw (p.1, p.2)
-    (⊎_elim (λ memory. inl memory)
+    rw (p.1, p.2) (⊎_elim (λ memory. inl memory)
     (λ is. inr (early (no_metadata (no_encoding (grid_in c.in_ok-grid.grid) c.in_ok-grid.ensures.made is)))) c.in_err-encoding.ensures)
 
 pub returns-in_err-check_lengths-clause-ends : goal.returns-in_err-check_lengths-clause-ends
@@ -73,10 +72,8 @@ returns-clause-ends c =
     (IsKey encoding) b c.args.first written wrote.text wrote.needed wrote.count wrote.in_all wrote.found c.write_plan.result)
     c.in_ok-elements.ensures.value c.write_plan.ensures.ends
     in
-    ends_late
-    (parts_call c.args.shape.now c.args.chunk_grid.now c.args.chunk_key_encoding.now c.args.start.now c.args.box_shape.now c.args.first
-    wrote.chunks wrote.in_chunk
-    wrote.in_subset wrote.shapes wrote.text wrote.offsets wrote.needed wrote.count wrote.in_all wrote.found)
+    ends_late (parts_call c.args.shape.now c.args.chunk_grid.now c.args.chunk_key_encoding.now c.args.start.now c.args.box_shape.now c.args.first
+    wrote.chunks wrote.in_chunk wrote.in_subset wrote.shapes wrote.text wrote.offsets wrote.needed wrote.count wrote.in_all wrote.found)
     (grid, encoding) c.write_plan.result (c.in_ok-grid.ensures.made, c.in_ok-encoding.ensures)
     (of_box, (c.in_ok-room.room, rw (same.chunks, same.in_chunk, same.in_subset, same.shapes, same.offsets) of_parts))
     (plan_answers grid.dimensions (IsKey encoding) elements c.args.first written wrote.text wrote.needed wrote.count wrote.in_all wrote.found is_box

@@ -55,5 +55,4 @@ returns-clause-answers g c =
     let small = chunks_small (λ n. n < greatest) (λ m n low below. omega arith) _ _ c.in-Some.last_element.items chains last (rw end_is numbers) in
     let many = sym c.deref.ensures.len ∙ ap length c.deref.ensures.value ∙ length_values Holds _ _ _ last ∙ sym (length_numbers Holds _ _ _ last) in
     λ _. covers _ _ _ _ c.fill.new.self.items _ agree chunks small
-    (c.fill.ensures.items (λ y h. h) ∙ ap (λ n. replicate n 1) many) first (rw (← end_is) last)
-    (rw c.deref-2.ensures.value at c.box_up_to.ensures)
+    (c.fill.ensures.items (λ y h. h) ∙ ap (λ n. replicate n 1) many) first (rw (← end_is) last) (rw c.deref-2.ensures.value at c.box_up_to.ensures)

@@ -26,8 +26,7 @@ pub returns-clause-long : goal.returns-clause-long
 returns-clause-long g c =
     let ds = g.G.ChunkGridTraits.dimensions c.args.self.now.grid.now in
     of_left c.leave_box.result c.in_ok-cover_of.field-0
-    (record { start = c.leave_box.new.answer.chunk.items; shape = c.leave_box.new.answer.element.items })
-    (Unit {0}) (IsLongBox ds)
+    (record { start = c.leave_box.new.answer.chunk.items; shape = c.leave_box.new.answer.element.items }) (Unit {0}) (IsLongBox ds)
     (long_cover_of_answer ds
     (record { start = c.list_of-start.result.now; shape = c.list_of-shape.result.now }) c.in_ok-cover_of.field-0 c.in_ok-cover_of.ensures.cover)
     c.leave_box.ensures.left

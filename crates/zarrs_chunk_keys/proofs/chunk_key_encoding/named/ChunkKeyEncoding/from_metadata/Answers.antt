@@ -24,11 +24,9 @@ returns-in_err-create-in-text c =
 pub returns-in_err-create-in-v2 : goal.returns-in_err-create-in-v2
 returns-in_err-create-in-v2 c =
     handed_on key_kind key_kinds _ v2 tt (extension_of c.args.metadata.now) _ c.from_residual-in_err-create-in-v2.result
-    (sym c.name.ensures ∙ c.in-v2.is)
-    c.in_err-create-in-v2.ensures c.from_residual-in_err-create-in-v2.ensures.1
+    (sym c.name.ensures ∙ c.in-v2.is) c.in_err-create-in-v2.ensures c.from_residual-in_err-create-in-v2.ensures.1
 
 pub returns-in_err-create-in-text-2 : goal.returns-in_err-create-in-text-2
 returns-in_err-create-in-text-2 c =
     handed_on key_kind key_kinds _ default_suffix tt (extension_of c.args.metadata.now) _ c.from_residual-in_err-create-in-text-2.result
-    (sym c.name.ensures ∙ c.in-text-2.is)
-    c.in_err-create-in-text-2.ensures c.from_residual-in_err-create-in-text-2.ensures.1
+    (sym c.name.ensures ∙ c.in-text-2.is) c.in_err-create-in-text-2.ensures c.from_residual-in_err-create-in-text-2.ensures.1

@@ -19,8 +19,7 @@ returns-in_ok-from_str-in_default-clause-made c =
 pub returns-in_err-create-in-regular-clause-made : goal.returns-in_err-create-in-regular-clause-made
 returns-in_err-create-in-regular-clause-made c =
     handed_on grid_kind grid_kinds _ regular c.args.array_shape.now (extension_of c.args.metadata.now) _ c.from_residual.result
-    (sym c.name.ensures ∙ c.in-regular.is)
-    c.in_err-create-in-regular.ensures.made c.from_residual.ensures.1
+    (sym c.name.ensures ∙ c.in-regular.is) c.in_err-create-in-regular.ensures.made c.from_residual.ensures.1
 
 pub returns-in_err-create-in-text-clause-made : goal.returns-in_err-create-in-text-clause-made
 returns-in_err-create-in-text-clause-made c =
