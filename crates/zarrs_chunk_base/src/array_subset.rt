@@ -93,8 +93,8 @@ impl ArraySubset {
         Ok(ArraySubset { start, shape })
     }
 
-    /// A law: as many starts as sizes, and no range ends past 18446744073709551615. The body of a caller sees of a box its two lists alone, and
-    /// gets this law by no other way than a call.
+    /// A law: there are as many starts as sizes, and no range ends past 18446744073709551615. Elsewhere a proof sees of a box its two lists
+    /// alone, so it learns this by a call, which does nothing.
     pub fn is_a_box(&self)
         ensures { IsBox self.now }
     {

@@ -6,10 +6,11 @@ use std::fmt::Display;
 use std::process::Abort;
 use std::test::Fail;
 use zarrs_chunk_base::{
-    ChunkKeySeparator, Configuration, ConfigurationForm, DefaultChunkKeyEncodingConfiguration,
-    DefaultSuffixChunkKeyEncodingConfiguration, MetadataV3, RectangularChunkGridConfiguration,
-    RectilinearChunkGridConfiguration, Refusal, RegularBoundedChunkGridConfiguration,
-    RegularChunkGridConfiguration, TreeForm, V2ChunkKeyEncodingConfiguration,
+    ArraySubset, ChunkKeySeparator, Configuration, ConfigurationForm,
+    DefaultChunkKeyEncodingConfiguration, DefaultSuffixChunkKeyEncodingConfiguration, MetadataV3,
+    RectangularChunkGridConfiguration, RectilinearChunkGridConfiguration, Refusal,
+    RegularBoundedChunkGridConfiguration, RegularChunkGridConfiguration, TreeForm,
+    V2ChunkKeyEncodingConfiguration, write_box,
 };
 
 #[test]
@@ -161,6 +162,23 @@ fn texts_are_read_and_written(rt: HostRuntime) -> Result<(), Fail> {
     assert_eq!(rt; text.as_str(), "a/b");
     assert_eq!(rt; text.to_tree(alloc)?.to_string(alloc)?.as_str(), r#""a/b""#);
     assert!(rt; String::from_tree(alloc, &Value::Null)?.is_none());
+    Ok(())
+}
+
+#[test]
+fn boxes_are_read_and_written(rt: HostRuntime) -> Result<(), Fail> {
+    let alloc = rt.alloc();
+    let text = "[[1,4],[2,3]]";
+    let tree = Value::from_slice(alloc, text.as_bytes())?;
+    let both = <(Vec<u64>, Vec<u64>)>::from_tree(alloc, &tree)?.ok_or("no lists")?;
+    assert_eq!(rt; both.to_tree(alloc)?.to_string(alloc)?.as_str(), text);
+    let elements = ArraySubset::new_with_start_shape(both.0, both.1)?;
+    elements.is_a_box();
+    assert_eq!(rt;
+        write_box(alloc, &elements)?.to_string(alloc)?.as_str(),
+        text
+    );
+    assert!(rt; <(Vec<u64>, Vec<u64>)>::from_tree(alloc, &Value::Null)?.is_none());
     Ok(())
 }
 
