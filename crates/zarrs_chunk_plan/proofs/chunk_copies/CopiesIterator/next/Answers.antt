@@ -2,15 +2,15 @@ use Rattle.std.proofs.Common.{inl, refl}
 use Rattle.zarrs_chunk_plan.proofs.Copied.{gives_copies, has_some}
 use Rattle.zarrs_chunk_plan.proofs.chunk_copies.CopiesIterator.next.Goals as goal
 
-pub returns-in-Ok-found-clause-steps : goal.returns-in-Ok-found-clause-steps
-returns-in-Ok-found-clause-steps g c =
+pub returns-in-Ok-expect_answer-clause-steps : goal.returns-in-Ok-expect_answer-clause-steps
+returns-in-Ok-expect_answer-clause-steps g c =
     let source = g.G.ChunkGridTraits.dimensions in
     let target = g.H.ChunkGridTraits.dimensions in
     let is_key = g.F.ChunkKeyEncodingTraits.is_key in
     let walk = c.args.self.now in
     let steps = rw c.in-Ok.is at c.in_ok-to.ensures.steps in
-    let found = c.in-Ok-found.ensures in
-    gives_copies source target is_key walk c.in-Ok.to c.next.new.self steps c.in-Ok-found.from (λ can.
+    let found = c.in-Ok-expect_answer.ensures in
+    gives_copies source target is_key walk c.in-Ok.to c.next.new.self steps c.in-Ok-expect_answer.from (λ can.
     let some = has_some source target is_key walk c.in-Ok.to c.next.new.self steps can in
     let (_, (cover, is, left)) = (rw found at c.parts-from.ensures.answers) (inl some) in
     record {
