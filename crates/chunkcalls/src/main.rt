@@ -15,10 +15,11 @@
 //! It is `run_to_status` of `programs::chunkcalls`, over what the process was given.
 #![tactic(auto)]
 
-use programs::chunkcalls::run_to_status;
+use programs::chunkcalls::{Watched, run_to_status};
 use std::process::ExitCode;
 
 fn main(rt: HostRuntime) -> ExitCode {
-    let status = run_to_status(rt.alloc(), rt.stdin(), rt.stdout(), &mut rt.stderr());
-    ExitCode::from(status)
+    let mut reader = Watched::new(rt.stdin());
+    let mut writer = Watched::new(rt.stdout());
+    ExitCode::from(run_to_status(rt.alloc(), &mut reader, &mut writer, &mut rt.stderr()))
 }

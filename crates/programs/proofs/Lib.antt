@@ -1,4 +1,4 @@
 pub mod Known
 pub mod Members
-pub mod Refusals
+pub mod Sent
 pub mod Taken

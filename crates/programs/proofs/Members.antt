@@ -1,18 +1,22 @@
 -- What the members of a tree say of it.
-use Rattle.std.proofs.Common.{◌≡◌, ℕ, List, IsSome, is_some, Option, Some, option_map, option_and_then, Vec, Global, codes, sym, ap, ◌∙◌}
+use Rattle.std.proofs.Common.{◌≡◌, ◌∙◌, ℕ, zero, suc, List, [], ◌∷◌, IsSome, is_some, None, Some, ap, arith, sym}
+use Rattle.std.proofs.lemmas.Option.{none-some}
 use Rattle.serde_json.specs.Data.{Data}
 use Rattle.serde_json.specs.Find.{get}
-use Rattle.zarrs_chunk_base.specs.Json.{list_of, size_of}
-use Rattle.programs.specs.Document.{shape_in}
-
-abbrev pub numbers : Vec ℕ Global → List ℕ
-numbers v = v.items
-
--- what was read of the member is what the tree has there
-pub shape_is : (d m : Data) (read : Option (Vec ℕ Global)) → get (codes "shape") d ≡ Some m → option_map numbers read ≡ list_of size_of m
-    → shape_in d ≡ option_map numbers read
-shape_is d m read there is = ap (option_and_then (list_of size_of)) there ∙ sym is
+use Rattle.programs.specs.Document.{HasAll}
 
 -- a member that was found is there under each name that equals its own
-pub found : (d : Data) (name other : List ℕ) (m : Data) → get name d ≡ Some m → name ≡ other → IsSome (get other d)
+found : (d : Data) (name other : List ℕ) (m : Data) → get name d ≡ Some m → name ≡ other → IsSome (get other d)
 found d name other m there same = ap is_some (ap (λ n. get n d) (sym same) ∙ there)
+
+pub is_there : (d m : Data) (name : List ℕ) → get name d ≡ Some m → ¬ (get name d ≡ None)
+is_there d m name there none = none-some m (sym none ∙ there)
+
+-- ---- members that have to be there
+
+pub no_more : (d : Data) → HasAll [] d
+no_more d name (k, within, at) = absurd (omega (arith, within))
+
+pub has_more : (d m : Data) (name : List ℕ) (members : List (List ℕ)) → get name d ≡ Some m → HasAll members d → HasAll (name ∷ members) d
+has_more d m name members there all other (zero, within, at) = found d name other m there at
+has_more d m name members there all other (suc k, within, at) = all other (k, omega (arith, within), at)

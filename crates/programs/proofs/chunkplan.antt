@@ -4,5 +4,5 @@ pub mod Groups
 pub mod LeftMembers
 pub mod ReadPlans
 pub mod RunOutcomes
-pub mod Sent
+pub mod Steps
 pub mod Tokens

@@ -1,4 +1,4 @@
-pub mod DocumentMembers
+pub mod FormFaults
 pub mod IndexLists
 pub mod Lines
 pub mod Outcomes

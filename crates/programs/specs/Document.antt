@@ -1,17 +1,23 @@
--- What the documents of the programs have in common: a tree of JSON, an array's `shape`, and members that are an extension's metadata.
+-- What the documents of the programs have in common: an object of JSON with an array's `shape`, and members that are extensions' metadata.
 -- Source: RFC 8259; Zarr V3 core, array metadata and extension definition.
 use Rattle.std.specs.Prelude.{◌≡◌, ℕ, List, Contains, IsSome, Option, Some, None, IsUtf8, codes, option_and_then}
 use Rattle.serde_json.specs.Data.{Data}
 use Rattle.serde_json.specs.Read.{read}
-use Rattle.serde_json.specs.Find.{get}
+use Rattle.serde_json.specs.Find.{as_object, get}
 use Rattle.zarrs_chunk_base.specs.Json.{size_of, list_of}
 use Rattle.zarrs_chunk_base.specs.Metadata.{Extension, IsExtension, IsMetadataFault}
+use Rattle.programs.specs.Stored.{Stored}
 use Rattle.programs.specs.declared.document_fault.DocumentFault.{DocumentFault}
-use Rattle.programs.specs.declared.document_fault.DocumentFault.TheVariants.{NotJson, Missing, WrongValue, Metadata}
+use Rattle.programs.specs.declared.document_fault.DocumentFault.TheVariants.{NotJson, NotObject, Missing, WrongValue, Metadata}
 
 -- the tree that bytes are the text of
 abbrev pub IsTreeOf : List ℕ → Data → Type 0
 IsTreeOf input d = IsUtf8 input × (read input ≡ Some d)
+
+-- the object that bytes are the text of
+pub record IsObjectOf (input : List ℕ) (d : Data) : Type 0 where
+  pub is_tree : IsTreeOf input d
+  pub is_object : IsSome (as_object d)
 
 -- each of these members is there
 abbrev pub HasAll : List (List ℕ) → Data → Type 0
@@ -28,21 +34,29 @@ HasExtension d field e = (m : Data) × (get field d ≡ Some m) × IsExtension m
 abbrev pub HasSomeExtension : Data → List ℕ → Type 0
 HasSomeExtension d field = (e : Extension) × HasExtension d field e
 
+-- the members `chunk_grid` and `chunk_key_encoding`
+pub record HasStored (d : Data) (stored : Stored) : Type 0 where
+  pub grid : HasExtension d (codes "chunk_grid") stored.chunk_grid
+  pub encoding : HasExtension d (codes "chunk_key_encoding") stored.chunk_key_encoding
+
 -- ---- faults
 
--- the fault says that the input is no JSON
+-- the fault says that the input is no JSON, or no object
 abbrev pub IsTextFault : List ℕ → DocumentFault → Type 0
-IsTextFault input fault = ((tree : Data) → ¬ IsTreeOf input tree) × (fault ≡ NotJson)
+IsTextFault input NotJson = (tree : Data) → ¬ IsTreeOf input tree
+IsTextFault input NotObject = (tree : Data) × IsTreeOf input tree × (as_object tree ≡ None)
+IsTextFault _ _ = ⊥
 
 -- the fault says that the member is missing, and calls it by the name
 abbrev pub IsMissingFault : Data → (field name : List ℕ) → DocumentFault → Type 0
 IsMissingFault d field name (Missing told) = (told.now ≡ name) × (get field d ≡ None)
 IsMissingFault _ _ _ _ = ⊥
 
--- the fault says that the member of this name isn't of its form
-abbrev pub TellsWrongValue : List ℕ → DocumentFault → Type 0
-TellsWrongValue name (WrongValue told) = told.now ≡ name
-TellsWrongValue _ _ = ⊥
+-- the fault says that `shape` is missing, or isn't of its form
+abbrev pub IsShapeFault : Data → DocumentFault → Type 0
+IsShapeFault d (Missing told) = (told.now ≡ codes "shape") × (get (codes "shape") d ≡ None)
+IsShapeFault d (WrongValue told) = (told.now ≡ codes "shape") × (shape_in d ≡ None)
+IsShapeFault _ _ = ⊥
 
 -- the fault says why the value of the member of this name is no extension's metadata
 abbrev pub IsExtensionFault : Data → List ℕ → DocumentFault → Type 0
@@ -52,3 +66,14 @@ IsExtensionFault _ _ _ = ⊥
 -- the member is there and is no extension's metadata; the fault, which calls it by the name, says why
 abbrev pub HasExtensionFault : Data → (field name : List ℕ) → DocumentFault → Type 0
 HasExtensionFault d field name fault = (m : Data) × (get field d ≡ Some m) × IsExtensionFault m name fault
+
+-- The first fault of how a tree says that an array is stored: of its chunk grid and its chunk key encoding, which the fault calls by these
+-- names, one is missing; one is no extension's metadata.
+pub data IsStoredFault (d : Data) (grid_name encoding_name : List ℕ) (fault : DocumentFault) : Type 0 where
+  no_grid : IsMissingFault d (codes "chunk_grid") grid_name fault → IsStoredFault d grid_name encoding_name fault
+  no_encoding : IsSome (get (codes "chunk_grid") d) → IsMissingFault d (codes "chunk_key_encoding") encoding_name fault
+      → IsStoredFault d grid_name encoding_name fault
+  misformed_grid : IsSome (get (codes "chunk_key_encoding") d) → HasExtensionFault d (codes "chunk_grid") grid_name fault
+      → IsStoredFault d grid_name encoding_name fault
+  misformed_encoding : HasSomeExtension d (codes "chunk_grid")
+      → HasExtensionFault d (codes "chunk_key_encoding") encoding_name fault → IsStoredFault d grid_name encoding_name fault

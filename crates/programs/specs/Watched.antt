@@ -1,8 +1,8 @@
 -- A reader or writer with a memory of whether one of its calls failed.
 use Rattle.std.specs.Prelude.{◌≡◌, ℕ, ◌==◌, ◌&&◌, Bool, true, not, List, length, Result, Ok, Err}
 use Rattle.programs.specs.declared.watched.Watched.{Watched}
-use Rattle.zarrs_chunk_base.specs.declared.refusal.Refusal.{Refusal}
-use Rattle.zarrs_chunk_base.specs.declared.refusal.Refusal.TheVariants.{Refused, Memory}
+use Rattle.programs.specs.declared.stream_fault.StreamFault.{StreamFault}
+use Rattle.programs.specs.declared.stream_fault.StreamFault.TheVariants.{Read, Write, Memory}
 
 -- the reader or writer
 abbrev pub watched : {T : Type 0} → Watched T → T
@@ -17,7 +17,14 @@ abbrev pub is_failed_write : {E : Type 0} → Result ℕ E → List ℕ → Bool
 is_failed_write (Ok n) bytes = n == 0 && not (length bytes == 0)
 is_failed_write (Err e) bytes = true
 
--- why reading or writing stopped: a call failed, which the fault tells; or memory ran out, and none had failed
-abbrev pub IsFailure : {F : Type 0} → F → Refusal F → (old new : Bool) → Type 0
-IsFailure told (Refused fault) old new = (fault ≡ told) × (new ≡ true)
-IsFailure told (Memory _) old new = new ≡ old
+-- why reading stopped: a read failed; or memory ran out, and none had failed meanwhile
+abbrev pub IsReadFailure : StreamFault → (old new : Bool) → Type 0
+IsReadFailure Read old new = new ≡ true
+IsReadFailure Memory old new = new ≡ old
+IsReadFailure Write old new = ⊥
+
+-- why writing stopped: a write failed; or memory ran out, and none had failed meanwhile
+abbrev pub IsWriteFailure : StreamFault → (old new : Bool) → Type 0
+IsWriteFailure Write old new = new ≡ true
+IsWriteFailure Memory old new = new ≡ old
+IsWriteFailure Read old new = ⊥

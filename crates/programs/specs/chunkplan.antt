@@ -4,4 +4,5 @@ pub mod Line
 pub mod PlanFault
 pub mod Planned
 pub mod Run
+pub mod RunFault
 pub mod seen

@@ -1,12 +1,69 @@
-//! `chunkcalls` asks chunk grids and chunk key encodings, a call a line.
+//! `chunkcalls` tells what grids and encodings answer, a call a line.
 //!
 //! | Module | What it holds |
 //! |---|---|
-//! | `program` | the whole program over any reader and writers: `run`, and then `finish` |
-//! | `run_fault` | why a run stops |
+//! | `answering` | the lines that answer what is read |
+ghost use Rattle.std.specs.Prelude.{◌≡◌, ◌≤◌, IfErr, IfSome, MatchResult, OnOk};
+ghost use Rattle.std.specs.Io.KnownBytes.{Keeps};
+ghost use Rattle.programs.specs.Watched.{has_failed, watched};
+ghost use Rattle.programs.specs.chunkcalls.Lines.{HasAnswered};
+ghost use Rattle.programs.specs.chunkcalls.Run.{TellsFailure};
 
-mod program;
-mod run_fault;
+mod answering;
 
-pub use program::{finish, run, run_to_status};
-pub use run_fault::RunFault;
+use crate::streams::write_all;
+pub use crate::{StreamFault as RunFault, Watched};
+use answering::answer_lines;
+use std::alloc::Global;
+use std::io::{Read, Write};
+
+/// Runs the program, tells its fault in one line, if it had one, and answers the status to end
+/// with: 0 where the run succeeded, and 1 after a fault.
+pub fn run_to_status<R: Read, W: Write, E: Write>(
+    alloc: Global,
+    reader: &mut Watched<R>,
+    writer: &mut Watched<W>,
+    errors: &mut E,
+) -> u8
+    ensures silent { result ≡ 0 → Keeps (E.contents errors.old) (E.contents errors.new) }
+    ensures zero_or_one { result ≤ 1 }
+{
+    let outcome = run(alloc, reader, writer);
+    finish(&outcome, errors)
+}
+
+/// Reads lines to the end, and writes the answer to each, in order. Whoever asks a line at a time gets each answer before asking again.
+///
+/// # Errors
+/// A read or a write failed, or memory ran out. What has been answered by then is written, if it can be.
+pub fn run<R: Read, W: Write>(
+    alloc: Global,
+    reader: &mut Watched<R>,
+    writer: &mut Watched<W>,
+) -> Result<(), RunFault>
+    ensures answered { OnOk result (IfSome (R.remaining (watched reader.old)) (λ input.
+        IfSome (W.contents (watched writer.old)) (λ held.
+        HasAnswered input held (W.contents (watched writer.new))))) }
+    ensures failed { IfErr result (λ fault.
+        TellsFailure fault (has_failed reader.new) (has_failed writer.new)) }
+{
+    let mut held_back = Vec::new(alloc);
+    match answer_lines(alloc, reader, &mut held_back, writer) {
+        Ok(()) => write_all(writer, &held_back),
+        Err(RunFault::Write) => Err(RunFault::Write),
+        Err(fault) => {
+            // What has been answered by then is written, if it can be.
+            let _ = write_all(writer, &held_back);
+            Err(fault)
+        }
+    }
+}
+
+/// Tells a run's fault in one line, if it had one, and answers the status to end with: 0, or 1
+/// after a fault. That the line can't be written changes nothing.
+pub fn finish<W: Write>(outcome: &Result<(), RunFault>, errors: &mut W) -> u8
+    ensures status { MatchResult outcome.now (λ _. result ≡ 0) (λ _. result ≡ 1) }
+    ensures silent { OnOk outcome.now (Keeps (W.contents errors.old) (W.contents errors.new)) }
+{
+    crate::streams::finish("chunkcalls", outcome, errors)
+}

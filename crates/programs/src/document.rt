@@ -1,29 +1,31 @@
 //! What the documents of the programs have in common.
-ghost use Rattle.std.specs.Prelude.{◌≡◌, ◌≢◌, ◌⊎◌, ℕ, List, IfOk, MatchResult, None, Some, option_map};
+ghost use Rattle.std.specs.Prelude.{◌≡◌, ◌≢◌, ◌⊎◌, ℕ, List, IfOk, MatchResult, None, Some, codes};
 ghost use Rattle.serde_json.specs.Find.{get};
 ghost use Rattle.serde_json.specs.View.{view};
-ghost use Rattle.zarrs_chunk_base.specs.Json.{list_of, size_of};
-ghost use Rattle.zarrs_chunk_base.specs.Metadata.{extension_of, IsExtension};
-ghost use Rattle.zarrs_chunk_base.specs.Refusal.{IsRefusedAnd, OrMemory};
-ghost use Rattle.programs.specs.Document.{HasExtension, HasExtensionFault, IsExtensionFault, IsMissingFault, IsTextFault, IsTreeOf};
+ghost use Rattle.zarrs_chunk_base.specs.Metadata.{extension_of};
+ghost use Rattle.programs.specs.Document.{HasExtension, HasExtensionFault, HasStored, IsMissingFault, IsObjectOf, IsShapeFault, IsStoredFault, IsTextFault, shape_in};
+ghost use Rattle.programs.specs.Stored.{stored_of};
+ghost use Rattle.programs.specs.declared.document_fault.DocumentFault.TheVariants.{Memory};
 
 use crate::document_fault::DocumentFault;
+use crate::stored::Stored;
 use serde_json::Value;
-use std::alloc::{AllocError, Global};
+use std::alloc::Global;
 use zarrs_chunk_base::{MetadataV3, Refusal, TreeForm, take_member};
 
-/// The tree of an input.
+/// The object that an input is the text of.
 ///
 /// # Errors
-/// The input is no JSON; or out of memory.
-pub(crate) fn read_tree(alloc: Global, input: &[u8]) -> Result<Value, Refusal<DocumentFault>>
-    ensures { MatchResult result (λ tree. IsTreeOf input.now (view tree))
-        (OrMemory (IsTextFault input.now)) }
+/// The input is no JSON, or no object; or out of memory.
+pub(crate) fn read_object(alloc: Global, input: &[u8]) -> Result<Value, DocumentFault>
+    ensures { MatchResult result (λ tree. IsObjectOf input.now (view tree))
+        (λ fault. (fault ≡ Memory) ⊎ IsTextFault input.now fault) }
 {
     match Value::from_slice(alloc, input) {
-        Ok(tree) => Ok(tree),
-        Err(error) if error.is_memory() => Err(Refusal::Memory(AllocError)),
-        Err(_) => Err(Refusal::Refused(DocumentFault::NotJson)),
+        Ok(tree) if tree.is_object() => Ok(tree),
+        Ok(_) => Err(DocumentFault::NotObject),
+        Err(error) if error.is_memory() => Err(DocumentFault::Memory),
+        Err(_) => Err(DocumentFault::NotJson),
     }
 }
 
@@ -35,12 +37,56 @@ pub(crate) fn required_member<'t>(
     tree: &'t Value,
     field: &str,
     name: &'static str,
-) -> Result<&'t Value, Refusal<DocumentFault>>
+) -> Result<&'t Value, DocumentFault>
     ensures { MatchResult result (λ value. get field.now (view tree.now) ≡ Some (view value.now))
-        (λ refusal. IsRefusedAnd refusal (IsMissingFault (view tree.now) field.now name.now)) }
+        (IsMissingFault (view tree.now) field.now name.now) }
 {
-    tree.get(field)
-        .ok_or(Refusal::Refused(DocumentFault::Missing(name)))
+    tree.get(field).ok_or(DocumentFault::Missing(name))
+}
+
+/// The shape of a document's array.
+///
+/// # Errors
+/// `shape` is missing, or no list of sizes; or out of memory.
+pub(crate) fn read_shape(alloc: Global, tree: &Value) -> Result<Vec<u64>, DocumentFault>
+    ensures { MatchResult result (λ shape. shape_in (view tree.now) ≡ Some shape.items)
+        (λ fault. (fault ≡ Memory) ⊎ IsShapeFault (view tree.now) fault) }
+{
+    let shape = required_member(tree, "shape", "shape")?;
+    match Vec::from_tree(alloc, shape)? {
+        Some(shape) => Ok(shape),
+        None => Err(DocumentFault::WrongValue("shape")),
+    }
+}
+
+/// The chunk grid and the chunk key encoding of a tree, which are taken out of it. Their faults call them by the names that are given.
+///
+/// # Errors
+/// The grid is missing; then, the encoding; then the first of the two that is no extension's metadata; or out of memory.
+pub(crate) fn take_stored(
+    alloc: Global,
+    tree: &mut Value,
+    grid_name: &'static str,
+    encoding_name: &'static str,
+) -> Result<Stored, DocumentFault>
+    ensures stored { MatchResult result (λ stored. HasStored (view tree.old) (stored_of stored))
+        (λ fault. (fault ≡ Memory)
+        ⊎ IsStoredFault (view tree.old) grid_name.now encoding_name.now fault) }
+    ensures grid_gone { IfOk result (λ _. get (codes "chunk_grid") (view tree.new) ≡ None) }
+    ensures encoding_gone { IfOk result
+        (λ _. get (codes "chunk_key_encoding") (view tree.new) ≡ None) }
+    ensures others { IfOk result (λ _. (other : List ℕ) → other ≢ codes "chunk_grid"
+        → other ≢ codes "chunk_key_encoding"
+        → get other (view tree.new) ≡ get other (view tree.old)) }
+{
+    required_member(tree, "chunk_grid", grid_name)?;
+    required_member(tree, "chunk_key_encoding", encoding_name)?;
+    let chunk_grid = take_metadata(alloc, tree, "chunk_grid", grid_name)?;
+    let chunk_key_encoding = take_metadata(alloc, tree, "chunk_key_encoding", encoding_name)?;
+    Ok(Stored {
+        chunk_grid,
+        chunk_key_encoding,
+    })
 }
 
 /// A member's value as an extension's metadata, which are taken out of the tree, so that a long list of edges isn't copied. A fault calls
@@ -48,48 +94,26 @@ pub(crate) fn required_member<'t>(
 ///
 /// # Errors
 /// It is missing; or the first fault of its tree; or out of memory.
-pub(crate) fn take_metadata(
+fn take_metadata(
     alloc: Global,
     tree: &mut Value,
     field: &str,
     name: &'static str,
-) -> Result<MetadataV3, Refusal<DocumentFault>>
+) -> Result<MetadataV3, DocumentFault>
     ensures metadata { MatchResult result
         (λ metadata. HasExtension (view tree.old) field.now (extension_of metadata))
-        (OrMemory (λ fault. IsMissingFault (view tree.old) field.now name.now fault
-        ⊎ HasExtensionFault (view tree.old) field.now name.now fault)) }
+        (λ fault. (fault ≡ Memory) ⊎ IsMissingFault (view tree.old) field.now name.now fault
+        ⊎ HasExtensionFault (view tree.old) field.now name.now fault) }
     ensures gone { get field.now (view tree.new) ≡ None }
     ensures others { (other : List ℕ) → other ≢ field.now
         → get other (view tree.new) ≡ get other (view tree.old) }
 {
     let Some(member) = take_member(tree, field) else {
-        return Err(Refusal::Refused(DocumentFault::Missing(name)));
+        return Err(DocumentFault::Missing(name));
     };
-    metadata_of(alloc, member, name)
-}
-
-/// A tree as an extension's metadata, which is moved out of it. A fault calls it by the name that is given.
-///
-/// # Errors
-/// The first fault of the tree; or out of memory.
-fn metadata_of(
-    alloc: Global,
-    tree: Value,
-    name: &'static str,
-) -> Result<MetadataV3, Refusal<DocumentFault>>
-    ensures { MatchResult result (λ metadata. IsExtension (view tree) (extension_of metadata))
-        (OrMemory (IsExtensionFault (view tree) name.now)) }
-{
-    let metadata = MetadataV3::from_value(alloc, tree);
-    metadata.map_err(|refusal| refusal.map(|error| DocumentFault::Metadata(name, error)))
-}
-
-/// The sizes that a tree is a list of; `None` where it is none.
-///
-/// # Errors
-/// Out of memory.
-pub(crate) fn read_sizes(alloc: Global, tree: &Value) -> Result<Option<Vec<u64>>, AllocError>
-    ensures { IfOk result (λ o. option_map (λ v. v.items) o ≡ list_of size_of (view tree.now)) }
-{
-    Vec::from_tree(alloc, tree)
+    match MetadataV3::from_value(alloc, member) {
+        Ok(metadata) => Ok(metadata),
+        Err(Refusal::Refused(error)) => Err(DocumentFault::Metadata(name, error)),
+        Err(Refusal::Memory(_)) => Err(DocumentFault::Memory),
+    }
 }

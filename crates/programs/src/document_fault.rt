@@ -1,8 +1,12 @@
-//! Why an input is no document of a program.
-use thiserror::Error;
-use zarrs_chunk_base::{ArraySubsetError, MetadataError};
+//! Why an input is no document of an array.
+ghost use Rattle.std.specs.Prelude.{◌≡◌};
+ghost use Rattle.programs.specs.declared.document_fault.DocumentFault.TheVariants.{Memory};
 
-/// Why an input is no document of a program. A member of a member is called by both names, as `target.chunk_grid`.
+use std::alloc::AllocError;
+use thiserror::Error;
+use zarrs_chunk_base::MetadataError;
+
+/// Why an input is no document of an array. A member of a member is called by both names, as `target.chunk_grid`.
 #[derive(Debug, Drop, Error)]
 pub enum DocumentFault {
     /// The input is no text of JSON.
@@ -14,19 +18,21 @@ pub enum DocumentFault {
     /// A member of the document is missing.
     #[error("missing field `{0}`")]
     Missing(&'static str),
-    /// The document has a box of the target's chunks, and no target.
-    #[error("field `chunks` is for a rechunking: give a `target` too, or leave it out")]
-    ChunksOfNoTarget,
-    /// The document has a box of elements, and a target.
-    #[error("field `subset` is for a read: leave out `target`, or leave it out")]
-    SubsetOfTarget,
     /// A member of the document isn't of its form.
     #[error("wrong value in field `{0}`")]
     WrongValue(&'static str),
     /// A member of the document is no extension's metadata.
     #[error("field `{0}`: {1}")]
     Metadata(&'static str, MetadataError),
-    /// A member of the document is no box.
-    #[error("field `{0}`: {1}")]
-    Box(&'static str, ArraySubsetError),
+    /// Out of memory.
+    #[error("out of memory")]
+    Memory,
+}
+
+impl From<AllocError> for DocumentFault {
+    ghost from_gives = { λ _ fault. fault ≡ Memory };
+
+    fn from(_error: AllocError) -> DocumentFault {
+        DocumentFault::Memory
+    }
 }

@@ -8,10 +8,9 @@
 //! | `chunkplan` | what a read or a rechunking of an array copies |
 //! | `chunkcalls` | what grids and encodings answer, a call a line |
 //! | `watched` | a reader or writer that remembers whether one of its calls failed |
-//! | `reading`, `writing` | reading everything, writing everything |
-//! | `document` | a document's tree, and the members that say what an array is |
-//! | `document_fault` | why an input is no document |
-//! | `ending` | the line that tells a fault, and the status to end with |
+//! | `streams`, `stream_fault` | bytes from a reader and to a writer, and how a run that moved them ends |
+//! | `document`, `document_fault` | a document's object, and the members that say what an array is |
+//! | `stored` | how an array is stored: the grid and the encoding that its metadata give |
 #![tactic(auto)]
 
 pub mod chunkcalls;
@@ -19,12 +18,10 @@ pub mod chunkplan;
 pub mod chunkwhere;
 mod document;
 mod document_fault;
-mod ending;
-mod reading;
+mod stored;
+mod stream_fault;
+mod streams;
 mod watched;
-mod writing;
 
-use document::{read_sizes, read_tree, required_member, take_metadata};
-pub use document_fault::DocumentFault;
-use ending::finish;
+pub use stream_fault::StreamFault;
 pub use watched::Watched;

@@ -1,6 +1,6 @@
 //! What no contract says: readers and writers that fail, what is told then, and when an answer is flushed.
 use crate::failing::{FailingReader, FailingWriter};
-use programs::chunkcalls::{RunFault, finish, run_to_status};
+use programs::chunkcalls::{RunFault, Watched, finish, run_to_status};
 use std::alloc::AllocError;
 use std::io::ErrorKind;
 use std::test::Fail;
@@ -23,22 +23,23 @@ fn joined(rt: &impl AllocGlobal, parts: &[&[u8]]) -> Result<Vec<u8>, AllocError>
 fn a_failed_read_is_told(rt: HostRuntime) -> Result<(), Fail> {
     let input = joined(&rt, &[QUESTION, b"\n", QUESTION, b"\n"])?;
     let enough = input.len().div_ceil(16) + 1;
-    let faults = [
-        (ErrorKind::Other, "chunkcalls: input failed\n"),
-        (ErrorKind::OutOfMemory, "chunkcalls: out of memory\n"),
-    ];
-    for (fault, line) in faults {
+    for fault in [ErrorKind::Other, ErrorKind::OutOfMemory] {
         for reads in 0..=enough {
-            let reader = FailingReader {
+            let mut reader = Watched::new(FailingReader {
                 rest: input.as_slice(),
                 reads,
                 fault,
-            };
+            });
             let mut written = Vec::new(rt.alloc());
             let mut errors = Vec::new(rt.alloc());
-            let status = run_to_status(rt.alloc(), reader, &mut written, &mut errors);
+            let mut writer = Watched::new(&mut written);
+            let status = run_to_status(rt.alloc(), &mut reader, &mut writer, &mut errors);
             let succeeds = reads == enough;
-            let line = if succeeds { "" } else { line };
+            let line = if succeeds {
+                ""
+            } else {
+                "chunkcalls: input failed\n"
+            };
             assert_eq!(rt; errors.as_slice(), line.as_bytes(), "after {reads} reads");
             assert_eq!(rt; status, u8::from(!succeeds), "after {reads} reads");
             let lines_read = reads.saturating_mul(16) / (QUESTION.len() + 1);
@@ -70,7 +71,9 @@ fn a_failed_write_is_told(rt: HostRuntime) -> Result<(), Fail> {
                 flush_fails,
             };
             let mut errors = Vec::new(rt.alloc());
-            let status = run_to_status(rt.alloc(), input.as_slice(), &mut writer, &mut errors);
+            let mut reader = Watched::new(input.as_slice());
+            let mut watched = Watched::new(&mut writer);
+            let status = run_to_status(rt.alloc(), &mut reader, &mut watched, &mut errors);
             let succeeds = writes == output.len() && !flush_fails;
             let line = if succeeds {
                 ""
@@ -104,7 +107,9 @@ fn an_answer_is_flushed_unless_a_line_waits(rt: HostRuntime) -> Result<(), Fail>
             flush_fails: true,
         };
         let mut errors = Vec::new(rt.alloc());
-        let status = run_to_status(rt.alloc(), input.as_slice(), &mut writer, &mut errors);
+        let mut reader = Watched::new(input.as_slice());
+        let mut watched = Watched::new(&mut writer);
+        let status = run_to_status(rt.alloc(), &mut reader, &mut watched, &mut errors);
         assert_eq!(rt; status, 1);
         assert_eq!(rt; writer.taken.as_slice(), output.as_slice());
     }
@@ -114,15 +119,15 @@ fn an_answer_is_flushed_unless_a_line_waits(rt: HostRuntime) -> Result<(), Fail>
 #[test]
 fn an_empty_output_is_flushed(rt: HostRuntime) -> Result<(), Fail> {
     for flush_fails in [false, true] {
-        let writer = FailingWriter {
+        let mut writer = Watched::new(FailingWriter {
             taken: Vec::new(rt.alloc()),
             writes: 0,
             fault: Some(ErrorKind::Other),
             flush_fails,
-        };
+        });
         let mut errors = Vec::new(rt.alloc());
-        let input: &[u8] = b"";
-        let status = run_to_status(rt.alloc(), input, writer, &mut errors);
+        let mut reader = Watched::new(b"".as_slice());
+        let status = run_to_status(rt.alloc(), &mut reader, &mut writer, &mut errors);
         assert_eq!(rt; status, u8::from(flush_fails));
     }
     Ok(())

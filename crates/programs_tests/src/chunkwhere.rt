@@ -5,7 +5,6 @@ use std::alloc::AllocError;
 use std::io;
 use std::io::{ErrorKind, Read, Write};
 use std::test::Fail;
-use zarrs_chunk_base::Refusal;
 
 const DOCUMENT: &[u8] =
     br#"{"shape":[5,7,52],"chunk_grid":{"name":"regular","configuration":{"chunk_shape":[1,2,3]}},"chunk_key_encoding":"default","indices":[[3,5,50],[0,0,0],[3,5,50]]}"#;
@@ -29,7 +28,7 @@ fn a_failed_read_is_told(rt: HostRuntime) -> Result<(), Fail> {
         let succeeds = reads == enough;
         assert_eq!(rt; result.is_ok(), succeeds, "after {reads} reads");
         assert_eq!(rt;
-            matches!(&result, Err(Refusal::Refused(RunFault::Read))),
+            matches!(&result, Err(RunFault::Read)),
             !succeeds,
             "after {reads} reads"
         );
@@ -55,7 +54,7 @@ fn a_failed_write_is_told(rt: HostRuntime) -> Result<(), Fail> {
             let succeeds = writes == LINES.len() && !flush_fails;
             assert_eq!(rt; result.is_ok(), succeeds, "after {writes} writes");
             assert_eq!(rt;
-                matches!(&result, Err(Refusal::Refused(RunFault::Write))),
+                matches!(&result, Err(RunFault::Write)),
                 !succeeds,
                 "after {writes} writes"
             );
@@ -82,10 +81,7 @@ fn an_empty_text_is_flushed(rt: HostRuntime) -> Result<(), Fail> {
             flush_fails,
         });
         let result = run(rt.alloc(), &mut reader, &mut writer);
-        assert_eq!(rt;
-            matches!(&result, Err(Refusal::Refused(RunFault::Write))),
-            flush_fails
-        );
+        assert_eq!(rt; matches!(&result, Err(RunFault::Write)), flush_fails);
         assert_eq!(rt; result.is_ok(), !flush_fails);
     }
     Ok(())
@@ -157,15 +153,9 @@ fn watched_calls_are_handed_on(rt: HostRuntime) -> Result<(), Fail> {
 #[test]
 fn other_faults_have_a_line(rt: HostRuntime) -> Result<(), Fail> {
     let rows = [
-        (
-            Refusal::Refused(RunFault::Read),
-            "chunkwhere: input failed\n",
-        ),
-        (
-            Refusal::Refused(RunFault::Write),
-            "chunkwhere: output failed\n",
-        ),
-        (Refusal::Memory(AllocError), "chunkwhere: out of memory\n"),
+        (RunFault::Read, "chunkwhere: input failed\n"),
+        (RunFault::Write, "chunkwhere: output failed\n"),
+        (RunFault::Memory, "chunkwhere: out of memory\n"),
     ];
     for (fault, line) in rows {
         let mut errors = Vec::new(rt.alloc());
@@ -178,9 +168,6 @@ fn other_faults_have_a_line(rt: HostRuntime) -> Result<(), Fail> {
         fault: Some(ErrorKind::Other),
         flush_fails: true,
     };
-    assert_eq!(rt;
-        finish(&Err(Refusal::Refused(RunFault::Read)), &mut closed),
-        1
-    );
+    assert_eq!(rt; finish(&Err(RunFault::Read), &mut closed), 1);
     Ok(())
 }

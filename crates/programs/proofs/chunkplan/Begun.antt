@@ -4,8 +4,6 @@ use Rattle.std.proofs.lemmas.Grind.{flat_map-append}
 use Rattle.std.specs.List.{AllByRecursion, AllZip, flat_map}
 use Rattle.zarrs_chunk_base.specs.ArraySubset.{IsBox}
 use Rattle.zarrs_chunk_base.specs.Dimension.{Dimension, IsChain}
-use Rattle.zarrs_chunk_base.specs.declared.refusal.Refusal.{Refusal}
-use Rattle.zarrs_chunk_base.specs.declared.refusal.Refusal.TheVariants.{Refused, Memory}
 use Rattle.zarrs_chunk_plan.specs.Plan.{IsPart}
 use Rattle.zarrs_chunk_plan.specs.Rechunking.{AreCopiesInto, Group}
 use Rattle.zarrs_chunk_plan.specs.declared.chunk_copies.Copies.{Copies}
@@ -17,11 +15,12 @@ use Rattle.zarrs_chunk_plan.proofs.Copied.{GroupsHaveCome}
 use Rattle.zarrs_chunk_plan.proofs.SomePlan.{have_groups, have_parts}
 use Rattle.zarrs_chunk_plan.proofs.Walked.{HaveCome}
 use Rattle.programs.specs.chunkplan.Line.{copy_lines, line_for}
-use Rattle.programs.specs.chunkplan.seen.Sent.{HasBegun, Output, Sends, StepLeaves}
+use Rattle.programs.specs.chunkplan.seen.Steps.{HasBegun, StepLeaves}
+use Rattle.programs.specs.seen.Sent.{Output, Sends}
 use Rattle.programs.specs.declared.chunkplan.run_fault.RunFault.{RunFault}
-use Rattle.programs.specs.declared.chunkplan.run_fault.RunFault.TheVariants.{Write}
+use Rattle.programs.specs.declared.chunkplan.run_fault.RunFault.TheVariants.{Memory, Write}
 use Rattle.programs.proofs.chunkplan.Groups.{copy_lines_both, copy_lines_more}
-use Rattle.programs.proofs.chunkplan.Sent.{sends_longer, sends_more}
+use Rattle.programs.proofs.Sent.{sends_longer, sends_more}
 
 both_zipped : {X Y : Type 0} (R : X → Y → Type 0) (xs others : List X) (ys more : List Y) → AllZip R xs ys → AllZip R others more → AllZip R (xs ++ others) (ys ++ more)
 both_zipped R [] others [] more one also = also
@@ -105,10 +104,10 @@ module _ {G E H F : Type 0} (source_dimensions : G → List Dimension) (source_k
       let source = source_dimensions begin.source.now in
       let target = target_dimensions begin.targets.grid.now in
       let same_grid = about.targets.same_grid in
-      let array_is = rw (about.targets.same_subset, same_grid) at can.whole_array in
+      let whole = rw (about.targets.same_subset, same_grid) at can.whole_array in
       let IsOne = AreCopiesInto source (source_key begin.source_encoding.now) target (target_key begin.targets.encoding.now) in
       let (others, also) = have_groups source _ target _ chains also_chains keys also_keys (rw (about.same_source, same_grid) at can.one_array)
-      (rw array_is at is_box) (targets_to_come now) (rw (can.whole_array, same_grid) at can.meet)
+      (rw whole at is_box) (targets_to_come now) (rw (can.whole_array, same_grid) at can.meet)
       in
       begun copy_lines AreAllGroups before after came others rest (copy_lines_both came others)
       (rw left (both_zipped IsOne chunks (targets_to_come now) came others are also)) sends
@@ -135,10 +134,10 @@ module _ {G E H F : Type 0} (source_dimensions : G → List Dimension) (source_k
         in
         groups_stop after later came rest have sends
 
-    pub group_stops : (refusal : Refusal RunFault) → StepLeaves IsGroup (λ _. ⊥) (Err refusal) between after
-        → StepLeaves (IsTextOf copy_lines AreAllGroups) (λ _. ⊥) (Err refusal) before after
-    group_stops (Memory e) (failed, which) =
+    pub group_stops : (fault : RunFault) → StepLeaves IsGroup (λ _. ⊥) (Err fault) between after
+        → StepLeaves (IsTextOf copy_lines AreAllGroups) (λ _. ⊥) (Err fault) before after
+    group_stops Memory (failed, which) =
         let (came, have, sends, same) = way in
         (failed ∙ same, inr (⊎_elim (λ holds. groups_stop after now came between.held_back have (rw holds sends)) begun_more which))
-    group_stops (Refused Write) leaves = (leaves.0, begun_more leaves.1)
-    group_stops (Refused _) leaves = absurd leaves.2
+    group_stops Write leaves = (leaves.0, begun_more leaves.1)
+    group_stops _ leaves = absurd leaves.2

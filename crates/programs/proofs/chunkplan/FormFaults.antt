@@ -1,29 +1,31 @@
 -- What the members of a tree say of its first fault.
-use Rattle.std.proofs.Common.{◌≡◌, ◌∙◌, ℕ, zero, suc, List, IsSome, None, Some, codes, sym, arith}
-use Rattle.std.proofs.lemmas.Option.{none-some}
+use Rattle.std.proofs.Common.{◌≡◌, ℕ, List, [], ◌∷◌, None, Some, codes}
 use Rattle.serde_json.specs.Data.{Data}
-use Rattle.serde_json.specs.Find.{as_object, get}
+use Rattle.serde_json.specs.Find.{get}
 use Rattle.zarrs_chunk_base.specs.First.{IsFirst}
-use Rattle.programs.specs.Document.{IsMissingFault}
+use Rattle.programs.specs.Document.{IsMissingFault, IsShapeFault}
 use Rattle.programs.specs.declared.document_fault.DocumentFault.{DocumentFault}
-use Rattle.programs.specs.declared.document_fault.DocumentFault.TheVariants.{Missing}
-use Rattle.programs.proofs.Members.{found}
-use Rattle.programs.specs.chunkplan.DocumentFault.{HasMembers, IsFormFault, document_members, missing}
+use Rattle.programs.specs.declared.document_fault.DocumentFault.TheVariants.{Missing, WrongValue}
+use Rattle.programs.proofs.Members.{has_more, is_there, no_more}
+use Rattle.programs.specs.chunkplan.Document.{Fit}
+use Rattle.programs.specs.chunkplan.DocumentFault.{HasMembers, IsFormFault, document_members, misformed_shape, missing}
+use Rattle.programs.specs.chunkplan.RunFault.{of_document}
 
 -- a member that has to be there is missing
-pub no_member : (d : Data) (name : List ℕ) (fault : DocumentFault) → IsSome (as_object d)
-    → (get name d ≡ None → IsFirst (λ member. get member d ≡ None) document_members name) → IsMissingFault d name name fault → IsFormFault d fault
-no_member d name (Missing told) object first is = missing name object (first is.1) is
-no_member d name _ object first is = absurd is
-
-pub is_there : (d m : Data) (field : List ℕ) → get field d ≡ Some m → ¬ (get field d ≡ None)
-is_there d m field there none = none-some m (sym none ∙ there)
-
--- ---- all are there
+pub no_member : (d : Data) (name : List ℕ) (told : DocumentFault) → (get name d ≡ None → IsFirst (λ member. get member d ≡ None) document_members name)
+    → IsMissingFault d name name told → IsFormFault d (of_document told)
+no_member d name (Missing field) first is = missing name (first is.1) is.0
+no_member d name _ first is = absurd is
 
 pub has_members : (d s g k : Data) → get (codes "shape") d ≡ Some s → get (codes "chunk_grid") d ≡ Some g → get (codes "chunk_key_encoding") d ≡ Some k
     → HasMembers d
-has_members d s g k shape grid keys name (zero, within, at) = found d _ name s shape at
-has_members d s g k shape grid keys name (suc zero, within, at) = found d _ name g grid at
-has_members d s g k shape grid keys name (suc (suc zero), within, at) = found d _ name k keys at
-has_members d s g k shape grid keys name (suc (suc (suc n)), within, at) = absurd (omega arith)
+has_members d s g k shape grid keys =
+    has_more d s (codes "shape") (codes "chunk_grid" ∷ codes "chunk_key_encoding" ∷ []) shape
+    (has_more d g (codes "chunk_grid") (codes "chunk_key_encoding" ∷ []) grid (has_more d k (codes "chunk_key_encoding") [] keys (no_more d)))
+
+-- the shape is there, and is none
+pub no_shape : (d m : Data) (told : DocumentFault) → HasMembers d → Fit d → get (codes "shape") d ≡ Some m → IsShapeFault d told
+    → IsFormFault d (of_document told)
+no_shape d m (Missing field) members fit there is = absurd (is_there d m (codes "shape") there is.1)
+no_shape d m (WrongValue field) members fit there is = misformed_shape members fit is.1 is.0
+no_shape d m _ members fit there is = absurd is

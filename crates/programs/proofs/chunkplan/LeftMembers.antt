@@ -3,7 +3,7 @@ use Rattle.std.proofs.Common.{◌≡◌, ◌≢◌, ℕ, List, Option, Some, Non
 use Rattle.serde_json.specs.Data.{Data}
 use Rattle.serde_json.specs.Find.{get}
 use Rattle.zarrs_chunk_base.specs.ArraySubset.{Box}
-use Rattle.programs.specs.declared.document_fault.DocumentFault.{DocumentFault}
+use Rattle.programs.specs.declared.chunkplan.run_fault.RunFault.{RunFault}
 use Rattle.programs.specs.chunkplan.Document.{HasBox, IsBoxIn, IsTask, Task, read_of, rechunk_to}
 use Rattle.programs.specs.chunkplan.DocumentFault.{HasBoxFault, IsTaskFault, of_subset, of_target, of_target_stored, of_chunks}
 
@@ -12,7 +12,7 @@ use Rattle.programs.specs.chunkplan.DocumentFault.{HasBoxFault, IsTaskFault, of_
 pub has_box : (d left : Data) (field : List ℕ) (subset : Option Box) → get field left ≡ get field d → HasBox left field subset → HasBox d field subset
 has_box d left field subset same = subst (λ found. MatchOption subset (found ≡ None) (λ b. (m : Data) × (found ≡ Some m) × IsBoxIn m b)) same
 
-pub has_box_fault : (d left : Data) (field : List ℕ) (fault : DocumentFault) → get field left ≡ get field d → HasBoxFault left field fault
+pub has_box_fault : (d left : Data) (field : List ℕ) (fault : RunFault) → get field left ≡ get field d → HasBoxFault left field fault
     → HasBoxFault d field fault
 has_box_fault d left field fault same (m, there, is) = (m, sym same ∙ there, is)
 
@@ -31,11 +31,12 @@ module _ (d left : Data) (are_left : AreLeft d left) where
   is_task (rechunk_to stored b) (m, there, has, box) =
       (m, sym (short (codes "target") refl) ∙ there, has, has_box d left (codes "chunks") b (short (codes "chunks") refl) box)
 
-  pub is_task_fault : (fault : DocumentFault) → IsTaskFault left fault → IsTaskFault d fault
+  pub is_task_fault : (fault : RunFault) → IsTaskFault left fault → IsTaskFault d fault
   is_task_fault fault (of_subset none is) =
       of_subset (sym (short (codes "target") refl) ∙ none) (has_box_fault d left (codes "subset") fault (short (codes "subset") refl) is)
   is_task_fault fault (of_target m there none tells) = of_target m (sym (short (codes "target") refl) ∙ there) none tells
-  is_task_fault fault (of_target_stored m there object is) = of_target_stored m (sym (short (codes "target") refl) ∙ there) object is
+  is_task_fault fault (of_target_stored m told there object is same) =
+      of_target_stored m told (sym (short (codes "target") refl) ∙ there) object is same
   is_task_fault fault (of_chunks m stored there has is) =
       let same = short (codes "target") refl in
       of_chunks m stored (sym same ∙ there) has (has_box_fault d left (codes "chunks") fault (short (codes "chunks") refl) is)

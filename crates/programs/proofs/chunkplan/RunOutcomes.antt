@@ -1,45 +1,96 @@
 -- The outcomes of a run, put together from its steps.
-use Rattle.std.proofs.Common.{◌≡◌, ◌∙◌, ℕ, Bool, true, false, List, [], ◌++◌, Some, Result, Ok, Err, IfErr, OnErr, OnOk, append_assoc, ap, inl, inr, sym, ⊎_elim}
-use Rattle.zarrs_chunk_base.specs.declared.refusal.Refusal.{Refusal}
-use Rattle.zarrs_chunk_base.specs.declared.refusal.Refusal.TheVariants.{Refused, Memory}
+use Rattle.std.proofs.Common.{◌≡◌, ◌∙◌, ℕ, Bool, true, false, List, [], ◌++◌, Some, Ok, Err, append_assoc, ap, codes, inl, inr, refl, sym, true≢false, unwrap_or, ⊎_elim}
+use Rattle.serde_json.specs.Data.{Data}
+use Rattle.zarrs_chunk_plan.specs.Rechunking.{all_chunks_box, array_box}
 use Rattle.programs.specs.Streams.{IsReadToEnd, IsWritten, Streams}
-use Rattle.programs.specs.Watched.{IsFailure}
+use Rattle.programs.specs.Watched.{IsReadFailure}
 use Rattle.programs.specs.chunkplan.Document.{Document}
-use Rattle.programs.specs.chunkplan.PlanFault.{IsFirstFault, IsPlanFault, no_document, no_plan, of_chunks, of_source, of_subset, of_target}
+use Rattle.programs.specs.chunkplan.DocumentFault.{HasBoxFault, IsBoxFormFault, IsFormFault, IsMisfit, IsTaskFault, TellsMissing, TellsWrongValue}
+use Rattle.programs.specs.chunkplan.DocumentFault.{misfit, misformed_shape, misformed_stored, misformed_task, missing, no_object, not_of_form, of_target_stored}
+use Rattle.programs.specs.chunkplan.DocumentFault.{of_chunks as of_chunks_box, of_subset as of_subset_box, of_target as of_target_tree}
+use Rattle.programs.specs.chunkplan.PlanFault.{IsChunksFault, IsFirstFault, IsPlanFault, IsReadFault, IsTargetFault, no_document, no_plan, of_chunks, of_source, of_subset, of_target}
 use Rattle.programs.specs.chunkplan.Planned.{IsPlanOf}
 use Rattle.programs.specs.chunkplan.Run.{HasBegunPlan, RunLeaves}
-use Rattle.programs.specs.chunkplan.seen.Sent.{HasBegun, Output, StepLeaves}
+use Rattle.programs.specs.chunkplan.RunFault.{of_create, of_document, of_stream}
+use Rattle.programs.specs.chunkplan.seen.Steps.{HasBegun, StepLeaves}
+use Rattle.programs.specs.seen.Sent.{Output}
 use Rattle.programs.specs.declared.chunkplan.run_fault.RunFault.{RunFault}
-use Rattle.programs.specs.declared.chunkplan.run_fault.RunFault.TheVariants.{Read, Write}
+use Rattle.programs.specs.declared.chunkplan.run_fault.RunFault.TheVariants.{Memory, Read, Write}
+use Rattle.programs.specs.declared.document_fault.DocumentFault.{DocumentFault}
+use Rattle.programs.specs.declared.document_fault.DocumentFault.TheVariants.{Memory as NoMemory, Metadata, Missing, NotJson, NotObject, WrongValue}
+use Rattle.programs.specs.declared.stored.CreateFault.{CreateFault}
+use Rattle.programs.specs.declared.stored.CreateFault.TheVariants.{Encoding, Grid, Memory as NoRoom}
+use Rattle.programs.specs.declared.stream_fault.StreamFault.{StreamFault}
+use Rattle.programs.specs.declared.stream_fault.StreamFault.TheVariants.{Memory as NoMoreMemory, Read as ReadFailed, Write as WriteFailed}
 
 -- ---- a fault of an input is none of reading or writing
 
-pub no_failed_write : (document : Document) → ¬ IsPlanFault document Write
-no_failed_write document (of_source is) = is
-no_failed_write document (of_subset _ _ _ _ _ is) = is
-no_failed_write document (of_target _ _ _ _ _ _ is) = is
-no_failed_write document (of_chunks _ _ _ _ _ _ _ _ _ is) = is
+abbrev moves : RunFault → Bool
+moves Read = true
+moves Write = true
+moves _ = false
 
-no_failed_read : (document : Document) → ¬ IsPlanFault document Read
-no_failed_read document (of_source is) = is
-no_failed_read document (of_subset _ _ _ _ _ is) = is
-no_failed_read document (of_target _ _ _ _ _ _ is) = is
-no_failed_read document (of_chunks _ _ _ _ _ _ _ _ _ is) = is
+-- what holds of neither holds of others alone
+still : (P : RunFault → Type 0) → ¬ P Read → ¬ P Write → (fault : RunFault) → P fault → moves fault ≡ false
+still P no_read no_write Read is = absurd (no_read is)
+still P no_read no_write Write is = absurd (no_write is)
+still P no_read no_write _ is = refl
+
+of_document_still : (told : DocumentFault) → moves (of_document told) ≡ false
+of_document_still NotJson = refl
+of_document_still NotObject = refl
+of_document_still (Missing _) = refl
+of_document_still (WrongValue _) = refl
+of_document_still (Metadata _ _) = refl
+of_document_still NoMemory = refl
+
+of_create_still : (told : CreateFault) → moves (of_create told) ≡ false
+of_create_still (Grid _) = refl
+of_create_still (Encoding _) = refl
+of_create_still NoRoom = refl
+
+box_still : (d : Data) (field : List ℕ) (fault : RunFault) → HasBoxFault d field fault → moves fault ≡ false
+box_still d field fault (m, _, is) = still (IsBoxFormFault m field) (λ h. h) (λ h. h) fault is
+
+task_still : (d : Data) (fault : RunFault) → IsTaskFault d fault → moves fault ≡ false
+task_still d fault (of_subset_box _ is) = box_still d (codes "subset") fault is
+task_still d fault (of_target_tree _ _ _ is) = still (TellsWrongValue (codes "target")) (λ h. h) (λ h. h) fault is
+task_still d fault (of_target_stored _ told _ _ _ same) = ap moves same ∙ of_document_still told
+task_still d fault (of_chunks_box _ _ _ _ is) = box_still d (codes "chunks") fault is
+
+form_still : (d : Data) (fault : RunFault) → IsFormFault d fault → moves fault ≡ false
+form_still d fault (missing name _ is) = still (TellsMissing name) (λ h. h) (λ h. h) fault is
+form_still d fault (misfit _ is) = still (IsMisfit d) (λ h. h) (λ h. h) fault is
+form_still d fault (misformed_shape _ _ _ is) = still (TellsWrongValue (codes "shape")) (λ h. h) (λ h. h) fault is
+form_still d fault (misformed_stored told _ _ _ _ same) = ap moves same ∙ of_document_still told
+form_still d fault (misformed_task _ _ _ _ _ is) = task_still d fault is
+
+plan_still : (document : Document) (fault : RunFault) → IsPlanFault document fault → moves fault ≡ false
+plan_still document fault (of_source told _ same) = ap moves same ∙ of_create_still told
+plan_still document fault (of_subset subset grid _ _ _ is) =
+    still (IsReadFault grid.dimensions (unwrap_or subset (array_box grid.dimensions))) (λ h. h) (λ h. h) fault is
+plan_still document fault (of_target stored _ _ _ _ _ is) = still (IsTargetFault stored document.shape) (λ h. h) (λ h. h) fault is
+plan_still document fault (of_chunks _ chunks _ target _ _ _ _ _ is) =
+    still (IsChunksFault target.dimensions (unwrap_or chunks (all_chunks_box target.dimensions))) (λ h. h) (λ h. h) fault is
+
+first_still : (input : List ℕ) (fault : RunFault) → IsFirstFault input fault → moves fault ≡ false
+first_still input fault (no_document (no_object told _ same)) = ap moves same ∙ of_document_still told
+first_still input fault (no_document (not_of_form tree _ is)) = form_still tree fault is
+first_still input fault (no_plan _ document _ _ is) = plan_still document fault is
+
+pub no_failed_write : (document : Document) → ¬ IsPlanFault document Write
+no_failed_write document is = true≢false (plan_still document Write is)
 
 pub no_write : (input : List ℕ) → ¬ IsFirstFault input Write
-no_write input (no_document is) = is
-no_write input (no_plan _ document _ _ is) = no_failed_write document is
-
-no_read : (input : List ℕ) → ¬ IsFirstFault input Read
-no_read input (no_document is) = is
-no_read input (no_plan _ document _ _ is) = no_failed_read document is
+no_write input is = true≢false (first_still input Write is)
 
 -- ---- reading
 
-pub read_stops : (input held : List ℕ) (refusal : Refusal RunFault) (s : Streams) (before : Bool) → IsFailure Read refusal before s.read_failed
-    → before ≡ false → IsWritten held s → RunLeaves input held (Err refusal) s
-read_stops input held (Refused fault) s before (is, now) not_read written = rw is (now, written)
-read_stops input held (Memory e) s before is not_read (holds, not_written) = (is ∙ not_read, not_written, inl holds)
+pub read_stops : (input held : List ℕ) (fault : StreamFault) (s : Streams) (before : Bool) → IsReadFailure fault before s.read_failed → before ≡ false
+    → IsWritten held s → RunLeaves input held (Err (of_stream fault)) s
+read_stops input held ReadFailed s before now not_read written = (now, written)
+read_stops input held NoMoreMemory s before is not_read (holds, not_written) = (is ∙ not_read, not_written, inl holds)
+read_stops input held WriteFailed s before never not_read written = absurd never
 
 -- ---- sending
 
@@ -53,23 +104,24 @@ module _ (input held bytes : List ℕ) (read : bytes ≡ input) (s : Streams) (e
       let (sent, now, parts) = rw (known, none) at sends in
       (text, sent, rest, rw read at is, parts, now)
 
-  pub sending_stops : (refusal : Refusal RunFault) → StepLeaves (IsPlanOf bytes) (IsFirstFault bytes) (Err refusal) before After
-      → RunLeaves input held (Err refusal) s
-  sending_stops (Refused Read) leaves = absurd (no_read bytes leaves.2)
-  sending_stops (Refused Write) leaves = (end, begun leaves.1, leaves.0)
-  sending_stops (Refused _) leaves = (end, rw read at leaves.2, (leaves.1 ∙ known, leaves.0 ∙ not_failed))
-  sending_stops (Memory e) (same, which) = (end.1, same ∙ not_failed, ⊎_elim (λ unsent. inl (unsent ∙ known)) (λ has. inr (begun has)) which)
+  pub sending_stops : (fault : RunFault) → StepLeaves (IsPlanOf bytes) (IsFirstFault bytes) (Err fault) before After
+      → RunLeaves input held (Err fault) s
+  sending_stops Read leaves = absurd (true≢false (first_still bytes Read leaves.2))
+  sending_stops Write leaves = (end, begun leaves.1, leaves.0)
+  sending_stops Memory (same, which) = (end.1, same ∙ not_failed, ⊎_elim (λ unsent. inl (unsent ∙ known)) (λ has. inr (begun has)) which)
+  sending_stops _ leaves = (end, rw read at leaves.2, (leaves.1 ∙ known, leaves.0 ∙ not_failed))
 
 -- ---- writing what was held back
 
 module _ (input held : List ℕ) (s : Streams) (end : IsReadToEnd s) (before : Bool) (not_failed : before ≡ false) (text sent waiting : List ℕ)
     (is : IsPlanOf input text) (parts : text ≡ sent ++ waiting) where
-  pub written_leaves : (r : Result (Unit {0}) (Refusal RunFault)) → OnOk r (s.holds ≡ Some ((held ++ sent) ++ waiting))
-      → OnOk r (s.write_failed ≡ before)
-      → OnErr r ((written : List ℕ) × (rest : List ℕ) × (waiting ≡ written ++ rest) × (s.holds ≡ Some ((held ++ sent) ++ written)))
-      → IfErr r (λ refusal. (refusal ≡ Refused Write) × (s.write_failed ≡ true)) → RunLeaves input held r s
-  written_leaves (Ok u) ok unfailed err failed =
+  pub all_written : (s.holds ≡ Some ((held ++ sent) ++ waiting)) → (s.write_failed ≡ before) → RunLeaves input held (Ok tt) s
+  all_written ok unfailed =
       (end, text, is, (ok ∙ ap Some (append_assoc held sent waiting ∙ ap (λ xs. held ++ xs) (sym parts)), unfailed ∙ not_failed))
-  written_leaves (Err refusal) ok unfailed (written, rest, both, now) failed =
+
+  pub some_written : (fault : StreamFault) → (fault ≡ WriteFailed) × (s.write_failed ≡ true)
+      → ((written : List ℕ) × (rest : List ℕ) × (waiting ≡ written ++ rest) × (s.holds ≡ Some ((held ++ sent) ++ written)))
+      → RunLeaves input held (Err (of_stream fault)) s
+  some_written fault failed (written, rest, both, now) =
       let begun : text ≡ (sent ++ written) ++ rest = parts ∙ ap (λ xs. sent ++ xs) both ∙ sym (append_assoc sent written rest) in
       rw failed.0 (end, (text, sent ++ written, rest, is, begun, now ∙ ap Some (append_assoc held sent written)), failed.1)

@@ -5,17 +5,11 @@ use Rattle.serde_json.specs.Data.{Data}
 use Rattle.serde_json.specs.Find.{get}
 use Rattle.zarrs_chunk_base.specs.ArraySubset.{Box, IsBox}
 use Rattle.zarrs_chunk_base.specs.Json.{size_of, list_of, pair_of}
-use Rattle.zarrs_chunk_base.specs.Metadata.{Extension, extension_of}
-use Rattle.programs.specs.Document.{HasExtension, shape_in}
+use Rattle.programs.specs.Document.{HasStored, shape_in}
+use Rattle.programs.specs.Stored.{Stored, stored_of}
 use Rattle.programs.specs.declared.chunkplan.document.Document.{Document as DocumentValue}
-use Rattle.programs.specs.declared.chunkplan.document.Stored.{Stored as StoredValue}
 use Rattle.programs.specs.declared.chunkplan.document.Task.{Task as TaskValue}
 use Rattle.programs.specs.declared.chunkplan.document.Task.TheVariants.{Read as ReadValue, Rechunk as RechunkValue}
-
--- how an array is stored: its chunk grid and its chunk key encoding
-pub record Stored : Type 0 where
-  pub chunk_grid : Extension
-  pub chunk_key_encoding : Extension
 
 -- what is asked for: a read of a box of elements, or of all, or a rechunking into chunks of a box, or into all
 pub data Task : Type 0 where
@@ -29,20 +23,12 @@ pub record Document : Type 0 where
   pub task : Task
 
 -- what a value of the program stands for
-abbrev pub stored_of : StoredValue → Stored
-stored_of s = record { chunk_grid = extension_of s.chunk_grid; chunk_key_encoding = extension_of s.chunk_key_encoding }
-
 abbrev pub task_of : TaskValue → Task
 task_of (ReadValue subset) = read_of subset
 task_of (RechunkValue target chunks) = rechunk_to (stored_of target) chunks
 
 abbrev pub document_of : DocumentValue → Document
 document_of d = record { shape = d.shape.items; stored = stored_of d.stored; task = task_of d.task }
-
--- the members `chunk_grid` and `chunk_key_encoding`
-pub record HasStored (d : Data) (stored : Stored) : Type 0 where
-  pub grid : HasExtension d (codes "chunk_grid") stored.chunk_grid
-  pub encoding : HasExtension d (codes "chunk_key_encoding") stored.chunk_key_encoding
 
 -- a list of two lists of sizes, which are the start and the shape of a box
 pub record IsBoxIn (d : Data) (b : Box) : Type 0 where

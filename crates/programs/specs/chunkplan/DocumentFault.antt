@@ -5,10 +5,22 @@ use Rattle.serde_json.specs.Find.{get, as_object}
 use Rattle.zarrs_chunk_base.specs.ArraySubsetError.{IsBoxFault}
 use Rattle.zarrs_chunk_base.specs.First.{IsFirst}
 use Rattle.zarrs_chunk_base.specs.Json.{size_of, list_of, pair_of}
-use Rattle.programs.specs.Document.{HasAll, HasExtensionFault, HasSomeExtension, IsMissingFault, IsTextFault, IsTreeOf, TellsWrongValue, shape_in}
+use Rattle.programs.specs.Document.{HasAll, HasStored, IsObjectOf, IsStoredFault, IsTextFault, shape_in}
+use Rattle.programs.specs.Stored.{Stored}
+use Rattle.programs.specs.chunkplan.Document.{Fit}
+use Rattle.programs.specs.chunkplan.RunFault.{of_document}
+use Rattle.programs.specs.declared.chunkplan.run_fault.RunFault.{RunFault}
+use Rattle.programs.specs.declared.chunkplan.run_fault.RunFault.TheVariants.{Box, ChunksOfNoTarget, Missing, SubsetOfTarget, WrongValue}
 use Rattle.programs.specs.declared.document_fault.DocumentFault.{DocumentFault}
-use Rattle.programs.specs.declared.document_fault.DocumentFault.TheVariants.{NotObject, ChunksOfNoTarget, SubsetOfTarget, WrongValue, Box}
-use Rattle.programs.specs.chunkplan.Document.{Fit, HasStored, Stored}
+
+-- the fault says that the member of this name is missing, or isn't of its form
+abbrev pub TellsMissing : List ℕ → RunFault → Type 0
+TellsMissing name (Missing told) = told.now ≡ name
+TellsMissing _ _ = ⊥
+
+abbrev pub TellsWrongValue : List ℕ → RunFault → Type 0
+TellsWrongValue name (WrongValue told) = told.now ≡ name
+TellsWrongValue _ _ = ⊥
 
 -- the members that have to be there, in the order in which a missing one is reported
 abbrev pub document_members : List (List ℕ)
@@ -19,56 +31,46 @@ abbrev pub HasMembers : Data → Type 0
 HasMembers = HasAll document_members
 
 -- the fault says which member doesn't go with the others
-abbrev pub IsMisfit : Data → DocumentFault → Type 0
+abbrev pub IsMisfit : Data → RunFault → Type 0
 IsMisfit d SubsetOfTarget = IsSome (get (codes "target") d) × IsSome (get (codes "subset") d)
 IsMisfit d ChunksOfNoTarget = (get (codes "target") d ≡ None) × IsSome (get (codes "chunks") d)
 IsMisfit d _ = ⊥
 
--- The first fault of how a tree says that an array is stored: of its chunk grid and its chunk key encoding, which the fault calls by these names,
--- one is missing; one is no extension's metadata.
-pub data IsStoredFault (d : Data) (grid_name encoding_name : List ℕ) (fault : DocumentFault) : Type 0 where
-  no_grid : IsMissingFault d (codes "chunk_grid") grid_name fault → IsStoredFault d grid_name encoding_name fault
-  no_encoding : IsSome (get (codes "chunk_grid") d) → IsMissingFault d (codes "chunk_key_encoding") encoding_name fault
-      → IsStoredFault d grid_name encoding_name fault
-  misformed_grid : IsSome (get (codes "chunk_key_encoding") d) → HasExtensionFault d (codes "chunk_grid") grid_name fault
-      → IsStoredFault d grid_name encoding_name fault
-  misformed_encoding : HasSomeExtension d (codes "chunk_grid") → HasExtensionFault d (codes "chunk_key_encoding") encoding_name fault
-      → IsStoredFault d grid_name encoding_name fault
-
 -- the fault says why a member's value is no box: it is no list of two lists of sizes, or these make no box
-abbrev pub IsBoxFormFault : Data → List ℕ → DocumentFault → Type 0
+abbrev pub IsBoxFormFault : Data → List ℕ → RunFault → Type 0
 IsBoxFormFault value name (WrongValue told) = (told.now ≡ name) × (pair_of (list_of size_of) value ≡ None)
 IsBoxFormFault value name (Box told error) =
-    (told.now ≡ name) × (start : List ℕ) × (shape : List ℕ) × (pair_of (list_of size_of) value ≡ Some (start, shape)) × IsBoxFault start shape error
+    (told.now ≡ name) × (start : List ℕ) × (shape : List ℕ) × (pair_of (list_of size_of) value ≡ Some (start, shape))
+    × IsBoxFault start shape error
 IsBoxFormFault _ _ _ = ⊥
 
 -- the member is there and is no box; the fault says why
-abbrev pub HasBoxFault : Data → List ℕ → DocumentFault → Type 0
+abbrev pub HasBoxFault : Data → List ℕ → RunFault → Type 0
 HasBoxFault d field fault = (m : Data) × (get field d ≡ Some m) × IsBoxFormFault m field fault
 
 -- The first fault of what a tree asks for: its `subset`, where there is no target; and else the target, the target's two members, or `chunks`.
-pub data IsTaskFault (d : Data) (fault : DocumentFault) : Type 0 where
+pub data IsTaskFault (d : Data) (fault : RunFault) : Type 0 where
   of_subset : get (codes "target") d ≡ None → HasBoxFault d (codes "subset") fault → IsTaskFault d fault
   of_target : (target : Data) → get (codes "target") d ≡ Some target → as_object target ≡ None → TellsWrongValue (codes "target") fault
       → IsTaskFault d fault
-  of_target_stored : (target : Data) → get (codes "target") d ≡ Some target → IsSome (as_object target)
-      → IsStoredFault target (codes "target.chunk_grid") (codes "target.chunk_key_encoding") fault → IsTaskFault d fault
-  of_chunks : (target : Data) (stored : Stored) → get (codes "target") d ≡ Some target → HasStored target stored → HasBoxFault d (codes "chunks") fault
+  of_target_stored : (target : Data) (told : DocumentFault) → get (codes "target") d ≡ Some target → IsSome (as_object target)
+      → IsStoredFault target (codes "target.chunk_grid") (codes "target.chunk_key_encoding") told → fault ≡ of_document told
       → IsTaskFault d fault
+  of_chunks : (target : Data) (stored : Stored) → get (codes "target") d ≡ Some target → HasStored target stored
+      → HasBoxFault d (codes "chunks") fault → IsTaskFault d fault
 
--- The first fault of a tree that is no document: it is no object; a member is missing; one doesn't go with the others; and then, of the shape, of
--- how the array is stored and of what is asked for, the first that isn't of its form.
-pub data IsFormFault (d : Data) (fault : DocumentFault) : Type 0 where
-  no_object : as_object d ≡ None → fault ≡ NotObject → IsFormFault d fault
-  missing : (name : List ℕ) → IsSome (as_object d) → IsFirst (λ member. get member d ≡ None) document_members name
-      → IsMissingFault d name name fault → IsFormFault d fault
+-- The first fault of an object that is no document: a member is missing; one doesn't go with the others; and then, of the shape, of how the
+-- array is stored and of what is asked for, the first that isn't of its form.
+pub data IsFormFault (d : Data) (fault : RunFault) : Type 0 where
+  missing : (name : List ℕ) → IsFirst (λ member. get member d ≡ None) document_members name → TellsMissing name fault → IsFormFault d fault
   misfit : HasMembers d → IsMisfit d fault → IsFormFault d fault
   misformed_shape : HasMembers d → Fit d → shape_in d ≡ None → TellsWrongValue (codes "shape") fault → IsFormFault d fault
-  misformed_stored : HasMembers d → Fit d → IsSome (shape_in d) → IsStoredFault d (codes "chunk_grid") (codes "chunk_key_encoding") fault
+  misformed_stored : (told : DocumentFault) → HasMembers d → Fit d → IsSome (shape_in d)
+      → IsStoredFault d (codes "chunk_grid") (codes "chunk_key_encoding") told → fault ≡ of_document told → IsFormFault d fault
+  misformed_task : (stored : Stored) → HasMembers d → Fit d → IsSome (shape_in d) → HasStored d stored → IsTaskFault d fault
       → IsFormFault d fault
-  misformed_task : (stored : Stored) → HasMembers d → Fit d → IsSome (shape_in d) → HasStored d stored → IsTaskFault d fault → IsFormFault d fault
 
--- The first fault of an input that is no document: it is no JSON, or its tree isn't of the form.
-pub data IsInputFault (input : List ℕ) (fault : DocumentFault) : Type 0 where
-  not_json : IsTextFault input fault → IsInputFault input fault
-  not_of_form : (tree : Data) → IsTreeOf input tree → IsFormFault tree fault → IsInputFault input fault
+-- The first fault of an input that is no document: it is no text of an object, or its object isn't of the form.
+pub data IsInputFault (input : List ℕ) (fault : RunFault) : Type 0 where
+  no_object : (told : DocumentFault) → IsTextFault input told → fault ≡ of_document told → IsInputFault input fault
+  not_of_form : (tree : Data) → IsObjectOf input tree → IsFormFault tree fault → IsInputFault input fault

@@ -3,35 +3,27 @@ use Rattle.std.specs.Prelude.{◌≡◌, ◌≢◌, ◌⊎◌, ℕ, List, length
 use Rattle.serde_json.specs.Data.{Data}
 use Rattle.zarrs_chunk_base.specs.ArraySubset.{Box, IsEmptyBox, lasts}
 use Rattle.zarrs_chunk_base.specs.Dimension.{Dimension}
-use Rattle.zarrs_chunk_base.specs.Grid.{Grid}
+use Rattle.zarrs_chunk_base.specs.Grid.{Grid as ChunkGrid}
 use Rattle.zarrs_chunk_base.specs.Refusal.{TellsLengths}
-use Rattle.zarrs_chunk_base.specs.declared.plugin_create_error.PluginCreateError.{PluginCreateError}
-use Rattle.zarrs_chunk_keys.specs.ChunkKey.{Encoding}
-use Rattle.zarrs_chunk_keys.specs.KeyKinds.{IsEncodingFault}
-use Rattle.zarrs_chunks.specs.GridKinds.{IsGrid, IsGridFault}
+use Rattle.zarrs_chunk_keys.specs.ChunkKey.{Encoding as KeyEncoding}
 use Rattle.zarrs_chunks.specs.Subsets.{HasNoHome}
 use Rattle.zarrs_chunk_plan.specs.Rechunking.{all_chunks_box, array_box}
 use Rattle.zarrs_chunk_plan.specs.declared.copies_error.CopiesError.TheVariants.{Chunks}
 use Rattle.programs.specs.Document.{IsTreeOf}
-use Rattle.programs.specs.chunkplan.Document.{Document, IsDocument, Stored, read_of, rechunk_to}
+use Rattle.programs.specs.Stored.{IsCreateFault, IsStored, Stored}
+use Rattle.programs.specs.chunkplan.Document.{Document, IsDocument, read_of, rechunk_to}
 use Rattle.programs.specs.chunkplan.DocumentFault.{IsInputFault}
-use Rattle.programs.specs.chunkplan.Planned.{IsStored}
+use Rattle.programs.specs.chunkplan.RunFault.{of_create}
 use Rattle.programs.specs.declared.chunkplan.run_fault.RunFault.{RunFault}
-use Rattle.programs.specs.declared.chunkplan.run_fault.RunFault.TheVariants.{Document as DocumentRefused, Create, CreateTarget, SubsetDimensionality, Uncovered, Copies}
+use Rattle.programs.specs.declared.chunkplan.run_fault.RunFault.TheVariants.{Copies, SubsetDimensionality, TargetEncoding, TargetGrid, Uncovered}
+use Rattle.programs.specs.declared.stored.CreateFault.{CreateFault}
+use Rattle.programs.specs.declared.stored.CreateFault.TheVariants.{Encoding, Grid}
 
--- why an array of a shape isn't stored so: there is no such grid; then, no such encoding
-pub data IsCreateFault (stored : Stored) (shape : List ℕ) (error : PluginCreateError) : Type 0 where
-  no_grid : IsGridFault stored.chunk_grid shape error → IsCreateFault stored shape error
-  no_encoding : (grid : Grid) → IsGrid stored.chunk_grid shape grid → IsEncodingFault stored.chunk_key_encoding error → IsCreateFault stored shape error
-
--- the fault says so of the document's array, or of the target
-abbrev pub IsSourceFault : Stored → List ℕ → RunFault → Type 0
-IsSourceFault stored shape (Create error) = IsCreateFault stored shape error
-IsSourceFault stored shape _ = ⊥
-
+-- the fault says why the target isn't stored so
 abbrev pub IsTargetFault : Stored → List ℕ → RunFault → Type 0
-IsTargetFault stored shape (CreateTarget error) = IsCreateFault stored shape error
-IsTargetFault stored shape _ = ⊥
+IsTargetFault stored shape (TargetGrid error) = IsCreateFault stored shape (Grid error)
+IsTargetFault stored shape (TargetEncoding error) = IsCreateFault stored shape (Encoding error)
+IsTargetFault _ _ _ = ⊥
 
 -- the fault says why there is no plan of reading the box: it has another number of dimensions; or its first or its last element lies in no chunk
 abbrev pub IsReadFault : List Dimension → Box → RunFault → Type 0
@@ -48,24 +40,19 @@ IsChunksFault ds chunks _ = ⊥
 -- The first fault of a document without a plan: the grid and the encoding; then, of a read, the box; of a rechunking, the grid and the encoding of
 -- the target, and then the box of its chunks.
 pub data IsPlanFault (document : Document) (fault : RunFault) : Type 0 where
-  of_source : IsSourceFault document.stored document.shape fault → IsPlanFault document fault
-  of_subset : (subset : Option Box) (grid : Grid) (encoding : Encoding) → document.task ≡ read_of subset
+  of_source : (told : CreateFault) → IsCreateFault document.stored document.shape told → fault ≡ of_create told → IsPlanFault document fault
+  of_subset : (subset : Option Box) (grid : ChunkGrid) (encoding : KeyEncoding) → document.task ≡ read_of subset
       → IsStored document.stored document.shape grid encoding
       → IsReadFault grid.dimensions (unwrap_or subset (array_box grid.dimensions)) fault → IsPlanFault document fault
-  of_target : (stored : Stored) (chunks : Option Box) (grid : Grid) (encoding : Encoding) → document.task ≡ rechunk_to stored chunks
+  of_target : (stored : Stored) (chunks : Option Box) (grid : ChunkGrid) (encoding : KeyEncoding) → document.task ≡ rechunk_to stored chunks
       → IsStored document.stored document.shape grid encoding → IsTargetFault stored document.shape fault → IsPlanFault document fault
-  of_chunks : (stored : Stored) (chunks : Option Box) (source target : Grid) (source_encoding target_encoding : Encoding)
+  of_chunks : (stored : Stored) (chunks : Option Box) (source target : ChunkGrid) (source_encoding target_encoding : KeyEncoding)
       → document.task ≡ rechunk_to stored chunks → IsStored document.stored document.shape source source_encoding
       → IsStored stored document.shape target target_encoding
       → IsChunksFault target.dimensions (unwrap_or chunks (all_chunks_box target.dimensions)) fault → IsPlanFault document fault
 
--- the fault says why the input is no document
-abbrev pub IsDocumentFault : List ℕ → RunFault → Type 0
-IsDocumentFault input (DocumentRefused error) = IsInputFault input error
-IsDocumentFault input _ = ⊥
-
 -- The first fault of an input that has no plan: it is no document, or the document has no plan.
 pub data IsFirstFault (input : List ℕ) (fault : RunFault) : Type 0 where
-  no_document : IsDocumentFault input fault → IsFirstFault input fault
+  no_document : IsInputFault input fault → IsFirstFault input fault
   no_plan : (tree : Data) (document : Document) → IsTreeOf input tree → IsDocument tree document → IsPlanFault document fault
       → IsFirstFault input fault

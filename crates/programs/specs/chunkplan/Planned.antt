@@ -5,19 +5,13 @@ use Rattle.zarrs_chunk_base.specs.ArraySubset.{Box, IsEmptyBox}
 use Rattle.zarrs_chunk_base.specs.Dimension.{Dimension}
 use Rattle.zarrs_chunk_base.specs.Grid.{Grid}
 use Rattle.zarrs_chunk_keys.specs.ChunkKey.{Encoding, IsKey}
-use Rattle.zarrs_chunk_keys.specs.KeyKinds.{IsEncoding}
-use Rattle.zarrs_chunks.specs.GridKinds.{IsGrid}
 use Rattle.zarrs_chunk_plan.specs.Plan.{IsPlan}
 use Rattle.zarrs_chunk_plan.specs.Rechunking.{Group, IsRechunking, all_chunks_box, array_box}
 use Rattle.zarrs_chunk_plan.specs.declared.part.Part.{Part}
 use Rattle.programs.specs.Document.{IsTreeOf}
-use Rattle.programs.specs.chunkplan.Document.{Document, IsDocument, Stored, read_of, rechunk_to}
+use Rattle.programs.specs.Stored.{IsStored, Stored}
+use Rattle.programs.specs.chunkplan.Document.{Document, IsDocument, read_of, rechunk_to}
 use Rattle.programs.specs.chunkplan.Line.{copy_lines, part_lines}
-
--- the grid and the encoding by which an array of a shape is stored
-pub record IsStored (stored : Stored) (shape : List ℕ) (grid : Grid) (encoding : Encoding) : Type 0 where
-  pub is_grid : IsGrid stored.chunk_grid shape grid
-  pub is_encoding : IsEncoding stored.chunk_key_encoding encoding
 
 -- the plan of reading a box of elements; an empty box has no parts
 pub record IsReadPlan (ds : List Dimension) (IsKeyOf : List ℕ → List ℕ → Type 0) (subset : Box) (parts : List Part) : Type 0 where
@@ -28,7 +22,8 @@ pub record IsReadPlan (ds : List Dimension) (IsKeyOf : List ℕ → List ℕ →
 pub data IsPlanned (document : Document) (text : List ℕ) : Type 0 where
   of_read : (subset : Option Box) (grid : Grid) (encoding : Encoding) (parts : List Part) → document.task ≡ read_of subset
       → IsStored document.stored document.shape grid encoding
-      → IsReadPlan grid.dimensions (IsKey encoding) (unwrap_or subset (array_box grid.dimensions)) parts → text ≡ part_lines parts → IsPlanned document text
+      → IsReadPlan grid.dimensions (IsKey encoding) (unwrap_or subset (array_box grid.dimensions)) parts → text ≡ part_lines parts
+      → IsPlanned document text
   of_rechunking : (stored : Stored) (chunks : Option Box) (source target : Grid) (source_encoding target_encoding : Encoding) (groups : List Group)
       → document.task ≡ rechunk_to stored chunks → IsStored document.stored document.shape source source_encoding
       → IsStored stored document.shape target target_encoding

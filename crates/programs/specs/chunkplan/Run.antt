@@ -1,12 +1,10 @@
 -- What a run of the program leaves.
 use Rattle.std.specs.Prelude.{◌≡◌, ◌⊎◌, ℕ, true, false, List, ◌++◌, Some, Result, Ok, Err, MatchResult}
-use Rattle.zarrs_chunk_base.specs.declared.refusal.Refusal.{Refusal}
-use Rattle.zarrs_chunk_base.specs.declared.refusal.Refusal.TheVariants.{Refused, Memory}
 use Rattle.programs.specs.Streams.{IsReadToEnd, IsWritten, Streams}
 use Rattle.programs.specs.chunkplan.PlanFault.{IsFirstFault}
 use Rattle.programs.specs.chunkplan.Planned.{IsPlanOf}
 use Rattle.programs.specs.declared.chunkplan.run_fault.RunFault.{RunFault}
-use Rattle.programs.specs.declared.chunkplan.run_fault.RunFault.TheVariants.{Read, Write}
+use Rattle.programs.specs.declared.chunkplan.run_fault.RunFault.TheVariants.{Memory, Read, Write}
 
 -- a beginning of the plan was written behind what the writer held
 abbrev pub HasBegunPlan : (input held : List ℕ) → Streams → Type 0
@@ -16,15 +14,15 @@ HasBegunPlan input held s =
 
 -- A run over a reader that had the input left and a writer that held some bytes: what it leaves, by its outcome. Lines are written as they
 -- are made, so where memory runs out, a beginning of the plan may have been written.
-abbrev pub RunLeaves : (input held : List ℕ) → Result (Unit {0}) (Refusal RunFault) → Streams → Type 0
+abbrev pub RunLeaves : (input held : List ℕ) → Result (Unit {0}) RunFault → Streams → Type 0
 RunLeaves input held (Ok _) s = IsReadToEnd s × (text : List ℕ) × IsPlanOf input text × IsWritten (held ++ text) s
-RunLeaves input held (Err (Refused Read)) s = (s.read_failed ≡ true) × IsWritten held s
-RunLeaves input held (Err (Memory _)) s =
+RunLeaves input held (Err Read) s = (s.read_failed ≡ true) × IsWritten held s
+RunLeaves input held (Err Memory) s =
     (s.read_failed ≡ false) × (s.write_failed ≡ false) × ((s.holds ≡ Some held) ⊎ HasBegunPlan input held s)
-RunLeaves input held (Err (Refused Write)) s = IsReadToEnd s × HasBegunPlan input held s × (s.write_failed ≡ true)
-RunLeaves input held (Err (Refused fault)) s = IsReadToEnd s × IsFirstFault input fault × IsWritten held s
+RunLeaves input held (Err Write) s = IsReadToEnd s × HasBegunPlan input held s × (s.write_failed ≡ true)
+RunLeaves input held (Err fault) s = IsReadToEnd s × IsFirstFault input fault × IsWritten held s
 
 -- A run ends with the status 0 where it succeeded, and with 1 after a fault.
 abbrev pub RunEndsWith : (input held : List ℕ) → (status : ℕ) → Streams → Type 0
 RunEndsWith input held status s =
-    (outcome : Result (Unit {0}) (Refusal RunFault)) × RunLeaves input held outcome s × MatchResult outcome (λ _. status ≡ 0) (λ _. status ≡ 1)
+    (outcome : Result (Unit {0}) RunFault) × RunLeaves input held outcome s × MatchResult outcome (λ _. status ≡ 0) (λ _. status ≡ 1)

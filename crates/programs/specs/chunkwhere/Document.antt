@@ -1,24 +1,24 @@
 -- The program's document: a JSON object with the members `shape`, `chunk_grid`, `chunk_key_encoding`
 -- and `indices`, and where it has one, `keys`; what else it has says nothing.
-use Rattle.std.specs.Prelude.{◌≡◌, ◌⊎◌, ℕ, List, [], ◌∷◌, map, IsSome, Option, Some, None, option_and_then, unwrap_or, codes, string_bytes}
+use Rattle.std.specs.Prelude.{◌≡◌, ℕ, List, [], ◌∷◌, map, IsSome, Option, Some, None, option_and_then, unwrap_or, codes, string_bytes}
 use Rattle.serde_json.specs.Data.{Data}
-use Rattle.serde_json.specs.Find.{get, as_object, as_str}
+use Rattle.serde_json.specs.Find.{get, as_str}
 use Rattle.serde_json.specs.View.{view}
 use Rattle.serde_json.specs.declared.value.Value.{Value}
-use Rattle.programs.specs.declared.chunkwhere.document.Document.{Document as DocumentValue}
-use Rattle.zarrs_chunk_base.specs.declared.metadata_error.MetadataError.{MetadataError}
 use Rattle.zarrs_chunk_base.specs.First.{IsFirst}
 use Rattle.zarrs_chunk_base.specs.Json.{size_of, list_of}
-use Rattle.zarrs_chunk_base.specs.Metadata.{Extension, extension_of, IsMetadataFault}
-use Rattle.programs.specs.Document.{HasAll, HasExtension, HasSomeExtension, IsTextFault, IsTreeOf, shape_in}
+use Rattle.programs.specs.Document.{HasAll, HasStored, IsObjectOf, IsStoredFault, IsTextFault, shape_in}
+use Rattle.programs.specs.Stored.{Stored, stored_of}
+use Rattle.programs.specs.chunkwhere.RunFault.{of_document}
+use Rattle.programs.specs.declared.chunkwhere.document.Document.{Document as DocumentValue}
+use Rattle.programs.specs.declared.chunkwhere.run_fault.RunFault.{RunFault}
+use Rattle.programs.specs.declared.chunkwhere.run_fault.RunFault.TheVariants.{Missing, WrongValue}
 use Rattle.programs.specs.declared.document_fault.DocumentFault.{DocumentFault}
-use Rattle.programs.specs.declared.document_fault.DocumentFault.TheVariants.{NotObject, Missing, WrongValue, Metadata}
 
 -- a document, without where it lies in memory
 pub record Document : Type 0 where
   pub shape : List ℕ
-  pub chunk_grid : Extension
-  pub chunk_key_encoding : Extension
+  pub stored : Stored
   pub indices : List (List ℕ)
   pub keys : List (List ℕ)
 
@@ -34,8 +34,7 @@ lists_in = map sizes_in
 abbrev pub document_of : DocumentValue → Document
 document_of d = record {
   shape = d.shape.items;
-  chunk_grid = extension_of d.chunk_grid;
-  chunk_key_encoding = extension_of d.chunk_key_encoding;
+  stored = stored_of d.stored;
   indices = lists_in d.indices.items;
   keys = map string_bytes d.keys.items;
 }
@@ -53,17 +52,21 @@ texts_of (Some texts) = list_of as_str texts
 abbrev pub keys_in : Data → Option (List (List ℕ))
 keys_in d = texts_of (get (codes "keys") d)
 
--- the member is there and is no extension's metadata; this is its first fault
-abbrev pub HasMetadataFault : Data → List ℕ → MetadataError → Type 0
-HasMetadataFault d field fault = (m : Data) × (get field d ≡ Some m) × IsMetadataFault m fault
-
 -- the document that a tree stands for
 pub record IsDocument (d : Data) (document : Document) : Type 0 where
   pub shape : shape_in d ≡ Some document.shape
-  pub chunk_grid : HasExtension d (codes "chunk_grid") document.chunk_grid
-  pub chunk_key_encoding : HasExtension d (codes "chunk_key_encoding") document.chunk_key_encoding
+  pub stored : HasStored d document.stored
   pub indices : indices_in d ≡ Some document.indices
   pub keys : keys_in d ≡ Some document.keys
+
+-- the fault says that the member of this name is missing, or isn't of its form
+abbrev pub TellsMissing : List ℕ → RunFault → Type 0
+TellsMissing name (Missing told) = told.now ≡ name
+TellsMissing _ _ = ⊥
+
+abbrev pub TellsWrongValue : List ℕ → RunFault → Type 0
+TellsWrongValue name (WrongValue told) = told.now ≡ name
+TellsWrongValue _ _ = ⊥
 
 -- the members that have to be there, in the order in which a missing one is reported
 abbrev pub document_members : List (List ℕ)
@@ -73,26 +76,19 @@ document_members = codes "shape" ∷ codes "chunk_grid" ∷ codes "chunk_key_enc
 abbrev pub HasMembers : Data → Type 0
 HasMembers = HasAll document_members
 
--- The first fault of a tree that is no document: it is no object; a member is missing; a member isn't
--- of its form, of `shape`, `chunk_grid`, `chunk_key_encoding`, `indices` and `keys` the first.
-abbrev pub IsFormFault : Data → DocumentFault → Type 0
-IsFormFault d NotObject = as_object d ≡ None
-IsFormFault d (Missing field) = IsSome (as_object d) × IsFirst (λ name. get name d ≡ None) document_members field.now
-IsFormFault d (WrongValue field) =
-    HasMembers d
-    × (((field.now ≡ codes "shape") × (shape_in d ≡ None))
-    ⊎ ((field.now ≡ codes "indices") × IsSome (shape_in d) × HasSomeExtension d (codes "chunk_grid")
-    × HasSomeExtension d (codes "chunk_key_encoding") × (indices_in d ≡ None))
-    ⊎ ((field.now ≡ codes "keys") × IsSome (shape_in d) × HasSomeExtension d (codes "chunk_grid")
-    × HasSomeExtension d (codes "chunk_key_encoding") × IsSome (indices_in d) × (keys_in d ≡ None)))
-IsFormFault d (Metadata field fault) =
-    HasMembers d × IsSome (shape_in d)
-    × (((field.now ≡ codes "chunk_grid") × HasMetadataFault d (codes "chunk_grid") fault)
-    ⊎ ((field.now ≡ codes "chunk_key_encoding") × HasSomeExtension d (codes "chunk_grid")
-    × HasMetadataFault d (codes "chunk_key_encoding") fault))
-IsFormFault d _ = ⊥
+-- The first fault of an object that is no document: a member is missing; and then, of the shape, of how the array is stored, of `indices` and
+-- of `keys`, the first that isn't of its form.
+pub data IsFormFault (d : Data) (fault : RunFault) : Type 0 where
+  missing : (name : List ℕ) → IsFirst (λ member. get member d ≡ None) document_members name → TellsMissing name fault → IsFormFault d fault
+  misformed_shape : HasMembers d → shape_in d ≡ None → TellsWrongValue (codes "shape") fault → IsFormFault d fault
+  misformed_stored : (told : DocumentFault) → HasMembers d → IsSome (shape_in d)
+      → IsStoredFault d (codes "chunk_grid") (codes "chunk_key_encoding") told → fault ≡ of_document told → IsFormFault d fault
+  misformed_indices : (stored : Stored) → HasMembers d → IsSome (shape_in d) → HasStored d stored → indices_in d ≡ None
+      → TellsWrongValue (codes "indices") fault → IsFormFault d fault
+  misformed_keys : (stored : Stored) → HasMembers d → IsSome (shape_in d) → HasStored d stored → IsSome (indices_in d) → keys_in d ≡ None
+      → TellsWrongValue (codes "keys") fault → IsFormFault d fault
 
--- The first fault of an input that is no document: it is no JSON, or its tree isn't of the form.
-pub data IsInputFault (input : List ℕ) (fault : DocumentFault) : Type 0 where
-  not_json : IsTextFault input fault → IsInputFault input fault
-  not_of_form : (tree : Data) → IsTreeOf input tree → IsFormFault tree fault → IsInputFault input fault
+-- The first fault of an input that is no document: it is no text of an object, or its object isn't of the form.
+pub data IsInputFault (input : List ℕ) (fault : RunFault) : Type 0 where
+  no_object : (told : DocumentFault) → IsTextFault input told → fault ≡ of_document told → IsInputFault input fault
+  not_of_form : (tree : Data) → IsObjectOf input tree → IsFormFault tree fault → IsInputFault input fault

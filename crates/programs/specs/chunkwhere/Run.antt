@@ -1,13 +1,11 @@
 -- What a run of the program leaves.
 use Rattle.std.specs.Prelude.{◌≡◌, ℕ, true, false, List, ◌++◌, Some, Result, Ok, Err, MatchResult}
 use Rattle.programs.specs.declared.chunkwhere.run_fault.RunFault.{RunFault}
-use Rattle.programs.specs.declared.chunkwhere.run_fault.RunFault.TheVariants.{Read, Write, Document as DocumentRefused}
+use Rattle.programs.specs.declared.chunkwhere.run_fault.RunFault.TheVariants.{Memory, Read, Write}
 use Rattle.programs.specs.chunkwhere.Answer.{IsAnswer, IsAnswerFault}
 use Rattle.programs.specs.chunkwhere.Document.{Document, IsDocument, IsInputFault}
 use Rattle.programs.specs.Document.{IsTreeOf}
 use Rattle.programs.specs.Streams.{IsReadToEnd, IsWritten, Streams}
-use Rattle.zarrs_chunk_base.specs.declared.refusal.Refusal.{Refusal}
-use Rattle.zarrs_chunk_base.specs.declared.refusal.Refusal.TheVariants.{Refused, Memory}
 use Rattle.serde_json.specs.Data.{Data}
 
 -- the text that answers the input
@@ -18,28 +16,23 @@ pub record IsTextFor (input text : List ℕ) : Type 0 where
   pub stands_for : IsDocument tree document
   pub answers : IsAnswer document text
 
--- the fault says why the input is no document
-abbrev pub IsDocumentFault : List ℕ → RunFault → Type 0
-IsDocumentFault input (DocumentRefused error) = IsInputFault input error
-IsDocumentFault input _ = ⊥
-
 -- The first fault of an input: it is no document, or the document has no answer.
 pub data IsFirstFault (input : List ℕ) (fault : RunFault) : Type 0 where
-  no_document : IsDocumentFault input fault → IsFirstFault input fault
+  no_document : IsInputFault input fault → IsFirstFault input fault
   no_answer : (tree : Data) (document : Document) → IsTreeOf input tree → IsDocument tree document → IsAnswerFault document fault
       → IsFirstFault input fault
 
 -- A run over a reader that had the input left and a writer that held some bytes: what it leaves, by its outcome.
-abbrev pub RunLeaves : (input held : List ℕ) → Result (Unit {0}) (Refusal RunFault) → Streams → Type 0
+abbrev pub RunLeaves : (input held : List ℕ) → Result (Unit {0}) RunFault → Streams → Type 0
 RunLeaves input held (Ok _) s = IsReadToEnd s × (text : List ℕ) × IsTextFor input text × IsWritten (held ++ text) s
-RunLeaves input held (Err (Refused Read)) s = (s.read_failed ≡ true) × IsWritten held s
-RunLeaves input held (Err (Memory _)) s = (s.read_failed ≡ false) × IsWritten held s
-RunLeaves input held (Err (Refused Write)) s =
+RunLeaves input held (Err Read) s = (s.read_failed ≡ true) × IsWritten held s
+RunLeaves input held (Err Memory) s = (s.read_failed ≡ false) × IsWritten held s
+RunLeaves input held (Err Write) s =
     IsReadToEnd s × (text : List ℕ) × (written : List ℕ) × (rest : List ℕ) × IsTextFor input text × (text ≡ written ++ rest)
     × (s.holds ≡ Some (held ++ written)) × (s.write_failed ≡ true)
-RunLeaves input held (Err (Refused fault)) s = IsReadToEnd s × IsFirstFault input fault × IsWritten held s
+RunLeaves input held (Err fault) s = IsReadToEnd s × IsFirstFault input fault × IsWritten held s
 
 -- A run ends with the status 0 where it succeeded, and with 1 after a fault.
 abbrev pub RunEndsWith : (input held : List ℕ) → (status : ℕ) → Streams → Type 0
 RunEndsWith input held status s =
-    (outcome : Result (Unit {0}) (Refusal RunFault)) × RunLeaves input held outcome s × MatchResult outcome (λ _. status ≡ 0) (λ _. status ≡ 1)
+    (outcome : Result (Unit {0}) RunFault) × RunLeaves input held outcome s × MatchResult outcome (λ _. status ≡ 0) (λ _. status ≡ 1)

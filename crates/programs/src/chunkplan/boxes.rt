@@ -1,24 +1,24 @@
 //! A box as a document writes it: a list of its start and its shape, each a list of sizes.
-ghost use Rattle.std.specs.Prelude.{◌≡◌, IfOk, MatchResult, option_map};
+ghost use Rattle.std.specs.Prelude.{◌≡◌, ◌⊎◌, IfOk, MatchResult, option_map};
 ghost use Rattle.serde_json.specs.View.{view};
 ghost use Rattle.zarrs_chunk_base.specs.Json.{list_of, pair_of, size_of};
-ghost use Rattle.zarrs_chunk_base.specs.Refusal.{OrMemory};
 ghost use Rattle.programs.specs.chunkplan.Document.{HasBox, IsBoxIn};
 ghost use Rattle.programs.specs.chunkplan.DocumentFault.{HasBoxFault, IsBoxFormFault};
+ghost use Rattle.programs.specs.declared.chunkplan.run_fault.RunFault.TheVariants.{Memory};
 
-use crate::{DocumentFault, read_sizes};
+use crate::chunkplan::RunFault;
 use serde_json::Value;
 use std::alloc::{AllocError, Global};
-use zarrs_chunk_base::{ArraySubset, Refusal};
+use zarrs_chunk_base::{ArraySubset, TreeForm};
 
 /// The box that a member of a document stands for, if there is one.
 pub(crate) fn member_box(
     alloc: Global,
     tree: &Value,
     field: &'static str,
-) -> Result<Option<ArraySubset>, Refusal<DocumentFault>>
+) -> Result<Option<ArraySubset>, RunFault>
     ensures { MatchResult result (HasBox (view tree.now) field.now)
-        (OrMemory (HasBoxFault (view tree.now) field.now)) }
+        (λ fault. (fault ≡ Memory) ⊎ HasBoxFault (view tree.now) field.now fault) }
 {
     match tree.get(field) {
         Some(member) => Ok(Some(read_box(alloc, member, field)?)),
@@ -27,20 +27,16 @@ pub(crate) fn member_box(
 }
 
 /// The box that a tree stands for.
-fn read_box(
-    alloc: Global,
-    tree: &Value,
-    field: &'static str,
-) -> Result<ArraySubset, Refusal<DocumentFault>>
+fn read_box(alloc: Global, tree: &Value, field: &'static str) -> Result<ArraySubset, RunFault>
     ensures { MatchResult result (IsBoxIn (view tree.now))
-        (OrMemory (IsBoxFormFault (view tree.now) field.now)) }
+        (λ fault. (fault ≡ Memory) ⊎ IsBoxFormFault (view tree.now) field.now fault) }
 {
     let Some((start, shape)) = read_pair(alloc, tree)? else {
-        return Err(Refusal::Refused(DocumentFault::WrongValue(field)));
+        return Err(RunFault::WrongValue(field));
     };
     match ArraySubset::new_with_start_shape(start, shape) {
         Ok(subset) => Ok(subset),
-        Err(error) => Err(Refusal::Refused(DocumentFault::Box(field, error))),
+        Err(error) => Err(RunFault::Box(field, error)),
     }
 }
 
@@ -55,7 +51,10 @@ fn read_pair(alloc: Global, tree: &Value) -> Result<Option<(Vec<u64>, Vec<u64>)>
     let [first, second] = lists.as_slice() else {
         return Ok(None);
     };
-    match (read_sizes(alloc, first)?, read_sizes(alloc, second)?) {
+    match (
+        Vec::from_tree(alloc, first)?,
+        Vec::from_tree(alloc, second)?,
+    ) {
         (Some(first), Some(second)) => Ok(Some((first, second))),
         _ => Ok(None),
     }

@@ -7,15 +7,15 @@ ghost use Rattle.zarrs_chunk_plan.specs.declared.part.Part.{Part as PartValue};
 ghost use Rattle.zarrs_chunk_plan.specs.seen.Copies.{AreGroupsToCome, CanCopy};
 ghost use Rattle.zarrs_chunk_plan.specs.seen.Parts.{ArePartsToCome, HasKeys, MeetSubset};
 ghost use Rattle.programs.specs.chunkplan.Line.{copy_lines, line_for};
-ghost use Rattle.programs.specs.chunkplan.seen.Sent.{StepLeaves, output};
+ghost use Rattle.programs.specs.chunkplan.seen.Steps.{StepLeaves};
+ghost use Rattle.programs.specs.seen.Sent.{output};
 
+use crate::chunkplan::RunFault;
 use crate::chunkplan::line::line;
-use crate::chunkplan::run_fault::RunFault;
-use crate::chunkplan::sending::send;
+use crate::streams::send;
 use crate::watched::Watched;
 use std::alloc::Global;
 use std::io::Write;
-use zarrs_chunk_base::Refusal;
 use zarrs_chunk_keys::ChunkKeyEncodingTraits;
 use zarrs_chunk_plan::{ChunkCopies, Copies, Part, Parts};
 use zarrs_chunks::ChunkGridTraits;
@@ -30,7 +30,7 @@ pub(crate) fn write_parts<G: ChunkGridTraits, E: ChunkKeyEncodingTraits, W: Writ
     to: Option<&Part>,
     held_back: &mut Vec<u8>,
     writer: &mut Watched<W>,
-) -> Result<(), Refusal<RunFault>>
+) -> Result<(), RunFault>
     requires meet { MeetSubset G.dimensions walk }
     requires is_box { IsBox walk.array_subset }
     requires keys { HasKeys (E.is_key walk.encoding.now) }
@@ -63,7 +63,7 @@ pub(crate) fn write_copies<
     walk: Copies<'_, G, E, H, F>,
     held_back: &mut Vec<u8>,
     writer: &mut Watched<W>,
-) -> Result<(), Refusal<RunFault>>
+) -> Result<(), RunFault>
     requires can { CanCopy G.dimensions H.dimensions walk }
     requires is_box { IsBox walk.targets.array_subset }
     requires keys { HasKeys (E.is_key walk.source_encoding.now) }
@@ -88,7 +88,7 @@ fn write_group<G: ChunkGridTraits, E: ChunkKeyEncodingTraits, W: Write>(
     group: ChunkCopies<'_, G, E>,
     held_back: &mut Vec<u8>,
     writer: &mut Watched<W>,
-) -> Result<(), Refusal<RunFault>>
+) -> Result<(), RunFault>
     requires meet { MeetSubset G.dimensions group.from }
     requires is_box { IsBox group.from.array_subset }
     requires keys { HasKeys (E.is_key group.from.encoding.now) }

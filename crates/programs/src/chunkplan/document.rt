@@ -1,25 +1,19 @@
 //! The program's document.
-ghost use Rattle.std.specs.Prelude.{◌≡◌, ◌≢◌, ℕ, List, IfOk, MatchResult, None, codes};
+ghost use Rattle.std.specs.Prelude.{◌≡◌, ◌⊎◌, MatchResult};
 ghost use Rattle.serde_json.specs.Data.{Data};
-ghost use Rattle.serde_json.specs.Find.{get};
 ghost use Rattle.serde_json.specs.View.{view};
-ghost use Rattle.zarrs_chunk_base.specs.Refusal.{IsRefusedAnd, OrMemory};
 ghost use Rattle.programs.specs.Document.{IsTreeOf};
-ghost use Rattle.programs.specs.chunkplan.Document.{Fit, HasStored, IsDocument, IsTask, document_of, stored_of, task_of};
-ghost use Rattle.programs.specs.chunkplan.DocumentFault.{IsFormFault, IsInputFault, IsMisfit, IsStoredFault, IsTaskFault};
+ghost use Rattle.programs.specs.chunkplan.Document.{Fit, IsDocument, IsTask, document_of, task_of};
+ghost use Rattle.programs.specs.chunkplan.DocumentFault.{IsFormFault, IsInputFault, IsMisfit, IsTaskFault};
+ghost use Rattle.programs.specs.declared.chunkplan.run_fault.RunFault.TheVariants.{Memory};
 
+use crate::chunkplan::RunFault;
 use crate::chunkplan::boxes::member_box;
-use crate::{DocumentFault, read_sizes, read_tree, required_member, take_metadata};
+use crate::document::{read_object, read_shape, required_member, take_stored};
+use crate::stored::Stored;
 use serde_json::Value;
 use std::alloc::Global;
-use zarrs_chunk_base::{ArraySubset, MetadataV3, Refusal, take_member};
-
-/// How an array is stored: in which chunks, and under which keys.
-#[derive(Drop)]
-pub(crate) struct Stored {
-    pub(crate) chunk_grid: MetadataV3,
-    pub(crate) chunk_key_encoding: MetadataV3,
-}
+use zarrs_chunk_base::{ArraySubset, take_member};
 
 /// What a document asks for.
 #[derive(Drop)]
@@ -43,31 +37,26 @@ pub(crate) struct Document {
 /// # Errors
 /// The input is no JSON or no object; a member is missing; a member doesn't go with the others; a member isn't of its form, of `shape`,
 /// `chunk_grid`, `chunk_key_encoding`, and of `subset`, or of `target` and `chunks`, the first; or out of memory.
-pub(crate) fn parse(alloc: Global, input: &[u8]) -> Result<Document, Refusal<DocumentFault>>
+pub(crate) fn parse(alloc: Global, input: &[u8]) -> Result<Document, RunFault>
     ensures { MatchResult result
         (λ document. (tree : Data) × IsTreeOf input.now tree
         × IsDocument tree (document_of document))
-        (OrMemory (IsInputFault input.now)) }
+        (λ fault. (fault ≡ Memory) ⊎ IsInputFault input.now fault) }
 {
-    let tree = read_tree(alloc, input)?;
+    let tree = read_object(alloc, input)?;
     document_from(alloc, tree)
 }
 
 /// The document that a tree stands for.
-fn document_from(alloc: Global, mut tree: Value) -> Result<Document, Refusal<DocumentFault>>
+fn document_from(alloc: Global, mut tree: Value) -> Result<Document, RunFault>
     ensures { MatchResult result (λ document. IsDocument (view tree) (document_of document))
-        (OrMemory (IsFormFault (view tree))) }
+        (λ fault. (fault ≡ Memory) ⊎ IsFormFault (view tree) fault) }
 {
-    if !tree.is_object() {
-        return Err(Refusal::Refused(DocumentFault::NotObject));
-    }
-    let shape = required_member(&tree, "shape", "shape")?;
+    required_member(&tree, "shape", "shape")?;
     required_member(&tree, "chunk_grid", "chunk_grid")?;
     required_member(&tree, "chunk_key_encoding", "chunk_key_encoding")?;
     check_fitting(&tree)?;
-    let Some(shape) = read_sizes(alloc, shape)? else {
-        return Err(Refusal::Refused(DocumentFault::WrongValue("shape")));
-    };
+    let shape = read_shape(alloc, &tree)?;
     let stored = take_stored(alloc, &mut tree, "chunk_grid", "chunk_key_encoding")?;
     let task = task_from(alloc, tree)?;
     Ok(Document {
@@ -78,31 +67,27 @@ fn document_from(alloc: Global, mut tree: Value) -> Result<Document, Refusal<Doc
 }
 
 /// Refuses a member that doesn't go with the others.
-fn check_fitting(tree: &Value) -> Result<(), Refusal<DocumentFault>>
+fn check_fitting(tree: &Value) -> Result<(), RunFault>
     ensures { MatchResult result (λ _. Fit (view tree.now))
-        (λ refusal. IsRefusedAnd refusal (IsMisfit (view tree.now))) }
+        (IsMisfit (view tree.now)) }
 {
     match tree.get("target") {
-        Some(_) if tree.get("subset").is_some() => {
-            Err(Refusal::Refused(DocumentFault::SubsetOfTarget))
-        }
-        None if tree.get("chunks").is_some() => {
-            Err(Refusal::Refused(DocumentFault::ChunksOfNoTarget))
-        }
+        Some(_) if tree.get("subset").is_some() => { Err(RunFault::SubsetOfTarget) }
+        None if tree.get("chunks").is_some() => { Err(RunFault::ChunksOfNoTarget) }
         _ => Ok(()),
     }
 }
 
 /// What a tree asks for.
-fn task_from(alloc: Global, mut tree: Value) -> Result<Task, Refusal<DocumentFault>>
+fn task_from(alloc: Global, mut tree: Value) -> Result<Task, RunFault>
     ensures { MatchResult result (λ task. IsTask (view tree) (task_of task))
-        (OrMemory (IsTaskFault (view tree))) }
+        (λ fault. (fault ≡ Memory) ⊎ IsTaskFault (view tree) fault) }
 {
     let Some(mut target) = take_member(&mut tree, "target") else {
         return Ok(Task::Read(member_box(alloc, &tree, "subset")?));
     };
     if !target.is_object() {
-        return Err(Refusal::Refused(DocumentFault::WrongValue("target")));
+        return Err(RunFault::WrongValue("target"));
     }
     let stored = take_stored(
         alloc,
@@ -111,30 +96,4 @@ fn task_from(alloc: Global, mut tree: Value) -> Result<Task, Refusal<DocumentFau
         "target.chunk_key_encoding",
     )?;
     Ok(Task::Rechunk(stored, member_box(alloc, &tree, "chunks")?))
-}
-
-/// The chunk grid and the chunk key encoding of a tree, which are taken out of it. Their faults call them by the names that are given.
-fn take_stored(
-    alloc: Global,
-    tree: &mut Value,
-    grid_name: &'static str,
-    encoding_name: &'static str,
-) -> Result<Stored, Refusal<DocumentFault>>
-    ensures stored { MatchResult result (λ stored. HasStored (view tree.old) (stored_of stored))
-        (OrMemory (IsStoredFault (view tree.old) grid_name.now encoding_name.now)) }
-    ensures grid_gone { IfOk result (λ _. get (codes "chunk_grid") (view tree.new) ≡ None) }
-    ensures encoding_gone { IfOk result
-        (λ _. get (codes "chunk_key_encoding") (view tree.new) ≡ None) }
-    ensures others { IfOk result (λ _. (other : List ℕ) → other ≢ codes "chunk_grid"
-        → other ≢ codes "chunk_key_encoding"
-        → get other (view tree.new) ≡ get other (view tree.old)) }
-{
-    required_member(tree, "chunk_grid", grid_name)?;
-    required_member(tree, "chunk_key_encoding", encoding_name)?;
-    let chunk_grid = take_metadata(alloc, tree, "chunk_grid", grid_name)?;
-    let chunk_key_encoding = take_metadata(alloc, tree, "chunk_key_encoding", encoding_name)?;
-    Ok(Stored {
-        chunk_grid,
-        chunk_key_encoding,
-    })
 }

@@ -1,25 +1,28 @@
 //! The plan that a document asks for.
-ghost use Rattle.std.specs.Prelude.{◌≡◌, IfErr, IfOk, List, unwrap_or};
+ghost use Rattle.std.specs.Prelude.{◌≡◌, ◌⊎◌, IfErr, IfOk, List, unwrap_or};
 ghost use Rattle.zarrs_chunk_base.specs.Dimension.{array_sizes};
 ghost use Rattle.zarrs_chunk_keys.specs.seen.Encodings.{encoding_in};
 ghost use Rattle.zarrs_chunks.specs.seen.Grids.{grid_in};
 ghost use Rattle.zarrs_chunk_plan.specs.Rechunking.{Group, IsRechunking, all_chunks_box, array_box};
 ghost use Rattle.zarrs_chunk_plan.specs.declared.part.Part.{Part as PartValue};
 ghost use Rattle.zarrs_chunk_plan.specs.seen.Parts.{HasKeys};
-ghost use Rattle.zarrs_chunk_base.specs.Refusal.{OrMemory};
-ghost use Rattle.programs.specs.chunkplan.Document.{document_of, stored_of};
+ghost use Rattle.programs.specs.Stored.{IsStored, stored_of};
+ghost use Rattle.programs.specs.chunkplan.Document.{document_of};
 ghost use Rattle.programs.specs.chunkplan.Line.{copy_lines, part_lines};
-ghost use Rattle.programs.specs.chunkplan.PlanFault.{IsChunksFault, IsCreateFault, IsPlanFault, IsReadFault, IsSourceFault, IsTargetFault};
-ghost use Rattle.programs.specs.chunkplan.Planned.{IsPlanned, IsReadPlan, IsStored};
-ghost use Rattle.programs.specs.chunkplan.seen.Sent.{StepLeaves, output};
+ghost use Rattle.programs.specs.chunkplan.PlanFault.{IsChunksFault, IsPlanFault, IsReadFault, IsTargetFault};
+ghost use Rattle.programs.specs.chunkplan.Planned.{IsPlanned, IsReadPlan};
+ghost use Rattle.programs.specs.chunkplan.seen.Steps.{StepLeaves};
+ghost use Rattle.programs.specs.declared.chunkplan.run_fault.RunFault.TheVariants.{Memory};
+ghost use Rattle.programs.specs.seen.Sent.{output};
 
+use crate::chunkplan::RunFault;
 use crate::chunkplan::copying::{write_copies, write_parts};
-use crate::chunkplan::document::{Document, Stored, Task};
-use crate::chunkplan::run_fault::RunFault;
+use crate::chunkplan::document::{Document, Task};
+use crate::stored::{CreateFault, Stored};
 use crate::watched::Watched;
 use std::alloc::{AllocError, Global};
 use std::io::Write;
-use zarrs_chunk_base::{ArraySubset, IncompatibleDimensionalityError, PluginCreateError, Refusal};
+use zarrs_chunk_base::{ArraySubset, IncompatibleDimensionalityError, Refusal};
 use zarrs_chunk_keys::{ChunkKeyEncoding, ChunkKeyEncodingTraits};
 use zarrs_chunk_plan::{all_chunks, copies, parts, whole_array};
 use zarrs_chunks::{ChunkGrid, ChunkGridTraits};
@@ -34,7 +37,7 @@ pub(crate) fn write_plan<W: Write>(
     document: Document,
     held_back: &mut Vec<u8>,
     writer: &mut Watched<W>,
-) -> Result<(), Refusal<RunFault>>
+) -> Result<(), RunFault>
     ensures { StepLeaves (IsPlanned (document_of document)) (IsPlanFault (document_of document))
         result
         (output W.contents held_back.old.items writer.old)
@@ -45,7 +48,7 @@ pub(crate) fn write_plan<W: Write>(
         stored,
         task,
     } = document;
-    let (grid, encoding) = open_source(alloc, stored, &shape)?;
+    let (grid, encoding) = stored.open(alloc, &shape)?;
     match task {
         Task::Read(subset) => {
             let subset = or_whole_array(alloc, subset, &grid)?;
@@ -68,51 +71,24 @@ pub(crate) fn write_plan<W: Write>(
     }
 }
 
-/// The grid and the encoding of the document's array.
-fn open_source(
-    alloc: Global,
-    stored: Stored,
-    shape: &[u64],
-) -> Result<(ChunkGrid, ChunkKeyEncoding), Refusal<RunFault>>
-    ensures made { IfOk result (λ made. IsStored (stored_of stored) shape.now (grid_in made.0)
-        (encoding_in made.1)) }
-    ensures sizes { IfOk result (λ made. array_sizes (grid_in made.0).dimensions ≡ shape.now) }
-    ensures refused { IfErr result (OrMemory (IsSourceFault (stored_of stored) shape.now)) }
-{
-    let made = open(alloc, stored, shape);
-    made.map_err(|refusal| refusal.map(RunFault::Create))
-}
-
 /// The grid and the encoding of the target.
 fn open_target(
     alloc: Global,
     stored: Stored,
     shape: &[u64],
-) -> Result<(ChunkGrid, ChunkKeyEncoding), Refusal<RunFault>>
+) -> Result<(ChunkGrid, ChunkKeyEncoding), RunFault>
     ensures made { IfOk result (λ made. IsStored (stored_of stored) shape.now (grid_in made.0)
         (encoding_in made.1)) }
     ensures sizes { IfOk result (λ made. array_sizes (grid_in made.0).dimensions ≡ shape.now) }
-    ensures refused { IfErr result (OrMemory (IsTargetFault (stored_of stored) shape.now)) }
+    ensures refused { IfErr result (λ fault. (fault ≡ Memory)
+        ⊎ IsTargetFault (stored_of stored) shape.now fault) }
 {
-    let made = open(alloc, stored, shape);
-    made.map_err(|refusal| refusal.map(RunFault::CreateTarget))
-}
-
-/// The grid and the encoding by which an array of a shape is stored. Their metadata are dropped once both are made: a list of edges then stands in
-/// the grid alone.
-fn open(
-    alloc: Global,
-    stored: Stored,
-    shape: &[u64],
-) -> Result<(ChunkGrid, ChunkKeyEncoding), Refusal<PluginCreateError>>
-    ensures made { IfOk result (λ made. IsStored (stored_of stored) shape.now (grid_in made.0)
-        (encoding_in made.1)) }
-    ensures sizes { IfOk result (λ made. array_sizes (grid_in made.0).dimensions ≡ shape.now) }
-    ensures refused { IfErr result (OrMemory (IsCreateFault (stored_of stored) shape.now)) }
-{
-    let grid = ChunkGrid::from_metadata(alloc, &stored.chunk_grid, shape)?;
-    let encoding = ChunkKeyEncoding::from_metadata(alloc, &stored.chunk_key_encoding)?;
-    Ok((grid, encoding))
+    match stored.open(alloc, shape) {
+        Ok(made) => Ok(made),
+        Err(CreateFault::Grid(error)) => Err(RunFault::TargetGrid(error)),
+        Err(CreateFault::Encoding(error)) => Err(RunFault::TargetEncoding(error)),
+        Err(CreateFault::Memory) => Err(RunFault::Memory),
+    }
 }
 
 /// The box, or that of all elements of the array.
@@ -151,7 +127,7 @@ fn write_read<G: ChunkGridTraits, E: ChunkKeyEncodingTraits, W: Write>(
     subset: &ArraySubset,
     held_back: &mut Vec<u8>,
     writer: &mut Watched<W>,
-) -> Result<(), Refusal<RunFault>>
+) -> Result<(), RunFault>
     requires { HasKeys (E.is_key encoding.now) }
     ensures { StepLeaves
         (λ text. (parts : List PartValue)
@@ -164,12 +140,13 @@ fn write_read<G: ChunkGridTraits, E: ChunkKeyEncodingTraits, W: Write>(
     let dimensionality = subset.start().len();
     if dimensionality != grid.dimensionality() {
         let error = IncompatibleDimensionalityError::new(dimensionality, grid.dimensionality());
-        return Err(Refusal::Refused(RunFault::SubsetDimensionality(error)));
+        return Err(RunFault::SubsetDimensionality(error));
     }
     match parts(alloc, grid, encoding, subset) {
         Ok(Some(walk)) => write_parts(alloc, walk, None, held_back, writer),
-        Ok(None) => Err(Refusal::Refused(RunFault::Uncovered)),
-        Err(refusal) => Err(refusal.map(RunFault::SubsetDimensionality)),
+        Ok(None) => Err(RunFault::Uncovered),
+        Err(Refusal::Refused(error)) => Err(RunFault::SubsetDimensionality(error)),
+        Err(Refusal::Memory(_)) => Err(RunFault::Memory),
     }
 }
 
@@ -189,7 +166,7 @@ fn write_rechunking<
     chunks: &ArraySubset,
     held_back: &mut Vec<u8>,
     writer: &mut Watched<W>,
-) -> Result<(), Refusal<RunFault>>
+) -> Result<(), RunFault>
     requires one_array { array_sizes (G.dimensions source.now)
         ≡ array_sizes (H.dimensions target.now) }
     requires keys { HasKeys (E.is_key source_encoding.now) }
@@ -213,6 +190,7 @@ fn write_rechunking<
     );
     match walk {
         Ok(walk) => write_copies(alloc, walk, held_back, writer),
-        Err(refusal) => Err(refusal.map(RunFault::Copies)),
+        Err(Refusal::Refused(error)) => Err(RunFault::Copies(error)),
+        Err(Refusal::Memory(_)) => Err(RunFault::Memory),
     }
 }

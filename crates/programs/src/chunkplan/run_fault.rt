@@ -1,24 +1,60 @@
 //! Why a run of the program stops.
-use crate::DocumentFault;
+ghost use Rattle.std.specs.Prelude.{◌≡◌};
+ghost use Rattle.programs.specs.chunkplan.RunFault.{of_create, of_document, of_stream};
+ghost use Rattle.programs.specs.declared.chunkplan.run_fault.RunFault.TheVariants.{Memory};
+
+use crate::document_fault::DocumentFault;
+use crate::stored::CreateFault;
+use crate::stream_fault::StreamFault;
+use std::alloc::AllocError;
 use thiserror::Error;
-use zarrs_chunk_base::{IncompatibleDimensionalityError, PluginCreateError};
+use zarrs_chunk_base::{
+    ArraySubsetError, IncompatibleDimensionalityError, MetadataError, PluginCreateError,
+};
 use zarrs_chunk_plan::CopiesError;
 
-/// Why a run stops, if not for want of memory. Nothing has been written, except on `Write`.
+/// Why a run stops. Nothing has been written, except on `Write`, and on `Memory`, where a beginning of the plan may have been.
 #[derive(Debug, Drop, Error)]
 pub enum RunFault {
     /// A read failed.
     #[error("input failed")]
     Read,
-    /// The input is no document.
+    /// The input is no text of JSON.
+    #[error("document is not JSON")]
+    NotJson,
+    /// The document is no JSON object.
+    #[error("document is not an object")]
+    NotObject,
+    /// A member of the document is missing.
+    #[error("missing field `{0}`")]
+    Missing(&'static str),
+    /// A member of the document isn't of its form.
+    #[error("wrong value in field `{0}`")]
+    WrongValue(&'static str),
+    /// A member of the document is no extension's metadata.
+    #[error("field `{0}`: {1}")]
+    Metadata(&'static str, MetadataError),
+    /// A member of the document is no box.
+    #[error("field `{0}`: {1}")]
+    Box(&'static str, ArraySubsetError),
+    /// The document has a box of the target's chunks, and no target.
+    #[error("field `chunks` is for a rechunking: give a `target` too, or leave it out")]
+    ChunksOfNoTarget,
+    /// The document has a box of elements, and a target.
+    #[error("field `subset` is for a read: leave out `target`, or leave it out")]
+    SubsetOfTarget,
+    /// The document's chunk grid can't be made.
     #[error(transparent)]
-    Document(DocumentFault),
-    /// The document's chunk grid or chunk key encoding can't be made.
+    Grid(PluginCreateError),
+    /// The document's chunk key encoding can't be made.
     #[error(transparent)]
-    Create(PluginCreateError),
-    /// The target's chunk grid or chunk key encoding can't be made.
+    Encoding(PluginCreateError),
+    /// The target's chunk grid can't be made.
     #[error("field `target`: {0}")]
-    CreateTarget(PluginCreateError),
+    TargetGrid(PluginCreateError),
+    /// The target's chunk key encoding can't be made.
+    #[error("field `target`: {0}")]
+    TargetEncoding(PluginCreateError),
     /// The box of elements has another number of dimensions than the array.
     #[error("field `subset`: {0}")]
     SubsetDimensionality(IncompatibleDimensionalityError),
@@ -31,4 +67,54 @@ pub enum RunFault {
     /// A write or the flush failed, or a write took nothing. A beginning of the plan may have been written.
     #[error("output failed")]
     Write,
+    /// Out of memory.
+    #[error("out of memory")]
+    Memory,
+}
+
+impl From<AllocError> for RunFault {
+    ghost from_gives = { λ _ fault. fault ≡ Memory };
+
+    fn from(_error: AllocError) -> RunFault {
+        RunFault::Memory
+    }
+}
+
+impl From<StreamFault> for RunFault {
+    ghost from_gives = { λ told fault. fault ≡ of_stream told };
+
+    fn from(told: StreamFault) -> RunFault {
+        match told {
+            StreamFault::Read => RunFault::Read,
+            StreamFault::Write => RunFault::Write,
+            StreamFault::Memory => RunFault::Memory,
+        }
+    }
+}
+
+impl From<DocumentFault> for RunFault {
+    ghost from_gives = { λ told fault. fault ≡ of_document told };
+
+    fn from(told: DocumentFault) -> RunFault {
+        match told {
+            DocumentFault::NotJson => RunFault::NotJson,
+            DocumentFault::NotObject => RunFault::NotObject,
+            DocumentFault::Missing(field) => RunFault::Missing(field),
+            DocumentFault::WrongValue(field) => RunFault::WrongValue(field),
+            DocumentFault::Metadata(field, error) => RunFault::Metadata(field, error),
+            DocumentFault::Memory => RunFault::Memory,
+        }
+    }
+}
+
+impl From<CreateFault> for RunFault {
+    ghost from_gives = { λ told fault. fault ≡ of_create told };
+
+    fn from(told: CreateFault) -> RunFault {
+        match told {
+            CreateFault::Grid(error) => RunFault::Grid(error),
+            CreateFault::Encoding(error) => RunFault::Encoding(error),
+            CreateFault::Memory => RunFault::Memory,
+        }
+    }
 }

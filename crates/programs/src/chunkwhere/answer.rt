@@ -1,70 +1,38 @@
 //! The text that answers a document.
-ghost use Rattle.std.specs.Prelude.{◌≡◌, ◌≢◌, ℕ, List, ◌++◌, codes, length, map, IfErr, IfOk, MatchOption, MatchResult, OnOk, string_bytes};
+ghost use Rattle.std.specs.Prelude.{◌≡◌, ◌≢◌, ◌⊎◌, ℕ, List, ◌++◌, codes, length, map, IfOk, MatchOption, MatchResult, OnOk, string_bytes};
 ghost use Rattle.std.specs.List.{AllByRecursion};
-ghost use Rattle.programs.specs.chunkwhere.Answer.{HasLengthOf, IsAnswer, IsAnswerFault, IsCreateFault, IsIndexFault, IsKeyFault};
-ghost use Rattle.programs.specs.chunkwhere.Document.{document_of, lists_in};
-ghost use Rattle.zarrs_chunk_base.specs.Metadata.{extension_of};
-ghost use Rattle.zarrs_chunk_keys.specs.KeyKinds.{IsEncoding};
-ghost use Rattle.zarrs_chunk_keys.specs.Numeral.{IsNumerals};
-ghost use Rattle.zarrs_chunk_keys.specs.seen.Encodings.{encoding_in};
-ghost use Rattle.zarrs_chunks.specs.GridKinds.{IsGrid};
-ghost use Rattle.zarrs_chunks.specs.seen.Grids.{grid_in};
-ghost use Rattle.programs.specs.chunkwhere.Output.{AreLines, IsKeyLine, IsKeyOf, IsLine};
 ghost use Rattle.zarrs_chunk_base.specs.Refusal.{OrMemory, TellsLengths};
+ghost use Rattle.zarrs_chunk_keys.specs.Numeral.{IsNumerals};
+ghost use Rattle.programs.specs.chunkwhere.Answer.{HasLengthOf, IsAnswer, IsAnswerFault, IsIndexFault};
+ghost use Rattle.programs.specs.chunkwhere.Document.{document_of, lists_in};
+ghost use Rattle.programs.specs.chunkwhere.Output.{AreLines, IsKeyLine, IsKeyOf, IsLine};
+ghost use Rattle.programs.specs.declared.chunkwhere.run_fault.RunFault.TheVariants.{Memory};
 
+use crate::chunkwhere::RunFault;
 use crate::chunkwhere::document::Document;
-use crate::chunkwhere::run_fault::RunFault;
 use serde_json::Value;
 use std::alloc::{AllocError, Global};
 use zarrs_chunk_base::{
-    ArrayIndices, IncompatibleDimensionalityError, MetadataV3, Refusal, StoreKey, read_list,
+    ArrayIndices, IncompatibleDimensionalityError, Refusal, StoreKey, read_list,
 };
-use zarrs_chunk_keys::{ChunkKeyEncoding, ChunkKeyEncodingTraits, append_joined, append_numerals};
-use zarrs_chunks::{ChunkGrid, ChunkGridTraits, Home};
+use zarrs_chunk_keys::{ChunkKeyEncodingTraits, append_joined, append_numerals};
+use zarrs_chunks::{ChunkGridTraits, Home};
 
 /// The whole text that answers a document, or the first fault.
-pub(crate) fn answer(alloc: Global, document: Document) -> Result<String, Refusal<RunFault>>
+pub(crate) fn answer(alloc: Global, document: Document) -> Result<String, RunFault>
     ensures { MatchResult result (λ text. IsAnswer (document_of document) (string_bytes text))
-        (OrMemory (IsAnswerFault (document_of document))) }
+        (λ fault. (fault ≡ Memory) ⊎ IsAnswerFault (document_of document) fault) }
 {
     let Document {
         shape,
-        chunk_grid,
-        chunk_key_encoding,
+        stored,
         indices,
         keys,
     } = document;
-    let grid = grid_from(alloc, chunk_grid, &shape)?;
-    let encoding = encoding_from(alloc, &chunk_key_encoding)?;
+    let (grid, encoding) = stored.open(alloc, &shape)?;
     let mut text = lines(alloc, &grid, &encoding, indices)?;
     append_key_lines(alloc, &mut text, &encoding, grid.dimensionality(), keys)?;
     Ok(text)
-}
-
-/// The grid that metadata stand for, which are dropped once it is made: a list of edges then stands in the grid alone.
-fn grid_from(
-    alloc: Global,
-    metadata: MetadataV3,
-    shape: &[u64],
-) -> Result<ChunkGrid, Refusal<RunFault>>
-    ensures made { IfOk result (λ grid. IsGrid (extension_of metadata) shape.now (grid_in grid)) }
-    ensures refused { IfErr result (OrMemory (IsCreateFault (extension_of metadata) shape.now)) }
-{
-    let grid = ChunkGrid::from_metadata(alloc, &metadata, shape);
-    grid.map_err(|refusal| refusal.map(RunFault::Grid))
-}
-
-/// The encoding that metadata stand for.
-fn encoding_from(
-    alloc: Global,
-    metadata: &MetadataV3,
-) -> Result<ChunkKeyEncoding, Refusal<RunFault>>
-    ensures made { IfOk result (λ encoding. IsEncoding (extension_of metadata.now)
-        (encoding_in encoding)) }
-    ensures refused { IfErr result (OrMemory (IsKeyFault (extension_of metadata.now))) }
-{
-    let encoding = ChunkKeyEncoding::from_metadata(alloc, metadata);
-    encoding.map_err(|refusal| refusal.map(RunFault::Encoding))
 }
 
 /// A line for each index list, which is given back once it is read.
@@ -73,12 +41,13 @@ fn lines<G: ChunkGridTraits, E: ChunkKeyEncodingTraits>(
     grid: &G,
     encoding: &E,
     indices: Vec<Value>,
-) -> Result<String, Refusal<RunFault>>
+) -> Result<String, RunFault>
     ensures { MatchResult result
         (λ text. AllByRecursion (HasLengthOf (G.dimensions grid.now)) (lists_in indices.items)
         × AreLines (IsLine (G.dimensions grid.now) (E.is_key encoding.now))
         (lists_in indices.items) (string_bytes text))
-        (OrMemory (IsIndexFault (G.dimensions grid.now) (lists_in indices.items))) }
+        (λ fault. (fault ≡ Memory)
+        ⊎ IsIndexFault (G.dimensions grid.now) (lists_in indices.items) fault) }
 {
     let mut text = String::new(alloc);
     let mut index = Vec::new(alloc);
@@ -88,8 +57,11 @@ fn lines<G: ChunkGridTraits, E: ChunkKeyEncodingTraits>(
         // It is a list of sizes, as its document has seen.
         read_list(alloc, &list, &mut index)?;
         drop(list);
-        let appended = append_line(&mut text, grid, encoding, &index, &mut home);
-        appended.map_err(|refusal| refusal.map(|error| RunFault::Index(position, error)))?;
+        match append_line(&mut text, grid, encoding, &index, &mut home) {
+            Ok(()) => {}
+            Err(Refusal::Refused(error)) => return Err(RunFault::Index(position, error)),
+            Err(Refusal::Memory(_)) => return Err(RunFault::Memory),
+        }
     }
     Ok(text)
 }

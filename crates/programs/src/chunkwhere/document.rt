@@ -1,22 +1,23 @@
 //! The program's document.
-ghost use Rattle.std.specs.Prelude.{◌≡◌, IfOk, MatchResult, map, option_map, string_bytes};
+ghost use Rattle.std.specs.Prelude.{◌≡◌, ◌⊎◌, IfOk, MatchResult, map, option_map, string_bytes};
 ghost use Rattle.serde_json.specs.Data.{Data};
 ghost use Rattle.serde_json.specs.View.{view};
 ghost use Rattle.programs.specs.Document.{IsTreeOf};
-ghost use Rattle.zarrs_chunk_base.specs.Refusal.{OrMemory};
 ghost use Rattle.programs.specs.chunkwhere.Document.{document_of, indices_in, keys_in, lists_in, IsDocument, IsFormFault, IsInputFault};
+ghost use Rattle.programs.specs.declared.chunkwhere.run_fault.RunFault.TheVariants.{Memory};
 
-use crate::{DocumentFault, read_sizes, read_tree, required_member, take_metadata};
+use crate::chunkwhere::RunFault;
+use crate::document::{read_object, read_shape, required_member, take_stored};
+use crate::stored::Stored;
 use serde_json::Value;
 use std::alloc::{AllocError, Global};
-use zarrs_chunk_base::{MetadataV3, Refusal, TreeForm, read_list};
+use zarrs_chunk_base::{TreeForm, read_list};
 
-/// An array's metadata, the indices of the elements to look up, and the keys to read back.
+/// How an array is stored, the indices of the elements to look up, and the keys to read back.
 #[derive(Drop)]
 pub(crate) struct Document {
     pub(crate) shape: Vec<u64>,
-    pub(crate) chunk_grid: MetadataV3,
-    pub(crate) chunk_key_encoding: MetadataV3,
+    pub(crate) stored: Stored,
     /// The index lists, as they stand in the tree of the document.
     pub(crate) indices: Vec<Value>,
     /// The texts that may be keys of chunks.
@@ -24,49 +25,37 @@ pub(crate) struct Document {
 }
 
 /// The document that an input is the text of, or the first fault.
-pub(crate) fn parse(alloc: Global, input: &[u8]) -> Result<Document, Refusal<DocumentFault>>
+pub(crate) fn parse(alloc: Global, input: &[u8]) -> Result<Document, RunFault>
     ensures { MatchResult result
         (λ document. (tree : Data) × IsTreeOf input.now tree
         × IsDocument tree (document_of document))
-        (OrMemory (IsInputFault input.now)) }
+        (λ fault. (fault ≡ Memory) ⊎ IsInputFault input.now fault) }
 {
-    let tree = read_tree(alloc, input)?;
+    let tree = read_object(alloc, input)?;
     document_from(alloc, tree)
 }
 
-/// The document that a tree stands for, or the first fault.
-fn document_from(alloc: Global, mut tree: Value) -> Result<Document, Refusal<DocumentFault>>
+/// The document that an object stands for, or the first fault.
+fn document_from(alloc: Global, mut tree: Value) -> Result<Document, RunFault>
     ensures { MatchResult result (λ document. IsDocument (view tree) (document_of document))
-        (OrMemory (IsFormFault (view tree))) }
+        (λ fault. (fault ≡ Memory) ⊎ IsFormFault (view tree) fault) }
 {
-    if !tree.is_object() {
-        return Err(Refusal::Refused(DocumentFault::NotObject));
-    }
-    let shape = required_member(&tree, "shape", "shape")?;
+    required_member(&tree, "shape", "shape")?;
     required_member(&tree, "chunk_grid", "chunk_grid")?;
     required_member(&tree, "chunk_key_encoding", "chunk_key_encoding")?;
     required_member(&tree, "indices", "indices")?;
-    let Some(shape) = read_sizes(alloc, shape)? else {
-        return Err(Refusal::Refused(DocumentFault::WrongValue("shape")));
-    };
-    let chunk_grid = take_metadata(alloc, &mut tree, "chunk_grid", "chunk_grid")?;
-    let chunk_key_encoding = take_metadata(
-        alloc,
-        &mut tree,
-        "chunk_key_encoding",
-        "chunk_key_encoding",
-    )?;
+    let shape = read_shape(alloc, &tree)?;
+    let stored = take_stored(alloc, &mut tree, "chunk_grid", "chunk_key_encoding")?;
     let keys = read_keys(alloc, &tree)?;
     let Some(indices) = take_indices(alloc, tree)? else {
-        return Err(Refusal::Refused(DocumentFault::WrongValue("indices")));
+        return Err(RunFault::WrongValue("indices"));
     };
     let Some(keys) = keys else {
-        return Err(Refusal::Refused(DocumentFault::WrongValue("keys")));
+        return Err(RunFault::WrongValue("keys"));
     };
     Ok(Document {
         shape,
-        chunk_grid,
-        chunk_key_encoding,
+        stored,
         indices,
         keys,
     })

@@ -1,13 +1,11 @@
-use Rattle.std.proofs.Common.{inr, sym}
-use Rattle.std.proofs.lemmas.Result.{MatchResult-weaker}
+use Rattle.std.proofs.Common.{inr, refl, sym}
 use Rattle.serde_json.specs.View.{view}
-use Rattle.programs.proofs.Refusals.{follows}
 use Rattle.programs.proofs.document.take_metadata.Goals as goal
 
-pub returns-clause-metadata : goal.returns-clause-metadata
-returns-clause-metadata c =
-    let member = view c.in-Some.member in
-    let taken = sym c.in-Some.ensures.taken in
-    MatchResult-weaker c.metadata_of.result c.metadata_of.ensures
-    (λ metadata is. (member, taken, is))
-    (λ refusal. follows refusal _ _ (λ fault is. inr (member, taken, is)))
+pub returns-in-Ok-clause-metadata : goal.returns-in-Ok-clause-metadata
+returns-in-Ok-clause-metadata c = (view c.in-Some.member, sym c.in-Some.ensures.taken, c.in-Ok.ensures)
+
+pub returns-in-Err-Refused-clause-metadata : goal.returns-in-Err-Refused-clause-metadata
+returns-in-Err-Refused-clause-metadata c =
+    let refused = c.in-Err-Refused in
+    inr (inr (view c.in-Some.member, sym c.in-Some.ensures.taken, (refl, rw refused.field-0-is at refused.ensures)))

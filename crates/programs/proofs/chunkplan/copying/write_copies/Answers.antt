@@ -2,10 +2,10 @@ use Rattle.std.proofs.Common.{◌∙◌, [], ◌∷◌, ◌++◌, ap, refl, sym}
 use Rattle.std.proofs.lemmas.Result.{err_from_is_err_and}
 use Rattle.zarrs_chunk_plan.proofs.Copied.{GroupsHaveCome, first_group, last_group, one_more_group}
 use Rattle.programs.specs.chunkplan.Line.{copy_lines}
-use Rattle.programs.specs.chunkplan.seen.Sent.{output}
+use Rattle.programs.specs.seen.Sent.{output}
 use Rattle.programs.proofs.chunkplan.Begun.{group_stops, groups_memory, one_sent}
 use Rattle.programs.proofs.chunkplan.Groups.{copy_lines_more}
-use Rattle.programs.proofs.chunkplan.Sent.{sends_nothing}
+use Rattle.programs.proofs.Sent.{sends_nothing}
 use Rattle.programs.proofs.chunkplan.copying.write_copies.Goals as goal
 
 pub loop-group-init : goal.loop-group-init

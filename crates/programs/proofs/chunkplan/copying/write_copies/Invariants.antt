@@ -1,6 +1,6 @@
 use Rattle.zarrs_chunk_plan.proofs.Copied.{GroupsHaveCome}
 use Rattle.programs.specs.chunkplan.Line.{copy_lines}
-use Rattle.programs.specs.chunkplan.seen.Sent.{output}
+use Rattle.programs.specs.seen.Sent.{output}
 use Rattle.programs.proofs.chunkplan.Begun.{IsPartWay}
 use Rattle.programs.proofs.chunkplan.copying.write_copies.Given as goal
 

@@ -5,9 +5,10 @@ use Rattle.std.specs.List.{flat_map}
 use Rattle.zarrs_chunk_plan.proofs.Walked.{HaveCome, at_first, at_last, one_more}
 use Rattle.programs.specs.Watched.{watched}
 use Rattle.programs.specs.chunkplan.Line.{line_for}
-use Rattle.programs.specs.chunkplan.seen.Sent.{Output, Sends, output}
+use Rattle.programs.specs.seen.Sent.{Output, Sends, output}
 use Rattle.programs.proofs.chunkplan.Begun.{one_sent, parts_memory, parts_stop}
-use Rattle.programs.proofs.chunkplan.Sent.{sends_nothing, stops}
+use Rattle.programs.proofs.Sent.{sends_nothing}
+use Rattle.programs.proofs.chunkplan.Steps.{stops}
 use Rattle.programs.proofs.chunkplan.copying.write_parts.Goals as goal
 
 pub loop-part-init : goal.loop-part-init
@@ -76,7 +77,7 @@ returns-in_err-send g c =
     let begun = parts_stop g.G.ChunkGridTraits.dimensions g.E.ChunkKeyEncodingTraits.is_key c.args.walk
     (g.met.G.ChunkGridTraits.chained c.args.walk.grid.now) c.requires.keys c.requires.is_box to before after c.next.new.self came rest have sends
     in
-    rw (p.1, p.2) (stops _ (λ _. ⊥) before between after c.in_err-send.field-0.0 c.in_err-send.ensures.failed same begun)
+    rw (p.1, p.2) (stops _ (λ _. ⊥) before between after _ c.in_err-send.ensures.failed same begun)
 
 pub returns : goal.returns
 returns g c =

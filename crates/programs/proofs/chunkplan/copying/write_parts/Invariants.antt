@@ -2,7 +2,7 @@ use Rattle.std.proofs.Common.{option_map}
 use Rattle.std.specs.List.{flat_map}
 use Rattle.zarrs_chunk_plan.proofs.Walked.{HaveCome}
 use Rattle.programs.specs.chunkplan.Line.{line_for}
-use Rattle.programs.specs.chunkplan.seen.Sent.{output}
+use Rattle.programs.specs.seen.Sent.{output}
 use Rattle.programs.proofs.chunkplan.Begun.{IsPartWay}
 use Rattle.programs.proofs.chunkplan.copying.write_parts.Given as goal
 

@@ -1,10 +1,10 @@
-use Rattle.std.proofs.Common.{◌≡◌, ◌∙◌, None, IsSome, ap, option_map, codes, refl, sym, rules}
+use Rattle.std.proofs.Common.{◌≡◌, ◌∙◌, None, IsSome, ap, inl, inr, option_map, codes, refl, sym, rules, ⊎_elim}
 use Rattle.std.proofs.lemmas.Result.{err_from_is_err_and}
 use Rattle.serde_json.specs.Find.{as_object, get}
 use Rattle.serde_json.specs.View.{view}
-use Rattle.programs.proofs.Refusals.{follows}
-use Rattle.programs.specs.chunkplan.Document.{stored_of}
-use Rattle.programs.specs.chunkplan.DocumentFault.{HasBoxFault, IsStoredFault, IsTaskFault, of_chunks, of_subset, of_target, of_target_stored}
+use Rattle.programs.specs.Stored.{stored_of}
+use Rattle.programs.specs.chunkplan.DocumentFault.{of_chunks, of_subset, of_target, of_target_stored}
+use Rattle.programs.specs.chunkplan.RunFault.{of_document}
 use Rattle.programs.proofs.chunkplan.LeftMembers.{chunks_is_no_target, has_box_fault, subset_is_no_target}
 use Rattle.programs.proofs.chunkplan.document.task_from.Goals as goal
 
@@ -12,7 +12,7 @@ pub returns-then-not-is_object : goal.returns-then-not-is_object
 returns-then-not-is_object c =
     let there = sym c.take_member.ensures.taken ∙ ap (option_map view) c.in-Some.is in
     let none : as_object (view c.in-Some.target) ≡ None = search rules in
-    of_target (view c.in-Some.target) there none refl
+    inr (of_target (view c.in-Some.target) there none refl)
 
 pub returns-in_err-stored : goal.returns-in_err-stored
 returns-in_err-stored c =
@@ -21,8 +21,8 @@ returns-in_err-stored c =
     let there = sym c.take_member.ensures.taken ∙ ap (option_map view) c.in-Some.is in
     let object : IsSome (as_object (view c.in-Some.target)) = search rules in
     rw (p.1, p.2)
-    (follows _ (IsStoredFault (view c.in-Some.target) (codes "target.chunk_grid") (codes "target.chunk_key_encoding")) (IsTaskFault tree)
-    (λ fault is. of_target_stored (view c.in-Some.target) there object is) c.in_err-stored.ensures.stored)
+    (⊎_elim (λ memory. inl (ap of_document memory)) (λ is. inr (of_target_stored (view c.in-Some.target) _ there object is refl))
+    c.in_err-stored.ensures.stored)
 
 pub returns-in_err-member_box : goal.returns-in_err-member_box
 returns-in_err-member_box c =
@@ -31,8 +31,8 @@ returns-in_err-member_box c =
     let left = view c.take_member.new.tree in
     let none : get (codes "target") tree ≡ None = sym c.take_member.ensures.taken ∙ ap (option_map view) c.in_default.is in
     rw (p.1, p.2)
-    (follows _ (HasBoxFault left (codes "subset")) (IsTaskFault tree)
-    (λ fault is. of_subset none (has_box_fault tree left (codes "subset") fault (c.take_member.ensures.others (codes "subset") subset_is_no_target) is))
+    (⊎_elim (λ memory. inl memory)
+    (λ is. inr (of_subset none (has_box_fault tree left (codes "subset") _ (c.take_member.ensures.others (codes "subset") subset_is_no_target) is)))
     c.in_err-member_box.ensures)
 
 pub returns-in_err-member_box-2 : goal.returns-in_err-member_box-2
@@ -42,8 +42,7 @@ returns-in_err-member_box-2 c =
     let left = view c.take_member.new.tree in
     let there = sym c.take_member.ensures.taken ∙ ap (option_map view) c.in-Some.is in
     rw (p.1, p.2)
-    (follows _ (HasBoxFault left (codes "chunks")) (IsTaskFault tree)
-    (λ fault is.
-    of_chunks (view c.in-Some.target) (stored_of c.in_ok-stored.stored) there c.in_ok-stored.ensures.stored
-    (has_box_fault tree left (codes "chunks") fault (c.take_member.ensures.others (codes "chunks") chunks_is_no_target) is))
+    (⊎_elim (λ memory. inl memory)
+    (λ is. inr (of_chunks (view c.in-Some.target) (stored_of c.in_ok-stored.stored) there c.in_ok-stored.ensures.stored
+    (has_box_fault tree left (codes "chunks") _ (c.take_member.ensures.others (codes "chunks") chunks_is_no_target) is)))
     c.in_err-member_box-2.ensures)

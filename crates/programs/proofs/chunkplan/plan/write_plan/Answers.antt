@@ -1,17 +1,18 @@
-use Rattle.std.proofs.Common.{ap, subst}
+use Rattle.std.proofs.Common.{ap, inl, inr, refl, subst, ⊎_elim}
 use Rattle.std.proofs.lemmas.Result.{err_from_is_err_and}
 use Rattle.zarrs_chunk_keys.specs.ChunkKey.{IsKey}
 use Rattle.zarrs_chunk_keys.specs.seen.Encodings.{encoding_in}
 use Rattle.zarrs_chunk_keys.proofs.SomeKey.{has_key}
 use Rattle.zarrs_chunks.specs.seen.Grids.{grid_in}
 use Rattle.zarrs_chunk_plan.specs.Rechunking.{IsRechunking}
-use Rattle.programs.proofs.Refusals.{follows}
-use Rattle.programs.specs.chunkplan.Document.{document_of, stored_of, task_of}
-use Rattle.programs.specs.chunkplan.PlanFault.{IsChunksFault, IsPlanFault, IsReadFault, IsSourceFault, IsTargetFault, of_chunks, of_source, of_subset, of_target}
+use Rattle.programs.specs.Stored.{stored_of}
+use Rattle.programs.specs.chunkplan.Document.{document_of, task_of}
+use Rattle.programs.specs.chunkplan.PlanFault.{IsChunksFault, IsPlanFault, IsReadFault, of_chunks, of_source, of_subset, of_target}
 use Rattle.programs.specs.chunkplan.Planned.{IsPlanned, IsReadPlan, of_read, of_rechunking}
-use Rattle.programs.specs.chunkplan.seen.Sent.{output}
+use Rattle.programs.specs.chunkplan.RunFault.{of_create}
+use Rattle.programs.specs.seen.Sent.{output}
 use Rattle.programs.proofs.chunkplan.RunOutcomes.{no_failed_write}
-use Rattle.programs.proofs.chunkplan.Sent.{early, step_follows}
+use Rattle.programs.proofs.chunkplan.Steps.{early, step_follows}
 use Rattle.programs.proofs.chunkplan.plan.write_plan.Goals as goal
 
 -- ---- each chunk has a key
@@ -35,7 +36,7 @@ returns-in_err-grid g c =
     rw (p.1, p.2)
     (early (IsPlanned document) (IsPlanFault document) _
     (output g.W.Write.contents c.args.held_back.now.items c.args.writer.now)
-    (no_failed_write document) (follows _ (IsSourceFault document.stored document.shape) (IsPlanFault document) (λ fault is. of_source is) refused))
+    (no_failed_write document) (⊎_elim (λ memory. inl (ap of_create memory)) (λ is. inr (of_source _ is refl)) refused))
 
 pub returns-in-Read : goal.returns-in-Read
 returns-in-Read g c =
@@ -63,8 +64,8 @@ returns-in_err-target-in-Rechunk g c =
     (early (IsPlanned document) (IsPlanFault document) _
     (output g.W.Write.contents c.args.held_back.now.items c.args.writer.now)
     (no_failed_write document)
-    (follows _ (IsTargetFault stored document.shape) (IsPlanFault document)
-    (λ fault is. of_target stored c.in-Rechunk.chunks (grid_in c.in_ok-grid.grid) (encoding_in c.in_ok-grid.encoding) (ap task_of c.in-Rechunk.is) made is)
+    (⊎_elim (λ memory. inl memory)
+    (λ is. inr (of_target stored c.in-Rechunk.chunks (grid_in c.in_ok-grid.grid) (encoding_in c.in_ok-grid.encoding) (ap task_of c.in-Rechunk.is) made is))
     refused))
 
 pub returns : goal.returns

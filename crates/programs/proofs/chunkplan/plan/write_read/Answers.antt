@@ -1,8 +1,8 @@
 use Rattle.std.proofs.Common.{◌≡◌, length, rules}
 use Rattle.programs.specs.chunkplan.PlanFault.{IsReadFault}
-use Rattle.programs.specs.chunkplan.seen.Sent.{output}
+use Rattle.programs.specs.seen.Sent.{output}
 use Rattle.programs.proofs.chunkplan.ReadPlans.{is_read_plan}
-use Rattle.programs.proofs.chunkplan.Sent.{step_follows}
+use Rattle.programs.proofs.chunkplan.Steps.{step_follows}
 use Rattle.programs.proofs.chunkplan.plan.write_read.Goals as goal
 
 pub returns-in-Ok-Some : goal.returns-in-Ok-Some

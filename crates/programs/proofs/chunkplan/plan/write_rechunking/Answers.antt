@@ -1,7 +1,7 @@
 use Rattle.zarrs_chunk_plan.proofs.Copied.{rechunking_of}
 use Rattle.programs.specs.chunkplan.PlanFault.{IsChunksFault}
-use Rattle.programs.specs.chunkplan.seen.Sent.{output}
-use Rattle.programs.proofs.chunkplan.Sent.{step_follows}
+use Rattle.programs.specs.seen.Sent.{output}
+use Rattle.programs.proofs.chunkplan.Steps.{step_follows}
 use Rattle.programs.proofs.chunkplan.plan.write_rechunking.Goals as goal
 
 pub returns-in-Ok : goal.returns-in-Ok

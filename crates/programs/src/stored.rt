@@ -1,0 +1,60 @@
+//! How an array is stored: in which chunks, and under which keys.
+ghost use Rattle.std.specs.Prelude.{◌≡◌, ◌⊎◌, IfErr, IfOk};
+ghost use Rattle.zarrs_chunk_keys.specs.seen.Encodings.{encoding_in};
+ghost use Rattle.zarrs_chunk_base.specs.Dimension.{array_sizes};
+ghost use Rattle.zarrs_chunks.specs.seen.Grids.{grid_in};
+ghost use Rattle.programs.specs.Stored.{IsStored, IsCreateFault, stored_of};
+ghost use Rattle.programs.specs.declared.stored.CreateFault.TheVariants.{Memory};
+
+use std::alloc::Global;
+use zarrs_chunk_base::{MetadataV3, PluginCreateError, Refusal};
+use zarrs_chunk_keys::ChunkKeyEncoding;
+use zarrs_chunks::ChunkGrid;
+
+/// The metadata of an array's chunk grid and of its chunk key encoding.
+#[derive(Drop)]
+pub(crate) struct Stored {
+    pub(crate) chunk_grid: MetadataV3,
+    pub(crate) chunk_key_encoding: MetadataV3,
+}
+
+/// Why metadata give no grid or no encoding.
+#[derive(Drop)]
+pub(crate) enum CreateFault {
+    /// The chunk grid can't be made.
+    Grid(PluginCreateError),
+    /// The chunk key encoding can't be made.
+    Encoding(PluginCreateError),
+    /// Out of memory.
+    Memory,
+}
+
+impl Stored {
+    /// The grid and the encoding by which an array of a shape is stored. Their metadata are dropped once both are made: a list of edges then
+    /// stands in the grid alone.
+    ///
+    /// # Errors
+    /// The grid can't be made; then, the encoding; or out of memory.
+    pub(crate) fn open(
+        self,
+        alloc: Global,
+        shape: &[u64],
+    ) -> Result<(ChunkGrid, ChunkKeyEncoding), CreateFault>
+        ensures made { IfOk result (λ made. IsStored (stored_of self) shape.now (grid_in made.0)
+            (encoding_in made.1)) }
+        ensures sizes { IfOk result (λ made. array_sizes (grid_in made.0).dimensions ≡ shape.now) }
+        ensures refused { IfErr result (λ fault. (fault ≡ Memory)
+            ⊎ IsCreateFault (stored_of self) shape.now fault) }
+    {
+        let grid = match ChunkGrid::from_metadata(alloc, &self.chunk_grid, shape) {
+            Ok(grid) => grid,
+            Err(Refusal::Refused(error)) => return Err(CreateFault::Grid(error)),
+            Err(Refusal::Memory(_)) => return Err(CreateFault::Memory),
+        };
+        match ChunkKeyEncoding::from_metadata(alloc, &self.chunk_key_encoding) {
+            Ok(encoding) => Ok((grid, encoding)),
+            Err(Refusal::Refused(error)) => Err(CreateFault::Encoding(error)),
+            Err(Refusal::Memory(_)) => Err(CreateFault::Memory),
+        }
+    }
+}
