@@ -17,12 +17,14 @@ module _ (before : Output) where
   sends_nothing = for_known before.holds _ (λ held is_held. ([], is_held ∙ ap Some (sym (append-nil held)), append-nil before.held_back))
 
   -- all that is held back is sent
-  pub all_sent : (after : Option (List ℕ)) (bytes all : List ℕ) → all ≡ before.held_back ++ bytes → IfSome before.holds (λ held. after ≡ Some (held ++ all))
+  pub all_sent : (after : Option (List ℕ)) (bytes all : List ℕ) → all ≡ before.held_back ++ bytes
+      → IfSome before.holds (λ held. after ≡ Some (held ++ all))
       → Sends before bytes after []
   all_sent after bytes all is sent = for_known before.holds _ (λ held is_held. (all, rw is_held at sent, sym is ∙ sym (append-nil all)))
 
   -- and nothing is held back then
-  pub flushed : (after : Output) (all : List ℕ) → all ≡ before.held_back → after.held_back ≡ [] → IfSome before.holds (λ held. after.holds ≡ Some (held ++ all))
+  pub flushed : (after : Output) (all : List ℕ) → all ≡ before.held_back → after.held_back ≡ []
+      → IfSome before.holds (λ held. after.holds ≡ Some (held ++ all))
       → IsSent before after []
   flushed after all is none sent = rw none (all_sent after.holds [] all (is ∙ sym (append-nil before.held_back)) sent)
 
@@ -46,7 +48,8 @@ module _ (before : Output) where
       ))
 
   -- what would have come behind them is in the rest
-  pub sends_longer : (after : Option (List ℕ)) (bytes others rest : List ℕ) → Sends before bytes after rest → Sends before (bytes ++ others) after (rest ++ others)
+  pub sends_longer : (after : Option (List ℕ)) (bytes others rest : List ℕ) → Sends before bytes after rest
+      → Sends before (bytes ++ others) after (rest ++ others)
   sends_longer after bytes others rest sends = for_known before.holds _ (λ held is_held.
       let (sent, now, parts) = rw is_held at sends in
       (sent, now, sym (append_assoc before.held_back bytes others) ∙ ap (λ xs. xs ++ others) parts ∙ append_assoc sent rest others))

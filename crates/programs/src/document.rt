@@ -3,7 +3,8 @@ ghost use Rattle.std.specs.Prelude.{◌≡◌, ◌≢◌, ◌⊎◌, ℕ, List, 
 ghost use Rattle.serde_json.specs.Find.{get};
 ghost use Rattle.serde_json.specs.View.{view};
 ghost use Rattle.zarrs_chunk_base.specs.Metadata.{extension_of};
-ghost use Rattle.programs.specs.Document.{HasExtension, HasExtensionFault, HasStored, IsMissingFault, IsObjectOf, IsShapeFault, IsStoredFault, IsTextFault, shape_in};
+ghost use Rattle.programs.specs.Document.{HasExtension, HasExtensionFault, HasStored, IsMissingFault, IsObjectOf, IsShapeFault, IsStoredFault};
+ghost use Rattle.programs.specs.Document.{IsTextFault, shape_in};
 ghost use Rattle.programs.specs.Stored.{stored_of};
 ghost use Rattle.programs.specs.declared.document_fault.DocumentFault.TheVariants.{Memory};
 

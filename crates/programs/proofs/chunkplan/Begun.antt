@@ -22,7 +22,8 @@ use Rattle.programs.specs.declared.chunkplan.run_fault.RunFault.TheVariants.{Mem
 use Rattle.programs.proofs.chunkplan.Groups.{copy_lines_both, copy_lines_more}
 use Rattle.programs.proofs.Sent.{sends_longer, sends_more}
 
-both_zipped : {X Y : Type 0} (R : X → Y → Type 0) (xs others : List X) (ys more : List Y) → AllZip R xs ys → AllZip R others more → AllZip R (xs ++ others) (ys ++ more)
+both_zipped : {X Y : Type 0} (R : X → Y → Type 0) (xs others : List X) (ys more : List Y) → AllZip R xs ys → AllZip R others more
+    → AllZip R (xs ++ others) (ys ++ more)
 both_zipped R [] others [] more one also = also
 both_zipped R (x ∷ xs) others (y ∷ ys) more one also = (one.0, both_zipped R xs others ys more one.1 also)
 both_zipped R _ others _ more one also = absurd one
@@ -84,7 +85,8 @@ module _ {G E : Type 0} (dimensions : G → List Dimension) (is_key : E → List
 
 -- ---- the groups of a walk
 
-module _ {G E H F : Type 0} (source_dimensions : G → List Dimension) (source_key : E → List ℕ → List ℕ → Type 0) (target_dimensions : H → List Dimension)
+module _ {G E H F : Type 0} (source_dimensions : G → List Dimension) (source_key : E → List ℕ → List ℕ → Type 0)
+    (target_dimensions : H → List Dimension)
     (target_key : F → List ℕ → List ℕ → Type 0) (begin : Copies G E H F) (chains : AllByRecursion IsChain (source_dimensions begin.source.now))
     (also_chains : AllByRecursion IsChain (target_dimensions begin.targets.grid.now)) (keys : HasKeys (source_key begin.source_encoding.now))
     (also_keys : HasKeys (target_key begin.targets.encoding.now)) (is_box : IsBox begin.targets.array_subset) (before : Output) where

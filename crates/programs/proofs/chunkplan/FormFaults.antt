@@ -12,12 +12,14 @@ use Rattle.programs.specs.chunkplan.DocumentFault.{HasMembers, IsFormFault, docu
 use Rattle.programs.specs.chunkplan.RunFault.{of_document}
 
 -- a member that has to be there is missing
-pub no_member : (d : Data) (name : List ℕ) (told : DocumentFault) → (get name d ≡ None → IsFirst (λ member. get member d ≡ None) document_members name)
+pub no_member : (d : Data) (name : List ℕ) (told : DocumentFault)
+    → (get name d ≡ None → IsFirst (λ member. get member d ≡ None) document_members name)
     → IsMissingFault d name name told → IsFormFault d (of_document told)
 no_member d name (Missing field) first is = missing name (first is.1) is.0
 no_member d name _ first is = absurd is
 
-pub has_members : (d s g k : Data) → get (codes "shape") d ≡ Some s → get (codes "chunk_grid") d ≡ Some g → get (codes "chunk_key_encoding") d ≡ Some k
+pub has_members : (d s g k : Data) → get (codes "shape") d ≡ Some s → get (codes "chunk_grid") d ≡ Some g
+    → get (codes "chunk_key_encoding") d ≡ Some k
     → HasMembers d
 has_members d s g k shape grid keys =
     has_more d s (codes "shape") (codes "chunk_grid" ∷ codes "chunk_key_encoding" ∷ []) shape

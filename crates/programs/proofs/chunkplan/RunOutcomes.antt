@@ -1,14 +1,17 @@
 -- The outcomes of a run, put together from its steps.
-use Rattle.std.proofs.Common.{◌≡◌, ◌∙◌, ℕ, Bool, true, false, List, [], ◌++◌, Some, Ok, Err, append_assoc, ap, codes, inl, inr, refl, sym, true≢false, unwrap_or, ⊎_elim}
+use Rattle.std.proofs.Common.{◌≡◌, ◌∙◌, ℕ, Bool, true, false, List, [], ◌++◌, Some, Ok, Err, append_assoc, ap, codes, inl, inr, refl, sym, true≢false}
+use Rattle.std.proofs.Common.{unwrap_or, ⊎_elim}
 use Rattle.serde_json.specs.Data.{Data}
 use Rattle.zarrs_chunk_plan.specs.Rechunking.{all_chunks_box, array_box}
 use Rattle.programs.specs.Streams.{IsReadToEnd, IsWritten, Streams}
 use Rattle.programs.specs.Watched.{IsReadFailure}
 use Rattle.programs.specs.chunkplan.Document.{Document}
 use Rattle.programs.specs.chunkplan.DocumentFault.{HasBoxFault, IsBoxFormFault, IsFormFault, IsMisfit, IsTaskFault, TellsMissing, TellsWrongValue}
-use Rattle.programs.specs.chunkplan.DocumentFault.{misfit, misformed_shape, misformed_stored, misformed_task, missing, no_object, not_of_form, of_target_stored}
+use Rattle.programs.specs.chunkplan.DocumentFault.{misfit, misformed_shape, misformed_stored, misformed_task, missing, no_object, not_of_form}
+use Rattle.programs.specs.chunkplan.DocumentFault.{of_target_stored}
 use Rattle.programs.specs.chunkplan.DocumentFault.{of_chunks as of_chunks_box, of_subset as of_subset_box, of_target as of_target_tree}
-use Rattle.programs.specs.chunkplan.PlanFault.{IsChunksFault, IsFirstFault, IsPlanFault, IsReadFault, IsTargetFault, no_document, no_plan, of_chunks, of_source, of_subset, of_target}
+use Rattle.programs.specs.chunkplan.PlanFault.{IsChunksFault, IsFirstFault, IsPlanFault, IsReadFault, IsTargetFault, no_document, no_plan, of_chunks}
+use Rattle.programs.specs.chunkplan.PlanFault.{of_source, of_subset, of_target}
 use Rattle.programs.specs.chunkplan.Planned.{IsPlanOf}
 use Rattle.programs.specs.chunkplan.Run.{HasBegunPlan, RunLeaves}
 use Rattle.programs.specs.chunkplan.RunFault.{of_create, of_document, of_stream}

@@ -9,7 +9,8 @@ use Rattle.programs.specs.declared.chunkplan.run_fault.RunFault.TheVariants.{Mem
 use Rattle.programs.specs.declared.stream_fault.StreamFault.{StreamFault}
 use Rattle.programs.specs.declared.stream_fault.StreamFault.TheVariants.{Memory as NoMemory, Read as ReadFailed, Write as WriteFailed}
 
-module _ (P Q : List ℕ → Type 0) (F G : RunFault → Type 0) (step : (text : List ℕ) → P text → Q text) (blames : (fault : RunFault) → F fault → G fault)
+module _ (P Q : List ℕ → Type 0) (F G : RunFault → Type 0) (step : (text : List ℕ) → P text → Q text)
+    (blames : (fault : RunFault) → F fault → G fault)
     (before after : Output) where
   begun_follows : HasBegun P before after → HasBegun Q before after
   begun_follows (text, is, rest, sends) = (text, step text is, rest, sends)

@@ -12,12 +12,14 @@ use Rattle.programs.specs.chunkwhere.Document.{HasMembers, IsFormFault, document
 use Rattle.programs.specs.chunkwhere.RunFault.{of_document}
 
 -- a member that has to be there is missing
-pub no_member : (d : Data) (name : List ℕ) (told : DocumentFault) → (get name d ≡ None → IsFirst (λ member. get member d ≡ None) document_members name)
+pub no_member : (d : Data) (name : List ℕ) (told : DocumentFault)
+    → (get name d ≡ None → IsFirst (λ member. get member d ≡ None) document_members name)
     → IsMissingFault d name name told → IsFormFault d (of_document told)
 no_member d name (Missing field) first is = missing name (first is.1) is.0
 no_member d name _ first is = absurd is
 
-pub has_members : (d s g k i : Data) → get (codes "shape") d ≡ Some s → get (codes "chunk_grid") d ≡ Some g → get (codes "chunk_key_encoding") d ≡ Some k
+pub has_members : (d s g k i : Data) → get (codes "shape") d ≡ Some s → get (codes "chunk_grid") d ≡ Some g
+    → get (codes "chunk_key_encoding") d ≡ Some k
     → get (codes "indices") d ≡ Some i → HasMembers d
 has_members d s g k i shape grid keys indices =
     has_more d s (codes "shape") (codes "chunk_grid" ∷ codes "chunk_key_encoding" ∷ codes "indices" ∷ []) shape
@@ -25,7 +27,8 @@ has_members d s g k i shape grid keys indices =
     (has_more d k (codes "chunk_key_encoding") (codes "indices" ∷ []) keys (has_more d i (codes "indices") [] indices (no_more d))))
 
 -- the shape is there, and is none
-pub no_shape : (d m : Data) (told : DocumentFault) → HasMembers d → get (codes "shape") d ≡ Some m → IsShapeFault d told → IsFormFault d (of_document told)
+pub no_shape : (d m : Data) (told : DocumentFault) → HasMembers d → get (codes "shape") d ≡ Some m → IsShapeFault d told
+    → IsFormFault d (of_document told)
 no_shape d m (Missing field) members there is = absurd (is_there d m (codes "shape") there is.1)
 no_shape d m (WrongValue field) members there is = misformed_shape members is.1 is.0
 no_shape d m _ members there is = absurd is

@@ -1,5 +1,6 @@
 -- Trees that are lists of sizes, one after another.
-use Rattle.std.proofs.Common.{◌≡◌, ℕ, zero, suc, ◌+◌, ◌<◌, ◌≤◌, false, List, [], ◌∷◌, IsSome, is_some, Option, None, Some, length, take, get_or, option_and_then, option_map, unwrap_or, Vec, Global, codes, refl, sym, ap, subst, ◌∙◌, arith}
+use Rattle.std.proofs.Common.{◌≡◌, ℕ, zero, suc, ◌+◌, ◌<◌, ◌≤◌, false, List, [], ◌∷◌, IsSome, is_some, Option, None, Some, length, take, get_or}
+use Rattle.std.proofs.Common.{option_and_then, option_map, unwrap_or, Vec, Global, codes, refl, sym, ap, subst, ◌∙◌, arith}
 use Rattle.std.proofs.lemmas.List.Elements.{All-from_recursion, All-more, recursion_from_All}
 use Rattle.std.specs.List.{AllByRecursion}
 use Rattle.serde_json.specs.Data.{Data}

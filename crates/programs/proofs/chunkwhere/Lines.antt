@@ -21,7 +21,8 @@ module _ (IsOne : List ℕ → List ℕ → Type 0) (all : List (List ℕ)) wher
   }
 
   pub lines_at_end : (rest : List (List ℕ)) (text : List ℕ) → HasLines IsOne all rest text → rest ≡ [] → AreLines IsOne all text
-  lines_at_end rest text so_far empty = subst (AreLines IsOne all) (append-nil text) (so_far.followed [] (subst (λ r. AreLines IsOne r []) (sym empty) refl))
+  lines_at_end rest text so_far empty = subst (AreLines IsOne all) (append-nil text)
+      (so_far.followed [] (subst (λ r. AreLines IsOne r []) (sym empty) refl))
 
 -- The text has the lines of all indices before the rest, which begins at the position: what holds of the
 -- rest holds, after the text, of all.
@@ -38,7 +39,8 @@ module _ (ds : List Dimension) (IsKey : List ℕ → List ℕ → Type 0) (all :
     wrong = λ n e h. let same : 0 + n ≡ n = omega arith in rw same h;
   }
 
-  pub so_far_with_line : (rest : List (List ℕ)) (position : ℕ) (text : List ℕ) (index line : List ℕ) (rest_after : List (List ℕ)) (text_after : List ℕ)
+  pub so_far_with_line : (rest : List (List ℕ)) (position : ℕ) (text : List ℕ) (index line : List ℕ) (rest_after : List (List ℕ))
+      (text_after : List ℕ)
       → IsSoFar ds IsKey all rest position text → rest ≡ index ∷ rest_after → HasLengthOf ds index → IsLine ds IsKey index line
       → text_after ≡ text ++ line → IsSoFar ds IsKey all rest_after (position + 1) text_after
   so_far_with_line rest position text index line rest_after text_after so_far first has_length is_line longer = record {
@@ -50,7 +52,8 @@ module _ (ds : List Dimension) (IsKey : List ℕ → List ℕ → Type 0) (all :
         subst (λ p. IsFirstWrongLength ds all p e) same said;
   }
 
-  pub wrong_length_is_first : (rest : List (List ℕ)) (position : ℕ) (text : List ℕ) (index : List ℕ) (rest_after : List (List ℕ)) (e : IncompatibleDimensionalityError)
+  pub wrong_length_is_first : (rest : List (List ℕ)) (position : ℕ) (text : List ℕ) (index : List ℕ) (rest_after : List (List ℕ))
+      (e : IncompatibleDimensionalityError)
       → IsSoFar ds IsKey all rest position text → rest ≡ index ∷ rest_after → length index ≢ length ds → TellsLengths (length index) (length ds) e
       → IsFirstWrongLength ds all position e
   wrong_length_is_first rest position text index rest_after e so_far first unequal tells =

@@ -4,7 +4,8 @@ use Rattle.serde_json.specs.Data.{Data}
 use Rattle.programs.specs.Streams.{IsReadToEnd, IsWritten, Streams}
 use Rattle.programs.specs.Watched.{IsReadFailure}
 use Rattle.programs.specs.chunkwhere.Answer.{IsIndexFault, not_stored, wrong_index}
-use Rattle.programs.specs.chunkwhere.Document.{IsFormFault, TellsMissing, TellsWrongValue, misformed_indices, misformed_keys, misformed_shape, misformed_stored, missing}
+use Rattle.programs.specs.chunkwhere.Document.{IsFormFault, TellsMissing, TellsWrongValue, misformed_indices, misformed_keys, misformed_shape}
+use Rattle.programs.specs.chunkwhere.Document.{misformed_stored, missing}
 use Rattle.programs.specs.chunkwhere.Document.{no_object, not_of_form}
 use Rattle.programs.specs.chunkwhere.Run.{IsFirstFault, no_document, no_answer, IsTextFor, RunLeaves}
 use Rattle.programs.specs.chunkwhere.RunFault.{of_create, of_document, of_stream}

@@ -6,7 +6,8 @@ use Rattle.programs.specs.declared.stored.CreateFault.TheVariants as create
 use Rattle.programs.specs.declared.stream_fault.StreamFault.{StreamFault}
 use Rattle.programs.specs.declared.stream_fault.StreamFault.TheVariants as stream
 use Rattle.programs.specs.declared.chunkwhere.run_fault.RunFault.{RunFault}
-use Rattle.programs.specs.declared.chunkwhere.run_fault.RunFault.TheVariants.{Encoding, Grid, Memory, Metadata, Missing, NotJson, NotObject, Read, Write, WrongValue}
+use Rattle.programs.specs.declared.chunkwhere.run_fault.RunFault.TheVariants.{Encoding, Grid, Memory, Metadata, Missing, NotJson, NotObject, Read}
+use Rattle.programs.specs.declared.chunkwhere.run_fault.RunFault.TheVariants.{Write, WrongValue}
 
 abbrev pub of_stream : StreamFault → RunFault
 of_stream stream.Read = Read

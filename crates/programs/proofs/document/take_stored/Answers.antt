@@ -20,7 +20,8 @@ returns-in_err-chunk_grid-clause-stored c =
     let p = err_from_is_err_and c.from_residual-in_err-chunk_grid.result c.from_residual-in_err-chunk_grid.ensures.1 in
     rw (p.1, p.2)
     (⊎_elim (λ memory. inl memory)
-    (⊎_elim (λ is. inr (no_grid is)) (λ is. inr (misformed_grid (ap is_some c.in_ok-required_member-2.ensures) is))) c.in_err-chunk_grid.ensures.metadata)
+    (⊎_elim (λ is. inr (no_grid is))
+        (λ is. inr (misformed_grid (ap is_some c.in_ok-required_member-2.ensures) is))) c.in_err-chunk_grid.ensures.metadata)
 
 pub returns-in_err-chunk_key_encoding-clause-stored : goal.returns-in_err-chunk_key_encoding-clause-stored
 returns-in_err-chunk_key_encoding-clause-stored c =
@@ -43,4 +44,5 @@ returns-clause-grid_gone c =
     c.in_ok-chunk_key_encoding.ensures.others (codes "chunk_grid") (λ same. absurd (omega (arith, ap length same))) ∙ c.in_ok-chunk_grid.ensures.gone
 
 pub returns-clause-others : goal.returns-clause-others
-returns-clause-others c = λ other grid encoding. c.in_ok-chunk_key_encoding.ensures.others other encoding ∙ c.in_ok-chunk_grid.ensures.others other grid
+returns-clause-others c = λ other grid encoding. c.in_ok-chunk_key_encoding.ensures.others other encoding
+    ∙ c.in_ok-chunk_grid.ensures.others other grid

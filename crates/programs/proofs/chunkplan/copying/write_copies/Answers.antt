@@ -11,8 +11,8 @@ use Rattle.programs.proofs.chunkplan.copying.write_copies.Goals as goal
 pub loop-group-init : goal.loop-group-init
 loop-group-init g c = (
   [],
-  first_group g.G.ChunkGridTraits.dimensions g.E.ChunkKeyEncodingTraits.is_key g.H.ChunkGridTraits.dimensions g.F.ChunkKeyEncodingTraits.is_key c.args.walk
-      c.into_iter-group-iterator.result [] c.into_iter-group-iterator.ensures.into_iter_gives refl c.requires.can,
+  first_group g.G.ChunkGridTraits.dimensions g.E.ChunkKeyEncodingTraits.is_key g.H.ChunkGridTraits.dimensions g.F.ChunkKeyEncodingTraits.is_key
+      c.args.walk c.into_iter-group-iterator.result [] c.into_iter-group-iterator.ensures.into_iter_gives refl c.requires.can,
   sends_nothing (output g.W.Write.contents c.args.held_back.now.items c.args.writer.now),
   refl,
 )
@@ -63,7 +63,8 @@ returns-in_err-write_group g c =
 pub returns : goal.returns
 returns g c =
     let (came, have, sends, same) = c.loop-group.invariant in
-    let groups = last_group g.G.ChunkGridTraits.dimensions g.E.ChunkKeyEncodingTraits.is_key g.H.ChunkGridTraits.dimensions g.F.ChunkKeyEncodingTraits.is_key
+    let groups =
+    last_group g.G.ChunkGridTraits.dimensions g.E.ChunkKeyEncodingTraits.is_key g.H.ChunkGridTraits.dimensions g.F.ChunkKeyEncodingTraits.is_key
     c.args.walk c.loop-group.group-iterator c.next.new.self came have c.in-None.ensures.steps
     in
     (_, (came, groups, refl), sends, same)

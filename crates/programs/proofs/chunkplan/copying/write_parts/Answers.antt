@@ -82,7 +82,8 @@ returns-in_err-send g c =
 pub returns : goal.returns
 returns g c =
     let (came, have, sends, same) = c.loop-part.invariant in
-    let parts = at_last g.G.ChunkGridTraits.dimensions g.E.ChunkKeyEncodingTraits.is_key c.args.walk c.loop-part.part-iterator c.next.new.self came have
+    let parts =
+    at_last g.G.ChunkGridTraits.dimensions g.E.ChunkKeyEncodingTraits.is_key c.args.walk c.loop-part.part-iterator c.next.new.self came have
     c.in-None.ensures.steps
     in
     (_, (came, parts, refl), sends, same)

@@ -12,7 +12,8 @@ returns-in-Ok g c =
     (λ text (groups, come, lines). (
       groups,
       rechunking_of g.G.ChunkGridTraits.dimensions g.E.ChunkKeyEncodingTraits.is_key g.H.ChunkGridTraits.dimensions g.F.ChunkKeyEncodingTraits.is_key
-          c.args.source.now c.args.source_encoding.now c.args.target.now c.args.target_encoding.now _ c.args.chunks.now targets c.in-Ok.walk groups said.about is_box
+          c.args.source.now c.args.source_encoding.now c.args.target.now c.args.target_encoding.now _
+          c.args.chunks.now targets c.in-Ok.walk groups said.about is_box
           are left come,
       lines,
     ))

@@ -39,7 +39,8 @@ returns c =
         index_lines = string_bytes c.in_ok-text.text;
         key_lines = lines;
         indices_are = index_lines;
-        keys_are = subst (λ dimensionality. AreLines (IsKeyLine dimensionality (IsKey encoding)) document.keys lines) c.dimensionality.ensures key_lines;
+        keys_are = subst (λ dimensionality. AreLines
+            (IsKeyLine dimensionality (IsKey encoding)) document.keys lines) c.dimensionality.ensures key_lines;
         both = both;
       };
     }

@@ -15,7 +15,8 @@ returns g c =
           let are_joined = subst (λ numbers. AreJoined 32 numbers joined) w.deref.ensures.value are in (
             joined ++ codes "\n",
             read w.in-Some.chunk.items joined is are_joined refl,
-            ended ∙ ap (λ text. string_bytes text ++ codes "\n") w.text-is ∙ ap (λ text. text ++ codes "\n") longer ∙ append_assoc old joined (codes "\n"),
+            ended ∙ ap (λ text. string_bytes text ++ codes "\n") w.text-is ∙ ap (λ text. text ++ codes "\n") longer
+                ∙ append_assoc old joined (codes "\n"),
           )
       | in-None+in_ok-push_str-in-None w ↦
           let none = rw w.in-None.is at c.in_ok-chunk.ensures in (
