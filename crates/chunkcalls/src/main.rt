@@ -15,10 +15,33 @@
 //! It is `run_to_status` of `programs::chunkcalls`, over what the process was given.
 #![tactic(auto)]
 
+use programs::answer_words;
 use programs::chunkcalls::{Watched, run_to_status};
 use std::process::ExitCode;
 
+/// What `--help` prints.
+const HELP: &str = "\
+Asks the chunk grid or the chunk key encoding of a Zarr array, a call a line.
+
+Usage: chunkcalls [--help | --version] < QUESTIONS > ANSWERS
+
+Each line of standard input is a JSON object: `shape` and `chunk_grid`, as in a
+zarr.json, the name of a `call`, and what it is asked `of`. For each a line is
+written: the answer as JSON, or why there is none.
+
+  {\"shape\":[5,7,52],\"chunk_grid\":{\"name\":\"regular\",\"configuration\":
+   {\"chunk_shape\":[1,2,3]}},\"call\":\"chunk_indices\",\"of\":[3,5,50]}
+
+asks, on one line, which chunk holds an element; the answer is [3,2,16].
+
+Ends with the status 0, or with 1 where reading or writing failed or memory ran
+out, which standard error tells.";
+
 fn main(rt: HostRuntime) -> ExitCode {
+    let (stdout, stderr) = (&mut rt.stdout(), &mut rt.stderr());
+    if let Some(status) = answer_words(&rt, "chunkcalls", HELP, stdout, stderr) {
+        return ExitCode::from(status);
+    }
     let mut reader = Watched::new(rt.stdin());
     let mut writer = Watched::new(rt.stdout());
     ExitCode::from(run_to_status(rt.alloc(), &mut reader, &mut writer, &mut rt.stderr()))

@@ -16,10 +16,33 @@
 //! It is `run_to_status` of `programs::chunkplan`, over what the process was given.
 #![tactic(auto)]
 
+use programs::answer_words;
 use programs::chunkplan::{Watched, run_to_status};
 use std::process::ExitCode;
 
+/// What `--help` prints.
+const HELP: &str = "\
+Writes what a read or a rechunking of a Zarr array copies, as JSON lines.
+
+Usage: chunkplan [--help | --version] < DOCUMENT > LINES
+
+Standard input is one JSON object: the `shape`, `chunk_grid` and
+`chunk_key_encoding` of an array, as in its zarr.json. With a `target`, which
+has a `chunk_grid` and a `chunk_key_encoding`, the lines are those of a
+rechunking; `chunks`, a box of the target's chunk numbers, narrows it. Without
+one they are those of a read of `subset`, or of the whole array. A box is its
+start and its shape.
+
+  {\"shape\":[4],\"chunk_grid\":{\"name\":\"regular\",\"configuration\":
+   {\"chunk_shape\":[3]}},\"chunk_key_encoding\":\"default\",\"subset\":[[1],[3]]}
+
+Ends with the status 0, or with 1 after a fault, which standard error tells.";
+
 fn main(rt: HostRuntime) -> ExitCode {
+    let (stdout, stderr) = (&mut rt.stdout(), &mut rt.stderr());
+    if let Some(status) = answer_words(&rt, "chunkplan", HELP, stdout, stderr) {
+        return ExitCode::from(status);
+    }
     let mut reader = Watched::new(rt.stdin());
     let mut writer = Watched::new(rt.stdout());
     ExitCode::from(run_to_status(rt.alloc(), &mut reader, &mut writer, &mut rt.stderr()))

@@ -11,6 +11,7 @@
 //! | `streams`, `stream_fault` | bytes from a reader and to a writer, and how a run that moved them ends |
 //! | `document`, `document_fault` | a document's object, and the members that say what an array is |
 //! | `stored` | how an array is stored: the grid and the encoding that its metadata give |
+//! | `words` | the words of a command line |
 #![tactic(auto)]
 
 pub mod chunkcalls;
@@ -22,6 +23,8 @@ mod stored;
 mod stream_fault;
 mod streams;
 mod watched;
+mod words;
 
 pub use stream_fault::StreamFault;
 pub use watched::Watched;
+pub use words::answer_words;

@@ -17,7 +17,7 @@ pub is_read_plan : {G E : Type 0} (dimensions : G → List Dimension) (is_key : 
     → (IsEmptyBox subset → length (dimensions grid) ≢ 0 → chunks_to_come walk ≡ [])
     → ((¬ IsEmptyBox subset) ⊎ (length (dimensions grid) ≡ 0)
     → (length subset.start ≡ length (dimensions grid))
-        × ((cover : Box) × IsCover (dimensions grid) subset cover × (chunks_to_come walk ≡ chunks_in cover)))
+    × ((cover : Box) × IsCover (dimensions grid) subset cover × (chunks_to_come walk ≡ chunks_in cover)))
     → ArePartsToCome dimensions is_key walk parts → IsReadPlan (dimensions grid) (is_key encoding) subset parts
 is_read_plan dimensions is_key grid encoding subset walk parts is_box many about if_empty if_some are = record { some = some; none = none } where
   some : (¬ IsEmptyBox subset) → IsPlan (dimensions grid) (is_key encoding) subset parts

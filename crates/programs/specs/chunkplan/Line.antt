@@ -25,7 +25,7 @@ box_json b = array (item (numbers_json b.start) (item (numbers_json b.shape) no_
 abbrev pub place_json : List ℕ → Box → List ℕ → Json
 place_json chunk in_chunk key =
     object (member (codes "chunk") (numbers_json chunk)
-        (member (codes "in_chunk") (box_json in_chunk) (member (codes "key") (string key) no_members)))
+    (member (codes "in_chunk") (box_json in_chunk) (member (codes "key") (string key) no_members)))
 
 -- a part of a read
 abbrev pub part_json : Part → Json

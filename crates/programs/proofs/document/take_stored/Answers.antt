@@ -21,7 +21,7 @@ returns-in_err-chunk_grid-clause-stored c =
     rw (p.1, p.2)
     (⊎_elim (λ memory. inl memory)
     (⊎_elim (λ is. inr (no_grid is))
-        (λ is. inr (misformed_grid (ap is_some c.in_ok-required_member-2.ensures) is))) c.in_err-chunk_grid.ensures.metadata)
+    (λ is. inr (misformed_grid (ap is_some c.in_ok-required_member-2.ensures) is))) c.in_err-chunk_grid.ensures.metadata)
 
 pub returns-in_err-chunk_key_encoding-clause-stored : goal.returns-in_err-chunk_key_encoding-clause-stored
 returns-in_err-chunk_key_encoding-clause-stored c =

@@ -7,7 +7,7 @@ use Rattle.programs.proofs.streams.read_to_end.Given as goal
 abbrev pub invariant-loop-count : goal.invariant-loop-count
 invariant-loop-count g l =
     Consumes (g.R.Read.remaining (watched l.initial.reader)) (g.R.Read.remaining (watched l.reader)) l.bytes.items
-        × (has_failed l.reader ≡ has_failed l.initial.reader)
+    × (has_failed l.reader ≡ has_failed l.initial.reader)
 
 -- a Vec holds less than 2 ^ 63 bytes
 abbrev pub decreases-loop-count : goal.decreases-loop-count

@@ -7,7 +7,7 @@ use Rattle.programs.proofs.streams.write_bytes.Given as goal
 abbrev pub invariant-loop-rest : goal.invariant-loop-rest
 invariant-loop-rest g l =
     ((written : List ℕ) × (l.fn.bytes ≡ written ++ l.rest)
-        × Appends (g.W.Write.contents (watched l.initial.writer)) (g.W.Write.contents (watched l.writer)) written)
+    × Appends (g.W.Write.contents (watched l.initial.writer)) (g.W.Write.contents (watched l.writer)) written)
     × (has_failed l.writer ≡ has_failed l.initial.writer)
 
 abbrev pub decreases-loop-rest : goal.decreases-loop-rest

@@ -14,7 +14,7 @@ loop-init g c =
       refl,
       λ input is_input.
           part_way_at_start input (output g.W.Write.contents c.args.held_back.now.items c.args.writer.now)
-              (g.R.Read.remaining (watched c.args.reader.now)) is_input,
+          (g.R.Read.remaining (watched c.args.reader.now)) is_input,
     )
 
 pub answer_rest-requires : goal.answer_rest-requires
@@ -34,9 +34,9 @@ returns-then-count-eq0-clause-answered g c =
     on_ok_weaker c.answer_rest.result
     (λ (answers, are, sent). for_known (g.R.Read.remaining (watched c.args.reader.now)) _ (λ input is_input.
     part_way_at_end input (output g.W.Write.contents c.args.held_back.now.items c.args.writer.now)
-        (g.R.Read.remaining (watched c.loop.reader)) line now
+    (g.R.Read.remaining (watched c.loop.reader)) line now
     (c.loop.invariant.1 input is_input) c.read.new.buf c.in-Ok.count (g.R.Read.remaining (watched c.read.new.self)) answers after consumes zero
-        (at_end zero room)
+    (at_end zero room)
     (rw c.deref.ensures.value at are) sent))
     c.answer_rest.ensures.answered
 
@@ -53,7 +53,7 @@ loop-preserved g c =
       λ input is_input.
           part_way_sent input before left_after c.answer_piece.new.line.items answered
           (part_way_with input before left c.loop.line.items now
-              (c.loop.invariant.1 input is_input) _ c.answer_piece.new.line.items left_after answered
+          (c.loop.invariant.1 input is_input) _ c.answer_piece.new.line.items left_after answered
           c.in-Ok.ensures.bytes.0 has)
           after
           (flushed answered after c.deref-in-loop.result.now c.deref-in-loop.ensures.value c.clear.ensures.items c.in_ok-write_all.ensures.ok),

@@ -20,4 +20,4 @@ pub returns-clause-answered : goal.returns-clause-answered
 returns-clause-answered g c =
     let some : 0 < length c.args.line.now = grind (arith, nat_tests) in
     on_ok_weaker c.answer_line.result
-        (λ (answer, is, sent). (answer, last_line c.args.line.now answer c.requires some is, sent)) c.answer_line.ensures.answered
+    (λ (answer, is, sent). (answer, last_line c.args.line.now answer c.requires some is, sent)) c.answer_line.ensures.answered

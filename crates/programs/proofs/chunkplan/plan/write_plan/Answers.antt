@@ -66,7 +66,7 @@ returns-in_err-target-in-Rechunk g c =
     (no_failed_write document)
     (⊎_elim (λ memory. inl memory)
     (λ is. inr (of_target stored c.in-Rechunk.chunks (grid_in c.in_ok-grid.grid) (encoding_in c.in_ok-grid.encoding)
-        (ap task_of c.in-Rechunk.is) made is))
+    (ap task_of c.in-Rechunk.is) made is))
     refused))
 
 pub returns : goal.returns
@@ -81,10 +81,10 @@ returns g c =
     let stored = stored_of c.in-Rechunk.target in
     step_follows _ (IsPlanned document) (IsChunksFault target.dimensions c.in_ok-chunks-in-Rechunk.chunks) (IsPlanFault document)
     (λ text (groups, is, lines). of_rechunking stored c.in-Rechunk.chunks source target source_encoding target_encoding groups
-        (ap task_of c.in-Rechunk.is) made
+    (ap task_of c.in-Rechunk.is) made
     made_target
     (subst (λ b. IsRechunking source.dimensions (IsKey source_encoding) target.dimensions
-        (IsKey target_encoding) b groups) c.in_ok-chunks-in-Rechunk.ensures is)
+    (IsKey target_encoding) b groups) c.in_ok-chunks-in-Rechunk.ensures is)
     lines)
     (λ fault is. of_chunks stored c.in-Rechunk.chunks source target source_encoding target_encoding (ap task_of c.in-Rechunk.is) made made_target
     (subst (λ b. IsChunksFault target.dimensions b fault) c.in_ok-chunks-in-Rechunk.ensures is))

@@ -8,5 +8,5 @@ abbrev pub invariant-loop-key : goal.invariant-loop-key
 invariant-loop-key g l =
     (lines : List ℕ)
     × HasLines (IsKeyLine l.dimensionality (g.E.ChunkKeyEncodingTraits.is_key l.encoding)) (map string_bytes l.fn.keys.items)
-        (map string_bytes l.key-iterator.rest.items) lines
+    (map string_bytes l.key-iterator.rest.items) lines
     × (string_bytes l.text ≡ string_bytes l.initial.text ++ lines)

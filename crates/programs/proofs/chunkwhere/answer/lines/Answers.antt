@@ -21,7 +21,7 @@ returns-in-Err-Refused g c =
     let dimensions = g.G.ChunkGridTraits.dimensions c.args.grid.now in
     let (unequal, tells) = rw (c.in-Err-Refused.field-0-is, read) at c.in-Err-Refused.ensures in
     rw (c.in-Err-Refused.field-0-is, position)
-        (inr (wrong_length_is_first dimensions (g.E.ChunkKeyEncodingTraits.is_key c.args.encoding.now) (lists_in c.args.indices.items) _ _
+    (inr (wrong_length_is_first dimensions (g.E.ChunkKeyEncodingTraits.is_key c.args.encoding.now) (lists_in c.args.indices.items) _ _
     (string_bytes c.loop-position.text) index _ _ c.loop-position.invariant (ap lists_in first) unequal tells))
 
 pub loop-position-preserved : goal.loop-position-preserved

@@ -8,4 +8,4 @@ abbrev pub invariant-loop-position : goal.invariant-loop-position
 invariant-loop-position g l =
     let left = lists_in l.position-iterator.iter.rest.items in
     IsSoFar (g.G.ChunkGridTraits.dimensions l.grid) (g.E.ChunkKeyEncodingTraits.is_key l.encoding)
-        (lists_in l.fn.indices.items) left l.position-iterator.count (string_bytes l.text)
+    (lists_in l.fn.indices.items) left l.position-iterator.count (string_bytes l.text)

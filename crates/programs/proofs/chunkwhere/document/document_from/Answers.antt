@@ -81,7 +81,7 @@ returns-in_default-keys c =
     sym (keys_left tree _ c.in_ok-stored.ensures.others) ∙ sym c.in_ok-keys.ensures
     ∙ ap (option_map (λ v. map string_bytes v.items)) c.in_default-keys.is in
     inr (misformed_keys (stored_of c.in_ok-stored.stored) members (ap is_some c.in_ok-shape.ensures) c.in_ok-stored.ensures.stored
-        (ap is_some indices)
+    (ap is_some indices)
     no_keys refl)
 
 pub returns : goal.returns
