@@ -1,7 +1,8 @@
 """What the calls answer and refuse, at any number of dimensions, beside plain arithmetic of Python: `test.py` runs it.
 
-Each call is taken as the list of its arguments, by the names of the header. So an argument can be made longer or shorter, or be exchanged for a
-wrong one, and what the call ends with is compared with the order of faults that the header tells.
+Each call is taken as the list of its arguments, by the names of the header. So an argument can be made longer or
+shorter, or be exchanged for a wrong one, and what the call ends with is compared with the order of faults that the
+header tells.
 """
 import ctypes
 import itertools
@@ -9,8 +10,10 @@ import json
 import random
 
 import numpy as np
+from chunk_grids import Grid
+from chunk_keys import Encoding
+from extensions import GREATEST, grid_metadata
 
-GREATEST = 2**64 - 1
 DIMENSIONS = (1, 2, 3, 4, 5, 9, 300)
 LEFT = 7  # what buffers hold before a call
 
@@ -66,55 +69,31 @@ def seen(part):
 
 # ---- what is right, by plain arithmetic
 
-
-class Bounded:
-    """A grid of equal chunks that end with the array, and questions about it."""
-
-    def __init__(self, rng, dimensions):
-        self.edges = [rng.randrange(1, 12) for _ in range(dimensions)]
-        self.shape = [rng.randrange(1, 40) for _ in range(dimensions)]
-        self.text = json.dumps({"name": "zarrs.regular_bounded", "configuration": {"chunk_shape": self.edges}}).encode()
-        self.counts = [-(-size // edge) for size, edge in zip(self.shape, self.edges)]
-
-    def home(self, index):
-        if not all(i < size for i, size in zip(index, self.shape)):
-            return None
-        pairs = [divmod(i, edge) for i, edge in zip(index, self.edges)]
-        return [chunk for chunk, _place in pairs], [place for _chunk, place in pairs]
-
-    def box(self, chunk):
-        if not all(c < count for c, count in zip(chunk, self.counts)):
-            return None
-        origin = [c * edge for c, edge in zip(chunk, self.edges)]
-        return origin, [min(edge, size - first) for edge, size, first in zip(self.edges, self.shape, origin)]
-
-    def cover(self, start, sizes):
-        if 0 in sizes:
-            return [0] * len(start), [0] * len(start)
-        first, last = self.home(start), self.home([begin + size - 1 for begin, size in zip(start, sizes)])
-        if first is None or last is None:
-            return None
-        return first[0], [high - low + 1 for low, high in zip(first[0], last[0])]
-
-    def parts(self, start, sizes):
-        """The parts of a plan: of each its chunk, where it begins in the chunk and in the box, and its shape."""
-        cover = self.cover(start, sizes)
-        if cover is None:
-            return None
-        for chunk in itertools.product(*(range(first, first + count) for first, count in zip(*cover))):
-            origin, shape = self.box(chunk)
-            begins = [max(begin, first) for begin, first in zip(start, origin)]
-            ends = [min(begin + size, first + long) for begin, size, first, long in zip(start, sizes, origin, shape)]
-            yield (
-                list(chunk),
-                [begin - first for begin, first in zip(begins, origin)],
-                [begin - first for begin, first in zip(begins, start)],
-                [end - begin for begin, end in zip(begins, ends)],
-            )
+DEFAULT = Encoding("default")
 
 
-def key_of(chunk):
-    return "/".join(["c", *map(str, chunk)])
+def bounded(rng, dimensions):
+    """A grid of equal chunks that end with the array."""
+    edges = [rng.randrange(1, 12) for _ in range(dimensions)]
+    return Grid(grid_metadata("zarrs.regular_bounded", edges), [rng.randrange(1, 40) for _ in range(dimensions)])
+
+
+def given_of(grid):
+    return {"shape": np.array(grid.shape, np.uint64), "chunk_grid": json.dumps(grid.metadata()).encode()}
+
+
+def offsets_of(texts):
+    """Where each of some texts begins, one after another, and where the last one ends."""
+    return list(itertools.accumulate(map(len, texts), initial=0))
+
+
+def seen_parts(parts):
+    """What the Python package answers of a plan, as `chunkcalls` and the model have it."""
+    rows = zip(parts.chunks.tolist(), parts.in_chunk.tolist(), parts.in_subset.tolist(), parts.shapes.tolist(), parts.keys)
+    return [
+        {"chunk": chunk, "in_chunk": [place, shape], "in_subset": [start, shape], "key": key}
+        for chunk, place, start, shape, key in rows
+    ]
 
 
 def batch(answers, lists, width):
@@ -132,71 +111,80 @@ def flat(lists):
 
 def grid_calls(rng, dimensions):
     """Each call of a grid with arguments that are right, and what it leaves by name."""
-    grid, count = Bounded(rng, dimensions), 6
-    given = {"shape": np.array(grid.shape, np.uint64), "chunk_grid": grid.text}
+    grid, count = bounded(rng, dimensions), 6
+    given, counts = given_of(grid), grid.grid_shape()
     inside = [[rng.randrange(size) for size in grid.shape] for _ in range(count)]
-    outside = [[size if place == k % dimensions else i for place, (i, size) in enumerate(zip(index, grid.shape))] for k, index in enumerate(inside)]
-    indices = [outer if k % 3 == 1 else inner for k, (inner, outer) in enumerate(zip(inside, outside))]
+    # Of three indices one is outside along one dimension, and of three chunks one is past those that are counted.
+    indices = [[*index] for index in inside]
+    for k in range(1, count, 3):
+        indices[k][k % dimensions] = grid.shape[k % dimensions]
     sizes = [[rng.randrange(1, size - i + 1) if i < size else 1 for i, size in zip(index, grid.shape)] for index in indices]
     sizes[3][0] = 0
-    chunks = [[c + (k % 3 == 1) * count for c, count in zip(grid.home(index)[0], grid.counts)] for k, index in enumerate(inside)]
+    chunks = [grid.chunk_indices(index) for index in inside]
+    for k in range(1, count, 3):
+        chunks[k] = [c + number for c, number in zip(chunks[k], counts)]
+    homes, boxes = [grid.home(index) for index in indices], [grid.subset(chunk) for chunk in chunks]
+    covers = [grid.chunks_in_array_subset(*box) for box in zip(indices, sizes)]
 
-    def lists():
-        return filled(count * dimensions)
-
-    yield Asked("zarrs_grid_shape", {**given, "grid_shape": filled(dimensions)}, ["grid_shape"]), {"grid_shape": grid.counts}
-    answers = [grid.home(index) for index in indices]
-    written, marks = batch(answers, 2, dimensions)
-    asked = {**given, "indices": flat(indices), "chunks": lists(), "found": filled(count, np.uint8)}
-    yield Asked("zarrs_chunk_indices_of", asked, ["indices", "chunks", "found"]), {"chunks": written[0], "found": marks}
-    asked = {**given, "indices": flat(indices), "chunks": lists(), "places": lists(), "found": filled(count, np.uint8)}
-    yield Asked("zarrs_homes_of", asked, ["indices", "chunks", "places", "found"]), {"chunks": written[0], "places": written[1], "found": marks}
-    written, marks = batch([grid.box(chunk) for chunk in chunks], 2, dimensions)
-    asked = {**given, "chunks": flat(chunks), "origins": lists(), "shapes": lists(), "found": filled(count, np.uint8)}
-    yield Asked("zarrs_chunk_boxes_of", asked, ["chunks", "origins", "shapes", "found"]), {"origins": written[0], "shapes": written[1], "found": marks}
-    written, marks = batch([grid.cover(*box) for box in zip(indices, sizes)], 2, dimensions)
-    asked = {**given, "starts": flat(indices), "shapes": flat(sizes), "first_chunks": lists(), "chunk_counts": lists()}
-    asked |= {"found": filled(count, np.uint8), "wrong": Count(LEFT)}
-    expected = {"first_chunks": written[0], "chunk_counts": written[1], "found": marks}
-    yield Asked("zarrs_covers_of", asked, ["starts", "shapes", "first_chunks", "chunk_counts", "found"]), expected
+    yield Asked("zarrs_grid_shape", {**given, "grid_shape": filled(dimensions)}, ["grid_shape"]), {"grid_shape": counts}
+    for name, lists, names, answers in (
+        ("zarrs_chunk_indices_of", {"indices": indices}, ["chunks"], homes),
+        ("zarrs_homes_of", {"indices": indices}, ["chunks", "places"], homes),
+        ("zarrs_chunk_boxes_of", {"chunks": chunks}, ["origins", "shapes"], boxes),
+        ("zarrs_covers_of", {"starts": indices, "shapes": sizes}, ["first_chunks", "chunk_counts"], covers),
+    ):
+        written, marks = batch(answers, len(names), dimensions)
+        asked = {**given, **{name: flat(numbers) for name, numbers in lists.items()}}
+        asked |= {**{name: filled(count * dimensions) for name in names}, "found": filled(count, np.uint8)}
+        if name == "zarrs_covers_of":
+            asked["wrong"] = Count(LEFT)
+        yield Asked(name, asked, [*lists, *names, "found"]), {**dict(zip(names, written)), "found": marks}
 
 
 def key_calls(rng, dimensions):
-    count, chunks = 5, [[rng.choice([0, 9, 10, rng.randrange(2**64), GREATEST]) for _ in range(dimensions)] for _ in range(5)]
-    keys = [key_of(chunk).encode() for chunk in chunks]
-    text, offsets = b"".join(keys), list(itertools.accumulate(map(len, keys), initial=0))
+    count, ends = 5, [0, 9, 10]
+    chunks = [[rng.choice([*ends, rng.randrange(2**64), GREATEST]) for _ in range(dimensions)] for _ in range(count)]
+    keys = [DEFAULT.key(chunk).encode() for chunk in chunks]
+    text, offsets = b"".join(keys), offsets_of(keys)
     given = {"chunk_key_encoding": b'"default"', "dimensionality": dimensions}
-    asked = {**given, "chunks": flat(chunks), "text": filled(len(text), np.uint8), "offsets": filled(count + 1), "needed": Count(LEFT)}
-    yield Asked("zarrs_keys_of", asked, ["chunks", "offsets"]), {"text": list(text), "offsets": offsets, "needed": len(text)}
+    asked = {**given, "chunks": flat(chunks), "text": filled(len(text), np.uint8), "offsets": filled(count + 1)}
+    expected = {"text": list(text), "offsets": offsets, "needed": len(text)}
+    yield Asked("zarrs_keys_of", {**asked, "needed": Count(LEFT)}, ["chunks", "offsets"]), expected
     keys[1] = b"c/01"
-    text, offsets = b"".join(keys), list(itertools.accumulate(map(len, keys), initial=0))
+    text, offsets = np.frombuffer(b"".join(keys), np.uint8), np.array(offsets_of(keys), np.uint64)
     written, marks = batch([None if k == 1 else (chunk,) for k, chunk in enumerate(chunks)], 1, dimensions)
-    asked = {**given, "text": np.frombuffer(text, np.uint8), "offsets": np.array(offsets, np.uint64), "chunks": filled(count * dimensions)}
+    asked = {**given, "text": text, "offsets": offsets, "chunks": filled(count * dimensions)}
     asked |= {"found": filled(count, np.uint8), "wrong": Count(LEFT)}
     yield Asked("zarrs_chunks_of_keys", asked, ["offsets", "chunks", "found"]), {"chunks": written[0], "found": marks}
 
 
 def plan_call(rng, dimensions):
     """The plan of a box that two dimensions at most cut, and one of a box that has no plan."""
-    grid = Bounded(rng, dimensions)
+    grid = bounded(rng, dimensions)
     start = [rng.randrange(size) for size in grid.shape]
-    sizes = [min(rng.randrange(1, edge + 2), size - begin) if place < 2 else 1 for place, (begin, size, edge) in enumerate(zip(start, grid.shape, grid.edges))]
-    parts = list(grid.parts(start, sizes))
-    keys = [key_of(part[0]).encode() for part in parts]
-    text, offsets = b"".join(keys), list(itertools.accumulate(map(len, keys), initial=0))
-    given = {"shape": np.array(grid.shape, np.uint64), "chunk_grid": grid.text, "chunk_key_encoding": b'"default"'}
-    names = ("chunks", "in_chunk", "in_subset", "shapes")
+    room = [size - begin for begin, size in zip(start, grid.shape)]
+    sizes = [min(rng.randrange(1, edge + 2), most) for edge, most in zip(grid.edges[:2], room)] + [1] * (dimensions - 2)
+    parts = list(grid.parts(start, sizes, DEFAULT))
+    keys = [part["key"].encode() for part in parts]
+    text, given = b"".join(keys), {**given_of(grid), "chunk_key_encoding": b'"default"'}
+    lists = {
+        "chunks": [part["chunk"] for part in parts],
+        "in_chunk": [part["in_chunk"][0] for part in parts],
+        "in_subset": [part["in_subset"][0] for part in parts],
+        "shapes": [part["in_chunk"][1] for part in parts],
+    }
 
     def asked_of(start, sizes):
-        room = {name: filled(len(parts) * dimensions) for name in names}
+        room = {name: filled(len(parts) * dimensions) for name in lists}
         told = {"needed": Count(LEFT), "count": Count(LEFT), "in_all": InAll(LEFT), "found": Mark(LEFT)}
         box = {"start": np.array(start, np.uint64), "box_shape": np.array(sizes, np.uint64), "first": ctypes.c_uint64(0)}
         return {**given, **box, **room, "text": filled(len(text), np.uint8), "offsets": filled(len(parts) + 1), **told}
 
-    measured = ["start", "box_shape", *names, "offsets"]
-    expected = {name: flat(part[place] for part in parts).tolist() for place, name in enumerate(names)}
+    measured = ["start", "box_shape", *lists, "offsets"]
+    expected = {name: flat(numbers).tolist() for name, numbers in lists.items()}
     told = {"needed": len(text), "count": len(parts), "in_all": len(parts), "found": 1}
-    yield Asked("zarrs_parts_of", asked_of(start, sizes), measured), {**expected, "text": list(text), "offsets": offsets, **told}
+    told |= {"text": list(text), "offsets": offsets_of(keys)}
+    yield Asked("zarrs_parts_of", asked_of(start, sizes), measured), {**expected, **told}
     none = {"needed": 0, "count": 0, "in_all": 0, "found": 0}
     yield Asked("zarrs_parts_of", asked_of(grid.shape, [1] * dimensions), measured), none
 

@@ -4,21 +4,20 @@
     bindings/fuzz.py [--seconds 5] [--seed 1]
     bindings/fuzz.py --seed 17 --call 203
 
-It needs numpy and the shared library, as the package does. The calls are made in processes of their own, each with a seed, and each call draws its
-values from the seed and its number alone; so the second form makes one call again. A call may answer, or raise TypeError or ValueError with words,
-or MemoryError. Where the values are whole numbers in any dress, it has to answer, and the answer is compared with plain arithmetic; where one of
-them is no such number, it has to be refused. It is a fault besides where a process is ended by a signal, as it is by a call that takes longer than
-a minute. The status is then 1.
+It needs numpy and the shared library, as the package does. The calls are made in processes of their own, each with a
+seed, and each call draws its values from the seed and its number alone; so the second form makes one call again. A call
+may answer, or raise TypeError or ValueError with words, or MemoryError. Where the values are whole numbers in any dress,
+it has to answer, and the answer is compared with plain arithmetic; where one of them is no such number, it has to be
+refused. It is a fault besides where a process is ended by a signal, as it is by a call that takes longer than a minute.
+The status is then 1.
 """
 import argparse
 import array
-import itertools
 import json
 import os
 import pathlib
 import pickle
 import random
-import resource
 import signal
 import subprocess
 import sys
@@ -26,10 +25,12 @@ import tempfile
 import time
 
 HERE = pathlib.Path(__file__).resolve().parent
-sys.path[:0] = [str(HERE / "python"), str(HERE)]
+sys.path[:0] = [str(HERE / "python"), str(HERE), str(HERE.parent / "tools")]
 sys.dont_write_bytecode = True
+from call_names import CALLS, OF_RECTILINEAR  # noqa: E402
+from extensions import GREATEST, regular  # noqa: E402
+from memory import set_most, used  # noqa: E402
 
-GREATEST = 2**64 - 1
 CALLS_OF_A_SEED = 3000
 LONGEST = 60  # seconds
 MOST_MEMORY = 2**30  # bytes of address space, beside what the process has at first
@@ -42,44 +43,6 @@ class Wrong(Exception):
 
 
 # ---- values of any kind
-
-
-class Index:
-    """An object with an `__index__`, which may be no number."""
-
-    def __init__(self, number):
-        self.number = number
-
-    def __index__(self):
-        return self.number
-
-
-class Raising:
-    """An object whose methods raise an error."""
-
-    def __init__(self, error):
-        self.error = error
-
-    def fail(self, *_arguments, **_named):
-        raise self.error
-
-    __array__ = __index__ = __len__ = __iter__ = __getitem__ = __float__ = __bytes__ = fail
-
-
-class Lying:
-    """A sequence that says another length than it has."""
-
-    def __init__(self, told, items):
-        self.told, self.items = told, items
-
-    def __len__(self):
-        return self.told
-
-    def __getitem__(self, place):
-        return self.items[place]
-
-    def __array__(self, *_arguments, **_named):
-        return self.items
 
 
 def any_number(rng):
@@ -128,9 +91,7 @@ def any_layout(rng, numbers):
     if how == 3:
         return np.flip(np.flip(numbers).copy())
     if how == 4 and numbers.size:
-        shifted = np.zeros(numbers.nbytes + 1, np.uint8)[1:].view(numbers.dtype).reshape(numbers.shape)
-        shifted[...] = numbers
-        return shifted
+        return misaligned(numbers)
     if how == 5:
         numbers = numbers.copy()
         numbers.flags.writeable = False
@@ -142,7 +103,6 @@ def any_layout(rng, numbers):
 def any_object(rng):
     errors = [IndexError, KeyError, RuntimeError, ZeroDivisionError, StopIteration, RecursionError]
     errors += [OverflowError, AttributeError, OSError, MemoryError]
-    regular = {"name": "regular", "configuration": {"chunk_shape": [1]}}
     endless, deep = [], []
     endless.append(endless)
     for _ in range(rng.choice([30, 200, 5000])):
@@ -151,7 +111,7 @@ def any_object(rng):
         lambda: None, lambda: rng.random() < 0.5, lambda: rng.choice([0.0, -0.0, 1.0, 0.5, 1e308, float("nan"), float("inf")]), lambda: 1j,
         lambda: Raising(rng.choice(errors)("of its own")), lambda: Index(rng.choice([1, -1, 2**64, "1", None, 1.0])), lambda: endless, lambda: deep,
         lambda: Lying(rng.choice([-1, 0, 1, 2**70, "1"]), rng.choice([[1], [1, 2], None, np.zeros(2)])), lambda: {1, 2}, lambda: {"name": {1}}, dict,
-        lambda: (number for number in [1, 2]), lambda: range(rng.randrange(4)), lambda: Grid([5], regular), lambda: Encoding("v2"),
+        lambda: (number for number in [1, 2]), lambda: range(rng.randrange(4)), lambda: Grid([5], regular(1)), lambda: Encoding("v2"),
         lambda: {rng.choice([1, None, "name", b"name"]): any_value(rng)}, lambda: rng.choice([np.uint64, np.int8, np.float32, np.bool_])(1),
         lambda: Grid, lambda: len, lambda: np.str_("c/1"),
         lambda: array.array("Q", [1, 2]), lambda: array.array("d", [1]), lambda: np.datetime64("NaT"), lambda: np.ma.masked, lambda: Ellipsis, object,
@@ -291,19 +251,26 @@ def check_batch(answer, is_answered, numbers, expected):
 
 
 def model_of(rng, most_dimensions=3):
-    model = Bounded(rng, rng.randrange(most_dimensions + 1))
-    return model, Grid(model.shape, json.loads(model.text))
+    """A grid as the model has it, and as the package has it."""
+    model = bounded(rng, rng.randrange(most_dimensions + 1))
+    return model, Grid(model.shape, model.metadata())
+
+
+def part_of(answer, place):
+    return answer and [answer[place]]
 
 
 def ask_of_grid(rng):
     model, grid = model_of(rng)
     calls = {
-        "chunk_indices": lambda index: None if model.home(index) is None else model.home(index)[:1],
-        "chunk_element_indices": lambda index: None if model.home(index) is None else model.home(index)[1:],
-        "find_home": model.home, "subset": model.box,
-    }  # fmt: skip
+        "chunk_indices": lambda index: part_of(model.home(index), 0),
+        "chunk_element_indices": lambda index: part_of(model.home(index), 1),
+        "find_home": model.home,
+        "subset": model.subset,
+    }
     name = rng.choice(list(calls))
-    given, numbers = draw_lists(rng, some_lists(rng, model.counts if name == "subset" else model.shape), len(model.shape))
+    sizes = model.grid_shape() if name == "subset" else model.shape
+    given, numbers = draw_lists(rng, some_lists(rng, sizes), len(model.shape))
     answer, is_answered = attempt(lambda: getattr(grid, name)(given))
     check_batch(answer, is_answered, numbers, calls[name])
 
@@ -311,16 +278,15 @@ def ask_of_grid(rng):
 def ask_covers(rng):
     model, grid = model_of(rng)
     starts = some_lists(rng, model.shape)
-    shapes = [
-        [0 if start + size > GREATEST else rng.choice([0, 1, rng.randrange(size + 1)]) for start, size in zip(row, model.shape)] for row in starts
-    ]
     width = len(model.shape)
+    draw_size = lambda start, size: 0 if start + size > GREATEST else rng.choice([0, 1, rng.randrange(size + 1)])
+    shapes = [list(map(draw_size, row, model.shape)) for row in starts]
     numbers = [np.array(lists, np.uint64).reshape(len(starts), width) for lists in (starts, shapes)]
     given = [draw(rng, dressed(rng, part)) for part in numbers]
     answer, is_answered = attempt(lambda: grid.chunks_in_array_subset(given[0][0], given[1][0]))
     if given[0][1] and given[1][1]:
         boxes = iter(shapes)
-        check_batch(answer, is_answered, numbers[0], lambda start: model.cover(start, next(boxes)))
+        check_batch(answer, is_answered, numbers[0], lambda start: model.chunks_in_array_subset(start, next(boxes)))
     elif is_answered:
         check_form(answer)
 
@@ -328,24 +294,24 @@ def ask_covers(rng):
 def ask_parts(rng):
     model, grid = model_of(rng)
     start = [rng.randrange(size) for size in model.shape]
-    sizes = [rng.choice([0, 1, rng.randrange(min(9, size - begin) + 1), size - begin + 1]) for begin, size in zip(start, model.shape)]
+    sizes = [
+        rng.choice([0, 1, rng.randrange(min(9, size - begin) + 1), size - begin + 1])
+        for begin, size in zip(start, model.shape)
+    ]
     first, most = rng.choice([0, 0, 1, 7, 10**6, GREATEST]), rng.choice([None, 0, 1, 3, 10**4, GREATEST])
-    drawn = [draw(rng, good) for good in (Encoding("default"), dressed(rng, np.array(start, np.uint64)), dressed(rng, np.array(sizes, np.uint64)))]
-    drawn += [draw(rng, first), draw(rng, most)]
+    box = [draw(rng, dressed(rng, np.array(numbers, np.uint64))) for numbers in (start, sizes)]
+    drawn = [draw(rng, Encoding("default")), *box, draw(rng, first), draw(rng, most)]
     answer, is_answered = attempt(lambda: grid.parts(*(value for value, _good in drawn)))
     if not all(good for _value, good in drawn):
         return
     if not is_answered:
         raise Wrong(f"the parts of {start} {sizes} from {first} at most {most} are refused: {answer!r}")
-    cover = model.cover(start, sizes)
-    demand("whether there is a plan", answer is not None, cover is not None)
+    right = model.parts(start, sizes, DEFAULT)
+    demand("whether there is a plan", answer is not None, right is not None)
     if answer is not None:
-        counted = 1
-        for count in cover[1]:
-            counted *= count
-        right = list(model.parts(start, sizes))[first : None if most is None else first + most] if counted else []
-        rows = list(zip(*(part.tolist() for part in answer[:4])))
-        demand("parts", (rows, answer.keys, answer.in_all), (right, [key_of(part[0]) for part in right], counted))
+        right = list(right)
+        wanted = right[first : None if most is None else first + most]
+        demand("parts", (seen_parts(answer), answer.in_all), (wanted, len(right)))
 
 
 def ask_keys(rng):
@@ -359,9 +325,9 @@ def ask_keys(rng):
         return
     if not is_answered:
         raise Wrong(f"{numbers.tolist()} has no keys: {answer!r}")
-    keys = list(map(key_of, numbers.reshape(-1, width).tolist() if width else [[]] * int(np.prod(numbers.shape[:-1]))))
+    keys = list(map(DEFAULT.key, numbers.reshape(-1, width).tolist() if width else [[]] * int(np.prod(numbers.shape[:-1]))))
     if name == "encode_text":
-        offsets = list(itertools.accumulate(map(len, keys), initial=0))
+        offsets = offsets_of(keys)
         demand("keys", (answer[0], answer[1].tolist(), answer[1].dtype), ("".join(keys).encode(), offsets, np.dtype(np.uint64)))
         return
     nested = np.empty(len(keys), object)
@@ -373,8 +339,8 @@ def ask_chunks_of_keys(rng):
     width = rng.choice([0, 1, 2, 2, 5])
     chunks = some_lists(rng, [rng.choice([1, 10, 2**40])] * width)
     no_keys = ["", "c", "c/01", "c/1/", "/", "c/+1", "c/18446744073709551616", "0", "é"]
-    keys = [key_of(chunk) if rng.random() < 0.8 else rng.choice(no_keys) for chunk in chunks]
-    right = [chunk_of(key, width) for key in keys]
+    keys = [DEFAULT.key(chunk) if rng.random() < 0.8 else rng.choice(no_keys) for chunk in chunks]
+    right = [DEFAULT.chunk(key, width) for key in keys]
     expected = [chunk or [0] * width for chunk in right], [chunk is not None for chunk in right]
     dimensionality = draw(rng, rng.choice([int, np.int64, np.uint8, Index])(width))
     encoding = Encoding("default")
@@ -384,7 +350,7 @@ def ask_chunks_of_keys(rng):
         answer, is_answered = attempt(lambda: encoding.decode(*(value for value, _good in drawn)))
     else:
         texts = [key.encode() for key in keys]
-        text, offsets = b"".join(texts), np.array(list(itertools.accumulate(map(len, texts), initial=0)), np.uint64)
+        text, offsets = b"".join(texts), np.array(offsets_of(texts), np.uint64)
         laid = rng.choice([bytes, bytearray, memoryview, lambda text: memoryview(text[::-1])[::-1], lambda text: any_layout(rng, as_array(text))])
         drawn = [draw(rng, laid(text)), draw(rng, dressed(rng, offsets)), dimensionality]
         answer, is_answered = attempt(lambda: encoding.decode_text(*(value for value, _good in drawn)))
@@ -398,15 +364,6 @@ def ask_chunks_of_keys(rng):
 
 def as_array(text):
     return np.frombuffer(text, np.uint8)
-
-
-def chunk_of(key, width):
-    """The chunk with so many numbers whose key this is, by the rules of the default encoding."""
-    start, *numbers = key.split("/")
-    if start != "c" or len(numbers) != width or not all(number.isascii() and number.isdigit() and str(int(number)) == number for number in numbers):
-        return None
-    chunk = [int(number) for number in numbers]
-    return chunk if all(number <= GREATEST for number in chunk) else None
 
 
 def make_things(rng):
@@ -428,8 +385,7 @@ def make_things(rng):
 
 def ask_any_question(rng):
     model, grid = model_of(rng, 2)
-    calls = "dimensionality array_shape grid_shape configuration metadata chunk_shape chunk_origin subset chunk_indices locate chunks_subset".split()
-    calls += "chunks_in_array_subset iter_chunk_indices iter_chunk_subsets parts encode decode".split()
+    calls = [call for call in CALLS if call not in OF_RECTILINEAR]
     index = [rng.randrange(size) for size in model.shape]
     of = rng.choice([index, [index, [1] * len(index)], "c/1", 0])
     members = {
@@ -450,8 +406,7 @@ KINDS = (ask_of_grid, ask_of_grid, ask_covers, ask_parts, ask_keys, ask_chunks_o
 
 def make_calls(seed, numbers, at, deadline):
     """In a process of its own: makes the calls with these numbers, and leaves in a file the number of the one that it is at."""
-    used = int(pathlib.Path("/proc/self/statm").read_text().split()[0]) * resource.getpagesize()
-    resource.setrlimit(resource.RLIMIT_AS, (used + MOST_MEMORY, resource.RLIM_INFINITY))
+    set_most(used() + MOST_MEMORY)
     np.seterr(all="ignore")
     wrong = made = 0
     for number in numbers:
@@ -509,6 +464,7 @@ if __name__ == "__main__":
     import numpy as np
 
     if "--at" in sys.argv:
-        from faults import Bounded, key_of
+        from faults import DEFAULT, bounded, offsets_of, seen_parts
+        from odd_values import Index, Lying, Raising, misaligned
         from zarrs_chunks import Encoding, Grid, answer
     main()

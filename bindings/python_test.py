@@ -10,55 +10,24 @@ import json
 import pathlib
 import pickle
 import re
-import resource
 import threading
 
 import numpy as np
+from extensions import GREATEST, grid_metadata, regular
+from memory import at_most, used
+from odd_values import Index, Raising, Whole, misaligned
 from zarrs_chunks import Encoding, Grid, _library, _processor, _texts, answer
 from zarrs_chunks._answer import refuse
 
-GREATEST = 2**64 - 1
-REGULAR = {"name": "regular", "configuration": {"chunk_shape": [2, 3]}}
+REGULAR = regular(2, 3)
 HEADER = pathlib.Path(__file__).resolve().parent / "zarrs_chunks.h"
 
 
-class Index:
-    """A whole number by its `__index__` alone."""
-
-    def __init__(self, number):
-        self.number = number
-
-    def __index__(self):
-        return self.number
-
-
-class Raises:
-    """An object whose every method of reading fails."""
-
-    def __init__(self, error):
-        self.error = error
-
-    def fail(self, *_arguments, **_named):
-        raise self.error
-
-    __array__ = __index__ = __len__ = __iter__ = __getitem__ = fail
-
-
-class Whole(int):
-    """An int that says of itself that it is within all bounds."""
-
-    def __index__(self):
-        return self
-
-    def __lt__(self, other):
-        return False
-
-    __gt__ = __lt__
-
-    def __le__(self, other):
-        return True
-
-    __ge__ = __le__
+def kind_of_error(call):
+    try:
+        return call()
+    except Exception as raised:
+        return type(raised)
 
 
 # ---- the calls
@@ -94,16 +63,9 @@ def unfit_arguments(tally):
     frozen.flags.writeable = False
     unfit = {
         "shape": [
-            shape[::-1],
-            np.broadcast_to(shape[:1], (2, 2)),
-            shape.astype(">u8"),
-            shape.astype(np.int64),
-            misaligned(shape),
-            [5, 7],
-            None,
-            5,
-            b"5",
-        ],
+            shape[::-1], np.broadcast_to(shape[:1], (2, 2)), shape.astype(">u8"), shape.astype(np.int64), misaligned(shape),
+            [5, 7], None, 5, b"5",
+        ],  # fmt: skip
         "chunk_grid": ["text", bytearray(text), memoryview(text), np.frombuffer(text, np.uint8), None, 7],
         "grid_shape": [frozen, sizes[::-1], _library.room(4)[::2], _library.room(4)[:2], sizes.view(np.int64), np.zeros(2, ">u8"), None, 0],
     }
@@ -122,20 +84,6 @@ def unfit_arguments(tally):
         tally.same(f"a size of {number}", kind_of_error(lambda: _library.call("zarrs_keys_of", dimensionality=number, **keys)), TypeError)
     for name, function in _library._FUNCTIONS.items():
         tally.same(f"the types of {name}", (function.restype, len(function.argtypes)), (ctypes.c_int32, sum(map(len, _library.CALLS[name].values()))))
-
-
-def kind_of_error(call):
-    try:
-        return call()
-    except Exception as raised:
-        return type(raised)
-
-
-def misaligned(numbers):
-    """The same numbers, a byte away from where they should be."""
-    shifted = np.zeros(numbers.nbytes + 1, np.uint8)[1:].view(np.uint64)
-    shifted[:] = numbers
-    return shifted
 
 
 # ---- what goes in
@@ -178,7 +126,7 @@ def keys(tally):
     for one in ("c/1", b"c/1", bytearray(b"c/1"), memoryview(b"c/1")):
         words = f"keys: a list of keys is wanted, and not one {type(one).__name__}"
         tally.raises(f"one key as {type(one).__name__}", TypeError, words, lambda: encoding.decode(one, 1))
-    for wrong in (None, 3, [1], [None], [["c/1"]], [encoding], np.zeros(3), Raises(IndexError("of its own")), encoding):
+    for wrong in (None, 3, [1], [None], [["c/1"]], [encoding], np.zeros(3), Raising(IndexError("of its own")), encoding):
         tally.same(f"{wrong!r} as keys", kind_of_error(lambda: encoding.decode(wrong, 1)), TypeError)
     surrogate = "keys: 'utf-8' codec can't encode character '\\ud800' in position 2: surrogates not allowed"
     tally.raises("half a surrogate pair", ValueError, surrogate, lambda: encoding.decode(["c/\ud800"], 1))
@@ -200,7 +148,7 @@ def nesting(tally):
     grid = Grid([5, 7], REGULAR)
     tally.same("boxes of no lists", [part.shape for part in grid.subset(np.zeros((2, 0, 2)))], [(2, 0, 2), (2, 0, 2), (2, 0)])
     tally.same("an empty list", kind_of_error(lambda: grid.chunk_indices([])), ValueError)
-    none = Grid([], {"name": "regular", "configuration": {"chunk_shape": []}})
+    none = Grid([], regular())
     tally.same("lists without numbers", [part.shape for part in none.find_home(np.zeros((3, 0)))], [(3, 0), (3, 0), (3,)])
 
 
@@ -238,13 +186,9 @@ def whole_numbers(tally):
     endless.append(endless)
     tally.same("a list in itself", kind_of_error(lambda: grid.chunk_indices(endless)) in (TypeError, ValueError), True)
     for error in (IndexError("own"), KeyError("own"), RuntimeError("own"), ZeroDivisionError("own"), StopIteration(), RecursionError("own")):
-        for call in (
-            grid.chunk_indices,
-            encoding.encode,
-            lambda value: Grid(value, REGULAR),
-            lambda value: grid.parts(encoding, [0, 0], [1, 1], value),
-        ):
-            for value in (Raises(error), [Raises(error)]):
+        takes_parts = lambda value: grid.parts(encoding, [0, 0], [1, 1], value)
+        for call in (grid.chunk_indices, encoding.encode, lambda value: Grid(value, REGULAR), takes_parts):
+            for value in (Raising(error), [Raising(error)]):
                 tally.same(f"what raises {error!r}", kind_of_error(lambda: call(value)) in (TypeError, ValueError), True)
 
 
@@ -264,7 +208,7 @@ def single_numbers(tally):
         for value in (-1, np.int8(-1), Whole(-1)):
             tally.raises(f"{name} below", ValueError, f"{name}: {below}", lambda: call(value))
         tally.raises(f"{name} as a float", TypeError, f"{name}: 'float' object cannot be interpreted as an integer", lambda: call(1.0))
-        for value in ("1", [1], np.array([1, 2]), np.float64(1), np.bool_(True), np.zeros(1, bool), Raises(IndexError())):
+        for value in ("1", [1], np.array([1, 2]), np.float64(1), np.bool_(True), np.zeros(1, bool), Raising(IndexError())):
             tally.same(f"{name} as {value!r}", kind_of_error(lambda: call(value)), TypeError)
     box = "start and shape: one box is asked for, with 2 numbers each"
     tally.raises("a box of three", ValueError, box, lambda: grid.parts(encoding, [0, 0, 0], [1, 1]))
@@ -283,7 +227,7 @@ def huge(tally):
             found = kind_of_error(lambda: encoding.decode(keys, dimensionality)[1].tolist())
             tally.same(f"{len(keys)} keys of {dimensionality} numbers", found in (answers, MemoryError), True)
     shape = [10**12, 10**6]
-    grid = Grid(shape, {"name": "regular", "configuration": {"chunk_shape": [1, 1]}})
+    grid = Grid(shape, regular(1, 1))
     at_most = "parts are asked for, and at most 5592405 fit into one answer: give `first` and `most`"
     tally.raises("a plan of very many parts", MemoryError, f"out of memory: {10**18} {at_most}", lambda: grid.parts(encoding, [0, 0], shape))
     tally.raises("very many of them", MemoryError, f"out of memory: {10**9} {at_most}", lambda: grid.parts(encoding, [0, 0], shape, 7, 10**9))
@@ -309,9 +253,9 @@ def metadata(tally):
     for what, sizes in {
         "numpy's integers": [np.int64(2), np.uint8(3)], "a tuple": (2, 3), "an array": np.array([2, 3]), "objects": [Index(2), Whole(3)],
     }.items():  # fmt: skip
-        grid = Grid(shape, {"name": name, "configuration": {"chunk_shape": sizes}})
+        grid = Grid(shape, grid_metadata("regular", sizes))
         tally.same(f"edges as {what}", (grid.grid_shape, grid.metadata, grid == Grid(shape, REGULAR)), ((3, 3), REGULAR, True))
-    listed = {"name": "rectangular", "configuration": {"chunk_shape": [np.array([2, 3], np.uint64), (np.int8(7),)]}}
+    listed = grid_metadata("rectangular", [np.array([2, 3], np.uint64), (np.int8(7),)])
     tally.same("edges as arrays", Grid(shape, listed).configuration, {"chunk_shape": [[2, 3], [7]]})
     circular, deep, again = {}, [], [1] * 10
     circular["name"] = circular
@@ -325,7 +269,7 @@ def metadata(tally):
         "very many empty lists": (ValueError, {"name": np.zeros((2**40, 0, 3))}),
         "circular": (ValueError, circular), "deep": (ValueError, deep), "a huge number": (ValueError, {"name": 10**5000}),
         "half a surrogate pair": (ValueError, "\ud800"), "half a pair within": (ValueError, {"name": "a\udc00"}),
-        "a number as a name": (TypeError, {1: 2}), "a grid": (TypeError, Grid(shape, REGULAR)), "what raises": (TypeError, Raises(IndexError())),
+        "a number as a name": (TypeError, {1: 2}), "a grid": (TypeError, Grid(shape, REGULAR)), "what raises": (TypeError, Raising(IndexError())),
         "a function": (TypeError, len), "complex": (TypeError, 1j), "dates": (TypeError, np.zeros(1, "M8[s]")), "bytes": (TypeError, b"default"),
         "nothing": (ValueError, None), "a number": (ValueError, 3), "a list": (ValueError, []), "no name": (ValueError, {}),
         "a float": (ValueError, np.float64(1)),
@@ -340,7 +284,7 @@ def metadata(tally):
     tally.same("numpy's numbers in a question", answer(question), "[1,1]")
     unreadable = "unreadable: there is no call `no`"
     tally.same("no call", answer({**question, "call": "no"}), unreadable)
-    walk = {"shape": [10**4], "chunk_grid": {"name": name, "configuration": {"chunk_shape": [1]}}, "call": "iter_chunk_indices", "items": 10**4}
+    walk = {"shape": [10**4], "chunk_grid": regular(1), "call": "iter_chunk_indices", "items": 10**4}
     tally.same("a long answer", len(json.loads(answer(walk))["items"]), 10**4)
 
 
@@ -349,7 +293,7 @@ def metadata(tally):
 
 def kept(tally):
     """Grids and encodings don't change with what they were made of, nor with what they hand out."""
-    shape, given, suffix = np.array([5, 7], np.uint64), json.loads(json.dumps(REGULAR)), {"name": "v2", "configuration": {"separator": "/"}}
+    shape, given, suffix = np.array([5, 7], np.uint64), regular(2, 3), {"name": "v2", "configuration": {"separator": "/"}}
     grid, encoding = Grid(shape, given), Encoding(suffix)
     shape[:] = 100
     given["configuration"]["chunk_shape"][:] = [1, 1]
@@ -399,7 +343,7 @@ class Changing:
 def changed_meanwhile(tally):
     """Where another thread changes what was given, each answer is that of a number which was there, and each text is one that was written."""
     chunks, lists = np.zeros((3000, 1), np.uint64), 3000
-    encoding, grid = Encoding("default"), Grid([GREATEST], {"name": "regular", "configuration": {"chunk_shape": [2**32]}})
+    encoding, grid = Encoding("default"), Grid([GREATEST], regular(2**32))
 
     def change():
         chunks[:] = GREATEST
@@ -442,7 +386,7 @@ def changed_meanwhile(tally):
                 tally.same("a plan of a changing box", parts is None or all(key.startswith("c/") for key in parts.keys), True)
             except ValueError as error:
                 tally.same("a changing box", str(error), "a box ends past 18446744073709551615")
-    metadata, sizes = {"name": "regular", "configuration": {"chunk_shape": [2, 3]}}, np.array([5, 7])
+    metadata, sizes = regular(2, 3), np.array([5, 7])
 
     def change_metadata():
         metadata.pop("other", None)
@@ -493,13 +437,11 @@ def little_memory(tally):
     calls = [
         lambda: grid.find_home(indices), lambda: grid.chunk_indices(signed), lambda: encoding.encode_text(indices),
         lambda: encoding.decode_text(text, offsets, 50), lambda: grid.parts(encoding, [0, 0], [10**6, 7]),
-        lambda: Grid([10**6], {"name": "rectangular", "configuration": {"chunk_shape": [[1] * 10**6]}}),
+        lambda: Grid([10**6], grid_metadata("rectangular", [[1] * 10**6])),
     ]  # fmt: skip
     for call in calls:
-        used = int(pathlib.Path("/proc/self/statm").read_text().split()[0]) * resource.getpagesize()
-        resource.setrlimit(resource.RLIMIT_AS, (used + 2**20, resource.RLIM_INFINITY))
-        found = kind_of_error(call)
-        resource.setrlimit(resource.RLIMIT_AS, (resource.RLIM_INFINITY, resource.RLIM_INFINITY))
+        with at_most(used() + 2**20):
+            found = kind_of_error(call)
         tally.same("a call under little memory", found, MemoryError)
         tally.same("the next one", (grid.chunk_indices([4, 6])[0].tolist(), encoding.encode([1, 2]), grid.grid_shape), ([2, 2], "c/1/2", (500000, 3)))
     tally.raises("the code of it", MemoryError, "out of memory", lambda: refuse(_library.OUT_OF_MEMORY))

@@ -7,6 +7,9 @@ from zarrs_chunks._library import NOT_JSON, OUT_OF_MEMORY, REFUSED, SHORT_BUFFER
 
 __all__ = ["NOT_JSON", "OUT_OF_MEMORY", "REFUSED", "SHORT_BUFFER", "WRONG_LENGTH", "answer", "call"]
 
+# What a plan tells beside its lists: the length of its text, how many parts it gives, how many there are, its mark.
+TOLD_OF_A_PLAN = (ctypes.c_size_t, ctypes.c_size_t, ctypes.c_uint64, ctypes.c_uint8)
+
 # Beside the package's own, so that the types of arguments that it declares don't hold here.
 _LIBRARY = ctypes.CDLL(str(_library.path()))
 

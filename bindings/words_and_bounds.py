@@ -1,19 +1,20 @@
 """What a call tells of a refusal, and how much a walk may take: `test.py` runs it.
 
-Words of metadata's faults, of codes, and which list of a batch is wrong; walks whose items are longer than the buffer for their answer, and walks that
-are read page by page; of two faults the same one through `zarrs_answer` and through a call of its own; how much stack a call needs.
+Words of metadata's faults, of codes, and which list of a batch is wrong; walks whose items are longer than the buffer
+for their answer, and walks that are read page by page; of two faults the same one through `zarrs_answer` and through a
+call of its own.
 """
 import ctypes
+import itertools
 import json
-import pathlib
-import resource
 
 import numpy as np
+from call_names import WALKS
+from extensions import GREATEST, regular
+from memory import at_most, used
 
-GREATEST = 2**64 - 1
-HERE = pathlib.Path(__file__).resolve().parent
 SHAPE = np.array([4, 7], np.uint64)
-REGULAR = {"name": "regular", "configuration": {"chunk_shape": [2, 3]}}
+REGULAR = regular(2, 3)
 # Metadata of a grid of this array, the code that they end with, and the words.
 GRIDS = [
     (REGULAR, 0, ""),
@@ -82,65 +83,49 @@ def answered(call, question, room):
 
 
 def walks(tally, call):
-    grid = {"shape": [10**9, 10**9], "chunk_grid": {"name": "regular", "configuration": {"chunk_shape": [1, 1]}}}
+    grid = {"shape": [10**9, 10**9], "chunk_grid": regular(1, 1)}
     plan = {"call": "parts", "of": [[0, 0], [10**9, 10**9]], "chunk_key_encoding": "default"}
-    calls = [{"call": name} for name in ("iter_chunk_indices", "iter_chunk_subsets", "iter_chunk_indices_and_subsets")] + [plan]
-    used = int(pathlib.Path("/proc/self/statm").read_text().split()[0]) * resource.getpagesize()
-    resource.setrlimit(resource.RLIMIT_AS, (used + 2**25, resource.RLIM_INFINITY))
-    for asked in calls:
-        for more in ({}, {"first": 10**17}):
-            for room in (0, 1, 256, 10000):
-                found = answered(call, {**grid, **asked, **more, "items": GREATEST}, room)
-                tally.same(f"{asked['call']}, {more}, all items and {room} bytes", found, (-8, GREATEST, True))
-    resource.setrlimit(resource.RLIMIT_AS, (resource.RLIM_INFINITY, resource.RLIM_INFINITY))
+    calls = [*({"call": name} for name in WALKS), plan]
+    with at_most(used() + 2**25):
+        for asked, more, room in itertools.product(calls, ({}, {"first": 10**17}), (0, 1, 256, 10000)):
+            found = answered(call, {**grid, **asked, **more, "items": GREATEST}, room)
+            tally.same(f"{asked['call']}, {more}, all items and {room} bytes", found, (-8, GREATEST, True))
     # What isn't too long is told as before, also where it fills its buffer.
     small = {"shape": [4, 7], "chunk_grid": REGULAR, "call": "iter_chunk_indices", "items": GREATEST}
     whole = b'{"items":[[0,0],[0,1],[0,2],[1,0],[1,1],[1,2]],"more":false}\n'
     tally.same("a walk that fills its buffer", answered(call, small, len(whole)), (0, len(whole), whole))
     tally.same("a walk that is one too long", answered(call, small, len(whole) - 1), (-8, len(whole), True))
     # Pages, one after another, are the whole walk.
-    for name, lists in (("iter_chunk_indices", 1), ("iter_chunk_subsets", 2), ("iter_chunk_indices_and_subsets", 3), ("parts", 5)):
+    for name in [*WALKS, "parts"]:
         asked = {**small, "call": name, "of": [[1, 1], [3, 5]], "chunk_key_encoding": "v2"}
         expected = json.loads(answered(call, asked, 4000)[2])["items"]
         for size in (1, 2, 4, 7):
-            pages = [json.loads(answered(call, {**asked, "first": first, "items": size}, 4000)[2]) for first in range(0, len(expected), size)]
-            tally.same(f"{name} by pages of {size}", [item for page in pages for item in page["items"]], expected)
-            tally.same(f"{name} by pages of {size}: more", [page["more"] for page in pages], [True] * (len(pages) - 1) + [False])
+            cut = [{**asked, "first": first, "items": size} for first in range(0, len(expected), size)]
+            pages = [json.loads(answered(call, page, 4000)[2]) for page in cut]
+            items, more = [item for page in pages for item in page["items"]], [page["more"] for page in pages]
+            tally.same(f"{name} by pages of {size}", (items, more), (expected, [True] * (len(pages) - 1) + [False]))
 
 
-def one_order(tally, call):
+def one_order(tally, library):
     """A bad grid, a bad encoding and a bad box, by a call of their own and as a question."""
     bad = {"chunk_grid": "hexagonal", "chunk_key_encoding": "octal", "of": [[GREATEST, 0], [1, 1]]}
     said = {"chunk_grid": -5, "chunk_key_encoding": -5, "of": -6}
     right = {"chunk_grid": REGULAR, "chunk_key_encoding": "default", "of": [[0, 0], [1, 1]]}
     words_of = {"chunk_grid": "name `hexagonal`", "chunk_key_encoding": "name `octal`", "of": "box end exceeds"}
     names = list(bad)
-    for chosen in [(one, other) for place, one in enumerate(names) for other in names[place:]]:
+    for chosen in itertools.combinations_with_replacement(names, 2):
         asked = {**right, **{name: bad[name] for name in chosen}}
-        room, told = np.zeros(0, np.uint64), [ctypes.c_size_t(), ctypes.c_size_t(), ctypes.c_uint64(), ctypes.c_uint8()]
+        room, told = np.zeros(0, np.uint64), [kind() for kind in library.TOLD_OF_A_PLAN]
         metadata = [json.dumps(asked[name]).encode() for name in names[:2]]
         box = [np.array(numbers, np.uint64) for numbers in asked["of"]]
-        code = call(
-            "zarrs_parts_of", SHAPE, *metadata, *box, ctypes.c_uint64(0), *[room] * 4, np.zeros(0, np.uint8), np.zeros(1, np.uint64),
-            *map(ctypes.byref, told),
-        )  # fmt: skip
-        line = answered(call, {"shape": SHAPE.tolist(), "call": "parts", "items": 1, **asked}, 200)[2]
+        left = [*[room] * 4, np.zeros(0, np.uint8), np.zeros(1, np.uint64), *map(ctypes.byref, told)]
+        code = library.call("zarrs_parts_of", SHAPE, *metadata, *box, ctypes.c_uint64(0), *left)
+        line = answered(library.call, {"shape": SHAPE.tolist(), "call": "parts", "items": 1, **asked}, 200)[2]
         found = (code, line.startswith(f"refused: {words_of[chosen[0]]}".encode()))
         tally.same(f"{' and '.join(sorted(set(chosen)))} of a plan", found, (said[chosen[0]], True))
 
 
-def limits(tally, run, out):
-    """The C program that makes each call on a small stack and under a trap for floats."""
-    program = out / "limits"
-    flags = ["-std=c11", "-Wall", "-Wextra", "-Wpedantic", "-Werror", f"-I{HERE}", HERE / "c" / "limits.c"]
-    linked = [f"-L{out}", "-lzarrs_chunks", f"-Wl,-rpath,{out}", "-lpthread", "-lm"]
-    tally.same("cc, limits", run(["cc", *flags, *linked, "-o", program]), (0, b"", ""))
-    expected = b"deepest metadata: 0 otherwise\nplain metadata: 0 otherwise\nunder a trap: 0 otherwise\n"
-    tally.same("stack and traps", run([program]), (0, expected, ""))
-
-
-def words_and_bounds(tally, library, run, out):
+def words_and_bounds(tally, library):
     words(tally, library.call)
     walks(tally, library.call)
-    one_order(tally, library.call)
-    limits(tally, run, out)
+    one_order(tally, library)

@@ -1,7 +1,8 @@
 #!/usr/bin/env python3
-"""Sees that the vectors ask every call of every kind of grid at the ends of numbers, along a size of 0, without dimensions, and with a list of a
-wrong length, and that the answer is one of the call's. The calls are those that the sources of `zarrs_chunk_questions` tell apart. It prints each call
-that is missing somewhere, and then ends with the status 1.
+"""Sees that the vectors ask every call of every kind of grid at the ends of numbers, along a size of 0, without
+dimensions, and with a list of a wrong length, and that the answer is one of the call's. The calls are those of
+`tools/call_names.py`, which it compares with those that the sources of `zarrs_chunk_questions` tell apart. It prints each
+call that is missing somewhere, and then ends with the status 1.
 """
 import json
 import pathlib
@@ -10,20 +11,14 @@ import sys
 
 sys.path.insert(0, str(pathlib.Path(__file__).resolve().parent.parent / "tools"))
 from built import CRATES, vectors  # noqa: E402
+from call_names import CALLS, OF_BOX, OF_CHUNK, OF_INDEX, OF_NOTHING, OF_RECTILINEAR, WALKS  # noqa: E402
+from extensions import GRIDS  # noqa: E402
 
-GRIDS = ["regular", "zarrs.regular_bounded", "rectangular", "rectilinear"]
-OF_NOTHING = ["dimensionality", "array_shape", "grid_shape", "configuration", "metadata"]
-OF_NOTHING += ["iter_chunk_indices", "iter_chunk_subsets", "iter_chunk_indices_and_subsets"]
-OF_A_LIST = ["chunk_shape", "chunk_shape_u64", "chunk_origin", "subset", "chunk_indices_inbounds"]
-OF_A_LIST += ["chunk_indices", "chunk_element_indices", "array_indices_inbounds", "locate"]
-OF_A_BOX = ["chunks_subset", "chunks_in_array_subset", "parts"]
-# Of a rectilinear grid alone: one of a dimension, one of a list.
-RUNS, COUNTED = "runs", "chunk_indices_counted"
-KNOWN = {*OF_NOTHING, *OF_A_LIST, *OF_A_BOX, RUNS, COUNTED}
-OF_AN_ENCODING = {"encode", "decode"}
+OF_A_LIST = OF_CHUNK + OF_INDEX
 # From this number on, twice a number is past the greatest.
 GREAT = 2**63
-ENDS, ZERO, NONE, LENGTH = "at the ends of numbers", "along a size of 0", "without dimensions", "with a list of a wrong length"
+ENDS, ZERO, NONE = "at the ends of numbers", "along a size of 0", "without dimensions"
+LENGTH = "with a list of a wrong length"
 
 
 def is_great(value):
@@ -37,7 +32,7 @@ def is_list_of_lists(value):
 
 
 def has_a_wrong_length(call, of, shape):
-    lists = of if call in OF_A_BOX else [of]
+    lists = of if call in OF_BOX else [of]
     return is_list_of_lists(lists) and len(lists) > 0 and all(len(numbers) != len(shape) for numbers in lists)
 
 
@@ -54,7 +49,9 @@ def questions():
             question = json.loads(line)
         except ValueError:
             continue
-        if isinstance(question, dict) and isinstance(question.get("chunk_grid"), dict) and isinstance(question.get("shape"), list):
+        if not isinstance(question, dict):
+            continue
+        if isinstance(question.get("chunk_grid"), dict) and isinstance(question.get("shape"), list):
             yield question, answer
 
 
@@ -75,24 +72,25 @@ def points(question, answer):
 
 def wanted():
     for grid in GRIDS:
-        of_runs = grid == "rectilinear"
-        of_a_list = OF_A_LIST + OF_A_BOX + [COUNTED] * of_runs
-        for call in OF_NOTHING + of_a_list + [RUNS] * of_runs:
+        for call in [*OF_NOTHING, *WALKS, *OF_A_LIST, *OF_BOX, "runs"]:
+            if call in OF_RECTILINEAR and grid != "rectilinear":
+                continue
             yield from ((grid, call, point) for point in (ENDS, ZERO, NONE))
-        yield from ((grid, call, LENGTH) for call in of_a_list)
+            if call in OF_A_LIST + OF_BOX:
+                yield grid, call, LENGTH
 
 
 def main():
-    asked, listed = set(), KNOWN | OF_AN_ENCODING
+    asked = set()
     for question, answer in questions():
         call = str(question.get("call"))
         asked.update((question["chunk_grid"].get("name"), call, point) for point in points(question, answer))
-    unknown = set(calls_of_sources()) ^ listed
+    unknown = set(calls_of_sources()) ^ set(CALLS)
     missing = [row for row in wanted() if row not in asked]
     for grid, call, point in missing:
         print(f"no vector asks `{call}` of a {grid} grid {point}")
     for call in sorted(unknown):
-        where = "the sources" if call in listed else f"the lists of {pathlib.Path(__file__).name}"
+        where = "the sources" if call in CALLS else "tools/call_names.py"
         print(f"the call `{call}` isn't in {where}")
     sys.exit(1 if missing or unknown else 0)
 
