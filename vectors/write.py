@@ -4,10 +4,12 @@
     python3 vectors/write.py            writes the files
     python3 vectors/write.py --check    compares them, and runs the example of README.md on them
 
-The source is `crates/chunkcalls/stdin` and `stdout`, a question and an answer a line, which were written by hand and which the program is
-tested by. Each question becomes one line of one file here, byte for byte, with its answer as one more member. `--check` goes the other way: it takes
-question and answer out of each vector, and compares them with the two files. It prints what differs, and then ends with the status 1.
+The source is `crates/chunkcalls/stdin` and `stdout`, a question and an answer a line, which were written by hand and
+which the program is tested by. Each question becomes one line of one file here, byte for byte, with two more members:
+its answer, and what that rests on, which `basis.py` says. `--check` goes the other way: it takes question and answer
+out of each vector, and compares them with the two files. It prints what differs, and then ends with the status 1.
 """
+import collections
 import json
 import pathlib
 import re
@@ -15,7 +17,8 @@ import subprocess
 import sys
 
 HERE = pathlib.Path(__file__).resolve().parent
-sys.path.insert(0, str(HERE.parent / "tools"))
+sys.path[:0] = [str(HERE), str(HERE.parent / "tools")]
+from basis import OWN, STANDARD, ZARRS, basis_of  # noqa: E402
 from built import vectors as questions_and_answers  # noqa: E402
 
 # The file of each call whose question is answered.
@@ -34,7 +37,7 @@ SUBJECTS = {
 FILES = [*SUBJECTS, "refused", "unreadable"]
 # How a line of `stdout` begins that is no JSON, and the member that stands for it.
 REASONS = {"refused: ": "refused", "unreadable: ": "unreadable"}
-BEHIND = ',"answer":'
+BASIS, BEHIND = ',"basis":', ',"answer":'
 
 
 def members(line):
@@ -81,11 +84,12 @@ def vector_of(line, question, answer, note):
     """A question and its answer as one object. A question without a note has that of the one before it."""
     if question is None:
         line = json.dumps({"note": "a line that is no JSON object", "line": line}, separators=(",", ":"))
-    elif not question.keys().isdisjoint({"answer", "line"}):
+    elif not question.keys().isdisjoint({"answer", "basis", "line"}):
         sys.exit(f"a question has a member that vectors have: {line}")
     elif "note" not in question:
         line = '{"note":' + json.dumps(note, ensure_ascii=False) + ("," if question else "") + line.lstrip()[1:]
-    return line.rstrip()[:-1] + BEHIND + answer + "}"
+    asks, answers = line.rstrip()[:-1], BEHIND + answer + "}"
+    return asks + BASIS + json.dumps(basis_of(json.loads(asks + answers))) + answers
 
 
 def vectors():
@@ -101,16 +105,23 @@ def vectors():
 
 def asked(vector):
     """The line that a vector asks, without its note, and the line that answers it."""
-    question, answer = vector[:-1].rsplit(BEHIND, 1)
+    before, answer = vector[:-1].rsplit(BEHIND, 1)
+    question, basis = before.rsplit(BASIS, 1)
     found = json.loads(vector)
-    if json.dumps(json.loads(answer)) != json.dumps(found["answer"]):
-        sys.exit(f"the answer doesn't stand last: {vector}")
+    if (json.dumps(json.loads(answer)), json.loads(basis)) != (json.dumps(found["answer"]), found["basis"]):
+        sys.exit(f"basis and answer don't stand last: {vector}")
     line = found["line"] if "line" in found else without_note(question + "}")
     return line, printed_of(answer)
 
 
 def without_note(line):
     return re.sub(r'^\{"note":"(?:[^"\\]|\\.)*",?', "{", line)
+
+
+def written():
+    """Each line of the files that there are."""
+    for path in (HERE / f"{name}.jsonl" for name in FILES):
+        yield from path.read_text().splitlines() if path.exists() else []
 
 
 def differences():
@@ -121,8 +132,9 @@ def differences():
     for path in HERE.glob("*.jsonl"):
         if path.stem not in FILES:
             yield f"vectors/{path.name} is written by nothing"
-    here = [asked(line) for name in FILES if (HERE / f"{name}.jsonl").exists() for line in (HERE / f"{name}.jsonl").read_text().splitlines()]
-    there = [(line if members(line) is None else without_note(line), answer) for line, answer in questions_and_answers()]
+    here = [asked(line) for line in written()]
+    rows = questions_and_answers()
+    there = [(line if members(line) is None else without_note(line), answer) for line, answer in rows]
     if sorted(here) != sorted(there):
         yield "the vectors and the files of chunkcalls don't say the same"
 
@@ -135,15 +147,25 @@ def faults_of_page():
     for call in sum(SUBJECTS.values(), []):
         if f"`{call}`" not in page:
             yield f"vectors/README.md doesn't name the call {call}"
+    counts = collections.Counter(json.loads(line)["basis"] for line in written())
+    for basis in (STANDARD, ZARRS, OWN):
+        if f"| `{basis}` | {counts[basis]} |" not in page:
+            yield f"vectors/README.md doesn't say that {counts[basis]} vectors have the basis {basis}"
     example = re.search(r"^```python\n(.*?)^```$", page, re.M | re.S).group(1)
-    ended = subprocess.run([sys.executable, "-c", example], cwd=HERE.parent, stdout=subprocess.PIPE, stderr=subprocess.STDOUT)
-    if ended.returncode != 0 or not re.fullmatch(r"[1-9]\d* asked, 0 wrong\n", ended.stdout.decode()):
-        yield f"the example of vectors/README.md: {ended.stdout.decode()}"
-    # The example can find a difference.
-    turned = example.replace("index // edge", "index // edge + 1")
-    ended = subprocess.run([sys.executable, "-c", turned], cwd=HERE.parent, stdout=subprocess.PIPE, stderr=subprocess.STDOUT)
-    if turned == example or ended.stdout.endswith(b", 0 wrong\n"):
-        yield "the example of vectors/README.md finds no wrong answer where there are some"
+    printed = re.search(r"^```text\n(.*?)^```$", page, re.M | re.S).group(1)
+    if run(example) != (0, printed):
+        yield f"the example of vectors/README.md: {run(example)}"
+    # The example can find a difference, in an answer and in a refusal.
+    for right, wrong in (("index // edge", "index // edge + 1"), ("return REFUSED", "return []")):
+        turned = example.replace(right, wrong)
+        if turned == example or ", 0 wrong" in run(turned)[1]:
+            yield f"the example of vectors/README.md finds no wrong answer where it says {wrong}"
+
+
+def run(program):
+    command = [sys.executable, "-c", program]
+    ended = subprocess.run(command, cwd=HERE.parent, stdout=subprocess.PIPE, stderr=subprocess.STDOUT, text=True)
+    return ended.returncode, ended.stdout
 
 
 def main():
