@@ -1,10 +1,16 @@
 #!/usr/bin/env python3
-"""Runs the gate, and prints how many processor minutes each crate took of it: its proofs, its tests, and the edits that have to be refused.
+"""Runs the gate, and prints how many processor minutes each crate took of it: its proofs, its tests, and the edits that
+have to be refused.
 
-    python3 gate.py [COMMAND ..]        rt ci where there is none
+    python3 measure/gate.py [--keep] [COMMAND ..]        rt ci where there is none
 
-`.ci/run` runs `rt ci` by it. The table comes on standard error, and the status is the command's. What runs beside isn't counted, but slows the gate
-down. It looks twice a second at what the kit's compiler and its helpers have used so far, so of each of them the last half second is missing. On Linux.
+`.ci/run` runs `rt ci` by it. The table comes on standard error, and the status is the command's. Beside each figure
+stands by how much it differs from the one in `measure/gate.tsv`, where there is such a file; `--keep` writes the figures
+of this run there, if the command ended well. What `rt ci` has kept of an earlier run takes no time, so a figure of 0
+isn't compared, and the figures to keep are those of a run from nothing, `rt ci --anew`.
+
+What runs beside isn't counted, but slows the gate down. It looks twice a second at what the kit's compiler and its
+helpers have used so far, so of each of them the last half second is missing. On Linux.
 """
 import collections
 import os
@@ -13,12 +19,14 @@ import subprocess
 import sys
 import time
 
+KEPT = pathlib.Path(__file__).resolve().with_name("gate.tsv")
 TICKS = os.sysconf("SC_CLK_TCK") * 60
 KINDS = ("proofs", "tests", "edits")
 
 
 def processes():
-    """Each process: its number and start, its parent's number, the processor minutes that it has used, its words, and where it runs."""
+    """Each process: its number and start, its parent's number, the processor minutes that it has used, its words, and
+    where it runs."""
     for folder in pathlib.Path("/proc").iterdir():
         if not folder.name.isdigit():
             continue
@@ -49,9 +57,9 @@ def belongs_to(words, where):
     return crate, "tests" if "--test" in words else "proofs"
 
 
-def main():
-    gate = subprocess.Popen(sys.argv[1:] or ["rt", "ci"])
-    began = time.monotonic()
+def run(command):
+    """The status of a command, and the processor minutes of each crate, by kind."""
+    gate = subprocess.Popen(command)
     used = {}
     while gate.poll() is None:
         running = list(processes())
@@ -61,16 +69,52 @@ def main():
             if about and descends(process[0], parents, str(gate.pid)):
                 used[process] = (about, minutes)
         time.sleep(0.5)
-    totals = collections.defaultdict(collections.Counter)
+    spent = collections.defaultdict(collections.Counter)
     for (crate, kind), minutes in used.values():
-        totals[crate][kind] += minutes
-    lines = [f"{'processor minutes':24}" + "".join(f"{kind:>8}" for kind in KINDS)]
-    for crate, spent in sorted(totals.items(), key=lambda row: -sum(row[1].values())):
-        lines.append(f"{crate:24}" + "".join(f"{spent[kind]:8.1f}" for kind in KINDS))
-    minutes = sum(sum(spent.values()) for spent in totals.values())
-    lines.append(f"{minutes:.0f} processor minutes in {(time.monotonic() - began) / 60:.0f} minutes")
-    print("\n".join(lines), file=sys.stderr)
-    sys.exit(gate.returncode)
+        spent[crate][kind] += minutes
+    return gate.returncode, spent
+
+
+def kept():
+    """The figures of the run that was kept; none where there is no file."""
+    lines = KEPT.read_text().splitlines()[1:] if KEPT.exists() else []
+    rows = (line.split("\t") for line in lines)
+    return {crate: dict(zip(KINDS, map(float, figures))) for crate, *figures in rows}
+
+
+def keep(spent):
+    rows = ["\t".join(["crate", *KINDS])]
+    rows += ["\t".join([crate, *(f"{spent[crate][kind]:.1f}" for kind in KINDS)]) for crate in sorted(spent)]
+    KEPT.write_text("".join(f"{row}\n" for row in rows))
+
+
+def table(spent, before):
+    """A row for each crate and one for all, each figure with what it adds to the one before."""
+
+    def row(name, crates):
+        figures = [[sum(spent[crate][kind] for crate in crates)] for kind in KINDS]
+        for kind, figure in zip(KINDS, figures):
+            figure.append(sum(before.get(crate, {}).get(kind, 0) for crate in crates if spent[crate][kind] > 0))
+        figures.append([sum(column) for column in zip(*figures)])
+        cells = (f"{now:8.1f} {f'{now - then:+.1f}' if before and now else '':>7}" for now, then in figures)
+        return f"{name:24}" + "".join(cells).rstrip()
+
+    yield f"{'processor minutes':24}" + "".join(f"{kind:>8}{'':8}" for kind in (*KINDS, "sum")).rstrip()
+    yield from (row(crate, [crate]) for crate in sorted(spent, key=lambda crate: -spent[crate].total()))
+    yield row("all crates", list(spent))
+
+
+def main():
+    command = sys.argv[1:]
+    is_to_keep = command[:1] == ["--keep"]
+    began = time.monotonic()
+    status, spent = run(command[is_to_keep:] or ["rt", "ci"])
+    for line in table(spent, kept()):
+        print(line, file=sys.stderr)
+    print(f"in {(time.monotonic() - began) / 60:.0f} minutes", file=sys.stderr)
+    if is_to_keep and status == 0:
+        keep(spent)
+    sys.exit(status)
 
 
 if __name__ == "__main__":
