@@ -19,10 +19,10 @@ sys.path.insert(0, str(ROOT / "tools"))
 from extensions import ENCODINGS, GRIDS  # noqa: E402
 
 CONFIGURATION = "A further configuration or value in JSON"
-# What is added, the kinds that there are, and the sections that are about it.
+# The kinds that there are, and the sections that are about a further one.
 FURTHER = [
-    ("chunk_grid", GRIDS, ["A further grid over kinds of dimension that are there", CONFIGURATION]),
-    ("chunk_key_encoding", ENCODINGS, ["A further encoding", CONFIGURATION]),
+    (GRIDS, ["A further grid over kinds of dimension that are there", CONFIGURATION]),
+    (ENCODINGS, ["A further encoding", CONFIGURATION]),
 ]
 
 
@@ -43,11 +43,11 @@ def named_in(text, kinds):
     return found
 
 
-def takers(what, names):
+def takers(names):
     """The files that name every kind."""
     kinds = {name.removeprefix("zarrs.") for name in names}
     configurations = CRATES / "zarrs_chunk_base" / "src" / "json"
-    configured = {kind for kind in kinds if (configurations / f"{kind}_{what}_configuration.rt").exists()}
+    configured = {kind for kind in kinds if (configurations / f"{kind}_configuration.rt").exists()}
     for crate, path in sources():
         wanted = configured if crate == "zarrs_chunk_base" else kinds
         if named_in(path.read_text(), kinds) >= wanted:
@@ -68,9 +68,9 @@ def main():
     parts = re.split(r"^## (.*)\n", (ROOT / "docs" / "CHANGING.md").read_text(), flags=re.M)
     sections = dict(zip(parts[1::2], parts[2::2]))
     faults = []
-    for what, names, headings in FURTHER:
+    for names, headings in FURTHER:
         named = [place for heading in headings for place in places(sections[heading])]
-        for path in takers(what, names):
+        for path in takers(names):
             place = str(path.relative_to(CRATES))
             if not any(place == name or name.endswith("/") and place.startswith(name) for name in named):
                 faults.append(f"CHANGING.md, {headings[0]}: {place} names every kind, and isn't named")

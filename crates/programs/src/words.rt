@@ -2,9 +2,10 @@
 ghost use Rattle.std.specs.Prelude.{◌≡◌, ◌≤◌, IfSome, Some};
 ghost use Rattle.std.specs.Io.KnownBytes.{Keeps};
 
+use crate::streams::finish;
 use std::env::{Env, FillError};
-use std::io;
 use std::io::Write;
+use thiserror::Error;
 
 /// The version of this library and of its programs.
 const VERSION: &str = "0.1.0";
@@ -20,6 +21,17 @@ enum Asked {
     Unknown,
 }
 
+/// Why a command line has no answer.
+#[derive(Debug, Drop, Error)]
+enum WordsFault {
+    /// There is a word that the program doesn't take, or a second one.
+    #[error("it takes `--help` or `--version`, or no word")]
+    Unknown,
+    /// A write or the flush failed.
+    #[error("output failed")]
+    Write,
+}
+
 /// Answers a command line with words: `--help` by the text that is given, and `--version`, each alone; any other word is a fault, which is
 /// told in one line. The status to end with is 0, or 1 after a fault; `None` where there are no words, and the program is to run.
 pub fn answer_words<R: Env, W: Write, E: Write>(
@@ -32,23 +44,13 @@ pub fn answer_words<R: Env, W: Write, E: Write>(
     ensures silent { result ≡ Some 0 → Keeps (E.contents errors.old) (E.contents errors.new) }
     ensures zero_or_one { IfSome result (λ status. status ≤ 1) }
 {
-    let written = match read_words(rt) {
+    let outcome = match read_words(rt) {
         Asked::Run => return None,
         Asked::Help => write_line(writer, help),
         Asked::Version => write_line(writer, VERSION),
-        Asked::Unknown => {
-            let _ = writeln!(
-                errors,
-                "{program}: it takes `--help` or `--version`, or no word"
-            );
-            return Some(1);
-        }
+        Asked::Unknown => Err(WordsFault::Unknown),
     };
-    if written.is_err() {
-        let _ = writeln!(errors, "{program}: output failed");
-        return Some(1);
-    }
-    Some(0)
+    Some(finish(program, &outcome, errors))
 }
 
 /// What the words behind the program's name ask for.
@@ -71,7 +73,9 @@ fn read_words<R: Env>(rt: &R) -> Asked {
 }
 
 /// Writes a text and a line feed, and flushes.
-fn write_line<W: Write>(writer: &mut W, text: &str) -> io::Result<()> {
-    writeln!(writer, "{text}")?;
-    writer.flush()
+fn write_line<W: Write>(writer: &mut W, text: &str) -> Result<(), WordsFault> {
+    match writeln!(writer, "{text}").and_then(|()| writer.flush()) {
+        Ok(()) => Ok(()),
+        Err(_) => Err(WordsFault::Write),
+    }
 }
