@@ -7,8 +7,8 @@ CRATES = TOP / "crates"
 
 
 def builds(program):
-    """The builds of a program: that of LLVM, and that of Rattle's own compiler where it compiles the program. Where the program isn't built, the script
-    ends with a line that says what to run."""
+    """The builds of a program: that of LLVM, and that of Rattle's own compiler where it compiles the program. Where the
+    program isn't built, the script ends with a line that says what to run."""
     by_llvm = CRATES / program / "out" / program
     by_rattle = by_llvm.with_name(f"{program}.by-rattle")
     if not by_llvm.exists():

@@ -1,69 +1,28 @@
-"""Chunk grids in whole numbers, as `docs/DEFINITIONS.md`, the pages of the crates and the public Zarr specifications define them.
+"""Chunk grids in whole numbers, as `docs/DEFINITIONS.md`, the crates' pages and the Zarr specifications define them.
 
 It is a second opinion that scripts compare the programs and the libraries with, as `chunk_keys` and `chunk_plans` are:
 written from those pages alone, not from the sources of this repository nor from what they answer. It is plain and slow:
-Python's whole numbers have no greatest one, and listed edges are gone through one after another.
+Python's whole numbers have no greatest one, and edges are gone through one after another.
 """
 import itertools
 
 from extensions import GREATEST, GRIDS, Refused, extension, grid_metadata
 
-# Dimensions: for each number either no chunk, or a chunk with a start and an end.
 
+class Dimension:
+    """One dimension of a grid: its chunks follow one another from 0. They stand as pairs of an edge and how many chunks
+    in a row have it. Of equal edges that aren't bounded there is a chunk for every number, but not all are counted."""
 
-class EqualEdges:
-    """Every number is a chunk."""
+    def __init__(self, size, pairs, count=None, listed=False):
+        self.size, self.pairs, self.listed = size, pairs, listed
+        self.chunks = sum(count for _, count in pairs)
+        self.count = self.chunks if count is None else count
 
-    listed = False
-
-    def __init__(self, size, edge):
-        self.size, self.edge = size, edge
-        self.count = -(-size // edge)
-
-    def has(self, chunk):
-        return True
-
-    def start(self, chunk):
-        return chunk * self.edge
-
-    def end(self, chunk):
-        return (chunk + 1) * self.edge
-
-    def holder(self, index):
-        return index // self.edge
-
-    def with_a_box(self):
-        """How many of the counted chunks end at the greatest number or before it."""
-        return min(self.count, GREATEST // self.edge)
-
-
-class Bounded(EqualEdges):
-    """A number is a chunk where it would start within the array, and the last chunk ends with the array."""
+    def first_edge(self):
+        return self.pairs[0][0]
 
     def has(self, chunk):
-        return chunk * self.edge < self.size
-
-    def end(self, chunk):
-        return min((chunk + 1) * self.edge, self.size)
-
-    def holder(self, index):
-        return index // self.edge if index < self.size else None
-
-    def with_a_box(self):
-        return self.count
-
-
-class Listed:
-    """A chunk for each edge. The edges stand as pairs of an edge and how many chunks in a row have it."""
-
-    listed = True
-
-    def __init__(self, size, pairs):
-        self.size, self.pairs = size, pairs
-        self.count = sum(count for _, count in pairs)
-
-    def has(self, chunk):
-        return chunk < self.count
+        return chunk < self.chunks
 
     def start(self, chunk):
         start = 0
@@ -84,12 +43,24 @@ class Listed:
         return None
 
     def with_a_box(self):
-        return self.count
+        """How many of the counted chunks end at the greatest number or before: those before the one that holds it."""
+        holder = self.holder(GREATEST)
+        return self.count if holder is None else min(self.count, holder)
 
     def runs(self):
         """The edges in run-length form: neighbours with one edge are one pair."""
         equal = itertools.groupby(self.pairs, key=lambda pair: pair[0])
         return [(edge, sum(count for _, count in pairs)) for edge, pairs in equal]
+
+
+def equal_edges(size, edge):
+    return Dimension(size, [(edge, GREATEST + 2)], count=-(-size // edge))
+
+
+def bounded_edges(size, edge):
+    """The last chunk ends with the array."""
+    whole, rest = divmod(size, edge)
+    return Dimension(size, [(edge, whole), (rest, 1)] if rest else [(edge, whole)])
 
 
 class Grid:
@@ -105,21 +76,22 @@ class Grid:
 
     def incompatible(self):
         if self.name in ("rectangular", "rectilinear"):
-            return Refused(f"{self.name} chunk grid configuration: {self.edges} not compatible with array shape {self.shape}")
+            beginning = f"{self.name} chunk grid configuration: {self.edges}"
+            return Refused(f"{beginning} not compatible with array shape {self.shape}")
         name = "regular" if self.name == "regular" else "`regular_bounded`"
         return Refused(f"{name} chunk shape and array shape have inconsistent dimensionality")
 
     def dimension(self, size, item):
         if self.name == "zarrs.regular_bounded":
-            return Bounded(size, item)
+            return bounded_edges(size, item)
         if not isinstance(item, list):
-            return EqualEdges(size, item)
+            return equal_edges(size, item)
         pairs = [tuple(element) if isinstance(element, list) else (element, 1) for element in item]
         total = sum(edge * count for edge, count in pairs)
         within = total == size if self.name == "rectangular" else size <= total <= GREATEST
         if not pairs or not within:
             raise self.incompatible()
-        return Listed(size, pairs)
+        return Dimension(size, pairs, listed=True)
 
     # What is asked of nothing.
 
@@ -139,8 +111,8 @@ class Grid:
         written = self.edges
         if self.name == "rectilinear":
             written = [
-                [edge if count == 1 else [edge, count] for edge, count in d.runs()] if d.listed else d.edge
-                for d in self.dimensions
+                [edge if count == 1 else [edge, count] for edge, count in d.runs()] if d.listed else item
+                for d, item in zip(self.dimensions, self.edges)
             ]
         return grid_metadata(self.name, written)
 
@@ -169,7 +141,8 @@ class Grid:
         return [[d.start(c) for d, c in pairs], [d.end(c) - d.start(c) for d, c in pairs]]
 
     def chunk_indices_inbounds(self, chunk):
-        return len(chunk) == len(self.shape) and all(c < d.count or d.count == 0 for d, c in zip(self.dimensions, chunk))
+        pairs = zip(self.dimensions, chunk)
+        return len(chunk) == len(self.shape) and all(c < d.count or d.count == 0 for d, c in pairs)
 
     # What is asked of an index.
 
@@ -191,8 +164,9 @@ class Grid:
         return home and {"chunk": home[0], "element": home[1], "key": encoding.key(home[0])}
 
     def array_indices_inbounds(self, index):
+        pairs = zip(self.dimensions, index)
         return len(index) == len(self.shape) and all(
-            (i < d.size or d.size == 0) and not (d.listed and d.holder(i) is None) for d, i in zip(self.dimensions, index)
+            (i < d.size or d.size == 0) and not (d.listed and d.holder(i) is None) for d, i in pairs
         )
 
     def chunk_indices_counted(self, index):

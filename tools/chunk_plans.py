@@ -16,7 +16,7 @@ def elements(shape):
 
 
 def boxes(moved):
-    """What is moved, as boxes: each element comes as the chunks that it is in, and its places in two arrays or chunks."""
+    """What is moved, as boxes: each element comes as the chunks that it is in, and its places here and there."""
     groups = {}
     for chunks, *places in moved:
         for kept, place in zip(groups.setdefault(chunks, ([], [])), places):

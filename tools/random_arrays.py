@@ -100,7 +100,7 @@ class Generator:
     def chunk_along(self, dimension):
         if self.one_in(4):
             # Where there are no more counted chunks, no more indices, or no more numbers.
-            past = 0 if dimension.listed else GREATEST // dimension.edge - 1
+            past = 0 if dimension.listed else GREATEST // dimension.first_edge() - 1
             return min(self.random.choice([dimension.count, past]) + self.random.randrange(3), GREATEST)
         return self.number(max(dimension.count - 1, 0)) if not self.one_in(12) else self.number(GREATEST)
 
@@ -110,7 +110,7 @@ class Generator:
     def index_along(self, dimension):
         size = dimension.size
         if self.one_in(6):
-            past = dimension.start(dimension.count)
+            past = dimension.start(dimension.count) if dimension.listed else dimension.count * dimension.first_edge()
             return min(self.random.choice([size, size + 1, past, past + 1, self.number(GREATEST)]), GREATEST)
         if self.one_in(3) and dimension.count:
             chunk = self.number(dimension.count - 1)

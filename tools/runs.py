@@ -15,8 +15,8 @@ def difference(found, expected):
     """The status, standard error, and the first line of standard output that differs."""
     lines = itertools.zip_longest(found[1].splitlines(), expected[1].splitlines(), fillvalue=b"nothing")
     place, (one, other) = next(((n, pair) for n, pair in enumerate(lines, 1) if pair[0] != pair[1]), (0, (b"", b"")))
-    texts = [f"status {status}, {error[:300]}, line {place}: {line[:1000]}" for (status, _, error), line in ((found, one), (expected, other))]
-    return f"found    {texts[0]}\nexpected {texts[1]}"
+    told = (("found   ", found, one), ("expected", expected, other))
+    return "\n".join(f"{what} status {run[0]}, {run[2][:300]}, line {place}: {line[:1000]}" for what, run, line in told)
 
 
 def count_differences(program, rows):

@@ -79,7 +79,7 @@ class Row:
             return False
         asked = [(d, n) for numbers in self.numbers() for d, n in zip(self.dimensions, numbers)]
         has_no_box = self.answer is None and all(d.has(n) for d, n in asked)
-        return has_no_box or any(not d.listed and d.start(n) > GREATEST for d, n in asked)
+        return has_no_box or any(not d.listed and n * d.first_edge() > GREATEST for d, n in asked)
 
 
 # Each reason: what it makes a vector rest on, in words, and when it applies.
