@@ -50,7 +50,8 @@ class Asked:
     def ends(self, library, **exchanged):
         """Makes the call with some arguments exchanged. Gives its code and the arguments as the call leaves them."""
         kept = {name: own(part) for name, part in {**self.arguments, **exchanged}.items()}
-        code = library.call(self.name, *(ctypes.byref(part) if isinstance(part, TOLD) else part for part in kept.values()))
+        passed = (ctypes.byref(part) if isinstance(part, TOLD) else part for part in kept.values())
+        code = library.call(self.name, *passed)
         return code, {name: seen(part) for name, part in kept.items()}
 
 
@@ -89,16 +90,17 @@ def offsets_of(texts):
 
 def seen_parts(parts):
     """What the Python package answers of a plan, as `chunkcalls` and the model have it."""
-    rows = zip(parts.chunks.tolist(), parts.in_chunk.tolist(), parts.in_subset.tolist(), parts.shapes.tolist(), parts.keys)
+    lists = (part.tolist() for part in (parts.chunks, parts.in_chunk, parts.in_subset, parts.shapes))
     return [
         {"chunk": chunk, "in_chunk": [place, shape], "in_subset": [start, shape], "key": key}
-        for chunk, place, start, shape, key in rows
+        for chunk, place, start, shape, key in zip(*lists, parts.keys)
     ]
 
 
 def batch(answers, lists, width):
     """What a batch leaves in its arrays and in its marks, where these held LEFT before."""
-    written = [[number for answer in answers for number in ([LEFT] * width if answer is None else answer[place])] for place in range(lists)]
+    left = [[[LEFT] * width] * lists if answer is None else answer for answer in answers]
+    written = [[number for answer in left for number in answer[place]] for place in range(lists)]
     return written, [0 if answer is None else 1 for answer in answers]
 
 
@@ -118,7 +120,8 @@ def grid_calls(rng, dimensions):
     indices = [[*index] for index in inside]
     for k in range(1, count, 3):
         indices[k][k % dimensions] = grid.shape[k % dimensions]
-    sizes = [[rng.randrange(1, size - i + 1) if i < size else 1 for i, size in zip(index, grid.shape)] for index in indices]
+    some = lambda i, size: rng.randrange(1, size - i + 1) if i < size else 1
+    sizes = [list(map(some, index, grid.shape)) for index in indices]
     sizes[3][0] = 0
     chunks = [grid.chunk_indices(index) for index in inside]
     for k in range(1, count, 3):
@@ -177,7 +180,8 @@ def plan_call(rng, dimensions):
     def asked_of(start, sizes):
         room = {name: filled(len(parts) * dimensions) for name in lists}
         told = {"needed": Count(LEFT), "count": Count(LEFT), "in_all": InAll(LEFT), "found": Mark(LEFT)}
-        box = {"start": np.array(start, np.uint64), "box_shape": np.array(sizes, np.uint64), "first": ctypes.c_uint64(0)}
+        box = {"start": np.array(start, np.uint64), "box_shape": np.array(sizes, np.uint64)}
+        box["first"] = ctypes.c_uint64(0)
         return {**given, **box, **room, "text": filled(len(text), np.uint8), "offsets": filled(len(parts) + 1), **told}
 
     measured = ["start", "box_shape", *lists, "offsets"]
@@ -207,7 +211,7 @@ def other_lengths(asked):
 
 
 def wrong_arguments(asked):
-    """What can be wrong with a call: of each fault where it stands in the order, its code, and the arguments that have it."""
+    """What can be wrong with a call: of each fault where it stands in the order, its code, and the arguments with it."""
     given = asked.arguments
     for place, name in enumerate(("chunk_grid", "chunk_key_encoding")):
         if name in given:
@@ -236,10 +240,11 @@ def wrong_arguments(asked):
 
 def first_wrong(asked, exchanged):
     """The number of the first box that ends too far, or of the first key whose offsets descend or lie past the text."""
-    given = {name: part.tolist() for name, part in {**asked.arguments, **exchanged}.items() if isinstance(part, np.ndarray)}
+    arguments = {**asked.arguments, **exchanged}
+    given = {name: part.tolist() for name, part in arguments.items() if isinstance(part, np.ndarray)}
     if "starts" in given:
-        width = len(given["shape"])
-        return next(k // width for k, (start, size) in enumerate(zip(given["starts"], given["shapes"])) if start + size > GREATEST)
+        ends = [start + size for start, size in zip(given["starts"], given["shapes"])]
+        return next(k // len(given["shape"]) for k, end in enumerate(ends) if end > GREATEST)
     pairs = zip(given["offsets"], given["offsets"][1:])
     return next(k for k, (start, end) in enumerate(pairs) if start > end or end > len(given["text"]))
 
@@ -256,7 +261,8 @@ def ends_of(tally, library, dimensions):
         code, left = asked.ends(library)
         tally.same(what, (code, {name: left[name] for name in expected}), (0, expected))
         has_plan = expected.get("found") != 0
-        wrong = sorted((fault for fault in wrong_arguments(asked) if has_plan or fault[2] != SHORT), key=lambda fault: fault[0])
+        wrong = [fault for fault in wrong_arguments(asked) if has_plan or fault[2] != SHORT]
+        wrong.sort(key=lambda fault: fault[0])
         for _place, fault, told, exchanged in wrong:
             code, left = asked.ends(library, **exchanged)
             tally.same(f"{what}, {fault}", code, told)

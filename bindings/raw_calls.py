@@ -1,4 +1,4 @@
-"""The library's calls as a C program makes them, with any pointers and lengths, for tests of what the library itself answers then."""
+"""The library's calls as a C program makes them, with any pointers and lengths, for tests of what it answers then."""
 import ctypes
 
 import numpy as np
@@ -15,7 +15,8 @@ _LIBRARY = ctypes.CDLL(str(_library.path()))
 
 
 def call(name, *arguments):
-    """Makes a call. An array or bytes are passed as a pointer and a length, a whole number as `size_t`, and else what ctypes takes."""
+    """Makes a call. An array or bytes are passed as a pointer and a length, a whole number as `size_t`, and else what
+    ctypes takes."""
     passed = []
     for argument in arguments:
         if isinstance(argument, np.ndarray):

@@ -9,8 +9,8 @@ compiler is used where there is one. What is compared:
 
 - every vector of `chunkcalls`, through `zarrs_answer`;
 - batches and plans with the same questions one by one, and batches with numpy's own division and `searchsorted`;
-- each call at one to three hundred dimensions with plain arithmetic, and each fault of each call, alone and with a later
-  one (`faults.py`);
+- each call at one to three hundred dimensions with plain arithmetic, and each fault of each call, alone and with a
+  later one (`faults.py`);
 - no lists, null, strided, misaligned and negative numbers, other types, buffers of other lengths, offsets that descend;
 - what the Python package takes, refuses and keeps, also while another thread changes it (`python_test.py`), and any
   values for all its arguments (`fuzz.py`);
@@ -320,9 +320,9 @@ def plan_lengths(tally, library, shape, text, encoding):
 
 
 def refused_memory(backend):
-    """In a process of its own: under an address space that grows, a call is out of memory or right, writes nothing beside
-    its buffers, and leaves the next one right. It prints how many calls ended either way, and ends with the status 1 where
-    one did otherwise."""
+    """In a process of its own: under an address space that grows, a call is out of memory or right, writes nothing
+    beside its buffers, and leaves the next one right. It prints how many calls ended either way, and ends with the
+    status 1 where one did otherwise."""
     import raw_calls as library
 
     listed, plain = (json.dumps(grid).encode() for grid in (grid_metadata("rectangular", [[1] * 20000]), regular(3)))
@@ -457,9 +457,9 @@ def main():
     ended = []
     for backend in BACKENDS:
         environment = {**os.environ, "ZARRS_CHUNKS_LIBRARY": str(HERE / "out" / backend / "libzarrs_chunks.so")}
-        for more in ([], ["--memory"]):
-            ended.append(subprocess.run([sys.executable, __file__, "--backend", backend, *more], env=environment).returncode)
-        ended.append(subprocess.run([sys.executable, HERE / "fuzz.py", "--seconds", "5"], env=environment).returncode)
+        of_backend = [__file__, "--backend", backend]
+        for words in (of_backend, [*of_backend, "--memory"], [HERE / "fuzz.py", "--seconds", "5"]):
+            ended.append(subprocess.run([sys.executable, *words], env=environment).returncode)
     sys.exit(1 if any(ended) else 0)
 
 

@@ -24,14 +24,15 @@ GRIDS = [
     ({"name": "regular", "configuration": []}, -4, "configuration is not an object"),
     ("hexagonal", -5, "name `hexagonal` is not supported"),
     ({"name": "regular", "configuration": {}}, -5, "configuration is unsupported: missing field `chunk_shape`"),
-    ({"name": "regular", "configuration": {"chunk_shape": [0, 3]}}, -5, "configuration is unsupported: wrong value in field `chunk_shape`"),
+    (regular(0, 3), -5, "configuration is unsupported: wrong value in field `chunk_shape`"),
     ({"name": "rectangular", "configuration": {"chunk_shape": [[1, 1], 3]}}, -5,
      "rectangular chunk grid configuration: [[1, 1], 3] not compatible with array shape [4, 7]"),
 ]  # fmt: skip
 ENCODINGS = [
     ("v2", 0, ""),
     ("octal", -5, "name `octal` is not supported"),
-    ({"name": "zarrs.default_suffix", "configuration": {"suffix": "a/"}}, -5, "chunk key suffix must not end with a slash"),
+    ({"name": "zarrs.default_suffix", "configuration": {"suffix": "a/"}}, -5,
+     "chunk key suffix must not end with a slash"),
 ]
 # What the header says of each code.
 CODES = {
@@ -51,7 +52,8 @@ CODES = {
 
 
 def text_of(call, name, *arguments):
-    """What a call writes to a buffer that its text fills, with its code; and whether a buffer one shorter stays as it was, with that code."""
+    """What a call writes to a buffer that its text fills, with its code; and whether a buffer one shorter stays as it
+    was, with that code."""
     needed = ctypes.c_size_t(77)
     call(name, *arguments, np.zeros(0, np.uint8), ctypes.byref(needed))
     length = needed.value

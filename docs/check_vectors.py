@@ -1,8 +1,8 @@
 #!/usr/bin/env python3
 """Sees that the vectors ask every call of every kind of grid at the ends of numbers, along a size of 0, without
 dimensions, and with a list of a wrong length, and that the answer is one of the call's. The calls are those of
-`tools/call_names.py`, which it compares with those that the sources of `zarrs_chunk_questions` tell apart. It prints each
-call that is missing somewhere, and then ends with the status 1.
+`tools/call_names.py`, which it compares with those that the sources of `zarrs_chunk_questions` tell apart. It prints
+each call that is missing somewhere, and then ends with the status 1.
 """
 import json
 import pathlib

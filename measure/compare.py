@@ -290,8 +290,8 @@ class Written:
         self.store = {}
         self.shape, self.edges = shape, edges
         self.array = zarr.create(
-            shape=tuple(shape), chunks=tuple(edges), dtype="<u4", fill_value=0, compressor=None, filters=None, order="C",
-            dimension_separator=separator, store=self.store,
+            shape=tuple(shape), chunks=tuple(edges), dtype="<u4", fill_value=0, compressor=None, filters=None,
+            order="C", dimension_separator=separator, store=self.store,
         )  # fmt: skip
 
     def chunks(self, numpy):
@@ -353,8 +353,9 @@ def whole_array(numpy, written, indices):
     shape, edges = written.shape, written.edges
     written.array[...] = numpy.arange(1, numpy.prod(shape, dtype=int) + 1, dtype="<u4").reshape(shape)
     held = written.chunks(numpy)
-    homes = {int(value): (key, list(place)) for key, part in held.items() for place, value in numpy.ndenumerate(part) if value}
-    homes = [homes[int(numpy.ravel_multi_index(index, shape)) + 1 if shape else 1] for index in indices]
+    cells = ((key, place, value) for key, part in held.items() for place, value in numpy.ndenumerate(part))
+    home_of = {int(value): (key, list(place)) for key, place, value in cells if value}
+    homes = [home_of[int(numpy.ravel_multi_index(index, shape)) + 1 if shape else 1] for index in indices]
     asked = []
     for index, (key, place) in zip(indices, homes):
         chunk = [(i - in_chunk) // edge for i, in_chunk, edge in zip(index, place, edges)]

@@ -4,7 +4,7 @@
 
 The reasons are in the table `REASONS`. A vector rests on the weakest of those that apply to it, and on the standard
 where none does. The standard is the text that defines the extension: Zarr V3 core for `regular`, `default` and `v2`,
-ZEP 3 for `rectangular`, zarr-extensions for `rectilinear`, the extension's own page where its name begins with `zarrs.`.
+ZEP 3 for `rectangular`, zarr-extensions for `rectilinear`, and the extension's own page where `zarrs.` begins its name.
 """
 import collections
 import json
