@@ -147,6 +147,9 @@ def faults_of_page():
     for call in sum(SUBJECTS.values(), []):
         if f"`{call}`" not in page:
             yield f"vectors/README.md doesn't name the call {call}"
+    for line in re.findall(r"^```json\n(.*?)\n```$", page, re.M):
+        if line not in written():
+            yield f"vectors/README.md shows what is no vector: {line}"
     counts = collections.Counter(json.loads(line)["basis"] for line in written())
     for basis in (STANDARD, ZARRS, OWN):
         if f"| `{basis}` | {counts[basis]} |" not in page:
