@@ -1,6 +1,5 @@
 -- What holds of each element of a list, and lists of one length, of which there are enough.
-use Rattle.std.proofs.Common.{◌≡◌, ℕ, zero, suc, ◌+◌, ◌*◌, ◌<◌, ◌≤◌, List, [], ◌∷◌, length, get_or, arith, add-mul, mul-le-mul_right}
-use Rattle.std.proofs.Math.Nat.{mul_comm}
+use Rattle.std.proofs.Common.{ℕ, zero, suc, ◌+◌, ◌*◌, ◌<◌, ◌≤◌, List, [], ◌∷◌, length, get_or, arith, add-mul, mul-le-mul_right}
 use Rattle.std.specs.List.{AllByRecursion}
 
 module _ {X : Type 0} (P : X → Type 0) where
