@@ -1,14 +1,13 @@
 //! A box as a document writes it: a list of its start and its shape, each a list of sizes.
-ghost use Rattle.std.specs.Prelude.{◌≡◌, ◌⊎◌, IfOk, MatchResult, option_map};
+ghost use Rattle.std.specs.Prelude.{◌≡◌, ◌⊎◌, MatchResult};
 ghost use Rattle.serde_json.specs.View.{view};
-ghost use Rattle.zarrs_chunk_base.specs.Json.{list_of, pair_of, size_of};
 ghost use Rattle.programs.specs.chunkplan.Document.{HasBox, IsBoxIn};
 ghost use Rattle.programs.specs.chunkplan.DocumentFault.{HasBoxFault, IsBoxFormFault};
 ghost use Rattle.programs.specs.declared.chunkplan.run_fault.RunFault.TheVariants.{Memory};
 
 use crate::chunkplan::RunFault;
 use serde_json::Value;
-use std::alloc::{AllocError, Global};
+use std::alloc::Global;
 use zarrs_chunk_base::{ArraySubset, TreeForm};
 
 /// The box that a member of a document stands for, if there is one.
@@ -31,31 +30,11 @@ fn read_box(alloc: Global, tree: &Value, field: &'static str) -> Result<ArraySub
     ensures { MatchResult result (IsBoxIn (view tree.now))
         (λ fault. (fault ≡ Memory) ⊎ IsBoxFormFault (view tree.now) field.now fault) }
 {
-    let Some((start, shape)) = read_pair(alloc, tree)? else {
+    let Some((start, shape)) = <(Vec<u64>, Vec<u64>)>::from_tree(alloc, tree)? else {
         return Err(RunFault::WrongValue(field));
     };
     match ArraySubset::new_with_start_shape(start, shape) {
         Ok(subset) => Ok(subset),
         Err(error) => Err(RunFault::Box(field, error)),
-    }
-}
-
-/// The two lists of sizes that a tree is a list of; `None` where it is none.
-fn read_pair(alloc: Global, tree: &Value) -> Result<Option<(Vec<u64>, Vec<u64>)>, AllocError>
-    ensures { IfOk result (λ o. option_map (λ pair. (pair.0.items, pair.1.items)) o
-        ≡ pair_of (list_of size_of) (view tree.now)) }
-{
-    let Some(lists) = tree.as_array() else {
-        return Ok(None);
-    };
-    let [first, second] = lists.as_slice() else {
-        return Ok(None);
-    };
-    match (
-        Vec::from_tree(alloc, first)?,
-        Vec::from_tree(alloc, second)?,
-    ) {
-        (Some(first), Some(second)) => Ok(Some((first, second))),
-        _ => Ok(None),
     }
 }

@@ -1,0 +1,17 @@
+use Rattle.std.proofs.Common.{◌≡◌, Some, inr, refl, sym}
+use Rattle.std.proofs.lemmas.List.{map-id}
+use Rattle.serde_json.specs.View.{view}
+use Rattle.zarrs_chunk_base.specs.Json.{list_of, pair_of, size_of}
+use Rattle.programs.proofs.chunkplan.boxes.read_box.Goals as goal
+
+pub returns-in-Ok : goal.returns-in-Ok
+returns-in-Ok c =
+    let lists : pair_of (list_of size_of) (view c.args.tree.now) ≡ Some (c.in-Some.start.items, c.in-Some.shape.items) =
+    sym (rw (c.in-Some.is, map-id c.in-Some.start.items, map-id c.in-Some.shape.items) at c.in_ok-start.ensures) in
+    record { lists = rw c.in-Ok.ensures.0 lists; is_box = c.in-Ok.ensures.1 }
+
+pub returns-in-Err : goal.returns-in-Err
+returns-in-Err c =
+    let lists : pair_of (list_of size_of) (view c.args.tree.now) ≡ Some (c.in-Some.start.items, c.in-Some.shape.items) =
+    sym (rw (c.in-Some.is, map-id c.in-Some.start.items, map-id c.in-Some.shape.items) at c.in_ok-start.ensures) in
+    inr (refl, c.in-Some.start.items, c.in-Some.shape.items, lists, c.in-Err.ensures)
