@@ -12,7 +12,7 @@
 //! [[0,6,51],[1,2,3]]
 //! ```
 //!
-//! It is `run_to_status` of `programs::chunkcalls`, over what the process was given.
+//! With no words it is `run_to_status` of `programs::chunkcalls`, over what the process was given; words are answered by `answer_words`.
 #![tactic(auto)]
 
 use programs::answer_words;

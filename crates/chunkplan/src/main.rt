@@ -13,7 +13,7 @@
 //! {"chunk":[1],"in_chunk":[[0],[1]],"in_subset":[[2],[1]],"key":"c/1"}
 //! ```
 //!
-//! It is `run_to_status` of `programs::chunkplan`, over what the process was given.
+//! With no words it is `run_to_status` of `programs::chunkplan`, over what the process was given; words are answered by `answer_words`.
 #![tactic(auto)]
 
 use programs::answer_words;
