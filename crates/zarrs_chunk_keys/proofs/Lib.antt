@@ -7,4 +7,3 @@ pub mod NumeralDigits
 pub mod NumeralLemmas
 pub mod OneKey
 pub mod ReadKeys
-pub mod SomeKey

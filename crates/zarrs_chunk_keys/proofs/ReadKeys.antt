@@ -1,6 +1,6 @@
 -- Keys are taken apart into numerals again.
 use Rattle.std.proofs.Common.{◌≡◌, ◌≢◌, ◌∙◌, ℕ, ◌<◌, List, [], ◌∷◌, ◌++◌, Option, Some, None, Result, Ok, Err, IfOk, Vec, codes, ap, append-nil}
-use Rattle.std.proofs.Common.{length, length-append, option_map, refl, subst, sym, arith}
+use Rattle.std.proofs.Common.{length, option_map, refl, subst, sym, arith}
 use Rattle.std.specs.declared.alloc.Global.{Global}
 use Rattle.zarrs_chunk_base.specs.declared.chunk_key_separator.ChunkKeySeparator.{ChunkKeySeparator}
 use Rattle.zarrs_chunk_base.specs.ChunkKeySeparator.{separator_byte}

@@ -30,7 +30,7 @@ pub data Encoding : Type 0 where
   suffixed_keys : ChunkKeySeparator → List ℕ → Encoding
 
 -- the key of a chunk, under an encoding
-abbrev pub IsKey : Encoding → List ℕ → List ℕ → Type 0
+unfoldable pub IsKey : Encoding → List ℕ → List ℕ → Type 0
 IsKey (default_keys separator) = IsDefaultKey separator
 IsKey (v2_keys separator) = IsV2Key separator
 IsKey (suffixed_keys separator suffix) = IsSuffixedKey separator suffix

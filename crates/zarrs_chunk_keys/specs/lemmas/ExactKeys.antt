@@ -90,6 +90,7 @@ suffixed_exact separator suffix chunk other key (suffixed {front = front} is end
 
 pub exact : (encoding : Encoding) (chunk other key : List ℕ) → length chunk ≡ length other → IsKey encoding chunk key
     → IsKey encoding other key → chunk ≡ other
+unfolding IsKey
 exact (default_keys separator) chunk other key same is also = default_exact separator chunk other key is also
 exact (v2_keys separator) chunk other key same is also = v2_exact separator chunk other key same is also
 exact (suffixed_keys separator suffix) chunk other key same is also = suffixed_exact separator suffix chunk other key is also

@@ -93,6 +93,7 @@ impl OfKind for V2ChunkKeyEncoding {
         Ok(())
     }
 
+    #[tactic(auto, unfolding(crate::specs::ChunkKey::IsKey))]
     fn read(
         &self,
         alloc: Global,

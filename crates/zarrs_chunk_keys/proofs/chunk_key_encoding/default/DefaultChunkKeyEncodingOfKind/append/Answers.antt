@@ -1,10 +1,12 @@
 use Rattle.std.proofs.Common.{◌≡◌, ◌++◌, ◌∙◌, codes, ap, append_assoc, string_bytes, subst, rules}
+use Rattle.zarrs_chunk_keys.specs.ChunkKey.{IsKey}
 use Rattle.zarrs_chunk_keys.specs.Numeral.{IsNumerals}
 use Rattle.zarrs_chunk_keys.proofs.KeyEnds.{default_has_no_slash}
 use Rattle.zarrs_chunk_keys.proofs.Keys.{is_default_key}
 use Rattle.zarrs_chunk_keys.proofs.chunk_key_encoding.default.DefaultChunkKeyEncodingOfKind.append.Goals as goal
 
 pub returns-clause-appended : goal.returns-clause-appended
+unfolding IsKey
 returns-clause-appended c =
     let (numerals, are_numerals, longer) = c.in_ok-write_numerals.ensures.appended in
     let chunk = c.args.chunk_indices.now in

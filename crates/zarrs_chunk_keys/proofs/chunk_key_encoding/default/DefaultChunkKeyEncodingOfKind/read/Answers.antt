@@ -2,13 +2,14 @@ use Rattle.std.proofs.Common.{◌≡◌, ◌∙◌, ◌++◌, Some, None, ap, co
 use Rattle.std.proofs.lemmas.Bool.Decides.{Decides-eqb}
 use Rattle.std.proofs.lemmas.Slice.Eq.{strip_prefix_is}
 use Rattle.zarrs_chunk_base.specs.ChunkKeySeparator.{separator_byte}
-use Rattle.zarrs_chunk_keys.specs.ChunkKey.{IsDefaultKey}
+use Rattle.zarrs_chunk_keys.specs.ChunkKey.{IsDefaultKey, IsKey}
 use Rattle.zarrs_chunk_keys.specs.Numeral.{IsNumerals}
 use Rattle.zarrs_chunk_keys.proofs.Keys.{is_default_key}
 use Rattle.zarrs_chunk_keys.proofs.ReadKeys.{behind_c, default_numerals, read_as}
 use Rattle.zarrs_chunk_keys.proofs.chunk_key_encoding.default.DefaultChunkKeyEncodingOfKind.read.Goals as goal
 
 pub returns-in-Some : goal.returns-in-Some
+unfolding IsKey
 returns-in-Some c =
     let separator = c.args.self.now.separator in
     let key = c.args.key.now in
@@ -22,6 +23,7 @@ returns-in-Some c =
     (λ chunk long is. behind_c separator chunk key numerals begins is) c.read_numerals.ensures
 
 pub returns-in-None : goal.returns-in-None
+unfolding IsKey
 returns-in-None c = λ chunk fit lengths is.
     let (numerals, are, begins) = default_numerals c.args.self.now.separator chunk c.args.key.now is in
     strip_prefix_is Decides-eqb c.args.key.now c.as_slice.result.now None c.in-None.ensures.cases numerals

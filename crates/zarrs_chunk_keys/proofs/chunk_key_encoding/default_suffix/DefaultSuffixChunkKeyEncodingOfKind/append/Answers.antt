@@ -1,9 +1,10 @@
 use Rattle.std.proofs.Common.{◌++◌, ◌∙◌, ap, append_assoc, refl, string_bytes}
-use Rattle.zarrs_chunk_keys.specs.ChunkKey.{IsSuffixedKey, suffixed}
+use Rattle.zarrs_chunk_keys.specs.ChunkKey.{IsKey, IsSuffixedKey, suffixed}
 use Rattle.zarrs_chunk_keys.proofs.KeyEnds.{suffixed_has_no_slash}
 use Rattle.zarrs_chunk_keys.proofs.chunk_key_encoding.default_suffix.DefaultSuffixChunkKeyEncodingOfKind.append.Goals as goal
 
 pub returns-clause-appended : goal.returns-clause-appended
+unfolding IsKey
 returns-clause-appended c =
     let (key, is_key, no_slash, begun) = c.in_ok-append.ensures.appended in
     let separator = c.args.self.now.keys.separator in

@@ -1,11 +1,12 @@
 use Rattle.std.proofs.Common.{◌≡◌, ◌∙◌, ◌++◌, Some, None, ap, sym}
 use Rattle.std.proofs.lemmas.Bool.Decides.{Decides-eqb}
 use Rattle.std.proofs.lemmas.Slice.Eq.{strip_suffix_is}
-use Rattle.zarrs_chunk_keys.specs.ChunkKey.{IsDefaultKey, IsSuffixedKey, suffixed}
+use Rattle.zarrs_chunk_keys.specs.ChunkKey.{IsDefaultKey, IsKey, IsSuffixedKey, suffixed}
 use Rattle.zarrs_chunk_keys.proofs.ReadKeys.{before_suffix, ends_in_suffix, read_as}
 use Rattle.zarrs_chunk_keys.proofs.chunk_key_encoding.default_suffix.DefaultSuffixChunkKeyEncodingOfKind.read.Goals as goal
 
 pub returns-in-Some : goal.returns-in-Some
+unfolding IsKey
 returns-in-Some c =
     let separator = c.args.self.now.keys.separator in
     let suffix = c.args.self.now.suffix in
@@ -19,6 +20,7 @@ returns-in-Some c =
     (λ chunk long is. suffixed is ends) (λ chunk long is. before_suffix separator suffix chunk key front ends is) c.read.ensures
 
 pub returns-in-None : goal.returns-in-None
+unfolding IsKey
 returns-in-None c = λ chunk fit lengths is.
     let (front, ends) = ends_in_suffix c.args.self.now.keys.separator c.args.self.now.suffix chunk c.args.key.now is in
     strip_suffix_is Decides-eqb c.args.key.now c.as_bytes.result.now None c.in-None.ensures.cases front

@@ -1,12 +1,13 @@
 use Rattle.std.proofs.Common.{◌≡◌, ◌<◌, ◌++◌, ◌∙◌, codes, length, refl, string_bytes, subst, sym, rules, arith}
 use Rattle.std.proofs.lemmas.Bool.{eqb-false, eqb-true}
-use Rattle.zarrs_chunk_keys.specs.ChunkKey.{IsV2Key, zero_alone}
+use Rattle.zarrs_chunk_keys.specs.ChunkKey.{IsKey, IsV2Key, zero_alone}
 use Rattle.zarrs_chunk_keys.specs.Numeral.{AreJoined}
 use Rattle.zarrs_chunk_keys.proofs.KeyEnds.{v2_has_no_slash}
 use Rattle.zarrs_chunk_keys.proofs.ReadKeys.{empty, v2_of_joined}
 use Rattle.zarrs_chunk_keys.proofs.chunk_key_encoding.v2.V2ChunkKeyEncodingOfKind.append.Goals as goal
 
 pub returns-then-is_empty-clause-appended : goal.returns-then-is_empty-clause-appended
+unfolding IsKey
 returns-then-is_empty-clause-appended c =
     let separator = c.args.self.now.separator in
     let chunk = c.args.chunk_indices.now in
@@ -16,6 +17,7 @@ returns-then-is_empty-clause-appended c =
     (codes "0", is_key, v2_has_no_slash separator chunk (codes "0") is_key, longer)
 
 pub returns-clause-appended : goal.returns-clause-appended
+unfolding IsKey
 returns-clause-appended c =
     let (key, are_joined, longer) = c.in_ok-write_joined.ensures.appended in
     let separator = c.args.self.now.separator in
