@@ -1,5 +1,5 @@
 -- Where a chunk starts, and how long it is, in two steps.
-use Rattle.std.proofs.Common.{ℕ, ◌+◌, ◌<◌, IsTrue, arith}
+use Rattle.std.proofs.Common.{ℕ, ◌+◌, ◌<◌, arith}
 use Rattle.zarrs_chunk_base.specs.Dimension.{Dimension, HasEdge, StartsAt}
 use Rattle.zarrs_chunk_base.specs.Greatest.{greatest}
 use Rattle.zarrs_chunk_axes.specs.LookUp.{HasRange}

@@ -1,16 +1,13 @@
 -- What running sums tell of the edges that runs stand for.
 use Rattle.std.proofs.Common.{◌≡◌, ℕ, zero, suc, ◌+◌, ◌<◌, ◌≤◌, List, [], ◌∷◌, ◌++◌, length, map, take, get_or, refl, sym, ap, ◌∙◌, append_assoc}
-use Rattle.std.proofs.Common.{⊎_elim, ltb-true, lt-ltb, arith}
+use Rattle.std.proofs.Common.{arith}
 use Rattle.std.specs.List.{sum}
 use Rattle.std.specs.List.Sorted.{IsNonDecreasingBy}
-use Rattle.std.proofs.lemmas.Bool.{cases_lt}
 use Rattle.std.proofs.lemmas.List.{take-map, length-append, length-map, length-replicate}
 use Rattle.std.proofs.lemmas.List.Sums.{sum_by-append, sum_by-cons}
 use Rattle.std.proofs.lemmas.List.Folds.{sum_by-replicate}
 use Rattle.zarrs_chunk_runs.specs.Runs.{edges_of_run, edges_of_runs}
-use Rattle.zarrs_chunk_runs.specs.lemmas.Running.{IsFirstAbove, running, size_of, count_of_run, ends_of, chunk_ends_of}
-use Rattle.zarrs_chunk_runs.specs.Search.{IsFirstTrue, StaysTrue}
-use Rattle.zarrs_chunk_runs.specs.seen.RunningSums.{compared}
+use Rattle.zarrs_chunk_runs.specs.lemmas.Running.{running, size_of, count_of_run, ends_of, chunk_ends_of}
 
 -- the sum of the edges is that of the runs' sizes
 pub sum_of_edges : (runs : List (ℕ × ℕ)) → sum (edges_of_runs runs) ≡ sum (map size_of runs)
