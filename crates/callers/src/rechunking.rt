@@ -2,7 +2,7 @@
 use std::alloc::Global;
 use zarrs_chunk_base::Refusal;
 use zarrs_chunk_keys::ChunkKeyEncodingTraits;
-use zarrs_chunk_plan::{ChunkCopies, CopiesError, all_chunks, copies};
+use zarrs_chunk_plan::{ChunkCopies, CopiesError, StoredArray, all_chunks, copies};
 use zarrs_chunks::ChunkGridTraits;
 
 /// The greatest number of chunks of the source that one chunk of the target is copied from.
@@ -13,21 +13,12 @@ pub fn most_sources<
     F: ChunkKeyEncodingTraits,
 >(
     alloc: Global,
-    source: &G,
-    source_encoding: &E,
-    target: &H,
-    target_encoding: &F,
+    source: &StoredArray<G, E>,
+    target: &StoredArray<H, F>,
 ) -> Result<u64, Refusal<CopiesError>> {
-    let all = all_chunks(alloc, target)?;
+    let all = all_chunks(alloc, &target.grid)?;
     let mut most = 0u64;
-    for group in copies(
-        alloc,
-        source,
-        source_encoding,
-        target,
-        target_encoding,
-        &all,
-    )? {
+    for group in copies(alloc, source, target, &all)? {
         let ChunkCopies { to: _, from } = group?;
         let mut count = 0u64;
         for part in from {

@@ -9,6 +9,7 @@ ghost use Rattle.programs.specs.declared.stored.CreateFault.TheVariants.{Memory}
 use std::alloc::Global;
 use zarrs_chunk_base::{MetadataV3, PluginCreateError, Refusal};
 use zarrs_chunk_keys::ChunkKeyEncoding;
+use zarrs_chunk_plan::StoredArray;
 use zarrs_chunks::ChunkGrid;
 
 /// The metadata of an array's chunk grid and of its chunk key encoding.
@@ -39,10 +40,11 @@ impl Stored {
         self,
         alloc: Global,
         shape: &[u64],
-    ) -> Result<(ChunkGrid, ChunkKeyEncoding), CreateFault>
-        ensures made { IfOk result (λ made. IsStored (stored_of self) shape.now (grid_in made.0)
-            (encoding_in made.1)) }
-        ensures sizes { IfOk result (λ made. array_sizes (grid_in made.0).dimensions ≡ shape.now) }
+    ) -> Result<StoredArray<ChunkGrid, ChunkKeyEncoding>, CreateFault>
+        ensures made { IfOk result (λ made. IsStored (stored_of self) shape.now
+            (grid_in made.grid) (encoding_in made.encoding)) }
+        ensures sizes { IfOk result (λ made. array_sizes (grid_in made.grid).dimensions
+            ≡ shape.now) }
         ensures refused { IfErr result (λ fault. (fault ≡ Memory)
             ⊎ IsCreateFault (stored_of self) shape.now fault) }
     {
@@ -52,7 +54,7 @@ impl Stored {
             Err(Refusal::Memory(_)) => return Err(CreateFault::Memory),
         };
         match ChunkKeyEncoding::from_metadata(alloc, &self.chunk_key_encoding) {
-            Ok(encoding) => Ok((grid, encoding)),
+            Ok(encoding) => Ok(StoredArray { grid, encoding }),
             Err(Refusal::Refused(error)) => Err(CreateFault::Encoding(error)),
             Err(Refusal::Memory(_)) => Err(CreateFault::Memory),
         }

@@ -9,16 +9,17 @@ use Rattle.zarrs_chunk_plan.specs.Rechunking.{AreCopiesInto, AreTargets, Group, 
 use Rattle.zarrs_chunk_plan.specs.declared.chunk_copies.ChunkCopies.{ChunkCopies}
 use Rattle.zarrs_chunk_plan.specs.declared.chunk_copies.Copies.{Copies}
 use Rattle.zarrs_chunk_plan.specs.declared.part.Part.{Part}
+use Rattle.zarrs_chunk_plan.specs.declared.stored_array.StoredArray.{StoredArray}
 use Rattle.zarrs_chunk_plan.specs.declared.walk.Parts.{Parts}
-use Rattle.zarrs_chunk_plan.specs.seen.Copies.{AreGroupsToCome, CanCopy, GivesCopies, IsAboutCopies, IsPlanned, targets_to_come}
+use Rattle.zarrs_chunk_plan.specs.seen.Copies.{AreGroupsToCome, CanCopy, GivesCopies, IsAboutCopies, IsPlanned, target_of, targets_to_come}
 use Rattle.zarrs_chunk_plan.specs.seen.Parts.{ArePartsToCome, GivesPart, IsAbout, chunks_to_come}
 use Rattle.zarrs_chunk_plan.proofs.Plans.{not_empty}
 use Rattle.zarrs_chunk_plan.proofs.Walked.{one_came, plan_of}
 
 module _ {G E H F : Type 0} (source_dimensions : G → List Dimension) (target_dimensions : H → List Dimension) where
-  pub can_copy : (source : G) (target : H) (encoding : F) (walk : Copies G E H F) (targets : Parts H F) (wanted : Box) → walk.source.now ≡ source
+  pub can_copy : (source : StoredArray G E) (target : H) (encoding : F) (walk : Copies G E H F) (targets : Parts H F) (wanted : Box) → walk.source.now ≡ source
       → walk.targets ≡ targets → IsAbout target encoding (array_box (target_dimensions target)) targets → chunks_to_come targets ≡ chunks_in wanted
-      → array_sizes (source_dimensions source) ≡ array_sizes (target_dimensions target)
+      → array_sizes (source_dimensions source.grid) ≡ array_sizes (target_dimensions target)
       → AllByRecursion (Meets (target_dimensions target) (array_box (target_dimensions target))) (chunks_in wanted)
       → CanCopy source_dimensions target_dimensions walk
   can_copy source target encoding walk targets wanted same_source same_targets about left one meet = record {
@@ -37,16 +38,15 @@ module _ {G E H F : Type 0} (source_dimensions : G → List Dimension) (target_d
 
     pub gives_copies : (from : Parts G E)
         → (CanCopy source_dimensions target_dimensions before
-        → IsPlanned source_dimensions before.source.now before.source_encoding.now to.in_subset from)
+        → IsPlanned source_dimensions before.source.now.grid before.source.now.encoding to.in_subset from)
         → (after : Copies G E H F) → after.targets ≡ targets → after.source.now ≡ before.source.now
-        → after.source_encoding.now ≡ before.source_encoding.now
         → GivesCopies source_dimensions target_dimensions target_key before (Some (Ok (record { to = to; from = from }))) after
-    gives_copies from planned after same_targets same_source same_encoding =
+    gives_copies from planned after same_targets same_source =
         let about = steps.about in record {
           gives = rw same_targets steps.gives;
           to = λ can. steps.part can.meet;
           from = planned;
-          about = record { same_source = same_source; same_source_encoding = same_encoding; targets = rw same_targets about };
+          about = record { same_source = same_source; targets = rw same_targets about };
           can = λ can. record {
             one_array = rw (same_source, same_targets, about.same_grid) can.one_array;
             whole_array = rw (same_targets, about.same_subset, about.same_grid) can.whole_array;
@@ -60,13 +60,13 @@ module _ {G E H F : Type 0} (source_dimensions : G → List Dimension) (source_k
     (target_dimensions : H → List Dimension) (target_key : F → List ℕ → List ℕ → Type 0) (begin : Copies G E H F) where
   abbrev pub IsGroupOf : List ℕ → Group → Type 0
   IsGroupOf =
-      AreCopiesInto (source_dimensions begin.source.now) (source_key begin.source_encoding.now) (target_dimensions begin.targets.grid.now)
+      AreCopiesInto (source_dimensions begin.source.now.grid) (source_key begin.source.now.encoding) (target_dimensions begin.targets.grid.now)
       (target_key begin.targets.encoding.now)
 
   -- these chunks came, of which these are the groups
   abbrev pub GroupsHaveCome : Copies G E H F → List Group → Type 0
   GroupsHaveCome now groups = (came : List (List ℕ)) × (targets_to_come begin ≡ came ++ targets_to_come now) × AllZip IsGroupOf came groups
-      × IsAboutCopies begin.source.now begin.source_encoding.now begin.targets.grid.now begin.targets.encoding.now begin.targets.array_subset now
+      × IsAboutCopies begin.source.now (target_of begin) begin.targets.array_subset now
       × CanCopy source_dimensions target_dimensions now
 
   pub first_group : (now : Copies G E H F) (groups : List Group) → now ≡ begin → groups ≡ [] → CanCopy source_dimensions target_dimensions begin
@@ -75,7 +75,7 @@ module _ {G E H F : Type 0} (source_dimensions : G → List Dimension) (source_k
       let targets : IsAbout begin.targets.grid.now begin.targets.encoding.now begin.targets.array_subset begin.targets =
       record { same_grid = refl; same_encoding = refl; same_subset = refl }
       in
-      rw (same, none) ([], refl, tt, record { same_source = refl; same_source_encoding = refl; targets = targets }, can)
+      rw (same, none) ([], refl, tt, record { same_source = refl; targets = targets }, can)
 
   pub one_more_group : (before after : Copies G E H F) (group : ChunkCopies G E) (from : List Part) (groups more : List Group)
       → GroupsHaveCome before groups → GivesCopies source_dimensions target_dimensions target_key before (Some (Ok group)) after
@@ -83,22 +83,22 @@ module _ {G E H F : Type 0} (source_dimensions : G → List Dimension) (source_k
   one_more_group before after group from groups more (came, left, are, about, can) gives parts is =
       let planned = gives.from can in
       let chunk = group.to.chunk.items in
-      let source = source_dimensions before.source.now in
-      let source_is_key = source_key before.source_encoding.now in
+      let source = source_dimensions before.source.now.grid in
+      let source_is_key = source_key before.source.now.encoding in
       let target = target_dimensions before.targets.grid.now in
       let target_is_key = target_key before.targets.encoding.now in
       let into : AreCopiesInto source source_is_key target target_is_key chunk (group.to, from) = record {
         to = subst (λ b. IsPart target target_is_key b chunk group.to) can.whole_array (gives.to can);
-        from = plan_of source_dimensions source_key before.source.now before.source_encoding.now group.to.in_subset planned.cover group.from from
+        from = plan_of source_dimensions source_key before.source.now.grid before.source.now.encoding group.to.in_subset planned.cover group.from from
             planned.about planned.is_cover planned.left parts;
       }
       in
       let targets = about.targets in
       let (now_came, all, now_are) = one_came IsGroupOf (targets_to_come begin) came (targets_to_come before) (targets_to_come after) chunk
       (group.to, from) groups more left gives.gives are
-      (rw (← about.same_source, ← about.same_source_encoding, ← targets.same_grid, ← targets.same_encoding) into) is
+      (rw (← about.same_source, ← targets.same_grid, ← targets.same_encoding) into) is
       in
-      let still = rw (about.same_source, about.same_source_encoding, targets.same_grid, targets.same_encoding, targets.same_subset) at gives.about in
+      let still = rw (about.same_source, targets.same_grid, targets.same_encoding, targets.same_subset) at gives.about in
       (now_came, all, now_are, still, gives.can can)
 
   pub last_group : (before after : Copies G E H F) (groups : List Group) → GroupsHaveCome before groups
@@ -109,16 +109,16 @@ module _ {G E H F : Type 0} (source_dimensions : G → List Dimension) (source_k
 
 -- the groups of all chunks that were to come are a rechunking
 pub rechunking_of : {G E H F : Type 0} (source_dimensions : G → List Dimension) (source_key : E → List ℕ → List ℕ → Type 0)
-    (target_dimensions : H → List Dimension) (target_key : F → List ℕ → List ℕ → Type 0) (source : G) (source_encoding : E)
-    (target : H) (target_encoding : F) (array chunks targets : Box) (walk : Copies G E H F) (groups : List Group)
-    → IsAboutCopies source source_encoding target target_encoding array walk → IsBox targets
-    → AreTargets (target_dimensions target) chunks targets → targets_to_come walk ≡ chunks_in targets
+    (target_dimensions : H → List Dimension) (target_key : F → List ℕ → List ℕ → Type 0) (source : StoredArray G E)
+    (target : StoredArray H F) (array chunks targets : Box) (walk : Copies G E H F) (groups : List Group)
+    → IsAboutCopies source target array walk → IsBox targets
+    → AreTargets (target_dimensions target.grid) chunks targets → targets_to_come walk ≡ chunks_in targets
     → AreGroupsToCome source_dimensions source_key target_dimensions target_key walk groups
-    → IsRechunking (source_dimensions source) (source_key source_encoding) (target_dimensions target) (target_key target_encoding) chunks groups
-rechunking_of source_dimensions source_key target_dimensions target_key source source_encoding target target_encoding array chunks targets walk
+    → IsRechunking (source_dimensions source.grid) (source_key source.encoding) (target_dimensions target.grid) (target_key target.encoding) chunks groups
+rechunking_of source_dimensions source_key target_dimensions target_key source target array chunks targets walk
     groups about is_box are left come = record {
       targets = targets;
       is_box = is_box;
       are_targets = are;
-      are_groups = rw (← left, ← about.same_source, ← about.same_source_encoding, ← about.targets.same_grid, ← about.targets.same_encoding) come;
+      are_groups = rw (← left, ← about.same_source, ← about.targets.same_grid, ← about.targets.same_encoding) come;
     }

@@ -2,6 +2,7 @@
 use crate::part::Part;
 use crate::plan::parts;
 use crate::shared::expect_answer;
+use crate::stored_array::StoredArray;
 use crate::walk::Parts;
 use std::alloc::{AllocError, Global};
 use zarrs_chunk_keys::ChunkKeyEncodingTraits;
@@ -22,8 +23,7 @@ pub struct ChunkCopies<'a, G, E> {
 #[derive(Debug, Drop)]
 pub struct Copies<'a, G, E, H, F> {
     alloc: Global,
-    source: &'a G,
-    source_encoding: &'a E,
+    source: &'a StoredArray<G, E>,
     targets: Parts<'a, H, F>,
 }
 
@@ -33,18 +33,15 @@ impl<'a, G, E, H, F> Copies<'a, G, E, H, F> {
     /// A walk over what is copied into the chunks of the target that a walk over the whole array gives.
     pub(crate) fn new(
         alloc: Global,
-        source: &'a G,
-        source_encoding: &'a E,
+        source: &'a StoredArray<G, E>,
         targets: Parts<'a, H, F>,
     ) -> Copies<'a, G, E, H, F>
         ensures targets { result.targets ≡ targets.entry }
         ensures same_source { result.source.now ≡ source.now }
-        ensures same_encoding { result.source_encoding.now ≡ source_encoding.now }
     {
         Copies {
             alloc,
             source,
-            source_encoding,
             targets,
         }
     }
@@ -71,7 +68,8 @@ impl<
             Ok(to) => to,
             Err(error) => return Some(Err(error)),
         };
-        let from = parts(self.alloc, self.source, self.source_encoding, &to.in_subset);
+        let StoredArray { grid, encoding } = self.source;
+        let from = parts(self.alloc, grid, encoding, &to.in_subset);
         match expect_answer(from) {
             Ok(from) => Some(Ok(ChunkCopies { to, from })),
             Err(error) => {

@@ -20,7 +20,7 @@ ghost use Rattle.zarrs_chunk_plan.specs.Rechunking.{Group, IsRechunking, Moves, 
 ghost use Rattle.zarrs_chunk_plan.specs.seen.Copies.{AreGroupsToCome, CanCopy, IsCopiesFault, groups_of};
 ghost use Rattle.zarrs_chunk_plan.specs.seen.Parts.{ArePartsToCome, MeetSubset};
 
-use crate::{Copies, CopiesError, Part, Parts, copies, parts};
+use crate::{Copies, CopiesError, Part, Parts, StoredArray, copies, parts};
 use std::alloc::{AllocError, Global};
 use zarrs_chunk_base::{ArraySubset, IncompatibleDimensionalityError, Refusal};
 use zarrs_chunk_keys::ChunkKeyEncodingTraits;
@@ -136,35 +136,26 @@ pub fn the_walk_gives_the_rechunking<
     F: ChunkKeyEncodingTraits,
 >(
     alloc: Global,
-    source: &G,
-    source_encoding: &E,
-    target: &H,
-    target_encoding: &F,
+    source: &StoredArray<G, E>,
+    target: &StoredArray<H, F>,
     chunks: &ArraySubset,
 ) -> Result<Vec<(Part, Vec<Part>)>, Refusal<CopiesError>>
-    ensures rechunking { IfOk result (λ all. IsRechunking (G.dimensions source.now)
-        (E.is_key source_encoding.now) (H.dimensions target.now) (F.is_key target_encoding.now)
+    ensures rechunking { IfOk result (λ all. IsRechunking (G.dimensions source.now.grid)
+        (E.is_key source.now.encoding) (H.dimensions target.now.grid) (F.is_key target.now.encoding)
         chunks.now (groups_of all.items)) }
-    ensures one_array { IfOk result (λ _. array_sizes (G.dimensions source.now)
-        ≡ array_sizes (H.dimensions target.now)) }
+    ensures one_array { IfOk result (λ _. array_sizes (G.dimensions source.now.grid)
+        ≡ array_sizes (H.dimensions target.now.grid)) }
     ensures lengths { IfOk result (λ _. length chunks.now.start
-        ≡ length (H.dimensions target.now)) }
+        ≡ length (H.dimensions target.now.grid)) }
     ensures refused { IfErr result (OrMemory (IsCopiesFault
-        (array_sizes (G.dimensions source.now)) (array_sizes (H.dimensions target.now))
-        (length chunks.now.start) (length (H.dimensions target.now)))) }
-    ensures shapes_first { array_sizes (G.dimensions source.now)
-        ≢ array_sizes (H.dimensions target.now) → HasMemory result }
-    ensures lengths_first { length chunks.now.start ≢ length (H.dimensions target.now)
+        (array_sizes (G.dimensions source.now.grid)) (array_sizes (H.dimensions target.now.grid))
+        (length chunks.now.start) (length (H.dimensions target.now.grid)))) }
+    ensures shapes_first { array_sizes (G.dimensions source.now.grid)
+        ≢ array_sizes (H.dimensions target.now.grid) → HasMemory result }
+    ensures lengths_first { length chunks.now.start ≢ length (H.dimensions target.now.grid)
         → HasMemory result }
 {
-    let walk = copies(
-        alloc,
-        source,
-        source_encoding,
-        target,
-        target_encoding,
-        chunks,
-    )?;
+    let walk = copies(alloc, source, target, chunks)?;
     Ok(all_groups(alloc, walk)?)
 }
 
@@ -199,37 +190,37 @@ pub fn each_element_is_copied_once<
     E: ChunkKeyEncodingTraits,
     H: ChunkGridTraits,
     F: ChunkKeyEncodingTraits,
->(source: &G, source_encoding: &E, target: &H, target_encoding: &F)
-    ensures one { (chunks : Box) (groups : List Group) → IsRechunking (G.dimensions source.now)
-        (E.is_key source_encoding.now) (H.dimensions target.now) (F.is_key target_encoding.now)
+>(source: &StoredArray<G, E>, target: &StoredArray<H, F>)
+    ensures one { (chunks : Box) (groups : List Group) → IsRechunking (G.dimensions source.now.grid)
+        (E.is_key source.now.encoding) (H.dimensions target.now.grid) (F.is_key target.now.encoding)
         chunks groups → (index chunk : List ℕ)
-        → AreBelow (array_sizes (H.dimensions target.now)) index
-        → InBox (H.dimensions target.now) chunk index → IsInside chunks chunk
+        → AreBelow (array_sizes (H.dimensions target.now.grid)) index
+        → InBox (H.dimensions target.now.grid) chunk index → IsInside chunks chunk
         → (copy : Part × Part) × Contains (copies_of groups) copy × ((steps : List ℕ)
-        × Moves (G.dimensions source.now) (H.dimensions target.now) copy steps index) }
+        × Moves (G.dimensions source.now.grid) (H.dimensions target.now.grid) copy steps index) }
     ensures no_other { (chunks : Box) (groups : List Group)
-        → IsRechunking (G.dimensions source.now)
-        (E.is_key source_encoding.now) (H.dimensions target.now) (F.is_key target_encoding.now)
+        → IsRechunking (G.dimensions source.now.grid)
+        (E.is_key source.now.encoding) (H.dimensions target.now.grid) (F.is_key target.now.encoding)
         chunks groups → AllPairs (λ copy other. (steps also index : List ℕ)
-        → Moves (G.dimensions source.now) (H.dimensions target.now) copy steps index
-        → Moves (G.dimensions source.now) (H.dimensions target.now) other also index → ⊥)
+        → Moves (G.dimensions source.now.grid) (H.dimensions target.now.grid) copy steps index
+        → Moves (G.dimensions source.now.grid) (H.dimensions target.now.grid) other also index → ⊥)
         (copies_of groups) }
     ensures nothing_else { (chunks : Box) (groups : List Group)
-        → IsRechunking (G.dimensions source.now)
-        (E.is_key source_encoding.now) (H.dimensions target.now) (F.is_key target_encoding.now)
+        → IsRechunking (G.dimensions source.now.grid)
+        (E.is_key source.now.encoding) (H.dimensions target.now.grid) (F.is_key target.now.encoding)
         chunks groups → (copy : Part × Part) → Contains (copies_of groups) copy
         → (steps : List ℕ) → AreBelow copy.0.in_chunk.shape steps → (index : List ℕ)
-        × AreBelow (array_sizes (H.dimensions target.now)) index
-        × Moves (G.dimensions source.now) (H.dimensions target.now) copy steps index }
-    ensures keys { (chunks : Box) (groups : List Group) → IsRechunking (G.dimensions source.now)
-        (E.is_key source_encoding.now) (H.dimensions target.now) (F.is_key target_encoding.now)
+        × AreBelow (array_sizes (H.dimensions target.now.grid)) index
+        × Moves (G.dimensions source.now.grid) (H.dimensions target.now.grid) copy steps index }
+    ensures keys { (chunks : Box) (groups : List Group) → IsRechunking (G.dimensions source.now.grid)
+        (E.is_key source.now.encoding) (H.dimensions target.now.grid) (F.is_key target.now.encoding)
         chunks groups → (copy : Part × Part) → Contains (copies_of groups) copy
-        → E.is_key source_encoding.now copy.0.chunk.items copy.0.key
-        × F.is_key target_encoding.now copy.1.chunk.items copy.1.key
+        → E.is_key source.now.encoding copy.0.chunk.items copy.0.key
+        × F.is_key target.now.encoding copy.1.chunk.items copy.1.key
         × IsInside chunks copy.1.chunk.items }
     ensures one_shape { (chunks : Box) (groups : List Group)
-        → IsRechunking (G.dimensions source.now)
-        (E.is_key source_encoding.now) (H.dimensions target.now) (F.is_key target_encoding.now)
+        → IsRechunking (G.dimensions source.now.grid)
+        (E.is_key source.now.encoding) (H.dimensions target.now.grid) (F.is_key target.now.encoding)
         chunks groups → (copy : Part × Part) → Contains (copies_of groups) copy
         → copy.0.in_chunk.shape ≡ copy.0.in_subset.shape }
 {}
@@ -241,20 +232,20 @@ pub fn rechunkings_that_share_out_are_the_whole_one<
     E: ChunkKeyEncodingTraits,
     H: ChunkGridTraits,
     F: ChunkKeyEncodingTraits,
->(source: &G, source_encoding: &E, target: &H, target_encoding: &F)
+>(source: &StoredArray<G, E>, target: &StoredArray<H, F>)
     ensures one { (boxes : List Box) (plans : List (List Group))
-        → ShareOut (H.dimensions target.now) boxes → AllZip
-        (IsRechunking (G.dimensions source.now) (E.is_key source_encoding.now)
-        (H.dimensions target.now) (F.is_key target_encoding.now)) boxes plans
-        → (index : List ℕ) → AreBelow (array_sizes (H.dimensions target.now)) index
+        → ShareOut (H.dimensions target.now.grid) boxes → AllZip
+        (IsRechunking (G.dimensions source.now.grid) (E.is_key source.now.encoding)
+        (H.dimensions target.now.grid) (F.is_key target.now.encoding)) boxes plans
+        → (index : List ℕ) → AreBelow (array_sizes (H.dimensions target.now.grid)) index
         → (copy : Part × Part) × Contains (flat_map copies_of plans) copy × ((steps : List ℕ)
-        × Moves (G.dimensions source.now) (H.dimensions target.now) copy steps index) }
+        × Moves (G.dimensions source.now.grid) (H.dimensions target.now.grid) copy steps index) }
     ensures no_other { (boxes : List Box) (plans : List (List Group))
-        → ShareOut (H.dimensions target.now) boxes → AllZip
-        (IsRechunking (G.dimensions source.now) (E.is_key source_encoding.now)
-        (H.dimensions target.now) (F.is_key target_encoding.now)) boxes plans
+        → ShareOut (H.dimensions target.now.grid) boxes → AllZip
+        (IsRechunking (G.dimensions source.now.grid) (E.is_key source.now.encoding)
+        (H.dimensions target.now.grid) (F.is_key target.now.encoding)) boxes plans
         → AllPairs (λ copy other. (steps also index : List ℕ)
-        → Moves (G.dimensions source.now) (H.dimensions target.now) copy steps index
-        → Moves (G.dimensions source.now) (H.dimensions target.now) other also index → ⊥)
+        → Moves (G.dimensions source.now.grid) (H.dimensions target.now.grid) copy steps index
+        → Moves (G.dimensions source.now.grid) (H.dimensions target.now.grid) other also index → ⊥)
         (flat_map copies_of plans) }
 {}

@@ -1,7 +1,7 @@
 //! Plans: which parts of which chunks a box of elements is made of, and what a rechunking copies from which chunk to which.
 //!
 //! [`parts`] takes a grid, an encoding and a box of elements, and gives a part for each chunk that holds some of the box, one after
-//! another. [`copies`] takes two grids of one array, each with an encoding, and gives for each chunk of the target the parts of the source's chunks
+//! another. [`copies`] takes an array as it is stored and as it is to be stored, and gives for each chunk of the target the parts of the source's chunks
 //! that have its elements. Both ask grids and encodings by their traits alone, so these may be of other crates. `CALLING.md` has callers.
 //!
 //! ```text
@@ -19,6 +19,7 @@
 //! | `walk` | the walk over the parts |
 //! | `numbered_parts` | `some_parts`: some of the parts of that plan, from any one on |
 //! | `numbered_chunks` | the chunks in a box of chunk numbers, by their number; `some_chunks`: those from any one on |
+//! | `stored_array` | an array as it is stored: a grid and an encoding |
 //! | `rechunking` | `copies`: the plan of a rechunking |
 //! | `chunk_copies` | the walk over what a rechunking copies, a chunk of the target after another |
 //! | `copies_error` | why a rechunking can't be planned |
@@ -39,6 +40,7 @@ mod part;
 mod plan;
 mod rechunking;
 mod shared;
+mod stored_array;
 mod walk;
 
 pub use boxes_from_zero::{all_chunks, whole_array};
@@ -49,4 +51,5 @@ pub use numbered_parts::{SomeParts, some_parts};
 pub use part::Part;
 pub use plan::parts;
 pub use rechunking::copies;
+pub use stored_array::StoredArray;
 pub use walk::Parts;

@@ -13,6 +13,7 @@ use crate::chunk_copies::Copies;
 use crate::copies_error::CopiesError;
 use crate::overlap::overlap;
 use crate::shared::expect_answer;
+use crate::stored_array::StoredArray;
 use crate::walk::Parts;
 use std::alloc::{AllocError, Global};
 use zarrs_chunk_base::{ArraySubset, IncompatibleDimensionalityError, Refusal};
@@ -36,45 +37,44 @@ pub fn copies<
     F: ChunkKeyEncodingTraits,
 >(
     alloc: Global,
-    source: &'a G,
-    source_encoding: &'a E,
-    target: &'a H,
-    target_encoding: &'a F,
+    source: &'a StoredArray<G, E>,
+    target: &'a StoredArray<H, F>,
     chunks: &ArraySubset,
 ) -> Result<Copies<'a, G, E, H, F>, Refusal<CopiesError>>
     ensures targets { IfOk result (λ walk. (targets : Box) × IsBox targets
-        × AreTargets (H.dimensions target.now) chunks.now targets
+        × AreTargets (H.dimensions target.now.grid) chunks.now targets
         × (targets_to_come walk ≡ chunks_in targets)) }
-    ensures about { IfOk result (IsAboutCopies source.now source_encoding.now target.now
-        target_encoding.now (array_box (H.dimensions target.now))) }
+    ensures about { IfOk result (IsAboutCopies source.now target.now
+        (array_box (H.dimensions target.now.grid))) }
     ensures can_copy { IfOk result (CanCopy G.dimensions H.dimensions) }
-    ensures is_box { IfOk result (λ _. IsBox (array_box (H.dimensions target.now))) }
-    ensures one_array { IfOk result (λ _. array_sizes (G.dimensions source.now)
-        ≡ array_sizes (H.dimensions target.now)) }
+    ensures is_box { IfOk result (λ _. IsBox (array_box (H.dimensions target.now.grid))) }
+    ensures one_array { IfOk result (λ _. array_sizes (G.dimensions source.now.grid)
+        ≡ array_sizes (H.dimensions target.now.grid)) }
     ensures lengths { IfOk result (λ _. length chunks.now.start
-        ≡ length (H.dimensions target.now)) }
+        ≡ length (H.dimensions target.now.grid)) }
     ensures refused { IfErr result (OrMemory (IsCopiesFault
-        (array_sizes (G.dimensions source.now)) (array_sizes (H.dimensions target.now))
-        (length chunks.now.start) (length (H.dimensions target.now)))) }
-    ensures shapes_first { array_sizes (G.dimensions source.now)
-        ≢ array_sizes (H.dimensions target.now) → HasMemory result }
-    ensures lengths_first { length chunks.now.start ≢ length (H.dimensions target.now)
+        (array_sizes (G.dimensions source.now.grid)) (array_sizes (H.dimensions target.now.grid))
+        (length chunks.now.start) (length (H.dimensions target.now.grid)))) }
+    ensures shapes_first { array_sizes (G.dimensions source.now.grid)
+        ≢ array_sizes (H.dimensions target.now.grid) → HasMemory result }
+    ensures lengths_first { length chunks.now.start ≢ length (H.dimensions target.now.grid)
         → HasMemory result }
 {
-    if !are_of_one_array(source, target) {
+    let grid = &target.grid;
+    if !are_of_one_array(&source.grid, grid) {
         return Err(Refusal::Refused(CopiesError::ArrayShapes));
     }
-    if chunks.dimensionality() != target.dimensionality() {
+    if chunks.dimensionality() != grid.dimensionality() {
         return Err(Refusal::Refused(CopiesError::Chunks(IncompatibleDimensionalityError::new(
             chunks.dimensionality(),
-            target.dimensionality(),
+            grid.dimensionality(),
         ))));
     }
-    let array = whole_array(alloc, target)?;
-    let written = chunks_of_array(alloc, target, &array)?;
+    let array = whole_array(alloc, grid)?;
+    let written = chunks_of_array(alloc, grid, &array)?;
     let wanted = overlap(alloc, &written, chunks)?;
-    let targets = Parts::new(alloc, target, target_encoding, array, wanted)?;
-    Ok(Copies::new(alloc, source, source_encoding, targets))
+    let targets = Parts::new(alloc, grid, &target.encoding, array, wanted)?;
+    Ok(Copies::new(alloc, source, targets))
 }
 
 /// Whether two grids are of arrays of one shape.

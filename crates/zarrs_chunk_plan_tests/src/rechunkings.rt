@@ -9,7 +9,7 @@ use zarrs_chunk_plan::laws::{
     each_element_is_copied_once, rechunkings_that_share_out_are_the_whole_one,
     the_walk_gives_the_rechunking,
 };
-use zarrs_chunk_plan::{CopiesError, Part, all_chunks, copies, whole_array};
+use zarrs_chunk_plan::{CopiesError, Part, StoredArray, all_chunks, copies, whole_array};
 use zarrs_chunks::RegularChunkGrid;
 
 const COPIES: &str = "\
@@ -30,27 +30,34 @@ const COPIES_OF_TWO_ROWS: &str = "\
 11 01 01 10 11
 ";
 
+/// An array in a regular grid, under default keys with slashes.
+type Stored = StoredArray<RegularChunkGrid, DefaultChunkKeyEncoding>;
+
+/// The array that is stored in a grid.
+fn stored_in(grid: RegularChunkGrid) -> Stored {
+    StoredArray {
+        grid,
+        encoding: DefaultChunkKeyEncoding::new_slash(),
+    }
+}
+
 /// Two rows of five elements: the first and the last of so many dimensions, in chunks of so many rows and elements.
-fn two_rows(
-    alloc: Global,
-    dimensions: usize,
-    rows: u64,
-    edge: u64,
-) -> Result<RegularChunkGrid, Fail> {
+fn two_rows(alloc: Global, dimensions: usize, rows: u64, edge: u64) -> Result<Stored, Fail> {
     let mut array_shape = vec![in alloc; 1; dimensions]?;
     let mut chunk_shape = vec![in alloc; NonZeroU64::MIN; dimensions]?;
     *array_shape.first_mut().ok_or("no dimension")? = 2;
     *array_shape.last_mut().ok_or("no dimension")? = 5;
     *chunk_shape.first_mut().ok_or("no dimension")? = NonZeroU64::new(rows).ok_or("no rows")?;
     *chunk_shape.last_mut().ok_or("no dimension")? = NonZeroU64::new(edge).ok_or("an edge of 0")?;
-    Ok(RegularChunkGrid::new(alloc, array_shape, chunk_shape)?)
+    Ok(stored_in(RegularChunkGrid::new(alloc, array_shape, chunk_shape)?))
 }
 
 /// A row of so many elements, in chunks of so many: the last of five dimensions.
-fn row(alloc: Global, elements: u64, edge: u64) -> Result<RegularChunkGrid, Fail> {
+fn row(alloc: Global, elements: u64, edge: u64) -> Result<Stored, Fail> {
     let mut chunk_shape = vec![in alloc; NonZeroU64::MIN; 4]?;
     chunk_shape.push(NonZeroU64::new(edge).ok_or("an edge of 0")?)?;
-    Ok(RegularChunkGrid::new(alloc, [1, 1, 1, 1, elements].to_vec(alloc)?, chunk_shape)?)
+    let array_shape = [1, 1, 1, 1, elements].to_vec(alloc)?;
+    Ok(stored_in(RegularChunkGrid::new(alloc, array_shape, chunk_shape)?))
 }
 
 /// The copies of groups, a line each: the key of the source's chunk and the place there, and the same of the target, in the last dimension, and
@@ -87,11 +94,8 @@ fn append_line(
 fn each_chunk_of_the_target_has_its_copies(rt: HostRuntime) -> Result<(), Fail> {
     let alloc = rt.alloc();
     let (source, target) = (row(alloc, 7, 4)?, row(alloc, 7, 3)?);
-    let encoding = DefaultChunkKeyEncoding::new_slash();
-    let all = all_chunks(alloc, &target)?;
-    let groups = the_walk_gives_the_rechunking(
-        alloc, &source, &encoding, &target, &encoding, &all,
-    )?;
+    let all = all_chunks(alloc, &target.grid)?;
+    let groups = the_walk_gives_the_rechunking(alloc, &source, &target, &all)?;
     let lines = lines_of(alloc, &groups)?;
     assert_eq!(rt; lines.as_str(), COPIES);
     Ok(())
@@ -141,14 +145,11 @@ fn copies_of_two_rows(
 #[test]
 fn a_chunk_of_the_target_lies_over_some_of_the_source(rt: HostRuntime) -> Result<(), Fail> {
     let alloc = rt.alloc();
-    let encoding = DefaultChunkKeyEncoding::new_slash();
     for (dimensions, key_length) in [(4, 9), (5, 11), (1000, 2001)] {
         let source = two_rows(alloc, dimensions, 1, 3)?;
         let target = two_rows(alloc, dimensions, 2, 4)?;
-        let all = all_chunks(alloc, &target)?;
-        let groups = the_walk_gives_the_rechunking(
-            alloc, &source, &encoding, &target, &encoding, &all,
-        )?;
+        let all = all_chunks(alloc, &target.grid)?;
+        let groups = the_walk_gives_the_rechunking(alloc, &source, &target, &all)?;
         assert_eq!(rt; groups.len(), 2);
         let lines = copies_of_two_rows(&rt, &groups, key_length)?;
         assert_eq!(rt; lines.as_str(), COPIES_OF_TWO_ROWS);
@@ -169,11 +170,10 @@ fn refusal_of<T: Drop>(answer: Result<T, Refusal<CopiesError>>) -> Result<Copies
 fn grids_of_two_arrays_are_refused(rt: HostRuntime) -> Result<(), Fail> {
     let alloc = rt.alloc();
     let (source, target) = (row(alloc, 7, 4)?, row(alloc, 8, 3)?);
-    let encoding = DefaultChunkKeyEncoding::new_slash();
     let none = ArraySubset::new_empty(alloc, 2)?;
-    let error = refusal_of(copies(alloc, &source, &encoding, &target, &encoding, &none))?;
+    let error = refusal_of(copies(alloc, &source, &target, &none))?;
     assert_eq!(rt; error, CopiesError::ArrayShapes);
-    let error = refusal_of(copies(alloc, &source, &encoding, &source, &encoding, &none))?;
+    let error = refusal_of(copies(alloc, &source, &source, &none))?;
     let text = format!(in alloc; "{error}")?;
     assert_eq!(rt;
         text.as_str(),
@@ -186,20 +186,17 @@ fn grids_of_two_arrays_are_refused(rt: HostRuntime) -> Result<(), Fail> {
 fn the_laws_of_rechunkings_answer(rt: HostRuntime) -> Result<(), Fail> {
     let alloc = rt.alloc();
     let (source, target) = (row(alloc, 7, 4)?, row(alloc, 7, 3)?);
-    let encoding = DefaultChunkKeyEncoding::new_slash();
     assert_eq!(rt;
-        whole_array(alloc, &target)?.shape(),
+        whole_array(alloc, &target.grid)?.shape(),
         [1, 1, 1, 1, 7].as_slice()
     );
     let last = ArraySubset::new_with_start_shape(
         [0, 0, 0, 0, 2].to_vec(alloc)?,
         [1, 1, 1, 1, 9].to_vec(alloc)?,
     )?;
-    let groups = the_walk_gives_the_rechunking(
-        alloc, &source, &encoding, &target, &encoding, &last,
-    )?;
+    let groups = the_walk_gives_the_rechunking(alloc, &source, &target, &last)?;
     assert_eq!(rt; groups.len(), 1);
-    each_element_is_copied_once(&source, &encoding, &target, &encoding);
-    rechunkings_that_share_out_are_the_whole_one(&source, &encoding, &target, &encoding);
+    each_element_is_copied_once(&source, &target);
+    rechunkings_that_share_out_are_the_whole_one(&source, &target);
     Ok(())
 }

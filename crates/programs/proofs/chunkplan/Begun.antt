@@ -87,8 +87,8 @@ module _ {G E : Type 0} (dimensions : G → List Dimension) (is_key : E → List
 
 module _ {G E H F : Type 0} (source_dimensions : G → List Dimension) (source_key : E → List ℕ → List ℕ → Type 0)
     (target_dimensions : H → List Dimension)
-    (target_key : F → List ℕ → List ℕ → Type 0) (begin : Copies G E H F) (chains : AllByRecursion IsChain (source_dimensions begin.source.now))
-    (also_chains : AllByRecursion IsChain (target_dimensions begin.targets.grid.now)) (keys : HasKeys (source_key begin.source_encoding.now))
+    (target_key : F → List ℕ → List ℕ → Type 0) (begin : Copies G E H F) (chains : AllByRecursion IsChain (source_dimensions begin.source.now.grid))
+    (also_chains : AllByRecursion IsChain (target_dimensions begin.targets.grid.now)) (keys : HasKeys (source_key begin.source.now.encoding))
     (also_keys : HasKeys (target_key begin.targets.encoding.now)) (is_box : IsBox begin.targets.array_subset) (before : Output) where
   abbrev pub AreAllGroups : List Group → Type 0
   AreAllGroups = AreGroupsToCome source_dimensions source_key target_dimensions target_key begin
@@ -103,11 +103,11 @@ module _ {G E H F : Type 0} (source_dimensions : G → List Dimension) (source_k
       → GroupsHaveCome source_dimensions source_key target_dimensions target_key begin now came → Sends before (copy_lines came) after.holds rest
       → HasBegunGroups after
   groups_stop after now came rest (chunks, left, are, about, can) sends =
-      let source = source_dimensions begin.source.now in
+      let source = source_dimensions begin.source.now.grid in
       let target = target_dimensions begin.targets.grid.now in
       let same_grid = about.targets.same_grid in
       let whole = rw (about.targets.same_subset, same_grid) at can.whole_array in
-      let IsOne = AreCopiesInto source (source_key begin.source_encoding.now) target (target_key begin.targets.encoding.now) in
+      let IsOne = AreCopiesInto source (source_key begin.source.now.encoding) target (target_key begin.targets.encoding.now) in
       let (others, also) = have_groups source _ target _ chains also_chains keys also_keys (rw (about.same_source, same_grid) at can.one_array)
       (rw whole at is_box) (targets_to_come now) (rw (can.whole_array, same_grid) at can.meet)
       in

@@ -66,7 +66,7 @@ pub(crate) fn write_copies<
 ) -> Result<(), RunFault>
     requires can { CanCopy G.dimensions H.dimensions walk }
     requires is_box { IsBox walk.targets.array_subset }
-    requires keys { HasKeys (E.is_key walk.source_encoding.now) }
+    requires keys { HasKeys (E.is_key walk.source.now.encoding) }
     requires target_keys { HasKeys (F.is_key walk.targets.encoding.now) }
     ensures { StepLeaves
         (λ text. (groups : List Group)

@@ -24,7 +24,7 @@ use std::alloc::{AllocError, Global};
 use std::io::Write;
 use zarrs_chunk_base::{ArraySubset, IncompatibleDimensionalityError, Refusal};
 use zarrs_chunk_keys::{ChunkKeyEncoding, ChunkKeyEncodingTraits};
-use zarrs_chunk_plan::{all_chunks, copies, parts, whole_array};
+use zarrs_chunk_plan::{StoredArray, all_chunks, copies, parts, whole_array};
 use zarrs_chunks::{ChunkGrid, ChunkGridTraits};
 
 /// Sends the plan that a document asks for, line by line.
@@ -48,38 +48,30 @@ pub(crate) fn write_plan<W: Write>(
         stored,
         task,
     } = document;
-    let (grid, encoding) = stored.open(alloc, &shape)?;
+    let array = stored.open(alloc, &shape)?;
     match task {
         Task::Read(subset) => {
-            let subset = or_whole_array(alloc, subset, &grid)?;
-            write_read(alloc, &grid, &encoding, &subset, held_back, writer)
+            let subset = or_whole_array(alloc, subset, &array.grid)?;
+            write_read(alloc, &array, &subset, held_back, writer)
         }
         Task::Rechunk(target, chunks) => {
-            let (target, target_encoding) = open_target(alloc, target, &shape)?;
-            let chunks = or_all_chunks(alloc, chunks, &target)?;
-            write_rechunking(
-                alloc,
-                &grid,
-                &encoding,
-                &target,
-                &target_encoding,
-                &chunks,
-                held_back,
-                writer,
-            )
+            let target = open_target(alloc, target, &shape)?;
+            let chunks = or_all_chunks(alloc, chunks, &target.grid)?;
+            write_rechunking(alloc, &array, &target, &chunks, held_back, writer)
         }
     }
 }
 
-/// The grid and the encoding of the target.
+/// The array as it is to be stored.
 fn open_target(
     alloc: Global,
     stored: Stored,
     shape: &[u64],
-) -> Result<(ChunkGrid, ChunkKeyEncoding), RunFault>
-    ensures made { IfOk result (λ made. IsStored (stored_of stored) shape.now (grid_in made.0)
-        (encoding_in made.1)) }
-    ensures sizes { IfOk result (λ made. array_sizes (grid_in made.0).dimensions ≡ shape.now) }
+) -> Result<StoredArray<ChunkGrid, ChunkKeyEncoding>, RunFault>
+    ensures made { IfOk result (λ made. IsStored (stored_of stored) shape.now
+        (grid_in made.grid) (encoding_in made.encoding)) }
+    ensures sizes { IfOk result (λ made. array_sizes (grid_in made.grid).dimensions
+        ≡ shape.now) }
     ensures refused { IfErr result (λ fault. (fault ≡ Memory)
         ⊎ IsTargetFault (stored_of stored) shape.now fault) }
 {
@@ -122,27 +114,27 @@ fn or_all_chunks<G: ChunkGridTraits>(
 /// Sends the plan of reading a box of elements.
 fn write_read<G: ChunkGridTraits, E: ChunkKeyEncodingTraits, W: Write>(
     alloc: Global,
-    grid: &G,
-    encoding: &E,
+    array: &StoredArray<G, E>,
     subset: &ArraySubset,
     held_back: &mut Vec<u8>,
     writer: &mut Watched<W>,
 ) -> Result<(), RunFault>
-    requires { HasKeys (E.is_key encoding.now) }
+    requires { HasKeys (E.is_key array.now.encoding) }
     ensures { StepLeaves
         (λ text. (parts : List PartValue)
-        × IsReadPlan (G.dimensions grid.now) (E.is_key encoding.now) subset.now parts
+        × IsReadPlan (G.dimensions array.now.grid) (E.is_key array.now.encoding) subset.now parts
         × (text ≡ part_lines parts))
-        (IsReadFault (G.dimensions grid.now) subset.now) result
+        (IsReadFault (G.dimensions array.now.grid) subset.now) result
         (output W.contents held_back.old.items writer.old)
         (output W.contents held_back.new.items writer.new) }
 {
     let dimensionality = subset.start().len();
-    if dimensionality != grid.dimensionality() {
-        let error = IncompatibleDimensionalityError::new(dimensionality, grid.dimensionality());
+    let expected = array.grid.dimensionality();
+    if dimensionality != expected {
+        let error = IncompatibleDimensionalityError::new(dimensionality, expected);
         return Err(RunFault::SubsetDimensionality(error));
     }
-    match parts(alloc, grid, encoding, subset) {
+    match parts(alloc, &array.grid, &array.encoding, subset) {
         Ok(Some(walk)) => write_parts(alloc, walk, None, held_back, writer),
         Ok(None) => Err(RunFault::Uncovered),
         Err(Refusal::Refused(error)) => Err(RunFault::SubsetDimensionality(error)),
@@ -159,36 +151,26 @@ fn write_rechunking<
     W: Write,
 >(
     alloc: Global,
-    source: &G,
-    source_encoding: &E,
-    target: &H,
-    target_encoding: &F,
+    source: &StoredArray<G, E>,
+    target: &StoredArray<H, F>,
     chunks: &ArraySubset,
     held_back: &mut Vec<u8>,
     writer: &mut Watched<W>,
 ) -> Result<(), RunFault>
-    requires one_array { array_sizes (G.dimensions source.now)
-        ≡ array_sizes (H.dimensions target.now) }
-    requires keys { HasKeys (E.is_key source_encoding.now) }
-    requires target_keys { HasKeys (F.is_key target_encoding.now) }
+    requires one_array { array_sizes (G.dimensions source.now.grid)
+        ≡ array_sizes (H.dimensions target.now.grid) }
+    requires keys { HasKeys (E.is_key source.now.encoding) }
+    requires target_keys { HasKeys (F.is_key target.now.encoding) }
     ensures { StepLeaves
         (λ text. (groups : List Group)
-        × IsRechunking (G.dimensions source.now) (E.is_key source_encoding.now)
-        (H.dimensions target.now) (F.is_key target_encoding.now) chunks.now groups
+        × IsRechunking (G.dimensions source.now.grid) (E.is_key source.now.encoding)
+        (H.dimensions target.now.grid) (F.is_key target.now.encoding) chunks.now groups
         × (text ≡ copy_lines groups))
-        (IsChunksFault (H.dimensions target.now) chunks.now) result
+        (IsChunksFault (H.dimensions target.now.grid) chunks.now) result
         (output W.contents held_back.old.items writer.old)
         (output W.contents held_back.new.items writer.new) }
 {
-    let walk = copies(
-        alloc,
-        source,
-        source_encoding,
-        target,
-        target_encoding,
-        chunks,
-    );
-    match walk {
+    match copies(alloc, source, target, chunks) {
         Ok(walk) => write_copies(alloc, walk, held_back, writer),
         Err(Refusal::Refused(error)) => Err(RunFault::Copies(error)),
         Err(Refusal::Memory(_)) => Err(RunFault::Memory),

@@ -29,9 +29,10 @@ pub(crate) fn answer(alloc: Global, document: Document) -> Result<String, RunFau
         indices,
         keys,
     } = document;
-    let (grid, encoding) = stored.open(alloc, &shape)?;
-    let mut text = lines(alloc, &grid, &encoding, indices)?;
-    append_key_lines(alloc, &mut text, &encoding, grid.dimensionality(), keys)?;
+    let array = stored.open(alloc, &shape)?;
+    let mut text = lines(alloc, &array.grid, &array.encoding, indices)?;
+    let dimensionality = array.grid.dimensionality();
+    append_key_lines(alloc, &mut text, &array.encoding, dimensionality, keys)?;
     Ok(text)
 }
 

@@ -15,6 +15,7 @@ use Rattle.zarrs_chunk_plan.specs.declared.chunk_copies.Copies.{Copies}
 use Rattle.zarrs_chunk_plan.specs.declared.copies_error.CopiesError.{CopiesError}
 use Rattle.zarrs_chunk_plan.specs.declared.copies_error.CopiesError.TheVariants.{ArrayShapes, Chunks}
 use Rattle.zarrs_chunk_plan.specs.declared.part.Part.{Part}
+use Rattle.zarrs_chunk_plan.specs.declared.stored_array.StoredArray.{StoredArray}
 use Rattle.zarrs_chunk_plan.specs.declared.walk.Parts.{Parts}
 use Rattle.zarrs_chunk_plan.specs.seen.Parts.{IsAbout, MeetSubset, chunks_to_come, offsets_to_come}
 
@@ -26,15 +27,18 @@ module _ {G E H F : Type 0} where
   abbrev pub target_offsets : Copies G E H F → List (List ℕ)
   target_offsets walk = offsets_to_come walk.targets
 
-  -- the walk is from this grid and encoding to these, and over this box of elements
-  pub record IsAboutCopies (source : G) (source_encoding : E) (target : H) (target_encoding : F) (array : Box) (walk : Copies G E H F) : Type 0 where
+  -- the array as it is to be stored
+  abbrev pub target_of : Copies G E H F → StoredArray H F
+  target_of walk = record { grid = walk.targets.grid.now; encoding = walk.targets.encoding.now }
+
+  -- the walk is from this array to this one, and over this box of elements
+  pub record IsAboutCopies (source : StoredArray G E) (target : StoredArray H F) (array : Box) (walk : Copies G E H F) : Type 0 where
     pub same_source : walk.source.now ≡ source
-    pub same_source_encoding : walk.source_encoding.now ≡ source_encoding
-    pub targets : IsAbout target target_encoding array walk.targets
+    pub targets : IsAbout target.grid target.encoding array walk.targets
 
   -- both grids are of one array, all of it is copied, and each chunk to come holds some of its elements
   pub record CanCopy (source_dimensions : G → List Dimension) (target_dimensions : H → List Dimension) (walk : Copies G E H F) : Type 0 where
-    pub one_array : array_sizes (source_dimensions walk.source.now) ≡ array_sizes (target_dimensions walk.targets.grid.now)
+    pub one_array : array_sizes (source_dimensions walk.source.now.grid) ≡ array_sizes (target_dimensions walk.targets.grid.now)
     pub whole_array : walk.targets.array_subset ≡ array_box (target_dimensions walk.targets.grid.now)
     pub meet : MeetSubset target_dimensions walk.targets
 
@@ -63,9 +67,8 @@ pub record GivesCopies {G E H F : Type 0} (source_dimensions : G → List Dimens
       → IfGroup (λ group. IsPart (target_dimensions before.targets.grid.now) (target_key before.targets.encoding.now) before.targets.array_subset
       group.to.chunk.items group.to) given
   pub from : CanCopy source_dimensions target_dimensions before
-      → IfGroup (λ group. IsPlanned source_dimensions before.source.now before.source_encoding.now group.to.in_subset group.from) given
-  pub about : IsAboutCopies before.source.now before.source_encoding.now before.targets.grid.now before.targets.encoding.now
-      before.targets.array_subset after
+      → IfGroup (λ group. IsPlanned source_dimensions before.source.now.grid before.source.now.encoding group.to.in_subset group.from) given
+  pub about : IsAboutCopies before.source.now (target_of before) before.targets.array_subset after
   pub can : CanCopy source_dimensions target_dimensions before → CanCopy source_dimensions target_dimensions after
 
 -- groups, without where they lie in memory
@@ -77,7 +80,7 @@ abbrev pub AreGroupsToCome : {G E H F : Type 0} → (G → List Dimension) → (
     → (F → List ℕ → List ℕ → Type 0) → Copies G E H F → List Group → Type 0
 AreGroupsToCome source_dimensions source_key target_dimensions target_key walk =
     AllZip
-    (AreCopiesInto (source_dimensions walk.source.now) (source_key walk.source_encoding.now) (target_dimensions walk.targets.grid.now)
+    (AreCopiesInto (source_dimensions walk.source.now.grid) (source_key walk.source.now.encoding) (target_dimensions walk.targets.grid.now)
     (target_key walk.targets.encoding.now)) (targets_to_come walk)
 
 -- the fault says that the grids have different array shapes, or how many dimensions the box of chunks has and how many the target

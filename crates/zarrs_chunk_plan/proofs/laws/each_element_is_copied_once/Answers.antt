@@ -2,11 +2,11 @@ use Rattle.zarrs_chunk_plan.proofs.Rechunkings.{has_keys, moves_elements, no_oth
 use Rattle.zarrs_chunk_plan.proofs.laws.each_element_is_copied_once.Goals as goal
 
 pub returns-clause-one : goal.returns-clause-one
-returns-clause-one g c = some_copy _ _ _ _ (g.met.G.ChunkGridTraits.chained c.args.source.now)
+returns-clause-one g c = some_copy _ _ _ _ (g.met.G.ChunkGridTraits.chained c.args.source.now.grid)
 
 pub returns-clause-no_other : goal.returns-clause-no_other
 returns-clause-no_other g c =
-    no_other_copy _ _ _ _ (g.met.G.ChunkGridTraits.chained c.args.source.now) (g.met.H.ChunkGridTraits.chained c.args.target.now)
+    no_other_copy _ _ _ _ (g.met.G.ChunkGridTraits.chained c.args.source.now.grid) (g.met.H.ChunkGridTraits.chained c.args.target.now.grid)
 
 pub returns-clause-nothing_else : goal.returns-clause-nothing_else
 returns-clause-nothing_else g c = moves_elements _ _ _ _

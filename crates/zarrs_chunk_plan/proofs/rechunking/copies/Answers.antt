@@ -24,13 +24,13 @@ returns-clause-targets g c =
 
 pub returns-clause-can_copy : goal.returns-clause-can_copy
 returns-clause-can_copy g c =
-    let ds = g.H.ChunkGridTraits.dimensions c.args.target.now in
+    let ds = g.H.ChunkGridTraits.dimensions c.args.target.now.grid in
     let both = c.in_ok-wanted.ensures.common in
     let named = c.in_ok-written.ensures.named in
     let meet = all_of_each (Meets ds (array_box ds)) (chunks_in c.in_ok-wanted.wanted)
     (λ chunk has. (named chunk).0 ((both chunk).0 ((are_those_inside c.in_ok-wanted.wanted c.in_ok-wanted.ensures.is_box chunk).0 has)).0)
     in
-    let one : array_sizes (g.G.ChunkGridTraits.dimensions c.args.source.now) ≡ array_sizes ds = search rules in
-    can_copy g.G.ChunkGridTraits.dimensions g.H.ChunkGridTraits.dimensions c.args.source.now c.args.target.now
-    c.args.target_encoding.now c.new-3.result c.in_ok-targets.targets c.in_ok-wanted.wanted c.new-3.ensures.same_source c.new-3.ensures.targets
+    let one : array_sizes (g.G.ChunkGridTraits.dimensions c.args.source.now.grid) ≡ array_sizes ds = search rules in
+    can_copy g.G.ChunkGridTraits.dimensions g.H.ChunkGridTraits.dimensions c.args.source.now c.args.target.now.grid
+    c.args.target.now.encoding c.new-3.result c.in_ok-targets.targets c.in_ok-wanted.wanted c.new-3.ensures.same_source c.new-3.ensures.targets
     (rw c.in_ok-array.ensures.elements at c.in_ok-targets.ensures.about) c.in_ok-targets.ensures.left one meet

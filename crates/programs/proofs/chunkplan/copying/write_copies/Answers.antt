@@ -43,7 +43,7 @@ returns-in_err-group g c =
     let p = err_from_is_err_and c.from_residual.result c.from_residual.ensures.1 in
     rw (p.1, p.2)
     (groups_memory g.G.ChunkGridTraits.dimensions g.E.ChunkKeyEncodingTraits.is_key g.H.ChunkGridTraits.dimensions g.F.ChunkKeyEncodingTraits.is_key
-    c.args.walk (g.met.G.ChunkGridTraits.chained c.args.walk.source.now) (g.met.H.ChunkGridTraits.chained c.args.walk.targets.grid.now)
+    c.args.walk (g.met.G.ChunkGridTraits.chained c.args.walk.source.now.grid) (g.met.H.ChunkGridTraits.chained c.args.walk.targets.grid.now)
     c.requires.keys c.requires.target_keys c.requires.is_box _ _ c.loop-group.group-iterator c.loop-group.invariant)
 
 pub returns-in_err-write_group : goal.returns-in_err-write_group
@@ -53,7 +53,7 @@ returns-in_err-write_group g c =
     let gives = rw c.in_ok-group.was at c.in-Some.ensures.steps in
     rw (p.1, p.2)
     (group_stops g.G.ChunkGridTraits.dimensions g.E.ChunkKeyEncodingTraits.is_key g.H.ChunkGridTraits.dimensions g.F.ChunkKeyEncodingTraits.is_key
-    c.args.walk (g.met.G.ChunkGridTraits.chained c.args.walk.source.now) (g.met.H.ChunkGridTraits.chained c.args.walk.targets.grid.now)
+    c.args.walk (g.met.G.ChunkGridTraits.chained c.args.walk.source.now.grid) (g.met.H.ChunkGridTraits.chained c.args.walk.targets.grid.now)
     c.requires.keys c.requires.target_keys c.requires.is_box _ _ _ c.loop-group.group-iterator c.next.new.self group.to group.from
     (λ came from have are.
     one_more_group _ g.E.ChunkKeyEncodingTraits.is_key _ _ c.args.walk c.loop-group.group-iterator c.next.new.self group from came

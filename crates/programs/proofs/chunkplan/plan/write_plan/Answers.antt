@@ -18,21 +18,21 @@ use Rattle.programs.proofs.chunkplan.plan.write_plan.Goals as goal
 -- ---- each chunk has a key
 
 pub write_read-requires : goal.write_read-requires
-write_read-requires g c = has_key (encoding_in c.in_ok-grid.encoding)
+write_read-requires g c = has_key (encoding_in c.in_ok-array.array.encoding)
 
 pub write_rechunking-requires-clause-keys : goal.write_rechunking-requires-clause-keys
-write_rechunking-requires-clause-keys g c = has_key (encoding_in c.in_ok-grid.encoding)
+write_rechunking-requires-clause-keys g c = has_key (encoding_in c.in_ok-array.array.encoding)
 
 pub write_rechunking-requires-clause-target_keys : goal.write_rechunking-requires-clause-target_keys
-write_rechunking-requires-clause-target_keys g c = has_key (encoding_in c.in_ok-target-in-Rechunk.target_encoding)
+write_rechunking-requires-clause-target_keys g c = has_key (encoding_in c.in_ok-target-in-Rechunk.target.encoding)
 
 -- ---- what is sent, and why it stops
 
-pub returns-in_err-grid : goal.returns-in_err-grid
-returns-in_err-grid g c =
+pub returns-in_err-array : goal.returns-in_err-array
+returns-in_err-array g c =
     let p = err_from_is_err_and c.from_residual.result c.from_residual.ensures.1 in
     let document = document_of c.args.document in
-    let refused = rw c.deref.ensures.value at c.in_err-grid.ensures.refused in
+    let refused = rw c.deref.ensures.value at c.in_err-array.ensures.refused in
     rw (p.1, p.2)
     (early (IsPlanned document) (IsPlanFault document) _
     (output g.W.Write.contents c.args.held_back.now.items c.args.writer.now)
@@ -40,9 +40,9 @@ returns-in_err-grid g c =
 
 pub returns-in-Read : goal.returns-in-Read
 returns-in-Read g c =
-    let made = rw c.deref.ensures.value at c.in_ok-grid.ensures.made in
-    let grid = grid_in c.in_ok-grid.grid in
-    let encoding = encoding_in c.in_ok-grid.encoding in
+    let made = rw c.deref.ensures.value at c.in_ok-array.ensures.made in
+    let grid = grid_in c.in_ok-array.array.grid in
+    let encoding = encoding_in c.in_ok-array.array.encoding in
     let document = document_of c.args.document in
     step_follows _ (IsPlanned document) (IsReadFault grid.dimensions c.in_ok-subset-in-Read.subset) (IsPlanFault document)
     (λ text (parts, is, lines). of_read c.in-Read.subset grid encoding parts (ap task_of c.in-Read.is) made
@@ -56,7 +56,7 @@ returns-in-Read g c =
 pub returns-in_err-target-in-Rechunk : goal.returns-in_err-target-in-Rechunk
 returns-in_err-target-in-Rechunk g c =
     let p = err_from_is_err_and c.from_residual-in_err-target-in-Rechunk.result c.from_residual-in_err-target-in-Rechunk.ensures.1 in
-    let made = rw c.deref.ensures.value at c.in_ok-grid.ensures.made in
+    let made = rw c.deref.ensures.value at c.in_ok-array.ensures.made in
     let document = document_of c.args.document in
     let stored = stored_of c.in-Rechunk.target in
     let refused = rw c.deref-in-Rechunk.ensures.value at c.in_err-target-in-Rechunk.ensures.refused in
@@ -65,18 +65,18 @@ returns-in_err-target-in-Rechunk g c =
     (output g.W.Write.contents c.args.held_back.now.items c.args.writer.now)
     (no_failed_write document)
     (⊎_elim (λ memory. inl memory)
-    (λ is. inr (of_target stored c.in-Rechunk.chunks (grid_in c.in_ok-grid.grid) (encoding_in c.in_ok-grid.encoding)
+    (λ is. inr (of_target stored c.in-Rechunk.chunks (grid_in c.in_ok-array.array.grid) (encoding_in c.in_ok-array.array.encoding)
     (ap task_of c.in-Rechunk.is) made is))
     refused))
 
 pub returns : goal.returns
 returns g c =
-    let made = rw c.deref.ensures.value at c.in_ok-grid.ensures.made in
+    let made = rw c.deref.ensures.value at c.in_ok-array.ensures.made in
     let made_target = rw c.deref-in-Rechunk.ensures.value at c.in_ok-target-in-Rechunk.ensures.made in
-    let source = grid_in c.in_ok-grid.grid in
-    let target = grid_in c.in_ok-target-in-Rechunk.target in
-    let source_encoding = encoding_in c.in_ok-grid.encoding in
-    let target_encoding = encoding_in c.in_ok-target-in-Rechunk.target_encoding in
+    let source = grid_in c.in_ok-array.array.grid in
+    let target = grid_in c.in_ok-target-in-Rechunk.target.grid in
+    let source_encoding = encoding_in c.in_ok-array.array.encoding in
+    let target_encoding = encoding_in c.in_ok-target-in-Rechunk.target.encoding in
     let document = document_of c.args.document in
     let stored = stored_of c.in-Rechunk.target in
     step_follows _ (IsPlanned document) (IsChunksFault target.dimensions c.in_ok-chunks-in-Rechunk.chunks) (IsPlanFault document)

@@ -10,12 +10,12 @@ returns-in-Ok-Some g c =
     let walk = c.in-Ok-Some.walk in
     let is = c.in-Ok-Some.field-0-is in
     let said = c.in-Ok-Some.ensures in
-    let counted : length c.start-dimensionality.result.now ≡ length (g.G.ChunkGridTraits.dimensions c.args.grid.now) = search rules in
+    let counted : length c.start-dimensionality.result.now ≡ length (g.G.ChunkGridTraits.dimensions c.args.array.now.grid) = search rules in
     let many = rw c.start-dimensionality.ensures.value at counted in
-    step_follows _ _ (λ _. ⊥) (IsReadFault (g.G.ChunkGridTraits.dimensions c.args.grid.now) c.args.subset.now)
+    step_follows _ _ (λ _. ⊥) (IsReadFault (g.G.ChunkGridTraits.dimensions c.args.array.now.grid) c.args.subset.now)
     (λ text (parts, are, lines). (
       parts,
-      is_read_plan g.G.ChunkGridTraits.dimensions g.E.ChunkKeyEncodingTraits.is_key c.args.grid.now c.args.encoding.now c.args.subset.now walk parts
+      is_read_plan g.G.ChunkGridTraits.dimensions g.E.ChunkKeyEncodingTraits.is_key c.args.array.now.grid c.args.array.now.encoding c.args.subset.now walk parts
           c.start-dimensionality.ensures.is_box many (rw is at said.about) (rw is at said.empty) (rw is at said.answers) are,
       lines,
     ))

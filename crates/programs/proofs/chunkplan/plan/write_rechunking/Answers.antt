@@ -8,11 +8,11 @@ pub returns-in-Ok : goal.returns-in-Ok
 returns-in-Ok g c =
     let said = c.in-Ok.ensures in
     let (targets, is_box, are, left) = said.targets in
-    step_follows _ _ (λ _. ⊥) (IsChunksFault (g.H.ChunkGridTraits.dimensions c.args.target.now) c.args.chunks.now)
+    step_follows _ _ (λ _. ⊥) (IsChunksFault (g.H.ChunkGridTraits.dimensions c.args.target.now.grid) c.args.chunks.now)
     (λ text (groups, come, lines). (
       groups,
       rechunking_of g.G.ChunkGridTraits.dimensions g.E.ChunkKeyEncodingTraits.is_key g.H.ChunkGridTraits.dimensions g.F.ChunkKeyEncodingTraits.is_key
-          c.args.source.now c.args.source_encoding.now c.args.target.now c.args.target_encoding.now _
+          c.args.source.now c.args.target.now _
           c.args.chunks.now targets c.in-Ok.walk groups said.about is_box
           are left come,
       lines,

@@ -19,4 +19,4 @@ returns-in-Ok-expect_answer-clause-steps g c =
       cover = cover;
       is_cover = is;
       left = left;
-    }) _ refl refl refl
+    }) _ refl refl
