@@ -1,5 +1,6 @@
 pub mod Document
 pub mod DocumentFault
+pub mod Known
 pub mod Line
 pub mod PlanFault
 pub mod Planned

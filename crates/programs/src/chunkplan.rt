@@ -3,6 +3,7 @@
 //! | Module | What it holds |
 //! |---|---|
 //! | `document` | the document that a JSON tree stands for |
+//! | `known_members` | the members that a document may have |
 //! | `boxes` | a box as a document writes it |
 //! | `plan` | the plan that a document asks for |
 //! | `copying` | the lines of a plan, sent as they are made |
@@ -20,6 +21,7 @@ ghost use Rattle.programs.specs.seen.Sent.{output};
 mod boxes;
 mod copying;
 mod document;
+mod known_members;
 mod line;
 mod plan;
 mod run_fault;
@@ -27,6 +29,7 @@ mod run_fault;
 pub use crate::Watched;
 use crate::streams::{read_to_end, write_all};
 use document::parse;
+pub use known_members::UnknownMember;
 use plan::write_plan;
 pub use run_fault::RunFault;
 use std::alloc::Global;
@@ -59,7 +62,7 @@ pub fn run_to_status<R: Read, W: Write, E: Write>(
 /// Reads a document to its end, and writes the plan that it asks for, line by line as the lines are made.
 ///
 /// # Errors
-/// The first fault: a failed read; a text that is no JSON, or no object; a member that is missing, then one that doesn't go with the others,
+/// The first fault: a failed read; a text that is no JSON, or no object; a member that isn't known, then one that is missing, then one that doesn't go with the others,
 /// then one that isn't of its form; a grid or an encoding that can't be made, then those of the target; a box with another number of
 /// dimensions; a box of elements that has no cover. Nothing has been written then. After a failed write, or where memory runs out, a
 /// beginning of the plan may have been written.

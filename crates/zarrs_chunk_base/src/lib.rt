@@ -59,7 +59,7 @@ pub use incompatible_dimensionality_error::IncompatibleDimensionalityError;
 pub use json::configuration_form::{ConfigurationForm, MemberNames};
 pub use json::default_configuration::DefaultChunkKeyEncodingConfiguration;
 pub use json::default_suffix_configuration::DefaultSuffixChunkKeyEncodingConfiguration;
-pub use json::members::take_member;
+pub use json::members::{refuse_unknown, take_member};
 pub use json::metadata_v3::MetadataV3;
 pub use json::rectangular_configuration::RectangularChunkGridConfiguration;
 pub use json::rectilinear_configuration::RectilinearChunkGridConfiguration;

@@ -9,14 +9,15 @@ use Rattle.programs.specs.declared.document_fault.DocumentFault.TheVariants.{Mis
 use Rattle.programs.proofs.Members.{has_more, is_there, no_more}
 use Rattle.programs.specs.chunkplan.Document.{Fit}
 use Rattle.programs.specs.chunkplan.DocumentFault.{HasMembers, IsFormFault, document_members, misformed_shape, missing}
+use Rattle.programs.specs.chunkplan.Known.{HasOnly, known_members}
 use Rattle.programs.specs.chunkplan.RunFault.{of_document}
 
 -- a member that has to be there is missing
 pub no_member : (d : Data) (name : List ℕ) (told : DocumentFault)
     → (get name d ≡ None → IsFirst (λ member. get member d ≡ None) document_members name)
-    → IsMissingFault d name name told → IsFormFault d (of_document told)
-no_member d name (Missing field) first is = missing name (first is.1) is.0
-no_member d name _ first is = absurd is
+    → HasOnly known_members d → IsMissingFault d name name told → IsFormFault d (of_document told)
+no_member d name (Missing field) first known is = missing name known (first is.1) is.0
+no_member d name _ first known is = absurd is
 
 pub has_members : (d s g k : Data) → get (codes "shape") d ≡ Some s → get (codes "chunk_grid") d ≡ Some g
     → get (codes "chunk_key_encoding") d ≡ Some k
@@ -26,8 +27,8 @@ has_members d s g k shape grid keys =
     (has_more d g (codes "chunk_grid") (codes "chunk_key_encoding" ∷ []) grid (has_more d k (codes "chunk_key_encoding") [] keys (no_more d)))
 
 -- the shape is there, and is none
-pub no_shape : (d m : Data) (told : DocumentFault) → HasMembers d → Fit d → get (codes "shape") d ≡ Some m → IsShapeFault d told
+pub no_shape : (d m : Data) (told : DocumentFault) → HasOnly known_members d → HasMembers d → Fit d → get (codes "shape") d ≡ Some m → IsShapeFault d told
     → IsFormFault d (of_document told)
-no_shape d m (Missing field) members fit there is = absurd (is_there d m (codes "shape") there is.1)
-no_shape d m (WrongValue field) members fit there is = misformed_shape members fit is.1 is.0
-no_shape d m _ members fit there is = absurd is
+no_shape d m (Missing field) known members fit there is = absurd (is_there d m (codes "shape") there is.1)
+no_shape d m (WrongValue field) known members fit there is = misformed_shape known members fit is.1 is.0
+no_shape d m _ known members fit there is = absurd is

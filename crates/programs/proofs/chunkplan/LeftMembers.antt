@@ -1,11 +1,14 @@
 -- What was taken out of a document leaves the other members.
-use Rattle.std.proofs.Common.{◌≡◌, ◌≢◌, ℕ, List, Option, Some, None, MatchOption, ◌∙◌, ap, sym, subst, codes, length, get_or, refl, arith}
+use Rattle.std.proofs.Common.{◌≡◌, ◌≢◌, ℕ, List, Option, Some, None, MatchOption, ◌<◌, ◌∙◌, ap, sym, subst, codes, length, get_or, arith}
 use Rattle.serde_json.specs.Data.{Data}
 use Rattle.serde_json.specs.Find.{get}
 use Rattle.zarrs_chunk_base.specs.ArraySubset.{Box}
 use Rattle.programs.specs.declared.chunkplan.run_fault.RunFault.{RunFault}
-use Rattle.programs.specs.chunkplan.Document.{HasBox, IsBoxIn, IsTask, Task, read_of, rechunk_to}
-use Rattle.programs.specs.chunkplan.DocumentFault.{HasBoxFault, IsTaskFault, of_subset, of_target, of_target_stored, of_chunks}
+use Rattle.programs.specs.declared.chunkplan.run_fault.RunFault.TheVariants.{OtherDataType, OtherShape, UnknownOfTarget}
+use Rattle.programs.specs.chunkplan.Document.{HasBox, IsBoxIn, IsOfArray, IsTask, Task, read_of, rechunk_to}
+use Rattle.programs.specs.chunkplan.DocumentFault.{HasBoxFault, IsTargetMisfit, IsTaskFault, of_chunks, of_misfit, of_subset, of_target}
+use Rattle.programs.specs.chunkplan.DocumentFault.{of_target_stored}
+use Rattle.programs.specs.chunkplan.Known.{Agree, Differ}
 
 -- ---- one member
 
@@ -16,6 +19,30 @@ pub has_box_fault : (d left : Data) (field : List ℕ) (fault : RunFault) → ge
     → HasBoxFault d field fault
 has_box_fault d left field fault same (m, there, is) = (m, sym same ∙ there, is)
 
+-- ---- a target of the array
+
+agree : (d left m : Data) (field : List ℕ) → get field left ≡ get field d → Agree field left m → Agree field d m
+agree d left m field same is one also there = is one also (same ∙ there)
+
+differ : (d left m : Data) (field : List ℕ) → get field left ≡ get field d → Differ field left m → Differ field d m
+differ d left m field same (one, also, there, in_target, is) = (one, also, sym same ∙ there, in_target, is)
+
+module _ (d left m : Data) (shape : get (codes "shape") left ≡ get (codes "shape") d)
+    (data_type : get (codes "data_type") left ≡ get (codes "data_type") d) where
+  pub is_of_array : IsOfArray left m → IsOfArray d m
+  is_of_array is = record {
+    known = is.known;
+    same_shape = agree d left m (codes "shape") shape is.same_shape;
+    same_data_type = agree d left m (codes "data_type") data_type is.same_data_type;
+  }
+
+  pub is_target_misfit : (fault : RunFault) → IsTargetMisfit left m fault → IsTargetMisfit d m fault
+  is_target_misfit (UnknownOfTarget told) is = is
+  is_target_misfit OtherShape (known, differs) = (known, differ d left m (codes "shape") shape differs)
+  is_target_misfit OtherDataType (known, agrees, differs) =
+      (known, agree d left m (codes "shape") shape agrees, differ d left m (codes "data_type") data_type differs)
+  is_target_misfit _ is = absurd is
+
 -- ---- the task, which is read where the array's own metadata were taken out
 
 -- the members of other names than these two are those of d
@@ -23,25 +50,37 @@ abbrev pub AreLeft : (d left : Data) → Type 0
 AreLeft d left = (other : List ℕ) → other ≢ codes "chunk_grid" → other ≢ codes "chunk_key_encoding" → get other left ≡ get other d
 
 module _ (d left : Data) (are_left : AreLeft d left) where
-  short : (name : List ℕ) → length name ≡ 6 → get name left ≡ get name d
-  short name six = are_left name (λ same. absurd (omega (arith, six, ap length same))) (λ same. absurd (omega (arith, six, ap length same)))
+  short : (name : List ℕ) → length name < 10 → get name left ≡ get name d
+  short name less = are_left name (λ same. absurd (omega (arith, less, ap length same))) (λ same. absurd (omega (arith, less, ap length same)))
+
+  of_same : (m : Data) → IsOfArray left m → IsOfArray d m
+  of_same m = is_of_array d left m (short (codes "shape") (omega arith)) (short (codes "data_type") (omega arith))
 
   pub is_task : (task : Task) → IsTask left task → IsTask d task
-  is_task (read_of b) (none, box) = (sym (short (codes "target") refl) ∙ none, has_box d left (codes "subset") b (short (codes "subset") refl) box)
-  is_task (rechunk_to stored b) (m, there, has, box) =
-      (m, sym (short (codes "target") refl) ∙ there, has, has_box d left (codes "chunks") b (short (codes "chunks") refl) box)
+  is_task (read_of b) (none, box) = (sym (short (codes "target") (omega arith)) ∙ none, has_box d left (codes "subset") b (short (codes "subset") (omega arith)) box)
+  is_task (rechunk_to stored b) (m, there, of_array, has, box) =
+      (m, sym (short (codes "target") (omega arith)) ∙ there, of_same m of_array, has, has_box d left (codes "chunks") b (short (codes "chunks") (omega arith)) box)
 
   pub is_task_fault : (fault : RunFault) → IsTaskFault left fault → IsTaskFault d fault
   is_task_fault fault (of_subset none is) =
-      of_subset (sym (short (codes "target") refl) ∙ none) (has_box_fault d left (codes "subset") fault (short (codes "subset") refl) is)
-  is_task_fault fault (of_target m there none tells) = of_target m (sym (short (codes "target") refl) ∙ there) none tells
-  is_task_fault fault (of_target_stored m told there object is same) =
-      of_target_stored m told (sym (short (codes "target") refl) ∙ there) object is same
-  is_task_fault fault (of_chunks m stored there has is) =
-      let same = short (codes "target") refl in
-      of_chunks m stored (sym same ∙ there) has (has_box_fault d left (codes "chunks") fault (short (codes "chunks") refl) is)
+      of_subset (sym (short (codes "target") (omega arith)) ∙ none) (has_box_fault d left (codes "subset") fault (short (codes "subset") (omega arith)) is)
+  is_task_fault fault (of_target m there none tells) = of_target m (sym (short (codes "target") (omega arith)) ∙ there) none tells
+  is_task_fault fault (of_misfit m there object is) =
+      of_misfit m (sym (short (codes "target") (omega arith)) ∙ there) object
+      (is_target_misfit d left m (short (codes "shape") (omega arith)) (short (codes "data_type") (omega arith)) fault is)
+  is_task_fault fault (of_target_stored m told there object of_array is same) =
+      of_target_stored m told (sym (short (codes "target") (omega arith)) ∙ there) object (of_same m of_array) is same
+  is_task_fault fault (of_chunks m stored there of_array has is) =
+      let same = short (codes "target") (omega arith) in
+      of_chunks m stored (sym same ∙ there) (of_same m of_array) has (has_box_fault d left (codes "chunks") fault (short (codes "chunks") (omega arith)) is)
 
--- ---- names of one length
+-- ---- names of another letter
+
+pub shape_is_no_target : codes "shape" ≢ codes "target"
+shape_is_no_target same = let first : 115 ≡ 116 = ap (λ name. get_or name 0 0) same in absurd (omega (arith, first))
+
+pub data_type_is_no_target : codes "data_type" ≢ codes "target"
+data_type_is_no_target same = let first : 100 ≡ 116 = ap (λ name. get_or name 0 0) same in absurd (omega (arith, first))
 
 pub subset_is_no_target : codes "subset" ≢ codes "target"
 subset_is_no_target same = let first : 115 ≡ 116 = ap (λ name. get_or name 0 0) same in absurd (omega (arith, first))

@@ -1,5 +1,5 @@
 -- The program's document: a JSON object with the members `shape`, `chunk_grid` and `chunk_key_encoding`, and either `subset`, which may be
--- absent, or `target` and `chunks`, which may be absent; what else it has says nothing.
+-- absent, or `target` and `chunks`, which may be absent. What else an array's `zarr.json` has may stand in it and in the target.
 use Rattle.std.specs.Prelude.{◌≡◌, ℕ, List, Option, Some, None, IsSome, codes, MatchOption}
 use Rattle.serde_json.specs.Data.{Data}
 use Rattle.serde_json.specs.Find.{get}
@@ -7,6 +7,7 @@ use Rattle.zarrs_chunk_base.specs.ArraySubset.{Box, IsBox}
 use Rattle.zarrs_chunk_base.specs.Json.{size_of, list_of, pair_of}
 use Rattle.programs.specs.Document.{HasStored, shape_in}
 use Rattle.programs.specs.Stored.{Stored, stored_of}
+use Rattle.programs.specs.chunkplan.Known.{Agree, HasOnly, known_members, zarr_json_members}
 use Rattle.programs.specs.declared.chunkplan.document.Document.{Document as DocumentValue}
 use Rattle.programs.specs.declared.chunkplan.document.Task.{Task as TaskValue}
 use Rattle.programs.specs.declared.chunkplan.document.Task.TheVariants.{Read as ReadValue, Rechunk as RechunkValue}
@@ -39,10 +40,17 @@ pub record IsBoxIn (d : Data) (b : Box) : Type 0 where
 abbrev pub HasBox : Data → List ℕ → Option Box → Type 0
 HasBox d field subset = MatchOption subset (get field d ≡ None) (λ b. (m : Data) × (get field d ≡ Some m) × IsBoxIn m b)
 
+-- The target, which has no unknown member, is of the same array: of its shape and data type, where it says them.
+pub record IsOfArray (d target : Data) : Type 0 where
+  pub known : HasOnly zarr_json_members target
+  pub same_shape : Agree (codes "shape") d target
+  pub same_data_type : Agree (codes "data_type") d target
+
 -- `subset`, where there is no target, or `target` with its own two members, and `chunks`
 abbrev pub IsTask : Data → Task → Type 0
 IsTask d (read_of subset) = (get (codes "target") d ≡ None) × HasBox d (codes "subset") subset
-IsTask d (rechunk_to stored chunks) = (m : Data) × (get (codes "target") d ≡ Some m) × HasStored m stored × HasBox d (codes "chunks") chunks
+IsTask d (rechunk_to stored chunks) = (m : Data) × (get (codes "target") d ≡ Some m) × IsOfArray d m × HasStored m stored
+    × HasBox d (codes "chunks") chunks
 
 -- `subset` stands beside no target, and `chunks` beside one
 pub record Fit (d : Data) : Type 0 where
@@ -51,6 +59,7 @@ pub record Fit (d : Data) : Type 0 where
 
 -- the document that a tree stands for
 pub record IsDocument (d : Data) (document : Document) : Type 0 where
+  pub known : HasOnly known_members d
   pub fitting : Fit d
   pub shape : shape_in d ≡ Some document.shape
   pub stored : HasStored d document.stored

@@ -7,10 +7,12 @@ use Rattle.zarrs_chunk_base.specs.First.{IsFirst}
 use Rattle.zarrs_chunk_base.specs.Json.{size_of, list_of, pair_of}
 use Rattle.programs.specs.Document.{HasAll, HasStored, IsObjectOf, IsStoredFault, IsTextFault, shape_in}
 use Rattle.programs.specs.Stored.{Stored}
-use Rattle.programs.specs.chunkplan.Document.{Fit}
+use Rattle.programs.specs.chunkplan.Document.{Fit, IsOfArray}
+use Rattle.programs.specs.chunkplan.Known.{Agree, Differ, HasOnly, IsFirstUnknown, known_members, zarr_json_members}
 use Rattle.programs.specs.chunkplan.RunFault.{of_document}
 use Rattle.programs.specs.declared.chunkplan.run_fault.RunFault.{RunFault}
-use Rattle.programs.specs.declared.chunkplan.run_fault.RunFault.TheVariants.{Box, ChunksOfNoTarget, Missing, SubsetOfTarget, WrongValue}
+use Rattle.programs.specs.declared.chunkplan.run_fault.RunFault.TheVariants.{Box, ChunksOfNoTarget, Missing, OtherDataType, OtherShape}
+use Rattle.programs.specs.declared.chunkplan.run_fault.RunFault.TheVariants.{SubsetOfTarget, Unknown, UnknownOfTarget, WrongValue}
 use Rattle.programs.specs.declared.document_fault.DocumentFault.{DocumentFault}
 
 -- the fault says that the member of this name is missing, or isn't of its form
@@ -21,6 +23,19 @@ TellsMissing _ _ = ⊥
 abbrev pub TellsWrongValue : List ℕ → RunFault → Type 0
 TellsWrongValue name (WrongValue told) = told.now ≡ name
 TellsWrongValue _ _ = ⊥
+
+-- the fault says which member isn't known
+abbrev pub IsUnknownFault : Data → RunFault → Type 0
+IsUnknownFault d (Unknown told) = IsFirstUnknown known_members d told
+IsUnknownFault _ _ = ⊥
+
+-- the fault says which member of the target isn't known, or that its shape or its data type isn't the array's; the first of these
+abbrev pub IsTargetMisfit : (d target : Data) → RunFault → Type 0
+IsTargetMisfit d target (UnknownOfTarget told) = IsFirstUnknown zarr_json_members target told
+IsTargetMisfit d target OtherShape = HasOnly zarr_json_members target × Differ (codes "shape") d target
+IsTargetMisfit d target OtherDataType =
+    HasOnly zarr_json_members target × Agree (codes "shape") d target × Differ (codes "data_type") d target
+IsTargetMisfit _ _ _ = ⊥
 
 -- the members that have to be there, in the order in which a missing one is reported
 abbrev pub document_members : List (List ℕ)
@@ -48,26 +63,30 @@ IsBoxFormFault _ _ _ = ⊥
 abbrev pub HasBoxFault : Data → List ℕ → RunFault → Type 0
 HasBoxFault d field fault = (m : Data) × (get field d ≡ Some m) × IsBoxFormFault m field fault
 
--- The first fault of what a tree asks for: its `subset`, where there is no target; and else the target, the target's two members, or `chunks`.
+-- The first fault of what a tree asks for: its `subset`, where there is no target; and else the target, that it isn't of the array, its own two
+-- members, or `chunks`.
 pub data IsTaskFault (d : Data) (fault : RunFault) : Type 0 where
   of_subset : get (codes "target") d ≡ None → HasBoxFault d (codes "subset") fault → IsTaskFault d fault
   of_target : (target : Data) → get (codes "target") d ≡ Some target → as_object target ≡ None → TellsWrongValue (codes "target") fault
       → IsTaskFault d fault
-  of_target_stored : (target : Data) (told : DocumentFault) → get (codes "target") d ≡ Some target → IsSome (as_object target)
+  of_misfit : (target : Data) → get (codes "target") d ≡ Some target → IsSome (as_object target) → IsTargetMisfit d target fault → IsTaskFault d fault
+  of_target_stored : (target : Data) (told : DocumentFault) → get (codes "target") d ≡ Some target → IsSome (as_object target) → IsOfArray d target
       → IsStoredFault target (codes "target.chunk_grid") (codes "target.chunk_key_encoding") told → fault ≡ of_document told
       → IsTaskFault d fault
-  of_chunks : (target : Data) (stored : Stored) → get (codes "target") d ≡ Some target → HasStored target stored
+  of_chunks : (target : Data) (stored : Stored) → get (codes "target") d ≡ Some target → IsOfArray d target → HasStored target stored
       → HasBoxFault d (codes "chunks") fault → IsTaskFault d fault
 
--- The first fault of an object that is no document: a member is missing; one doesn't go with the others; and then, of the shape, of how the
+-- The first fault of an object that is no document: a member isn't known; one is missing; one doesn't go with the others; and then, of the shape, of how the
 -- array is stored and of what is asked for, the first that isn't of its form.
 pub data IsFormFault (d : Data) (fault : RunFault) : Type 0 where
-  missing : (name : List ℕ) → IsFirst (λ member. get member d ≡ None) document_members name → TellsMissing name fault → IsFormFault d fault
-  misfit : HasMembers d → IsMisfit d fault → IsFormFault d fault
-  misformed_shape : HasMembers d → Fit d → shape_in d ≡ None → TellsWrongValue (codes "shape") fault → IsFormFault d fault
-  misformed_stored : (told : DocumentFault) → HasMembers d → Fit d → IsSome (shape_in d)
+  unknown : IsUnknownFault d fault → IsFormFault d fault
+  missing : (name : List ℕ) → HasOnly known_members d → IsFirst (λ member. get member d ≡ None) document_members name → TellsMissing name fault
+      → IsFormFault d fault
+  misfit : HasOnly known_members d → HasMembers d → IsMisfit d fault → IsFormFault d fault
+  misformed_shape : HasOnly known_members d → HasMembers d → Fit d → shape_in d ≡ None → TellsWrongValue (codes "shape") fault → IsFormFault d fault
+  misformed_stored : (told : DocumentFault) → HasOnly known_members d → HasMembers d → Fit d → IsSome (shape_in d)
       → IsStoredFault d (codes "chunk_grid") (codes "chunk_key_encoding") told → fault ≡ of_document told → IsFormFault d fault
-  misformed_task : (stored : Stored) → HasMembers d → Fit d → IsSome (shape_in d) → HasStored d stored → IsTaskFault d fault
+  misformed_task : (stored : Stored) → HasOnly known_members d → HasMembers d → Fit d → IsSome (shape_in d) → HasStored d stored → IsTaskFault d fault
       → IsFormFault d fault
 
 -- The first fault of an input that is no document: it is no text of an object, or its object isn't of the form.

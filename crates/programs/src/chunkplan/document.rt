@@ -3,17 +3,19 @@ ghost use Rattle.std.specs.Prelude.{◌≡◌, ◌⊎◌, MatchResult};
 ghost use Rattle.serde_json.specs.Data.{Data};
 ghost use Rattle.serde_json.specs.View.{view};
 ghost use Rattle.programs.specs.Document.{IsTreeOf};
-ghost use Rattle.programs.specs.chunkplan.Document.{Fit, IsDocument, IsTask, document_of, task_of};
-ghost use Rattle.programs.specs.chunkplan.DocumentFault.{IsFormFault, IsInputFault, IsMisfit, IsTaskFault};
+ghost use Rattle.programs.specs.chunkplan.Document.{Fit, IsDocument, IsOfArray, IsTask, document_of, task_of};
+ghost use Rattle.programs.specs.chunkplan.DocumentFault.{IsFormFault, IsInputFault, IsMisfit, IsTargetMisfit, IsTaskFault, IsUnknownFault};
+ghost use Rattle.programs.specs.chunkplan.Known.{HasOnly, known_members};
 ghost use Rattle.programs.specs.declared.chunkplan.run_fault.RunFault.TheVariants.{Memory};
 
 use crate::chunkplan::RunFault;
 use crate::chunkplan::boxes::member_box;
+use crate::chunkplan::known_members::{DOCUMENT, ZARR_JSON, agree, check_known};
 use crate::document::{read_object, read_shape, required_member, take_stored};
 use crate::stored::Stored;
 use serde_json::Value;
 use std::alloc::Global;
-use zarrs_chunk_base::{ArraySubset, take_member};
+use zarrs_chunk_base::{ArraySubset, Refusal, take_member};
 
 /// What a document asks for.
 #[derive(Drop)]
@@ -35,8 +37,9 @@ pub(crate) struct Document {
 /// The document that an input is the text of.
 ///
 /// # Errors
-/// The input is no JSON or no object; a member is missing; a member doesn't go with the others; a member isn't of its form, of `shape`,
-/// `chunk_grid`, `chunk_key_encoding`, and of `subset`, or of `target` and `chunks`, the first; or out of memory.
+/// The input is no JSON or no object; a member isn't known; a member is missing; a member doesn't go with the others; a member isn't of its form, of `shape`,
+/// `chunk_grid`, `chunk_key_encoding`, and of `subset`, or of `target` and `chunks`, the first, and the target has no unknown member and is of the same
+/// array; or out of memory.
 pub(crate) fn parse(alloc: Global, input: &[u8]) -> Result<Document, RunFault>
     ensures { MatchResult result
         (λ document. (tree : Data) × IsTreeOf input.now tree
@@ -52,6 +55,7 @@ fn document_from(alloc: Global, mut tree: Value) -> Result<Document, RunFault>
     ensures { MatchResult result (λ document. IsDocument (view tree) (document_of document))
         (λ fault. (fault ≡ Memory) ⊎ IsFormFault (view tree) fault) }
 {
+    check_document(alloc, &tree)?;
     required_member(&tree, "shape", "shape")?;
     required_member(&tree, "chunk_grid", "chunk_grid")?;
     required_member(&tree, "chunk_key_encoding", "chunk_key_encoding")?;
@@ -66,6 +70,18 @@ fn document_from(alloc: Global, mut tree: Value) -> Result<Document, RunFault>
     })
 }
 
+/// Refuses a member that isn't known.
+fn check_document(alloc: Global, tree: &Value) -> Result<(), RunFault>
+    ensures { MatchResult result (λ _. HasOnly known_members (view tree.now))
+        (λ fault. (fault ≡ Memory) ⊎ IsUnknownFault (view tree.now) fault) }
+{
+    match check_known(alloc, tree, &DOCUMENT) {
+        Ok(()) => Ok(()),
+        Err(Refusal::Refused(member)) => Err(RunFault::Unknown(member)),
+        Err(Refusal::Memory(_)) => Err(RunFault::Memory),
+    }
+}
+
 /// Refuses a member that doesn't go with the others.
 fn check_fitting(tree: &Value) -> Result<(), RunFault>
     ensures { MatchResult result (λ _. Fit (view tree.now))
@@ -76,6 +92,25 @@ fn check_fitting(tree: &Value) -> Result<(), RunFault>
         None if tree.get("chunks").is_some() => { Err(RunFault::ChunksOfNoTarget) }
         _ => Ok(()),
     }
+}
+
+/// Refuses a target that has a member that isn't known, or another shape or data type than the array.
+fn check_target(alloc: Global, tree: &Value, target: &Value) -> Result<(), RunFault>
+    ensures { MatchResult result (λ _. IsOfArray (view tree.now) (view target.now))
+        (λ fault. (fault ≡ Memory) ⊎ IsTargetMisfit (view tree.now) (view target.now) fault) }
+{
+    match check_known(alloc, target, &ZARR_JSON) {
+        Ok(()) => {}
+        Err(Refusal::Refused(member)) => return Err(RunFault::UnknownOfTarget(member)),
+        Err(Refusal::Memory(_)) => return Err(RunFault::Memory),
+    }
+    if !agree(alloc, tree, target, "shape")? {
+        return Err(RunFault::OtherShape);
+    }
+    if !agree(alloc, tree, target, "data_type")? {
+        return Err(RunFault::OtherDataType);
+    }
+    Ok(())
 }
 
 /// What a tree asks for.
@@ -89,6 +124,7 @@ fn task_from(alloc: Global, mut tree: Value) -> Result<Task, RunFault>
     if !target.is_object() {
         return Err(RunFault::WrongValue("target"));
     }
+    check_target(alloc, &tree, &target)?;
     let stored = take_stored(
         alloc,
         &mut target,

@@ -3,6 +3,7 @@ ghost use Rattle.std.specs.Prelude.{◌≡◌};
 ghost use Rattle.programs.specs.chunkplan.RunFault.{of_create, of_document, of_stream};
 ghost use Rattle.programs.specs.declared.chunkplan.run_fault.RunFault.TheVariants.{Memory};
 
+use crate::chunkplan::known_members::UnknownMember;
 use crate::document_fault::DocumentFault;
 use crate::stored::CreateFault;
 use crate::stream_fault::StreamFault;
@@ -25,6 +26,9 @@ pub enum RunFault {
     /// The document is no JSON object.
     #[error("document is not an object")]
     NotObject,
+    /// A member of the document isn't known.
+    #[error(transparent)]
+    Unknown(UnknownMember),
     /// A member of the document is missing.
     #[error("missing field `{0}`")]
     Missing(&'static str),
@@ -43,6 +47,15 @@ pub enum RunFault {
     /// The document has a box of elements, and a target.
     #[error("field `subset` is for a read: leave out `target`, or leave it out")]
     SubsetOfTarget,
+    /// A member of the target isn't known.
+    #[error("field `target`: {0}")]
+    UnknownOfTarget(UnknownMember),
+    /// The target has another shape than the array.
+    #[error("field `target.shape`: it isn't the array's: a rechunking keeps the shape")]
+    OtherShape,
+    /// The target has another data type than the array.
+    #[error("field `target.data_type`: it isn't the array's: a rechunking keeps the data type")]
+    OtherDataType,
     /// The document's chunk grid can't be made.
     #[error(transparent)]
     Grid(PluginCreateError),

@@ -33,7 +33,10 @@ pub fn take_member(tree: &mut Value, name: &str) -> Option<Value>
 }
 
 /// Refuses the first member, by name, that isn't known. `expected` names those that are.
-pub(super) fn refuse_unknown(
+///
+/// # Errors
+/// There is such a member; or out of memory.
+pub fn refuse_unknown(
     alloc: Global,
     members: &Configuration,
     known: &[&str],

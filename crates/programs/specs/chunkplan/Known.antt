@@ -1,0 +1,36 @@
+-- The members that a document may have, and those in which source and target have to agree.
+-- Source: Zarr V3 core, array metadata; `subset`, `target` and `chunks` are this program's own.
+use Rattle.std.specs.Prelude.{◌≡◌, ◌≢◌, ℕ, List, [], ◌∷◌, Some, codes, false, string_bytes}
+use Rattle.serde_json.specs.Data.{Data, Members}
+use Rattle.serde_json.specs.Find.{as_object, get}
+use Rattle.serde_json.specs.Written.{compact_text, has_float}
+use Rattle.zarrs_chunk_base.specs.Configuration.{HasNoUnknown, IsLeastName, IsUnknown}
+use Rattle.programs.specs.declared.chunkplan.known_members.UnknownMember.{UnknownMember}
+
+-- the members of an array's `zarr.json`
+abbrev pub zarr_json_members : List (List ℕ)
+zarr_json_members =
+    codes "attributes" ∷ codes "chunk_grid" ∷ codes "chunk_key_encoding" ∷ codes "codecs" ∷ codes "data_type" ∷ codes "dimension_names"
+    ∷ codes "fill_value" ∷ codes "node_type" ∷ codes "shape" ∷ codes "storage_transformers" ∷ codes "zarr_format" ∷ []
+
+-- those of a document: these, and what is asked of the array
+abbrev pub known_members : List (List ℕ)
+known_members = codes "chunks" ∷ codes "subset" ∷ codes "target" ∷ zarr_json_members
+
+-- each member of the object is one of these
+abbrev pub HasOnly : List (List ℕ) → Data → Type 0
+HasOnly known d = (members : Members) → as_object d ≡ Some members → HasNoUnknown known members
+
+-- the first member of the object, in the order of the bytes of names, that is none of these
+abbrev pub IsFirstUnknown : List (List ℕ) → Data → UnknownMember → Type 0
+IsFirstUnknown known d told = (members : Members) × (as_object d ≡ Some members) × IsLeastName (IsUnknown known members) (string_bytes told.name)
+
+-- Where both trees have the member, its compact text is the same in both. Nothing is said of one that holds a number that isn't whole.
+abbrev pub Agree : List ℕ → Data → Data → Type 0
+Agree field d other = (one also : Data) → get field d ≡ Some one → get field other ≡ Some also → has_float one ≡ false → has_float also ≡ false
+    → compact_text one ≡ compact_text also
+
+-- both have it, and its compact text isn't the same
+abbrev pub Differ : List ℕ → Data → Data → Type 0
+Differ field d other = (one : Data) × (also : Data) × (get field d ≡ Some one) × (get field other ≡ Some also)
+    × (has_float one ≡ false → has_float also ≡ false → compact_text one ≢ compact_text also)
