@@ -4,7 +4,7 @@
     bindings/build.py [--after-ci]
 
 `bindings/out/llvm` gets both as LLVM compiles them, `bindings/out/rattle` as Rattle's own compiler does. The shared library is called by the version of its interface, as
-`libzarrs_chunks.so.1`, and `libzarrs_chunks.so` is a link to it. The crate and those below it are proved first,
+`libzarrs_chunks.so.2`, and `libzarrs_chunks.so` is a link to it. The crate and those below it are proved first,
 which takes longest the first time. Right after `rt ci` the flag spares the crates below, which are taken as that left them, proved; where `rt ci` gave back
 what an earlier check had kept, they are checked again. It ends with the status 1 where the names that are exported aren't those of the header.
 """
@@ -103,31 +103,53 @@ def declared():
     return set(re.findall(r"^int32_t (\w+)\(", (HERE / "zarrs_chunks.h").read_text(), re.MULTILINE))
 
 
-def parameters(text, pattern):
-    """How many arguments each call takes in C, as the text declares them."""
+# What a parameter or a field of a Rattle type is in C.
+CROSSING = {
+    "&[u64]": ["constuint64_t*", "size_t"], "&mut [u64]": ["uint64_t*", "size_t"], "&[u8]": ["constuint8_t*", "size_t"],
+    "&mut [u8]": ["uint8_t*", "size_t"], "&mut usize": ["size_t*"], "usize": ["size_t"], "u64": ["uint64_t"], "u8": ["uint8_t"], "i32": ["int32_t"],
+}  # fmt: skip
+
+
+def c_name(name):
+    """A struct's name in C: `zarrs_part_buffers` for `PartBuffers`."""
+    return "zarrs" + re.sub("[A-Z]", lambda letter: f"_{letter[0].lower()}", name)
+
+
+def crossing(kind):
+    """The same of a reference to a struct too."""
+    is_mut, name = re.fullmatch(r"&?(mut )?(.*)", kind).groups()
+    return CROSSING.get(kind) or [f"{'' if is_mut else 'const'}struct{c_name(name)}*"]
+
+
+def declarations(text, pattern, end):
+    """Each call or struct of a text, with its parameters or fields as they are declared there."""
+    text = re.sub(r"/\*.*?\*/|//[^\n]*", "", text, flags=re.DOTALL)
     found = {}
     for name, inside in re.findall(pattern, text, re.DOTALL):
-        kinds = [kind for part in inside.split(",") if (kind := part.strip()) not in ("", "void") and not kind.startswith("alloc:")]
-        found[name] = kinds
+        parts = [" ".join(part.split()) for part in inside.split(end)]
+        found[name] = [part for part in parts if part not in ("", "void") and not part.startswith("alloc:")]
     return found
 
 
-def c_kinds():
-    """The parameters of the header, each as its type in C."""
-    rows = parameters((HERE / "zarrs_chunks.h").read_text(), r"int32_t (\w+)\((.*?)\);")
-    return {name: [re.sub(r"\w+$", "", kind).replace(" ", "") for kind in kinds] for name, kinds in rows.items()}
+def in_c():
+    """What the header declares: of each call the types of its parameters, of each struct its fields with their types."""
+    text = (HERE / "zarrs_chunks.h").read_text()
+    calls = declarations(text, r"int32_t (\w+)\((.*?)\);", ",")
+    structs = declarations(text, r"struct (\w+) \{(.*?)\};", ";")
+    fields = lambda parts: [(part.split()[-1].lstrip("*"), re.sub(r"\w+$", "", part).replace(" ", "")) for part in parts]
+    return {name: [kind for _, kind in fields(parts)] for name, parts in calls.items()} | {name: fields(parts) for name, parts in structs.items()}
 
 
-def rattle_kinds():
-    """The parameters of the crate's exports, each as its type in C."""
-    crossing = {
-        "&[u64]": ["constuint64_t*", "size_t"], "&mut [u64]": ["uint64_t*", "size_t"], "&[u8]": ["constuint8_t*", "size_t"],
-        "&mut [u8]": ["uint8_t*", "size_t"], "&mut usize": ["size_t*"], "&mut u64": ["uint64_t*"], "&mut u8": ["uint8_t*"], "usize": ["size_t"],
-        "u64": ["uint64_t"], "i32": ["int32_t"],
-    }  # fmt: skip
-    text = "".join(path.read_text() for path in sorted(CRATE.glob("src/*.rt")))
-    rows = parameters(text, r'pub extern "C" fn (\w+)\((.*?)\) -> i32')
-    return {name: [c for kind in kinds for c in crossing[kind.split(":")[1].strip()]] for name, kinds in rows.items()}
+def in_rattle():
+    """The same of the crate, as it is in C: a slice is a pointer and a length, whose name in a struct ends in `_len`."""
+    text = "".join(path.read_text() for path in sorted(CRATE.glob("src/*.rt"))).replace("&'a ", "&")
+    calls = declarations(text, r'pub extern "C" fn (\w+)\((.*?)\) -> i32', ",")
+    structs = declarations(text, r"#\[repr\(C\)\]\s*#\[derive\(Drop\)\]\s*pub struct (\w+)<'a> \{(.*?)\n\}", ",")
+    found = {name: [kind for part in parts for kind in crossing(part.split(": ")[1])] for name, parts in calls.items()}
+    for name, parts in structs.items():
+        fields = [part.removeprefix("pub ").split(": ") for part in parts]
+        found[c_name(name)] = [row for field, kind in fields for row in zip((field, f"{field}_len"), crossing(kind))]
+    return found
 
 
 def symbols(shared):
@@ -179,11 +201,8 @@ def soft_spots(shared):
 
 def main():
     kit_folder = kit()
-    faults = []
-    if c_kinds() != rattle_kinds():
-        for name in sorted(c_kinds() | rattle_kinds()):
-            if c_kinds().get(name) != rattle_kinds().get(name):
-                faults.append(f"{name}: the header has {c_kinds().get(name)}, and the crate {rattle_kinds().get(name)}")
+    header, crate = in_c(), in_rattle()
+    faults = [f"{name}: the header has {header.get(name)}, and the crate {crate.get(name)}" for name in sorted(header | crate) if header.get(name) != crate.get(name)]
     for backend in archives(kit_folder, "--after-ci" in sys.argv[1:]):
         shared = link(backend, kit_folder)
         exported = {name for name, here in symbols(shared) if here}

@@ -34,21 +34,32 @@ def kind_of_error(call):
 
 
 def table(tally):
-    """The table of the calls names the arguments of the header, in its order and with its types."""
+    """The table of the calls names the arguments and the structs of the header, in its order and with its types."""
     kinds = {
         ("const uint64_t *", True): _library.NUMBERS, ("const uint8_t *", True): _library.BYTES, ("uint64_t *", True): _library.WRITTEN_NUMBERS,
         ("uint8_t *", True): _library.WRITTEN_BYTES, ("size_t", False): _library.SIZE, ("uint64_t", False): _library.NUMBER,
-        ("int32_t", False): _library.CODE, ("size_t *", False): _library.TOLD_SIZE, ("uint64_t *", False): _library.TOLD_NUMBER,
-        ("uint8_t *", False): _library.TOLD_BYTE,
+        ("int32_t", False): _library.CODE, ("size_t *", False): _library.TOLD_SIZE, ("uint8_t", False): (ctypes.c_uint8,),
+        ("const struct zarrs_stored_array *", False): _library.STORED_ARRAY, ("const struct zarrs_element_box *", False): _library.ELEMENT_BOX,
+        ("struct zarrs_part_buffers *", False): _library.PART_BUFFERS,
     }  # fmt: skip
-    header = {}
-    for call, inside in re.findall(r"^int32_t (\w+)\((.*?)\);", HEADER.read_text(), re.MULTILINE | re.DOTALL):
-        parameters = [re.fullmatch(r"(.*?) ?(\w+)", " ".join(part.split())).groups() for part in inside.split(",") if inside != "void"]
-        names = [name for _kind, name in parameters]
-        header[call] = [(name, kinds[kind, f"{name}_len" in names]) for kind, name in parameters if not name.endswith("_len")]
-    version = int(re.search(r"#define ZARRS_ABI_VERSION (\d+)", HEADER.read_text())[1])
+    structs = {
+        "zarrs_stored_array": _library.StoredArray, "zarrs_element_box": _library.ElementBox, "zarrs_part_buffers": _library.PartBuffers,
+    }  # fmt: skip
+    text = re.sub(r"/\*.*?\*/", "", HEADER.read_text(), flags=re.DOTALL)
+
+    def rows(inside, end):
+        parts = [" ".join(part.split()) for part in inside.split(end)]
+        declared = [re.fullmatch(r"(.*?) ?(\w+)", part).groups() for part in parts if part not in ("", "void")]
+        names = [name for _kind, name in declared]
+        return names, [(name, kinds[kind, f"{name}_len" in names]) for kind, name in declared if not name.endswith("_len")]
+
+    calls = {call: rows(inside, ",")[1] for call, inside in re.findall(r"^int32_t (\w+)\((.*?)\);", text, re.MULTILINE | re.DOTALL)}
+    tally.same("the calls of the header", {name: [*arguments.items()] for name, arguments in _library.CALLS.items()}, calls)
+    fields = {struct: rows(inside, ";") for struct, inside in re.findall(r"^struct (\w+) \{(.*?)\};", text, re.MULTILINE | re.DOTALL)}
+    of_package = {name: ([field for field, _kind in struct._fields_], [*struct.KINDS.items()]) for name, struct in structs.items()}
+    tally.same("the structs of the header", of_package, fields)
+    version = int(re.search(r"#define ZARRS_ABI_VERSION (\d+)", text)[1])
     tally.same("the version of the header", _library.VERSION, version)
-    tally.same("the calls of the header", {name: list(arguments.items()) for name, arguments in _library.CALLS.items()}, header)
 
 
 def unfit_arguments(tally):
@@ -82,6 +93,15 @@ def unfit_arguments(tally):
     keys = {"chunk_key_encoding": b'"v2"', "chunks": shape, "text": _library.text_room(9), "offsets": sizes}
     for number in (-1, 2**64, 1.0, None, True):
         tally.same(f"a size of {number}", kind_of_error(lambda: _library.call("zarrs_keys_of", dimensionality=number, **keys)), TypeError)
+    plan = {
+        "array": {"shape": shape, "chunk_grid": text, "chunk_key_encoding": b'"v2"'}, "elements": {"start": shape, "shape": shape}, "first": 0,
+        "buffers": {name: _library.room(2) for name in ("chunks", "in_chunk", "in_subset", "shapes", "offsets")} | {"text": _library.text_room(9)},
+    }  # fmt: skip
+    for struct, name, value in (("array", "shape", [5, 7]), ("array", "chunk_grid", "text"), ("elements", "start", None), ("buffers", "chunks", frozen)):
+        words = f"{name}: the library can't be given this {type(value).__name__}"
+        unfit = {**plan, struct: {**plan[struct], name: value}}
+        tally.raises(f"{name} of {struct} as {value!r}", TypeError, words, lambda: _library.call("zarrs_parts_of", **unfit))
+    tally.same("a field too few", kind_of_error(lambda: _library.call("zarrs_parts_of", **{**plan, "elements": {"start": shape}})), TypeError)
     for name, function in _library._FUNCTIONS.items():
         tally.same(f"the types of {name}", (function.restype, len(function.argtypes)), (ctypes.c_int32, sum(map(len, _library.CALLS[name].values()))))
 

@@ -43,7 +43,8 @@ from random_arrays import Generator  # noqa: E402
 
 BACKENDS = ("llvm", "rattle")
 REGULAR = regular(2, 3)
-EXAMPLE = b"c/3/2/16 0 1 2\nc/0/0/0 0 0 0\n"
+RUST_EXAMPLE = b'Ok([("c/0/0", [1, 2], [1, 1]), ("c/0/1", [1, 0], [1, 2]), ("c/1/0", [0, 2], [2, 1]), ("c/1/1", [0, 0], [2, 2])])\n'
+EXAMPLE = b"c/3/2/16 0 1 2\nc/0/0/0 0 0 0\nc/3/2/16 has 1 x 1 x 3 elements of the box\nc/3/2/17 has 1 x 1 x 1 elements of the box\n"
 
 
 class Tally:
@@ -300,20 +301,20 @@ def plan_lengths(tally, library, shape, text, encoding):
 
     def call(sizes, room):
         kept = {name: np.full(sizes[name] + 1, 7, np.uint64) for name in (*written, "offsets")}
-        keys, told = np.full(room + 1, 7, np.uint8), [kind() for kind in library.TOLD_OF_A_PLAN]
-        asked = [np.full(sizes["start"], 1, np.uint64), np.full(sizes["box_shape"], 3, np.uint64), ctypes.c_uint64(0)]
-        left = [*(kept[name][:-1] for name in written), keys[:-1], kept["offsets"][:-1]]
-        code = library.call("zarrs_parts_of", shape, text, encoding, *asked, *left, *map(ctypes.byref, told))
-        beside = [int(part[-1]) for part in (*kept.values(), keys)]
-        return code, kept["chunks"][:-1].tolist(), keys[:-1].tobytes(), [number.value for number in told], beside
+        kept["text"] = np.full(room + 1, 7, np.uint8)
+        asked = {"start": np.full(sizes["start"], 1, np.uint64), "box_shape": np.full(sizes["box_shape"], 3, np.uint64), "first": 0}
+        asked |= {"shape": shape, "chunk_grid": text, "chunk_key_encoding": encoding, **{name: part[:-1] for name, part in kept.items()}}
+        code, told, moved = library.parts_of(asked)
+        beside = [int(part[-1]) for part in kept.values()], moved
+        return code, asked["chunks"].tolist(), asked["text"].tobytes(), [*told.values()], beside
 
     chunks, keys = [0, 0, 0, 1, 1, 0, 1, 1], b"c/0/0c/0/1c/1/0c/1/1"
     for room in range(21):
         code, text_is = (0, keys) if room == 20 else (library.SHORT_BUFFER, b"\7" * room)
-        tally.same(f"a plan, room for {room}", call(right, room), (code, chunks, text_is, [20, 4, 4, 1], [7] * 6))
+        tally.same(f"a plan, room for {room}", call(right, room), (code, chunks, text_is, [20, 4, 4, 1], ([7] * 6, [])))
     for name, size in [(name, size) for name in right for size in range(10) if size != right[name]]:
         code, *_others, beside = call({**right, name: size}, 20)
-        tally.same(f"a plan, {size} {name}", (code, beside), (library.WRONG_LENGTH, [7] * 6))
+        tally.same(f"a plan, {size} {name}", (code, beside), (library.WRONG_LENGTH, ([7] * 6, [])))
 
 
 # ---- memory
@@ -404,7 +405,7 @@ def examples(tally, backend):
         linked = ["-L", out, "-l", "zarrs_chunks", "-C", f"link-arg=-Wl,-rpath,{out}"]
         built = run(["rustc", "--edition=2024", HERE / "rust" / "example.rs", *linked, "-o", program])
         tally.same("rustc", built[0::2], (0, ""))
-        tally.same("the Rust example", run([program]), (0, b"Ok(([2, 1, 0, 0], [1, 1]))\n", ""))
+        tally.same("the Rust example", run([program]), (0, RUST_EXAMPLE, ""))
     ended = run([sys.executable, HERE / "python" / "example.py"], PYTHONPATH=str(HERE / "python"))
     tally.same("the Python example", (ended[0], ended[1].endswith(b" 1000000\n"), ended[2]), (0, True, ""))
 

@@ -75,7 +75,7 @@ def words(tally, call):
     tally.same("an encoding that isn't JSON", text_of(call, "zarrs_encoding_fault", b"\xff"), (-3, CODES[-3], -3, True))
     for code, said in CODES.items():
         tally.same(f"the code {code}", text_of(call, "zarrs_code_words", ctypes.c_int32(code)), (0, said, -8, True))
-    tally.same("the version", call("zarrs_abi_version"), 1)
+    tally.same("the version", call("zarrs_abi_version"), 2)
 
 
 def answered(call, question, room):
@@ -117,11 +117,10 @@ def one_order(tally, library):
     names = list(bad)
     for chosen in itertools.combinations_with_replacement(names, 2):
         asked = {**right, **{name: bad[name] for name in chosen}}
-        room, told = np.zeros(0, np.uint64), [kind() for kind in library.TOLD_OF_A_PLAN]
-        metadata = [json.dumps(asked[name]).encode() for name in names[:2]]
-        box = [np.array(numbers, np.uint64) for numbers in asked["of"]]
-        left = [*[room] * 4, np.zeros(0, np.uint8), np.zeros(1, np.uint64), *map(ctypes.byref, told)]
-        code = library.call("zarrs_parts_of", SHAPE, *metadata, *box, ctypes.c_uint64(0), *left)
+        metadata = {name: json.dumps(asked[name]).encode() for name in names[:2]}
+        start, box_shape = (np.array(numbers, np.uint64) for numbers in asked["of"])
+        box = {"start": start, "box_shape": box_shape, "first": 0}
+        code, _told, _moved = library.parts_of({"shape": SHAPE, **metadata, **box, "offsets": np.zeros(1, np.uint64)})
         line = answered(library.call, {"shape": SHAPE.tolist(), "call": "parts", "items": 1, **asked}, 200)[2]
         found = (code, line.startswith(f"refused: {words_of[chosen[0]]}".encode()))
         tally.same(f"{' and '.join(sorted(set(chosen)))} of a plan", found, (said[chosen[0]], True))

@@ -2,7 +2,7 @@
  *
  * A batch is n lists of d numbers, one after another in one array, where d is the number of dimensions. Numbers are uint64_t: sizes, indices,
  * origins, shapes and places count elements, chunks are numbered from 0 along each dimension. An array is passed as a pointer and how many
- * items it has; with 0 items the pointer may be null.
+ * items it has; with 0 items the pointer may be null. The call of the plan takes structs of such arrays.
  *
  * A grid is the array's shape (d numbers) and the text of the member `chunk_grid` of its zarr.json; an encoding is the text of the member
  * `chunk_key_encoding`. Texts are UTF-8 and end at their length, not at a zero byte. Each call makes its grid and its encoding anew and keeps
@@ -45,7 +45,7 @@ extern "C" {
 #endif
 
 /* The version of this interface. That of the library that is loaded is told by zarrs_abi_version; the two are to be equal. */
-#define ZARRS_ABI_VERSION 1
+#define ZARRS_ABI_VERSION 2
 
 /* How many bytes of stack a call needs at most. */
 #define ZARRS_STACK 163840
@@ -143,31 +143,43 @@ int32_t zarrs_chunks_of_keys(
     uint8_t *found, size_t found_len,
     size_t *wrong);
 
+/* An array as its zarr.json has it: its shape, and its members chunk_grid and chunk_key_encoding as text. */
+struct zarrs_stored_array {
+    const uint64_t *shape; size_t shape_len;
+    const uint8_t *chunk_grid; size_t chunk_grid_len;
+    const uint8_t *chunk_key_encoding; size_t chunk_key_encoding_len;
+};
+
+/* A box of elements: its first index and its shape, of d numbers each. */
+struct zarrs_element_box {
+    const uint64_t *start; size_t start_len;
+    const uint64_t *shape; size_t shape_len;
+};
+
+/* Where zarrs_parts_of writes n parts at most, and what it tells of them. The caller sets each pointer and its length, which stay as they are; the
+ * four numbers at the end may hold anything before the call. */
+struct zarrs_part_buffers {
+    uint64_t *chunks; size_t chunks_len; /* n * d: the chunk of each part */
+    uint64_t *in_chunk; size_t in_chunk_len; /* n * d: the part's first element, counted from that of the chunk */
+    uint64_t *in_subset; size_t in_subset_len; /* n * d: the same, counted from that of the box */
+    uint64_t *shapes; size_t shapes_len; /* n * d: the part's shape */
+    uint8_t *text; size_t text_len; /* the keys of the chunks, as zarrs_keys_of writes them */
+    uint64_t *offsets; size_t offsets_len; /* n + 1: where each key begins in the text, and at last where the last one ends */
+    size_t needed; /* how many bytes the keys have */
+    size_t count; /* how many parts are written */
+    uint64_t in_all; /* how many parts the plan has, and 18446744073709551615 where it has more: those past that number can't be asked for */
+    uint8_t found; /* 0 where the first or the last element of the box lies in no chunk: the three numbers above are 0 then; and else 1 */
+};
+
 /* The plan of reading a box of elements: a part for each chunk that holds some of the box, in row-major order of the chunks. Of the plan the part
- * with the number `first`, counted from 0, and those after it, as many as there is room for; those before it take no time. A box is its first
- * index and its shape. start, box_shape: d; chunks, in_chunk, in_subset, shapes: n * d; text: as many bytes as the keys have; offsets: n + 1. Of
- * each part it writes the chunk, the part's first element counted from that of the chunk, the same counted from that of the box, the part's shape,
- * and the key of the chunk, as zarrs_keys_of does. *needed gets how many bytes the keys have, *count how many parts are written, *in_all how many
- * the plan has, and 18446744073709551615 where it has more: those past that number can't be asked for. *found becomes 0 where the first or the
- * last element of the box lies in no chunk, and all three are 0 then; an empty box has a plan without parts. ZARRS_NOT_A_BOX where the box ends
- * past 18446744073709551615. ZARRS_SHORT_BUFFER where text is shorter: all but text is written all the same. */
+ * with the number `first`, counted from 0, and those after it, as many as there is room for; those before it take no time. An empty box has a plan
+ * without parts. ZARRS_NOT_A_BOX where the box ends past 18446744073709551615. ZARRS_SHORT_BUFFER where the text is shorter than the keys: all but
+ * the text is written all the same. */
 int32_t zarrs_parts_of(
-    const uint64_t *shape, size_t shape_len,
-    const uint8_t *chunk_grid, size_t chunk_grid_len,
-    const uint8_t *chunk_key_encoding, size_t chunk_key_encoding_len,
-    const uint64_t *start, size_t start_len,
-    const uint64_t *box_shape, size_t box_shape_len,
+    const struct zarrs_stored_array *array,
+    const struct zarrs_element_box *elements,
     uint64_t first,
-    uint64_t *chunks, size_t chunks_len,
-    uint64_t *in_chunk, size_t in_chunk_len,
-    uint64_t *in_subset, size_t in_subset_len,
-    uint64_t *shapes, size_t shapes_len,
-    uint8_t *text, size_t text_len,
-    uint64_t *offsets, size_t offsets_len,
-    size_t *needed,
-    size_t *count,
-    uint64_t *in_all,
-    uint8_t *found);
+    struct zarrs_part_buffers *buffers);
 
 /* The line that answers a question, which is a JSON object as crates/chunkcalls/CALLING.md says: an answer as compact JSON, or `refused:` or
  * `unreadable:` and why; and a line feed. *needed gets how many bytes it has. ZARRS_SHORT_BUFFER where line is shorter: nothing is written to

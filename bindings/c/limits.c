@@ -31,9 +31,12 @@ static void nested(char *text, const char *beginning, int depth, int is_list) {
 /* Makes every call. Answers how many ended otherwise than they should. */
 static int make_calls(const char *grid, const char *encoding, const char *question, int code) {
     const uint64_t shape[2] = {5, 7}, index[2] = {4, 6}, box_shape[2] = {1, 1}, key_offsets[2] = {0, 5};
-    uint64_t first[2], second[2], third[2], fourth[2], offsets[2], in_all;
+    const struct zarrs_stored_array array = {shape, 2, BYTES(grid), BYTES(encoding)};
+    const struct zarrs_element_box box = {index, 2, box_shape, 2};
+    uint64_t first[2], second[2], third[2], fourth[2], offsets[2];
     uint8_t found, text[64];
-    size_t needed, count, wrong;
+    struct zarrs_part_buffers parts = {first, 2, second, 2, third, 2, fourth, 2, text, sizeof text, offsets, 2, 0, 0, 0, 0};
+    size_t needed, wrong;
     int other = 0;
 
     other += zarrs_grid_shape(shape, 2, BYTES(grid), first, 2) != code;
@@ -43,8 +46,7 @@ static int make_calls(const char *grid, const char *encoding, const char *questi
     other += zarrs_covers_of(shape, 2, BYTES(grid), index, 2, box_shape, 2, first, 2, second, 2, &found, 1, &wrong) != code;
     other += zarrs_keys_of(BYTES(encoding), 2, index, 2, text, sizeof text, offsets, 2, &needed) != code;
     other += zarrs_chunks_of_keys(BYTES(encoding), 2, (const uint8_t *)"c/4/6", 5, key_offsets, 2, first, 2, &found, 1, &wrong) != code;
-    other += zarrs_parts_of(shape, 2, BYTES(grid), BYTES(encoding), index, 2, box_shape, 2, 0, first, 2, second, 2, third, 2, fourth, 2, text, sizeof text,
-                 offsets, 2, &needed, &count, &in_all, &found) != code;
+    other += zarrs_parts_of(&array, &box, 0, &parts) != code;
     other += zarrs_grid_fault(shape, 2, BYTES(grid), text, sizeof text, &needed) != code;
     other += zarrs_encoding_fault(BYTES(encoding), text, sizeof text, &needed) != code;
     other += zarrs_answer(BYTES(question), text, sizeof text, &needed) != ZARRS_OK;

@@ -207,7 +207,7 @@ class Grid:
         """
         if not isinstance(encoding, Encoding):
             raise TypeError(f"encoding: an Encoding is wanted, and not a {type(encoding).__name__}")
-        box = {"start": list_of_numbers("start", start), "box_shape": list_of_numbers("shape", shape)}
+        box = {"start": list_of_numbers("start", start), "shape": list_of_numbers("shape", shape)}
         if [numbers.size for numbers in box.values()] != [self.dimensionality] * 2:
             raise ValueError(f"start and shape: one box is asked for, with {self.dimensionality} numbers each")
         first, most = whole_number("first", first), GREATEST if most is None else whole_number("most", most)
@@ -224,10 +224,11 @@ class Grid:
         """So many parts of the plan of a box, or as many as it has; None where there is no plan. Nobody else has the box's arrays."""
         lists = {name: _library.room((room, self.dimensionality)) for name in ("chunks", "in_chunk", "in_subset", "shapes")}
         offsets, length, code = _library.room(room + 1), usual_length(room, self.dimensionality), _library.SHORT_BUFFER
-        asked = {"shape": self._shape, "chunk_grid": self._metadata.text, "chunk_key_encoding": encoding._metadata.text, **box, "first": first}
+        array = {"shape": self._shape, "chunk_grid": self._metadata.text, "chunk_key_encoding": encoding._metadata.text}
         while code == _library.SHORT_BUFFER:
             text = _library.text_room(length)
-            code, told = _library.call("zarrs_parts_of", **asked, **lists, text=text, offsets=offsets)
+            buffers = {**lists, "text": text, "offsets": offsets}
+            code, told = _library.call("zarrs_parts_of", array=array, elements=box, first=first, buffers=buffers)
             length = told["needed"]
         if code != _library.OK:
             refuse(code)

@@ -13,7 +13,7 @@ import numpy as np
 from . import _processor
 
 # The version of zarrs_chunks.h that the calls below are those of.
-VERSION = 1
+VERSION = 2
 
 OK, OUT_OF_MEMORY, WRONG_LENGTH, NOT_JSON, NOT_METADATA, REFUSED, NOT_A_BOX, WRONG_OFFSETS, SHORT_BUFFER = range(0, -9, -1)
 
@@ -42,11 +42,39 @@ NUMBERS = (_Array(np.uint64, is_written=False), ctypes.c_size_t)
 BYTES = (ctypes.c_char_p, ctypes.c_size_t)
 WRITTEN_NUMBERS = (_Array(np.uint64, is_written=True), ctypes.c_size_t)
 WRITTEN_BYTES = (_Array(np.uint8, is_written=True), ctypes.c_size_t)
-NUMBER, SIZE, CODE = (ctypes.c_uint64,), (ctypes.c_size_t,), (ctypes.c_int32,)
-TOLD_NUMBER, TOLD_SIZE, TOLD_BYTE = ((ctypes.POINTER(kind),) for kind in (ctypes.c_uint64, ctypes.c_size_t, ctypes.c_uint8))
+NUMBER, SIZE, CODE, TOLD_SIZE = (ctypes.c_uint64,), (ctypes.c_size_t,), (ctypes.c_int32,), (ctypes.POINTER(ctypes.c_size_t),)
 
 _GRID = {"shape": NUMBERS, "chunk_grid": BYTES}
 _ENCODING = {"chunk_key_encoding": BYTES}
+
+
+def _fields(kinds):
+    """The fields of a struct in C: for an array its pointer and its length, else a number, which a call tells."""
+    for name, kind in kinds.items():
+        yield from [(name, ctypes.c_void_p), (f"{name}_len", ctypes.c_size_t)] if len(kind) == 2 else [(name, kind[0])]
+
+
+class StoredArray(ctypes.Structure):
+    KINDS = {**_GRID, **_ENCODING}
+    _fields_ = [*_fields(KINDS)]
+
+
+class ElementBox(ctypes.Structure):
+    KINDS = {"start": NUMBERS, "shape": NUMBERS}
+    _fields_ = [*_fields(KINDS)]
+
+
+class PartBuffers(ctypes.Structure):
+    KINDS = {
+        "chunks": WRITTEN_NUMBERS, "in_chunk": WRITTEN_NUMBERS, "in_subset": WRITTEN_NUMBERS, "shapes": WRITTEN_NUMBERS,
+        "text": WRITTEN_BYTES, "offsets": WRITTEN_NUMBERS, "needed": SIZE, "count": SIZE, "in_all": NUMBER, "found": (ctypes.c_uint8,),
+    }  # fmt: skip
+    _fields_ = [*_fields(KINDS)]
+
+
+# A struct is passed as a pointer to it.
+STORED_ARRAY, ELEMENT_BOX, PART_BUFFERS = ((ctypes.POINTER(struct),) for struct in (StoredArray, ElementBox, PartBuffers))
+_STRUCTS = {STORED_ARRAY: StoredArray, ELEMENT_BOX: ElementBox, PART_BUFFERS: PartBuffers}
 
 # The calls of zarrs_chunks.h, with the names and the order of their arguments there. Each answers a code, and the first one the version.
 CALLS = {
@@ -67,22 +95,16 @@ CALLS = {
         **_ENCODING, "dimensionality": SIZE, "text": BYTES, "offsets": NUMBERS,
         "chunks": WRITTEN_NUMBERS, "found": WRITTEN_BYTES, "wrong": TOLD_SIZE,
     },
-    "zarrs_parts_of": {
-        **_GRID, **_ENCODING, "start": NUMBERS, "box_shape": NUMBERS, "first": NUMBER,
-        "chunks": WRITTEN_NUMBERS, "in_chunk": WRITTEN_NUMBERS, "in_subset": WRITTEN_NUMBERS, "shapes": WRITTEN_NUMBERS,
-        "text": WRITTEN_BYTES, "offsets": WRITTEN_NUMBERS,
-        "needed": TOLD_SIZE, "count": TOLD_SIZE, "in_all": TOLD_NUMBER, "found": TOLD_BYTE,
-    },
+    "zarrs_parts_of": {"array": STORED_ARRAY, "elements": ELEMENT_BOX, "first": NUMBER, "buffers": PART_BUFFERS},
     "zarrs_answer": {"question": BYTES, "line": WRITTEN_BYTES, "needed": TOLD_SIZE},
     "zarrs_grid_fault": {**_GRID, "words": WRITTEN_BYTES, "needed": TOLD_SIZE},
     "zarrs_encoding_fault": {**_ENCODING, "words": WRITTEN_BYTES, "needed": TOLD_SIZE},
     "zarrs_code_words": {"code": CODE, "words": WRITTEN_BYTES, "needed": TOLD_SIZE},
 }  # fmt: skip
 
-# The types of the numbers that a call tells, and, by call, the names of those and of what it is given.
-_TOLD = {TOLD_NUMBER: ctypes.c_uint64, TOLD_SIZE: ctypes.c_size_t, TOLD_BYTE: ctypes.c_uint8}
-_TOLD_BY = {name: {argument: _TOLD[kind] for argument, kind in kinds.items() if kind in _TOLD} for name, kinds in CALLS.items()}
-_GIVEN_TO = {name: kinds.keys() - _TOLD_BY[name].keys() for name, kinds in CALLS.items()}
+# What each call, and each struct, is given, by name.
+_GIVEN_TO = {name: {argument for argument, kind in kinds.items() if kind is not TOLD_SIZE} for name, kinds in CALLS.items()}
+_GIVEN_TO |= {struct: {field for field, kind in struct.KINDS.items() if len(kind) == 2} for struct in _STRUCTS.values()}
 
 
 def path():
@@ -142,16 +164,39 @@ def _new(make, shape, kind):
 
 
 def call(name, **arguments):
-    """Makes a call, with its arguments by the names of zarrs_chunks.h. Those by which it tells a number aren't given. Answers the code and, by
-    name, the numbers that it told."""
-    told = {argument: number() for argument, number in _TOLD_BY[name].items()}
-    if arguments.keys() != _GIVEN_TO[name]:
-        raise TypeError(f"{name} takes {', '.join(_GIVEN_TO[name])}, and was given {', '.join(arguments)}")
-    passed = []
+    """Makes a call, with its arguments by the names of zarrs_chunks.h, a struct as a dict of its arrays. Those by which it tells a number aren't
+    given. Answers the code and, by name, the numbers that it told."""
+    _check_names(name, name, arguments)
+    sizes, structs, passed = {}, [], []
     for argument, kind in CALLS[name].items():
-        passed += [ctypes.byref(told[argument])] if argument in told else _passed(argument, kind, arguments[argument])
+        if kind is TOLD_SIZE:
+            sizes[argument] = ctypes.c_size_t()
+            passed.append(ctypes.byref(sizes[argument]))
+        elif kind in _STRUCTS:
+            structs.append(_struct(argument, _STRUCTS[kind], arguments[argument]))
+            passed.append(ctypes.byref(structs[-1]))
+        else:
+            passed += _passed(argument, kind, arguments[argument])
     code = _FUNCTIONS[name](*passed)
-    return code, {argument: number.value for argument, number in told.items()}
+    told = {argument: size.value for argument, size in sizes.items()}
+    return code, told | {field: getattr(struct, field) for struct in structs for field in struct.KINDS.keys() - _GIVEN_TO[type(struct)]}
+
+
+def _check_names(what, named, arguments):
+    if arguments.keys() != _GIVEN_TO[named]:
+        raise TypeError(f"{what} takes {', '.join(sorted(_GIVEN_TO[named]))}, and was given {', '.join(arguments)}")
+
+
+def _struct(argument, struct, arrays):
+    """A struct of these arrays, which the caller keeps."""
+    _check_names(argument, struct, arrays)
+    made = struct()
+    for name, array in arrays.items():
+        kind = struct.KINDS[name]
+        value, length = _passed(name, kind, array)
+        setattr(made, name, ctypes.cast(value, ctypes.c_void_p) if kind is BYTES else kind[0].from_param(value))
+        setattr(made, f"{name}_len", length)
+    return made
 
 
 def _passed(argument, kind, value):

@@ -1,6 +1,7 @@
 -- How calls end.
 use Rattle.std.proofs.Common.{◌≡◌, ◌⊎◌, ℕ, ◌<◌, ◌≤◌, List, length, take, Result, Ok, Err, IfErr, IsOk, MatchResult, OnOk, inl, inr, ⊎_elim, subst}
 use Rattle.std.proofs.Common.{sym, arith}
+use Rattle.std.proofs.lemmas.Result.{MatchResult-from_both}
 use Rattle.zarrs_chunks_c.specs.Batch.{IsTooLong, IsWhole}
 use Rattle.zarrs_chunks_c.specs.Calls.{Call, IsEndOf, early, late, no_metadata}
 use Rattle.zarrs_chunks_c.specs.Codes.{End}
@@ -9,10 +10,14 @@ use Rattle.zarrs_chunks_c.specs.declared.codes.Fault.TheVariants.{Memory, Short}
 
 module _ {X : Type 0} (call : Call X) where
   -- after the faults of the metadata and the lengths
+  pub ends_with : (x : X) (end : End) → call.Says x → call.Fits x
+      → MatchResult end (λ _. call.Answers x) (λ fault. (fault ≡ Memory) ⊎ call.Refuses x fault) → IsEndOf call end
+  ends_with x (Ok _) says fits answers = (x, says, fits, answers)
+  ends_with x (Err fault) says fits refused = ⊎_elim (λ memory. inl memory) (λ is. inr (late x says fits is)) refused
+
   pub ends_late : (x : X) (end : End) → call.Says x → call.Fits x → OnOk end (call.Answers x)
       → IfErr end (λ fault. (fault ≡ Memory) ⊎ call.Refuses x fault) → IsEndOf call end
-  ends_late x (Ok _) says fits answers refused = (x, says, fits, answers)
-  ends_late x (Err fault) says fits answers refused = ⊎_elim (λ memory. inl memory) (λ is. inr (late x says fits is)) refused
+  ends_late x end says fits answers refused = ends_with x end says fits (MatchResult-from_both end _ _ answers refused)
 
   -- as the making of the X did
   pub ends_as : {T : Type 0} (x : T → X) (made : Result T Fault) (end : End) (A : Type 0)

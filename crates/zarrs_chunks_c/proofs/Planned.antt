@@ -1,6 +1,6 @@
 -- Parts of a plan that were found, and what is written of them.
-use Rattle.std.proofs.Common.{◌≡◌, ◌≢◌, ◌⊎◌, ◌∙◌, ℕ, zero, suc, ◌+◌, ◌-◌, ◌<◌, ◌≤◌, List, [], ◌∷◌, Option, Some, None, Ok, Err, IfErr, MatchOption}
-use Rattle.std.proofs.Common.{OnOk, drop, get_or, length, min, take, inl, inr, ⊎_elim, refl, ap, subst, sym, arith}
+use Rattle.std.proofs.Common.{◌≡◌, ◌≢◌, ◌⊎◌, ◌∙◌, ℕ, zero, suc, ◌+◌, ◌-◌, ◌<◌, ◌≤◌, List, [], ◌∷◌, Option, Some, None, Ok, MatchOption}
+use Rattle.std.proofs.Common.{drop, get_or, length, min, take, inl, inr, ⊎_elim, refl, ap, subst, sym, arith}
 use Rattle.std.proofs.lemmas.Bool.{cases_lt}
 use Rattle.std.proofs.lemmas.List.{get_or-drop, get_or-take, length-drop, length-take}
 use Rattle.std.proofs.lemmas.Option.{get_or_from_slice_get}
@@ -15,12 +15,10 @@ use Rattle.zarrs_chunk_plan.specs.declared.numbered_parts.SomeParts.{SomeParts}
 use Rattle.zarrs_chunk_plan.proofs.Plans.{empty_or_some, none_in_zeros}
 use Rattle.zarrs_chunk_plan.proofs.Taken.{none_taken}
 use Rattle.zarrs_chunks_c.specs.Asked.{HasNoCover, IsCoverOf}
-use Rattle.zarrs_chunks_c.specs.Batch.{AreTexts, IsMarked, IsTooLong, IsWhole}
-use Rattle.zarrs_chunks_c.specs.Codes.{End}
-use Rattle.zarrs_chunks_c.specs.Parts.{ArePartsFrom, IsPartAt, Written}
-use Rattle.zarrs_chunks_c.specs.PlanCall.{IsPlanWith}
-use Rattle.zarrs_chunks_c.specs.declared.codes.Fault.TheVariants.{Memory, NotBox, Short}
-use Rattle.zarrs_chunks_c.specs.seen.Parts.{AreFoundParts, AreWrittenBelow, IsKeyOf, IsPlanned, IsWritten}
+use Rattle.zarrs_chunks_c.specs.Batch.{AreTexts}
+use Rattle.zarrs_chunks_c.specs.Parts.{IsPartAt, IsPlanWith}
+use Rattle.zarrs_chunks_c.specs.declared.structs.PartBuffers.{PartBuffers}
+use Rattle.zarrs_chunks_c.specs.seen.Parts.{AreFoundParts, AreWrittenBelow, IsKeyOf, IsWritten}
 use Rattle.zarrs_chunks_c.proofs.Covers.{none_is_not_empty}
 
 -- ---- what was found
@@ -62,21 +60,17 @@ module _ (IsKey : List ℕ → List ℕ → Type 0) (first most : ℕ) where
 -- ---- what is written
 
 -- one part more
-pub written_more : (width number : ℕ) (parts : List Part) (part : Part)
-    (chunks in_chunk in_subset shapes chunks' in_chunk' in_subset' shapes' : List ℕ)
-    → AreWrittenBelow number width parts chunks in_chunk in_subset shapes → part ≡ get_or parts number part
-    → IsWritten width part chunks' in_chunk' in_subset' shapes' number
-    → ((k : ℕ) → k < number → (p : Part) → IsWritten width p chunks in_chunk in_subset shapes k
-    → IsWritten width p chunks' in_chunk' in_subset' shapes' k)
-    → AreWrittenBelow (number + 1) width parts chunks' in_chunk' in_subset' shapes'
-written_more width number parts part chunks in_chunk in_subset shapes chunks' in_chunk' in_subset' shapes' before is here earlier k less p found =
-    ⊎_elim (λ (below : k < number). earlier k below p (before k below p found))
+pub written_more : (width number : ℕ) (parts : List Part) (part : Part) (before after : PartBuffers) → AreWrittenBelow number width parts before
+    → part ≡ get_or parts number part → IsWritten width part after number
+    → ((k : ℕ) → k < number → (p : Part) → IsWritten width p before k → IsWritten width p after k)
+    → AreWrittenBelow (number + 1) width parts after
+written_more width number parts part before after are is here earlier k less p found =
+    ⊎_elim (λ (below : k < number). earlier k below p (are k below p found))
     (λ (last : number ≤ k).
     let at : number ≡ k = omega arith in
     let part_here : slice_get parts number ≡ Some p = ap (slice_get parts) at ∙ found in
     let same : part ≡ p = is ∙ get_or_from_slice_get parts number p part part_here in
-    subst (λ n. IsWritten width p chunks' in_chunk' in_subset' shapes' n) at
-    (subst (λ q. IsWritten width q chunks' in_chunk' in_subset' shapes' number) same here))
+    subst (λ n. IsWritten width p after n) at (subst (λ q. IsWritten width q after number) same here))
     (cases_lt k number)
 
 -- ---- what is written of what was found
@@ -105,9 +99,9 @@ taken_at xs first count k x less found =
 
 module _ (ds : List Dimension) (IsKey : List ℕ → List ℕ → Type 0) (subset : Box) where
   -- a part, of which these lists are written
-  part_at : (chunk : List ℕ) (part : Part) (written : Written) (number : ℕ) → IsPart ds IsKey subset chunk part
-      → IsWritten (length ds) part written.chunks written.in_chunk written.in_subset written.shapes number → IsPartAt ds subset chunk written number
-  part_at chunk part written number is lists =
+  part_at : (chunk : List ℕ) (part : Part) (buffers : PartBuffers) (number : ℕ) → IsPart ds IsKey subset chunk part
+      → IsWritten (length ds) part buffers number → IsPartAt ds subset chunk buffers number
+  part_at chunk part buffers number is lists =
       let shape : part.in_chunk.shape ≡ part.in_subset.shape = sym is.boxes.from_chunk.shape ∙ is.boxes.from_subset.shape in
       let shared = subst (λ s. AreShared ds subset chunk part.in_chunk (record { start = part.in_subset.start; shape = s })) (sym shape) is.boxes in
       record { numbers = lists.is_chunk ∙ is.numbers; boxes = rw (lists.is_in_chunk, lists.is_in_subset, lists.is_shape) shared }
@@ -136,21 +130,20 @@ module _ (ds : List Dimension) (IsKey : List ℕ → List ℕ → Type 0) (subse
         let in_all = are.in_all in
         omega arith
 
-    written_of_cover : (written : Written) → IsCoverOf ds subset cover
-        → AreWrittenBelow (length parts) (length ds) parts written.chunks written.in_chunk written.in_subset written.shapes
-        → AreTexts (IsKeyOf parts) (length parts) written.keys written.offsets
-        → ArePartsFrom ds IsKey subset first room some.in_all (length parts) written
-    written_of_cover written is_cover lists texts = record {
+    written_of_cover : (buffers : PartBuffers) (keys : List ℕ) → IsCoverOf ds subset cover → buffers.in_all ≡ some.in_all
+        → buffers.count ≡ length parts → length buffers.offsets.now - 1 ≡ room → AreWrittenBelow (length parts) (length ds) parts buffers
+        → AreTexts (IsKeyOf parts) (length parts) keys buffers.offsets.now → IsPlanWith ds IsKey subset first buffers keys
+    written_of_cover buffers keys is_cover in_all counted has_room lists texts = record {
       cover = cover;
       is_cover = is_cover;
-      has_in_all = are.in_all;
-      has_written = count_is;
+      has_in_all = in_all ∙ are.in_all;
+      has_written = rw (counted, in_all, has_room) count_is;
       parts = λ number less.
-          let (chunk, (part, of_chunk, of_part, is)) = at_place IsPartOf taken parts number are.are_parts less in
-          let counted = count_is in
+          let (chunk, (part, of_chunk, of_part, is)) = at_place IsPartOf taken parts number are.are_parts (omega arith) in
+          let among = count_is in
           let at = taken_at chunks first count number chunk (omega arith) of_chunk in
-          rw at (part_at chunk part written number is (lists number less part of_part));
-      keys = record {
+          rw at (part_at chunk part buffers number is (lists number (omega arith) part of_part));
+      are_keys = rw counted (record {
         first = texts.first;
         last = texts.last;
         within = texts.within;
@@ -158,29 +151,11 @@ module _ (ds : List Dimension) (IsKey : List ℕ → List ℕ → Type 0) (subse
             let (chunk, (part, of_chunk, of_part, is)) = at_place IsPartOf taken parts number are.are_parts less in
             let of_number = lists number less part of_part in
             rw (of_number.is_chunk, is.numbers, texts.texts number less part of_part) is.key;
-      };
+      });
     }
 
-  pub all_written : (first room : ℕ) (some : SomeParts) (written : Written) → AreFoundParts ds IsKey subset first room some
-      → AreWrittenBelow (length some.parts.items) (length ds) some.parts.items written.chunks written.in_chunk written.in_subset written.shapes
-      → AreTexts (IsKeyOf some.parts.items) (length some.parts.items) written.keys written.offsets
-      → ArePartsFrom ds IsKey subset first room some.in_all (length some.parts.items) written
-  all_written first room some written (cover, is_cover, are) lists texts = written_of_cover first room some cover are written is_cover lists texts
-
--- ---- how a plan ends
-
-module _ (ds : List Dimension) (IsKey : List ℕ → List ℕ → Type 0) (b : Box) (first : ℕ) (written : List ℕ → Written) (text : List ℕ)
-    (needed count in_all mark : ℕ) (is_box : IsBox b) where
-  abbrev pub IsPlan : List ℕ → Type 0
-  IsPlan = IsPlanWith ds IsKey b first in_all count written
-
-  pub plan_answers : (end : End) → IsPlanned ds IsKey b first written text needed count in_all mark end
-      → OnOk end (IsBox b × IsMarked mark (IsWhole IsPlan text needed) (HasNoCover ds b))
-  plan_answers (Ok _) is = (is_box, is)
-  plan_answers (Err _) is = tt
-
-  pub plan_refuses : (end : End) → IsPlanned ds IsKey b first written text needed count in_all mark end
-      → IfErr end (λ fault. (fault ≡ Memory) ⊎ (((fault ≡ NotBox) × ¬ IsBox b)
-      ⊎ ((fault ≡ Short) × IsBox b × (mark ≡ 1) × IsTooLong IsPlan text needed)))
-  plan_refuses (Ok _) is = tt
-  plan_refuses (Err fault) is = ⊎_elim (λ memory. inl memory) (λ (short, found, long). inr (inr (short, is_box, found, long))) is
+  pub all_written : (first room : ℕ) (some : SomeParts) (buffers : PartBuffers) (keys : List ℕ) → AreFoundParts ds IsKey subset first room some
+      → buffers.in_all ≡ some.in_all → buffers.count ≡ length some.parts.items → length buffers.offsets.now - 1 ≡ room
+      → AreWrittenBelow (length some.parts.items) (length ds) some.parts.items buffers
+      → AreTexts (IsKeyOf some.parts.items) (length some.parts.items) keys buffers.offsets.now → IsPlanWith ds IsKey subset first buffers keys
+  all_written first room some buffers keys (cover, is_cover, are) = written_of_cover first room some cover are buffers keys is_cover

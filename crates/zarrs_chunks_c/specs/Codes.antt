@@ -5,7 +5,7 @@ use Rattle.zarrs_chunks_c.specs.declared.codes.Fault.TheVariants.{Memory, Length
 
 -- the version of the interface
 abbrev pub abi_version : ℤ
-abi_version = pos 1
+abi_version = pos 2
 
 -- the code of each fault
 abbrev pub fault_code : Fault → ℤ

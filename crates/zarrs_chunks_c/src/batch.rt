@@ -9,7 +9,13 @@ ghost use Rattle.zarrs_chunks_c.specs.seen.Lists.{AreLong, HasList};
 use crate::codes::Fault;
 use crate::lists::write_list;
 use std::alloc::Global;
-use zarrs_chunks::Home;
+
+/// The two lists that answer a question.
+#[derive(Drop)]
+pub(crate) struct Answer {
+    pub(crate) first: Vec<u64>,
+    pub(crate) second: Vec<u64>,
+}
 
 /// Questions, numbered from 0, of a grid or of an encoding.
 pub(crate) trait Questions {
@@ -35,18 +41,17 @@ pub(crate) trait Questions {
     fn widths(&self) -> (usize, usize)
         ensures { result ≡ widths self.now };
 
-    /// Whether the question with this number has an answer, which is left in `answer`: an element's chunk and its place there, or two
-    /// other lists. The memory that `answer` has is used again.
+    /// Whether the question with this number has an answer, which is left in `answer`, whose memory is used again.
     ///
     /// # Errors
     /// What is asked is no question; or out of memory.
-    fn answer(&self, alloc: Global, number: usize, answer: &mut Home) -> Result<bool, Fault>
+    fn answer(&self, alloc: Global, number: usize, answer: &mut Answer) -> Result<bool, Fault>
         requires { given self.now number }
         ensures answers { IfOk result (λ found. cond found
-            (answered self.now number answer.new.chunk.items answer.new.element.items)
+            (answered self.now number answer.new.first.items answer.new.second.items)
             (unanswered self.now number)) }
         ensures long { IfOk result (λ found. cond found
-            (AreLong (widths self.now) answer.new.chunk.items answer.new.element.items)
+            (AreLong (widths self.now) answer.new.first.items answer.new.second.items)
             (Unit {0})) }
         ensures asked { OnOk result (is_question self.now number) }
         ensures refused { IfErr result (λ told. (told ≡ Memory)
@@ -80,7 +85,10 @@ pub(crate) fn answer_all<Q: Questions>(
         × IsFirstWrong (length found.new) (Q.is_question questions.now) wrong.new)) }
 {
     let widths = questions.widths();
-    let mut answer = Home::new(alloc);
+    let mut answer = Answer {
+        first: Vec::new(alloc),
+        second: Vec::new(alloc),
+    };
     for number in 0..found.len() {
         *wrong = number;
         let is_found = answer_one(alloc, questions, widths, number, &mut answer, first, second)?;
@@ -98,7 +106,7 @@ fn answer_one<Q: Questions>(
     questions: &Q,
     widths: (usize, usize),
     number: usize,
-    answer: &mut Home,
+    answer: &mut Answer,
     first: &mut [u64],
     second: &mut [u64],
 ) -> Result<bool, Fault>
@@ -121,8 +129,8 @@ fn answer_one<Q: Questions>(
 {
     let found = questions.answer(alloc, number, answer)?;
     if found {
-        write_list(first, widths.0, number, &answer.chunk);
-        write_list(second, widths.1, number, &answer.element);
+        write_list(first, widths.0, number, &answer.first);
+        write_list(second, widths.1, number, &answer.second);
     }
     Ok(found)
 }

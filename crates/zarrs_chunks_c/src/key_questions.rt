@@ -4,13 +4,12 @@ ghost use Rattle.zarrs_chunks_c.specs.Asked.{IsChunkOf};
 ghost use Rattle.zarrs_chunks_c.specs.Batch.{HasText, text_at};
 ghost use Rattle.zarrs_chunks_c.specs.declared.codes.Fault.TheVariants.{Offsets};
 
-use crate::batch::Questions;
+use crate::batch::{Answer, Questions};
 use crate::codes::Fault;
 use crate::texts::text_of;
 use std::alloc::{AllocError, Global};
 use zarrs_chunk_base::{ArrayIndices, StoreKey};
 use zarrs_chunk_keys::ChunkKeyEncodingTraits;
-use zarrs_chunks::Home;
 
 /// Whose keys texts are: the chunk with this many numbers that has each.
 #[derive(Drop)]
@@ -42,13 +41,13 @@ impl<E: ChunkKeyEncodingTraits> Questions for ChunksOfKeys<'_, E> {
         (self.dimensionality, 0)
     }
 
-    fn answer(&self, alloc: Global, number: usize, answer: &mut Home) -> Result<bool, Fault> {
+    fn answer(&self, alloc: Global, number: usize, answer: &mut Answer) -> Result<bool, Fault> {
         let key = text_of(self.text, self.offsets, number)?;
         let Some(chunk) = chunk_of_key(alloc, self.encoding, self.dimensionality, key)? else {
             return Ok(false);
         };
-        answer.chunk = chunk;
-        answer.element.clear();
+        answer.first = chunk;
+        answer.second.clear();
         Ok(true)
     }
 }

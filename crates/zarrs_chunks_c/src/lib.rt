@@ -14,6 +14,7 @@
 //! | `answer_call` | `zarrs_answer`: any question as text |
 //! | `fault_calls` | `zarrs_grid_fault`, `zarrs_encoding_fault`, `zarrs_code_words`: why a call is refused, in words |
 //! | `version` | `zarrs_abi_version` |
+//! | `structs` | the structs of the header: an array as it is stored, a box, and the buffers for parts |
 //! | `batch` | the loop over the questions of a batch |
 //! | `lists` | lists of one length, one after another |
 //! | `parts` | parts of a plan, one after another |
@@ -36,5 +37,6 @@ mod metadata;
 mod parts;
 mod plan_call;
 mod questions;
+mod structs;
 mod texts;
 mod version;

@@ -4,12 +4,14 @@ ghost use Rattle.std.specs.List.{AllByRecursion};
 ghost use Rattle.zarrs_chunk_plan.specs.declared.part.Part.{Part};
 ghost use Rattle.zarrs_chunks_c.specs.Asked.{HasNoCover};
 ghost use Rattle.zarrs_chunks_c.specs.Batch.{AreTexts};
+ghost use Rattle.zarrs_chunks_c.specs.Parts.{AreSameBuffers};
 ghost use Rattle.zarrs_chunks_c.specs.declared.codes.Fault.TheVariants.{Memory};
 ghost use Rattle.zarrs_chunks_c.specs.seen.Parts.{AreFoundParts, AreWrittenBelow, HasLists, IsKeyOf, IsLongPart, IsWritten};
 
 use crate::codes::Fault;
 use crate::key_calls::byte_length;
 use crate::lists::write_list;
+use crate::structs::PartBuffers;
 use std::alloc::{AllocError, Global};
 use zarrs_chunk_base::ArraySubset;
 use zarrs_chunk_keys::ChunkKeyEncodingTraits;
@@ -43,47 +45,32 @@ pub(crate) fn find_parts<G: ChunkGridTraits, E: ChunkKeyEncodingTraits>(
 }
 
 /// Writes of each part where it lies: the chunk's numbers, where the part begins in the chunk and in the box that is read, and its shape.
-pub(crate) fn write_parts(
-    parts: &[Part],
-    width: usize,
-    chunks: &mut [u64],
-    in_chunk: &mut [u64],
-    in_subset: &mut [u64],
-    shapes: &mut [u64],
-)
-    requires room { (k : ℕ) → k < length parts.now
-        → HasLists width chunks.old in_chunk.old in_subset.old shapes.old k }
+pub(crate) fn write_parts(parts: &[Part], width: usize, buffers: &mut PartBuffers)
+    requires room { (k : ℕ) → k < length parts.now → HasLists width buffers.old k }
     requires long { AllByRecursion (IsLongPart width) parts.now }
-    ensures { AreWrittenBelow (length parts.now) width parts.now
-        chunks.new in_chunk.new in_subset.new shapes.new }
+    ensures written { AreWrittenBelow (length parts.now) width parts.now buffers.new }
+    ensures same_buffers { AreSameBuffers buffers.old buffers.new }
+    ensures text_kept { buffers.new.text.now ≡ buffers.old.text.now }
 {
     for (number, part) in parts.iter().enumerate() {
-        write_part(part, width, number, chunks, in_chunk, in_subset, shapes);
+        write_part(part, width, number, buffers);
     }
 }
 
 /// Writes where a part lies, behind the parts with a smaller number.
-fn write_part(
-    part: &Part,
-    width: usize,
-    number: usize,
-    chunks: &mut [u64],
-    in_chunk: &mut [u64],
-    in_subset: &mut [u64],
-    shapes: &mut [u64],
-)
-    requires room { HasLists width chunks.old in_chunk.old in_subset.old shapes.old number }
+fn write_part(part: &Part, width: usize, number: usize, buffers: &mut PartBuffers)
+    requires room { HasLists width buffers.old number }
     requires long { IsLongPart width part.now }
-    ensures written { IsWritten width part.now
-        chunks.new in_chunk.new in_subset.new shapes.new number }
+    ensures written { IsWritten width part.now buffers.new number }
     ensures earlier { (k : ℕ) → k < number → (p : Part)
-        → IsWritten width p chunks.old in_chunk.old in_subset.old shapes.old k
-        → IsWritten width p chunks.new in_chunk.new in_subset.new shapes.new k }
+        → IsWritten width p buffers.old k → IsWritten width p buffers.new k }
+    ensures same_buffers { AreSameBuffers buffers.old buffers.new }
+    ensures text_kept { buffers.new.text.now ≡ buffers.old.text.now }
 {
-    write_list(chunks, width, number, part.chunk.as_slice());
-    write_list(in_chunk, width, number, part.in_chunk.start());
-    write_list(in_subset, width, number, part.in_subset.start());
-    write_list(shapes, width, number, part.in_chunk.shape());
+    write_list(buffers.chunks, width, number, part.chunk.as_slice());
+    write_list(buffers.in_chunk, width, number, part.in_chunk.start());
+    write_list(buffers.in_subset, width, number, part.in_subset.start());
+    write_list(buffers.shapes, width, number, part.in_chunk.shape());
 }
 
 /// The keys of parts, one after another. Where each begins, and at last where the last one ends, is written as offsets in bytes.

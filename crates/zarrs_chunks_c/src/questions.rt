@@ -9,10 +9,11 @@ ghost use Rattle.zarrs_chunks_c.specs.GridCalls.{box_asked};
 ghost use Rattle.zarrs_chunks_c.specs.declared.codes.Fault.TheVariants.{Memory, NotBox};
 ghost use Rattle.zarrs_chunks_c.specs.seen.Lists.{HasList};
 
-use crate::batch::Questions;
+use crate::batch::{Answer, Questions};
 use crate::codes::Fault;
 use crate::lists::list_of;
 use std::alloc::Global;
+use std::mem;
 use zarrs_chunk_base::ArraySubset;
 use zarrs_chunks::{ChunkGridTraits, Home};
 
@@ -44,9 +45,15 @@ impl<G: ChunkGridTraits> Questions for Homes<'_, G> {
         (self.grid.dimensionality(), self.grid.dimensionality())
     }
 
-    fn answer(&self, _alloc: Global, number: usize, answer: &mut Home) -> Result<bool, Fault> {
+    fn answer(&self, alloc: Global, number: usize, answer: &mut Answer) -> Result<bool, Fault> {
         let index = list_of(self.indices, self.grid.dimensionality(), number);
-        Ok(self.grid.find_home(index, answer)?)
+        let mut home = Home {
+            chunk: mem::replace(&mut answer.first, Vec::new(alloc)),
+            element: mem::replace(&mut answer.second, Vec::new(alloc)),
+        };
+        let found = self.grid.find_home(index, &mut home)?;
+        (answer.first, answer.second) = (home.chunk, home.element);
+        Ok(found)
     }
 }
 
@@ -72,9 +79,9 @@ impl<Q: Questions> Questions for FirstAlone<Q> {
         (self.0.widths().0, 0)
     }
 
-    fn answer(&self, alloc: Global, number: usize, answer: &mut Home) -> Result<bool, Fault> {
+    fn answer(&self, alloc: Global, number: usize, answer: &mut Answer) -> Result<bool, Fault> {
         let found = self.0.answer(alloc, number, answer)?;
-        answer.element.clear();
+        answer.second.clear();
         Ok(found)
     }
 }
@@ -107,7 +114,7 @@ impl<G: ChunkGridTraits> Questions for ChunkBoxes<'_, G> {
         (self.grid.dimensionality(), self.grid.dimensionality())
     }
 
-    fn answer(&self, alloc: Global, number: usize, answer: &mut Home) -> Result<bool, Fault> {
+    fn answer(&self, alloc: Global, number: usize, answer: &mut Answer) -> Result<bool, Fault> {
         let chunk = list_of(self.chunks, self.grid.dimensionality(), number);
         leave_box(self.grid.subset(alloc, chunk)?, answer)
     }
@@ -143,7 +150,7 @@ impl<G: ChunkGridTraits> Questions for Covers<'_, G> {
         (self.grid.dimensionality(), self.grid.dimensionality())
     }
 
-    fn answer(&self, alloc: Global, number: usize, answer: &mut Home) -> Result<bool, Fault> {
+    fn answer(&self, alloc: Global, number: usize, answer: &mut Answer) -> Result<bool, Fault> {
         let start = list_of(self.starts, self.grid.dimensionality(), number);
         let shape = list_of(self.shapes, self.grid.dimensionality(), number);
         leave_box(cover_of(alloc, self.grid, start, shape)?, answer)
@@ -198,17 +205,17 @@ pub(crate) fn box_of(alloc: Global, start: &[u64], shape: &[u64]) -> Result<Arra
 ///
 /// # Errors
 /// Out of memory.
-fn leave_box(subset: Option<ArraySubset>, answer: &mut Home) -> Result<bool, Fault>
+fn leave_box(subset: Option<ArraySubset>, answer: &mut Answer) -> Result<bool, Fault>
     ensures left { IfOk result (λ found. MatchOption subset (found ≡ false) (λ b. (found ≡ true)
-        × (b ≡ record { start = answer.new.chunk.items; shape = answer.new.element.items }))) }
+        × (b ≡ record { start = answer.new.first.items; shape = answer.new.second.items }))) }
     ensures refused { IfErr result (λ fault. fault ≡ Memory) }
 {
     let Some(subset) = subset else {
         return Ok(false);
     };
-    answer.chunk.clear();
-    answer.chunk.extend_from_slice(subset.start())?;
-    answer.element.clear();
-    answer.element.extend_from_slice(subset.shape())?;
+    answer.first.clear();
+    answer.first.extend_from_slice(subset.start())?;
+    answer.second.clear();
+    answer.second.extend_from_slice(subset.shape())?;
     Ok(true)
 }

@@ -7,5 +7,5 @@ ghost use Rattle.zarrs_chunks_c.specs.Codes.{abi_version};
 pub extern "C" fn zarrs_abi_version() -> i32
     ensures { result ≡ abi_version }
 {
-    1
+    2
 }

@@ -1,8 +1,14 @@
+use Rattle.std.proofs.Common.{rules, ◌∙◌}
 use Rattle.zarrs_chunks_c.proofs.Planned.{written_more}
 use Rattle.zarrs_chunks_c.proofs.parts.write_parts.Goals as goal
 
 pub loop-number-preserved : goal.loop-number-preserved
 loop-number-preserved c =
+    let before = c.loop-number.invariant in
     let wrote = c.write_part.ensures in
-    written_more c.args.width c.loop-number.number c.args.parts.now c.index-parts-number.result _ _ _ _ _ _ _ _
-    c.loop-number.invariant c.index-parts-number.is wrote.written wrote.earlier
+    record {
+      written = written_more c.args.width c.loop-number.number c.args.parts.now c.index-parts-number.result c.loop-number.buffers
+          c.write_part.new.buffers before.written c.index-parts-number.is wrote.written wrote.earlier;
+      same_buffers = search rules;
+      text_kept = wrote.text_kept ∙ before.text_kept;
+    }

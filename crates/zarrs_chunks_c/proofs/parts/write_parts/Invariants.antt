@@ -1,6 +1,12 @@
+use Rattle.std.proofs.Common.{◌≡◌}
+use Rattle.zarrs_chunks_c.specs.Parts.{AreSameBuffers}
 use Rattle.zarrs_chunks_c.specs.seen.Parts.{AreWrittenBelow}
 use Rattle.zarrs_chunks_c.proofs.parts.write_parts.Given as goal
 
--- the parts so far are written
+-- the parts so far are written, and nothing else
 abbrev pub invariant-loop-number : goal.invariant-loop-number
-invariant-loop-number l = AreWrittenBelow l.number l.width l.parts l.chunks l.in_chunk l.in_subset l.shapes
+invariant-loop-number l = record {
+  written : AreWrittenBelow l.number l.width l.parts l.buffers;
+  same_buffers : AreSameBuffers l.initial.buffers l.buffers;
+  text_kept : l.buffers.text.now ≡ l.initial.buffers.text.now;
+}

@@ -19,14 +19,14 @@ returns-clause-answers g c =
     (λ s h. MatchOption c.in_ok-cover_of.field-0 (HasNoCover ds (record { start = s; shape = h })) (IsCoverOf ds (record { start = s; shape = h })))
     start shape c.in_ok-cover_of.ensures.cover in
     of_left c.leave_box.result c.in_ok-cover_of.field-0
-    (record { start = c.leave_box.new.answer.chunk.items; shape = c.leave_box.new.answer.element.items })
+    (record { start = c.leave_box.new.answer.first.items; shape = c.leave_box.new.answer.second.items })
     (HasNoCover ds asked) (IsCoverOf ds asked) cover c.leave_box.ensures.left
 
 pub returns-clause-long : goal.returns-clause-long
 returns-clause-long g c =
     let ds = g.G.ChunkGridTraits.dimensions c.args.self.now.grid.now in
     of_left c.leave_box.result c.in_ok-cover_of.field-0
-    (record { start = c.leave_box.new.answer.chunk.items; shape = c.leave_box.new.answer.element.items }) (Unit {0}) (IsLongBox ds)
+    (record { start = c.leave_box.new.answer.first.items; shape = c.leave_box.new.answer.second.items }) (Unit {0}) (IsLongBox ds)
     (long_cover_of_answer ds
     (record { start = c.list_of-start.result.now; shape = c.list_of-shape.result.now }) c.in_ok-cover_of.field-0 c.in_ok-cover_of.ensures.cover)
     c.leave_box.ensures.left
