@@ -48,30 +48,19 @@ _GRID = {"shape": NUMBERS, "chunk_grid": BYTES}
 _ENCODING = {"chunk_key_encoding": BYTES}
 
 
-def _fields(kinds):
-    """The fields of a struct in C: for an array its pointer and its length, else a number, which a call tells."""
+def _struct(**kinds):
+    """A struct of the header: of an array it has the pointer and the length, and else a number, which a call tells."""
+    fields = []
     for name, kind in kinds.items():
-        yield from [(name, ctypes.c_void_p), (f"{name}_len", ctypes.c_size_t)] if len(kind) == 2 else [(name, kind[0])]
+        fields += [(name, ctypes.c_void_p), (f"{name}_len", ctypes.c_size_t)] if len(kind) == 2 else [(name, *kind)]
+    return type("Struct", (ctypes.Structure,), {"_fields_": fields, "KINDS": kinds})
 
 
-class StoredArray(ctypes.Structure):
-    KINDS = {**_GRID, **_ENCODING}
-    _fields_ = [*_fields(KINDS)]
-
-
-class ElementBox(ctypes.Structure):
-    KINDS = {"start": NUMBERS, "shape": NUMBERS}
-    _fields_ = [*_fields(KINDS)]
-
-
-class PartBuffers(ctypes.Structure):
-    KINDS = {
-        "chunks": WRITTEN_NUMBERS, "in_chunk": WRITTEN_NUMBERS, "in_subset": WRITTEN_NUMBERS, "shapes": WRITTEN_NUMBERS,
-        "text": WRITTEN_BYTES, "offsets": WRITTEN_NUMBERS, "needed": SIZE, "count": SIZE, "in_all": NUMBER, "found": (ctypes.c_uint8,),
-    }  # fmt: skip
-    _fields_ = [*_fields(KINDS)]
-
-
+StoredArray, ElementBox = _struct(**_GRID, **_ENCODING), _struct(start=NUMBERS, shape=NUMBERS)
+PartBuffers = _struct(
+    chunks=WRITTEN_NUMBERS, in_chunk=WRITTEN_NUMBERS, in_subset=WRITTEN_NUMBERS, shapes=WRITTEN_NUMBERS,
+    text=WRITTEN_BYTES, offsets=WRITTEN_NUMBERS, needed=SIZE, count=SIZE, in_all=NUMBER, found=(ctypes.c_uint8,),
+)  # fmt: skip
 # A struct is passed as a pointer to it.
 STORED_ARRAY, ELEMENT_BOX, PART_BUFFERS = ((ctypes.POINTER(struct),) for struct in (StoredArray, ElementBox, PartBuffers))
 _STRUCTS = {STORED_ARRAY: StoredArray, ELEMENT_BOX: ElementBox, PART_BUFFERS: PartBuffers}
@@ -102,7 +91,7 @@ CALLS = {
     "zarrs_code_words": {"code": CODE, "words": WRITTEN_BYTES, "needed": TOLD_SIZE},
 }  # fmt: skip
 
-# What each call, and each struct, is given, by name.
+# What each call, and each struct, is given, by name: all but the numbers that are told.
 _GIVEN_TO = {name: {argument for argument, kind in kinds.items() if kind is not TOLD_SIZE} for name, kinds in CALLS.items()}
 _GIVEN_TO |= {struct: {field for field, kind in struct.KINDS.items() if len(kind) == 2} for struct in _STRUCTS.values()}
 
@@ -173,7 +162,7 @@ def call(name, **arguments):
             sizes[argument] = ctypes.c_size_t()
             passed.append(ctypes.byref(sizes[argument]))
         elif kind in _STRUCTS:
-            structs.append(_struct(argument, _STRUCTS[kind], arguments[argument]))
+            structs.append(_filled(argument, _STRUCTS[kind], arguments[argument]))
             passed.append(ctypes.byref(structs[-1]))
         else:
             passed += _passed(argument, kind, arguments[argument])
@@ -182,12 +171,7 @@ def call(name, **arguments):
     return code, told | {field: getattr(struct, field) for struct in structs for field in struct.KINDS.keys() - _GIVEN_TO[type(struct)]}
 
 
-def _check_names(what, named, arguments):
-    if arguments.keys() != _GIVEN_TO[named]:
-        raise TypeError(f"{what} takes {', '.join(sorted(_GIVEN_TO[named]))}, and was given {', '.join(arguments)}")
-
-
-def _struct(argument, struct, arrays):
+def _filled(argument, struct, arrays):
     """A struct of these arrays, which the caller keeps."""
     _check_names(argument, struct, arrays)
     made = struct()
@@ -197,6 +181,11 @@ def _struct(argument, struct, arrays):
         setattr(made, name, ctypes.cast(value, ctypes.c_void_p) if kind is BYTES else kind[0].from_param(value))
         setattr(made, f"{name}_len", length)
     return made
+
+
+def _check_names(what, named, arguments):
+    if arguments.keys() != _GIVEN_TO[named]:
+        raise TypeError(f"{what} takes {', '.join(sorted(_GIVEN_TO[named]))}, and was given {', '.join(arguments)}")
 
 
 def _passed(argument, kind, value):

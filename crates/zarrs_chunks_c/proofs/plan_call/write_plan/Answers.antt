@@ -1,13 +1,25 @@
-use Rattle.std.proofs.Common.{◌≡◌, ◌-◌, inl, inr, length, refl, string_bytes, subst, sym, ⊎_elim, arith}
+use Rattle.std.proofs.Common.{◌≡◌, ◌-◌, ap, inl, inr, length, refl, string_bytes, subst, sym, ⊎_elim, arith}
 use Rattle.std.proofs.lemmas.Result.{IfErr-weaker, MatchResult-from_both, on_ok_weaker}
+use Rattle.std.proofs.Math.Nat.{mul_comm}
 use borrow.Rule.Slice.Mut.{set_vals}
 use Rattle.zarrs_chunks_c.specs.Batch.{AreTexts}
 use Rattle.zarrs_chunks_c.specs.Parts.{IsPlanWith}
 use Rattle.zarrs_chunks_c.specs.declared.structs.PartBuffers.{PartBuffers}
 use Rattle.zarrs_chunks_c.specs.seen.Parts.{AreWrittenBelow, IsKeyOf}
+use Rattle.zarrs_chunks_c.proofs.EachList.{ends_before}
 use Rattle.zarrs_chunks_c.proofs.Ends.{is_too_long, is_whole}
 use Rattle.zarrs_chunks_c.proofs.Planned.{all_written}
 use Rattle.zarrs_chunks_c.proofs.plan_call.write_plan.Goals as goal
+
+pub write_parts-requires-clause-room : goal.write_parts-requires-clause-room
+write_parts-requires-clause-room g c k less =
+    let width = c.dimensionality.result in
+    let few = rw c.in-Some.is at c.in_ok-some.ensures.few in
+    let long = ap length c.deref.ensures.value in
+    let ends = ends_before width k c.args.room (omega arith) in
+    let turned = mul_comm c.args.room width in
+    let (chunks, (in_chunk, (in_subset, (shapes, _)))) = rw (← c.dimensionality.ensures) at c.requires.room.1 in
+    record { has_chunk = omega arith; has_in_chunk = omega arith; has_in_subset = omega arith; has_shape = omega arith }
 
 pub returns-clause-ends : goal.returns-clause-ends
 returns-clause-ends g c =
