@@ -1,6 +1,7 @@
 //! The texts of refusals.
-use crate::printed::check_text;
+use crate::compared::{check_text, check_that};
 use std::alloc::AllocError;
+use std::process::Abort;
 use std::test::Fail;
 use zarrs_chunk_base::{
     ArraySubsetError, BoxEndError, ConfigurationFault, IncompatibleDimensionalityError,
@@ -10,7 +11,11 @@ use zarrs_chunk_base::{
 #[test]
 fn lengths_and_ends_have_their_texts(rt: HostRuntime) -> Result<(), Fail> {
     let lengths = IncompatibleDimensionalityError::new(2, 3);
-    assert_eq!(rt; (lengths.given(), lengths.expected()), (2, 3));
+    check_that(
+        &rt,
+        lengths.given() == 2 && lengths.expected() == 3,
+        "2 and 3",
+    );
     let text = "incompatible dimensionality 2, expected 3";
     check_text(&rt, &lengths, text)?;
     check_text(&rt, &ArraySubsetError::Lengths(lengths), text)?;
@@ -45,42 +50,49 @@ fn metadata_errors_have_their_texts(rt: HostRuntime) -> Result<(), Fail> {
     Ok(())
 }
 
+/// The fault and its copy have this text, and the error that it makes has it behind others.
+fn check_fault(
+    rt: &(impl Abort + AllocGlobal),
+    fault: ConfigurationFault,
+    text: &str,
+) -> Result<(), Fail> {
+    check_text(rt, &fault, text)?;
+    check_text(rt, &fault.clone()?, text)?;
+    let text = format!(in rt.alloc(); "configuration is unsupported: {text}")?;
+    check_error(
+        rt,
+        &PluginCreateError::ConfigurationUnsupported(fault),
+        text.as_str(),
+    )
+}
+
+/// The error and its copy have this text.
+fn check_error(
+    rt: &(impl Abort + AllocGlobal),
+    error: &PluginCreateError,
+    text: &str,
+) -> Result<(), Fail> {
+    check_text(rt, error, text)?;
+    Ok(check_text(rt, &error.clone()?, text)?)
+}
+
 #[test]
 fn refused_configurations_have_their_texts(rt: HostRuntime) -> Result<(), Fail> {
-    let alloc = rt.alloc();
     let unknown = ConfigurationFault::UnknownField {
-        field: String::from_str(alloc, "x")?,
+        field: String::from_str(rt.alloc(), "x")?,
         expected: "`chunk_shape`",
     };
+    check_fault(&rt, unknown, "unknown field `x`, expected `chunk_shape`")?;
     let missing = ConfigurationFault::MissingField { field: "x" };
+    check_fault(&rt, missing, "missing field `x`")?;
     let wrong = ConfigurationFault::WrongValue { field: "x" };
-    let rows = [
-        (unknown, "unknown field `x`, expected `chunk_shape`"),
-        (missing, "missing field `x`"),
-        (wrong, "wrong value in field `x`"),
-    ];
-    for (fault, text) in rows {
-        check_text(&rt, &fault, text)?;
-        check_text(&rt, &fault.clone()?, text)?;
-        let error = PluginCreateError::ConfigurationUnsupported(fault);
-        let text = format!(in alloc; "configuration is unsupported: {text}")?;
-        check_text(&rt, &error, text.as_str())?;
-        check_text(&rt, &error.clone()?, text.as_str())?;
-    }
-    Ok(())
+    check_fault(&rt, wrong, "wrong value in field `x`")
 }
 
 #[test]
 fn refused_extensions_have_their_texts(rt: HostRuntime) -> Result<(), Fail> {
-    let alloc = rt.alloc();
-    let unknown = PluginCreateError::NameUnsupported(String::from_str(alloc, "x")?);
-    let other = PluginCreateError::Other(String::from_str(alloc, "as it stands")?);
-    for (error, text) in [
-        (unknown, "name `x` is not supported"),
-        (other, "as it stands"),
-    ] {
-        check_text(&rt, &error, text)?;
-        check_text(&rt, &error.clone()?, text)?;
-    }
-    Ok(())
+    let unknown = PluginCreateError::NameUnsupported(String::from_str(rt.alloc(), "x")?);
+    check_error(&rt, &unknown, "name `x` is not supported")?;
+    let other = PluginCreateError::Other(String::from_str(rt.alloc(), "as it stands")?);
+    check_error(&rt, &other, "as it stands")
 }
