@@ -1,6 +1,7 @@
 //! The grids: that laws, homes and copies succeed with ample memory, what is refused, and what a kind of grid makes of metadata.
 //!
 //! Each look-up, box, cover, bound, walk and configuration of each kind of grid is a vector of `chunkcalls`.
+use crate::compared::{check_numbers, check_same, check_that, refusal};
 use serde_json::Value;
 use std::alloc::{AllocError, Global};
 use std::num::NonZeroU64;
@@ -42,33 +43,46 @@ pub(crate) fn metadata(alloc: Global, text: &str) -> Result<MetadataV3, Fail> {
     Ok(MetadataV3::from_tree(alloc, &tree)?)
 }
 
-/// A grid of five elements in each dimension, where its second chunks end, and its kind's name.
-type Row = (ChunkGrid, u64, &'static str);
-
-/// Five in each dimension, in chunks of three and of two: each kind of grid.
-fn make_grids(alloc: Global, dimensions: usize) -> Result<[Row; 4], Fail> {
+/// Five in each dimension, in chunks of three.
+fn regular(alloc: Global, dimensions: usize) -> Result<ChunkGrid, Fail> {
     let array_shape = vec![in alloc; 5; dimensions]?;
-    let three = non_zero(3)?;
-    let threes = vec![in alloc; three; dimensions]?;
-    let regular = RegularChunkGrid::new(alloc, array_shape.clone()?, threes.clone()?)?;
-    let bounded = RegularBoundedChunkGrid::new(alloc, array_shape.clone()?, threes)?;
+    let threes = vec![in alloc; non_zero(3)?; dimensions]?;
+    Ok(RegularChunkGrid::new(alloc, array_shape, threes)?.into())
+}
+
+/// The same, where the last chunks end with the array.
+fn bounded(alloc: Global, dimensions: usize) -> Result<ChunkGrid, Fail> {
+    let array_shape = vec![in alloc; 5; dimensions]?;
+    let threes = vec![in alloc; non_zero(3)?; dimensions]?;
+    Ok(RegularBoundedChunkGrid::new(alloc, array_shape, threes)?.into())
+}
+
+/// Five in each dimension, in a chunk of three and one of two.
+fn rectangular(alloc: Global, dimensions: usize) -> Result<ChunkGrid, Fail> {
     let mut listed = Vec::new(alloc);
-    let mut lengths = Vec::new(alloc);
     for _ in 0..dimensions {
         listed.push(RectangularChunkGridDimensionConfiguration::from(edges(alloc, &[3, 2])?))?;
-        let mut elements = Vec::new(alloc);
-        elements.push(RunLengthElement::Single(three))?;
-        elements.push(RunLengthElement::Repeated([non_zero(2)?, NonZeroU64::MIN]))?;
-        lengths.push(ChunkEdgeLengths::Varying(elements))?;
     }
-    let rectangular = RectangularChunkGrid::new(alloc, array_shape.clone()?, &listed)?;
-    let rectilinear = RectilinearChunkGrid::new(alloc, array_shape, &lengths)?;
-    Ok([
-        (ChunkGrid::from(regular), 6, "regular"),
-        (ChunkGrid::from(bounded), 5, "zarrs.regular_bounded"),
-        (ChunkGrid::from(rectangular), 5, "rectangular"),
-        (ChunkGrid::from(rectilinear), 5, "rectilinear"),
-    ])
+    let array_shape = vec![in alloc; 5; dimensions]?;
+    Ok(RectangularChunkGrid::new(alloc, array_shape, &listed)?.into())
+}
+
+/// An edge of three, and one of two with its count.
+fn three_and_two(alloc: Global) -> Result<ChunkEdgeLengths, Fail> {
+    let mut elements = Vec::new(alloc);
+    elements.push(RunLengthElement::Single(non_zero(3)?))?;
+    elements.push(RunLengthElement::Repeated([non_zero(2)?, NonZeroU64::MIN]))?;
+    Ok(ChunkEdgeLengths::Varying(elements))
+}
+
+/// The same chunks, by run lengths.
+fn rectilinear(alloc: Global, dimensions: usize) -> Result<ChunkGrid, Fail> {
+    let mut lengths = Vec::new(alloc);
+    for _ in 0..dimensions {
+        lengths.push(three_and_two(alloc)?)?;
+    }
+    let array_shape = vec![in alloc; 5; dimensions]?;
+    Ok(RectilinearChunkGrid::new(alloc, array_shape, &lengths)?.into())
 }
 
 /// The box of one range in each dimension.
@@ -80,6 +94,11 @@ fn box_of(alloc: Global, range: Range<u64>, dimensions: usize) -> Result<ArraySu
     ArraySubset::new_with_ranges(alloc, &ranges)
 }
 
+/// Compares two boxes.
+fn check_boxes(rt: &impl Abort, found: &ArraySubset, expected: &ArraySubset) {
+    assert!(rt; *found == *expected, "{found:?}, and not {expected:?}");
+}
+
 /// The answer is the box of this range in each dimension.
 fn check_box(
     rt: &(impl Abort + AllocGlobal),
@@ -89,7 +108,35 @@ fn check_box(
 ) -> Result<(), Fail> {
     let found = answer?.ok_or("no box")?;
     let expected = box_of(rt.alloc(), range, dimensions)?;
-    assert!(rt; found == expected, "{found:?}, and not {expected:?}");
+    check_boxes(rt, &found, &expected);
+    Ok(())
+}
+
+/// The list has this number in each dimension.
+fn check_each(
+    rt: &(impl Abort + AllocGlobal),
+    found: &[u64],
+    number: u64,
+    dimensions: usize,
+) -> Result<(), AllocError> {
+    check_numbers(rt, found, &vec![in rt.alloc(); number; dimensions]?);
+    Ok(())
+}
+
+/// The element with this index in each dimension lies in this chunk at this place.
+fn check_home(
+    rt: &(impl Abort + AllocGlobal),
+    grid: &ChunkGrid,
+    home: &mut Home,
+    numbers: [u64; 3],
+    dimensions: usize,
+) -> Result<(), Fail> {
+    let [index, chunk, place] = numbers;
+    let indices = vec![in rt.alloc(); index; dimensions]?;
+    let found = grid.find_home(&indices, home)?;
+    check_that(rt, found, "a chunk holds the element");
+    check_each(rt, &home.chunk, chunk, dimensions)?;
+    check_each(rt, &home.element, place, dimensions)?;
     Ok(())
 }
 
@@ -99,21 +146,29 @@ fn check_homes(
     grid: &ChunkGrid,
     dimensions: usize,
 ) -> Result<(), Fail> {
-    let alloc = rt.alloc();
-    let mut home = Home::new(alloc);
-    for (index, chunk, place) in [(4, 1, 1), (0, 0, 0), (2, 0, 2)] {
-        let indices = vec![in alloc; index; dimensions]?;
-        assert!(rt;
-            grid.find_home(&indices, &mut home)?,
-            "no chunk holds {index}"
-        );
-        let chunk = vec![in alloc; chunk; dimensions]?;
-        assert_eq!(rt; home.chunk.as_slice(), chunk.as_slice());
-        let place = vec![in alloc; place; dimensions]?;
-        assert_eq!(rt; home.element.as_slice(), place.as_slice());
-    }
-    assert!(rt; grid.find_home(&[], &mut home).is_err());
+    let mut home = Home::new(rt.alloc());
+    check_home(rt, grid, &mut home, [4, 1, 1], dimensions)?;
+    check_home(rt, grid, &mut home, [0, 0, 0], dimensions)?;
+    check_home(rt, grid, &mut home, [2, 0, 2], dimensions)?;
+    let is_refused = grid.find_home(&[], &mut home).is_err();
+    check_that(rt, is_refused, "a list of another length is refused");
     Ok(())
+}
+
+/// The laws about chunks in a box, and about those that meet one.
+fn check_box_laws(
+    rt: &(impl Abort + AllocGlobal),
+    grid: &ChunkGrid,
+    end: u64,
+    dimensions: usize,
+) -> Result<(), Fail> {
+    let alloc = rt.alloc();
+    let chunks = box_of(alloc, 0..2, dimensions)?;
+    let union = the_box_of_chunks_is_the_union_of_their_boxes(alloc, grid, &chunks);
+    check_box(rt, union, 0..end, dimensions)?;
+    let elements = box_of(alloc, 3..5, dimensions)?;
+    let met = the_cover_names_the_chunks_that_meet_a_box(alloc, grid, &elements);
+    check_box(rt, met, 1..2, dimensions)
 }
 
 /// Each law that makes a call, on a grid of five elements in each dimension, in a chunk of three and another one up to `end`, and
@@ -124,44 +179,82 @@ fn check_laws(
     end: u64,
     dimensions: usize,
 ) -> Result<(), Fail> {
-    let alloc = rt.alloc();
-    let last = vec![in alloc; 4; dimensions]?;
-    let chunk = chunk_indices_names_the_home(alloc, grid, &last)?.ok_or("no chunk")?;
-    let ones = vec![in alloc; 1; dimensions]?;
-    assert_eq!(rt; chunk.as_slice(), ones.as_slice());
-    let chunks = box_of(alloc, 0..2, dimensions)?;
-    let union = the_box_of_chunks_is_the_union_of_their_boxes(alloc, grid, &chunks);
-    check_box(rt, union, 0..end, dimensions)?;
-    let elements = box_of(alloc, 3..5, dimensions)?;
-    let met = the_cover_names_the_chunks_that_meet_a_box(alloc, grid, &elements);
-    check_box(rt, met, 1..2, dimensions)?;
+    let last = vec![in rt.alloc(); 4; dimensions]?;
+    let chunk = chunk_indices_names_the_home(rt.alloc(), grid, &last)?.ok_or("no chunk")?;
+    check_each(rt, &chunk, 1, dimensions)?;
+    check_box_laws(rt, grid, end, dimensions)?;
     chunks_share_no_index(grid);
     check_homes(rt, grid, dimensions)
 }
 
+/// A grid, and its copy.
+fn check_copy(
+    rt: &(impl Abort + AllocGlobal),
+    grid: &ChunkGrid,
+    end: u64,
+    dimensions: usize,
+) -> Result<(), Fail> {
+    check_laws(rt, grid, end, dimensions)?;
+    check_laws(rt, &grid.clone()?, end, dimensions)
+}
+
 /// Each kind of grid, and its copy.
 fn check_grids(rt: &(impl Abort + AllocGlobal), dimensions: usize) -> Result<(), Fail> {
-    for (grid, end, _) in &make_grids(rt.alloc(), dimensions)? {
-        check_laws(rt, grid, *end, dimensions)?;
-        check_laws(rt, &grid.clone()?, *end, dimensions)?;
-    }
+    check_copy(rt, &regular(rt.alloc(), dimensions)?, 6, dimensions)?;
+    check_copy(rt, &bounded(rt.alloc(), dimensions)?, 5, dimensions)?;
+    check_copy(rt, &rectangular(rt.alloc(), dimensions)?, 5, dimensions)?;
+    check_copy(rt, &rectilinear(rt.alloc(), dimensions)?, 5, dimensions)
+}
+
+/// A grid, made again of its metadata, which have this name.
+fn check_again(
+    rt: &(impl Abort + AllocGlobal),
+    grid: &ChunkGrid,
+    end: u64,
+    name: &str,
+    dimensions: usize,
+) -> Result<(), Fail> {
+    let metadata = grid.metadata(rt.alloc())?;
+    check_same(rt, metadata.name(), name);
+    let array_shape = vec![in rt.alloc(); 5; dimensions]?;
+    let again = ChunkGrid::from_metadata(rt.alloc(), &metadata, &array_shape)?;
+    check_same(rt, again.metadata(rt.alloc())?.name(), name);
+    check_laws(rt, &again, end, dimensions)?;
+    the_edges_determine_the_dimensions(grid, &again);
+    grids_of_like_dimensions_answer_alike(grid, &again);
     Ok(())
 }
 
 /// Each kind of grid, made again of its metadata.
 fn check_made_again(rt: &(impl Abort + AllocGlobal), dimensions: usize) -> Result<(), Fail> {
-    let alloc = rt.alloc();
-    let array_shape = vec![in alloc; 5; dimensions]?;
-    for (grid, end, name) in &make_grids(alloc, dimensions)? {
-        let metadata = grid.metadata(alloc)?;
-        assert_eq!(rt; metadata.name(), *name);
-        let again = ChunkGrid::from_metadata(alloc, &metadata, &array_shape)?;
-        assert_eq!(rt; again.metadata(alloc)?.name(), *name);
-        check_laws(rt, &again, *end, dimensions)?;
-        the_edges_determine_the_dimensions(grid, &again);
-        grids_of_like_dimensions_answer_alike(grid, &again);
-    }
-    Ok(())
+    check_again(
+        rt,
+        &regular(rt.alloc(), dimensions)?,
+        6,
+        "regular",
+        dimensions,
+    )?;
+    check_again(
+        rt,
+        &bounded(rt.alloc(), dimensions)?,
+        5,
+        "zarrs.regular_bounded",
+        dimensions,
+    )?;
+    check_again(
+        rt,
+        &rectangular(rt.alloc(), dimensions)?,
+        5,
+        "rectangular",
+        dimensions,
+    )?;
+    check_again(
+        rt,
+        &rectilinear(rt.alloc(), dimensions)?,
+        5,
+        "rectilinear",
+        dimensions,
+    )
 }
 
 #[test]
@@ -180,63 +273,63 @@ fn grids_of_a_thousand_dimensions_are_asked(rt: HostRuntime) -> Result<(), Fail>
     check_made_again(&rt, 1000)
 }
 
+/// The second chunk of a grid of one dimension begins at 3, and ends there.
+fn check_second(rt: &(impl Abort + AllocGlobal), grid: &ChunkGrid, end: u64) -> Result<(), Fail> {
+    check_box(rt, grid.subset(rt.alloc(), &[1]), 3..end, 1)
+}
+
 #[test]
 fn a_kind_of_grid_looks_at_no_name(rt: HostRuntime) -> Result<(), Fail> {
     let alloc = rt.alloc();
     let edge = metadata(alloc, r#"{"name":"x","configuration":{"chunk_shape":[3]}}"#)?;
-    let edges = metadata(
-        alloc,
-        r#"{"name":"x","configuration":{"chunk_shape":[[3,2]]}}"#,
+    check_second(
+        &rt,
+        &RegularChunkGrid::create(alloc, &edge, &[5])?.into(),
+        6,
     )?;
+    check_second(
+        &rt,
+        &RegularBoundedChunkGrid::create(alloc, &edge, &[5])?.into(),
+        5,
+    )
+}
+
+#[test]
+fn nor_does_one_of_listed_edges(rt: HostRuntime) -> Result<(), Fail> {
+    let alloc = rt.alloc();
+    let edges = r#"{"name":"x","configuration":{"chunk_shape":[[3,2]]}}"#;
+    let grid = RectangularChunkGrid::create(alloc, &metadata(alloc, edges)?, &[5])?;
+    check_second(&rt, &grid.into(), 5)?;
     let lengths = r#"{"name":"x","configuration":{"chunk_shapes":[[3,2]],"kind":"inline"}}"#;
-    let lengths = metadata(alloc, lengths)?;
-    let rows = [
-        (
-            ChunkGrid::from(RegularChunkGrid::create(alloc, &edge, &[5])?),
-            6,
-        ),
-        (
-            ChunkGrid::from(RegularBoundedChunkGrid::create(alloc, &edge, &[5])?),
-            5,
-        ),
-        (
-            ChunkGrid::from(RectangularChunkGrid::create(alloc, &edges, &[5])?),
-            5,
-        ),
-        (
-            ChunkGrid::from(RectilinearChunkGrid::create(alloc, &lengths, &[5])?),
-            5,
-        ),
-    ];
-    for (grid, end) in &rows {
-        check_box(&rt, grid.subset(alloc, &[1]), 3..*end, 1)?;
-    }
-    Ok(())
+    let grid = RectilinearChunkGrid::create(alloc, &metadata(alloc, lengths)?, &[5])?;
+    check_second(&rt, &grid.into(), 5)
 }
 
 #[test]
 fn a_grid_is_created_by_its_name(rt: HostRuntime) -> Result<(), Fail> {
     let alloc = rt.alloc();
     let text = r#"{"name":"regular","configuration":{"chunk_shape":[3]}}"#;
-    let grid = ChunkGrid::create(alloc, &metadata(alloc, text)?, &[5])?;
-    check_box(&rt, grid.subset(alloc, &[1]), 3..6, 1)
+    check_second(
+        &rt,
+        &ChunkGrid::create(alloc, &metadata(alloc, text)?, &[5])?,
+        6,
+    )
 }
 
 #[test]
 fn shapes_of_unequal_lengths_make_no_regular_grid(rt: HostRuntime) -> Result<(), Fail> {
-    let array_shape = [0].to_vec(rt.alloc())?;
-    let chunk_shape = edges(rt.alloc(), &[1, 2, 3])?;
-    let error = match RegularChunkGrid::new(rt.alloc(), array_shape, chunk_shape) {
-        Err(Refusal::Refused(error)) => error,
-        Err(Refusal::Memory(error)) => return Err(error.into()),
-        Ok(_) => return Err("the shapes were accepted".into()),
-    };
+    let alloc = rt.alloc();
+    let chunk_shape = edges(alloc, &[1, 2, 3])?;
+    let error = refusal(RegularChunkGrid::new(alloc, [0].to_vec(alloc)?, chunk_shape))?;
     let text = "regular chunk shape: [1, 2, 3] not compatible with array shape [0]";
-    assert_eq!(rt; error.to_string(rt.alloc())?.as_str(), text);
-    assert_eq!(rt; error.clone()?.to_string(rt.alloc())?.as_str(), text);
+    check_same(&rt, error.to_string(alloc)?.as_str(), text);
+    check_same(&rt, error.clone()?.to_string(alloc)?.as_str(), text);
     let lengths = IncompatibleDimensionalityError::from(error);
-    assert_eq!(rt; lengths.given(), 3);
-    assert_eq!(rt; lengths.expected(), 1);
+    check_that(
+        &rt,
+        lengths.given() == 3 && lengths.expected() == 1,
+        "3 and 1",
+    );
     Ok(())
 }
 
@@ -248,36 +341,32 @@ fn refused_edges_are_handed_back(rt: HostRuntime) -> Result<(), Fail> {
     listed.push(RectangularChunkGridDimensionConfiguration::from(non_zero(10)?))?;
     let text =
         "rectangular chunk grid configuration: [[5, 5], 10] not compatible with array shape [123, 100]";
-    match RectangularChunkGrid::new(alloc, [123, 100].to_vec(alloc)?, &listed) {
-        Err(Refusal::Refused(error)) => {
-            assert!(rt; error.1 == listed);
-            assert_eq!(rt; error.clone()?.to_string(alloc)?.as_str(), text);
-        }
-        Err(Refusal::Memory(error)) => return Err(error.into()),
-        Ok(_) => return Err("the edges were accepted".into()),
-    }
+    let error = refusal(RectangularChunkGrid::new(alloc, [123, 100].to_vec(alloc)?, &listed))?;
+    check_that(&rt, error.1 == listed, text);
+    check_same(&rt, error.clone()?.to_string(alloc)?.as_str(), text);
     Ok(())
 }
 
-#[test]
-fn refused_run_lengths_are_handed_back(rt: HostRuntime) -> Result<(), Fail> {
-    let alloc = rt.alloc();
+/// Three edges of five and one of twenty in the first dimension, and ten in the second.
+fn run_lengths(alloc: Global) -> Result<Vec<ChunkEdgeLengths>, Fail> {
     let mut elements = Vec::new(alloc);
     elements.push(RunLengthElement::Repeated([non_zero(5)?, non_zero(3)?]))?;
     elements.push(RunLengthElement::Single(non_zero(20)?))?;
     let mut lengths = Vec::new(alloc);
     lengths.push(ChunkEdgeLengths::Varying(elements))?;
     lengths.push(ChunkEdgeLengths::Scalar(non_zero(10)?))?;
+    Ok(lengths)
+}
+
+#[test]
+fn refused_run_lengths_are_handed_back(rt: HostRuntime) -> Result<(), Fail> {
+    let alloc = rt.alloc();
+    let lengths = run_lengths(alloc)?;
     let text =
         "rectilinear chunk grid configuration: [[[5, 3], 20], 10] not compatible with array shape [123, 100]";
-    match RectilinearChunkGrid::new(alloc, [123, 100].to_vec(alloc)?, &lengths) {
-        Err(Refusal::Refused(error)) => {
-            assert!(rt; error.1 == lengths);
-            assert_eq!(rt; error.clone()?.to_string(alloc)?.as_str(), text);
-        }
-        Err(Refusal::Memory(error)) => return Err(error.into()),
-        Ok(_) => return Err("the lengths were accepted".into()),
-    }
+    let error = refusal(RectilinearChunkGrid::new(alloc, [123, 100].to_vec(alloc)?, &lengths))?;
+    check_that(&rt, error.1 == lengths, text);
+    check_same(&rt, error.clone()?.to_string(alloc)?.as_str(), text);
     Ok(())
 }
 
@@ -288,8 +377,8 @@ fn a_copy_of_as_many_edges_as_there_are_numbers_finds_room(rt: HostRuntime) -> R
     elements.push(RunLengthElement::Repeated([NonZeroU64::MIN, non_zero(MAX)?]))?;
     let mut lengths = Vec::new(alloc);
     lengths.push(ChunkEdgeLengths::Varying(elements))?;
-    let grid = RectilinearChunkGrid::new(alloc, [MAX].to_vec(alloc)?, &lengths)?.clone()?;
-    assert_eq!(rt; grid.grid_shape(), [MAX].as_slice());
+    let grid = RectilinearChunkGrid::new(alloc, [MAX].to_vec(alloc)?, &lengths)?;
+    check_numbers(&rt, grid.clone()?.grid_shape(), &[MAX]);
     Ok(())
 }
 
@@ -298,15 +387,15 @@ fn a_refused_look_up_counts_no_comparison(rt: HostRuntime) -> Result<(), Fail> {
     let alloc = rt.alloc();
     let text = r#"{"name":"x","configuration":{"kind":"inline",
         "chunk_shapes":[[[5,3],[15,2],20,35],[[10,10]]]}}"#;
-    let metadata = metadata(alloc, text)?;
-    let grid = RectilinearChunkGrid::create(alloc, &metadata, &[100, 100])?;
+    let grid = RectilinearChunkGrid::create(alloc, &metadata(alloc, text)?, &[100, 100])?;
     let mut comparisons = Comparisons::new();
     let chunk = grid.chunk_indices_counted(alloc, &[17, 17], &mut comparisons)?;
-    assert_eq!(rt; chunk.ok_or("no chunk")?.as_slice(), [3, 1].as_slice());
-    assert_eq!(rt; comparisons.count(), 4);
+    let compared = comparisons.count();
+    check_numbers(&rt, &chunk.ok_or("no chunk")?, &[3, 1]);
     let refused = grid.chunk_indices_counted(alloc, &[17], &mut comparisons);
-    assert!(rt; refused.is_err());
-    assert_eq!(rt; comparisons.count(), 4);
+    let is_refused = refused.is_err();
+    let counted = compared == 4 && comparisons.count() == 4;
+    check_that(&rt, is_refused && counted, "four comparisons and a refusal");
     Ok(())
 }
 
@@ -315,8 +404,7 @@ fn a_regular_grid_tells_its_edges(rt: HostRuntime) -> Result<(), Fail> {
     let alloc = rt.alloc();
     let grid = RegularChunkGrid::new(alloc, [5].to_vec(alloc)?, edges(alloc, &[3])?)?;
     let edges = grid.chunk_shape().iter().map(|edge| edge.get());
-    assert!(rt; edges.eq([3]));
-    let numbers = grid.chunk_shape_u64(alloc)?;
-    assert_eq!(rt; numbers.as_slice(), [3].as_slice());
+    check_that(&rt, edges.eq([3]), "an edge of 3");
+    check_numbers(&rt, &grid.chunk_shape_u64(alloc)?, &[3]);
     Ok(())
 }

@@ -8,10 +8,14 @@
 //! | `axes` | lists of axes, and walks through lists of numbers |
 //! | `grids` | the grids |
 //! | `walks`, `walks::overlong` | the walks over chunks, and over a grid whose chunks have no box |
+//!
+//! By `compared` they compare what a call answers.
 #![tactic(auto)]
 
 #[cfg(test)]
 mod axes;
+#[cfg(test)]
+mod compared;
 #[cfg(test)]
 mod grids;
 #[cfg(test)]

@@ -2,6 +2,7 @@
 //! follows the end and an error, and a walk that ends at once.
 mod overlong;
 
+use crate::compared::{check_numbers, check_that};
 use crate::grids::metadata;
 use overlong::Overlong;
 use std::alloc::{AllocError, Global};
@@ -12,7 +13,8 @@ use std::test::Fail;
 use zarrs_chunk_base::ArraySubset;
 use zarrs_chunks::laws::the_boxes_of_a_walk_are_those_of_its_chunks;
 use zarrs_chunks::{
-    ChunkGrid, ChunkGridTraits, ChunkIndices, ChunkIndicesInSubset, RegularChunkGrid,
+    ChunkGrid, ChunkGridTraits, ChunkIndices, ChunkIndicesAndSubsets, ChunkIndicesInSubset,
+    RegularChunkGrid,
 };
 
 /// A regular grid of one chunk an element.
@@ -21,48 +23,63 @@ fn grid_of_elements(alloc: Global, array_shape: &[u64]) -> Result<RegularChunkGr
     Ok(RegularChunkGrid::new(alloc, array_shape.to_vec(alloc)?, chunk_shape)?)
 }
 
-/// The walk gives these chunks and ends. It stays ended, even after an error, which is handed on.
-fn check_walk(
+/// The walk gives this chunk. An error is handed on, and the walk stays ended after it.
+fn check_chunk(
     rt: &impl Abort,
-    mut walk: ChunkIndices<'_>,
-    chunks: &[&[u64]],
+    walk: &mut ChunkIndices<'_>,
+    chunk: &[u64],
 ) -> Result<(), AllocError> {
-    for expected in chunks {
-        match walk.next() {
-            Some(Ok(chunk)) => assert_eq!(rt; chunk.as_slice(), *expected),
-            Some(Err(error)) => {
-                assert!(rt; walk.next().is_none(), "a walk goes on after an error");
-                return Err(error);
-            }
-            None => assert!(rt; false, "the walk ends before {expected:?}"),
+    match walk.next() {
+        Some(Ok(found)) => check_numbers(rt, &found, chunk),
+        Some(Err(error)) => {
+            check_that(rt, walk.next().is_none(), "a walk ends after an error");
+            return Err(error);
         }
+        None => check_that(rt, false, "the walk has a further chunk"),
     }
-    assert!(rt; walk.next().is_none() && walk.next().is_none());
+    Ok(())
+}
+
+/// The walk gives this chunk and the box of its element. An error is handed on, and the walk stays ended after it.
+fn check_both(
+    rt: &impl Abort,
+    walk: &mut ChunkIndicesAndSubsets<'_, RegularChunkGrid>,
+    chunk: &[u64],
+) -> Result<(), AllocError> {
+    match walk.next() {
+        Some(Ok((found, subset))) => {
+            check_numbers(rt, &found, chunk);
+            check_numbers(rt, subset.start(), chunk);
+        }
+        Some(Err(error)) => {
+            check_that(rt, walk.next().is_none(), "a walk ends after an error");
+            return Err(error);
+        }
+        None => check_that(rt, false, "the walk has a further chunk"),
+    }
     Ok(())
 }
 
 #[test]
 fn more_than_four_dimensions_are_walked(rt: HostRuntime) -> Result<(), Fail> {
-    let alloc = rt.alloc();
-    let grid = grid_of_elements(alloc, &[1, 1, 1, 1, 2])?;
-    let chunks: [&[u64]; 2] = [&[0, 0, 0, 0, 0], &[0, 0, 0, 0, 1]];
-    check_walk(&rt, grid.iter_chunk_indices(alloc), &chunks)?;
+    let grid = grid_of_elements(rt.alloc(), &[1, 1, 1, 1, 2])?;
     the_boxes_of_a_walk_are_those_of_its_chunks(&grid);
-    let mut walk = grid.iter_chunk_indices_and_subsets(alloc);
-    for expected in chunks {
-        match walk.next() {
-            Some(Ok((chunk, subset))) => {
-                assert_eq!(rt; chunk.as_slice(), expected);
-                assert_eq!(rt; subset.start(), expected);
-            }
-            Some(Err(error)) => {
-                assert!(rt; walk.next().is_none(), "a walk goes on after an error");
-                return Err(error.into());
-            }
-            None => assert!(rt; false, "the walk ends before {expected:?}"),
-        }
-    }
-    assert!(rt; walk.next().is_none() && walk.next().is_none());
+    let mut walk = grid.iter_chunk_indices(rt.alloc());
+    check_chunk(&rt, &mut walk, &[0, 0, 0, 0, 0])?;
+    check_chunk(&rt, &mut walk, &[0, 0, 0, 0, 1])?;
+    let has_ended = walk.next().is_none() && walk.next().is_none();
+    check_that(&rt, has_ended, "the walk has ended, and stays so");
+    Ok(())
+}
+
+#[test]
+fn more_than_four_dimensions_are_walked_with_boxes(rt: HostRuntime) -> Result<(), Fail> {
+    let grid = grid_of_elements(rt.alloc(), &[1, 1, 1, 1, 2])?;
+    let mut walk = grid.iter_chunk_indices_and_subsets(rt.alloc());
+    check_both(&rt, &mut walk, &[0, 0, 0, 0, 0])?;
+    check_both(&rt, &mut walk, &[0, 0, 0, 0, 1])?;
+    let has_ended = walk.next().is_none() && walk.next().is_none();
+    check_that(&rt, has_ended, "the walk has ended, and stays so");
     Ok(())
 }
 
@@ -144,7 +161,7 @@ fn each_element_lies_in_one_chunk_of_the_walk(rt: HostRuntime) -> Result<(), Fai
         for number in 0..35 {
             let element = (number / 7, number % 7);
             let counts = count_chunks(alloc, &grid, rows, columns, element)?;
-            assert_eq!(rt; counts, (chunks, 1), "{element:?} in {text}");
+            check_that(&rt, counts == (chunks, 1), text);
         }
     }
     Ok(())
@@ -154,12 +171,21 @@ fn each_element_lies_in_one_chunk_of_the_walk(rt: HostRuntime) -> Result<(), Fai
 fn the_chunks_in_a_box_are_walked(rt: HostRuntime) -> Result<(), Fail> {
     let chunks = ArraySubset::new_with_ranges(rt.alloc(), &[1..3, 2..3])?;
     let mut walk = ChunkIndicesInSubset::new(rt.alloc(), chunks)?;
-    for expected in [[1, 2], [2, 2]] {
-        let chunk = walk.next().ok_or("the walk ends early")?;
-        assert_eq!(rt; chunk?.as_slice(), expected.as_slice());
-    }
-    assert!(rt; walk.next().is_none());
+    let chunk = walk.next().ok_or("the walk ends early")?;
+    check_numbers(&rt, &chunk?, &[1, 2]);
+    let chunk = walk.next().ok_or("the walk ends early")?;
+    check_numbers(&rt, &chunk?, &[2, 2]);
+    check_that(&rt, walk.next().is_none(), "the walk has ended");
     Ok(())
+}
+
+/// What a walk over boxes gives that has to end at once: nothing, or an error, where there is no memory.
+fn check_end<T: Drop>(rt: &impl Abort, item: Option<Result<T, AllocError>>, has_memory: bool) {
+    let is_right = match item {
+        None => has_memory,
+        Some(item) => item.is_err() && !has_memory,
+    };
+    check_that(rt, is_right, "no box, or an error where there is no memory");
 }
 
 /// Where no chunk has a box, one is asked for its box, and all others are passed over.
@@ -171,18 +197,16 @@ fn a_walk_over_boxes_ends_at_once(rt: HostRuntime) {
             has_memory,
         };
         let mut boxes = grid.iter_chunk_subsets(rt.alloc());
-        match boxes.next() {
-            None => assert!(rt; has_memory),
-            Some(item) => assert!(rt; item.is_err() && !has_memory),
-        }
-        assert!(rt; boxes.next().is_none() && boxes.next().is_none());
-        assert_eq!(rt; grid.asked.get(), 1);
+        check_end(&rt, boxes.next(), has_memory);
+        let ended = boxes.next().is_none() && boxes.next().is_none();
+        check_that(&rt, ended && grid.asked.get() == 1, "one box was asked for");
         let mut both = grid.iter_chunk_indices_and_subsets(rt.alloc());
-        match both.next() {
-            None => assert!(rt; has_memory),
-            Some(item) => assert!(rt; item.is_err() && !has_memory),
-        }
-        assert!(rt; both.next().is_none() && both.next().is_none());
-        assert_eq!(rt; grid.asked.get(), 2);
+        check_end(&rt, both.next(), has_memory);
+        let ended = both.next().is_none() && both.next().is_none();
+        check_that(
+            &rt,
+            ended && grid.asked.get() == 2,
+            "two boxes were asked for",
+        );
     }
 }
