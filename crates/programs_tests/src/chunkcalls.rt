@@ -1,8 +1,10 @@
 //! What no contract says: readers and writers that fail, what is told then, and when an answer is flushed.
+use crate::ended::{check_bytes, check_ending, check_that};
 use crate::failing::{FailingReader, FailingWriter};
 use programs::chunkcalls::{RunFault, Watched, finish, run_to_status};
-use std::alloc::AllocError;
+use std::alloc::{AllocError, Global};
 use std::io::ErrorKind;
+use std::process::Abort;
 use std::test::Fail;
 
 const QUESTION: &[u8] =
@@ -19,42 +21,87 @@ fn joined(rt: &impl AllocGlobal, parts: &[&[u8]]) -> Result<Vec<u8>, AllocError>
     Ok(bytes)
 }
 
+/// A reader that fails after so many reads is told; each line that was read before has its answer.
+fn check_read(
+    rt: &(impl Abort + AllocGlobal),
+    input: &[u8],
+    reads: usize,
+    fault: ErrorKind,
+    succeeds: bool,
+) -> Result<(), AllocError> {
+    let mut reader = Watched::new(FailingReader {
+        rest: input,
+        reads,
+        fault,
+    });
+    let mut written = Vec::new(rt.alloc());
+    let mut errors = Vec::new(rt.alloc());
+    let mut writer = Watched::new(&mut written);
+    let status = run_to_status(rt.alloc(), &mut reader, &mut writer, &mut errors);
+    check_ending(
+        rt,
+        (status, &errors),
+        succeeds,
+        "chunkcalls: input failed\n",
+        reads,
+    );
+    let lines_read = reads.saturating_mul(16) / (QUESTION.len() + 1);
+    let mut answers = Vec::new(rt.alloc());
+    for _ in 0..lines_read.min(2) {
+        answers.extend_from_slice(ANSWER)?;
+    }
+    check_bytes(rt, &written, &answers, reads);
+    Ok(())
+}
+
 #[test]
 fn a_failed_read_is_told(rt: HostRuntime) -> Result<(), Fail> {
     let input = joined(&rt, &[QUESTION, b"\n", QUESTION, b"\n"])?;
     let enough = input.len().div_ceil(16) + 1;
     for fault in [ErrorKind::Other, ErrorKind::OutOfMemory] {
         for reads in 0..=enough {
-            let mut reader = Watched::new(FailingReader {
-                rest: input.as_slice(),
-                reads,
-                fault,
-            });
-            let mut written = Vec::new(rt.alloc());
-            let mut errors = Vec::new(rt.alloc());
-            let mut writer = Watched::new(&mut written);
-            let status = run_to_status(rt.alloc(), &mut reader, &mut writer, &mut errors);
-            let succeeds = reads == enough;
-            let line = if succeeds {
-                ""
-            } else {
-                "chunkcalls: input failed\n"
-            };
-            assert_eq!(rt; errors.as_slice(), line.as_bytes(), "after {reads} reads");
-            assert_eq!(rt; status, u8::from(!succeeds), "after {reads} reads");
-            let lines_read = reads.saturating_mul(16) / (QUESTION.len() + 1);
-            let mut answers = Vec::new(rt.alloc());
-            for _ in 0..lines_read.min(2) {
-                answers.extend_from_slice(ANSWER)?;
-            }
-            assert_eq!(rt;
-                written.as_slice(),
-                answers.as_slice(),
-                "after {reads} reads"
-            );
+            check_read(&rt, &input, reads, fault, reads == enough)?;
         }
     }
     Ok(())
+}
+
+/// A writer that fails after so many writes, and hasn't taken anything yet.
+fn failing_writer(
+    alloc: Global,
+    writes: usize,
+    fault: Option<ErrorKind>,
+    flush_fails: bool,
+) -> FailingWriter {
+    FailingWriter {
+        taken: Vec::new(alloc),
+        writes,
+        fault,
+        flush_fails,
+    }
+}
+
+/// A writer that fails is told, and has taken the beginning of the output, where it was to take as much.
+fn check_write(
+    rt: &(impl Abort + AllocGlobal),
+    input: &[u8],
+    mut writer: FailingWriter,
+    taken: &[u8],
+    succeeds: bool,
+) {
+    let mut errors = Vec::new(rt.alloc());
+    let mut reader = Watched::new(input);
+    let mut watched = Watched::new(&mut writer);
+    let status = run_to_status(rt.alloc(), &mut reader, &mut watched, &mut errors);
+    let writes = taken.len();
+    check_ending(
+        rt,
+        (status, &errors),
+        succeeds,
+        "chunkcalls: output failed\n",
+        writes,
+    );
+    check_bytes(rt, &writer.taken, taken, writes);
 }
 
 #[test]
@@ -64,84 +111,54 @@ fn a_failed_write_is_told(rt: HostRuntime) -> Result<(), Fail> {
     let other = Some(ErrorKind::Other);
     for (fault, flush_fails) in [(other, false), (None, false), (other, true)] {
         for writes in 0..=output.len() {
-            let mut writer = FailingWriter {
-                taken: Vec::new(rt.alloc()),
-                writes,
-                fault,
-                flush_fails,
-            };
-            let mut errors = Vec::new(rt.alloc());
-            let mut reader = Watched::new(input.as_slice());
-            let mut watched = Watched::new(&mut writer);
-            let status = run_to_status(rt.alloc(), &mut reader, &mut watched, &mut errors);
-            let succeeds = writes == output.len() && !flush_fails;
-            let line = if succeeds {
-                ""
-            } else {
-                "chunkcalls: output failed\n"
-            };
-            assert_eq!(rt; errors.as_slice(), line.as_bytes(), "after {writes} writes");
-            assert_eq!(rt; status, u8::from(!succeeds), "after {writes} writes");
-            let (taken, _) = output.as_slice().split_at(writes);
-            assert_eq!(rt; writer.taken.as_slice(), taken, "after {writes} writes");
+            let writer = failing_writer(rt.alloc(), writes, fault, flush_fails);
+            let (taken, rest) = output.as_slice().split_at(writes);
+            check_write(&rt, &input, writer, taken, rest.is_empty() && !flush_fails);
         }
     }
     Ok(())
 }
 
-#[test]
-fn an_answer_is_flushed_unless_a_line_waits(rt: HostRuntime) -> Result<(), Fail> {
-    let rows: [(&[&[u8]], &[&[u8]]); 3] = [
-        (&[QUESTION, b"\n", QUESTION, b"\n"], &[ANSWER, ANSWER]),
-        (&[QUESTION, b"\n", QUESTION], &[ANSWER]),
-        (&[QUESTION, b"\n"], &[ANSWER]),
-    ];
-    for (input, output) in rows {
-        let input = joined(&rt, input)?;
-        let output = joined(&rt, output)?;
-        // The first flush fails, so that no answer after it is written.
-        let mut writer = FailingWriter {
-            taken: Vec::new(rt.alloc()),
-            writes: 100,
-            fault: None,
-            flush_fails: true,
-        };
-        let mut errors = Vec::new(rt.alloc());
-        let mut reader = Watched::new(input.as_slice());
-        let mut watched = Watched::new(&mut writer);
-        let status = run_to_status(rt.alloc(), &mut reader, &mut watched, &mut errors);
-        assert_eq!(rt; status, 1);
-        assert_eq!(rt; writer.taken.as_slice(), output.as_slice());
-    }
+/// Where the first flush fails, so that no answer after it is written, the writer has taken this output.
+fn check_flush(
+    rt: &(impl Abort + AllocGlobal),
+    input: &[&[u8]],
+    output: &[&[u8]],
+) -> Result<(), Fail> {
+    let input = joined(rt, input)?;
+    let output = joined(rt, output)?;
+    let mut writer = failing_writer(rt.alloc(), 100, None, true);
+    let mut errors = Vec::new(rt.alloc());
+    let mut reader = Watched::new(input.as_slice());
+    let mut watched = Watched::new(&mut writer);
+    let status = run_to_status(rt.alloc(), &mut reader, &mut watched, &mut errors);
+    check_that(rt, status == 1, output.len());
+    check_bytes(rt, &writer.taken, &output, output.len());
     Ok(())
 }
 
 #[test]
-fn an_empty_output_is_flushed(rt: HostRuntime) -> Result<(), Fail> {
+fn an_answer_is_flushed_unless_a_line_waits(rt: HostRuntime) -> Result<(), Fail> {
+    check_flush(&rt, &[QUESTION, b"\n", QUESTION, b"\n"], &[ANSWER, ANSWER])?;
+    check_flush(&rt, &[QUESTION, b"\n", QUESTION], &[ANSWER])?;
+    check_flush(&rt, &[QUESTION, b"\n"], &[ANSWER])
+}
+
+#[test]
+fn an_empty_output_is_flushed(rt: HostRuntime) {
     for flush_fails in [false, true] {
-        let mut writer = Watched::new(FailingWriter {
-            taken: Vec::new(rt.alloc()),
-            writes: 0,
-            fault: Some(ErrorKind::Other),
-            flush_fails,
-        });
+        let other = Some(ErrorKind::Other);
+        let mut writer = Watched::new(failing_writer(rt.alloc(), 0, other, flush_fails));
         let mut errors = Vec::new(rt.alloc());
         let mut reader = Watched::new(b"".as_slice());
         let status = run_to_status(rt.alloc(), &mut reader, &mut writer, &mut errors);
-        assert_eq!(rt; status, u8::from(flush_fails));
+        check_that(&rt, status == u8::from(flush_fails), 0);
     }
-    Ok(())
 }
 
 #[test]
-fn a_fault_that_cant_be_told_is_one_all_the_same(rt: HostRuntime) -> Result<(), Fail> {
-    let mut closed = FailingWriter {
-        taken: Vec::new(rt.alloc()),
-        writes: 0,
-        fault: Some(ErrorKind::Other),
-        flush_fails: true,
-    };
+fn a_fault_that_cant_be_told_is_one_all_the_same(rt: HostRuntime) {
+    let mut closed = failing_writer(rt.alloc(), 0, Some(ErrorKind::Other), true);
     let outcome: Result<(), RunFault> = Err(RunFault::Memory);
-    assert_eq!(rt; finish(&outcome, &mut closed), 1);
-    Ok(())
+    check_that(&rt, finish(&outcome, &mut closed) == 1, 0);
 }

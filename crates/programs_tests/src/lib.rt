@@ -9,6 +9,7 @@
 //! | `chunkplan` | what a read or a rechunking of an array copies |
 //! | `chunkcalls` | what grids and encodings answer, a call a line |
 //! | `failing` | nothing: it holds readers and writers that fail |
+//! | `ended` | nothing: it compares how a run ended |
 #![tactic(auto)]
 
 #[cfg(test)]
@@ -17,5 +18,7 @@ mod chunkcalls;
 mod chunkplan;
 #[cfg(test)]
 mod chunkwhere;
+#[cfg(test)]
+mod ended;
 #[cfg(test)]
 mod failing;
