@@ -1,4 +1,5 @@
 //! The elements of a box, read from chunks in memory.
+use crate::compared::{check_numbers, check_that};
 use callers::{ChunkStore, Piece, bounded, read_box, regular};
 use std::alloc::Global;
 use std::num::NonZeroU64;
@@ -52,25 +53,41 @@ fn edges(alloc: Global, numbers: &[u64]) -> Result<ChunkShape, Fail> {
 }
 
 fn check_piece(rt: &impl Abort, piece: &Piece, start: [u64; 2], elements: &[u64]) {
-    assert_eq!(rt; piece.in_subset.start(), start.as_slice());
-    assert_eq!(rt; piece.elements.as_slice(), elements);
+    check_numbers(rt, piece.in_subset.start(), &start);
+    check_numbers(rt, &piece.elements, elements);
+}
+
+/// The chunks of the array, each under its key.
+fn stored(alloc: Global) -> Result<Chunks, Fail> {
+    Chunks::new(alloc, &DefaultChunkKeyEncoding::new_slash())
 }
 
 #[test]
 fn a_box_is_read(rt: HostRuntime) -> Result<(), Fail> {
     let alloc = rt.alloc();
+    let store = stored(alloc)?;
     let encoding = DefaultChunkKeyEncoding::new_slash();
-    let store = Chunks::new(alloc, &encoding)?;
     let grid = regular(alloc, [6, 6].to_vec(alloc)?, edges(alloc, &[4, 3])?)?;
     let subset = ArraySubset::new_with_ranges(alloc, &[3..6, 2..4])?;
     let pieces = read_box(alloc, &grid, &encoding, &store, &subset)?.ok_or("no cover")?;
-    assert_eq!(rt; pieces.len(), 4);
-    check_piece(&rt, &pieces[0], [0, 0], &[32]);
-    check_piece(&rt, &pieces[1], [0, 1], &[33]);
-    check_piece(&rt, &pieces[2], [1, 0], &[42, 52]);
-    check_piece(&rt, &pieces[3], [1, 1], &[43, 53]);
+    let [one, two, three, four] = pieces.as_slice() else {
+        return Err("not four pieces".into());
+    };
+    check_piece(&rt, one, [0, 0], &[32]);
+    check_piece(&rt, two, [0, 1], &[33]);
+    check_piece(&rt, three, [1, 0], &[42, 52]);
+    check_piece(&rt, four, [1, 1], &[43, 53]);
+    Ok(())
+}
+
+#[test]
+fn a_box_past_the_array_is_none(rt: HostRuntime) -> Result<(), Fail> {
+    let alloc = rt.alloc();
+    let store = stored(alloc)?;
+    let encoding = DefaultChunkKeyEncoding::new_slash();
     let grid = bounded(alloc, [6, 6].to_vec(alloc)?, edges(alloc, &[4, 3])?)?;
     let past = ArraySubset::new_with_ranges(alloc, &[3..7, 2..4])?;
-    assert!(rt; read_box(alloc, &grid, &encoding, &store, &past)?.is_none());
+    let is_none = read_box(alloc, &grid, &encoding, &store, &past)?.is_none();
+    check_that(&rt, is_none, "no cover");
     Ok(())
 }

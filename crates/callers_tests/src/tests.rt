@@ -1,9 +1,11 @@
 //! Each caller with its answer, which was computed by hand.
+use crate::compared::{check_numbers, check_same, check_that};
 use callers::{
     Stairs, Versioned, append_keys, are_one_element, bounded, by_name, chunk_of_index, grid_sizes,
     is_in_bounds, key_by_name, key_of_element, keys_of_grid, keys_of_subset, metadata_of,
     metadata_of_regular, rectangular, rectilinear, regular, regular_metadata, share_a_chunk,
 };
+use serde_json::Value;
 use std::alloc::Global;
 use std::num::NonZeroU64;
 use std::process::Abort;
@@ -45,27 +47,41 @@ fn check_grid<G: ChunkGridTraits>(
     chunk: &[u64],
     chunk_shape: &[u64],
 ) -> Result<(), Fail> {
-    assert_eq!(rt; grid.grid_shape(), grid_shape);
+    check_numbers(rt, grid.grid_shape(), grid_shape);
     let shape = grid.chunk_shape_u64(rt.alloc(), chunk)?.ok_or("no chunk")?;
-    assert_eq!(rt; shape.as_slice(), chunk_shape);
+    check_numbers(rt, &shape, chunk_shape);
+    Ok(())
+}
+
+/// The tree is written as the metadata of a regular grid.
+fn check_regular(rt: &(impl Abort + AllocGlobal), tree: &Value) -> Result<(), Fail> {
+    let text = r#"{"configuration":{"chunk_shape":[1,2,3]},"name":"regular"}"#;
+    check_same(rt, tree.to_string(rt.alloc())?.as_str(), text);
     Ok(())
 }
 
 #[test]
 fn metadata_and_dimensions(rt: HostRuntime) -> Result<(), Fail> {
     let alloc = rt.alloc();
-    let tree = regular_metadata(alloc, edges(alloc, &[1, 2, 3])?)?;
-    let text = r#"{"configuration":{"chunk_shape":[1,2,3]},"name":"regular"}"#;
-    assert_eq!(rt; tree.to_string(alloc)?.as_str(), text);
-    assert!(rt; metadata_of(alloc, "5")?.is_none() && metadata_of(alloc, "{")?.is_none());
-    let sizes = grid_sizes(alloc, [5, 7, 52].to_vec(alloc)?, &edges(alloc, &[1, 2, 3])?)?;
-    assert_eq!(rt; sizes.as_slice(), [5, 4, 18].as_slice());
+    let edges = edges(alloc, &[1, 2, 3])?;
+    let sizes = grid_sizes(alloc, [5, 7, 52].to_vec(alloc)?, &edges)?;
+    check_numbers(&rt, &sizes, &[5, 4, 18]);
+    check_regular(&rt, &regular_metadata(alloc, edges)?)?;
+    check_that(&rt, metadata_of(alloc, "5")?.is_none(), "5 is no metadata");
+    check_that(&rt, metadata_of(alloc, "{")?.is_none(), "a brace is none");
+    Ok(())
+}
+
+#[test]
+fn chunks_of_indices(rt: HostRuntime) -> Result<(), Fail> {
+    let alloc = rt.alloc();
     let elements = [
         RunLengthElement::Repeated([non_zero(5)?, non_zero(3)?]),
         RunLengthElement::Single(non_zero(20)?),
     ];
-    assert_eq!(rt; chunk_of_index(alloc, &elements, 15)?, Some(3));
-    assert_eq!(rt; chunk_of_index(alloc, &elements, 35)?, None);
+    let inside = chunk_of_index(alloc, &elements, 15)?;
+    let outside = chunk_of_index(alloc, &elements, 35)?;
+    check_that(&rt, inside == Some(3) && outside.is_none(), "3 and none");
     Ok(())
 }
 
@@ -73,38 +89,39 @@ fn metadata_and_dimensions(rt: HostRuntime) -> Result<(), Fail> {
 fn keys(rt: HostRuntime) -> Result<(), Fail> {
     let alloc = rt.alloc();
     let key = key_by_name(alloc, &metadata(alloc, r#""v2""#)?, &[3, 2, 16])?;
-    assert_eq!(rt; key.as_str(), "3.2.16");
+    check_same(&rt, key.as_str(), "3.2.16");
     let encoding = ChunkKeyEncoding::from(DefaultChunkKeyEncoding::new_slash());
     let chunks = vec![in alloc; [0, 0].to_vec(alloc)?, [3, 2].to_vec(alloc)?]?;
     let mut text = String::new(alloc);
     append_keys(&mut text, &encoding, &chunks)?;
-    assert_eq!(rt; text.as_str(), "c/0/0\nc/3/2\n");
+    check_same(&rt, text.as_str(), "c/0/0\nc/3/2\n");
     Ok(())
 }
 
 #[test]
-fn a_grid_of_each_kind(rt: HostRuntime) -> Result<(), Fail> {
+fn a_grid_of_equal_edges(rt: HostRuntime) -> Result<(), Fail> {
     let alloc = rt.alloc();
     check_grid(&rt, &regular_grid(alloc, &[5], &[3])?, &[2], &[1], &[3])?;
     let grid = bounded(alloc, [5].to_vec(alloc)?, edges(alloc, &[3])?)?;
-    check_grid(&rt, &grid, &[2], &[1], &[2])?;
+    check_grid(&rt, &grid, &[2], &[1], &[2])
+}
+
+#[test]
+fn a_grid_of_listed_edges(rt: HostRuntime) -> Result<(), Fail> {
+    let alloc = rt.alloc();
     let heights = edges(alloc, &[5, 20])?;
     let grid = rectangular(alloc, [25, 30].to_vec(alloc)?, heights, non_zero(10)?)?;
     check_grid(&rt, &grid, &[2, 3], &[1, 2], &[20, 10])?;
     let rows = [non_zero(4)?, non_zero(3)?, non_zero(2)?, non_zero(5)?];
     let grid = rectilinear(alloc, [14, 6].to_vec(alloc)?, rows)?;
-    check_grid(&rt, &grid, &[4, 2], &[3, 0], &[2, 5])?;
-    let named = metadata(
-        alloc,
-        r#"{"name":"rectangular","configuration":{"chunk_shape":[[5,20],10]}}"#,
-    )?;
-    check_grid(
-        &rt,
-        &by_name(alloc, &named, &[25, 30])?,
-        &[2, 3],
-        &[1, 2],
-        &[20, 10],
-    )
+    check_grid(&rt, &grid, &[4, 2], &[3, 0], &[2, 5])
+}
+
+#[test]
+fn a_grid_by_its_name(rt: HostRuntime) -> Result<(), Fail> {
+    let text = r#"{"name":"rectangular","configuration":{"chunk_shape":[[5,20],10]}}"#;
+    let grid = by_name(rt.alloc(), &metadata(rt.alloc(), text)?, &[25, 30])?;
+    check_grid(&rt, &grid, &[2, 3], &[1, 2], &[20, 10])
 }
 
 #[test]
@@ -113,11 +130,13 @@ fn elements(rt: HostRuntime) -> Result<(), Fail> {
     let slash = DefaultChunkKeyEncoding::new_slash();
     let grid = regular_grid(alloc, &[5, 7, 52], &[1, 2, 3])?;
     let key = key_of_element(alloc, &grid, &slash, &[3, 5, 50])?.ok_or("no chunk")?;
-    assert_eq!(rt; key.as_str(), "c/3/2/16");
-    assert!(rt; share_a_chunk(alloc, &grid, &[3, 5, 50], &[3, 4, 48])?);
-    assert!(rt; !share_a_chunk(alloc, &grid, &[3, 5, 50], &[3, 6, 50])?);
-    assert!(rt; are_one_element(alloc, &grid, &slash, &[3, 5, 50], &[3, 5, 50])?);
-    assert!(rt; !are_one_element(alloc, &grid, &slash, &[3, 5, 50], &[3, 5, 49])?);
+    check_same(&rt, key.as_str(), "c/3/2/16");
+    let share = share_a_chunk(alloc, &grid, &[3, 5, 50], &[3, 4, 48])?;
+    let are_apart = !share_a_chunk(alloc, &grid, &[3, 5, 50], &[3, 6, 50])?;
+    check_that(&rt, share && are_apart, "one chunk, and two");
+    let is_one = are_one_element(alloc, &grid, &slash, &[3, 5, 50], &[3, 5, 50])?;
+    let are_two = !are_one_element(alloc, &grid, &slash, &[3, 5, 50], &[3, 5, 49])?;
+    check_that(&rt, is_one && are_two, "one element, and two");
     Ok(())
 }
 
@@ -125,10 +144,7 @@ fn elements(rt: HostRuntime) -> Result<(), Fail> {
 fn metadata_of_a_grid(rt: HostRuntime) -> Result<(), Fail> {
     let alloc = rt.alloc();
     let grid = regular_grid(alloc, &[5, 7, 52], &[1, 2, 3])?;
-    let text = r#"{"configuration":{"chunk_shape":[1,2,3]},"name":"regular"}"#;
-    let tree = metadata_of_regular(alloc, &grid)?.to_tree(alloc)?;
-    assert_eq!(rt; tree.to_string(alloc)?.as_str(), text);
-    Ok(())
+    check_regular(&rt, &metadata_of_regular(alloc, &grid)?.to_tree(alloc)?)
 }
 
 #[test]
@@ -136,19 +152,26 @@ fn elements_past_the_array(rt: HostRuntime) -> Result<(), Fail> {
     let alloc = rt.alloc();
     let slash = DefaultChunkKeyEncoding::new_slash();
     let grid = bounded(alloc, [7].to_vec(alloc)?, edges(alloc, &[3])?)?;
-    assert!(rt; key_of_element(alloc, &grid, &slash, &[7])?.is_none());
-    assert!(rt; !share_a_chunk(alloc, &grid, &[7], &[7])?);
-    let shape = [7].to_vec(alloc)?;
-    assert!(rt; is_in_bounds(alloc, shape.clone()?, edges(alloc, &[3])?, &[6])?);
-    assert!(rt; !is_in_bounds(alloc, shape, edges(alloc, &[3])?, &[7])?);
+    let has_no_key = key_of_element(alloc, &grid, &slash, &[7])?.is_none();
+    let has_no_chunk = !share_a_chunk(alloc, &grid, &[7], &[7])?;
+    check_that(&rt, has_no_key && has_no_chunk, "no chunk holds it");
+    Ok(())
+}
+
+#[test]
+fn elements_in_bounds(rt: HostRuntime) -> Result<(), Fail> {
+    let alloc = rt.alloc();
+    let inside = is_in_bounds(alloc, [7].to_vec(alloc)?, edges(alloc, &[3])?, &[6])?;
+    let outside = !is_in_bounds(alloc, [7].to_vec(alloc)?, edges(alloc, &[3])?, &[7])?;
+    check_that(&rt, inside && outside, "6 is in bounds, and 7 isn't");
     Ok(())
 }
 
 /// The keys are these texts, in this order.
 fn check_keys(rt: &impl Abort, keys: &[StoreKey], expected: &[&str]) {
-    assert_eq!(rt; keys.len(), expected.len());
+    check_that(rt, keys.len() == expected.len(), "as many keys");
     for (key, expected) in keys.iter().zip(expected) {
-        assert_eq!(rt; key.as_str(), *expected);
+        check_same(rt, key.as_str(), expected);
     }
 }
 
@@ -163,9 +186,40 @@ fn subsets(rt: HostRuntime) -> Result<(), Fail> {
     let keys = keys_of_grid(alloc, &grid, &slash)?;
     let expected = ["c/0/0", "c/0/1", "c/0/2", "c/1/0", "c/1/1", "c/1/2"];
     check_keys(&rt, &keys, &expected);
+    Ok(())
+}
+
+#[test]
+fn a_subset_past_the_array(rt: HostRuntime) -> Result<(), Fail> {
+    let alloc = rt.alloc();
+    let slash = DefaultChunkKeyEncoding::new_slash();
     let grid = bounded(alloc, [7].to_vec(alloc)?, edges(alloc, &[3])?)?;
     let past = ArraySubset::new_with_ranges(alloc, &[5..8])?;
-    assert!(rt; keys_of_subset(alloc, &grid, &slash, &past)?.is_none());
+    let is_none = keys_of_subset(alloc, &grid, &slash, &past)?.is_none();
+    check_that(&rt, is_none, "no cover");
+    Ok(())
+}
+
+/// The element lies in this chunk at this place.
+fn check_home(
+    rt: &(impl Abort + AllocGlobal),
+    grid: &Stairs,
+    index: u64,
+    home: u64,
+    at: u64,
+) -> Result<(), Fail> {
+    let chunk = chunk_indices_names_the_home(rt.alloc(), grid, &[index])?;
+    check_numbers(rt, &chunk.ok_or("no chunk")?, &[home]);
+    let place = grid.chunk_element_indices(rt.alloc(), &[index])?;
+    check_numbers(rt, &place.ok_or("no place")?, &[at]);
+    Ok(())
+}
+
+/// No chunk holds the element.
+fn check_no_home(rt: &(impl Abort + AllocGlobal), grid: &Stairs, index: u64) -> Result<(), Fail> {
+    let chunk = chunk_indices_names_the_home(rt.alloc(), grid, &[index])?;
+    let place = grid.chunk_element_indices(rt.alloc(), &[index])?;
+    check_that(rt, chunk.is_none() && place.is_none(), "no chunk holds it");
     Ok(())
 }
 
@@ -174,32 +228,24 @@ fn subsets(rt: HostRuntime) -> Result<(), Fail> {
 fn a_grid_of_ones_own(rt: HostRuntime) -> Result<(), Fail> {
     let alloc = rt.alloc();
     let grid = Stairs::create(alloc, &metadata(alloc, r#""stairs""#)?, &[6])?;
-    match Stairs::create(alloc, &metadata(alloc, r#""stairs""#)?, &[5]) {
-        Err(Refusal::Refused(_)) => {}
-        Err(Refusal::Memory(error)) => return Err(error.into()),
-        Ok(_) => return Err("stairs of five elements".into()),
-    }
-    let rows: [(u64, Option<(u64, u64)>); 6] = [
-        (0, Some((0, 0))),
-        (1, Some((1, 0))),
-        (2, Some((1, 1))),
-        (3, Some((2, 0))),
-        (5, Some((2, 2))),
-        (6, None),
-    ];
-    for (index, home) in rows {
-        let chunk = chunk_indices_names_the_home(alloc, &grid, &[index])?;
-        let place = grid.chunk_element_indices(alloc, &[index])?;
-        match home {
-            Some((home, at)) => {
-                assert_eq!(rt; chunk.ok_or("no chunk")?.as_slice(), [home].as_slice());
-                assert_eq!(rt; place.ok_or("no place")?.as_slice(), [at].as_slice());
-            }
-            None => assert!(rt; chunk.is_none() && place.is_none()),
-        }
-    }
+    check_home(&rt, &grid, 0, 0, 0)?;
+    check_home(&rt, &grid, 1, 1, 0)?;
+    check_home(&rt, &grid, 2, 1, 1)?;
+    check_home(&rt, &grid, 3, 2, 0)?;
+    check_home(&rt, &grid, 5, 2, 2)?;
+    check_no_home(&rt, &grid, 6)?;
     let _configuration = grid.configuration(alloc)?;
     Ok(())
+}
+
+#[test]
+fn a_grid_of_ones_own_is_refused(rt: HostRuntime) -> Result<(), Fail> {
+    let alloc = rt.alloc();
+    match Stairs::create(alloc, &metadata(alloc, r#""stairs""#)?, &[5]) {
+        Err(Refusal::Refused(_)) => Ok(()),
+        Err(Refusal::Memory(error)) => Err(error.into()),
+        Ok(_) => Err("stairs of five elements".into()),
+    }
 }
 
 fn check_box(
@@ -209,22 +255,35 @@ fn check_box(
     end: u64,
 ) -> Result<(), Fail> {
     let expected = ArraySubset::new_with_ranges(rt.alloc(), &[start..end])?;
-    assert!(rt; found == Some(expected));
+    check_that(rt, found == Some(expected), "the box that was expected");
     Ok(())
 }
 
 #[test]
 fn boxes_of_a_grid_of_ones_own(rt: HostRuntime) -> Result<(), Fail> {
     let alloc = rt.alloc();
-    let grid = Stairs;
-    check_box(&rt, grid.subset(alloc, &[2])?, 3, 6)?;
-    assert!(rt; grid.subset(alloc, &[3])?.is_none() && grid.subset(alloc, &[]).is_err());
+    check_box(&rt, Stairs.subset(alloc, &[2])?, 3, 6)?;
     let elements = ArraySubset::new_with_ranges(alloc, &[2..4])?;
-    check_box(&rt, grid.chunks_in_array_subset(alloc, &elements)?, 1, 3)?;
+    check_box(&rt, Stairs.chunks_in_array_subset(alloc, &elements)?, 1, 3)?;
     let chunks = ArraySubset::new_with_ranges(alloc, &[1..3])?;
-    check_box(&rt, grid.chunks_subset(alloc, &chunks)?, 1, 6)?;
-    assert!(rt; grid.chunk_indices_inbounds(&[2]) && !grid.chunk_indices_inbounds(&[3]));
-    assert!(rt; grid.array_indices_inbounds(&[5]) && !grid.array_indices_inbounds(&[6]));
+    check_box(&rt, Stairs.chunks_subset(alloc, &chunks)?, 1, 6)
+}
+
+#[test]
+fn bounds_of_a_grid_of_ones_own(rt: HostRuntime) -> Result<(), Fail> {
+    let alloc = rt.alloc();
+    let grid = Stairs;
+    let has_no_box = grid.subset(alloc, &[3])?.is_none();
+    let is_refused = grid.subset(alloc, &[]).is_err();
+    check_that(
+        &rt,
+        has_no_box && is_refused,
+        "no fourth chunk, and a refusal",
+    );
+    let chunks = grid.chunk_indices_inbounds(&[2]) && !grid.chunk_indices_inbounds(&[3]);
+    check_that(&rt, chunks, "three chunks");
+    let elements = grid.array_indices_inbounds(&[5]) && !grid.array_indices_inbounds(&[6]);
+    check_that(&rt, elements, "six elements");
     Ok(())
 }
 
@@ -241,10 +300,22 @@ fn an_encoding_of_ones_own(rt: HostRuntime) -> Result<(), Fail> {
     let _configuration = encoding.configuration(alloc)?;
     let grid = regular_grid(alloc, &[5, 7, 52], &[1, 2, 3])?;
     let located = locate(alloc, &grid, &encoding, &[3, 5, 50])?.ok_or("no chunk")?;
-    assert_eq!(rt; located.chunk.as_slice(), [3, 2, 16].as_slice());
-    assert_eq!(rt; located.key.as_str(), "c.3.2.16.v1");
-    assert_eq!(rt; located.element.as_slice(), [0, 1, 2].as_slice());
+    check_numbers(&rt, &located.chunk, &[3, 2, 16]);
+    check_same(&rt, located.key.as_str(), "c.3.2.16.v1");
+    check_numbers(&rt, &located.element, &[0, 1, 2]);
     key_and_place_determine_the_index(&grid, &encoding);
+    Ok(())
+}
+
+/// The text is a key of a store, and of no chunk.
+fn check_no_chunk(
+    rt: &(impl Abort + AllocGlobal),
+    encoding: &Versioned<DefaultChunkKeyEncoding>,
+    text: &str,
+) -> Result<(), Fail> {
+    let key = StoreKey::new(String::from_str(rt.alloc(), text)?)?;
+    let is_none = encoding.decode(rt.alloc(), 3, &key)?.is_none();
+    check_that(rt, is_none, text);
     Ok(())
 }
 
@@ -254,15 +325,11 @@ fn keys_of_an_encoding_of_ones_own(rt: HostRuntime) -> Result<(), Fail> {
     let encoding = versioned(alloc)?;
     let mut text = String::from_str(alloc, "key ")?;
     encoding.append_key(&mut text, &[3, 2, 16])?;
-    assert_eq!(rt; text.as_str(), "key c.3.2.16.v1");
+    check_same(&rt, text.as_str(), "key c.3.2.16.v1");
     let key = encoding.encode(alloc, &[3, 2, 16])?;
     let read = encoding.decode(alloc, 3, &key)?.ok_or("no key")?;
-    assert_eq!(rt; read.as_slice(), [3, 2, 16].as_slice());
-    for text in ["c.3.2.16", "c.3.2.v1", "c.3.2.16/.v1"] {
-        let Ok(key) = StoreKey::new(String::from_str(alloc, text)?) else {
-            return Err("no store key".into());
-        };
-        assert!(rt; encoding.decode(alloc, 3, &key)?.is_none(), "{text}");
-    }
-    Ok(())
+    check_numbers(&rt, &read, &[3, 2, 16]);
+    check_no_chunk(&rt, &encoding, "c.3.2.16")?;
+    check_no_chunk(&rt, &encoding, "c.3.2.v1")?;
+    check_no_chunk(&rt, &encoding, "c.3.2.16/.v1")
 }
