@@ -196,12 +196,13 @@ fn check_refused(
 }
 
 #[test]
-fn boxes_are_refused(rt: HostRuntime) -> Result<(), AllocError> {
+fn boxes_are_refused(rt: HostRuntime) -> Result<(), Fail> {
     let greatest = 18446744073709551615;
     check_refused(&rt, &[1], &[1, 1], lengths(2, 1))?;
     check_refused(&rt, &[greatest], &[], lengths(0, 1))?;
     check_refused(&rt, &[0, greatest], &[1, 1], end(1))?;
-    check_refused(&rt, &[greatest, greatest], &[greatest, 1], end(0))
+    check_refused(&rt, &[greatest, greatest], &[greatest, 1], end(0))?;
+    Ok(())
 }
 
 /// Whether an index list lies in a box.
