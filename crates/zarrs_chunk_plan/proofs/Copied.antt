@@ -17,9 +17,9 @@ use Rattle.zarrs_chunk_plan.proofs.Plans.{not_empty}
 use Rattle.zarrs_chunk_plan.proofs.Walked.{one_came, plan_of}
 
 module _ {G E H F : Type 0} (source_dimensions : G → List Dimension) (target_dimensions : H → List Dimension) where
-  pub can_copy : (source : StoredArray G E) (target : H) (encoding : F) (walk : Copies G E H F) (targets : Parts H F) (wanted : Box) → walk.source.now ≡ source
-      → walk.targets ≡ targets → IsAbout target encoding (array_box (target_dimensions target)) targets → chunks_to_come targets ≡ chunks_in wanted
-      → array_sizes (source_dimensions source.grid) ≡ array_sizes (target_dimensions target)
+  pub can_copy : (source : StoredArray G E) (target : H) (encoding : F) (walk : Copies G E H F) (targets : Parts H F) (wanted : Box)
+      → walk.source.now ≡ source → walk.targets ≡ targets → IsAbout target encoding (array_box (target_dimensions target)) targets
+      → chunks_to_come targets ≡ chunks_in wanted → array_sizes (source_dimensions source.grid) ≡ array_sizes (target_dimensions target)
       → AllByRecursion (Meets (target_dimensions target) (array_box (target_dimensions target))) (chunks_in wanted)
       → CanCopy source_dimensions target_dimensions walk
   can_copy source target encoding walk targets wanted same_source same_targets about left one meet = record {
@@ -114,7 +114,8 @@ pub rechunking_of : {G E H F : Type 0} (source_dimensions : G → List Dimension
     → IsAboutCopies source target array walk → IsBox targets
     → AreTargets (target_dimensions target.grid) chunks targets → targets_to_come walk ≡ chunks_in targets
     → AreGroupsToCome source_dimensions source_key target_dimensions target_key walk groups
-    → IsRechunking (source_dimensions source.grid) (source_key source.encoding) (target_dimensions target.grid) (target_key target.encoding) chunks groups
+    → IsRechunking (source_dimensions source.grid) (source_key source.encoding) (target_dimensions target.grid) (target_key target.encoding) chunks
+    groups
 rechunking_of source_dimensions source_key target_dimensions target_key source target array chunks targets walk
     groups about is_box are left come = record {
       targets = targets;

@@ -227,7 +227,8 @@ pub fn a_bounded_dimension_is_that_of_its_edges()
 {}
 
 /// Grids of one array shape and the same edges have the same dimensions, whatever their kinds, where both end their last chunk at the array's end
-/// or neither does; run-length elements count as the edges that they stand for, and one edge for all chunks isn't the same as a list of it. Every look-up, box, cover and walk of a grid goes by its dimensions.
+/// or neither does; run-length elements count as the edges that they stand for, and one edge for all chunks isn't the same as a list of
+/// it. Every look-up, box, cover and walk of a grid goes by its dimensions.
 pub fn the_edges_determine_the_dimensions(grid: &ChunkGrid, other: &ChunkGrid)
     ensures { is_bounded (kind_in grid.now) ≡ is_bounded (kind_in other.now)
         → array_sizes (grid_in grid.now).dimensions ≡ array_sizes (grid_in other.now).dimensions

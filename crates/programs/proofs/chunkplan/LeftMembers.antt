@@ -57,13 +57,20 @@ module _ (d left : Data) (are_left : AreLeft d left) where
   of_same m = is_of_array d left m (short (codes "shape") (omega arith)) (short (codes "data_type") (omega arith))
 
   pub is_task : (task : Task) → IsTask left task → IsTask d task
-  is_task (read_of b) (none, box) = (sym (short (codes "target") (omega arith)) ∙ none, has_box d left (codes "subset") b (short (codes "subset") (omega arith)) box)
-  is_task (rechunk_to stored b) (m, there, of_array, has, box) =
-      (m, sym (short (codes "target") (omega arith)) ∙ there, of_same m of_array, has, has_box d left (codes "chunks") b (short (codes "chunks") (omega arith)) box)
+  is_task (read_of b) (none, box) =
+      (sym (short (codes "target") (omega arith)) ∙ none, has_box d left (codes "subset") b (short (codes "subset") (omega arith)) box)
+  is_task (rechunk_to stored b) (m, there, of_array, has, box) = (
+    m,
+    sym (short (codes "target") (omega arith)) ∙ there,
+    of_same m of_array,
+    has,
+    has_box d left (codes "chunks") b (short (codes "chunks") (omega arith)) box,
+  )
 
   pub is_task_fault : (fault : RunFault) → IsTaskFault left fault → IsTaskFault d fault
   is_task_fault fault (of_subset none is) =
-      of_subset (sym (short (codes "target") (omega arith)) ∙ none) (has_box_fault d left (codes "subset") fault (short (codes "subset") (omega arith)) is)
+      of_subset (sym (short (codes "target") (omega arith)) ∙ none)
+      (has_box_fault d left (codes "subset") fault (short (codes "subset") (omega arith)) is)
   is_task_fault fault (of_target m there none tells) = of_target m (sym (short (codes "target") (omega arith)) ∙ there) none tells
   is_task_fault fault (of_misfit m there object is) =
       of_misfit m (sym (short (codes "target") (omega arith)) ∙ there) object
@@ -72,7 +79,8 @@ module _ (d left : Data) (are_left : AreLeft d left) where
       of_target_stored m told (sym (short (codes "target") (omega arith)) ∙ there) object (of_same m of_array) is same
   is_task_fault fault (of_chunks m stored there of_array has is) =
       let same = short (codes "target") (omega arith) in
-      of_chunks m stored (sym same ∙ there) (of_same m of_array) has (has_box_fault d left (codes "chunks") fault (short (codes "chunks") (omega arith)) is)
+      of_chunks m stored (sym same ∙ there) (of_same m of_array) has
+      (has_box_fault d left (codes "chunks") fault (short (codes "chunks") (omega arith)) is)
 
 -- ---- names of another letter
 

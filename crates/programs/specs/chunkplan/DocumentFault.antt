@@ -76,8 +76,8 @@ pub data IsTaskFault (d : Data) (fault : RunFault) : Type 0 where
   of_chunks : (target : Data) (stored : Stored) → get (codes "target") d ≡ Some target → IsOfArray d target → HasStored target stored
       → HasBoxFault d (codes "chunks") fault → IsTaskFault d fault
 
--- The first fault of an object that is no document: a member isn't known; one is missing; one doesn't go with the others; and then, of the shape, of how the
--- array is stored and of what is asked for, the first that isn't of its form.
+-- The first fault of an object that is no document: a member isn't known; one is missing; one doesn't go with the others; and then, of the
+-- shape, of how the array is stored and of what is asked for, the first that isn't of its form.
 pub data IsFormFault (d : Data) (fault : RunFault) : Type 0 where
   unknown : IsUnknownFault d fault → IsFormFault d fault
   missing : (name : List ℕ) → HasOnly known_members d → IsFirst (λ member. get member d ≡ None) document_members name → TellsMissing name fault

@@ -37,9 +37,9 @@ pub(crate) struct Document {
 /// The document that an input is the text of.
 ///
 /// # Errors
-/// The input is no JSON or no object; a member isn't known; a member is missing; a member doesn't go with the others; a member isn't of its form, of `shape`,
-/// `chunk_grid`, `chunk_key_encoding`, and of `subset`, or of `target` and `chunks`, the first, and the target has no unknown member and is of the same
-/// array; or out of memory.
+/// The first that applies: the input is no JSON, or no object; a member isn't known; one is missing; one doesn't go with the others; one isn't of its
+/// form, of `shape`, `chunk_grid`, `chunk_key_encoding`, and of `subset`, or of `target` and `chunks`; before its own members, the target has one
+/// that isn't known, or is of another array. Or out of memory.
 pub(crate) fn parse(alloc: Global, input: &[u8]) -> Result<Document, RunFault>
     ensures { MatchResult result
         (λ document. (tree : Data) × IsTreeOf input.now tree

@@ -33,7 +33,8 @@ returns-in_err-required_member-3 c =
     let tree = view c.args.tree in
     let shape = is_there tree _ (codes "shape") c.in_ok-required_member.ensures in
     let grid = is_there tree _ (codes "chunk_grid") c.in_ok-required_member-2.ensures in
-    rw (p.1, p.2) (inr (no_member tree _ _ (λ none. inr (shape, inr (grid, inl (none, refl)))) c.in_ok-check_document.ensures c.in_err-required_member-3.ensures))
+    rw (p.1, p.2) (inr (no_member tree _ _ (λ none. inr (shape, inr (grid, inl (none, refl))))
+    c.in_ok-check_document.ensures c.in_err-required_member-3.ensures))
 
 pub returns-in_err-check_fitting : goal.returns-in_err-check_fitting
 returns-in_err-check_fitting c =
@@ -51,7 +52,8 @@ returns-in_err-shape c =
     has_members tree _ _ _ c.in_ok-required_member.ensures c.in_ok-required_member-2.ensures c.in_ok-required_member-3.ensures in
     rw (p.1, p.2)
     (⊎_elim (λ memory. inl (ap of_document memory))
-    (λ is. inr (no_shape tree _ _ c.in_ok-check_document.ensures members c.in_ok-check_fitting.ensures c.in_ok-required_member.ensures is)) c.in_err-shape.ensures)
+    (λ is. inr (no_shape tree _ _ c.in_ok-check_document.ensures members c.in_ok-check_fitting.ensures c.in_ok-required_member.ensures is))
+    c.in_err-shape.ensures)
 
 pub returns-in_err-stored : goal.returns-in_err-stored
 returns-in_err-stored c =
@@ -61,7 +63,8 @@ returns-in_err-stored c =
     has_members tree _ _ _ c.in_ok-required_member.ensures c.in_ok-required_member-2.ensures c.in_ok-required_member-3.ensures in
     rw (p.1, p.2)
     (⊎_elim (λ memory. inl (ap of_document memory))
-    (λ is. inr (misformed_stored _ c.in_ok-check_document.ensures members c.in_ok-check_fitting.ensures (ap is_some c.in_ok-shape.ensures) is refl)) c.in_err-stored.ensures.stored)
+    (λ is. inr (misformed_stored _ c.in_ok-check_document.ensures members c.in_ok-check_fitting.ensures (ap is_some c.in_ok-shape.ensures) is refl))
+    c.in_err-stored.ensures.stored)
 
 pub returns-in_err-task : goal.returns-in_err-task
 returns-in_err-task c =
@@ -71,8 +74,9 @@ returns-in_err-task c =
     has_members tree _ _ _ c.in_ok-required_member.ensures c.in_ok-required_member-2.ensures c.in_ok-required_member-3.ensures in
     rw (p.1, p.2)
     (⊎_elim (λ memory. inl memory)
-    (λ is. inr (misformed_task (stored_of c.in_ok-stored.stored) c.in_ok-check_document.ensures members c.in_ok-check_fitting.ensures (ap is_some c.in_ok-shape.ensures)
-    c.in_ok-stored.ensures.stored (is_task_fault tree (view c.take_stored.new.tree) c.in_ok-stored.ensures.others _ is)))
+    (λ is. inr (misformed_task (stored_of c.in_ok-stored.stored) c.in_ok-check_document.ensures members c.in_ok-check_fitting.ensures
+    (ap is_some c.in_ok-shape.ensures) c.in_ok-stored.ensures.stored
+    (is_task_fault tree (view c.take_stored.new.tree) c.in_ok-stored.ensures.others _ is)))
     c.in_err-task.ensures)
 
 pub returns : goal.returns

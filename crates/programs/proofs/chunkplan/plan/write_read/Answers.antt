@@ -15,8 +15,8 @@ returns-in-Ok-Some g c =
     step_follows _ _ (λ _. ⊥) (IsReadFault (g.G.ChunkGridTraits.dimensions c.args.array.now.grid) c.args.subset.now)
     (λ text (parts, are, lines). (
       parts,
-      is_read_plan g.G.ChunkGridTraits.dimensions g.E.ChunkKeyEncodingTraits.is_key c.args.array.now.grid c.args.array.now.encoding c.args.subset.now walk parts
-          c.start-dimensionality.ensures.is_box many (rw is at said.about) (rw is at said.empty) (rw is at said.answers) are,
+      is_read_plan g.G.ChunkGridTraits.dimensions g.E.ChunkKeyEncodingTraits.is_key c.args.array.now.grid c.args.array.now.encoding c.args.subset.now
+          walk parts c.start-dimensionality.ensures.is_box many (rw is at said.about) (rw is at said.empty) (rw is at said.answers) are,
       lines,
     ))
     (λ fault none. absurd none)
