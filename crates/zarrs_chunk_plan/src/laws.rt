@@ -212,7 +212,8 @@ pub fn each_element_is_copied_once<
         → (steps : List ℕ) → AreBelow copy.0.in_chunk.shape steps → (index : List ℕ)
         × AreBelow (array_sizes (H.dimensions target.now.grid)) index
         × Moves (G.dimensions source.now.grid) (H.dimensions target.now.grid) copy steps index }
-    ensures keys { (chunks : Box) (groups : List Group) → IsRechunking (G.dimensions source.now.grid)
+    ensures keys { (chunks : Box) (groups : List Group)
+        → IsRechunking (G.dimensions source.now.grid)
         (E.is_key source.now.encoding) (H.dimensions target.now.grid) (F.is_key target.now.encoding)
         chunks groups → (copy : Part × Part) → Contains (copies_of groups) copy
         → E.is_key source.now.encoding copy.0.chunk.items copy.0.key

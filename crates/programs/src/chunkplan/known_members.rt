@@ -1,5 +1,5 @@
 //! The members that a document may have: what is asked of an array, and what stands in its `zarr.json`.
-ghost use Rattle.std.specs.Prelude.{◌≡◌, ◌⊎◌, IfOk, MatchResult, OnOk, cond, map};
+ghost use Rattle.std.specs.Prelude.{IfOk, MatchResult, cond, map};
 ghost use Rattle.serde_json.specs.View.{view};
 ghost use Rattle.zarrs_chunk_base.specs.Refusal.{OrMemory};
 ghost use Rattle.programs.specs.chunkplan.Known.{Agree, Differ, HasOnly, IsFirstUnknown};
@@ -79,14 +79,7 @@ pub(crate) fn check_known(
     };
     match refuse_unknown(alloc, members, known, "") {
         Ok(()) => Ok(()),
-        Err(
-            Refusal::Refused(
-                ConfigurationFault::UnknownField {
-                    field: name,
-                    expected: _,
-                },
-            ),
-        ) => {
+        Err(Refusal::Refused(ConfigurationFault::UnknownField { field: name, .. })) => {
             let near = nearest(alloc, &name, known)?;
             Err(Refusal::Refused(UnknownMember { name, near }))
         }
