@@ -1,7 +1,9 @@
 pub mod Begun
+pub mod Behind
 pub mod FormFaults
-pub mod Groups
 pub mod LeftMembers
+pub mod Numbered
+pub mod Pieces
 pub mod ReadPlans
 pub mod RunOutcomes
 pub mod Steps

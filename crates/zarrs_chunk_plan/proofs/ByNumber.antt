@@ -1,16 +1,17 @@
 -- The chunks in a box, by their number.
 use Rattle.std.proofs.Common.{◌≡◌, ◌∙◌, ℕ, zero, suc, ◌+◌, ◌*◌, ◌<◌, ◌≤◌, List, [], ◌∷◌, ◌++◌, Option, Some, None, length, map, min, get_or, drop}
-use Rattle.std.proofs.Common.{take, set, refl, ap, sym, ⊎_elim, arith, length-append, ◌/◌, ◌%◌}
+use Rattle.std.proofs.Common.{take, set, refl, ap, sym, ⊎_elim, arith, length-append, ◌/◌, ◌%◌, ◌-◌, ◌^◌, unwrap_or, inl, inr, ◌⊎◌}
 use Rattle.std.proofs.Math.Nat.{div-add-mod, mul-suc, mul-zero}
 use Rattle.std.proofs.Math.Seq.{drop-length}
 use Rattle.std.proofs.lemmas.List.{length-map, length-set, drop-set, drop_more, take_more}
 use Rattle.std.proofs.lemmas.Option.{slice_get-map, slice_get_within}
-use Rattle.std.proofs.lemmas.Bool.{cases_lt}
+use Rattle.std.proofs.lemmas.Bool.{cases_lt, le-leb, lt-leb}
 use Rattle.std.specs.List.{slice_get}
 use Rattle.std.specs.Option.{option_map}
 use Rattle.zarrs_chunk_base.specs.ArraySubset.{ends}
 use Rattle.zarrs_chunk_base.specs.Greatest.{AllFit, greatest}
 use Rattle.zarrs_chunk_axes.specs.RowMajor.{row_major, rows}
+use Rattle.zarrs_chunk_plan.specs.Counted.{counted}
 use Rattle.zarrs_chunks.specs.Walks.{chunks_in, counted_from}
 
 module _ {X : Type 0} where
@@ -192,3 +193,24 @@ pub counted_more : (shape : List ℕ) (k count most : ℕ) → k < length shape 
 counted_more shape k count most within is =
     let size = get_or shape k 0 in
     rw (take_more shape k 0 within, length-behind (take k shape) size, is) (at_most_times (length (row_major (take k shape))) size most)
+
+-- ---- a count, as far as a number tells it
+
+pub counted_cases : (all : ℕ) → ((all ≤ greatest) × (counted all ≡ Some all)) ⊎ ((greatest < all) × (counted all ≡ None))
+unfolding counted
+counted_cases all =
+    ⊎_elim (λ (past : greatest < all). inr (past, rw (lt-leb all greatest past) refl))
+    (λ (fits : all ≤ greatest). inl (fits, rw (le-leb all greatest fits) refl)) (cases_lt greatest all)
+
+pub counted_some : (all count : ℕ) → count ≡ min all (2 ^ 128 - 1) → count ≤ greatest → counted all ≡ Some count
+counted_some all count is fits =
+    ⊎_elim (λ (low, some). some ∙ ap Some (let same : all ≡ count = omega arith in same)) (λ (past, none). absurd (omega arith)) (counted_cases all)
+
+pub counted_none : (all count : ℕ) → count ≡ min all (2 ^ 128 - 1) → greatest < count → counted all ≡ None
+counted_none all count is past = ⊎_elim (λ (low, some). absurd (omega arith)) (λ (high, none). none) (counted_cases all)
+
+-- the count, or the greatest number
+pub counted_most : (all : ℕ) (count : Option ℕ) → count ≡ counted all → unwrap_or count greatest ≡ min all greatest
+counted_most all count is =
+    ⊎_elim (λ (fits, some). rw (is, some) (let same : all ≡ min all greatest = omega arith in same))
+    (λ (past, none). rw (is, none) (let same : greatest ≡ min all greatest = omega arith in same)) (counted_cases all)

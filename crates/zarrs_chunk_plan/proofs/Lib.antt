@@ -9,3 +9,4 @@ pub mod Shares
 pub mod SomePlan
 pub mod Taken
 pub mod Walked
+pub mod Wholes

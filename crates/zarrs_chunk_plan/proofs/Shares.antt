@@ -1,15 +1,16 @@
 -- The elements that a chunk and a box share.
 use Rattle.std.proofs.Common.{◌≡◌, ◌↔◌, ℕ, suc, ◌+◌, ◌-◌, ◌<◌, ◌≤◌, List, [], ◌∷◌, length, max, refl, ap, ap₂, subst, sym, ◌∙◌, arith}
+use Rattle.std.proofs.lemmas.List.{length-map}
 use Rattle.zarrs_chunk_base.specs.ArraySubset.{AreWithin, Box, IsBox}
-use Rattle.zarrs_chunk_base.specs.Dimension.{Dimension, HasEdge, Holds, InBox, IsOrigin, IsShape, StartsAt}
+use Rattle.zarrs_chunk_base.specs.Dimension.{Dimension, HasEdge, Holds, InBox, IsOrigin, IsShape, StartsAt, array_sizes}
 use Rattle.zarrs_chunk_base.specs.Greatest.{greatest, AllFit}
 use Rattle.zarrs_chunk_base.proofs.Boxes.{within_lengths}
 use Rattle.zarrs_chunk_base.proofs.InEach.{by_dimension_twice, length_values, same_values}
 use Rattle.zarrs_chunks.specs.Walks.{counted_from}
 use Rattle.zarrs_chunks.proofs.Boxes.{has_origin}
 use Rattle.zarrs_chunks.proofs.ChunksInBoxes.{inside_fits}
-use Rattle.zarrs_chunk_plan.specs.Plan.{AreShared, Meets}
-use Rattle.zarrs_chunk_plan.specs.seen.Shared.{distances, later_starts, shared_sizes}
+use Rattle.zarrs_chunk_plan.specs.Plan.{AreShared, HasAllOf, Meets}
+use Rattle.zarrs_chunk_plan.specs.seen.Shared.{HoldsRest, distances, later_starts, shared_sizes}
 use Rattle.zarrs_chunk_plan.proofs.Overlaps.{overlap_holds, overlap_is_box}
 
 -- what is counted from the earlier to the later of two starts reaches the later one, from either
@@ -105,3 +106,18 @@ boxes_are ds b chunk origin edges is_box meets is long = (in_chunk, in_subset, s
     from_chunk = record { is_box = in_chunk; start = (reach_later origin b.start).0; shape = refl };
     from_subset = record { is_box = in_subset; start = (reach_later origin b.start).1; shape = refl };
   }
+
+-- the box has all that the chunk has of the array where it has all from the chunk's origin on, as far as its edges and the array reach
+pub has_all_of : (ds : List Dimension) (b : Box) (chunk origin edges : List ℕ) → IsBox b → Meets ds b chunk → IsOrigin ds chunk origin
+    → IsShape ds chunk edges
+    → (length b.start ≡ length origin) × (length edges ≡ length origin) × (length (array_sizes ds) ≡ length origin)
+    × (HoldsRest b origin edges (array_sizes ds) ↔ HasAllOf ds b chunk)
+has_all_of ds b chunk origin edges is_box meets is long =
+    let (index, box, inside) = meets in
+    let many = length_values StartsAt ds chunk origin is in
+    let held = in_box ds chunk origin edges is long in (
+      sym (within_lengths b.start b.shape index inside) ∙ length_values Holds ds chunk index box ∙ sym many,
+      length_values HasEdge ds chunk edges long ∙ sym many,
+      length-map ds (λ (d : Dimension). d.array_size) ∙ sym many,
+      (λ rest other in_chunk in_array. rest other ((held other).1 in_chunk) in_array, λ has other in_chunk in_array. has other ((held other).0 in_chunk) in_array),
+    )

@@ -1,5 +1,5 @@
 -- Where each chunk has a key, each box of elements of the array has a plan, and each rechunking too: the parts ahead of a walk exist.
-use Rattle.std.proofs.Common.{◌≡◌, ℕ, suc, ◌+◌, ◌-◌, ◌<◌, ◌≤◌, List, [], ◌∷◌, Contains, ap, ap₂, length, map, refl, arith}
+use Rattle.std.proofs.Common.{◌≡◌, ◌∙◌, ℕ, suc, ◌+◌, ◌-◌, ◌<◌, ◌≤◌, List, [], ◌∷◌, Contains, ap, ap₂, length, map, refl, sym, arith}
 use Rattle.std.specs.List.{AllByRecursion, AllZip}
 use Rattle.zarrs_chunk_base.specs.ArraySubset.{AreWithin, Box, IsBox, IsEmptyBox, IsInside, ends, lasts}
 use Rattle.zarrs_chunk_base.specs.Dimension.{Dimension, Holds, InBox, IsChain, IsShape, array_sizes}
@@ -20,7 +20,8 @@ use Rattle.zarrs_chunk_plan.specs.declared.part.Part.{Part}
 use Rattle.zarrs_chunk_plan.specs.seen.Parts.{HasKeys}
 use Rattle.zarrs_chunk_plan.proofs.Plans.{all_of_each, not_empty}
 use Rattle.zarrs_chunk_plan.proofs.Rechunkings.{in_array, those_are}
-use Rattle.zarrs_chunk_plan.proofs.Shares.{boxes_are, from_chunk, from_start}
+use Rattle.zarrs_chunk_plan.proofs.Shares.{boxes_are, from_chunk, from_start, has_all_of}
+use Rattle.zarrs_chunk_plan.proofs.Wholes.{test_rest}
 
 -- ---- one chunk
 
@@ -84,14 +85,24 @@ module _ (ds : List Dimension) (IsKey : List ℕ → List ℕ → Type 0) (chain
       let (origin, is, _) = has_origin ds chunk index box fit in
       let (edges, long) = has_shape ds chunk index box in
       let (key, is_key) = keys chunk (chunk_fits ds chains chunk index box fit) in
-      let (_, _, shared) = boxes_are ds b chunk origin edges is_box meets is long in (
+      let (_, _, shared) = boxes_are ds b chunk origin edges is_box meets is long in
+      let (starts, lengths, sizes, same) = has_all_of ds b chunk origin edges is_box meets is long in
+      let (whole, told) = test_rest b origin edges (array_sizes ds) lengths sizes starts (sym is_box.lengths ∙ starts) in (
         record {
           key = key;
           chunk = record { items = chunk; capacity = 0 };
+          shape = record { items = edges; capacity = 0 };
+          whole = whole;
           in_chunk = from_chunk origin edges b;
           in_subset = from_start origin edges b;
         },
-        record { numbers = refl; key = is_key; boxes = shared },
+        record {
+          numbers = refl;
+          key = is_key;
+          shape = long;
+          whole = (λ t. same.0 (told.0 t), λ has. told.1 (same.1 has));
+          boxes = shared;
+        },
       )
 
   pub have_parts : (b : Box) → IsBox b → (chunks : List (List ℕ)) → AllByRecursion (Meets ds b) chunks

@@ -1,10 +1,10 @@
 -- The plan of reading a box of elements: its parts, one for each chunk that holds some of it.
 -- Sources: Zarr V3 core, chunk grids and chunk key encodings; the plan is this library's own.
-use Rattle.std.specs.Prelude.{◌≡◌, ◌↔◌, ◌⊎◌, ℕ, List, [], length, Option, Some, None, Result, Ok, Err, Vec}
+use Rattle.std.specs.Prelude.{◌≡◌, ◌↔◌, ◌⊎◌, ℕ, IsTrue, List, [], length, Option, Some, None, Result, Ok, Err, Vec}
 use Rattle.std.specs.List.{AllZip}
 use Rattle.std.specs.declared.alloc.Global.{Global}
 use Rattle.zarrs_chunk_base.specs.ArraySubset.{Box, IsBox, IsInside, lasts}
-use Rattle.zarrs_chunk_base.specs.Dimension.{Dimension, InBox, IsOrigin}
+use Rattle.zarrs_chunk_base.specs.Dimension.{Dimension, InBox, IsOrigin, IsShape, array_sizes}
 use Rattle.zarrs_chunk_base.specs.Refusal.{AnswersOrMemory}
 use Rattle.zarrs_chunk_base.specs.declared.incompatible_dimensionality_error.IncompatibleDimensionalityError.{IncompatibleDimensionalityError}
 use Rattle.zarrs_chunk_base.specs.declared.refusal.Refusal.{Refusal}
@@ -28,6 +28,10 @@ pub record IsCountedFrom (first : List ℕ) (b counted : Box) : Type 0 where
   pub start : b.start ≡ counted_from first counted.start
   pub shape : b.shape ≡ counted.shape
 
+-- the box has all elements of the array that the chunk holds
+abbrev pub HasAllOf : List Dimension → Box → List ℕ → Type 0
+HasAllOf ds subset chunk = (index : List ℕ) → InBox ds chunk index → AreBelow (array_sizes ds) index → IsInside subset index
+
 -- The elements that the chunk and the box share are those of one box; counted from the chunk's origin it is
 -- the one given, and counted from the start of the box the other.
 pub record AreShared (ds : List Dimension) (subset : Box) (chunk : List ℕ) (in_chunk in_subset : Box) : Type 0 where
@@ -39,10 +43,12 @@ pub record AreShared (ds : List Dimension) (subset : Box) (chunk : List ℕ) (in
   pub from_chunk : IsCountedFrom origin shared in_chunk
   pub from_subset : IsCountedFrom subset.start shared in_subset
 
--- the part of a chunk: that chunk, a key of it, and the elements that it shares with the box
+-- the part of a chunk: that chunk, a key of it, its shape, the elements that it shares with the box, and whether these are all that it has of the array
 pub record IsPart (ds : List Dimension) (IsKey : List ℕ → List ℕ → Type 0) (subset : Box) (chunk : List ℕ) (part : Part) : Type 0 where
   pub numbers : part.chunk.items ≡ chunk
   pub key : IsKey chunk part.key
+  pub shape : IsShape ds chunk part.shape.items
+  pub whole : IsTrue part.whole ↔ HasAllOf ds subset chunk
   pub boxes : AreShared ds subset chunk part.in_chunk part.in_subset
 
 -- the plan: a part for each chunk of the cover, in row-major order of the chunks

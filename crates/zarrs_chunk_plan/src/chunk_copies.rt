@@ -47,6 +47,18 @@ impl<'a, G, E, H, F> Copies<'a, G, E, H, F> {
     }
 }
 
+impl<'a, G, E, H: ChunkGridTraits, F: ChunkKeyEncodingTraits> Copies<'a, G, E, H, F> {
+    ghost use Rattle.std.specs.Prelude.{◌≡◌};
+    ghost use Rattle.zarrs_chunk_plan.specs.seen.Copies.{targets_in_all};
+
+    /// How many chunks of the target there are in all, from the first one on; `None` past 18446744073709551615.
+    pub fn in_all(&self) -> Option<u64>
+        ensures { result ≡ targets_in_all self.now }
+    {
+        self.targets.in_all()
+    }
+}
+
 impl<
     'a,
     G: ChunkGridTraits,

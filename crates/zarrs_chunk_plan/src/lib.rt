@@ -48,7 +48,7 @@ pub use chunk_copies::{ChunkCopies, Copies};
 pub use copies_error::CopiesError;
 pub use numbered_chunks::{SomeChunks, some_chunks};
 pub use numbered_parts::{SomeParts, some_parts};
-pub use part::Part;
+pub use part::{ChunkShapeTinyVec, Part};
 pub use plan::parts;
 pub use rechunking::copies;
 pub use stored_array::StoredArray;

@@ -5,6 +5,7 @@ ghost use Rattle.zarrs_chunk_base.specs.ArraySubset.{IsBox};
 ghost use Rattle.zarrs_chunk_base.specs.Greatest.{greatest};
 ghost use Rattle.zarrs_chunk_axes.specs.RowMajor.{row_major};
 ghost use Rattle.zarrs_chunks.specs.Walks.{chunks_in};
+ghost use Rattle.zarrs_chunk_plan.specs.Counted.{counted};
 ghost use Rattle.zarrs_chunk_plan.specs.SomeChunks.{AreSomeChunks};
 
 use std::alloc::{AllocError, Global};
@@ -66,11 +67,18 @@ fn chunks_between(
 pub(crate) fn count_below(shape: &[u64]) -> u64
     ensures { result ≡ min (length (row_major shape.now)) greatest }
 {
-    let mut count = 1u64;
+    count_of(shape).unwrap_or(u64::MAX)
+}
+
+/// How many lists of numbers are below a shape; `None` past 18446744073709551615.
+pub(crate) fn count_of(shape: &[u64]) -> Option<u64>
+    ensures { result ≡ counted (length (row_major shape.now)) }
+{
+    let mut count = 1u128;
     for size in shape {
-        count = count.saturating_mul(*size);
+        count = count.saturating_mul(*size as u128);
     }
-    count
+    if count <= u64::MAX as u128 { Some(count as u64) } else { None }
 }
 
 /// The chunk with this number, of those in a box of chunk numbers. They are numbered from 0 in row-major order.

@@ -1,11 +1,11 @@
 //! What two boxes have in common.
 ghost use Rattle.std.specs.Prelude.{◌≡◌, ◌↔◌, ℕ, IfOk, List, length};
 ghost use Rattle.zarrs_chunk_base.specs.ArraySubset.{IsBox, IsInside};
-ghost use Rattle.zarrs_chunk_plan.specs.seen.Shared.{later_starts, shared_sizes};
+ghost use Rattle.zarrs_chunk_plan.specs.seen.Shared.{later_starts};
 
-use crate::shared::{box_of, size_shared};
+use crate::shared::{box_of, sizes_shared};
 use std::alloc::{AllocError, Global};
-use zarrs_chunk_base::{ArrayIndices, ArrayShape, ArraySubset};
+use zarrs_chunk_base::{ArrayIndices, ArraySubset};
 
 /// The box of what lies in both of two boxes, which have the same number of dimensions; an empty box where nothing does.
 ///
@@ -22,7 +22,7 @@ pub(crate) fn overlap(
         → IsInside both index ↔ (IsInside one.now index × IsInside other.now index)) }
 {
     let start = later_starts(alloc, one.start(), other.start())?;
-    let shape = sizes(alloc, one, other)?;
+    let shape = sizes_shared(alloc, one.start(), one.shape(), other)?;
     Ok(box_of(start, shape))
 }
 
@@ -37,23 +37,4 @@ fn later_starts(alloc: Global, one: &[u64], other: &[u64]) -> Result<ArrayIndice
     let pairs = one.iter().zip(other);
     starts.extend(pairs.map(|(first, start)| (*first).max(*start)))?;
     Ok(starts)
-}
-
-/// For each dimension how many numbers two ranges share.
-///
-/// # Errors
-/// Out of memory.
-fn sizes(alloc: Global, one: &ArraySubset, other: &ArraySubset) -> Result<ArrayShape, AllocError>
-    ensures { IfOk result (λ v. v.items ≡ shared_sizes one.now.start one.now.shape
-        other.now.start other.now.shape) }
-{
-    let mut sizes = Vec::with_capacity(alloc, one.dimensionality())?;
-    let ranges = one.start().iter().zip(one.shape());
-    let others = other.start().iter().zip(other.shape());
-    sizes.extend(
-        ranges.zip(others).map(|((first, size), (start, also))| size_shared(
-            *first, *size, *start, *also,
-        )),
-    )?;
-    Ok(sizes)
 }

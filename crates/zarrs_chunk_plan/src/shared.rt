@@ -1,40 +1,63 @@
 //! The elements that a chunk and a box share, counted from either.
-ghost use Rattle.std.specs.Prelude.{◌≡◌, ◌+◌, ◌-◌, IfOk, Ok, Some, map, max, min};
-ghost use Rattle.std.specs.Int.NonZero.{non_zero_u64_get};
+ghost use Rattle.std.specs.Prelude.{◌≡◌, ◌↔◌, ◌+◌, ◌-◌, IfOk, IsTrue, Ok, Some, length, max, min};
 ghost use Rattle.zarrs_chunk_base.specs.ArraySubset.{IsBox};
+ghost use Rattle.zarrs_chunk_base.specs.Dimension.{IsShape};
 ghost use Rattle.zarrs_chunk_base.specs.Greatest.{greatest};
-ghost use Rattle.zarrs_chunk_plan.specs.Plan.{AreShared, Meets};
-ghost use Rattle.zarrs_chunk_plan.specs.seen.Shared.{distances, shared_sizes};
+ghost use Rattle.zarrs_chunk_plan.specs.Plan.{AreShared, HasAllOf, Meets};
+ghost use Rattle.zarrs_chunk_plan.specs.seen.Shared.{HoldSome, HoldsRest, Reaches, distances, shared_sizes};
 
 use std::alloc::{AllocError, Global};
-use std::num::NonZeroU64;
 use zarrs_chunk_base::{
     ArrayIndices, ArrayShape, ArraySubset, IncompatibleDimensionalityError, Refusal,
 };
 use zarrs_chunks::ChunkGridTraits;
 
-/// The elements that a chunk shares with a box of elements, if it holds some of them: counted from the chunk's first element, and from the
-/// first of the box. The chunk may end past 18446744073709551615; what the two share doesn't.
+/// What a chunk shares with a box of elements.
+#[derive(Drop)]
+pub(crate) struct Shared {
+    /// The chunk's edges.
+    pub(crate) shape: ArrayShape,
+    /// The shared elements, counted from the chunk's first element.
+    pub(crate) in_chunk: ArraySubset,
+    /// The same, counted from the first element of the box.
+    pub(crate) in_subset: ArraySubset,
+    /// Whether the box has all elements of the array that the chunk holds.
+    pub(crate) whole: bool,
+}
+
+/// The elements that a chunk shares with a box of elements, if it holds some of them. The chunk may end past 18446744073709551615; what the two
+/// share doesn't.
 ///
 /// # Errors
 /// Out of memory.
-pub(crate) fn shared_boxes<G: ChunkGridTraits>(
+pub(crate) fn shared_elements<G: ChunkGridTraits>(
     alloc: Global,
     grid: &G,
     array_subset: &ArraySubset,
     chunk: &[u64],
-) -> Result<(ArraySubset, ArraySubset), AllocError>
-    ensures { Meets (G.dimensions grid.now) array_subset.now chunk.now
-        → IfOk result (λ boxes. AreShared (G.dimensions grid.now) array_subset.now
-        chunk.now boxes.0 boxes.1) }
+) -> Result<Shared, AllocError>
+    ensures boxes { Meets (G.dimensions grid.now) array_subset.now chunk.now
+        → IfOk result (λ shared. AreShared (G.dimensions grid.now) array_subset.now
+        chunk.now shared.in_chunk shared.in_subset) }
+    ensures shape { IfOk result (λ shared. IsShape (G.dimensions grid.now) chunk.now
+        shared.shape.items) }
+    ensures whole { Meets (G.dimensions grid.now) array_subset.now chunk.now
+        → IfOk result (λ shared. IsTrue shared.whole
+        ↔ HasAllOf (G.dimensions grid.now) array_subset.now chunk.now) }
 {
     let start = array_subset.start();
     let origin = expect_answer(grid.chunk_origin(alloc, chunk))?;
-    let edges = expect_answer(grid.chunk_shape(alloc, chunk))?;
-    let shape = sizes_shared(alloc, &origin, &edges, array_subset)?;
-    let in_chunk = made_box(steps_to(alloc, &origin, start)?, shape.clone()?)?;
-    let in_subset = made_box(steps_to(alloc, start, &origin)?, shape)?;
-    Ok((in_chunk, in_subset))
+    let shape = expect_answer(grid.chunk_shape_u64(alloc, chunk))?;
+    let sizes = sizes_shared(alloc, &origin, &shape, array_subset)?;
+    let in_chunk = made_box(steps_to(alloc, &origin, start)?, sizes.clone()?)?;
+    let in_subset = made_box(steps_to(alloc, start, &origin)?, sizes)?;
+    let whole = has_all(array_subset, &origin, &shape, grid.array_shape());
+    Ok(Shared {
+        shape,
+        in_chunk,
+        in_subset,
+        whole,
+    })
 }
 
 /// What a look-up finds that has something to find: where it doesn't, it is out of memory.
@@ -65,45 +88,80 @@ fn steps_to(alloc: Global, from: &[u64], to: &[u64]) -> Result<ArrayIndices, All
     Ok(steps)
 }
 
-/// For each dimension how many indices the ranges of a chunk and of a box share.
+/// For each dimension how many indices two ranges share: one from a start on, of so many indices, and that of a box.
 ///
 /// # Errors
 /// Out of memory.
-fn sizes_shared(
+pub(crate) fn sizes_shared(
     alloc: Global,
-    origin: &[u64],
-    edges: &[NonZeroU64],
-    array_subset: &ArraySubset,
+    start: &[u64],
+    sizes: &[u64],
+    other: &ArraySubset,
 ) -> Result<ArrayShape, AllocError>
-    ensures { IfOk result (λ v. v.items ≡ shared_sizes origin.now (map non_zero_u64_get edges.now)
-        array_subset.now.start array_subset.now.shape) }
+    ensures { IfOk result (λ v. v.items ≡ shared_sizes start.now sizes.now
+        other.now.start other.now.shape) }
 {
-    let mut sizes = Vec::with_capacity(alloc, origin.len())?;
-    let ranges = origin.iter().zip(edges);
-    let others = array_subset.start().iter().zip(array_subset.shape());
-    sizes.extend(
-        ranges.zip(others).map(|((first, edge), (start, size))| {
-            edge_shared(*first, *edge, *start, *size)
-        }),
+    let mut shared = Vec::with_capacity(alloc, start.len())?;
+    let ranges = start.iter().zip(sizes);
+    let others = other.start().iter().zip(other.shape());
+    shared.extend(
+        ranges.zip(others).map(|((first, size), (start, also))| size_shared(
+            *first, *size, *start, *also,
+        )),
     )?;
-    Ok(sizes)
-}
-
-/// How many indices a chunk's range and another one share.
-fn edge_shared(first: u64, edge: NonZeroU64, start: u64, size: u64) -> u64
-    ensures { result ≡ min (first + non_zero_u64_get edge) (min (start + size) greatest)
-        - max first start }
-{
-    size_shared(first, edge.get(), start, size)
+    Ok(shared)
 }
 
 /// How many indices two ranges share, which are given by their first index and how many they hold. An index past
 /// 18446744073709551615 doesn't count.
-pub(crate) fn size_shared(first: u64, size: u64, start: u64, other: u64) -> u64
+fn size_shared(first: u64, size: u64, start: u64, other: u64) -> u64
     ensures { result ≡ min (first + size) (min (start + other) greatest) - max first start }
 {
     let end = first.saturating_add(size).min(start.saturating_add(other));
     end.saturating_sub(first.max(start))
+}
+
+/// Whether a box of elements has all elements of an array that a chunk holds, which begins at an origin and has these edges.
+fn has_all(
+    array_subset: &ArraySubset,
+    origin: &[u64],
+    edges: &[u64],
+    array_shape: &[u64],
+) -> bool
+    ensures { length array_subset.now.start ≡ length origin.now
+        → length edges.now ≡ length origin.now → length array_shape.now ≡ length origin.now
+        → IsTrue result ↔ HoldsRest array_subset.now origin.now edges.now array_shape.now }
+{
+    if !holds_some(origin, edges, array_shape) {
+        return true;
+    }
+    let chunk = origin.iter().zip(edges).zip(array_shape);
+    let mut ranges = chunk.zip(array_subset.start().iter().zip(array_subset.shape()));
+    ranges.all(|(((first, edge), size), (start, count))| {
+        reaches_from(*first, size_held(*first, *edge, *size), *start, *count)
+    })
+}
+
+/// Whether a chunk, which begins at an origin and has these edges, holds some element of an array.
+fn holds_some(origin: &[u64], edges: &[u64], array_shape: &[u64]) -> bool
+    ensures { IsTrue result ↔ HoldSome origin.now edges.now array_shape.now }
+{
+    let mut ranges = origin.iter().zip(edges).zip(array_shape);
+    ranges.all(|((first, edge), size)| size_held(*first, *edge, *size) > 0)
+}
+
+/// How many indices of a range, which is given by its first one and how many it holds, are below a size.
+fn size_held(first: u64, edge: u64, size: u64) -> u64
+    ensures { result ≡ min edge (size - first) }
+{
+    edge.min(size.saturating_sub(first))
+}
+
+/// Whether so many indices from a first one on lie in a range, which is given by its start and how many it holds; some are asked for.
+fn reaches_from(first: u64, held: u64, start: u64, count: u64) -> bool
+    ensures { IsTrue result ↔ Reaches first held start count }
+{
+    start <= first && held <= count.saturating_sub(first - start)
 }
 
 /// The box of a start and a shape that make one, if they are of a chunk and of a box that share elements.

@@ -1,4 +1,5 @@
 //! The walk over the parts of a box of elements.
+use crate::numbered_chunks::count_of;
 use crate::part::{Part, part_of};
 use std::alloc::{AllocError, Global};
 use zarrs_chunk_base::ArraySubset;
@@ -15,13 +16,15 @@ pub struct Parts<'a, G, E> {
     grid: &'a G,
     encoding: &'a E,
     array_subset: ArraySubset,
+    in_all: Option<u64>,
     chunks: ChunkIndicesInSubset,
 }
 
 impl<'a, G: ChunkGridTraits, E: ChunkKeyEncodingTraits> Parts<'a, G, E> {
-    ghost use Rattle.std.specs.Prelude.{◌≡◌, [], IfOk};
+    ghost use Rattle.std.specs.Prelude.{◌≡◌, [], IfOk, length};
     ghost use Rattle.zarrs_chunks.specs.Walks.{chunks_in};
-    ghost use Rattle.zarrs_chunk_plan.specs.seen.Parts.{IsAbout, chunks_to_come, offsets_to_come};
+    ghost use Rattle.zarrs_chunk_plan.specs.Counted.{counted};
+    ghost use Rattle.zarrs_chunk_plan.specs.seen.Parts.{IsAbout, chunks_to_come, offsets_to_come, parts_in_all};
 
     /// A walk over the parts that the chunks in a box of chunk numbers hold.
     ///
@@ -36,18 +39,30 @@ impl<'a, G: ChunkGridTraits, E: ChunkKeyEncodingTraits> Parts<'a, G, E> {
     ) -> Result<Parts<'a, G, E>, AllocError>
         ensures left { IfOk result (λ walk. chunks_to_come walk ≡ chunks_in chunks) }
         ensures about { IfOk result (IsAbout grid.now encoding.now array_subset) }
+        ensures in_all { IfOk result (λ walk. parts_in_all walk
+            ≡ counted (length (chunks_in chunks))) }
     {
+        let in_all = count_of(chunks.shape());
         Ok(Parts {
             alloc,
             grid,
             encoding,
             array_subset,
+            in_all,
             chunks: ChunkIndicesInSubset::new(alloc, chunks)?,
         })
     }
 
+    /// How many parts there are in all, from the first one on; `None` past 18446744073709551615.
+    pub fn in_all(&self) -> Option<u64>
+        ensures { result ≡ parts_in_all self.now }
+    {
+        self.in_all
+    }
+
     /// Leaves no part to come.
     pub(crate) fn end(&mut self)
+        ensures in_all { parts_in_all self.new ≡ parts_in_all self.old }
         ensures none { (chunks_to_come self.new ≡ []) × (offsets_to_come self.new ≡ []) }
         ensures about { IsAbout self.old.grid.now self.old.encoding.now self.old.array_subset self.new }
     {

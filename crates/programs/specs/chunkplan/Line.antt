@@ -1,12 +1,12 @@
 -- The lines of a plan: compact JSON, an object a line.
 -- Source: RFC 8259, and JSON Lines; the members are this program's own.
-use Rattle.std.specs.Prelude.{ℕ, List, [], ◌∷◌, ◌++◌, codes, decimal, Option, Some, None}
-use Rattle.std.specs.List.{flat_map}
-use Rattle.json.specs.Json.{Json, number, string, array, object, Items, no_items, item, no_members, member}
+use Rattle.std.specs.Prelude.{ℕ, suc, List, [], ◌∷◌, ◌++◌, length, codes, decimal, Option, Some, None}
+use Rattle.json.specs.Json.{Json, null, boolean, number, string, array, object, Items, no_items, item, Members, no_members, member}
 use Rattle.json.specs.Print.{print}
 use Rattle.json.specs.Tree.{json_tokens}
 use Rattle.zarrs_chunk_base.specs.ArraySubset.{Box}
-use Rattle.zarrs_chunk_plan.specs.Rechunking.{Group, copies_of}
+use Rattle.zarrs_chunk_plan.specs.Counted.{counted}
+use Rattle.zarrs_chunk_plan.specs.Rechunking.{Group}
 use Rattle.zarrs_chunk_plan.specs.declared.part.Part.{Part}
 
 -- a list of numbers
@@ -21,37 +21,75 @@ numbers_json numbers = array (numbers_items numbers)
 abbrev pub box_json : Box → Json
 box_json b = array (item (numbers_json b.start) (item (numbers_json b.shape) no_items))
 
--- a box of a chunk, and the chunk's key
-abbrev pub place_json : List ℕ → Box → List ℕ → Json
-place_json chunk in_chunk key =
-    object (member (codes "chunk") (numbers_json chunk)
-    (member (codes "in_chunk") (box_json in_chunk) (member (codes "key") (string key) no_members)))
-
--- a part of a read
-abbrev pub part_json : Part → Json
-part_json part =
-    object (member (codes "chunk") (numbers_json part.chunk.items) (member (codes "in_chunk") (box_json part.in_chunk)
-    (member (codes "in_subset") (box_json part.in_subset) (member (codes "key") (string part.key) no_members))))
-
--- a copy: from a box of the source's chunk to one of the target's
-abbrev pub copy_json : Part × Part → Json
-copy_json copy =
-    object (member (codes "from") (place_json copy.0.chunk.items copy.0.in_chunk copy.0.key)
-    (member (codes "to") (place_json copy.1.chunk.items copy.0.in_subset copy.1.key) no_members))
+-- how many there are, and null where no number tells it
+abbrev pub count_json : Option ℕ → Json
+count_json (Some count) = number (decimal count)
+count_json None = null
 
 -- the line of a value
 abbrev pub line_of : Json → List ℕ
 line_of json = print (json_tokens json) ++ codes "\n"
 
--- the line of a part: of a copy where it goes to a chunk of the target, and else of a read
-abbrev pub line_for : Option Part → Part → List ℕ
-line_for None from = line_of (part_json from)
-line_for (Some to) from = line_of (copy_json (from, to))
+-- The lines of a list, each by its number: they are counted from a first number on.
+abbrev pub lines_from : {X : Type 0} → (ℕ → X → List ℕ) → ℕ → List X → List ℕ
+lines_from line first [] = []
+lines_from line first (x ∷ xs) = line first x ++ lines_from line (suc first) xs
+
+-- ---- a read
+
+-- a part of a read: its chunk, the two boxes, the key, which line of how many it is, the chunk's shape, and whether all of the chunk is read
+abbrev pub part_json : (at of : Option ℕ) → Part → Json
+part_json at of part =
+    object (member (codes "chunk") (numbers_json part.chunk.items)
+    (member (codes "in_chunk") (box_json part.in_chunk)
+    (member (codes "in_subset") (box_json part.in_subset)
+    (member (codes "key") (string part.key)
+    (member (codes "number") (count_json at)
+    (member (codes "of") (count_json of)
+    (member (codes "shape") (numbers_json part.shape.items)
+    (member (codes "whole") (boolean part.whole) no_members))))))))
 
 -- the lines of a read
-abbrev pub part_lines : List Part → List ℕ
-part_lines = flat_map (λ part. line_of (part_json part))
+abbrev pub read_lines : List Part → List ℕ
+read_lines parts = lines_from (λ n part. line_of (part_json (counted n) (counted (length parts)) part)) 0 parts
+
+-- ---- a rechunking
+
+-- what a chunk of the target gets of one of the source: the chunk, a box of it, the box of the target's chunk that it goes to, the key and the shape
+abbrev pub source_json : Part → Json
+source_json from =
+    object (member (codes "chunk") (numbers_json from.chunk.items)
+    (member (codes "in_chunk") (box_json from.in_chunk)
+    (member (codes "in_target") (box_json from.in_subset)
+    (member (codes "key") (string from.key)
+    (member (codes "shape") (numbers_json from.shape.items) no_members)))))
+
+abbrev pub sources_items : List Part → Items
+sources_items [] = no_items
+sources_items (from ∷ parts) = item (source_json from) (sources_items parts)
+
+-- a chunk of the target: its numbers, its key and its shape
+abbrev pub target_json : Part → Json
+target_json to =
+    object (member (codes "chunk") (numbers_json to.chunk.items)
+    (member (codes "key") (string to.key)
+    (member (codes "shape") (numbers_json to.shape.items) no_members)))
+
+-- behind the sources of a chunk of the target: which line of how many it is, the chunk, and whether the boxes are all that it has of the array
+abbrev pub end_members : (at of : Option ℕ) → Part → Members
+end_members at of to =
+    member (codes "number") (count_json at)
+    (member (codes "of") (count_json of)
+    (member (codes "to") (target_json to)
+    (member (codes "whole") (boolean to.whole) no_members)))
+
+-- all that is copied into a chunk of the target
+abbrev pub group_json : (at of : Option ℕ) → Group → Json
+group_json at of group = object (member (codes "from") (array (sources_items group.1)) (end_members at of group.0))
+
+abbrev pub group_line : (at of : Option ℕ) → Group → List ℕ
+group_line at of group = line_of (group_json at of group)
 
 -- the lines of a rechunking
-abbrev pub copy_lines : List Group → List ℕ
-copy_lines groups = flat_map (λ copy. line_of (copy_json copy)) (copies_of groups)
+abbrev pub rechunking_lines : List Group → List ℕ
+rechunking_lines groups = lines_from (λ n. group_line (counted n) (counted (length groups))) 0 groups

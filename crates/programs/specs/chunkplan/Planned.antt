@@ -11,7 +11,7 @@ use Rattle.zarrs_chunk_plan.specs.declared.part.Part.{Part}
 use Rattle.programs.specs.Document.{IsTreeOf}
 use Rattle.programs.specs.Stored.{IsStored, Stored}
 use Rattle.programs.specs.chunkplan.Document.{Document, IsDocument, read_of, rechunk_to}
-use Rattle.programs.specs.chunkplan.Line.{copy_lines, part_lines}
+use Rattle.programs.specs.chunkplan.Line.{read_lines, rechunking_lines}
 
 -- the plan of reading a box of elements; an empty box has no parts
 pub record IsReadPlan (ds : List Dimension) (IsKeyOf : List ℕ → List ℕ → Type 0) (subset : Box) (parts : List Part) : Type 0 where
@@ -22,13 +22,13 @@ pub record IsReadPlan (ds : List Dimension) (IsKeyOf : List ℕ → List ℕ →
 pub data IsPlanned (document : Document) (text : List ℕ) : Type 0 where
   of_read : (subset : Option Box) (grid : Grid) (encoding : Encoding) (parts : List Part) → document.task ≡ read_of subset
       → IsStored document.stored document.shape grid encoding
-      → IsReadPlan grid.dimensions (IsKey encoding) (unwrap_or subset (array_box grid.dimensions)) parts → text ≡ part_lines parts
+      → IsReadPlan grid.dimensions (IsKey encoding) (unwrap_or subset (array_box grid.dimensions)) parts → text ≡ read_lines parts
       → IsPlanned document text
   of_rechunking : (stored : Stored) (chunks : Option Box) (source target : Grid) (source_encoding target_encoding : Encoding) (groups : List Group)
       → document.task ≡ rechunk_to stored chunks → IsStored document.stored document.shape source source_encoding
       → IsStored stored document.shape target target_encoding
       → IsRechunking source.dimensions (IsKey source_encoding) target.dimensions (IsKey target_encoding)
-      (unwrap_or chunks (all_chunks_box target.dimensions)) groups → text ≡ copy_lines groups → IsPlanned document text
+      (unwrap_or chunks (all_chunks_box target.dimensions)) groups → text ≡ rechunking_lines groups → IsPlanned document text
 
 -- the text that the program writes for an input
 pub record IsPlanOf (input text : List ℕ) : Type 0 where

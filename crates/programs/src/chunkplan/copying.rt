@@ -1,33 +1,34 @@
 //! The lines of a plan, sent as they are made.
-ghost use Rattle.std.specs.Prelude.{◌≡◌, ℕ, List, Some, option_map};
-ghost use Rattle.std.specs.List.{flat_map};
+ghost use Rattle.std.specs.Prelude.{◌≡◌, ℕ, suc, List};
 ghost use Rattle.zarrs_chunk_base.specs.ArraySubset.{IsBox};
+ghost use Rattle.zarrs_chunk_plan.specs.Counted.{counted};
 ghost use Rattle.zarrs_chunk_plan.specs.Rechunking.{Group};
 ghost use Rattle.zarrs_chunk_plan.specs.declared.part.Part.{Part as PartValue};
-ghost use Rattle.zarrs_chunk_plan.specs.seen.Copies.{AreGroupsToCome, CanCopy};
+ghost use Rattle.zarrs_chunk_plan.specs.seen.Copies.{AreGroupsToCome, CanCopy, targets_in_all};
 ghost use Rattle.zarrs_chunk_plan.specs.seen.Parts.{ArePartsToCome, HasKeys, MeetSubset};
-ghost use Rattle.programs.specs.chunkplan.Line.{copy_lines, line_for};
+ghost use Rattle.programs.specs.chunkplan.Line.{group_line, lines_from};
+ghost use Rattle.programs.specs.chunkplan.seen.Pieces.{text_as};
 ghost use Rattle.programs.specs.chunkplan.seen.Steps.{StepLeaves};
 ghost use Rattle.programs.specs.seen.Sent.{output};
 
 use crate::chunkplan::RunFault;
-use crate::chunkplan::line::line;
+use crate::chunkplan::line::{Form, LINE_BEGIN, line_end, part_text};
 use crate::streams::send;
 use crate::watched::Watched;
 use std::alloc::Global;
 use std::io::Write;
 use zarrs_chunk_keys::ChunkKeyEncodingTraits;
-use zarrs_chunk_plan::{ChunkCopies, Copies, Part, Parts};
+use zarrs_chunk_plan::{ChunkCopies, Copies, Parts};
 use zarrs_chunks::ChunkGridTraits;
 
-/// Sends a line for each part that a walk has left: of a read, or with the chunk of the target of what is copied into it.
+/// Sends the text of each part that a walk has left, in one form.
 ///
 /// # Errors
-/// A write failed, or out of memory. What was sent by then is a beginning of these lines.
+/// A write failed, or out of memory. What was sent by then is a beginning of these texts.
 pub(crate) fn write_parts<G: ChunkGridTraits, E: ChunkKeyEncodingTraits, W: Write>(
     alloc: Global,
     walk: Parts<'_, G, E>,
-    to: Option<&Part>,
+    form: Form,
     held_back: &mut Vec<u8>,
     writer: &mut Watched<W>,
 ) -> Result<(), RunFault>
@@ -36,19 +37,21 @@ pub(crate) fn write_parts<G: ChunkGridTraits, E: ChunkKeyEncodingTraits, W: Writ
     requires keys { HasKeys (E.is_key walk.encoding.now) }
     ensures { StepLeaves
         (λ text. (parts : List PartValue) × ArePartsToCome G.dimensions E.is_key walk.entry parts
-        × (text ≡ flat_map (line_for (option_map (λ t. t.now) to.entry)) parts))
+        × (text ≡ lines_from (λ number. text_as form (counted number)) 0 parts))
         (λ _. ⊥) result
         (output W.contents held_back.old.items writer.old)
         (output W.contents held_back.new.items writer.new) }
 {
+    let mut number = Some(0);
     for part in walk {
-        let line = line(alloc, &part?, to)?;
-        send(&line, held_back, writer)?;
+        let text = part_text(alloc, &part?, number, form)?;
+        send_text(&text, held_back, writer)?;
+        number = following(number);
     }
     Ok(())
 }
 
-/// Sends a line for each copy that a walk has left.
+/// Sends a line for each chunk of the target into which a walk has something left to copy.
 ///
 /// # Errors
 /// As `write_parts`.
@@ -71,21 +74,27 @@ pub(crate) fn write_copies<
     ensures { StepLeaves
         (λ text. (groups : List Group)
         × AreGroupsToCome G.dimensions E.is_key H.dimensions F.is_key walk.entry groups
-        × (text ≡ copy_lines groups))
+        × (text ≡ lines_from (λ number. group_line (counted number) (targets_in_all walk.entry))
+        0 groups))
         (λ _. ⊥) result
         (output W.contents held_back.old.items writer.old)
         (output W.contents held_back.new.items writer.new) }
 {
+    let of = walk.in_all();
+    let mut number = Some(0);
     for group in walk {
-        write_group(alloc, group?, held_back, writer)?;
+        write_group(alloc, group?, number, of, held_back, writer)?;
+        number = following(number);
     }
     Ok(())
 }
 
-/// Sends a line for each copy into one chunk of the target.
+/// Sends the line of one chunk of the target.
 fn write_group<G: ChunkGridTraits, E: ChunkKeyEncodingTraits, W: Write>(
     alloc: Global,
     group: ChunkCopies<'_, G, E>,
+    number: Option<u64>,
+    of: Option<u64>,
     held_back: &mut Vec<u8>,
     writer: &mut Watched<W>,
 ) -> Result<(), RunFault>
@@ -95,11 +104,38 @@ fn write_group<G: ChunkGridTraits, E: ChunkKeyEncodingTraits, W: Write>(
     ensures { StepLeaves
         (λ text. (from : List PartValue)
         × ArePartsToCome G.dimensions E.is_key group.entry.from from
-        × (text ≡ flat_map (line_for (Some group.entry.to)) from))
+        × (text ≡ group_line number of (group.entry.to, from)))
         (λ _. ⊥) result
         (output W.contents held_back.old.items writer.old)
         (output W.contents held_back.new.items writer.new) }
 {
     let ChunkCopies { to, from } = group;
-    write_parts(alloc, from, Some(&to), held_back, writer)
+    send_text(LINE_BEGIN, held_back, writer)?;
+    write_parts(alloc, from, Form::Source, held_back, writer)?;
+    let end = line_end(alloc, &to, number, of)?;
+    send_text(&end, held_back, writer)
+}
+
+/// Sends a text.
+fn send_text<W: Write>(
+    text: &[u8],
+    held_back: &mut Vec<u8>,
+    writer: &mut Watched<W>,
+) -> Result<(), RunFault>
+    ensures { StepLeaves (λ sent. sent ≡ text.now) (λ _. ⊥) result
+        (output W.contents held_back.old.items writer.old)
+        (output W.contents held_back.new.items writer.new) }
+{
+    send(text, held_back, writer)?;
+    Ok(())
+}
+
+/// The number after this one.
+fn following(number: Option<u64>) -> Option<u64>
+    ensures { (n : ℕ) → number ≡ counted n → result ≡ counted (suc n) }
+{
+    match number {
+        Some(number) => number.checked_add(1),
+        None => None,
+    }
 }

@@ -1,12 +1,13 @@
-//! One line of a plan.
-ghost use Rattle.std.specs.Prelude.{◌≡◌, [], ◌∷◌, ◌++◌, codes, IfOk, OnOk, option_map};
+//! The text of a line of a plan.
+ghost use Rattle.std.specs.Prelude.{◌≡◌, [], ◌∷◌, ◌++◌, codes, IfOk, OnOk};
 ghost use Rattle.json.specs.Print.{print};
-ghost use Rattle.json.specs.Token.{key, string};
+ghost use Rattle.json.specs.Token.{boolean, key, string};
 ghost use Rattle.json.specs.Tree.{json_tokens};
-ghost use Rattle.programs.specs.chunkplan.Line.{box_json, copy_json, line_for, line_of, numbers_json, part_json, place_json};
+ghost use Rattle.programs.specs.chunkplan.Line.{box_json, count_json, line_of, numbers_json, part_json, source_json, target_json};
 ghost use Rattle.programs.specs.chunkplan.seen.Added.{Adds};
+ghost use Rattle.programs.specs.chunkplan.seen.Pieces.{comma_before, end_of_line, text_as};
 
-use json::Writer;
+use json::{Token, Writer};
 use std::alloc::{AllocError, Global};
 use zarrs_chunk_base::{ArraySubset, StoreKey};
 use zarrs_chunk_plan::Part;
@@ -14,22 +15,44 @@ use zarrs_chunk_plan::Part;
 /// How many bytes a line is given room for at first.
 const LINE_LEN: usize = 192;
 
-/// The line of a part of a read; with the part of the target that it goes to, that of a copy.
+/// How a part is written.
+#[derive(Clone, Copy)]
+pub(crate) enum Form {
+    /// As a line of a read, of so many lines.
+    Line(Option<u64>),
+    /// As one of the sources of a chunk of the target.
+    Source,
+}
+
+/// How the line of a chunk of the target begins.
+pub(crate) const LINE_BEGIN: &[u8] = b"{\"from\":[";
+
+/// The text of a part, by its number in its walk.
 ///
 /// # Errors
 /// Out of memory.
-pub(crate) fn line(alloc: Global, from: &Part, to: Option<&Part>) -> Result<Vec<u8>, AllocError>
-    ensures { IfOk result (λ line. line.items ≡ line_for (option_map (λ t. t.now) to.entry) from.now) }
+pub(crate) fn part_text(
+    alloc: Global,
+    part: &Part,
+    number: Option<u64>,
+    form: Form,
+) -> Result<Vec<u8>, AllocError>
+    ensures { IfOk result (λ text. text.items ≡ text_as form number part.now) }
 {
-    match to {
-        Some(to) => copy_line(alloc, from, to),
-        None => part_line(alloc, from),
+    match form {
+        Form::Line(of) => part_line(alloc, part, number, of),
+        Form::Source => source_text(alloc, part, number),
     }
 }
 
 /// The line of a part of a read.
-fn part_line(alloc: Global, part: &Part) -> Result<Vec<u8>, AllocError>
-    ensures { IfOk result (λ line. line.items ≡ line_of (part_json part.now)) }
+fn part_line(
+    alloc: Global,
+    part: &Part,
+    number: Option<u64>,
+    of: Option<u64>,
+) -> Result<Vec<u8>, AllocError>
+    ensures { IfOk result (λ line. line.items ≡ line_of (part_json number of part.now)) }
 {
     let mut json = Writer::new(Vec::with_capacity(alloc, LINE_LEN)?);
     json.begin_object()?;
@@ -37,30 +60,59 @@ fn part_line(alloc: Global, part: &Part) -> Result<Vec<u8>, AllocError>
     write_box(&mut json, "in_chunk", &part.in_chunk)?;
     write_box(&mut json, "in_subset", &part.in_subset)?;
     write_key(&mut json, &part.key)?;
+    write_count(&mut json, "number", number)?;
+    write_count(&mut json, "of", of)?;
+    write_numbers(&mut json, "shape", part.shape.as_slice())?;
+    write_whole(&mut json, part.whole)?;
     json.end_object()?;
     ended(json)
 }
 
-/// The line of a copy.
-fn copy_line(alloc: Global, from: &Part, to: &Part) -> Result<Vec<u8>, AllocError>
-    ensures { IfOk result (λ line. line.items ≡ line_of (copy_json (from.now, to.now))) }
+/// What a chunk of the target gets of one of the source, with a comma before it where it isn't the first.
+fn source_text(alloc: Global, part: &Part, number: Option<u64>) -> Result<Vec<u8>, AllocError>
+    ensures { IfOk result (λ text. text.items
+        ≡ comma_before number ++ print (json_tokens (source_json part.now))) }
+{
+    let mut json = Writer::new(begin_source(alloc, number)?);
+    json.begin_object()?;
+    write_numbers(&mut json, "chunk", part.chunk.as_slice())?;
+    write_box(&mut json, "in_chunk", &part.in_chunk)?;
+    write_box(&mut json, "in_target", &part.in_subset)?;
+    write_key(&mut json, &part.key)?;
+    write_numbers(&mut json, "shape", part.shape.as_slice())?;
+    json.end_object()?;
+    Ok(json.into_inner())
+}
+
+/// What stands before a source: a comma, where it isn't the first.
+fn begin_source(alloc: Global, number: Option<u64>) -> Result<Vec<u8>, AllocError>
+    ensures { IfOk result (λ text. text.items ≡ comma_before number) }
+{
+    let mut text = Vec::with_capacity(alloc, LINE_LEN)?;
+    if number != Some(0) {
+        text.push(b',')?;
+    }
+    Ok(text)
+}
+
+/// The end of the line of a chunk of the target, behind its sources.
+///
+/// # Errors
+/// Out of memory.
+pub(crate) fn line_end(
+    alloc: Global,
+    to: &Part,
+    number: Option<u64>,
+    of: Option<u64>,
+) -> Result<Vec<u8>, AllocError>
+    ensures { IfOk result (λ text. text.items ≡ end_of_line number of to.now) }
 {
     let mut json = Writer::new(Vec::with_capacity(alloc, LINE_LEN)?);
-    json.begin_object()?;
-    write_place(
-        &mut json,
-        "from",
-        from.chunk.as_slice(),
-        &from.in_chunk,
-        &from.key,
-    )?;
-    write_place(
-        &mut json,
-        "to",
-        to.chunk.as_slice(),
-        &from.in_subset,
-        &to.key,
-    )?;
+    json.end_array()?;
+    write_count(&mut json, "number", number)?;
+    write_count(&mut json, "of", of)?;
+    write_target(&mut json, to)?;
+    write_whole(&mut json, to.whole)?;
     json.end_object()?;
     ended(json)
 }
@@ -75,24 +127,37 @@ fn ended(json: Writer) -> Result<Vec<u8>, AllocError>
     Ok(line)
 }
 
-/// Writes a member of this name: a box of a chunk, and the chunk's key.
-fn write_place(
-    json: &mut Writer,
-    name: &str,
-    chunk: &[u64],
-    in_chunk: &ArraySubset,
-    store_key: &StoreKey,
-) -> Result<(), AllocError>
-    ensures { OnOk result (Adds json.old json.new (key name.now
-        ∷ json_tokens (place_json chunk.now in_chunk.now store_key.now))) }
+/// Writes the member `to`: a chunk of the target.
+fn write_target(json: &mut Writer, to: &Part) -> Result<(), AllocError>
+    ensures { OnOk result (Adds json.old json.new (key (codes "to")
+        ∷ json_tokens (target_json to.now))) }
 {
-    json.key(name)?;
+    json.key("to")?;
     json.begin_object()?;
-    write_numbers(json, "chunk", chunk)?;
-    write_box(json, "in_chunk", in_chunk)?;
-    write_key(json, store_key)?;
+    write_numbers(json, "chunk", to.chunk.as_slice())?;
+    write_key(json, &to.key)?;
+    write_numbers(json, "shape", to.shape.as_slice())?;
     json.end_object()?;
     Ok(())
+}
+
+/// Writes a member of this name: how many there are, or `null` where no number says it.
+fn write_count(json: &mut Writer, name: &str, count: Option<u64>) -> Result<(), AllocError>
+    ensures { OnOk result (Adds json.old json.new (key name.now ∷ json_tokens (count_json count))) }
+{
+    json.key(name)?;
+    match count {
+        Some(count) => json.u64(count),
+        None => json.token(Token::Null),
+    }
+}
+
+/// Writes the member `whole`.
+fn write_whole(json: &mut Writer, whole: bool) -> Result<(), AllocError>
+    ensures { OnOk result (Adds json.old json.new (key (codes "whole") ∷ boolean whole ∷ [])) }
+{
+    json.key("whole")?;
+    json.token(Token::Bool(whole))
 }
 
 /// Writes the member `key`.

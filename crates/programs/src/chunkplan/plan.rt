@@ -8,7 +8,7 @@ ghost use Rattle.zarrs_chunk_plan.specs.declared.part.Part.{Part as PartValue};
 ghost use Rattle.zarrs_chunk_plan.specs.seen.Parts.{HasKeys};
 ghost use Rattle.programs.specs.Stored.{IsStored, stored_of};
 ghost use Rattle.programs.specs.chunkplan.Document.{document_of};
-ghost use Rattle.programs.specs.chunkplan.Line.{copy_lines, part_lines};
+ghost use Rattle.programs.specs.chunkplan.Line.{read_lines, rechunking_lines};
 ghost use Rattle.programs.specs.chunkplan.PlanFault.{IsChunksFault, IsPlanFault, IsReadFault, IsTargetFault};
 ghost use Rattle.programs.specs.chunkplan.Planned.{IsPlanned, IsReadPlan};
 ghost use Rattle.programs.specs.chunkplan.seen.Steps.{StepLeaves};
@@ -18,6 +18,7 @@ ghost use Rattle.programs.specs.seen.Sent.{output};
 use crate::chunkplan::RunFault;
 use crate::chunkplan::copying::{write_copies, write_parts};
 use crate::chunkplan::document::{Document, Task};
+use crate::chunkplan::line::Form;
 use crate::stored::{CreateFault, Stored};
 use crate::watched::Watched;
 use std::alloc::{AllocError, Global};
@@ -123,7 +124,7 @@ fn write_read<G: ChunkGridTraits, E: ChunkKeyEncodingTraits, W: Write>(
     ensures { StepLeaves
         (λ text. (parts : List PartValue)
         × IsReadPlan (G.dimensions array.now.grid) (E.is_key array.now.encoding) subset.now parts
-        × (text ≡ part_lines parts))
+        × (text ≡ read_lines parts))
         (IsReadFault (G.dimensions array.now.grid) subset.now) result
         (output W.contents held_back.old.items writer.old)
         (output W.contents held_back.new.items writer.new) }
@@ -135,7 +136,10 @@ fn write_read<G: ChunkGridTraits, E: ChunkKeyEncodingTraits, W: Write>(
         return Err(RunFault::SubsetDimensionality(error));
     }
     match parts(alloc, &array.grid, &array.encoding, subset) {
-        Ok(Some(walk)) => write_parts(alloc, walk, None, held_back, writer),
+        Ok(Some(walk)) => {
+            let form = Form::Line(walk.in_all());
+            write_parts(alloc, walk, form, held_back, writer)
+        }
         Ok(None) => Err(RunFault::Uncovered),
         Err(Refusal::Refused(error)) => Err(RunFault::SubsetDimensionality(error)),
         Err(Refusal::Memory(_)) => Err(RunFault::Memory),
@@ -165,7 +169,7 @@ fn write_rechunking<
         (λ text. (groups : List Group)
         × IsRechunking (G.dimensions source.now.grid) (E.is_key source.now.encoding)
         (H.dimensions target.now.grid) (F.is_key target.now.encoding) chunks.now groups
-        × (text ≡ copy_lines groups))
+        × (text ≡ rechunking_lines groups))
         (IsChunksFault (H.dimensions target.now.grid) chunks.now) result
         (output W.contents held_back.old.items writer.old)
         (output W.contents held_back.new.items writer.new) }

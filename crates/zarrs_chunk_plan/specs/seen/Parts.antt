@@ -24,6 +24,10 @@ module _ {G E : Type 0} where
   abbrev pub offsets_to_come : Parts G E → List (List ℕ)
   offsets_to_come walk = offsets_left walk.chunks
 
+  -- how many parts there are in all, as far as a number tells it
+  abbrev pub parts_in_all : Parts G E → Option ℕ
+  parts_in_all walk = walk.in_all
+
   -- the walk is over this grid, this encoding and this box of elements
   pub record IsAbout (grid : G) (encoding : E) (subset : Box) (walk : Parts G E) : Type 0 where
     pub same_grid : walk.grid.now ≡ grid
@@ -71,3 +75,4 @@ pub record GivesPart {G E : Type 0} (dimensions : G → List Dimension) (is_key 
       → IfPart (λ part. IsPart (dimensions before.grid.now) (is_key before.encoding.now) before.array_subset part.chunk.items part) given
   pub about : IsAbout before.grid.now before.encoding.now before.array_subset after
   pub meet : MeetSubset dimensions before → MeetSubset dimensions after
+  pub in_all : parts_in_all after ≡ parts_in_all before

@@ -8,11 +8,14 @@ use Rattle.programs.specs.declared.chunkplan.run_fault.RunFault.TheVariants.{Mem
 abbrev pub HasBegun : (Planned : List ℕ → Type 0) → Output → Output → Type 0
 HasBegun Planned before after = (text : List ℕ) × Planned text × (rest : List ℕ) × Sends before text after.holds rest
 
+-- such a text was sent, or is held back, and no write failed meanwhile
+abbrev pub HasSent : (Planned : List ℕ → Type 0) → Output → Output → Type 0
+HasSent Planned before after = (text : List ℕ) × Planned text × Sends before text after.holds after.held_back × (after.failed ≡ before.failed)
+
 -- By the outcome of the step: such a text was sent, or is held back; memory ran out before or meanwhile; a write failed; or there is another
 -- fault, of which IsFault holds, and nothing was sent.
 abbrev pub StepLeaves : (Planned : List ℕ → Type 0) (IsFault : RunFault → Type 0) → Result (Unit {0}) RunFault → Output → Output → Type 0
-StepLeaves Planned IsFault (Ok _) before after =
-    (text : List ℕ) × Planned text × Sends before text after.holds after.held_back × (after.failed ≡ before.failed)
+StepLeaves Planned IsFault (Ok _) before after = HasSent Planned before after
 StepLeaves Planned IsFault (Err Memory) before after =
     (after.failed ≡ before.failed) × ((after.holds ≡ before.holds) ⊎ HasBegun Planned before after)
 StepLeaves Planned IsFault (Err Write) before after = (after.failed ≡ true) × HasBegun Planned before after

@@ -5,5 +5,7 @@ pub returns-clause-part : goal.returns-clause-part
 returns-clause-part g c = λ meets. record {
   numbers = refl;
   key = rw c.as_slice-2.ensures at c.in_ok-key.ensures;
-  boxes = (rw c.as_slice.ensures at c.in_ok-in_chunk.ensures) meets;
+  shape = rw c.from_vec.ensures.items (rw c.as_slice.ensures at c.in_ok-shared.ensures.shape);
+  whole = (rw c.as_slice.ensures at c.in_ok-shared.ensures.whole) meets;
+  boxes = (rw c.as_slice.ensures at c.in_ok-shared.ensures.boxes) meets;
 }

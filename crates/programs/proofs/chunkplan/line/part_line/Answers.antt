@@ -8,17 +8,28 @@ ended-requires c =
     then _ _ _ _ _ (wrote _ _ _ c.in_ok-begin_object.ensures)
     (then _ _ _ _ _ c.in_ok-write_numbers.ensures
     (then _ _ _ _ _ c.in_ok-write_box.ensures
-    (then _ _ _ _ _ c.in_ok-write_box-2.ensures (then _ _ _ _ _ c.in_ok-write_key.ensures (wrote _ _ _ c.in_ok-end_object.ensures)))))
+    (then _ _ _ _ _ c.in_ok-write_box-2.ensures
+    (then _ _ _ _ _ c.in_ok-write_key.ensures
+    (then _ _ _ _ _ c.in_ok-write_count.ensures
+    (then _ _ _ _ _ c.in_ok-write_count-2.ensures
+    (then _ _ _ _ _ c.in_ok-write_numbers-2.ensures
+    (then _ _ _ _ _ c.in_ok-write_whole.ensures (wrote _ _ _ c.in_ok-end_object.ensures)))))))))
     in
     all.before ∙ c.new-json.ensures.before ∙ c.in_ok-with_capacity.ensures.items
 
 pub returns : goal.returns
 returns c =
     let chunk = rw c.as_slice.ensures at c.in_ok-write_numbers.ensures in
+    let shape = rw c.as_slice-2.ensures at c.in_ok-write_numbers-2.ensures in
     let all =
     then _ _ _ _ _ (wrote _ _ _ c.in_ok-begin_object.ensures)
     (then _ _ _ _ _ chunk
     (then _ _ _ _ _ c.in_ok-write_box.ensures
-    (then _ _ _ _ _ c.in_ok-write_box-2.ensures (then _ _ _ _ _ c.in_ok-write_key.ensures (wrote _ _ _ c.in_ok-end_object.ensures)))))
+    (then _ _ _ _ _ c.in_ok-write_box-2.ensures
+    (then _ _ _ _ _ c.in_ok-write_key.ensures
+    (then _ _ _ _ _ c.in_ok-write_count.ensures
+    (then _ _ _ _ _ c.in_ok-write_count-2.ensures
+    (then _ _ _ _ _ shape
+    (then _ _ _ _ _ c.in_ok-write_whole.ensures (wrote _ _ _ c.in_ok-end_object.ensures)))))))))
     in
     rw (all.tokens, c.new-json.ensures.tokens) at c.ended.ensures

@@ -1,5 +1,9 @@
+use Rattle.std.proofs.Common.{◌∙◌, ap, sym}
+use Rattle.std.proofs.lemmas.Slice.Zip.{AllZip-long}
+use Rattle.zarrs_chunk_plan.specs.Counted.{counted}
 use Rattle.zarrs_chunk_plan.proofs.Copied.{rechunking_of}
 use Rattle.programs.specs.chunkplan.PlanFault.{IsChunksFault}
+use Rattle.programs.specs.chunkplan.Line.{group_line, lines_from}
 use Rattle.programs.specs.seen.Sent.{output}
 use Rattle.programs.proofs.chunkplan.Steps.{step_follows}
 use Rattle.programs.proofs.chunkplan.plan.write_rechunking.Goals as goal
@@ -15,7 +19,7 @@ returns-in-Ok g c =
           c.args.source.now c.args.target.now _
           c.args.chunks.now targets c.in-Ok.walk groups said.about is_box
           are left come,
-      lines,
+      lines ∙ ap (λ of. lines_from (λ n. group_line (counted n) of) 0 groups) (said.in_all ∙ ap counted (sym (AllZip-long _ _ _ come))),
     ))
     (λ fault none. absurd none)
     (output g.W.Write.contents c.args.held_back.now.items c.args.writer.now)

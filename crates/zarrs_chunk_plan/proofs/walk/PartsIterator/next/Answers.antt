@@ -21,4 +21,5 @@ returns-in-Ok-part-clause-steps g c =
           subst (λ first. IsPart ds IsKey subset first part) (sym same) (c.in-Ok-part.ensures.part meets.0);
       about = record { same_grid = refl; same_encoding = refl; same_subset = refl };
       meet = λ meet. (subst (AllByRecursion (Meets ds subset)) gives meet).1;
+      in_all = refl;
     }

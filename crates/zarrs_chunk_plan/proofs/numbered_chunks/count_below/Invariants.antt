@@ -1,8 +1,0 @@
-use Rattle.std.proofs.Common.{◌≡◌, length, min, take}
-use Rattle.zarrs_chunk_base.specs.Greatest.{greatest}
-use Rattle.zarrs_chunk_axes.specs.RowMajor.{row_major}
-use Rattle.zarrs_chunk_plan.proofs.numbered_chunks.count_below.Given as goal
-
--- so many lists are below the sizes so far
-abbrev pub invariant-loop-size : goal.invariant-loop-size
-invariant-loop-size l = l.count ≡ min (length (row_major (take l.size-index l.shape))) greatest
