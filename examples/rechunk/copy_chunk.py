@@ -3,8 +3,8 @@
 
     copy_chunk.py SOURCE TARGET [LINE]
 
-SOURCE and TARGET are folders of uncompressed Zarr arrays (format 2, order "C"). LINE is a line that `chunkplan` wrote; where there is none, lines are read
-from standard input, of any length. When a line's chunk is in its place, the line's `number` and `of` are printed, as JSON.
+SOURCE and TARGET are folders of uncompressed Zarr arrays (format 2, order "C"). LINE is a line that `chunkplan` wrote; where there is none, lines of any
+length are read from standard input. When a line's chunk is in its place, the line's `number` and `of` are printed, as JSON.
 """
 import json
 import os

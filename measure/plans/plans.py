@@ -3,8 +3,8 @@
 
     python3 plans.py OURS RUST
 
-OURS is `crates/chunkplan/out/chunkplan`, RUST is `rust.rs`, built by `rustc --edition 2024 -O -C lto=fat -C codegen-units=1 rust.rs`. The instructions
-are the difference of two plans under callgrind, by their number of lines, and by that of copies; the seconds are the median of nine runs; the memory
+OURS is `crates/chunkplan/out/chunkplan`, RUST is `rust.rs`, built by `rustc --edition 2024 -O -C lto=fat -C codegen-units=1 rust.rs`. The
+instructions are the difference of two plans under callgrind, by their number of lines, and by that of copies; the seconds are the median of nine runs; the memory
 is the peak of resident memory. Both have to write the same lines. Then the first thousand lines of plans of 10^3 and of 10^18 lines.
 """
 import json
