@@ -1,5 +1,7 @@
 """Plans of reads and rechunkings, element by element: each element is asked for its chunk and its place there."""
+import collections
 import itertools
+import math
 
 
 def box_of(places):
@@ -15,13 +17,35 @@ def elements(shape):
     return itertools.product(*map(range, shape))
 
 
+def is_inside(numbers, start, shape):
+    return all(first <= n < first + size for n, first, size in zip(numbers, start, shape))
+
+
 def boxes(moved):
     """What is moved, as boxes: each element comes as the chunks that it is in, and its places here and there."""
     groups = {}
     for chunks, *places in moved:
         for kept, place in zip(groups.setdefault(chunks, ([], [])), places):
             kept.append(tuple(place))
-    return ((chunks, *map(box_of, places)) for chunks, places in sorted(groups.items()))
+    return [(chunks, *map(box_of, places)) for chunks, places in sorted(groups.items())]
+
+
+def home(grid, index):
+    chunk, place = grid.home(index)
+    return tuple(chunk), place
+
+
+def shapes(grid, chunks):
+    """The shape of each chunk: along each dimension, how many indices have the chunk's number, also past the array."""
+    sizes = []
+    for dimension, met in zip(grid.dimensions, zip(*chunks)):
+        numbers = map(dimension.holder, itertools.count())
+        sizes.append(collections.Counter(itertools.takewhile(range(max(met) + 1).__contains__, numbers)))
+    return {chunk: [size[number] for size, number in zip(sizes, chunk)] for chunk in chunks}
+
+
+def numbered(lines):
+    return [{**line, "number": number, "of": len(lines)} for number, line in enumerate(lines)]
 
 
 def read(grid, encoding, start, shape):
@@ -29,11 +53,16 @@ def read(grid, encoding, start, shape):
 
     def moved():
         for steps in elements(shape):
-            chunk, place = grid.home([first + step for first, step in zip(start, steps)])
-            yield chunk, place, steps
+            yield *home(grid, [first + step for first, step in zip(start, steps)]), steps
 
-    for chunk, in_chunk, in_subset in boxes((tuple(chunk), *places) for chunk, *places in moved()):
-        yield {"chunk": list(chunk), "in_chunk": in_chunk, "in_subset": in_subset, "key": encoding.key(chunk)}
+    missed = {home(grid, index)[0] for index in elements(grid.shape) if not is_inside(index, start, shape)}
+    parts = boxes(moved())
+    shape_of = shapes(grid, [chunk for chunk, *_ in parts])
+    return numbered([
+        {"chunk": list(chunk), "in_chunk": in_chunk, "in_subset": in_subset, "key": encoding.key(chunk),
+         "shape": shape_of[chunk], "whole": chunk not in missed}
+        for chunk, in_chunk, in_subset in parts
+    ])  # fmt: skip
 
 
 def rechunk(source, target, chunks=None):
@@ -42,12 +71,22 @@ def rechunk(source, target, chunks=None):
 
     def moved():
         for index in elements(grid.shape):
-            (read, in_source), (written, in_target) = grid.home(index), target_grid.home(index)
-            if chunks is None or all(first <= c < first + size for c, first, size in zip(written, *chunks)):
-                yield (tuple(written), tuple(read)), in_source, in_target
+            (read, in_source), (written, in_target) = home(grid, index), home(target_grid, index)
+            if chunks is None or is_inside(written, *chunks):
+                yield (written, read), in_source, in_target
 
-    for (written, read), in_source, in_target in boxes(moved()):
-        yield {
-            "from": {"chunk": list(read), "in_chunk": in_source, "key": encoding.key(read)},
-            "to": {"chunk": list(written), "in_chunk": in_target, "key": target_encoding.key(written)},
-        }
+    held = collections.Counter(home(target_grid, index)[0] for index in elements(grid.shape))
+    copies = boxes(moved())
+    read_shape = shapes(grid, [read for (_, read), *_ in copies])
+    written_shape = shapes(target_grid, [written for (written, _), *_ in copies])
+    lines = []
+    for written, group in itertools.groupby(copies, key=lambda copy: copy[0][0]):
+        sources = [
+            {"chunk": list(read), "in_chunk": in_source, "in_target": in_target, "key": encoding.key(read),
+             "shape": read_shape[read]}
+            for (_, read), in_source, in_target in group
+        ]  # fmt: skip
+        to = {"chunk": list(written), "key": target_encoding.key(written), "shape": written_shape[written]}
+        copied = sum(math.prod(source["in_target"][1]) for source in sources)
+        lines.append({"from": sources, "to": to, "whole": copied == held[written]})
+    return numbered(lines)

@@ -1,5 +1,5 @@
 #!/usr/bin/env python3
-"""Rechunks arrays by the plans of `chunkplan`, with `xargs` as the engine, and opens the results with zarr-python.
+"""Rechunks arrays by the plans of `chunkplan`, with `xargs` or `split` as the engine, and opens the results with zarr-python.
 
     rechunk.py CHUNKPLAN
 
@@ -7,6 +7,7 @@ CHUNKPLAN is the built program. It needs numpy and zarr-python 2 (Debian: python
 """
 import json
 import pathlib
+import shlex
 import subprocess
 import sys
 import tempfile
@@ -15,12 +16,26 @@ import numpy
 import zarr
 
 HERE = pathlib.Path(__file__).resolve().parent
+
+
+def xargs(worker):
+    """Each line is an argument of a worker of its own."""
+    return ["xargs", "-d", "\\n", "-n", "1", "-P", "4", *worker]
+
+
+def split(worker):
+    """Four workers read the lines in turn."""
+    return ["split", "-n", "r/4", f"--filter={shlex.join(worker)}"]
+
+
 CASES = [
-    # shape, and of source and target the edges of a chunk and the separator of keys
-    ((100, 70), ((30, 20), "."), ((17, 33), "/")),
-    ((100, 70), ((17, 33), "/"), ((100, 1), ".")),
-    ((11, 13, 17), ((4, 5, 6), "/"), ((3, 13, 2), ".")),
-    ((11, 13, 17), ((20, 1, 17), "."), ((5, 5, 5), "/")),
+    # shape, of source and target the edges of a chunk and the separator of keys, and the engine
+    ((100, 70), ((30, 20), "."), ((17, 33), "/"), xargs),
+    ((100, 70), ((17, 33), "/"), ((100, 1), "."), xargs),
+    ((11, 13, 17), ((4, 5, 6), "/"), ((3, 13, 2), "."), xargs),
+    ((11, 13, 17), ((20, 1, 17), "."), ((5, 5, 5), "/"), xargs),
+    # two lines of 2,000 sources, each longer than an argument may be
+    ((50, 80), ((1, 1), "/"), ((25, 80), "."), split),
 ]
 
 
@@ -38,27 +53,34 @@ def stored(chunks, separator):
     }
 
 
-def rechunk(chunkplan, source, target, document):
-    """chunkplan < document | group_lines.py | xargs -0 -n 1 -P 4 copy_chunk.py SOURCE TARGET"""
+def is_whole(lines):
+    """Whether lines have all numbers of one plan, each once: of the plan, or of what was done of it."""
+    numbers = sorted((line["of"], line["number"]) for line in map(json.loads, lines))
+    return numbers != [] and numbers == [(len(numbers), number) for number in range(len(numbers))]
+
+
+def rechunk(engine, chunkplan, source, target, document):
+    """chunkplan < document | xargs .. copy_chunk.py SOURCE TARGET > done, and whether each line was done."""
+    worker = list(map(str, [sys.executable, HERE / "copy_chunk.py", source, target]))
     plan = subprocess.Popen([chunkplan], stdin=subprocess.PIPE, stdout=subprocess.PIPE)
-    groups = subprocess.Popen([sys.executable, HERE / "group_lines.py"], stdin=plan.stdout, stdout=subprocess.PIPE)
-    worker = [sys.executable, HERE / "copy_chunk.py", source, target]
-    copying = subprocess.Popen(["xargs", "-0", "-n", "1", "-P", "4", *worker], stdin=groups.stdout)
+    copying = subprocess.Popen(engine(worker), stdin=plan.stdout, stdout=subprocess.PIPE)
+    plan.stdout.close()
     plan.stdin.write(json.dumps(document).encode())
     plan.stdin.close()
-    return [process.wait() for process in (plan, groups, copying)] == [0, 0, 0]
+    done = copying.stdout.read().splitlines()
+    return [plan.wait(), copying.wait()] == [0, 0] and is_whole(done)
 
 
 def main():
     failed = 0
-    for shape, source, target in CASES:
+    for shape, source, target, engine in CASES:
         with tempfile.TemporaryDirectory() as room:
             here, there = pathlib.Path(room, "source"), pathlib.Path(room, "target")
             elements = numpy.arange(numpy.prod(shape), dtype="<i4").reshape(shape)
             make(here, shape, *source)[...] = elements
             make(there, shape, *target)
             document = {"shape": shape, **stored(*source), "target": stored(*target)}
-            ran = rechunk(sys.argv[1], here, there, document)
+            ran = rechunk(engine, sys.argv[1], here, there, document)
             equal = ran and numpy.array_equal(zarr.open_array(str(there), mode="r")[...], elements)
             failed += not equal
             print(f"{shape}, chunks {source} to {target}: {'equal' if equal else 'DIFFERENT'}")

@@ -1,11 +1,11 @@
 #!/usr/bin/env python3
-"""Measures what a line of a rechunking costs `chunkplan`, beside a Rust program that makes the same lines by lists.
+"""Measures what a line of a rechunking, and each copy in it, costs `chunkplan`, beside a Rust program that makes the same lines by lists.
 
     python3 plans.py OURS RUST
 
-OURS is `crates/chunkplan/out/chunkplan`, RUST is `rust.rs`, built by `rustc --edition 2024 -O -C lto=fat -C codegen-units=1 rust.rs`. The instructions a line
-are the difference of two plans under callgrind, by their number of lines; the seconds are the median of nine runs; the memory is the peak of resident memory.
-Both have to write the same lines. Then the first thousand lines of plans of 10^3 and of 10^18 lines.
+OURS is `crates/chunkplan/out/chunkplan`, RUST is `rust.rs`, built by `rustc --edition 2024 -O -C lto=fat -C codegen-units=1 rust.rs`. The
+instructions are the difference of two plans under callgrind, by their number of lines, and by that of copies; the seconds are the median of nine runs; the memory
+is the peak of resident memory. Both have to write the same lines. Then the first thousand lines of plans of 10^3 and of 10^18 lines.
 """
 import json
 import pathlib
@@ -36,9 +36,14 @@ def runs(ours, rust, shape):
     yield [rust, listed(shape), listed(SOURCE), listed(TARGET)], b""
 
 
+def counts(plan):
+    """How many lines a plan has, and how many copies: chunks of the source that stand in a line."""
+    return plan.count(b"\n"), plan.count(b'"in_target"')
+
+
 def instructions(command, given):
     ran = subprocess.run(["valgrind", "--tool=callgrind", "--callgrind-out-file=/dev/null", *command], input=given, capture_output=True, check=True)
-    return int(re.search(rb"Collected : (\d+)", ran.stderr)[1]), ran.stdout.count(b"\n")
+    return int(re.search(rb"Collected : (\d+)", ran.stderr)[1]), counts(ran.stdout)
 
 
 def peak(process):
@@ -80,11 +85,12 @@ def main():
     assert outputs[0] == outputs[1], "the lines differ"
     for name, small, large, big in zip(("chunkplan", "Rust"), runs(ours, rust, [50, 60, 70]), runs(ours, rust, [100, 110, 120]), runs(ours, rust, [440, 540, 630])):
         (few, less), (many, more) = instructions(*small), instructions(*large)
+        a_line, a_copy = ((many - few) / (end - start) for start, end in zip(less, more))
         ran = [timed(*big) for _ in range(9)]
-        lines = subprocess.run(big[0], input=big[1], capture_output=True, check=True).stdout.count(b"\n")
+        lines, copies = counts(subprocess.run(big[0], input=big[1], capture_output=True, check=True).stdout)
         print(
-            f"{name}: {(many - few) / (more - less):.0f} instructions a line; {lines} lines in {statistics.median(seconds for seconds, _ in ran):.2f} s"
-            f" and {max(memory for _, memory in ran):.1f} MiB"
+            f"{name}: {a_line:.0f} instructions a line, {a_copy:.0f} a copy; {lines} lines of {copies} copies"
+            f" in {statistics.median(seconds for seconds, _ in ran):.2f} s and {max(memory for _, memory in ran):.1f} MiB"
         )
     for elements in (10**3, 10**18):
         print(f"the first thousand of {elements} lines: {statistics.median(first_thousand(ours, elements) for _ in range(9)) * 1000:.1f} ms")

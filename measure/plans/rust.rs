@@ -2,11 +2,17 @@
 //! `chunkplan` writes them. Each line is made of lists, as a library that answers by lists does.
 use std::io::{self, BufWriter, Write};
 
-struct Place {
+struct Chunk {
     chunk: Vec<u64>,
-    start: Vec<u64>,
-    shape: Vec<u64>,
     key: String,
+    shape: Vec<u64>,
+}
+
+struct Source {
+    chunk: Chunk,
+    in_chunk: Vec<u64>,
+    in_target: Vec<u64>,
+    shape: Vec<u64>,
 }
 
 fn numbers(text: &str) -> Vec<u64> {
@@ -45,45 +51,68 @@ fn list(numbers: &[u64]) -> String {
     format!("[{}]", numbers.join(","))
 }
 
-fn place(place: &Place) -> String {
+fn source(source: &Source) -> String {
     format!(
-        "{{\"chunk\":{},\"in_chunk\":[{},{}],\"key\":\"{}\"}}",
-        list(&place.chunk),
-        list(&place.start),
-        list(&place.shape),
-        place.key
+        "{{\"chunk\":{},\"in_chunk\":[{},{}],\"in_target\":[{},{}],\"key\":\"{}\",\"shape\":{}}}",
+        list(&source.chunk.chunk),
+        list(&source.in_chunk),
+        list(&source.shape),
+        list(&source.in_target),
+        list(&source.shape),
+        source.chunk.key,
+        list(&source.chunk.shape)
     )
 }
 
-/// Where the elements from `start` on, of this shape, lie in a chunk.
-fn place_of(chunk: &[u64], edges: &[u64], start: &[u64], shape: &[u64]) -> Place {
-    let origin: Vec<u64> = chunk.iter().zip(edges).map(|(chunk, edge)| chunk * edge).collect();
-    Place {
+fn chunk_of(chunk: &[u64], edges: &[u64]) -> Chunk {
+    Chunk {
         chunk: chunk.to_vec(),
-        start: start.iter().zip(&origin).map(|(start, origin)| start - origin).collect(),
-        shape: shape.to_vec(),
         key: key(chunk),
+        shape: edges.to_vec(),
     }
+}
+
+/// Where an element lies in a chunk.
+fn place_of(chunk: &Chunk, element: &[u64]) -> Vec<u64> {
+    let origin = chunk.chunk.iter().zip(&chunk.shape).map(|(chunk, edge)| chunk * edge);
+    element.iter().zip(origin).map(|(element, origin)| element - origin).collect()
 }
 
 fn main() -> io::Result<()> {
     let given: Vec<Vec<u64>> = std::env::args().skip(1).map(|text| numbers(&text)).collect();
-    let [shape, source, target] = &given[..] else { panic!("three lists are needed") };
+    let [shape, edges, target] = &given[..] else { panic!("three lists are needed") };
     let mut out = BufWriter::new(io::stdout().lock());
     let zeros = vec![0; shape.len()];
     let last: Vec<u64> = shape.iter().zip(target).map(|(size, edge)| (size - 1) / edge).collect();
-    for to in within(&zeros, &last) {
+    let of: u64 = last.iter().map(|last| last + 1).product();
+    for (number, to) in within(&zeros, &last).into_iter().enumerate() {
         let start: Vec<u64> = to.iter().zip(target).map(|(chunk, edge)| chunk * edge).collect();
         let ends: Vec<u64> = start.iter().zip(target).zip(shape).map(|((start, edge), size)| (start + edge).min(*size)).collect();
-        let first: Vec<u64> = start.iter().zip(source).map(|(start, edge)| start / edge).collect();
-        let last: Vec<u64> = ends.iter().zip(source).map(|(end, edge)| (end - 1) / edge).collect();
+        let first: Vec<u64> = start.iter().zip(edges).map(|(start, edge)| start / edge).collect();
+        let last: Vec<u64> = ends.iter().zip(edges).map(|(end, edge)| (end - 1) / edge).collect();
+        let written = chunk_of(&to, target);
+        let mut sources = Vec::new();
         for from in within(&first, &last) {
-            let low: Vec<u64> = from.iter().zip(source).zip(&start).map(|((chunk, edge), start)| (chunk * edge).max(*start)).collect();
-            let high = from.iter().zip(source).zip(&ends).map(|((chunk, edge), end)| ((chunk + 1) * edge).min(*end));
+            let low: Vec<u64> = from.iter().zip(edges).zip(&start).map(|((chunk, edge), start)| (chunk * edge).max(*start)).collect();
+            let high = from.iter().zip(edges).zip(&ends).map(|((chunk, edge), end)| ((chunk + 1) * edge).min(*end));
             let sizes: Vec<u64> = high.zip(&low).map(|(high, low)| high - low).collect();
-            let (read, written) = (place_of(&from, source, &low, &sizes), place_of(&to, target, &low, &sizes));
-            writeln!(out, "{{\"from\":{},\"to\":{}}}", place(&read), place(&written))?;
+            let read = chunk_of(&from, edges);
+            let (in_chunk, in_target) = (place_of(&read, &low), place_of(&written, &low));
+            sources.push(source(&Source {
+                chunk: read,
+                in_chunk,
+                in_target,
+                shape: sizes,
+            }));
         }
+        writeln!(
+            out,
+            "{{\"from\":[{}],\"number\":{number},\"of\":{of},\"to\":{{\"chunk\":{},\"key\":\"{}\",\"shape\":{}}},\"whole\":true}}",
+            sources.join(","),
+            list(&written.chunk),
+            written.key,
+            list(&written.shape)
+        )?;
     }
     out.flush()
 }

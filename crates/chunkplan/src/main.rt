@@ -1,16 +1,16 @@
-//! `chunkplan` writes what a read or a rechunking of a Zarr array copies, a line for each copy.
+//! `chunkplan` writes what a read or a rechunking of a Zarr array copies, a line for each chunk that is read, or for each chunk of the target.
 //!
 //! It reads one JSON document on standard input: an array's `shape`, `chunk_grid` and `chunk_key_encoding`, as in its `zarr.json`. With a `target`,
 //! which has a `chunk_grid` and a `chunk_key_encoding` of its own, the lines are those of a rechunking; its `chunks`, if it has any, is a box of the
 //! target's chunk numbers, and nothing is copied into others. Without one they are those of a read of `subset`, or of the whole array. A box is
-//! written as its start and its shape. Each line is complete in itself, so lines can be shared out in any way.
+//! written as its start and its shape. A line has all that its chunk gets, and its number among the lines, so lines can be shared out in any way.
 //!
 //! ```text
 //! {"shape":[4],"chunk_grid":{"name":"regular","configuration":{"chunk_shape":[3]}},
 //!  "chunk_key_encoding":{"name":"default"},"subset":[[1],[3]]}
 //!
-//! {"chunk":[0],"in_chunk":[[1],[2]],"in_subset":[[0],[2]],"key":"c/0"}
-//! {"chunk":[1],"in_chunk":[[0],[1]],"in_subset":[[2],[1]],"key":"c/1"}
+//! {"chunk":[0],"in_chunk":[[1],[2]],"in_subset":[[0],[2]],"key":"c/0","number":0,"of":2,"shape":[3],"whole":false}
+//! {"chunk":[1],"in_chunk":[[0],[1]],"in_subset":[[2],[1]],"key":"c/1","number":1,"of":2,"shape":[3],"whole":true}
 //! ```
 //!
 //! With no words it is `run_to_status` of `programs::chunkplan`, over what the process was given; words are answered by `answer_words`.

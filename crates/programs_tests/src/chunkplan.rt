@@ -8,9 +8,10 @@ use std::process::Abort;
 const DOCUMENT: &[u8] =
     br#"{"shape":[4],"chunk_grid":{"name":"regular","configuration":{"chunk_shape":[3]}},"chunk_key_encoding":"v2"}"#;
 
-const LINES: &[u8] = b"{\"chunk\":[0],\"in_chunk\":[[0],[3]],\"in_subset\":[[0],[3]],\"key\":\"0\"}
-{\"chunk\":[1],\"in_chunk\":[[0],[1]],\"in_subset\":[[3],[1]],\"key\":\"1\"}
-";
+const LINES: &[u8] =
+    br#"{"chunk":[0],"in_chunk":[[0],[3]],"in_subset":[[0],[3]],"key":"0","number":0,"of":2,"shape":[3],"whole":true}
+{"chunk":[1],"in_chunk":[[0],[1]],"in_subset":[[3],[1]],"key":"1","number":1,"of":2,"shape":[3],"whole":true}
+"#;
 
 /// A reader that fails after so many reads is told, and nothing is written then.
 fn check_read(rt: &(impl Abort + AllocGlobal), reads: usize, fault: ErrorKind, succeeds: bool) {
