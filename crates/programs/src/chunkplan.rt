@@ -5,6 +5,7 @@
 //! | `document` | the document that a JSON tree stands for |
 //! | `known_members` | the members that a document may have |
 //! | `boxes` | a box as a document writes it |
+//! | `share` | a share of a plan as a document writes it |
 //! | `plan` | the plan that a document asks for |
 //! | `copying` | the lines of a plan, sent as they are made |
 //! | `line` | one line |
@@ -25,6 +26,7 @@ mod known_members;
 mod line;
 mod plan;
 mod run_fault;
+mod share;
 
 pub use crate::Watched;
 use crate::streams::{read_to_end, write_all};

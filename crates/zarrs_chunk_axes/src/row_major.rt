@@ -1,13 +1,14 @@
 //! Counting through the lists of numbers below a shape in row-major order.
-ghost use Rattle.std.specs.Prelude.{◌≡◌, ◌≢◌, ◌↔◌, ◌<◌, ◌≤◌, ℕ, IsTrue, List, MatchOption, length, slice_index_or};
+ghost use Rattle.std.specs.Prelude.{◌≡◌, ◌≢◌, ◌↔◌, ◌+◌, ◌<◌, ◌≤◌, ℕ, IsTrue, List, MatchOption, length, slice_index_or};
 ghost use Rattle.std.specs.Bool.{MatchBool};
 ghost use Rattle.std.specs.List.{AllPairs, Contains};
+ghost use Rattle.zarrs_chunk_base.specs.Greatest.{greatest};
 ghost use Rattle.zarrs_chunk_axes.specs.InBounds.{AreBelow};
 ghost use Rattle.zarrs_chunk_axes.specs.RowMajor.{IsBefore, row_major};
 ghost use Rattle.zarrs_chunk_axes.specs.seen.Counting.{AreFull, IsPassed, IsRaisable, after, from, raised};
 
 /// Goes from a list below the shape to the one that comes next; `false` where it was the last.
-pub(crate) fn advance(shape: &[u64], numbers: &mut [u64]) -> bool
+pub fn advance(shape: &[u64], numbers: &mut [u64]) -> bool
     requires { AreBelow shape.now numbers.old }
     ensures below { IsTrue result → AreBelow shape.now numbers.new }
     ensures next { after shape.now numbers.old ≡ from result shape.now numbers.new }
@@ -26,6 +27,20 @@ pub(crate) fn pass_over(shape: &[u64], numbers: &mut [u64]) -> bool
     match last_not_zero(numbers) {
         Some(place) => raise_last(shape, numbers, place),
         None => false,
+    }
+}
+
+/// Adds a start to numbers that were counted from it.
+pub fn count_from(numbers: &mut [u64], start: &[u64])
+    requires lengths { length numbers.old ≡ length start.now }
+    requires fits { (k : ℕ) → slice_index_or start.now k 0 + slice_index_or numbers.old k 0
+        ≤ greatest }
+    ensures length { length numbers.new ≡ length numbers.old }
+    ensures sum { (k : ℕ) → slice_index_or numbers.new k 0
+        ≡ slice_index_or start.now k 0 + slice_index_or numbers.old k 0 }
+{
+    for (dimension, first) in start.iter().enumerate() {
+        numbers[dimension] += first;
     }
 }
 

@@ -52,7 +52,7 @@ module _ {G E H F : Type 0} (source_dimensions : G → List Dimension) (target_d
             whole_array = rw (same_targets, about.same_subset, about.same_grid) can.whole_array;
             meet = rw same_targets (steps.meet can.meet);
           };
-          in_all = rw same_targets steps.in_all;
+          all = rw same_targets steps.all;
         }
 
 -- ---- the groups that came of a walk, one for each chunk that came; at the end they are a rechunking

@@ -1,10 +1,14 @@
 pub mod ArrayCover
+pub mod BeforeShares
+pub mod Between
 pub mod ByNumber
 pub mod Copied
 pub mod Joined
 pub mod Overlaps
 pub mod Plans
+pub mod Ranks
 pub mod Rechunkings
+pub mod ShareLists
 pub mod Shares
 pub mod SomePlan
 pub mod Taken

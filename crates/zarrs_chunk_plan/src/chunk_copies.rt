@@ -1,6 +1,7 @@
 //! The walk over what a rechunking copies.
 use crate::part::Part;
 use crate::plan::parts;
+use crate::share::Share;
 use crate::shared::expect_answer;
 use crate::stored_array::StoredArray;
 use crate::walk::Parts;
@@ -48,14 +49,32 @@ impl<'a, G, E, H, F> Copies<'a, G, E, H, F> {
 }
 
 impl<'a, G, E, H: ChunkGridTraits, F: ChunkKeyEncodingTraits> Copies<'a, G, E, H, F> {
-    ghost use Rattle.std.specs.Prelude.{◌≡◌};
-    ghost use Rattle.zarrs_chunk_plan.specs.seen.Copies.{targets_in_all};
+    ghost use Rattle.std.specs.Prelude.{◌≡◌, IfOk, OnOk, length};
+    ghost use Rattle.zarrs_chunk_plan.specs.Counted.{counted};
+    ghost use Rattle.zarrs_chunk_plan.specs.Shares.{before_share, share_of};
+    ghost use Rattle.zarrs_chunk_plan.specs.seen.Copies.{IsAboutCopies, all_targets, target_of, targets_to_come};
 
     /// How many chunks of the target there are in all, from the first one on; `None` past 18446744073709551615.
     pub fn in_all(&self) -> Option<u64>
-        ensures { result ≡ targets_in_all self.now }
+        ensures { result ≡ counted (length (all_targets self.now)) }
     {
         self.targets.in_all()
+    }
+
+    /// Goes to a share of all chunks of the target, and gives how many come before it; `None` past 18446744073709551615. Those take no time.
+    ///
+    /// # Errors
+    /// Out of memory.
+    pub fn share(&mut self, share: &Share) -> Result<Option<u64>, AllocError>
+        ensures left { OnOk result (targets_to_come self.new
+            ≡ share_of share.now (all_targets self.old)) }
+        ensures before { IfOk result (λ before. before
+            ≡ counted (before_share share.now.number share.now.of (length (all_targets self.old)))) }
+        ensures all { OnOk result (all_targets self.new ≡ all_targets self.old) }
+        ensures about { OnOk result (IsAboutCopies self.old.source.now (target_of self.old)
+            self.old.targets.array_subset self.new) }
+    {
+        self.targets.share(share)
     }
 }
 

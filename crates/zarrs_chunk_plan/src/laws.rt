@@ -6,17 +6,19 @@
 //! | Each element of the box lies in exactly one part, at its place in that part's chunk | [`each_element_lies_in_one_part`] |
 //! | No two parts have one key | [`no_two_parts_have_one_key`] |
 //! | The parts' boxes tile the box: each place in it lies in exactly one, they reach nowhere else, and none is empty | [`the_parts_tile_the_box`] |
+//! | Shares of a plan are together the plan | [`shares_are_together_the_plan`] |
 //! | What [`copies`] gives, one group after another, is a rechunking | [`the_walk_gives_the_rechunking`] |
 //! | Each element whose target chunk is asked for is moved, place to place, by exactly one copy | [`each_element_is_copied_once`] |
 //! | Rechunkings that share the target's chunks out are together the whole one | [`rechunkings_that_share_out_are_the_whole_one`] |
-ghost use Rattle.std.specs.Prelude.{◌≡◌, ◌≢◌, ◌↔◌, ◌⊎◌, ℕ, IfErr, IfOk, List, length};
-ghost use Rattle.std.specs.List.{AllPairs, AllZip, Contains, flat_map};
+ghost use Rattle.std.specs.Prelude.{◌≡◌, ◌≢◌, ◌↔◌, ◌⊎◌, ◌<◌, ℕ, IfErr, IfOk, List, length};
+ghost use Rattle.std.specs.List.{AllPairs, AllZip, Contains, flat_map, range_with_len};
 ghost use Rattle.zarrs_chunk_axes.specs.InBounds.{AreBelow};
 ghost use Rattle.zarrs_chunk_base.specs.ArraySubset.{Box, IsEmptyBox, IsInside};
 ghost use Rattle.zarrs_chunk_base.specs.Dimension.{InBox, IsPlace, array_sizes};
 ghost use Rattle.zarrs_chunk_base.specs.Refusal.{HasMemory, OrMemory};
 ghost use Rattle.zarrs_chunk_plan.specs.Plan.{AnswersNoPart, AnswersPlan, HasElement, IsPart, IsPlan};
 ghost use Rattle.zarrs_chunk_plan.specs.Rechunking.{Group, IsRechunking, Moves, ShareOut, copies_of};
+ghost use Rattle.zarrs_chunk_plan.specs.Shares.{numbered_share};
 ghost use Rattle.zarrs_chunk_plan.specs.seen.Copies.{AreGroupsToCome, CanCopy, IsCopiesFault, groups_of};
 ghost use Rattle.zarrs_chunk_plan.specs.seen.Parts.{ArePartsToCome, MeetSubset};
 
@@ -65,6 +67,14 @@ fn all_parts<G: ChunkGridTraits, E: ChunkKeyEncodingTraits>(
     }
     Ok(all)
 }
+
+/// So many shares of a plan, one behind another, are the plan: nothing of it is in two of them, and nothing is left out.
+pub fn shares_are_together_the_plan()
+    ensures of_a_read { (of : ℕ) → 0 < of → (parts : List Part)
+        → flat_map (λ number. numbered_share number of parts) (range_with_len 0 of) ≡ parts }
+    ensures of_a_rechunking { (of : ℕ) → 0 < of → (groups : List Group)
+        → flat_map (λ number. numbered_share number of groups) (range_with_len 0 of) ≡ groups }
+{}
 
 /// Each element of the box lies in exactly one part of the plan. The part's chunk holds the element, and the place that the part has it at is the
 /// one that `chunk_element_indices` answers.

@@ -24,12 +24,15 @@
 //! | `chunk_copies` | the walk over what a rechunking copies, a chunk of the target after another |
 //! | `copies_error` | why a rechunking can't be planned |
 //! | `boxes_from_zero` | the box of all elements of an array, and that of all chunks of a grid |
+//! | `share` | one of several shares of a plan |
+//! | `chunks_between` | the walk over the chunks of a share |
 //! | `shared` | the elements that a chunk and a box share, counted from either |
 //! | `overlap` | what two boxes have in common |
 //! | `laws` | what holds of every plan |
 #![tactic(auto)]
 
 mod boxes_from_zero;
+mod chunks_between;
 mod chunk_copies;
 mod copies_error;
 pub mod laws;
@@ -39,6 +42,7 @@ mod overlap;
 mod part;
 mod plan;
 mod rechunking;
+mod share;
 mod shared;
 mod stored_array;
 mod walk;
@@ -51,5 +55,6 @@ pub use numbered_parts::{SomeParts, some_parts};
 pub use part::{ChunkShapeTinyVec, Part};
 pub use plan::parts;
 pub use rechunking::copies;
+pub use share::Share;
 pub use stored_array::StoredArray;
 pub use walk::Parts;

@@ -1,5 +1,5 @@
 //! The chunks in a box of chunk numbers, by their number.
-ghost use Rattle.std.specs.Prelude.{◌≡◌, ◌-◌, ◌<◌, ◌≤◌, IfOk, Some, drop, length, min, take};
+ghost use Rattle.std.specs.Prelude.{◌≡◌, ◌-◌, ◌<◌, ◌≤◌, ◌^◌, IfOk, Some, drop, length, min, take};
 ghost use Rattle.std.specs.List.{AllZip, slice_get};
 ghost use Rattle.zarrs_chunk_base.specs.ArraySubset.{IsBox};
 ghost use Rattle.zarrs_chunk_base.specs.Greatest.{greatest};
@@ -74,11 +74,19 @@ pub(crate) fn count_below(shape: &[u64]) -> u64
 pub(crate) fn count_of(shape: &[u64]) -> Option<u64>
     ensures { result ≡ counted (length (row_major shape.now)) }
 {
+    let count = long_count(shape);
+    if count <= u64::MAX as u128 { Some(count as u64) } else { None }
+}
+
+/// How many lists of numbers are below a shape; 2 ^ 128 - 1 means that many or more.
+pub(crate) fn long_count(shape: &[u64]) -> u128
+    ensures { result ≡ min (length (row_major shape.now)) (2 ^ 128 - 1) }
+{
     let mut count = 1u128;
     for size in shape {
         count = count.saturating_mul(*size as u128);
     }
-    if count <= u64::MAX as u128 { Some(count as u64) } else { None }
+    count
 }
 
 /// The chunk with this number, of those in a box of chunk numbers. They are numbered from 0 in row-major order.

@@ -1,8 +1,7 @@
 //! The plan of reading a box of elements.
 ghost use Rattle.std.specs.Prelude.{◌≡◌, ◌≢◌, ◌⊎◌, IfOk, IfSome, length};
 ghost use Rattle.zarrs_chunk_base.specs.ArraySubset.{IsEmptyBox};
-ghost use Rattle.zarrs_chunk_plan.specs.Counted.{counted};
-ghost use Rattle.zarrs_chunk_plan.specs.seen.Parts.{AnswersNoParts, AnswersParts, IsAbout, MeetSubset, chunks_to_come, parts_in_all};
+ghost use Rattle.zarrs_chunk_plan.specs.seen.Parts.{AnswersNoParts, AnswersParts, IsAbout, MeetSubset, all_chunks, chunks_to_come};
 
 use crate::walk::Parts;
 use std::alloc::Global;
@@ -31,8 +30,8 @@ pub fn parts<'a, G: ChunkGridTraits, E: ChunkKeyEncodingTraits>(
     ensures about { IfOk result (λ found. IfSome found
         (IsAbout grid.now encoding.now array_subset.now)) }
     ensures meet { IfOk result (λ found. IfSome found (MeetSubset G.dimensions)) }
-    ensures in_all { IfOk result (λ found. IfSome found (λ walk.
-        parts_in_all walk ≡ counted (length (chunks_to_come walk)))) }
+    ensures all { IfOk result (λ found. IfSome found (λ walk.
+        all_chunks walk ≡ chunks_to_come walk)) }
 {
     array_subset.is_a_box();
     let cover = grid.chunks_in_array_subset(alloc, array_subset)?;

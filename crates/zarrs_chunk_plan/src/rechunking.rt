@@ -4,10 +4,9 @@ ghost use Rattle.zarrs_chunk_base.specs.ArraySubset.{Box, IsBox, IsInside};
 ghost use Rattle.zarrs_chunk_base.specs.Dimension.{array_sizes};
 ghost use Rattle.zarrs_chunk_base.specs.Refusal.{HasMemory, OrMemory};
 ghost use Rattle.zarrs_chunks.specs.Walks.{chunks_in};
-ghost use Rattle.zarrs_chunk_plan.specs.Counted.{counted};
 ghost use Rattle.zarrs_chunk_plan.specs.Plan.{Meets};
 ghost use Rattle.zarrs_chunk_plan.specs.Rechunking.{AreTargets, array_box};
-ghost use Rattle.zarrs_chunk_plan.specs.seen.Copies.{CanCopy, IsAboutCopies, IsCopiesFault, targets_in_all, targets_to_come};
+ghost use Rattle.zarrs_chunk_plan.specs.seen.Copies.{CanCopy, IsAboutCopies, IsCopiesFault, all_targets, targets_to_come};
 
 use crate::boxes_from_zero::whole_array;
 use crate::chunk_copies::Copies;
@@ -49,8 +48,7 @@ pub fn copies<
         (array_box (H.dimensions target.now.grid))) }
     ensures can_copy { IfOk result (CanCopy G.dimensions H.dimensions) }
     ensures is_box { IfOk result (λ _. IsBox (array_box (H.dimensions target.now.grid))) }
-    ensures in_all { IfOk result (λ walk.
-        targets_in_all walk ≡ counted (length (targets_to_come walk))) }
+    ensures all { IfOk result (λ walk. all_targets walk ≡ targets_to_come walk) }
     ensures one_array { IfOk result (λ _. array_sizes (G.dimensions source.now.grid)
         ≡ array_sizes (H.dimensions target.now.grid)) }
     ensures lengths { IfOk result (λ _. length chunks.now.start

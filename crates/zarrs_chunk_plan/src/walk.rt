@@ -1,10 +1,12 @@
 //! The walk over the parts of a box of elements.
-use crate::numbered_chunks::count_of;
+use crate::chunks_between::ChunksBetween;
+use crate::numbered_chunks::{count_of, long_count};
 use crate::part::{Part, part_of};
+use crate::share::Share;
 use std::alloc::{AllocError, Global};
 use zarrs_chunk_base::ArraySubset;
 use zarrs_chunk_keys::ChunkKeyEncodingTraits;
-use zarrs_chunks::{ChunkGridTraits, ChunkIndicesInSubset};
+use zarrs_chunks::ChunkGridTraits;
 
 /// The parts of a box of elements: one for each chunk of its cover, in row-major order of the chunks.
 ///
@@ -16,15 +18,15 @@ pub struct Parts<'a, G, E> {
     grid: &'a G,
     encoding: &'a E,
     array_subset: ArraySubset,
-    in_all: Option<u64>,
-    chunks: ChunkIndicesInSubset,
+    chunks: ChunksBetween,
 }
 
 impl<'a, G: ChunkGridTraits, E: ChunkKeyEncodingTraits> Parts<'a, G, E> {
-    ghost use Rattle.std.specs.Prelude.{◌≡◌, [], IfOk, length};
+    ghost use Rattle.std.specs.Prelude.{◌≡◌, [], IfOk, OnOk, length};
     ghost use Rattle.zarrs_chunks.specs.Walks.{chunks_in};
     ghost use Rattle.zarrs_chunk_plan.specs.Counted.{counted};
-    ghost use Rattle.zarrs_chunk_plan.specs.seen.Parts.{IsAbout, chunks_to_come, offsets_to_come, parts_in_all};
+    ghost use Rattle.zarrs_chunk_plan.specs.Shares.{before_share, share_of};
+    ghost use Rattle.zarrs_chunk_plan.specs.seen.Parts.{IsAbout, all_chunks, chunks_to_come, offsets_to_come};
 
     /// A walk over the parts that the chunks in a box of chunk numbers hold.
     ///
@@ -39,30 +41,46 @@ impl<'a, G: ChunkGridTraits, E: ChunkKeyEncodingTraits> Parts<'a, G, E> {
     ) -> Result<Parts<'a, G, E>, AllocError>
         ensures left { IfOk result (λ walk. chunks_to_come walk ≡ chunks_in chunks) }
         ensures about { IfOk result (IsAbout grid.now encoding.now array_subset) }
-        ensures in_all { IfOk result (λ walk. parts_in_all walk
-            ≡ counted (length (chunks_in chunks))) }
+        ensures all { IfOk result (λ walk. all_chunks walk ≡ chunks_in chunks) }
     {
-        let in_all = count_of(chunks.shape());
         Ok(Parts {
             alloc,
             grid,
             encoding,
             array_subset,
-            in_all,
-            chunks: ChunkIndicesInSubset::new(alloc, chunks)?,
+            chunks: ChunksBetween::new(alloc, chunks, &Share::whole())?,
         })
     }
 
     /// How many parts there are in all, from the first one on; `None` past 18446744073709551615.
     pub fn in_all(&self) -> Option<u64>
-        ensures { result ≡ parts_in_all self.now }
+        ensures { result ≡ counted (length (all_chunks self.now)) }
     {
-        self.in_all
+        count_of(self.chunks.chunks().shape())
+    }
+
+    /// Goes to a share of all parts, and gives how many come before it; `None` past 18446744073709551615. Those take no time.
+    ///
+    /// # Errors
+    /// Out of memory.
+    pub fn share(&mut self, share: &Share) -> Result<Option<u64>, AllocError>
+        ensures left { OnOk result (chunks_to_come self.new
+            ≡ share_of share.now (all_chunks self.old)) }
+        ensures before { IfOk result (λ before. before
+            ≡ counted (before_share share.now.number share.now.of (length (all_chunks self.old)))) }
+        ensures all { OnOk result (all_chunks self.new ≡ all_chunks self.old) }
+        ensures about { OnOk result (IsAbout self.old.grid.now self.old.encoding.now
+            self.old.array_subset self.new) }
+    {
+        let chunks = self.chunks.chunks().clone()?;
+        let before = share.lines_before(long_count(chunks.shape()));
+        self.chunks = ChunksBetween::new(self.alloc, chunks, share)?;
+        Ok(before)
     }
 
     /// Leaves no part to come.
     pub(crate) fn end(&mut self)
-        ensures in_all { parts_in_all self.new ≡ parts_in_all self.old }
+        ensures all { all_chunks self.new ≡ all_chunks self.old }
         ensures none { (chunks_to_come self.new ≡ []) × (offsets_to_come self.new ≡ []) }
         ensures about { IsAbout self.old.grid.now self.old.encoding.now self.old.array_subset self.new }
     {

@@ -1,24 +1,21 @@
--- What a walk has given, and what it would still have given, are what it had to give.
-use Rattle.std.proofs.Common.{◌≡◌, ℕ, List, [], ◌∷◌, ◌++◌}
+-- What a walk has given, and what it would still have given, are what it had to give; and what a share of it gives is a share of that.
+use Rattle.std.proofs.Common.{◌≡◌, ℕ, List, ◌++◌, length}
 use Rattle.std.specs.List.{AllByRecursion, AllZip}
 use Rattle.zarrs_chunk_base.specs.ArraySubset.{IsBox}
 use Rattle.zarrs_chunk_base.specs.Dimension.{Dimension, IsChain}
-use Rattle.zarrs_chunk_plan.specs.Plan.{IsPart}
-use Rattle.zarrs_chunk_plan.specs.Rechunking.{AreCopiesInto, Group}
+use Rattle.zarrs_chunk_plan.specs.Plan.{IsPart, Meets}
+use Rattle.zarrs_chunk_plan.specs.Rechunking.{AreCopiesInto, Group, array_box}
 use Rattle.zarrs_chunk_plan.specs.declared.chunk_copies.Copies.{Copies}
 use Rattle.zarrs_chunk_plan.specs.declared.part.Part.{Part}
+use Rattle.zarrs_chunk_plan.specs.Shares.{share_of}
+use Rattle.zarrs_chunk_plan.specs.declared.share.Share.{Share}
 use Rattle.zarrs_chunk_plan.specs.declared.walk.Parts.{Parts}
-use Rattle.zarrs_chunk_plan.specs.seen.Copies.{AreGroupsToCome, targets_to_come}
-use Rattle.zarrs_chunk_plan.specs.seen.Parts.{ArePartsToCome, HasKeys, chunks_to_come}
+use Rattle.zarrs_chunk_plan.specs.seen.Copies.{AreGroupsToCome, CanCopy, IsAboutCopies, target_of, targets_to_come}
+use Rattle.zarrs_chunk_plan.specs.seen.Parts.{ArePartsToCome, HasKeys, IsAbout, MeetSubset, chunks_to_come}
 use Rattle.zarrs_chunk_plan.proofs.Copied.{GroupsHaveCome}
+use Rattle.zarrs_chunk_plan.proofs.ShareLists.{all_of_share, both_zipped, of_all}
 use Rattle.zarrs_chunk_plan.proofs.SomePlan.{have_groups, have_parts}
 use Rattle.zarrs_chunk_plan.proofs.Walked.{HaveCome}
-
-both_zipped : {X Y : Type 0} (R : X → Y → Type 0) (xs others : List X) (ys more : List Y) → AllZip R xs ys → AllZip R others more
-    → AllZip R (xs ++ others) (ys ++ more)
-both_zipped R [] others [] more one also = also
-both_zipped R (x ∷ xs) others (y ∷ ys) more one also = (one.0, both_zipped R xs others ys more one.1 also)
-both_zipped R _ others _ more one also = absurd one
 
 pub parts_ahead : {G E : Type 0} (dimensions : G → List Dimension) (is_key : E → List ℕ → List ℕ → Type 0) (begin : Parts G E)
     → AllByRecursion IsChain (dimensions begin.grid.now) → HasKeys (is_key begin.encoding.now) → IsBox begin.array_subset
@@ -49,3 +46,47 @@ groups_ahead source_dimensions source_key target_dimensions target_key begin cha
     (rw whole at is_box) (targets_to_come now) (rw (can.whole_array, same_grid) at can.meet)
     in
     (others, rw left (both_zipped IsOne chunks (targets_to_come now) came others are also))
+
+-- ---- a share of a walk
+
+module _ {G E : Type 0} (dimensions : G → List Dimension) (is_key : E → List ℕ → List ℕ → Type 0) (walk shared : Parts G E) (share : Share)
+    (about : IsAbout walk.grid.now walk.encoding.now walk.array_subset shared)
+    (left : chunks_to_come shared ≡ share_of share (chunks_to_come walk)) (meet : MeetSubset dimensions walk) where
+  pub share_meets : MeetSubset dimensions shared
+  share_meets =
+      rw (about.same_grid, about.same_subset, left)
+      (all_of_share (Meets (dimensions walk.grid.now) walk.array_subset) share (chunks_to_come walk) meet)
+
+  pub parts_of_share : AllByRecursion IsChain (dimensions walk.grid.now) → HasKeys (is_key walk.encoding.now) → IsBox walk.array_subset
+      → (parts : List Part) → ArePartsToCome dimensions is_key shared parts
+      → (all : List Part) × ArePartsToCome dimensions is_key walk all × (share_of share all ≡ parts) × (length all ≡ length (chunks_to_come walk))
+  parts_of_share chains keys is_box parts are =
+      let ds = dimensions walk.grid.now in
+      of_all (Meets ds walk.array_subset) (IsPart ds (is_key walk.encoding.now) walk.array_subset)
+      (have_parts ds (is_key walk.encoding.now) chains keys walk.array_subset is_box) share (chunks_to_come walk) parts meet
+      (rw (about.same_grid, about.same_encoding, about.same_subset, left) at are)
+
+module _ {G E H F : Type 0} (source_dimensions : G → List Dimension) (source_key : E → List ℕ → List ℕ → Type 0)
+    (target_dimensions : H → List Dimension) (target_key : F → List ℕ → List ℕ → Type 0) (walk shared : Copies G E H F) (share : Share)
+    (about : IsAboutCopies walk.source.now (target_of walk) walk.targets.array_subset shared)
+    (left : targets_to_come shared ≡ share_of share (targets_to_come walk)) (can : CanCopy source_dimensions target_dimensions walk) where
+  pub share_can_copy : CanCopy source_dimensions target_dimensions shared
+  share_can_copy = record {
+    one_array = rw (about.same_source, about.targets.same_grid) can.one_array;
+    whole_array = rw (about.targets.same_subset, about.targets.same_grid) can.whole_array;
+    meet = share_meets target_dimensions target_key walk.targets shared.targets share about.targets left can.meet;
+  }
+
+  pub groups_of_share : AllByRecursion IsChain (source_dimensions walk.source.now.grid)
+      → AllByRecursion IsChain (target_dimensions walk.targets.grid.now)
+      → HasKeys (source_key walk.source.now.encoding) → HasKeys (target_key walk.targets.encoding.now) → IsBox walk.targets.array_subset
+      → (groups : List Group) → AreGroupsToCome source_dimensions source_key target_dimensions target_key shared groups
+      → (all : List Group) × AreGroupsToCome source_dimensions source_key target_dimensions target_key walk all × (share_of share all ≡ groups)
+      × (length all ≡ length (targets_to_come walk))
+  groups_of_share chains also_chains keys also_keys is_box groups are =
+      let source = source_dimensions walk.source.now.grid in
+      let target = target_dimensions walk.targets.grid.now in
+      of_all (Meets target (array_box target))
+      (AreCopiesInto source (source_key walk.source.now.encoding) target (target_key walk.targets.encoding.now))
+      (have_groups source _ target _ chains also_chains keys also_keys can.one_array (rw can.whole_array at is_box)) share (targets_to_come walk)
+      groups (rw can.whole_array at can.meet) (rw (about.same_source, about.targets.same_grid, about.targets.same_encoding, left) at are)

@@ -13,11 +13,11 @@ pub counted_first : counted 0 ≡ Some 0
 unfolding counted
 counted_first = refl
 
--- the lines of all of these
-abbrev pub IsTextOf : {Y : Type 0} → (line : ℕ → Y → List ℕ) (AreAll : List Y → Type 0) → List ℕ → Type 0
-IsTextOf {Y} line AreAll text = (all : List Y) × AreAll all × (text ≡ lines_from line 0 all)
+-- the lines of all of these, which are counted from a first number on
+abbrev pub IsTextOf : {Y : Type 0} → (line : ℕ → Y → List ℕ) (begin : ℕ) (AreAll : List Y → Type 0) → List ℕ → Type 0
+IsTextOf {Y} line begin AreAll text = (all : List Y) × AreAll all × (text ≡ lines_from line begin all)
 
-module _ {Y : Type 0} (line : ℕ → Y → List ℕ) where
+module _ {Y : Type 0} (line : ℕ → Y → List ℕ) (begin : ℕ) where
   lines_both : (first : ℕ) (ys others : List Y) → lines_from line first (ys ++ others) ≡ lines_from line first ys ++ lines_from line (first + length ys) others
   lines_both first [] others = ap (λ n. lines_from line n others) (let same : first ≡ first + 0 = omega arith in same)
   lines_both first (y ∷ ys) others =
@@ -25,16 +25,16 @@ module _ {Y : Type 0} (line : ℕ → Y → List ℕ) where
       ap (λ text. line first y ++ text) (lines_both (suc first) ys others ∙ ap (λ n. lines_from line (suc first) ys ++ lines_from line n others) same)
       ∙ sym (append_assoc (line first y) (lines_from line (suc first) ys) (lines_from line (first + suc (length ys)) others))
 
-  -- the lines of those that came, which are so many
+  -- the lines of those that came, where the next one has the number n
   abbrev pub Came : (HaveCome : List Y → Type 0) → ℕ → List ℕ → Type 0
-  Came HaveCome n text = (came : List Y) × HaveCome came × (length came ≡ n) × (text ≡ lines_from line 0 came)
+  Came HaveCome n text = (came : List Y) × HaveCome came × (begin + length came ≡ n) × (text ≡ lines_from line begin came)
 
   -- one that is of the walk, and its line
   abbrev pub IsLineOf : (IsOne : Y → Type 0) → ℕ → List ℕ → Type 0
   IsLineOf IsOne n text = (y : Y) × IsOne y × (text ≡ line n y)
 
-  last_line : (n : ℕ) (y : Y) → lines_from line (0 + n) (y ∷ []) ≡ line n y
-  last_line n y = let same : 0 + n ≡ n = omega arith in rw same (append-nil (line n y))
+  last_line : (n : ℕ) (y : Y) → lines_from line n (y ∷ []) ≡ line n y
+  last_line n y = append-nil (line n y)
 
   pub one_more_came : (HaveCome MoreCome : List Y → Type 0) (IsOne : Y → Type 0) (n : ℕ)
       → ((came : List Y) (y : Y) → HaveCome came → IsOne y → MoreCome (came ++ y ∷ [])) → (text : List ℕ)
@@ -43,15 +43,15 @@ module _ {Y : Type 0} (line : ℕ → Y → List ℕ) where
     came ++ y ∷ [],
     more came y have is,
     (let longer = length-append came (y ∷ []) in omega arith),
-    both ∙ rw (lines, last, ← many) (sym (lines_both 0 came (y ∷ []) ∙ ap (λ text. lines_from line 0 came ++ text) (last_line (length came) y))),
+    both ∙ rw (lines, last, ← many) (sym (lines_both begin came (y ∷ []) ∙ ap (λ text. lines_from line begin came ++ text) (last_line (begin + length came) y))),
   )
 
   -- with what would still come, the text goes on
   goes_on : (HaveCome AreAll : List Y → Type 0) (n : ℕ) → ((came : List Y) → HaveCome came → (others : List Y) × AreAll (came ++ others))
-      → Begins (Came HaveCome n) (IsTextOf line AreAll)
+      → Begins (Came HaveCome n) (IsTextOf line begin AreAll)
   goes_on HaveCome AreAll n ahead text (came, have, many, lines) =
       let (others, all) = ahead came have in
-      (lines_from line (0 + length came) others, (came ++ others, all, rw lines (sym (lines_both 0 came others))))
+      (lines_from line (begin + length came) others, (came ++ others, all, rw lines (sym (lines_both begin came others))))
 
   -- ---- on the way
 
@@ -69,17 +69,17 @@ module _ {Y : Type 0} (line : ℕ → Y → List ℕ) where
     -- or something stopped it
     pub way_stops : ((came : List Y) → HaveCome came → (others : List Y) × AreAll (came ++ others))
         → ((came : List Y) → MoreCome came → (others : List Y) × AreAll (came ++ others))
-        → (fault : RunFault) → Stops (IsLineOf IsOne n) fault between after → Stops (IsTextOf line AreAll) fault before after
+        → (fault : RunFault) → Stops (IsLineOf IsOne n) fault between after → Stops (IsTextOf line begin AreAll) fault before after
     way_stops here there fault step =
-        stops_behind (Came HaveCome n) (IsLineOf IsOne n) (IsTextOf line AreAll) before between after sent (goes_on HaveCome AreAll n here)
+        stops_behind (Came HaveCome n) (IsLineOf IsOne n) (IsTextOf line begin AreAll) before between after sent (goes_on HaveCome AreAll n here)
         (λ text both. goes_on MoreCome AreAll (suc n) there text (one_more_came HaveCome MoreCome IsOne n more text both)) fault step
 
   pub way_memory : (HaveCome AreAll : List Y → Type 0) (n : ℕ) (before now : Output) → HasSent (Came HaveCome n) before now
-      → ((came : List Y) → HaveCome came → (others : List Y) × AreAll (came ++ others)) → Stops (IsTextOf line AreAll) Memory before now
+      → ((came : List Y) → HaveCome came → (others : List Y) × AreAll (came ++ others)) → Stops (IsTextOf line begin AreAll) Memory before now
   way_memory HaveCome AreAll n before now sent ahead =
-      memory_after (Came HaveCome n) (IsTextOf line AreAll) (goes_on HaveCome AreAll n ahead) before now sent
+      memory_after (Came HaveCome n) (IsTextOf line begin AreAll) (goes_on HaveCome AreAll n ahead) before now sent
 
   -- all that was to come was sent
   pub way_ends : (HaveCome AreAll : List Y → Type 0) (n : ℕ) (before now : Output) → HasSent (Came HaveCome n) before now
-      → ((came : List Y) → HaveCome came → AreAll came) → HasSent (IsTextOf line AreAll) before now
+      → ((came : List Y) → HaveCome came → AreAll came) → HasSent (IsTextOf line begin AreAll) before now
   way_ends HaveCome AreAll n before now (text, (came, have, many, lines), sends, same) all = (text, (came, all came have, lines), sends, same)

@@ -7,7 +7,7 @@ use Rattle.programs.specs.Streams.{IsReadToEnd, IsWritten, Streams}
 use Rattle.programs.specs.Watched.{IsReadFailure}
 use Rattle.programs.specs.chunkplan.Document.{Document}
 use Rattle.programs.specs.chunkplan.DocumentFault.{HasBoxFault, IsBoxFormFault, IsFormFault, IsMisfit, IsTargetMisfit, IsTaskFault}
-use Rattle.programs.specs.chunkplan.DocumentFault.{misfit, misformed_shape, misformed_stored, misformed_task, missing, no_object, not_of_form}
+use Rattle.programs.specs.chunkplan.DocumentFault.{misfit, misformed_shape, misformed_share, misformed_stored, misformed_task, missing, no_object, not_of_form}
 use Rattle.programs.specs.chunkplan.DocumentFault.{IsUnknownFault, TellsMissing, TellsWrongValue, of_misfit, of_target_stored, unknown}
 use Rattle.programs.specs.chunkplan.DocumentFault.{of_chunks as of_chunks_box, of_subset as of_subset_box, of_target as of_target_tree}
 use Rattle.programs.specs.chunkplan.PlanFault.{IsChunksFault, IsFirstFault, IsPlanFault, IsReadFault, IsTargetFault, no_document, no_plan, of_chunks}
@@ -67,8 +67,9 @@ form_still d fault (unknown is) = still (IsUnknownFault d) (λ h. h) (λ h. h) f
 form_still d fault (missing name _ _ is) = still (TellsMissing name) (λ h. h) (λ h. h) fault is
 form_still d fault (misfit _ _ is) = still (IsMisfit d) (λ h. h) (λ h. h) fault is
 form_still d fault (misformed_shape _ _ _ _ is) = still (TellsWrongValue (codes "shape")) (λ h. h) (λ h. h) fault is
-form_still d fault (misformed_stored told _ _ _ _ _ same) = ap moves same ∙ of_document_still told
-form_still d fault (misformed_task _ _ _ _ _ _ is) = task_still d fault is
+form_still d fault (misformed_share _ _ _ _ (_, _, is, _)) = still (TellsWrongValue (codes "share")) (λ h. h) (λ h. h) fault is
+form_still d fault (misformed_stored told _ _ _ _ _ _ _ same) = ap moves same ∙ of_document_still told
+form_still d fault (misformed_task _ _ _ _ _ _ _ _ is) = task_still d fault is
 
 plan_still : (document : Document) (fault : RunFault) → IsPlanFault document fault → moves fault ≡ false
 plan_still document fault (of_source told _ same) = ap moves same ∙ of_create_still told

@@ -1,10 +1,11 @@
 -- The program's document: a JSON object with the members `shape`, `chunk_grid` and `chunk_key_encoding`, and either `subset`, which may be
--- absent, or `target` and `chunks`, which may be absent. What else an array's `zarr.json` has may stand in it and in the target.
-use Rattle.std.specs.Prelude.{◌≡◌, ℕ, List, Option, Some, None, IsSome, codes, MatchOption}
+-- absent, or `target` and `chunks`, which may be absent; and `share`, which may be absent too. What else an array's `zarr.json` has may stand in it and in the target.
+use Rattle.std.specs.Prelude.{◌≡◌, ◌⊎◌, ℕ, List, Option, Some, None, IsSome, codes, MatchOption}
 use Rattle.serde_json.specs.Data.{Data}
 use Rattle.serde_json.specs.Find.{get}
 use Rattle.zarrs_chunk_base.specs.ArraySubset.{Box, IsBox}
 use Rattle.zarrs_chunk_base.specs.Json.{size_of, list_of, pair_of}
+use Rattle.zarrs_chunk_plan.specs.declared.share.Share.{Share}
 use Rattle.programs.specs.Document.{HasStored, shape_in}
 use Rattle.programs.specs.Stored.{Stored, stored_of}
 use Rattle.programs.specs.chunkplan.Known.{Agree, HasOnly, known_members, zarr_json_members}
@@ -20,6 +21,7 @@ pub data Task : Type 0 where
 -- a document, without where it lies in memory
 pub record Document : Type 0 where
   pub shape : List ℕ
+  pub share : Share
   pub stored : Stored
   pub task : Task
 
@@ -29,7 +31,7 @@ task_of (ReadValue subset) = read_of subset
 task_of (RechunkValue target chunks) = rechunk_to (stored_of target) chunks
 
 abbrev pub document_of : DocumentValue → Document
-document_of d = record { shape = d.shape.items; stored = stored_of d.stored; task = task_of d.task }
+document_of d = record { shape = d.shape.items; share = d.share; stored = stored_of d.stored; task = task_of d.task }
 
 -- a list of two lists of sizes, which are the start and the shape of a box
 pub record IsBoxIn (d : Data) (b : Box) : Type 0 where
@@ -39,6 +41,13 @@ pub record IsBoxIn (d : Data) (b : Box) : Type 0 where
 -- the member is a box, or absent
 abbrev pub HasBox : Data → List ℕ → Option Box → Type 0
 HasBox d field subset = MatchOption subset (get field d ≡ None) (λ b. (m : Data) × (get field d ≡ Some m) × IsBoxIn m b)
+
+-- The member `share` is a list of the share's number, counted from 0, and how many shares there are; where it is absent, the share is the one
+-- that is the whole plan.
+abbrev pub HasShare : Data → Share → Type 0
+HasShare d share =
+    ((get (codes "share") d ≡ None) × (share.number ≡ 0) × (share.of ≡ 1))
+    ⊎ ((m : Data) × (get (codes "share") d ≡ Some m) × (pair_of size_of m ≡ Some (share.number, share.of)))
 
 -- The target, which has no unknown member, is of the same array: of its shape and data type, where it says them.
 pub record IsOfArray (d target : Data) : Type 0 where
@@ -62,5 +71,6 @@ pub record IsDocument (d : Data) (document : Document) : Type 0 where
   pub known : HasOnly known_members d
   pub fitting : Fit d
   pub shape : shape_in d ≡ Some document.shape
+  pub share : HasShare d document.share
   pub stored : HasStored d document.stored
   pub task : IsTask d document.task

@@ -1,13 +1,14 @@
 -- The first fault of an input that is no document.
-use Rattle.std.specs.Prelude.{◌≡◌, ℕ, List, [], ◌∷◌, IsSome, Some, None, codes}
+use Rattle.std.specs.Prelude.{◌≡◌, ℕ, ◌≤◌, List, [], ◌∷◌, IsSome, Some, None, codes}
 use Rattle.serde_json.specs.Data.{Data}
 use Rattle.serde_json.specs.Find.{get, as_object}
 use Rattle.zarrs_chunk_base.specs.ArraySubsetError.{IsBoxFault}
 use Rattle.zarrs_chunk_base.specs.First.{IsFirst}
 use Rattle.zarrs_chunk_base.specs.Json.{size_of, list_of, pair_of}
+use Rattle.zarrs_chunk_plan.specs.declared.share.Share.{Share}
 use Rattle.programs.specs.Document.{HasAll, HasStored, IsObjectOf, IsStoredFault, IsTextFault, shape_in}
 use Rattle.programs.specs.Stored.{Stored}
-use Rattle.programs.specs.chunkplan.Document.{Fit, IsOfArray}
+use Rattle.programs.specs.chunkplan.Document.{Fit, HasShare, IsOfArray}
 use Rattle.programs.specs.chunkplan.Known.{Agree, Differ, HasOnly, IsFirstUnknown, known_members, zarr_json_members}
 use Rattle.programs.specs.chunkplan.RunFault.{of_document}
 use Rattle.programs.specs.declared.chunkplan.run_fault.RunFault.{RunFault}
@@ -63,6 +64,11 @@ IsBoxFormFault _ _ _ = ⊥
 abbrev pub HasBoxFault : Data → List ℕ → RunFault → Type 0
 HasBoxFault d field fault = (m : Data) × (get field d ≡ Some m) × IsBoxFormFault m field fault
 
+-- the share is no list of two sizes, or its number isn't below how many there are
+abbrev pub HasShareFault : Data → RunFault → Type 0
+HasShareFault d fault = (m : Data) × (get (codes "share") d ≡ Some m) × TellsWrongValue (codes "share") fault
+    × ((number of : ℕ) → pair_of size_of m ≡ Some (number, of) → of ≤ number)
+
 -- The first fault of what a tree asks for: its `subset`, where there is no target; and else the target, that it isn't of the array, its own two
 -- members, or `chunks`.
 pub data IsTaskFault (d : Data) (fault : RunFault) : Type 0 where
@@ -77,17 +83,18 @@ pub data IsTaskFault (d : Data) (fault : RunFault) : Type 0 where
       → HasBoxFault d (codes "chunks") fault → IsTaskFault d fault
 
 -- The first fault of an object that is no document: a member isn't known; one is missing; one doesn't go with the others; and then, of the
--- shape, of how the array is stored and of what is asked for, the first that isn't of its form.
+-- shape, of the share, of how the array is stored and of what is asked for, the first that isn't of its form.
 pub data IsFormFault (d : Data) (fault : RunFault) : Type 0 where
   unknown : IsUnknownFault d fault → IsFormFault d fault
   missing : (name : List ℕ) → HasOnly known_members d → IsFirst (λ member. get member d ≡ None) document_members name → TellsMissing name fault
       → IsFormFault d fault
   misfit : HasOnly known_members d → HasMembers d → IsMisfit d fault → IsFormFault d fault
   misformed_shape : HasOnly known_members d → HasMembers d → Fit d → shape_in d ≡ None → TellsWrongValue (codes "shape") fault → IsFormFault d fault
-  misformed_stored : (told : DocumentFault) → HasOnly known_members d → HasMembers d → Fit d → IsSome (shape_in d)
+  misformed_share : HasOnly known_members d → HasMembers d → Fit d → IsSome (shape_in d) → HasShareFault d fault → IsFormFault d fault
+  misformed_stored : (told : DocumentFault) (share : Share) → HasOnly known_members d → HasMembers d → Fit d → IsSome (shape_in d) → HasShare d share
       → IsStoredFault d (codes "chunk_grid") (codes "chunk_key_encoding") told → fault ≡ of_document told → IsFormFault d fault
-  misformed_task : (stored : Stored) → HasOnly known_members d → HasMembers d → Fit d → IsSome (shape_in d) → HasStored d stored → IsTaskFault d fault
-      → IsFormFault d fault
+  misformed_task : (share : Share) (stored : Stored) → HasOnly known_members d → HasMembers d → Fit d → IsSome (shape_in d) → HasShare d share
+      → HasStored d stored → IsTaskFault d fault → IsFormFault d fault
 
 -- The first fault of an input that is no document: it is no text of an object, or its object isn't of the form.
 pub data IsInputFault (input : List ℕ) (fault : RunFault) : Type 0 where

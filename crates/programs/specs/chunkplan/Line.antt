@@ -7,7 +7,9 @@ use Rattle.json.specs.Tree.{json_tokens}
 use Rattle.zarrs_chunk_base.specs.ArraySubset.{Box}
 use Rattle.zarrs_chunk_plan.specs.Counted.{counted}
 use Rattle.zarrs_chunk_plan.specs.Rechunking.{Group}
+use Rattle.zarrs_chunk_plan.specs.Shares.{before_share, share_of}
 use Rattle.zarrs_chunk_plan.specs.declared.part.Part.{Part}
+use Rattle.zarrs_chunk_plan.specs.declared.share.Share.{Share}
 
 -- a list of numbers
 abbrev pub numbers_items : List ℕ → Items
@@ -49,9 +51,11 @@ part_json at of part =
     (member (codes "shape") (numbers_json part.shape.items)
     (member (codes "whole") (boolean part.whole) no_members))))))))
 
--- the lines of a read
-abbrev pub read_lines : List Part → List ℕ
-read_lines parts = lines_from (λ n part. line_of (part_json (counted n) (counted (length parts)) part)) 0 parts
+-- The lines of a share of a read, of which these are all parts: each by its number among all.
+abbrev pub read_lines : Share → List Part → List ℕ
+read_lines share parts =
+    lines_from (λ n part. line_of (part_json (counted n) (counted (length parts)) part)) (before_share share.number share.of (length parts))
+    (share_of share parts)
 
 -- ---- a rechunking
 
@@ -90,6 +94,7 @@ group_json at of group = object (member (codes "from") (array (sources_items gro
 abbrev pub group_line : (at of : Option ℕ) → Group → List ℕ
 group_line at of group = line_of (group_json at of group)
 
--- the lines of a rechunking
-abbrev pub rechunking_lines : List Group → List ℕ
-rechunking_lines groups = lines_from (λ n. group_line (counted n) (counted (length groups))) 0 groups
+-- the lines of a share of a rechunking
+abbrev pub rechunking_lines : Share → List Group → List ℕ
+rechunking_lines share groups =
+    lines_from (λ n. group_line (counted n) (counted (length groups))) (before_share share.number share.of (length groups)) (share_of share groups)

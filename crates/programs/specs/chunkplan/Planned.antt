@@ -18,17 +18,17 @@ pub record IsReadPlan (ds : List Dimension) (IsKeyOf : List ℕ → List ℕ →
   pub some : (¬ IsEmptyBox subset) → IsPlan ds IsKeyOf subset parts
   pub none : IsEmptyBox subset → parts ≡ []
 
--- The plan that a document asks for, as text: of a read of a box of elements, or of all, or of a rechunking into the chunks of a box, or into all.
+-- The share of the plan that a document asks for, as text: of a read of a box of elements, or of all, or of a rechunking into the chunks of a box, or into all.
 pub data IsPlanned (document : Document) (text : List ℕ) : Type 0 where
   of_read : (subset : Option Box) (grid : Grid) (encoding : Encoding) (parts : List Part) → document.task ≡ read_of subset
       → IsStored document.stored document.shape grid encoding
-      → IsReadPlan grid.dimensions (IsKey encoding) (unwrap_or subset (array_box grid.dimensions)) parts → text ≡ read_lines parts
+      → IsReadPlan grid.dimensions (IsKey encoding) (unwrap_or subset (array_box grid.dimensions)) parts → text ≡ read_lines document.share parts
       → IsPlanned document text
   of_rechunking : (stored : Stored) (chunks : Option Box) (source target : Grid) (source_encoding target_encoding : Encoding) (groups : List Group)
       → document.task ≡ rechunk_to stored chunks → IsStored document.stored document.shape source source_encoding
       → IsStored stored document.shape target target_encoding
       → IsRechunking source.dimensions (IsKey source_encoding) target.dimensions (IsKey target_encoding)
-      (unwrap_or chunks (all_chunks_box target.dimensions)) groups → text ≡ rechunking_lines groups → IsPlanned document text
+      (unwrap_or chunks (all_chunks_box target.dimensions)) groups → text ≡ rechunking_lines document.share groups → IsPlanned document text
 
 -- the text that the program writes for an input
 pub record IsPlanOf (input text : List ℕ) : Type 0 where

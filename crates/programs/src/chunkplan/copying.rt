@@ -1,10 +1,10 @@
 //! The lines of a plan, sent as they are made.
-ghost use Rattle.std.specs.Prelude.{◌≡◌, ℕ, suc, List};
+ghost use Rattle.std.specs.Prelude.{◌≡◌, ℕ, suc, List, length};
 ghost use Rattle.zarrs_chunk_base.specs.ArraySubset.{IsBox};
 ghost use Rattle.zarrs_chunk_plan.specs.Counted.{counted};
 ghost use Rattle.zarrs_chunk_plan.specs.Rechunking.{Group};
 ghost use Rattle.zarrs_chunk_plan.specs.declared.part.Part.{Part as PartValue};
-ghost use Rattle.zarrs_chunk_plan.specs.seen.Copies.{AreGroupsToCome, CanCopy, targets_in_all};
+ghost use Rattle.zarrs_chunk_plan.specs.seen.Copies.{AreGroupsToCome, CanCopy, all_targets};
 ghost use Rattle.zarrs_chunk_plan.specs.seen.Parts.{ArePartsToCome, HasKeys, MeetSubset};
 ghost use Rattle.programs.specs.chunkplan.Line.{group_line, lines_from};
 ghost use Rattle.programs.specs.chunkplan.seen.Pieces.{text_as};
@@ -21,7 +21,7 @@ use zarrs_chunk_keys::ChunkKeyEncodingTraits;
 use zarrs_chunk_plan::{ChunkCopies, Copies, Parts};
 use zarrs_chunks::ChunkGridTraits;
 
-/// Sends the text of each part that a walk has left, in one form.
+/// Sends the text of each part that a walk has left, in one form; the first one has the number `first`.
 ///
 /// # Errors
 /// A write failed, or out of memory. What was sent by then is a beginning of these texts.
@@ -29,20 +29,21 @@ pub(crate) fn write_parts<G: ChunkGridTraits, E: ChunkKeyEncodingTraits, W: Writ
     alloc: Global,
     walk: Parts<'_, G, E>,
     form: Form,
+    first: Option<u64>,
     held_back: &mut Vec<u8>,
     writer: &mut Watched<W>,
 ) -> Result<(), RunFault>
     requires meet { MeetSubset G.dimensions walk }
     requires is_box { IsBox walk.array_subset }
     requires keys { HasKeys (E.is_key walk.encoding.now) }
-    ensures { StepLeaves
+    ensures { (begin : ℕ) → first ≡ counted begin → StepLeaves
         (λ text. (parts : List PartValue) × ArePartsToCome G.dimensions E.is_key walk.entry parts
-        × (text ≡ lines_from (λ number. text_as form (counted number)) 0 parts))
+        × (text ≡ lines_from (λ number. text_as form (counted number)) begin parts))
         (λ _. ⊥) result
         (output W.contents held_back.old.items writer.old)
         (output W.contents held_back.new.items writer.new) }
 {
-    let mut number = Some(0);
+    let mut number = first;
     for part in walk {
         let text = part_text(alloc, &part?, number, form)?;
         send_text(&text, held_back, writer)?;
@@ -51,7 +52,7 @@ pub(crate) fn write_parts<G: ChunkGridTraits, E: ChunkKeyEncodingTraits, W: Writ
     Ok(())
 }
 
-/// Sends a line for each chunk of the target into which a walk has something left to copy.
+/// Sends a line for each chunk of the target into which a walk has something left to copy; the first one has the number `first`.
 ///
 /// # Errors
 /// As `write_parts`.
@@ -64,6 +65,7 @@ pub(crate) fn write_copies<
 >(
     alloc: Global,
     walk: Copies<'_, G, E, H, F>,
+    first: Option<u64>,
     held_back: &mut Vec<u8>,
     writer: &mut Watched<W>,
 ) -> Result<(), RunFault>
@@ -71,17 +73,18 @@ pub(crate) fn write_copies<
     requires is_box { IsBox walk.targets.array_subset }
     requires keys { HasKeys (E.is_key walk.source.now.encoding) }
     requires target_keys { HasKeys (F.is_key walk.targets.encoding.now) }
-    ensures { StepLeaves
+    requires numbered { (begin : ℕ) × (first ≡ counted begin) }
+    ensures { (begin : ℕ) → first ≡ counted begin → StepLeaves
         (λ text. (groups : List Group)
         × AreGroupsToCome G.dimensions E.is_key H.dimensions F.is_key walk.entry groups
-        × (text ≡ lines_from (λ number. group_line (counted number) (targets_in_all walk.entry))
-        0 groups))
+        × (text ≡ lines_from (λ number. group_line (counted number)
+        (counted (length (all_targets walk.entry)))) begin groups))
         (λ _. ⊥) result
         (output W.contents held_back.old.items writer.old)
         (output W.contents held_back.new.items writer.new) }
 {
     let of = walk.in_all();
-    let mut number = Some(0);
+    let mut number = first;
     for group in walk {
         write_group(alloc, group?, number, of, held_back, writer)?;
         number = following(number);
@@ -111,7 +114,7 @@ fn write_group<G: ChunkGridTraits, E: ChunkKeyEncodingTraits, W: Write>(
 {
     let ChunkCopies { to, from } = group;
     send_text(LINE_BEGIN, held_back, writer)?;
-    write_parts(alloc, from, Form::Source, held_back, writer)?;
+    write_parts(alloc, from, Form::Source, Some(0), held_back, writer)?;
     let end = line_end(alloc, &to, number, of)?;
     send_text(&end, held_back, writer)
 }

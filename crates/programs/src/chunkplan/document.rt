@@ -11,11 +11,13 @@ ghost use Rattle.programs.specs.declared.chunkplan.run_fault.RunFault.TheVariant
 use crate::chunkplan::RunFault;
 use crate::chunkplan::boxes::member_box;
 use crate::chunkplan::known_members::{DOCUMENT, ZARR_JSON, agree, check_known};
+use crate::chunkplan::share::member_share;
 use crate::document::{read_object, read_shape, required_member, take_stored};
 use crate::stored::Stored;
 use serde_json::Value;
 use std::alloc::Global;
 use zarrs_chunk_base::{ArraySubset, Refusal, take_member};
+use zarrs_chunk_plan::Share;
 
 /// What a document asks for.
 #[derive(Drop)]
@@ -30,6 +32,7 @@ pub(crate) enum Task {
 #[derive(Drop)]
 pub(crate) struct Document {
     pub(crate) shape: Vec<u64>,
+    pub(crate) share: Share,
     pub(crate) stored: Stored,
     pub(crate) task: Task,
 }
@@ -38,7 +41,7 @@ pub(crate) struct Document {
 ///
 /// # Errors
 /// The first that applies: the input is no JSON, or no object; a member isn't known; one is missing; one doesn't go with the others; one isn't of its
-/// form, of `shape`, `chunk_grid`, `chunk_key_encoding`, and of `subset`, or of `target` and `chunks`; before its own members, the target has one
+/// form, of `shape`, `share`, `chunk_grid`, `chunk_key_encoding`, and of `subset`, or of `target` and `chunks`; before its own members, the target has one
 /// that isn't known, or is of another array. Or out of memory.
 pub(crate) fn parse(alloc: Global, input: &[u8]) -> Result<Document, RunFault>
     ensures { MatchResult result
@@ -61,10 +64,12 @@ fn document_from(alloc: Global, mut tree: Value) -> Result<Document, RunFault>
     required_member(&tree, "chunk_key_encoding", "chunk_key_encoding")?;
     check_fitting(&tree)?;
     let shape = read_shape(alloc, &tree)?;
+    let share = member_share(alloc, &tree)?;
     let stored = take_stored(alloc, &mut tree, "chunk_grid", "chunk_key_encoding")?;
     let task = task_from(alloc, tree)?;
     Ok(Document {
         shape,
+        share,
         stored,
         task,
     })

@@ -26,8 +26,9 @@ pub(crate) const ZARR_JSON: [&str; 11] = [
 ];
 
 /// What a document may have.
-pub(crate) const DOCUMENT: [&str; 14] = [
+pub(crate) const DOCUMENT: [&str; 15] = [
     "chunks",
+    "share",
     "subset",
     "target",
     "attributes",

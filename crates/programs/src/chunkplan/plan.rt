@@ -25,7 +25,7 @@ use std::alloc::{AllocError, Global};
 use std::io::Write;
 use zarrs_chunk_base::{ArraySubset, IncompatibleDimensionalityError, Refusal};
 use zarrs_chunk_keys::{ChunkKeyEncoding, ChunkKeyEncodingTraits};
-use zarrs_chunk_plan::{StoredArray, all_chunks, copies, parts, whole_array};
+use zarrs_chunk_plan::{Share, StoredArray, all_chunks, copies, parts, whole_array};
 use zarrs_chunks::{ChunkGrid, ChunkGridTraits};
 
 /// Sends the plan that a document asks for, line by line.
@@ -46,6 +46,7 @@ pub(crate) fn write_plan<W: Write>(
 {
     let Document {
         shape,
+        share,
         stored,
         task,
     } = document;
@@ -53,12 +54,12 @@ pub(crate) fn write_plan<W: Write>(
     match task {
         Task::Read(subset) => {
             let subset = or_whole_array(alloc, subset, &array.grid)?;
-            write_read(alloc, &array, &subset, held_back, writer)
+            write_read(alloc, &array, &subset, &share, held_back, writer)
         }
         Task::Rechunk(target, chunks) => {
             let target = open_target(alloc, target, &shape)?;
             let chunks = or_all_chunks(alloc, chunks, &target.grid)?;
-            write_rechunking(alloc, &array, &target, &chunks, held_back, writer)
+            write_rechunking(alloc, &array, &target, &chunks, &share, held_back, writer)
         }
     }
 }
@@ -112,11 +113,12 @@ fn or_all_chunks<G: ChunkGridTraits>(
     }
 }
 
-/// Sends the plan of reading a box of elements.
+/// Sends a share of the plan of reading a box of elements.
 fn write_read<G: ChunkGridTraits, E: ChunkKeyEncodingTraits, W: Write>(
     alloc: Global,
     array: &StoredArray<G, E>,
     subset: &ArraySubset,
+    share: &Share,
     held_back: &mut Vec<u8>,
     writer: &mut Watched<W>,
 ) -> Result<(), RunFault>
@@ -124,7 +126,7 @@ fn write_read<G: ChunkGridTraits, E: ChunkKeyEncodingTraits, W: Write>(
     ensures { StepLeaves
         (λ text. (parts : List PartValue)
         × IsReadPlan (G.dimensions array.now.grid) (E.is_key array.now.encoding) subset.now parts
-        × (text ≡ read_lines parts))
+        × (text ≡ read_lines share.now parts))
         (IsReadFault (G.dimensions array.now.grid) subset.now) result
         (output W.contents held_back.old.items writer.old)
         (output W.contents held_back.new.items writer.new) }
@@ -136,9 +138,10 @@ fn write_read<G: ChunkGridTraits, E: ChunkKeyEncodingTraits, W: Write>(
         return Err(RunFault::SubsetDimensionality(error));
     }
     match parts(alloc, &array.grid, &array.encoding, subset) {
-        Ok(Some(walk)) => {
+        Ok(Some(mut walk)) => {
             let form = Form::Line(walk.in_all());
-            write_parts(alloc, walk, form, held_back, writer)
+            let first = walk.share(share)?;
+            write_parts(alloc, walk, form, first, held_back, writer)
         }
         Ok(None) => Err(RunFault::Uncovered),
         Err(Refusal::Refused(error)) => Err(RunFault::SubsetDimensionality(error)),
@@ -146,7 +149,7 @@ fn write_read<G: ChunkGridTraits, E: ChunkKeyEncodingTraits, W: Write>(
     }
 }
 
-/// Sends the plan of a rechunking into the chunks of a box.
+/// Sends a share of the plan of a rechunking into the chunks of a box.
 fn write_rechunking<
     G: ChunkGridTraits,
     E: ChunkKeyEncodingTraits,
@@ -158,6 +161,7 @@ fn write_rechunking<
     source: &StoredArray<G, E>,
     target: &StoredArray<H, F>,
     chunks: &ArraySubset,
+    share: &Share,
     held_back: &mut Vec<u8>,
     writer: &mut Watched<W>,
 ) -> Result<(), RunFault>
@@ -169,13 +173,16 @@ fn write_rechunking<
         (λ text. (groups : List Group)
         × IsRechunking (G.dimensions source.now.grid) (E.is_key source.now.encoding)
         (H.dimensions target.now.grid) (F.is_key target.now.encoding) chunks.now groups
-        × (text ≡ rechunking_lines groups))
+        × (text ≡ rechunking_lines share.now groups))
         (IsChunksFault (H.dimensions target.now.grid) chunks.now) result
         (output W.contents held_back.old.items writer.old)
         (output W.contents held_back.new.items writer.new) }
 {
     match copies(alloc, source, target, chunks) {
-        Ok(walk) => write_copies(alloc, walk, held_back, writer),
+        Ok(mut walk) => {
+            let first = walk.share(share)?;
+            write_copies(alloc, walk, first, held_back, writer)
+        }
         Err(Refusal::Refused(error)) => Err(RunFault::Copies(error)),
         Err(Refusal::Memory(_)) => Err(RunFault::Memory),
     }

@@ -17,7 +17,7 @@ use Rattle.zarrs_chunk_plan.specs.declared.copies_error.CopiesError.TheVariants.
 use Rattle.zarrs_chunk_plan.specs.declared.part.Part.{Part}
 use Rattle.zarrs_chunk_plan.specs.declared.stored_array.StoredArray.{StoredArray}
 use Rattle.zarrs_chunk_plan.specs.declared.walk.Parts.{Parts}
-use Rattle.zarrs_chunk_plan.specs.seen.Parts.{IsAbout, MeetSubset, chunks_to_come, offsets_to_come, parts_in_all}
+use Rattle.zarrs_chunk_plan.specs.seen.Parts.{IsAbout, MeetSubset, all_chunks, chunks_to_come, offsets_to_come}
 
 module _ {G E H F : Type 0} where
   -- the chunks of the target into which the copies are still to come; and they, counted from the first one
@@ -27,9 +27,9 @@ module _ {G E H F : Type 0} where
   abbrev pub target_offsets : Copies G E H F → List (List ℕ)
   target_offsets walk = offsets_to_come walk.targets
 
-  -- how many chunks of the target there are in all, as far as a number tells it
-  abbrev pub targets_in_all : Copies G E H F → Option ℕ
-  targets_in_all walk = parts_in_all walk.targets
+  -- all chunks of the target, those that came too
+  abbrev pub all_targets : Copies G E H F → List (List ℕ)
+  all_targets walk = all_chunks walk.targets
 
   -- the array as it is to be stored
   abbrev pub target_of : Copies G E H F → StoredArray H F
@@ -74,7 +74,7 @@ pub record GivesCopies {G E H F : Type 0} (source_dimensions : G → List Dimens
       → IfGroup (λ group. IsPlanned source_dimensions before.source.now.grid before.source.now.encoding group.to.in_subset group.from) given
   pub about : IsAboutCopies before.source.now (target_of before) before.targets.array_subset after
   pub can : CanCopy source_dimensions target_dimensions before → CanCopy source_dimensions target_dimensions after
-  pub in_all : targets_in_all after ≡ targets_in_all before
+  pub all : all_targets after ≡ all_targets before
 
 -- groups, without where they lie in memory
 abbrev pub groups_of : List (Part × Vec Part Global) → List Group

@@ -11,7 +11,7 @@ use Rattle.zarrs_chunk_base.specs.declared.refusal.Refusal.{Refusal}
 use Rattle.zarrs_chunk_base.specs.declared.refusal.Refusal.TheVariants.{Refused, Memory}
 use Rattle.zarrs_chunks.specs.Subsets.{HasNoHome, IsCover}
 use Rattle.zarrs_chunks.specs.Walks.{Gives, chunks_in}
-use Rattle.zarrs_chunks.specs.seen.Walks.{chunks_in_left, offsets_left}
+use Rattle.zarrs_chunk_plan.specs.seen.ChunksBetween.{all_between, chunks_between, offsets_between}
 use Rattle.zarrs_chunk_plan.specs.Plan.{IsPart, Meets}
 use Rattle.zarrs_chunk_plan.specs.declared.part.Part.{Part}
 use Rattle.zarrs_chunk_plan.specs.declared.walk.Parts.{Parts}
@@ -19,14 +19,14 @@ use Rattle.zarrs_chunk_plan.specs.declared.walk.Parts.{Parts}
 module _ {G E : Type 0} where
   -- the chunks of which the parts are still to come; and they, counted from the first chunk of the cover
   abbrev pub chunks_to_come : Parts G E → List (List ℕ)
-  chunks_to_come walk = chunks_in_left walk.chunks
+  chunks_to_come walk = chunks_between walk.chunks
 
   abbrev pub offsets_to_come : Parts G E → List (List ℕ)
-  offsets_to_come walk = offsets_left walk.chunks
+  offsets_to_come walk = offsets_between walk.chunks
 
-  -- how many parts there are in all, as far as a number tells it
-  abbrev pub parts_in_all : Parts G E → Option ℕ
-  parts_in_all walk = walk.in_all
+  -- the chunks of all parts, those that came too
+  abbrev pub all_chunks : Parts G E → List (List ℕ)
+  all_chunks walk = all_between walk.chunks
 
   -- the walk is over this grid, this encoding and this box of elements
   pub record IsAbout (grid : G) (encoding : E) (subset : Box) (walk : Parts G E) : Type 0 where
@@ -75,4 +75,4 @@ pub record GivesPart {G E : Type 0} (dimensions : G → List Dimension) (is_key 
       → IfPart (λ part. IsPart (dimensions before.grid.now) (is_key before.encoding.now) before.array_subset part.chunk.items part) given
   pub about : IsAbout before.grid.now before.encoding.now before.array_subset after
   pub meet : MeetSubset dimensions before → MeetSubset dimensions after
-  pub in_all : parts_in_all after ≡ parts_in_all before
+  pub all : all_chunks after ≡ all_chunks before

@@ -1,10 +1,10 @@
 //! The walk over the chunk numbers in a box.
-ghost use Rattle.std.specs.Prelude.{◌≡◌, ◌+◌, ◌≤◌, ℕ, IfOk, length, slice_index_or};
+ghost use Rattle.std.specs.Prelude.{◌≡◌, IfOk};
 ghost use Rattle.zarrs_chunk_axes.specs.seen.RowMajorWalk.{shape_of};
-ghost use Rattle.zarrs_chunk_base.specs.Greatest.{greatest};
 ghost use Rattle.zarrs_chunks.specs.Walks.{chunks_in};
 
 use std::alloc::{AllocError, Global};
+use zarrs_chunk_axes::row_major::count_from;
 use zarrs_chunk_axes::{ArrayIndicesTinyVec, RowMajorWalk};
 use zarrs_chunk_base::ArraySubset;
 
@@ -75,19 +75,5 @@ impl Iterator for ChunkIndicesInSubset {
             }
             Err(error) => Some(Err(error)),
         }
-    }
-}
-
-/// Adds a start to numbers that were counted from it.
-fn count_from(numbers: &mut [u64], start: &[u64])
-    requires lengths { length numbers.old ≡ length start.now }
-    requires fits { (k : ℕ) → slice_index_or start.now k 0 + slice_index_or numbers.old k 0
-        ≤ greatest }
-    ensures length { length numbers.new ≡ length numbers.old }
-    ensures sum { (k : ℕ) → slice_index_or numbers.new k 0
-        ≡ slice_index_or start.now k 0 + slice_index_or numbers.old k 0 }
-{
-    for (dimension, first) in start.iter().enumerate() {
-        numbers[dimension] += first;
     }
 }

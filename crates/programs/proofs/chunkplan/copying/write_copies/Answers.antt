@@ -1,30 +1,30 @@
-use Rattle.std.proofs.Common.{◌≡◌, ◌∙◌, ℕ, suc, List, [], ◌∷◌, ◌++◌, Err, ap, refl, sym}
+use Rattle.std.proofs.Common.{◌≡◌, ◌∙◌, ℕ, suc, List, [], ◌∷◌, ◌++◌, Err, ap, length, refl, arith}
 use Rattle.std.proofs.lemmas.Result.{err_from_is_err_and}
 use Rattle.zarrs_chunk_plan.specs.Counted.{counted}
 use Rattle.zarrs_chunk_plan.specs.Rechunking.{Group}
 use Rattle.zarrs_chunk_plan.specs.declared.part.Part.{Part}
-use Rattle.zarrs_chunk_plan.specs.seen.Copies.{AreGroupsToCome, targets_in_all}
+use Rattle.zarrs_chunk_plan.specs.seen.Copies.{AreGroupsToCome, all_targets}
 use Rattle.zarrs_chunk_plan.specs.seen.Parts.{ArePartsToCome}
 use Rattle.zarrs_chunk_plan.proofs.Copied.{GroupsHaveCome, first_group, last_group, one_more_group}
 use Rattle.programs.specs.chunkplan.Line.{group_line}
 use Rattle.programs.specs.seen.Sent.{Output, output}
 use Rattle.programs.proofs.Sent.{sends_nothing}
 use Rattle.programs.proofs.chunkplan.Begun.{groups_ahead}
-use Rattle.programs.proofs.chunkplan.Numbered.{IsLineOf, counted_first, way_ends, way_goes_on, way_memory, way_stops}
+use Rattle.programs.proofs.chunkplan.Numbered.{IsLineOf, way_ends, way_goes_on, way_memory, way_stops}
 use Rattle.programs.proofs.chunkplan.Steps.{step_follows}
 use Rattle.programs.proofs.chunkplan.copying.write_copies.Goals as goal
 
 pub loop-group-init : goal.loop-group-init
-loop-group-init g c = (
-  0,
-  sym counted_first,
+loop-group-init g c = λ begin is_first. (
+  begin,
+  is_first,
   (
     [],
     (
       [],
       first_group g.G.ChunkGridTraits.dimensions g.E.ChunkKeyEncodingTraits.is_key g.H.ChunkGridTraits.dimensions g.F.ChunkKeyEncodingTraits.is_key
           c.args.walk c.into_iter-group-iterator.result [] c.into_iter-group-iterator.ensures.into_iter_gives refl c.requires.can,
-      refl,
+      omega arith,
       refl,
     ),
     sends_nothing (output g.W.Write.contents c.args.held_back.now.items c.args.writer.now),
@@ -33,8 +33,8 @@ loop-group-init g c = (
 )
 
 pub loop-group-preserved : goal.loop-group-preserved
-loop-group-preserved g c =
-    let (n, number_is, sent) = c.loop-group.invariant in
+loop-group-preserved g c = λ begin is_first.
+    let (n, number_is, sent) = c.loop-group.invariant begin is_first in
     let group = c.in_ok-group.field-0 in
     let dimensions = g.G.ChunkGridTraits.dimensions in
     let is_key = g.E.ChunkKeyEncodingTraits.is_key in
@@ -44,7 +44,7 @@ loop-group-preserved g c =
     let (text, (from, are, is), more, failed) = rw c.in_all-of.ensures at c.in_ok-write_group.ensures in (
       suc n,
       c.following-number.ensures n number_is,
-      way_goes_on (λ n. group_line (counted n) (targets_in_all c.args.walk))
+      way_goes_on (λ n. group_line (counted n) (counted (length (all_targets c.args.walk)))) begin
           (GroupsHaveCome dimensions is_key also also_key c.args.walk c.loop-group.group-iterator)
           (GroupsHaveCome dimensions is_key also also_key c.args.walk c.next.new.self) (λ _. ⊥)
           (λ y. (from : List Part) × ArePartsToCome dimensions is_key group.from from × (y ≡ (group.to, from))) n
@@ -55,28 +55,44 @@ loop-group-preserved g c =
           from came (came ++ y ∷ []) have gives are (rw same refl))
           (
             text,
-            ((group.to, from), (from, are, refl), is ∙ ap (λ number. group_line number (targets_in_all c.args.walk) (group.to, from)) number_is),
+            ((group.to, from), (from, are, refl), is ∙ ap (λ number. group_line number (counted (length (all_targets c.args.walk))) (group.to, from)) number_is),
             more,
             failed,
           ),
     )
 
+pub write_group-requires-clause-meet : goal.write_group-requires-clause-meet
+write_group-requires-clause-meet g c =
+    let (n, number_is, (text, (came, (chunks, left, are, about, can), many, lines), sends, same)) =
+    c.loop-group.invariant c.requires.numbered.0 c.requires.numbered.1
+    in
+    let gives = rw c.in_ok-group.was at c.in-Some.ensures.steps in
+    (gives.from can).meet
+
+pub write_group-requires-clause-keys : goal.write_group-requires-clause-keys
+write_group-requires-clause-keys g c =
+    let (n, number_is, (text, (came, (chunks, left, are, about, can), many, lines), sends, same)) =
+    c.loop-group.invariant c.requires.numbered.0 c.requires.numbered.1
+    in
+    let gives = rw c.in_ok-group.was at c.in-Some.ensures.steps in
+    rw ((gives.from can).about.same_encoding, about.same_source) c.requires.keys
+
 -- ---- where it stops
 
 pub returns-in_err-group : goal.returns-in_err-group
-returns-in_err-group g c =
+returns-in_err-group g c = λ begin is_first.
     let p = err_from_is_err_and c.from_residual.result c.from_residual.ensures.1 in
-    let (n, number_is, sent) = c.loop-group.invariant in
+    let (n, number_is, sent) = c.loop-group.invariant begin is_first in
     rw (p.1, p.2)
-    (way_memory (λ n. group_line (counted n) (targets_in_all c.args.walk)) _ _ n _ _ sent
+    (way_memory (λ n. group_line (counted n) (counted (length (all_targets c.args.walk)))) begin _ _ n _ _ sent
     (groups_ahead g.G.ChunkGridTraits.dimensions g.E.ChunkKeyEncodingTraits.is_key g.H.ChunkGridTraits.dimensions g.F.ChunkKeyEncodingTraits.is_key
     c.args.walk (g.met.G.ChunkGridTraits.chained c.args.walk.source.now.grid) (g.met.H.ChunkGridTraits.chained c.args.walk.targets.grid.now)
     c.requires.keys c.requires.target_keys c.requires.is_box c.loop-group.group-iterator))
 
 pub returns-in_err-write_group : goal.returns-in_err-write_group
-returns-in_err-write_group g c =
+returns-in_err-write_group g c = λ begin is_first.
     let p = err_from_is_err_and c.from_residual-in_err-write_group.result c.from_residual-in_err-write_group.ensures.1 in
-    let (n, number_is, sent) = c.loop-group.invariant in
+    let (n, number_is, sent) = c.loop-group.invariant begin is_first in
     let group = c.in_ok-group.field-0 in
     let dimensions = g.G.ChunkGridTraits.dimensions in
     let is_key = g.E.ChunkKeyEncodingTraits.is_key in
@@ -85,19 +101,19 @@ returns-in_err-write_group g c =
     let gives = rw c.in_ok-group.was at c.in-Some.ensures.steps in
     let between : Output = output g.W.Write.contents c.loop-group.held_back.items c.loop-group.writer in
     let after : Output = output g.W.Write.contents c.write_group.new.held_back.items c.write_group.new.writer in
-    let of = targets_in_all c.args.walk in
+    let of = counted (length (all_targets c.args.walk)) in
     let Line : ℕ → Group → List ℕ = λ n. group_line (counted n) of in
     let IsOne : Group → Type 0 = λ y. (from : List Part) × ArePartsToCome dimensions is_key group.from from × (y ≡ (group.to, from)) in
     let ahead = groups_ahead dimensions is_key also also_key c.args.walk (g.met.G.ChunkGridTraits.chained c.args.walk.source.now.grid)
     (g.met.H.ChunkGridTraits.chained c.args.walk.targets.grid.now) c.requires.keys c.requires.target_keys c.requires.is_box in
     rw (p.1, p.2)
-    (way_stops Line (GroupsHaveCome dimensions is_key also also_key c.args.walk c.loop-group.group-iterator)
+    (way_stops Line begin (GroupsHaveCome dimensions is_key also also_key c.args.walk c.loop-group.group-iterator)
     (GroupsHaveCome dimensions is_key also also_key c.args.walk c.next.new.self) (AreGroupsToCome dimensions is_key also also_key c.args.walk) IsOne n
     (output g.W.Write.contents c.args.held_back.now.items c.args.writer.now) between after sent
     (λ came y have (from, are, same). one_more_group dimensions is_key also also_key c.args.walk c.loop-group.group-iterator c.next.new.self group
     from came (came ++ y ∷ []) have gives are (rw same refl))
     (ahead c.loop-group.group-iterator) (ahead c.next.new.self) _
-    (step_follows _ (IsLineOf Line IsOne n) (λ _. ⊥) (λ _. ⊥)
+    (step_follows _ (IsLineOf Line begin IsOne n) (λ _. ⊥) (λ _. ⊥)
     (λ text (from, are, is). (
       (group.to, from),
       (from, are, refl),
@@ -107,8 +123,8 @@ returns-in_err-write_group g c =
     (λ fault none. none) between after (Err _) c.in_err-write_group.ensures))
 
 pub returns : goal.returns
-returns g c =
-    let (n, number_is, sent) = c.loop-group.invariant in
-    way_ends (λ n. group_line (counted n) (targets_in_all c.args.walk)) _ _ n _ _ sent
+returns g c = λ begin is_first.
+    let (n, number_is, sent) = c.loop-group.invariant begin is_first in
+    way_ends (λ n. group_line (counted n) (counted (length (all_targets c.args.walk)))) begin _ _ n _ _ sent
     (λ came have. last_group g.G.ChunkGridTraits.dimensions g.E.ChunkKeyEncodingTraits.is_key g.H.ChunkGridTraits.dimensions
     g.F.ChunkKeyEncodingTraits.is_key c.args.walk c.loop-group.group-iterator c.next.new.self came have c.in-None.ensures.steps)

@@ -1,19 +1,19 @@
-use Rattle.std.proofs.Common.{◌≡◌, ℕ}
+use Rattle.std.proofs.Common.{◌≡◌, ℕ, length}
 use Rattle.zarrs_chunk_plan.proofs.Copied.{GroupsHaveCome}
 use Rattle.zarrs_chunk_plan.specs.Counted.{counted}
-use Rattle.zarrs_chunk_plan.specs.seen.Copies.{targets_in_all}
+use Rattle.zarrs_chunk_plan.specs.seen.Copies.{all_targets}
 use Rattle.programs.specs.chunkplan.Line.{group_line}
 use Rattle.programs.specs.chunkplan.seen.Steps.{HasSent}
 use Rattle.programs.specs.seen.Sent.{output}
 use Rattle.programs.proofs.chunkplan.Numbered.{Came}
 use Rattle.programs.proofs.chunkplan.copying.write_copies.Given as goal
 
--- so many groups came, and their lines were sent or are held back
+-- the next group has the number, and the lines of those that came were sent or are held back
 abbrev pub invariant-loop-group : goal.invariant-loop-group
 invariant-loop-group g l =
-    (n : ℕ) × (l.number ≡ counted n)
+    (begin : ℕ) → l.fn.first ≡ counted begin → (n : ℕ) × (l.number ≡ counted n)
     × HasSent
-    (Came (λ n. group_line (counted n) (targets_in_all l.fn.walk))
+    (Came (λ n. group_line (counted n) (counted (length (all_targets l.fn.walk)))) begin
     (GroupsHaveCome g.G.ChunkGridTraits.dimensions g.E.ChunkKeyEncodingTraits.is_key g.H.ChunkGridTraits.dimensions g.F.ChunkKeyEncodingTraits.is_key
     l.fn.walk l.group-iterator) n)
     (output g.W.Write.contents l.initial.held_back.items l.initial.writer) (output g.W.Write.contents l.held_back.items l.writer)

@@ -14,7 +14,7 @@ use Rattle.programs.specs.declared.chunkplan.line.Form.TheVariants.{Source}
 use Rattle.programs.specs.seen.Sent.{output}
 use Rattle.programs.proofs.chunkplan.Begun.{parts_ahead}
 use Rattle.programs.proofs.chunkplan.Behind.{Begins, Behind, ends_behind, memory_after, sent_behind, stops_behind, stops_whole}
-use Rattle.programs.proofs.chunkplan.Numbered.{IsTextOf}
+use Rattle.programs.proofs.chunkplan.Numbered.{IsTextOf, counted_first}
 use Rattle.programs.proofs.chunkplan.Pieces.{in_pieces}
 use Rattle.programs.proofs.chunkplan.copying.write_group.Goals as goal
 
@@ -25,7 +25,7 @@ Head text = text ≡ codes "{\"from\":["
 
 module _ (AreAll : List Part → Type 0) where
   abbrev Sources : List ℕ → Type 0
-  Sources = IsTextOf (λ n. text_as Source (counted n)) AreAll
+  Sources = IsTextOf (λ n. text_as Source (counted n)) 0 AreAll
 
   module _ (at of : Option ℕ) (to : Part) where
     abbrev IsLine : List ℕ → Type 0
@@ -76,7 +76,7 @@ returns-in_err-write_parts g c =
     (output g.W.Write.contents c.write_parts.new.held_back.items c.write_parts.new.writer) c.in_ok-send_text.ensures
     (begun g.G.ChunkGridTraits.dimensions g.E.ChunkKeyEncodingTraits.is_key group.from (g.met.G.ChunkGridTraits.chained group.from.grid.now)
     c.requires.keys c.requires.is_box c.requires.meet c.args.number c.args.of group.to)
-    (sources_begin AreAll c.args.number c.args.of group.to) _ c.in_err-write_parts.ensures)
+    (sources_begin AreAll c.args.number c.args.of group.to) _ (c.in_err-write_parts.ensures 0 (sym counted_first)))
 
 pub returns-in_err-end : goal.returns-in_err-end
 returns-in_err-end g c =
@@ -89,7 +89,7 @@ returns-in_err-end g c =
     rw (p.1, p.2)
     (memory_after (Behind Head (Sources AreAll)) (IsLine AreAll c.args.number c.args.of group.to)
     (sources_begin AreAll c.args.number c.args.of group.to) before now
-    (sent_behind Head (Sources AreAll) (λ _. ⊥) before between now c.in_ok-send_text.ensures c.in_ok-write_parts.ensures))
+    (sent_behind Head (Sources AreAll) (λ _. ⊥) before between now c.in_ok-send_text.ensures (c.in_ok-write_parts.ensures 0 (sym counted_first))))
 
 pub returns : goal.returns
 returns g c =
@@ -100,7 +100,7 @@ returns g c =
     let now = output g.W.Write.contents c.write_parts.new.held_back.items c.write_parts.new.writer in
     let ends = rw (c.deref.ensures.value) at c.send_text-2.ensures in
     ends_behind (Behind Head (Sources AreAll)) (λ text. text ≡ c.in_ok-end.end.items) (IsLine AreAll c.args.number c.args.of group.to) before now _
-    (sent_behind Head (Sources AreAll) (λ _. ⊥) before between now c.in_ok-send_text.ensures c.in_ok-write_parts.ensures)
+    (sent_behind Head (Sources AreAll) (λ _. ⊥) before between now c.in_ok-send_text.ensures (c.in_ok-write_parts.ensures 0 (sym counted_first)))
     (sources_begin AreAll c.args.number c.args.of group.to)
     (λ text (most, last, both, is, all). is_line AreAll c.args.number c.args.of group.to text (most, last, both, is ∙ c.in_ok-end.ensures, all))
     c.send_text-2.result ends

@@ -1,4 +1,4 @@
-use Rattle.std.proofs.Common.{◌≡◌, ◌∙◌, ℕ, suc, List, [], ◌∷◌, ◌++◌, Err, ap, refl, sym}
+use Rattle.std.proofs.Common.{◌≡◌, ◌∙◌, ℕ, suc, List, [], ◌∷◌, ◌++◌, Err, ap, refl, arith}
 use Rattle.std.proofs.lemmas.Result.{err_from_is_err_and}
 use Rattle.zarrs_chunk_plan.specs.Counted.{counted}
 use Rattle.zarrs_chunk_plan.specs.declared.part.Part.{Part}
@@ -8,21 +8,21 @@ use Rattle.programs.specs.chunkplan.seen.Pieces.{text_as}
 use Rattle.programs.specs.seen.Sent.{Output, output}
 use Rattle.programs.proofs.Sent.{sends_nothing}
 use Rattle.programs.proofs.chunkplan.Begun.{parts_ahead}
-use Rattle.programs.proofs.chunkplan.Numbered.{IsLineOf, counted_first, way_ends, way_goes_on, way_memory, way_stops}
+use Rattle.programs.proofs.chunkplan.Numbered.{IsLineOf, way_ends, way_goes_on, way_memory, way_stops}
 use Rattle.programs.proofs.chunkplan.Steps.{step_follows}
 use Rattle.programs.proofs.chunkplan.copying.write_parts.Goals as goal
 
 pub loop-part-init : goal.loop-part-init
-loop-part-init g c = (
-  0,
-  sym counted_first,
+loop-part-init g c = λ begin is_first. (
+  begin,
+  is_first,
   (
     [],
     (
       [],
       at_first g.G.ChunkGridTraits.dimensions g.E.ChunkKeyEncodingTraits.is_key c.args.walk c.into_iter-part-iterator.result []
           c.into_iter-part-iterator.ensures.into_iter_gives refl c.requires.meet,
-      refl,
+      omega arith,
       refl,
     ),
     sends_nothing (output g.W.Write.contents c.args.held_back.now.items c.args.writer.now),
@@ -31,8 +31,8 @@ loop-part-init g c = (
 )
 
 pub loop-part-preserved : goal.loop-part-preserved
-loop-part-preserved g c =
-    let (n, number_is, sent) = c.loop-part.invariant in
+loop-part-preserved g c = λ begin is_first.
+    let (n, number_is, sent) = c.loop-part.invariant begin is_first in
     let part = c.in_ok-part.field-0 in
     let dimensions = g.G.ChunkGridTraits.dimensions in
     let is_key = g.E.ChunkKeyEncodingTraits.is_key in
@@ -40,7 +40,7 @@ loop-part-preserved g c =
     let (text, is, more, failed) = rw (c.deref.ensures.value, c.in_ok-text.ensures) at c.in_ok-send_text.ensures in (
       suc n,
       c.following-number.ensures n number_is,
-      way_goes_on (λ n. text_as c.args.form (counted n)) (HaveCome dimensions is_key c.args.walk c.loop-part.part-iterator)
+      way_goes_on (λ n. text_as c.args.form (counted n)) begin (HaveCome dimensions is_key c.args.walk c.loop-part.part-iterator)
           (HaveCome dimensions is_key c.args.walk c.next.new.self) (λ _. ⊥) (λ p. p ≡ part) n
           (output g.W.Write.contents c.args.held_back.now.items c.args.writer.now)
           (output g.W.Write.contents c.loop-part.held_back.items c.loop-part.writer)
@@ -53,27 +53,27 @@ loop-part-preserved g c =
 -- ---- where it stops
 
 pub returns-in_err-part : goal.returns-in_err-part
-returns-in_err-part g c =
+returns-in_err-part g c = λ begin is_first.
     let p = err_from_is_err_and c.from_residual.result c.from_residual.ensures.1 in
-    let (n, number_is, sent) = c.loop-part.invariant in
+    let (n, number_is, sent) = c.loop-part.invariant begin is_first in
     rw (p.1, p.2)
-    (way_memory (λ n. text_as c.args.form (counted n)) _ _ n _ _ sent
+    (way_memory (λ n. text_as c.args.form (counted n)) begin _ _ n _ _ sent
     (parts_ahead g.G.ChunkGridTraits.dimensions g.E.ChunkKeyEncodingTraits.is_key c.args.walk (g.met.G.ChunkGridTraits.chained c.args.walk.grid.now)
     c.requires.keys c.requires.is_box c.loop-part.part-iterator))
 
 pub returns-in_err-text : goal.returns-in_err-text
-returns-in_err-text g c =
+returns-in_err-text g c = λ begin is_first.
     let p = err_from_is_err_and c.from_residual-in_err-text.result c.from_residual-in_err-text.ensures.1 in
-    let (n, number_is, sent) = c.loop-part.invariant in
+    let (n, number_is, sent) = c.loop-part.invariant begin is_first in
     rw (p.1, p.2)
-    (way_memory (λ n. text_as c.args.form (counted n)) _ _ n _ _ sent
+    (way_memory (λ n. text_as c.args.form (counted n)) begin _ _ n _ _ sent
     (parts_ahead g.G.ChunkGridTraits.dimensions g.E.ChunkKeyEncodingTraits.is_key c.args.walk (g.met.G.ChunkGridTraits.chained c.args.walk.grid.now)
     c.requires.keys c.requires.is_box c.loop-part.part-iterator))
 
 pub returns-in_err-send_text : goal.returns-in_err-send_text
-returns-in_err-send_text g c =
+returns-in_err-send_text g c = λ begin is_first.
     let p = err_from_is_err_and c.from_residual-in_err-send_text.result c.from_residual-in_err-send_text.ensures.1 in
-    let (n, number_is, sent) = c.loop-part.invariant in
+    let (n, number_is, sent) = c.loop-part.invariant begin is_first in
     let part = c.in_ok-part.field-0 in
     let dimensions = g.G.ChunkGridTraits.dimensions in
     let is_key = g.E.ChunkKeyEncodingTraits.is_key in
@@ -84,19 +84,19 @@ returns-in_err-send_text g c =
     let of_number = ap (λ number. text_as c.args.form number part) number_is in
     let ahead = parts_ahead dimensions is_key c.args.walk (g.met.G.ChunkGridTraits.chained c.args.walk.grid.now) c.requires.keys c.requires.is_box in
     rw (p.1, p.2)
-    (way_stops Line (HaveCome dimensions is_key c.args.walk c.loop-part.part-iterator) (HaveCome dimensions is_key c.args.walk c.next.new.self)
+    (way_stops Line begin (HaveCome dimensions is_key c.args.walk c.loop-part.part-iterator) (HaveCome dimensions is_key c.args.walk c.next.new.self)
     (ArePartsToCome dimensions is_key c.args.walk) (λ p. p ≡ part) n
     (output g.W.Write.contents c.args.held_back.now.items c.args.writer.now) between after sent
     (λ came p have same. one_more dimensions is_key c.args.walk c.loop-part.part-iterator c.next.new.self part came (came ++ p ∷ []) have gives
     (rw same refl))
     (ahead c.loop-part.part-iterator) (ahead c.next.new.self) _
-    (step_follows (λ sent. sent ≡ c.deref.result.now) (IsLineOf Line (λ p. p ≡ part) n) (λ _. ⊥) (λ _. ⊥)
+    (step_follows (λ sent. sent ≡ c.deref.result.now) (IsLineOf Line begin (λ p. p ≡ part) n) (λ _. ⊥) (λ _. ⊥)
     (λ text is. (part, refl, is ∙ c.deref.ensures.value ∙ c.in_ok-text.ensures ∙ of_number)) (λ fault none. none) between after (Err _)
     c.in_err-send_text.ensures))
 
 pub returns : goal.returns
-returns g c =
-    let (n, number_is, sent) = c.loop-part.invariant in
-    way_ends (λ n. text_as c.args.form (counted n)) _ _ n _ _ sent
+returns g c = λ begin is_first.
+    let (n, number_is, sent) = c.loop-part.invariant begin is_first in
+    way_ends (λ n. text_as c.args.form (counted n)) begin _ _ n _ _ sent
     (λ came have. at_last g.G.ChunkGridTraits.dimensions g.E.ChunkKeyEncodingTraits.is_key c.args.walk c.loop-part.part-iterator c.next.new.self came
     have c.in-None.ensures.steps)

@@ -7,11 +7,11 @@ use Rattle.programs.specs.seen.Sent.{output}
 use Rattle.programs.proofs.chunkplan.Numbered.{Came}
 use Rattle.programs.proofs.chunkplan.copying.write_parts.Given as goal
 
--- so many parts came, and their texts were sent or are held back
+-- the next part has the number, and the texts of those that came were sent or are held back
 abbrev pub invariant-loop-part : goal.invariant-loop-part
 invariant-loop-part g l =
-    (n : ℕ) × (l.number ≡ counted n)
+    (begin : ℕ) → l.fn.first ≡ counted begin → (n : ℕ) × (l.number ≡ counted n)
     × HasSent
-    (Came (λ n. text_as l.fn.form (counted n))
+    (Came (λ n. text_as l.fn.form (counted n)) begin
     (HaveCome g.G.ChunkGridTraits.dimensions g.E.ChunkKeyEncodingTraits.is_key l.fn.walk l.part-iterator) n)
     (output g.W.Write.contents l.initial.held_back.items l.initial.writer) (output g.W.Write.contents l.held_back.items l.writer)

@@ -1,6 +1,7 @@
 use Rattle.std.proofs.Common.{◌≡◌, ◌∷◌, ◌∙◌, ap, refl, subst, sym}
 use Rattle.std.specs.List.{AllByRecursion}
-use Rattle.zarrs_chunks.specs.seen.Walks.{chunks_in_left}
+use Rattle.zarrs_chunks.specs.Walks.{chunks_in}
+use Rattle.zarrs_chunk_plan.specs.seen.ChunksBetween.{chunks_between}
 use Rattle.zarrs_chunk_plan.specs.Plan.{IsPart, Meets}
 use Rattle.zarrs_chunk_plan.proofs.walk.PartsIterator.next.Goals as goal
 
@@ -11,8 +12,9 @@ returns-in-Ok-part-clause-steps g c =
     let IsKey = g.E.ChunkKeyEncodingTraits.is_key before.encoding.now in
     let subset = before.array_subset in
     let part = c.in-Ok-part.part in
-    let rest = chunks_in_left c.next.new.self in
-    let gives : chunks_in_left before.chunks ≡ c.in-Ok.chunk.items ∷ rest = rw c.in-Ok.is at c.in_ok-chunk.ensures.steps in
+    let rest = chunks_between c.next.new.self in
+    let steps = rw c.in-Ok.is at c.in_ok-chunk.ensures.steps in
+    let gives : chunks_between before.chunks ≡ c.in-Ok.chunk.items ∷ rest = steps.gives in
     let same : part.chunk.items ≡ c.in-Ok.chunk.items = c.in-Ok-part.ensures.chunk in
     record {
       gives = gives ∙ ap (λ first. first ∷ rest) (sym same);
@@ -21,5 +23,5 @@ returns-in-Ok-part-clause-steps g c =
           subst (λ first. IsPart ds IsKey subset first part) (sym same) (c.in-Ok-part.ensures.part meets.0);
       about = record { same_grid = refl; same_encoding = refl; same_subset = refl };
       meet = λ meet. (subst (AllByRecursion (Meets ds subset)) gives meet).1;
-      in_all = refl;
+      all = ap chunks_in steps.chunks;
     }

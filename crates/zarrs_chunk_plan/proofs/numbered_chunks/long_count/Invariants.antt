@@ -1,6 +1,6 @@
 use Rattle.std.proofs.Common.{◌≡◌, ◌-◌, ◌^◌, length, min, take}
 use Rattle.zarrs_chunk_axes.specs.RowMajor.{row_major}
-use Rattle.zarrs_chunk_plan.proofs.numbered_chunks.count_of.Given as goal
+use Rattle.zarrs_chunk_plan.proofs.numbered_chunks.long_count.Given as goal
 
 -- so many lists are below the sizes so far, as far as 128 bits count them
 abbrev pub invariant-loop-size : goal.invariant-loop-size

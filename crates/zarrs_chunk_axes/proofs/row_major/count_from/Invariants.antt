@@ -1,5 +1,5 @@
 use Rattle.std.proofs.Common.{◌≡◌, ℕ, ◌+◌, ◌<◌, ◌≤◌, length, slice_index_or}
-use Rattle.zarrs_chunks.proofs.walks.chunk_indices_in_subset.count_from.Given as goal
+use Rattle.zarrs_chunk_axes.proofs.row_major.count_from.Given as goal
 
 -- the dimensions so far hold the sum, the others still the numbers that were given
 abbrev pub invariant-loop-dimension : goal.invariant-loop-dimension
