@@ -48,6 +48,11 @@ def numbered(lines):
     return [{**line, "number": number, "of": len(lines)} for number, line in enumerate(lines)]
 
 
+def share(count, number, of):
+    """Which of so many lines are in one of several shares: from its part of all, rounded down, on up to the next one's."""
+    return range(number * count // of, (number + 1) * count // of)
+
+
 def read(grid, encoding, start, shape):
     """The plan that reads a box of elements."""
 

@@ -13,10 +13,25 @@ const LINES: &[u8] =
 {"chunk":[1],"in_chunk":[[0],[1]],"in_subset":[[3],[1]],"key":"1","number":1,"of":2,"shape":[3],"whole":true}
 "#;
 
-/// A reader that fails after so many reads is told, and nothing is written then.
-fn check_read(rt: &(impl Abort + AllocGlobal), reads: usize, fault: ErrorKind, succeeds: bool) {
+/// The same array, of which the second of two shares is asked for.
+const SHARE: &[u8] =
+    br#"{"shape":[4],"chunk_grid":{"name":"regular","configuration":{"chunk_shape":[3]}},"chunk_key_encoding":"v2","share":[1,2]}"#;
+
+const LINE_OF_SHARE: &[u8] =
+    br#"{"chunk":[1],"in_chunk":[[0],[1]],"in_subset":[[3],[1]],"key":"1","number":1,"of":2,"shape":[3],"whole":true}
+"#;
+
+/// A reader of a document that fails after so many reads is told, and nothing is written then; the lines are, where it doesn't fail.
+fn check_read(
+    rt: &(impl Abort + AllocGlobal),
+    asked: (&[u8], &[u8]),
+    reads: usize,
+    fault: ErrorKind,
+    succeeds: bool,
+) {
+    let (document, lines) = asked;
     let mut reader = Watched::new(FailingReader {
-        rest: DOCUMENT,
+        rest: document,
         reads,
         fault,
     });
@@ -30,29 +45,38 @@ fn check_read(rt: &(impl Abort + AllocGlobal), reads: usize, fault: ErrorKind, s
         "chunkplan: input failed\n",
         reads,
     );
-    let lines = if succeeds { LINES } else { b"".as_slice() };
-    check_bytes(rt, writer.inner(), lines, reads);
+    let written = if succeeds { lines } else { b"".as_slice() };
+    check_bytes(rt, writer.inner(), written, reads);
     check_that(rt, reader.failed() != succeeds, reads);
+}
+
+/// The same of each number of reads up to the one that is enough.
+fn check_reads(rt: &(impl Abort + AllocGlobal), asked: (&[u8], &[u8]), enough: usize) {
+    for fault in [ErrorKind::Other, ErrorKind::OutOfMemory] {
+        for reads in 0..=enough {
+            check_read(rt, asked, reads, fault, reads == enough);
+        }
+    }
 }
 
 #[test]
 fn a_failed_read_is_told(rt: HostRuntime) {
     let enough = DOCUMENT.len().div_ceil(16) + 1;
-    for fault in [ErrorKind::Other, ErrorKind::OutOfMemory] {
-        for reads in 0..=enough {
-            check_read(&rt, reads, fault, reads == enough);
-        }
-    }
+    check_reads(&rt, (DOCUMENT, LINES), enough);
+    let enough = SHARE.len().div_ceil(16) + 1;
+    check_reads(&rt, (SHARE, LINE_OF_SHARE), enough);
 }
 
-/// A writer that fails after so many writes, or at the flush, is told, and has taken as much of the lines.
+/// A writer that fails after so many writes, or at the flush, is told, and has taken as much of the document's lines.
 fn check_write(
     rt: &(impl Abort + AllocGlobal),
+    asked: (&[u8], &[u8]),
     writes: usize,
     fault: Option<ErrorKind>,
     flush_fails: bool,
     taken: &[u8],
 ) {
+    let (document, lines) = asked;
     let mut writer = Watched::new(FailingWriter {
         taken: Vec::new(rt.alloc()),
         writes,
@@ -60,9 +84,9 @@ fn check_write(
         flush_fails,
     });
     let mut errors = Vec::new(rt.alloc());
-    let mut reader = Watched::new(DOCUMENT);
+    let mut reader = Watched::new(document);
     let status = run_to_status(rt.alloc(), &mut reader, &mut writer, &mut errors);
-    let succeeds = writes == LINES.len() && !flush_fails;
+    let succeeds = writes == lines.len() && !flush_fails;
     check_ending(
         rt,
         (status, &errors),
@@ -74,13 +98,19 @@ fn check_write(
     check_that(rt, writer.failed() != succeeds, writes);
 }
 
-#[test]
-fn a_failed_write_leaves_a_beginning(rt: HostRuntime) {
+/// The same of each number of writes up to the one that is enough.
+fn check_writes(rt: &(impl Abort + AllocGlobal), document: &[u8], lines: &[u8]) {
     let other = Some(ErrorKind::Other);
     for (fault, flush_fails) in [(other, false), (None, false), (other, true)] {
-        for writes in 0..=LINES.len() {
-            let (taken, _) = LINES.split_at(writes);
-            check_write(&rt, writes, fault, flush_fails, taken);
+        for writes in 0..=lines.len() {
+            let (taken, _) = lines.split_at(writes);
+            check_write(rt, (document, lines), writes, fault, flush_fails, taken);
         }
     }
+}
+
+#[test]
+fn a_failed_write_leaves_a_beginning(rt: HostRuntime) {
+    check_writes(&rt, DOCUMENT, LINES);
+    check_writes(&rt, SHARE, LINE_OF_SHARE);
 }
