@@ -1,4 +1,4 @@
-//! `chunkplan` writes what a read or a rechunking of a Zarr array copies, a line for each copy.
+//! `chunkplan` writes what a read or a rechunking of a Zarr array copies, a line for each chunk that is read or written.
 //!
 //! | Module | What it holds |
 //! |---|---|

@@ -1,5 +1,6 @@
 -- A walk through the lists below a shape from one on up to another: where it begins, and how it goes on.
-use Rattle.std.proofs.Common.{◌≡◌, ◌↔◌, ◌⊎◌, ◌∙◌, ℕ, zero, suc, ◌+◌, ◌-◌, ◌<◌, ◌≤◌, Bool, true, false, IsTrue, List, [], ◌∷◌, ◌++◌, Contains, Option, Some, None}
+use Rattle.std.proofs.Common.{◌≡◌, ◌↔◌, ◌⊎◌, ◌∙◌, ℕ, zero, suc, ◌+◌, ◌-◌, ◌<◌, ◌≤◌, Bool, true}
+use Rattle.std.proofs.Common.{false, IsTrue, List, [], ◌∷◌, ◌++◌, Contains, Option, Some, None}
 use Rattle.std.proofs.Common.{drop, length, map, take, refl, ap, inl, inr, sym, true≢false, ⊎_elim, arith}
 use Rattle.std.proofs.Math.Seq.{drop-nil, take-nil}
 use Rattle.std.proofs.lemmas.Bool.{cases_lt}

@@ -1,8 +1,9 @@
 -- The place of a list below a shape among all of them, and the list at a part of the way.
-use Rattle.std.proofs.Common.{◌≡◌, ◌≢◌, ◌∙◌, ℕ, zero, suc, ◌+◌, ◌-◌, ◌*◌, ◌<◌, ◌≤◌, ◌/◌, ◌%◌, List, [], ◌∷◌, ◌++◌, Contains, drop, length, map, refl, ap, sym, ⊎_elim, arith}
+use Rattle.std.proofs.Common.{◌≡◌, ◌∙◌, ℕ, zero, suc, ◌+◌, ◌-◌, ◌*◌, ◌<◌, ◌≤◌, ◌/◌, ◌%◌, List, []}
+use Rattle.std.proofs.Common.{◌∷◌, ◌++◌, Contains, drop, length, map, refl, ap, sym, ⊎_elim, arith}
 use Rattle.std.proofs.Math.Nat.{div-add-mod, div-eq_of_lt, div-mul-le_self, mod-lt, mul-add-div, mul-suc, mul-zero, mul_assoc, mul_comm}
 use Rattle.std.proofs.lemmas.Bool.{cases_lt}
-use Rattle.std.proofs.lemmas.List.{drop-append-le, drop-map, length-append, length-drop, length-map}
+use Rattle.std.proofs.lemmas.List.{drop-append-le, drop-map, length-drop, length-map}
 use Rattle.std.proofs.Math.Seq.{drop-append-add}
 use Rattle.zarrs_chunk_axes.specs.InBounds.{AreBelow}
 use Rattle.zarrs_chunk_axes.specs.RowMajor.{row_major, rows}

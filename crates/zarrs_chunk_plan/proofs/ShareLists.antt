@@ -1,5 +1,5 @@
 -- Shares of a list: together they are the list, and what is one of a list that is tied to another is so of that one.
-use Rattle.std.proofs.Common.{◌≡◌, ◌∙◌, ℕ, zero, suc, ◌+◌, ◌-◌, ◌*◌, ◌<◌, ◌≤◌, List, [], ◌∷◌, ◌++◌, drop, length, take, append_assoc, refl, ap, subst, sym, arith}
+use Rattle.std.proofs.Common.{◌≡◌, ◌∙◌, ℕ, zero, suc, ◌+◌, ◌-◌, ◌*◌, ◌<◌, ◌≤◌, List, [], ◌∷◌, ◌++◌, drop, length, take, refl, ap, subst, sym, arith}
 use Rattle.std.proofs.Math.Nat.{div-eq_of_lt, div-le_of_le-mul}
 use Rattle.std.proofs.Math.Seq.{drop-append_seam, drop-nil, take-add, take-append_seam, take-length}
 use Rattle.std.proofs.lemmas.List.{length-drop, length-take, take-append-drop}
@@ -96,8 +96,7 @@ module _ {X Y : Type 0} (M : X → Type 0) (R : X → Y → Type 0)
       (let at : first + (end - first) ≡ end = omega arith in
       ap (λ k. between first end xs ++ drop k xs) (sym at) ∙ ap (λ ys. between first end xs ++ ys) (sym (drop_more (end - first) first xs)))
       ∙ take-append-drop (end - first) (drop first xs)
-      in
-      (
+      in (
         before ++ (ys ++ behind),
         subst (λ all. AllZip R all (before ++ (ys ++ behind)))
             (ap (λ zs. take first xs ++ zs) rest ∙ take-append-drop first xs)
@@ -117,6 +116,7 @@ module _ {X Y : Type 0} (M : X → Type 0) (R : X → Y → Type 0)
       let high : before_share (share.number + 1) share.of count ≤ count =
       div-le_of_le-mul share.of (let most = times_le (share.number + 1) share.of count (omega arith) in most)
       in
-      let (all, tied, is) = within (before_share share.number share.of count) (before_share (share.number + 1) share.of count) xs ys meet low high are in
+      let (all, tied, is) =
+      within (before_share share.number share.of count) (before_share (share.number + 1) share.of count) xs ys meet low high are in
       let long : length all ≡ count = AllZip-long R xs all tied in
       (all, tied, rw long is, long)

@@ -119,5 +119,8 @@ has_all_of ds b chunk origin edges is_box meets is long =
       sym (within_lengths b.start b.shape index inside) ∙ length_values Holds ds chunk index box ∙ sym many,
       length_values HasEdge ds chunk edges long ∙ sym many,
       length-map ds (λ (d : Dimension). d.array_size) ∙ sym many,
-      (λ rest other in_chunk in_array. rest other ((held other).1 in_chunk) in_array, λ has other in_chunk in_array. has other ((held other).0 in_chunk) in_array),
+      (
+        λ rest other in_chunk in_array. rest other ((held other).1 in_chunk) in_array,
+        λ has other in_chunk in_array. has other ((held other).0 in_chunk) in_array,
+      ),
     )

@@ -1,5 +1,6 @@
 -- Whether a box has all elements of an array that a chunk holds.
-use Rattle.std.proofs.Common.{◌≡◌, ◌↔◌, ℕ, zero, suc, ◌+◌, ◌-◌, ◌<◌, ◌≤◌, Bool, true, false, IsTrue, List, [], ◌∷◌, length, min, refl, sym, true≢false, ⊎_elim, arith}
+use Rattle.std.proofs.Common.{◌≡◌, ◌↔◌, ℕ, zero, suc, ◌+◌, ◌-◌, ◌<◌, ◌≤◌, Bool, true, false, IsTrue}
+use Rattle.std.proofs.Common.{List, [], ◌∷◌, length, min, refl, sym, true≢false, ⊎_elim, arith}
 use Rattle.std.proofs.lemmas.Bool.{cases_lt}
 use Rattle.std.specs.Bool.{MatchBool}
 use Rattle.std.specs.List.{AllByRecursion, AllWithin, HoldsAt, zip}
@@ -112,7 +113,8 @@ pub test_rest : (b : Box) (origin edges sizes : List ℕ) → length edges ≡ l
     → length b.start ≡ length origin → length b.shape ≡ length origin → Test (HoldsRest b origin edges sizes)
 test_rest b origin edges sizes c d e f = of (test_all _ (λ p. test_le 1 (min p.0.1 (p.1 - p.0.0))) (zip (zip origin edges) sizes)) where
   of : Test (HoldSome origin edges sizes) → Test (HoldsRest b origin edges sizes)
-  of (false, is) = (true, (λ _ index in_chunk in_array. absurd (true≢false (sym (is.1 (none_held origin edges sizes index in_chunk in_array)))), λ _. refl))
+  of (false, is) =
+      (true, (λ _ index in_chunk in_array. absurd (true≢false (sym (is.1 (none_held origin edges sizes index in_chunk in_array)))), λ _. refl))
   of (true, is) =
       let rest = rest_held origin edges sizes b.start b.shape c d e f (is.0 refl) in
       let (r, told) = test_all RangeReaches

@@ -43,7 +43,7 @@ pub record AreShared (ds : List Dimension) (subset : Box) (chunk : List ℕ) (in
   pub from_chunk : IsCountedFrom origin shared in_chunk
   pub from_subset : IsCountedFrom subset.start shared in_subset
 
--- the part of a chunk: that chunk, a key of it, its shape, the elements that it shares with the box, and whether these are all that it has of the array
+-- the part of a chunk: that chunk, a key of it, its shape, whether the box has all that it has of the array, and the elements that it shares with it
 pub record IsPart (ds : List Dimension) (IsKey : List ℕ → List ℕ → Type 0) (subset : Box) (chunk : List ℕ) (part : Part) : Type 0 where
   pub numbers : part.chunk.items ≡ chunk
   pub key : IsKey chunk part.key

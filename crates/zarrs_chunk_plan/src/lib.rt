@@ -32,8 +32,8 @@
 #![tactic(auto)]
 
 mod boxes_from_zero;
-mod chunks_between;
 mod chunk_copies;
+mod chunks_between;
 mod copies_error;
 pub mod laws;
 mod numbered_chunks;

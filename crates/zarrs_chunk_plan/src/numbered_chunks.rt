@@ -75,7 +75,11 @@ pub(crate) fn count_of(shape: &[u64]) -> Option<u64>
     ensures { result ≡ counted (length (row_major shape.now)) }
 {
     let count = long_count(shape);
-    if count <= u64::MAX as u128 { Some(count as u64) } else { None }
+    if count <= u64::MAX as u128 {
+        Some(count as u64)
+    } else {
+        None
+    }
 }
 
 /// How many lists of numbers are below a shape; 2 ^ 128 - 1 means that many or more.

@@ -46,7 +46,12 @@ pub(crate) fn part_of<G: ChunkGridTraits, E: ChunkKeyEncodingTraits>(
         array_subset.now chunk.items) }
 {
     let shared = shared_elements(alloc, grid, array_subset, chunk.as_slice())?;
-    let Shared { shape, in_chunk, in_subset, whole } = shared;
+    let Shared {
+        shape,
+        in_chunk,
+        in_subset,
+        whole,
+    } = shared;
     let key = encoding.encode(alloc, chunk.as_slice())?;
     Ok(Part {
         key,

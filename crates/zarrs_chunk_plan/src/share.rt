@@ -44,6 +44,10 @@ impl Share {
         let (number, of) = (self.number as u128, self.of as u128);
         let whole = (count / of).checked_mul(number)?;
         let before = whole.checked_add(count % of * number / of)?;
-        if before <= u64::MAX as u128 { Some(before as u64) } else { None }
+        if before <= u64::MAX as u128 {
+            Some(before as u64)
+        } else {
+            None
+        }
     }
 }

@@ -122,12 +122,7 @@ fn size_shared(first: u64, size: u64, start: u64, other: u64) -> u64
 }
 
 /// Whether a box of elements has all elements of an array that a chunk holds, which begins at an origin and has these edges.
-fn has_all(
-    array_subset: &ArraySubset,
-    origin: &[u64],
-    edges: &[u64],
-    array_shape: &[u64],
-) -> bool
+fn has_all(array_subset: &ArraySubset, origin: &[u64], edges: &[u64], array_shape: &[u64]) -> bool
     ensures { length array_subset.now.start ≡ length origin.now
         → length edges.now ≡ length origin.now → length array_shape.now ≡ length origin.now
         → IsTrue result ↔ HoldsRest array_subset.now origin.now edges.now array_shape.now }

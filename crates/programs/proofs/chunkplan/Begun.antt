@@ -1,6 +1,6 @@
 -- What a walk has given, and what it would still have given, are what it had to give; and what a share of it gives is a share of that.
 use Rattle.std.proofs.Common.{◌≡◌, ℕ, List, ◌++◌, length}
-use Rattle.std.specs.List.{AllByRecursion, AllZip}
+use Rattle.std.specs.List.{AllByRecursion}
 use Rattle.zarrs_chunk_base.specs.ArraySubset.{IsBox}
 use Rattle.zarrs_chunk_base.specs.Dimension.{Dimension, IsChain}
 use Rattle.zarrs_chunk_plan.specs.Plan.{IsPart, Meets}

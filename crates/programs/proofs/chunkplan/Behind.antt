@@ -1,7 +1,7 @@
 -- Texts that are sent one behind another.
 use Rattle.std.proofs.Common.{◌≡◌, ◌∙◌, ℕ, List, [], ◌++◌, Result, Ok, Err, inl, inr, append-nil, refl, subst, sym, ⊎_elim}
 use Rattle.programs.specs.chunkplan.seen.Steps.{HasBegun, HasSent, StepLeaves}
-use Rattle.programs.specs.seen.Sent.{Output, Sends}
+use Rattle.programs.specs.seen.Sent.{Output}
 use Rattle.programs.specs.declared.chunkplan.run_fault.RunFault.{RunFault}
 use Rattle.programs.specs.declared.chunkplan.run_fault.RunFault.TheVariants.{Memory, Write}
 use Rattle.programs.proofs.Sent.{sends_longer, sends_more}

@@ -1,6 +1,5 @@
 -- Lines of what a walk gives, one after another, each by its number.
 use Rattle.std.proofs.Common.{◌≡◌, ◌∙◌, ℕ, suc, ◌+◌, List, [], ◌∷◌, ◌++◌, Some, length, length-append, append_assoc, append-nil, ap, refl, sym, arith}
-use Rattle.zarrs_chunk_base.specs.Greatest.{greatest}
 use Rattle.zarrs_chunk_plan.specs.Counted.{counted}
 use Rattle.programs.specs.chunkplan.Line.{lines_from}
 use Rattle.programs.specs.chunkplan.seen.Steps.{HasSent}
@@ -18,7 +17,8 @@ abbrev pub IsTextOf : {Y : Type 0} → (line : ℕ → Y → List ℕ) (begin : 
 IsTextOf {Y} line begin AreAll text = (all : List Y) × AreAll all × (text ≡ lines_from line begin all)
 
 module _ {Y : Type 0} (line : ℕ → Y → List ℕ) (begin : ℕ) where
-  lines_both : (first : ℕ) (ys others : List Y) → lines_from line first (ys ++ others) ≡ lines_from line first ys ++ lines_from line (first + length ys) others
+  lines_both : (first : ℕ) (ys others : List Y)
+      → lines_from line first (ys ++ others) ≡ lines_from line first ys ++ lines_from line (first + length ys) others
   lines_both first [] others = ap (λ n. lines_from line n others) (let same : first ≡ first + 0 = omega arith in same)
   lines_both first (y ∷ ys) others =
       let same : suc first + length ys ≡ first + suc (length ys) = omega arith in
@@ -43,7 +43,9 @@ module _ {Y : Type 0} (line : ℕ → Y → List ℕ) (begin : ℕ) where
     came ++ y ∷ [],
     more came y have is,
     (let longer = length-append came (y ∷ []) in omega arith),
-    both ∙ rw (lines, last, ← many) (sym (lines_both begin came (y ∷ []) ∙ ap (λ text. lines_from line begin came ++ text) (last_line (begin + length came) y))),
+    both
+        ∙ rw (lines, last, ← many)
+        (sym (lines_both begin came (y ∷ []) ∙ ap (λ text. lines_from line begin came ++ text) (last_line (begin + length came) y))),
   )
 
   -- with what would still come, the text goes on

@@ -1,5 +1,6 @@
 -- A line in the pieces in which it is sent is the line.
-use Rattle.std.proofs.Common.{◌≡◌, ◌∙◌, ℕ, zero, suc, ◌<◌, ◌≤◌, Bool, true, false, List, [], ◌∷◌, ◌++◌, codes, Option, append_assoc, ap, refl, sym, ⊎_elim}
+use Rattle.std.proofs.Common.{◌≡◌, ◌∙◌, ℕ, zero, suc, ◌<◌, ◌≤◌, Bool, true, false, List, []}
+use Rattle.std.proofs.Common.{◌∷◌, ◌++◌, codes, Option, append_assoc, ap, refl, sym, ⊎_elim}
 use Rattle.std.proofs.lemmas.Grind.{fold-append}
 use Rattle.std.specs.List.{fold}
 use Rattle.json.specs.Json.{Json, null, boolean, number, string, array, object, Items, no_items, item, Members, no_members, member}
@@ -65,7 +66,8 @@ sources_texts n (from ∷ others) ts =
     let rest = items_tokens (sources_items others) in
     ap (print_from (some_came n)) (append_assoc js rest ts)
     ∙ print_from-append (some_came n) js (rest ++ ts)
-    ∙ rw (json_ends (some_came n) (source_json from), source_text n from) (ap (λ text. text_as Source (counted n) from ++ text) (sources_texts (suc n) others ts))
+    ∙ rw (json_ends (some_came n) (source_json from), source_text n from)
+    (ap (λ text. text_as Source (counted n) from ++ text) (sources_texts (suc n) others ts))
     ∙ sym (append_assoc (text_as Source (counted n) from) _ _)
 
 pub in_pieces : (at of : Option ℕ) (to : Part) (from : List Part)

@@ -7,7 +7,8 @@ use Rattle.programs.specs.Streams.{IsReadToEnd, IsWritten, Streams}
 use Rattle.programs.specs.Watched.{IsReadFailure}
 use Rattle.programs.specs.chunkplan.Document.{Document}
 use Rattle.programs.specs.chunkplan.DocumentFault.{HasBoxFault, IsBoxFormFault, IsFormFault, IsMisfit, IsTargetMisfit, IsTaskFault}
-use Rattle.programs.specs.chunkplan.DocumentFault.{misfit, misformed_shape, misformed_share, misformed_stored, misformed_task, missing, no_object, not_of_form}
+use Rattle.programs.specs.chunkplan.DocumentFault.{misfit, misformed_shape, misformed_share, misformed_stored, misformed_task, missing}
+use Rattle.programs.specs.chunkplan.DocumentFault.{no_object, not_of_form}
 use Rattle.programs.specs.chunkplan.DocumentFault.{IsUnknownFault, TellsMissing, TellsWrongValue, of_misfit, of_target_stored, unknown}
 use Rattle.programs.specs.chunkplan.DocumentFault.{of_chunks as of_chunks_box, of_subset as of_subset_box, of_target as of_target_tree}
 use Rattle.programs.specs.chunkplan.PlanFault.{IsChunksFault, IsFirstFault, IsPlanFault, IsReadFault, IsTargetFault, no_document, no_plan, of_chunks}

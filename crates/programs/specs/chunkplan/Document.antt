@@ -1,5 +1,6 @@
 -- The program's document: a JSON object with the members `shape`, `chunk_grid` and `chunk_key_encoding`, and either `subset`, which may be
--- absent, or `target` and `chunks`, which may be absent; and `share`, which may be absent too. What else an array's `zarr.json` has may stand in it and in the target.
+-- absent, or `target` and `chunks`, which may be absent; and `share`, which may be absent too. What else an array's `zarr.json` has may stand in
+-- it and in the target.
 use Rattle.std.specs.Prelude.{◌≡◌, ◌⊎◌, ℕ, List, Option, Some, None, IsSome, codes, MatchOption}
 use Rattle.serde_json.specs.Data.{Data}
 use Rattle.serde_json.specs.Find.{get}

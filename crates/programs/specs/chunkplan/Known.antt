@@ -1,6 +1,6 @@
 -- The members that a document may have, and those in which source and target have to agree.
 -- Source: Zarr V3 core, array metadata; `share`, `subset`, `target` and `chunks` are this program's own.
-use Rattle.std.specs.Prelude.{◌≡◌, ◌≢◌, ℕ, List, [], ◌∷◌, Some, codes, false, string_bytes}
+use Rattle.std.specs.Prelude.{◌≡◌, ◌≢◌, ℕ, List, [], ◌∷◌, ◌++◌, Some, codes, false, string_bytes}
 use Rattle.serde_json.specs.Data.{Data, Members}
 use Rattle.serde_json.specs.Find.{as_object, get}
 use Rattle.serde_json.specs.Written.{compact_text, has_float}
@@ -15,7 +15,7 @@ zarr_json_members =
 
 -- those of a document: these, and what is asked of the array
 abbrev pub known_members : List (List ℕ)
-known_members = codes "chunks" ∷ codes "share" ∷ codes "subset" ∷ codes "target" ∷ zarr_json_members
+known_members = zarr_json_members ++ codes "chunks" ∷ codes "share" ∷ codes "subset" ∷ codes "target" ∷ []
 
 -- each member of the object is one of these
 abbrev pub HasOnly : List (List ℕ) → Data → Type 0

@@ -18,7 +18,8 @@ pub record IsReadPlan (ds : List Dimension) (IsKeyOf : List ℕ → List ℕ →
   pub some : (¬ IsEmptyBox subset) → IsPlan ds IsKeyOf subset parts
   pub none : IsEmptyBox subset → parts ≡ []
 
--- The share of the plan that a document asks for, as text: of a read of a box of elements, or of all, or of a rechunking into the chunks of a box, or into all.
+-- The share of the plan that a document asks for, as text: of a read of a box of elements, or of all, or of a rechunking into the chunks of a box,
+-- or into all.
 pub data IsPlanned (document : Document) (text : List ℕ) : Type 0 where
   of_read : (subset : Option Box) (grid : Grid) (encoding : Encoding) (parts : List Part) → document.task ≡ read_of subset
       → IsStored document.stored document.shape grid encoding

@@ -27,10 +27,6 @@ pub(crate) const ZARR_JSON: [&str; 11] = [
 
 /// What a document may have.
 pub(crate) const DOCUMENT: [&str; 15] = [
-    "chunks",
-    "share",
-    "subset",
-    "target",
     "attributes",
     "chunk_grid",
     "chunk_key_encoding",
@@ -42,6 +38,10 @@ pub(crate) const DOCUMENT: [&str; 15] = [
     "shape",
     "storage_transformers",
     "zarr_format",
+    "chunks",
+    "share",
+    "subset",
+    "target",
 ];
 
 /// A member that isn't known.

@@ -1,4 +1,4 @@
-use Rattle.std.proofs.Common.{rules, ◌≡◌, ◌∙◌, IsTrue, length, refl, sym, tests, true≢false}
+use Rattle.std.proofs.Common.{rules, ◌∙◌, refl, sym, tests, true≢false}
 use Rattle.std.proofs.lemmas.Iterator.{YieldsList-from_slice, YieldsList-from_zip, cases_from_all}
 use Rattle.std.proofs.lemmas.Iterator.Consumers.{YieldsList-at}
 use Rattle.zarrs_chunk_plan.proofs.Wholes.{RangeReaches, none_held, rest_held, tells_all}

@@ -1,4 +1,4 @@
-use Rattle.std.proofs.Common.{◌≡◌, ◌∙◌, length, sym}
+use Rattle.std.proofs.Common.{◌≡◌}
 use Rattle.std.proofs.lemmas.List.Elements.{same_from_all_zip}
 use Rattle.zarrs_chunk_base.specs.Dimension.{IsOrigin, IsShape}
 use Rattle.zarrs_chunk_plan.proofs.Shares.{boxes_are, has_all_of}

@@ -51,11 +51,15 @@ loop-group-preserved g c = λ begin is_first.
           (output g.W.Write.contents c.args.held_back.now.items c.args.writer.now)
           (output g.W.Write.contents c.loop-group.held_back.items c.loop-group.writer)
           (output g.W.Write.contents c.write_group.new.held_back.items c.write_group.new.writer) sent
-          (λ came y have (from, are, same). one_more_group dimensions is_key also also_key c.args.walk c.loop-group.group-iterator c.next.new.self group
-          from came (came ++ y ∷ []) have gives are (rw same refl))
-          (
+          (λ came y have (from, are, same).
+          one_more_group dimensions is_key also also_key c.args.walk c.loop-group.group-iterator c.next.new.self group
+          from came (came ++ y ∷ []) have gives are (rw same refl)) (
             text,
-            ((group.to, from), (from, are, refl), is ∙ ap (λ number. group_line number (counted (length (all_targets c.args.walk))) (group.to, from)) number_is),
+            (
+              (group.to, from),
+              (from, are, refl),
+              is ∙ ap (λ number. group_line number (counted (length (all_targets c.args.walk))) (group.to, from)) number_is,
+            ),
             more,
             failed,
           ),

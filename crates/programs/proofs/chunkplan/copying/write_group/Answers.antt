@@ -34,7 +34,12 @@ module _ (AreAll : List Part → Type 0) where
     head_begins : (from : List Part) → AreAll from → Begins Head IsLine
     head_begins from are text is = (
       lines_from (λ n. text_as Source (counted n)) 0 from ++ end_of_line at of to,
-      (from, are, rw is (sym (append_assoc (codes "{\"from\":[") (lines_from (λ n. text_as Source (counted n)) 0 from) (end_of_line at of to))) ∙ sym (in_pieces at of to from)),
+      (
+        from,
+        are,
+        rw is (sym (append_assoc (codes "{\"from\":[") (lines_from (λ n. text_as Source (counted n)) 0 from) (end_of_line at of to)))
+            ∙ sym (in_pieces at of to from),
+      ),
     )
 
     sources_begin : Begins (Behind Head Sources) IsLine

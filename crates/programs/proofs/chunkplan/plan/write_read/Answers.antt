@@ -8,7 +8,7 @@ use Rattle.programs.specs.chunkplan.PlanFault.{IsReadFault}
 use Rattle.programs.specs.seen.Sent.{output}
 use Rattle.programs.proofs.chunkplan.Begun.{parts_of_share, share_meets}
 use Rattle.programs.proofs.chunkplan.ReadPlans.{is_read_plan}
-use Rattle.programs.proofs.chunkplan.Steps.{early, step_follows}
+use Rattle.programs.proofs.chunkplan.Steps.{step_follows}
 use Rattle.programs.proofs.chunkplan.plan.write_read.Goals as goal
 
 pub write_parts-requires-clause-meet : goal.write_parts-requires-clause-meet
@@ -43,16 +43,18 @@ returns-in_ok-first-in-Ok-Some g c =
     (rw about.same_grid (g.met.G.ChunkGridTraits.chained c.args.array.now.grid)) (rw about.same_encoding c.requires)
     (rw about.same_subset c.start-dimensionality.ensures.is_box) parts are
     in
-    let count : length (all_chunks walk) ≡ length all = ap length all_come ∙ sym long in
-    (
+    let count : length (all_chunks walk) ≡ length all = ap length all_come ∙ sym long in (
       all,
       is_read_plan dimensions is_key c.args.array.now.grid c.args.array.now.encoding c.args.subset.now walk all
           c.start-dimensionality.ensures.is_box many about (rw is at said.empty) (rw is at said.answers) are_all,
       lines
-          ∙ ap (λ of. lines_from (λ n part. line_of (part_json (counted n) of part)) (before_share share.number share.of (length (all_chunks walk))) parts)
+          ∙ ap
+          (λ of. lines_from (λ n part. line_of (part_json (counted n) of part)) (before_share share.number share.of (length (all_chunks walk))) parts)
           c.in_all.ensures
           ∙ ap (λ k. lines_from (λ n part. line_of (part_json (counted n) (counted k) part)) (before_share share.number share.of k) parts) count
-          ∙ ap (λ ps. lines_from (λ n part. line_of (part_json (counted n) (counted (length all)) part)) (before_share share.number share.of (length all)) ps)
+          ∙ ap
+          (λ ps. lines_from (λ n part. line_of (part_json (counted n) (counted (length all)) part))
+          (before_share share.number share.of (length all)) ps)
           (sym is_share),
     ))
     (λ fault none. absurd none)

@@ -39,10 +39,10 @@ returns-in_ok-first-in-Ok g c =
     g.F.ChunkKeyEncodingTraits.is_key walk c.share.new.self share shared.about (shared.left ∙ ap (share_of share) said.all) said.can_copy
     (rw about.same_source (g.met.G.ChunkGridTraits.chained c.args.source.now.grid))
     (rw about.targets.same_grid (g.met.H.ChunkGridTraits.chained c.args.target.now.grid))
-    (rw about.same_source c.requires.keys) (rw about.targets.same_encoding c.requires.target_keys) (rw about.targets.same_subset said.is_box) groups come
+    (rw about.same_source c.requires.keys) (rw about.targets.same_encoding c.requires.target_keys)
+    (rw about.targets.same_subset said.is_box) groups come
     in
-    let count : length (all_targets walk) ≡ length all = ap length said.all ∙ sym long in
-    (
+    let count : length (all_targets walk) ≡ length all = ap length said.all ∙ sym long in (
       all,
       rechunking_of g.G.ChunkGridTraits.dimensions g.E.ChunkKeyEncodingTraits.is_key g.H.ChunkGridTraits.dimensions g.F.ChunkKeyEncodingTraits.is_key
           c.args.source.now c.args.target.now _ c.args.chunks.now targets walk all about is_box are left come_all,
@@ -50,7 +50,8 @@ returns-in_ok-first-in-Ok g c =
           ∙ ap (λ k. lines_from (λ n. group_line (counted n) (counted k)) (before_share share.number share.of (length (all_targets walk))) groups)
           (ap length shared.all ∙ count)
           ∙ ap (λ k. lines_from (λ n. group_line (counted n) (counted (length all))) (before_share share.number share.of k) groups) count
-          ∙ ap (λ gs. lines_from (λ n. group_line (counted n) (counted (length all))) (before_share share.number share.of (length all)) gs) (sym is_share),
+          ∙ ap (λ gs. lines_from (λ n. group_line (counted n) (counted (length all))) (before_share share.number share.of (length all)) gs)
+          (sym is_share),
     ))
     (λ fault none. absurd none)
     (output g.W.Write.contents c.args.held_back.now.items c.args.writer.now)

@@ -1,7 +1,6 @@
-use Rattle.std.proofs.Common.{◌≡◌, ◌∙◌, ◌+◌, ◌<◌, ◌≤◌, Contains, [], length, map, ap, refl, sym, true≢false, arith}
+use Rattle.std.proofs.Common.{◌≡◌, ◌∙◌, ◌≤◌, Contains, [], length, map, ap, refl, sym, true≢false, arith}
 use Rattle.zarrs_chunk_axes.specs.RowMajor.{row_major}
 use Rattle.zarrs_chunks.specs.Walks.{chunks_in, counted_from}
-use Rattle.zarrs_chunk_plan.specs.Shares.{before_share, share_of}
 use Rattle.zarrs_chunk_plan.specs.seen.Between.{end_rank, rank}
 use Rattle.zarrs_chunk_plan.proofs.BeforeShares.{before_next}
 use Rattle.zarrs_chunk_plan.proofs.Between.{begins_before, begins_with, none_below, share_map, share_nil}

@@ -1,4 +1,4 @@
-use Rattle.std.proofs.Common.{◌≡◌, ◌∙◌, ℕ, ◌<◌, Bool, true, IsTrue, List, [], ◌∷◌, length, map, ap, refl, subst, sym, arith}
+use Rattle.std.proofs.Common.{◌≡◌, ◌∙◌, ℕ, Bool, true, IsTrue, List, ◌∷◌, length, map, ap, refl, subst, sym, arith}
 use Rattle.std.specs.List.{refill}
 use Rattle.zarrs_chunk_axes.specs.InBounds.{AreBelow}
 use Rattle.zarrs_chunks.specs.Walks.{counted_from}
@@ -66,7 +66,8 @@ returns-in-Ok-clause-steps c =
     let as_many : length counts ≡ length c.in-Ok.chunk.items = rw c.as_mut_slice.ensures.value at c.count_from.ensures.length in
     let many : length c.in-Ok.chunk.items ≡ length chunks.start = rw copied (length_below shape items below ∙ sym box.lengths) in
     let counted : counts ≡ counted_from chunks.start c.in-Ok.chunk.items =
-    are_counted chunks.start c.in-Ok.chunk.items counts many as_many (rw (c.start.ensures.value, c.as_mut_slice.ensures.value) at c.count_from.ensures.sum)
+    are_counted chunks.start c.in-Ok.chunk.items counts many as_many
+    (rw (c.start.ensures.value, c.as_mut_slice.ensures.value) at c.count_from.ensures.sum)
     in
     record {
       gives =
