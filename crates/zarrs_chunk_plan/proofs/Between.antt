@@ -1,26 +1,22 @@
 -- A walk through the lists below a shape from one on up to another: where it begins, and how it goes on.
 use Rattle.std.proofs.Common.{◌≡◌, ◌↔◌, ◌⊎◌, ◌∙◌, ℕ, zero, suc, ◌+◌, ◌-◌, ◌<◌, ◌≤◌, Bool, true}
-use Rattle.std.proofs.Common.{false, IsTrue, List, [], ◌∷◌, ◌++◌, Contains, Option, Some, None}
-use Rattle.std.proofs.Common.{drop, length, map, take, refl, ap, inl, inr, sym, true≢false, ⊎_elim, arith}
+use Rattle.std.proofs.Common.{false, IsTrue, List, [], ◌∷◌, Contains, Option, Some, None}
+use Rattle.std.proofs.Common.{drop, length, map, take, refl, ap, inl, inr, subst, sym, true≢false, ⊎_elim, arith}
 use Rattle.std.proofs.Math.Seq.{drop-nil, take-nil}
 use Rattle.std.proofs.lemmas.Bool.{cases_lt}
 use Rattle.std.proofs.lemmas.List.{drop-map, length-map, nil_from_length, take-map}
+use Rattle.std.specs.List.{refill}
 use Rattle.std.specs.Option.{ForSome}
 use Rattle.smallvec.specs.SmallVec.{SmallVec}
 use Rattle.zarrs_chunk_axes.specs.InBounds.{AreBelow}
 use Rattle.zarrs_chunk_axes.specs.RowMajor.{row_major}
 use Rattle.zarrs_chunk_axes.specs.seen.Counting.{after, from}
+use Rattle.zarrs_chunks.proofs.ChunksInBoxes.{length_below, written}
 use Rattle.zarrs_chunk_plan.specs.Shares.{before_share, between, share_of}
 use Rattle.zarrs_chunk_plan.specs.declared.share.Share.{Share}
 use Rattle.zarrs_chunk_plan.specs.seen.Between.{IsEnd, end_rank, lists_between, rank}
 use Rattle.zarrs_chunk_plan.proofs.ByNumber.{some_size}
 use Rattle.zarrs_chunk_plan.proofs.Ranks.{drop_rank, rank_next, rank_same, rank_within}
-
--- what was written over all of a list
-pub written : (new items : List ℕ) → length new ≡ length items → take (length items) (new ++ drop (length new) items) ≡ new
-written [] [] same = refl
-written (n ∷ new) (i ∷ items) same = ap (λ xs. n ∷ xs) (written new items (omega arith))
-written _ _ same = absurd (omega arith)
 
 -- a box with a range of no numbers has no chunks
 pub none_below : (shape : List ℕ) → Contains shape 0 → row_major shape ≡ []
@@ -98,19 +94,19 @@ module _ (shape : List ℕ) (end : Option (SmallVec ℕ)) (end_below : ForSome e
       of true some = refl
       of false some = absurd (some refl)
 
-    pub goes_below : over ≡ false → AreBelow shape next
+    goes_below : over ≡ false → AreBelow shape next
     goes_below still = also (is_found still)
 
     goes_next : found ≡ true → rank shape next ≡ rank shape numbers + 1
     goes_next is = rank_next shape numbers next below (also is) (rw is at gives)
 
-    pub goes_before : over ≡ false → rank shape next < end_rank shape end
+    goes_before : over ≡ false → rank shape next < end_rank shape end
     goes_before still =
         let is = is_found still in
         let one = goes_next is in
         before_end next (also is) (omega arith) (λ at. true≢false (sym (told.1 (inr at)) ∙ still))
 
-    pub goes_on : lists_between shape numbers end false ≡ numbers ∷ lists_between shape next end over
+    goes_on : lists_between shape numbers end false ≡ numbers ∷ lists_between shape next end over
     goes_on = of over refl where
       of : (r : Bool) → over ≡ r → lists_between shape numbers end false ≡ numbers ∷ lists_between shape next end r
       of false still =
@@ -134,6 +130,31 @@ module _ (shape : List ℕ) (end : Option (SmallVec ℕ)) (end_below : ForSome e
                 rw none refl
 
 -- numbers that are stored anew, where some were found
-pub from_stored : (shape stored next : List ℕ) (found : Bool) → (found ≡ true → stored ≡ next) → from found shape next ≡ from found shape stored
+from_stored : (shape stored next : List ℕ) (found : Bool) → (found ≡ true → stored ≡ next) → from found shape next ≡ from found shape stored
 from_stored shape stored next true same = rw (same refl) refl
 from_stored shape stored next false same = refl
+
+-- What a step leaves, which stores numbers over those of the list that it gives: they are below the shape and before the end, unless the walk is
+-- over, and the lists from them on are left.
+pub record Stepped (shape : List ℕ) (end : Option (SmallVec ℕ)) (numbers stored : List ℕ) (over : Bool) : Type 0 where
+  pub below : over ≡ false → AreBelow shape stored
+  pub before : over ≡ false → rank shape stored < end_rank shape end
+  pub left : lists_between shape numbers end false ≡ numbers ∷ lists_between shape stored end over
+
+pub stepped : (shape : List ℕ) (end : Option (SmallVec ℕ)) → ForSome end (λ e. AreBelow shape e.items) → (numbers next : List ℕ)
+    (found over : Bool) → AreBelow shape numbers → rank shape numbers < end_rank shape end → (IsTrue found → AreBelow shape next)
+    → after shape numbers ≡ from found shape next
+    → (IsTrue over ↔ (found ≡ false) ⊎ IsEnd end (refill (length numbers) numbers next))
+    → Stepped shape end numbers (refill (length numbers) numbers next) over
+stepped shape end end_below numbers next found over below before also gives told =
+    let stored = refill (length numbers) numbers next in
+    let same : found ≡ true → stored ≡ next =
+    λ is. written next numbers (length_below shape next (also is) ∙ sym (length_below shape numbers below))
+    in
+    let stored_below : IsTrue found → AreBelow shape stored = λ is. subst (AreBelow shape) (sym (same is)) (also is) in
+    let stored_is = gives ∙ from_stored shape stored next found same in
+    record {
+      below = goes_below shape end end_below numbers stored found over below before stored_below stored_is told;
+      before = goes_before shape end end_below numbers stored found over below before stored_below stored_is told;
+      left = goes_on shape end end_below numbers stored found over below before stored_below stored_is told;
+    }

@@ -1,6 +1,6 @@
 -- The chunks in a box of chunk numbers: which they are, and their order.
-use Rattle.std.proofs.Common.{◌≡◌, ◌≢◌, ◌↔◌, ◌∙◌, ℕ, zero, suc, ◌+◌, ◌-◌, ◌<◌, ◌≤◌, List, [], ◌∷◌, Contains, get_or, length, map, refl, ap, ap₂}
-use Rattle.std.proofs.Common.{subst, sym, inl, inr, ⊎_elim, arith}
+use Rattle.std.proofs.Common.{◌≡◌, ◌≢◌, ◌↔◌, ◌∙◌, ℕ, zero, suc, ◌+◌, ◌-◌, ◌<◌, ◌≤◌, List, [], ◌∷◌, ◌++◌, Contains, drop, get_or, length, map, refl, ap, ap₂}
+use Rattle.std.proofs.Common.{subst, sym, inl, inr, take, ⊎_elim, arith}
 use Rattle.std.proofs.lemmas.List.{get_or-map, length-map}
 use Rattle.std.proofs.lemmas.List.Elements.{Contains-get_or}
 use Rattle.std.proofs.lemmas.Slice.Zip.{AllZip-long}
@@ -17,6 +17,12 @@ use Rattle.zarrs_chunks.proofs.Boxes.{has_origin}
 use Rattle.zarrs_chunks.proofs.Meeting.{cover_meets}
 
 -- ---- numbers that are counted from a start
+
+-- what was written over all of a list
+pub written : (new items : List ℕ) → length new ≡ length items → take (length items) (new ++ drop (length new) items) ≡ new
+written [] [] same = refl
+written (n ∷ new) (i ∷ items) same = ap (λ xs. n ∷ xs) (written new items (omega arith))
+written _ _ same = absurd (omega arith)
 
 -- sums, place by place, are the numbers as they are from 0
 pub are_counted : (start old new : List ℕ) → length old ≡ length start → length new ≡ length old

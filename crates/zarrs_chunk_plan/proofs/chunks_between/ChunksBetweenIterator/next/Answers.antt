@@ -1,10 +1,9 @@
-use Rattle.std.proofs.Common.{◌≡◌, ◌∙◌, ℕ, Bool, true, IsTrue, List, ◌∷◌, length, map, ap, refl, subst, sym, arith}
+use Rattle.std.proofs.Common.{◌≡◌, ◌∙◌, ◌∷◌, length, map, ap, refl, sym, arith}
 use Rattle.std.specs.List.{refill}
-use Rattle.zarrs_chunk_axes.specs.InBounds.{AreBelow}
 use Rattle.zarrs_chunks.specs.Walks.{counted_from}
-use Rattle.zarrs_chunks.proofs.ChunksInBoxes.{are_counted, length_below, sums_fit}
+use Rattle.zarrs_chunks.proofs.ChunksInBoxes.{are_counted, length_below, sums_fit, written}
 use Rattle.zarrs_chunk_plan.specs.seen.Between.{lists_between}
-use Rattle.zarrs_chunk_plan.proofs.Between.{from_stored, goes_before, goes_below, goes_on, some_left, written}
+use Rattle.zarrs_chunk_plan.proofs.Between.{some_left, stepped}
 use Rattle.zarrs_chunk_plan.proofs.chunks_between.ChunksBetweenIterator.next.Goals as goal
 
 pub count_from-requires-clause-fits : goal.count_from-requires-clause-fits
@@ -14,33 +13,16 @@ count_from-requires-clause-fits c =
     let fits = sums_fit walk.chunks.start walk.chunks.shape walk.next.items box.lengths box.fits (walk.below c.if-self.false) in
     rw (c.start.ensures.value, c.as_mut_slice.ensures.value, c.in-Ok.ensures.ok, c.as_slice.ensures) fits
 
--- what the numbers are that were stored, where some were found
-stored_is : (shape items new : List ℕ) (found : Bool) → AreBelow shape items → (IsTrue found → AreBelow shape new) → found ≡ true
-    → refill (length items) items new ≡ new
-stored_is shape items new found below also is =
-    written new items (length_below shape new (also is) ∙ sym (length_below shape items below))
-
 pub invariant_of-self : goal.invariant_of-self
 invariant_of-self c =
     let walk = c.args.self.now in
     let shape = walk.chunks.shape in
     let items = walk.next.items in
-    let new = c.advance-found.new.numbers in
-    let found = c.advance-found.result in
-    let over = c.is_over-self.result in
-    let stored = refill (length items) items new in
-    let below = walk.below c.if-self.false in
-    let before = walk.before c.if-self.false in
     let advanced = rw (c.shape.ensures.value, c.as_mut_slice-in-Ok.ensures.value) at c.advance-found.ensures in
-    let told = rw c.as_slice-in-Ok.ensures at c.is_over-self.ensures in
-    let same = stored_is shape items new found below advanced.below in
-    let also : IsTrue found → AreBelow shape stored = λ is. subst (AreBelow shape) (sym (same is)) (advanced.below is) in
-    let gives = advanced.next ∙ from_stored shape stored new found same in
-    record {
-      below = goes_below shape walk.end walk.end_below items stored found over below before also gives told;
-      end_below = walk.end_below;
-      before = goes_before shape walk.end walk.end_below items stored found over below before also gives told;
-    }
+    let step = stepped shape walk.end walk.end_below items c.advance-found.new.numbers c.advance-found.result c.is_over-self.result
+    (walk.below c.if-self.false) (walk.before c.if-self.false) advanced.below advanced.next (rw c.as_slice-in-Ok.ensures at c.is_over-self.ensures)
+    in
+    record { below = step.below; end_below = walk.end_below; before = step.before }
 
 pub returns-in-Ok-clause-steps : goal.returns-in-Ok-clause-steps
 returns-in-Ok-clause-steps c =
@@ -48,31 +30,25 @@ returns-in-Ok-clause-steps c =
     let chunks = walk.chunks in
     let shape = chunks.shape in
     let items = walk.next.items in
-    let new = c.advance-found.new.numbers in
-    let found = c.advance-found.result in
+    let next = c.advance-found.new.numbers in
     let over = c.is_over-self.result in
-    let stored = refill (length items) items new in
-    let below = walk.below c.if-self.false in
-    let before = walk.before c.if-self.false in
     let advanced = rw (c.shape.ensures.value, c.as_mut_slice-in-Ok.ensures.value) at c.advance-found.ensures in
-    let told = rw c.as_slice-in-Ok.ensures at c.is_over-self.ensures in
-    let same = stored_is shape items new found below advanced.below in
-    let also : IsTrue found → AreBelow shape stored = λ is. subst (AreBelow shape) (sym (same is)) (advanced.below is) in
-    let gives = advanced.next ∙ from_stored shape stored new found same in
-    let left = goes_on shape walk.end walk.end_below items stored found over below before also gives told in
+    let step = stepped shape walk.end walk.end_below items next c.advance-found.result over (walk.below c.if-self.false)
+    (walk.before c.if-self.false) advanced.below advanced.next (rw c.as_slice-in-Ok.ensures at c.is_over-self.ensures)
+    in
     let copied : c.in-Ok.chunk.items ≡ items = c.in-Ok.ensures.ok ∙ c.as_slice.ensures in
     let box = c.start.ensures.is_box in
     let counts = c.count_from.new.numbers in
     let as_many : length counts ≡ length c.in-Ok.chunk.items = rw c.as_mut_slice.ensures.value at c.count_from.ensures.length in
-    let many : length c.in-Ok.chunk.items ≡ length chunks.start = rw copied (length_below shape items below ∙ sym box.lengths) in
+    let many : length c.in-Ok.chunk.items ≡ length chunks.start = rw copied (length_below shape items (walk.below c.if-self.false) ∙ sym box.lengths) in
     let counted : counts ≡ counted_from chunks.start c.in-Ok.chunk.items =
     are_counted chunks.start c.in-Ok.chunk.items counts many as_many
     (rw (c.start.ensures.value, c.as_mut_slice.ensures.value) at c.count_from.ensures.sum)
     in
     record {
       gives =
-          ap (map (counted_from chunks.start)) (ap (lists_between shape items walk.end) c.if-self.false ∙ left)
-          ∙ ap (λ chunk. chunk ∷ map (counted_from chunks.start) (lists_between shape stored walk.end over))
+          ap (map (counted_from chunks.start)) (ap (lists_between shape items walk.end) c.if-self.false ∙ step.left)
+          ∙ ap (λ chunk. chunk ∷ map (counted_from chunks.start) (lists_between shape (refill (length items) items next) walk.end over))
           (sym (written counts c.in-Ok.chunk.items as_many ∙ counted ∙ ap (counted_from chunks.start) copied));
       chunks = refl;
     }
@@ -82,19 +58,11 @@ returns-in-Ok-clause-goes c =
     let walk = c.args.self.now in
     let shape = walk.chunks.shape in
     let items = walk.next.items in
-    let new = c.advance-found.new.numbers in
-    let found = c.advance-found.result in
-    let over = c.is_over-self.result in
-    let stored = refill (length items) items new in
-    let below = walk.below c.if-self.false in
-    let before = walk.before c.if-self.false in
     let advanced = rw (c.shape.ensures.value, c.as_mut_slice-in-Ok.ensures.value) at c.advance-found.ensures in
-    let told = rw c.as_slice-in-Ok.ensures at c.is_over-self.ensures in
-    let same = stored_is shape items new found below advanced.below in
-    let also : IsTrue found → AreBelow shape stored = λ is. subst (AreBelow shape) (sym (same is)) (advanced.below is) in
-    let gives = advanced.next ∙ from_stored shape stored new found same in
-    let left = goes_on shape walk.end walk.end_below items stored found over below before also gives told in
-    let fewer = ap length (ap (lists_between shape items walk.end) c.if-self.false ∙ left) in
+    let step = stepped shape walk.end walk.end_below items c.advance-found.new.numbers c.advance-found.result c.is_over-self.result
+    (walk.below c.if-self.false) (walk.before c.if-self.false) advanced.below advanced.next (rw c.as_slice-in-Ok.ensures at c.is_over-self.ensures)
+    in
+    let fewer = ap length (ap (lists_between shape items walk.end) c.if-self.false ∙ step.left) in
     record { on = λ _. (tt, tt, omega arith); keeps = tt; rests = λ _. tt }
 
 pub returns-in-Err-clause-steps : goal.returns-in-Err-clause-steps

@@ -1,15 +1,9 @@
-use Rattle.std.proofs.Common.{◌≡◌, ◌∙◌, ℕ, ◌++◌, List, [], ◌∷◌, drop, length, map, take, refl, ap, ap₂, subst, sym, arith}
+use Rattle.std.proofs.Common.{◌≡◌, ◌∙◌, ℕ, List, ◌∷◌, length, map, ap, ap₂, subst, sym}
 use Rattle.zarrs_chunk_axes.specs.InBounds.{AreBelow}
 use Rattle.zarrs_chunk_axes.specs.seen.RowMajorWalk.{IsAtList, Stands, lists_from, lists_left, numbers_at, shape_of}
 use Rattle.zarrs_chunks.specs.Walks.{counted_from}
-use Rattle.zarrs_chunks.proofs.ChunksInBoxes.{are_counted, length_below, sums_fit}
+use Rattle.zarrs_chunks.proofs.ChunksInBoxes.{are_counted, length_below, sums_fit, written}
 use Rattle.zarrs_chunks.proofs.walks.chunk_indices_in_subset.ChunkIndicesInSubsetIterator.next.Goals as goal
-
--- what was written over all of a list
-written : (new items : List ℕ) → length new ≡ length items → take (length items) (new ++ drop (length new) items) ≡ new
-written [] [] same = refl
-written (n ∷ new) (i ∷ items) same = ap (λ xs. n ∷ xs) (written new items (omega arith))
-written _ _ same = absurd (omega arith)
 
 -- the first of what was left, counted from the start, and the others
 gives_first : (start : List ℕ) (left rest others : List (List ℕ)) (numbers new : List ℕ) → left ≡ numbers ∷ rest → others ≡ rest
