@@ -40,7 +40,8 @@ returns-in-Ok-clause-steps c =
     let box = c.start.ensures.is_box in
     let counts = c.count_from.new.numbers in
     let as_many : length counts ≡ length c.in-Ok.chunk.items = rw c.as_mut_slice.ensures.value at c.count_from.ensures.length in
-    let many : length c.in-Ok.chunk.items ≡ length chunks.start = rw copied (length_below shape items (walk.below c.if-self.false) ∙ sym box.lengths) in
+    let many : length c.in-Ok.chunk.items ≡ length chunks.start =
+    rw copied (length_below shape items (walk.below c.if-self.false) ∙ sym box.lengths) in
     let counted : counts ≡ counted_from chunks.start c.in-Ok.chunk.items =
     are_counted chunks.start c.in-Ok.chunk.items counts many as_many
     (rw (c.start.ensures.value, c.as_mut_slice.ensures.value) at c.count_from.ensures.sum)
