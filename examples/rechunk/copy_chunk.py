@@ -3,7 +3,7 @@
 
     copy_chunk.py SOURCE TARGET [LINE]
 
-SOURCE and TARGET are folders of uncompressed Zarr arrays (format 2, order "C"). LINE is a line that `chunkplan` wrote; where there is none, lines of any
+SOURCE and TARGET are folders of uncompressed Zarr arrays (format 2, order "C"); others are refused. LINE is a line that `chunkplan` wrote; where there is none, lines of any
 length are read from standard input. When a line's chunk is in its place, the line's `number` and `of` are printed, as JSON.
 """
 import json
@@ -16,7 +16,9 @@ import numpy
 
 def metadata_of(folder):
     array = json.loads((folder / ".zarray").read_text())
-    return numpy.dtype(array["dtype"]), array["fill_value"]
+    if array["zarr_format"] != 2 or array["order"] != "C" or array["compressor"] or array["filters"]:
+        sys.exit(f"{folder} isn't an uncompressed array of format 2 in order C, which is all that is read and written here")
+    return numpy.dtype(array["dtype"]), array["fill_value"] or 0
 
 
 def box(start_and_shape):
