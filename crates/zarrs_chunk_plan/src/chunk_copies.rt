@@ -20,7 +20,8 @@ pub struct ChunkCopies<'a, G, E> {
 
 /// What a rechunking copies, a chunk of the target after another, in row-major order of these chunks.
 ///
-/// A group is made when it is asked for, and so is each of its parts. After an `Err` or the end the walk gives nothing more.
+/// A group is made when it is asked for, and so is each of its parts. After an `Err` or the end the walk gives nothing more, until it goes to a
+/// [`share`](Copies::share).
 #[derive(Debug, Drop)]
 pub struct Copies<'a, G, E, H, F> {
     alloc: Global,
@@ -49,30 +50,32 @@ impl<'a, G, E, H, F> Copies<'a, G, E, H, F> {
 }
 
 impl<'a, G, E, H: ChunkGridTraits, F: ChunkKeyEncodingTraits> Copies<'a, G, E, H, F> {
-    ghost use Rattle.std.specs.Prelude.{◌≡◌, IfOk, OnOk, length};
+    ghost use Rattle.std.specs.Prelude.{◌≡◌, IfOk, OnErr, OnOk, length};
     ghost use Rattle.zarrs_chunk_plan.specs.Counted.{counted};
     ghost use Rattle.zarrs_chunk_plan.specs.Shares.{before_share, share_of};
     ghost use Rattle.zarrs_chunk_plan.specs.seen.Copies.{IsAboutCopies, all_targets, target_of, targets_to_come};
 
-    /// How many chunks of the target there are in all, from the first one on; `None` past 18446744073709551615.
+    /// How many chunks of the target something is copied into, from the first one on; `None` past 18446744073709551615.
     pub fn in_all(&self) -> Option<u64>
         ensures { result ≡ counted (length (all_targets self.now)) }
     {
         self.targets.in_all()
     }
 
-    /// Goes to a share of all chunks of the target, and gives how many come before it; `None` past 18446744073709551615. Those take no time.
+    /// Goes to a share of all these chunks, wherever the walk is, and gives how many come before it; `None` past 18446744073709551615. Those take
+    /// no time.
     ///
     /// # Errors
-    /// Out of memory.
+    /// Out of memory. The walk is as it was then.
     pub fn share(&mut self, share: &Share) -> Result<Option<u64>, AllocError>
         ensures left { OnOk result (targets_to_come self.new
             ≡ share_of share.now (all_targets self.old)) }
         ensures before { IfOk result (λ before. before
             ≡ counted (before_share share.now.number share.now.of (length (all_targets self.old)))) }
-        ensures all { OnOk result (all_targets self.new ≡ all_targets self.old) }
-        ensures about { OnOk result (IsAboutCopies self.old.source.now (target_of self.old)
-            self.old.targets.array_subset self.new) }
+        ensures unchanged { OnErr result (targets_to_come self.new ≡ targets_to_come self.old) }
+        ensures all { all_targets self.new ≡ all_targets self.old }
+        ensures about { IsAboutCopies self.old.source.now (target_of self.old)
+            self.old.targets.array_subset self.new }
     {
         self.targets.share(share)
     }

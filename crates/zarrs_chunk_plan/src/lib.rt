@@ -14,7 +14,7 @@
 //!
 //! | Module | What it holds |
 //! |---|---|
-//! | `part` | a part: a chunk, its key, and two boxes |
+//! | `part` | a part: a chunk, its key and its shape, two boxes, and whether they are all that the chunk has of the array |
 //! | `plan` | `parts`: the plan of reading a box of elements |
 //! | `walk` | the walk over the parts |
 //! | `numbered_parts` | `some_parts`: some of the parts of that plan, from any one on |

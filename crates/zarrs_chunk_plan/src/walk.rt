@@ -11,7 +11,7 @@ use zarrs_chunks::ChunkGridTraits;
 /// The parts of a box of elements: one for each chunk of its cover, in row-major order of the chunks.
 ///
 /// A part is made when it is asked for, so the first one comes without a walk over the others. After an `Err` or the end the walk gives
-/// nothing more.
+/// nothing more, until it goes to a [`share`](Parts::share).
 #[derive(Debug, Drop)]
 pub struct Parts<'a, G, E> {
     alloc: Global,
@@ -22,7 +22,7 @@ pub struct Parts<'a, G, E> {
 }
 
 impl<'a, G: ChunkGridTraits, E: ChunkKeyEncodingTraits> Parts<'a, G, E> {
-    ghost use Rattle.std.specs.Prelude.{◌≡◌, [], IfOk, OnOk, length};
+    ghost use Rattle.std.specs.Prelude.{◌≡◌, [], IfOk, OnErr, OnOk, length};
     ghost use Rattle.zarrs_chunks.specs.Walks.{chunks_in};
     ghost use Rattle.zarrs_chunk_plan.specs.Counted.{counted};
     ghost use Rattle.zarrs_chunk_plan.specs.Shares.{before_share, share_of};
@@ -59,18 +59,18 @@ impl<'a, G: ChunkGridTraits, E: ChunkKeyEncodingTraits> Parts<'a, G, E> {
         count_of(self.chunks.chunks().shape())
     }
 
-    /// Goes to a share of all parts, and gives how many come before it; `None` past 18446744073709551615. Those take no time.
+    /// Goes to a share of all parts, wherever the walk is, and gives how many come before it; `None` past 18446744073709551615. Those take no time.
     ///
     /// # Errors
-    /// Out of memory.
+    /// Out of memory. The walk is as it was then.
     pub fn share(&mut self, share: &Share) -> Result<Option<u64>, AllocError>
         ensures left { OnOk result (chunks_to_come self.new
             ≡ share_of share.now (all_chunks self.old)) }
         ensures before { IfOk result (λ before. before
             ≡ counted (before_share share.now.number share.now.of (length (all_chunks self.old)))) }
-        ensures all { OnOk result (all_chunks self.new ≡ all_chunks self.old) }
-        ensures about { OnOk result (IsAbout self.old.grid.now self.old.encoding.now
-            self.old.array_subset self.new) }
+        ensures unchanged { OnErr result (chunks_to_come self.new ≡ chunks_to_come self.old) }
+        ensures all { all_chunks self.new ≡ all_chunks self.old }
+        ensures about { IsAbout self.old.grid.now self.old.encoding.now self.old.array_subset self.new }
     {
         let chunks = self.chunks.chunks().clone()?;
         let before = share.lines_before(long_count(chunks.shape()));

@@ -19,7 +19,7 @@ pub is_read_plan : {G E : Type 0} (dimensions : G → List Dimension) (is_key : 
     → (length subset.start ≡ length (dimensions grid))
     × ((cover : Box) × IsCover (dimensions grid) subset cover × (chunks_to_come walk ≡ chunks_in cover)))
     → ArePartsToCome dimensions is_key walk parts → IsReadPlan (dimensions grid) (is_key encoding) subset parts
-is_read_plan dimensions is_key grid encoding subset walk parts is_box many about if_empty if_some are = record { some = some; none = none } where
+is_read_plan dimensions is_key grid encoding subset walk parts is_box many about if_empty if_some are = record { lengths = many; some = some; none = none } where
   some : (¬ IsEmptyBox subset) → IsPlan (dimensions grid) (is_key encoding) subset parts
   some is_some =
       let (_, (cover, is, left)) = if_some (inl is_some) in

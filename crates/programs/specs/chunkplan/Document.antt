@@ -43,8 +43,8 @@ pub record IsBoxIn (d : Data) (b : Box) : Type 0 where
 abbrev pub HasBox : Data → List ℕ → Option Box → Type 0
 HasBox d field subset = MatchOption subset (get field d ≡ None) (λ b. (m : Data) × (get field d ≡ Some m) × IsBoxIn m b)
 
--- The member `share` is a list of the share's number, counted from 0, and how many shares there are; where it is absent, the share is the one
--- that is the whole plan.
+-- The member `share` is a list of the share's number, counted from 0, and how many shares there are, which is greater, as of any `Share`; where it
+-- is absent, the share is the one that is the whole plan.
 abbrev pub HasShare : Data → Share → Type 0
 HasShare d share =
     ((get (codes "share") d ≡ None) × (share.number ≡ 0) × (share.of ≡ 1))

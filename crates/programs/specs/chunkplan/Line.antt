@@ -39,7 +39,8 @@ lines_from line first (x ∷ xs) = line first x ++ lines_from line (suc first) x
 
 -- ---- a read
 
--- a part of a read: its chunk, the two boxes, the key, which line of how many it is, the chunk's shape, and whether all of the chunk is read
+-- a part of a read: its chunk, the two boxes, the key, which line of how many it is, the chunk's shape, and whether all that the
+-- chunk has of the array is read
 abbrev pub part_json : (at of : Option ℕ) → Part → Json
 part_json at of part =
     object (member (codes "chunk") (numbers_json part.chunk.items)

@@ -1,5 +1,5 @@
 -- What the program writes for a document.
-use Rattle.std.specs.Prelude.{◌≡◌, ℕ, List, [], Option, unwrap_or}
+use Rattle.std.specs.Prelude.{◌≡◌, ℕ, List, [], length, Option, unwrap_or}
 use Rattle.serde_json.specs.Data.{Data}
 use Rattle.zarrs_chunk_base.specs.ArraySubset.{Box, IsEmptyBox}
 use Rattle.zarrs_chunk_base.specs.Dimension.{Dimension}
@@ -13,8 +13,9 @@ use Rattle.programs.specs.Stored.{IsStored, Stored}
 use Rattle.programs.specs.chunkplan.Document.{Document, IsDocument, read_of, rechunk_to}
 use Rattle.programs.specs.chunkplan.Line.{read_lines, rechunking_lines}
 
--- the plan of reading a box of elements; an empty box has no parts
+-- the plan of reading a box of elements, which has as many dimensions as the grid; an empty box has no parts
 pub record IsReadPlan (ds : List Dimension) (IsKeyOf : List ℕ → List ℕ → Type 0) (subset : Box) (parts : List Part) : Type 0 where
+  pub lengths : length subset.start ≡ length ds
   pub some : (¬ IsEmptyBox subset) → IsPlan ds IsKeyOf subset parts
   pub none : IsEmptyBox subset → parts ≡ []
 
@@ -28,6 +29,7 @@ pub data IsPlanned (document : Document) (text : List ℕ) : Type 0 where
   of_rechunking : (stored : Stored) (chunks : Option Box) (source target : Grid) (source_encoding target_encoding : Encoding) (groups : List Group)
       → document.task ≡ rechunk_to stored chunks → IsStored document.stored document.shape source source_encoding
       → IsStored stored document.shape target target_encoding
+      → length (unwrap_or chunks (all_chunks_box target.dimensions)).start ≡ length target.dimensions
       → IsRechunking source.dimensions (IsKey source_encoding) target.dimensions (IsKey target_encoding)
       (unwrap_or chunks (all_chunks_box target.dimensions)) groups → text ≡ rechunking_lines document.share groups → IsPlanned document text
 

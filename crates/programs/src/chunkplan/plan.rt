@@ -1,5 +1,5 @@
 //! The plan that a document asks for.
-ghost use Rattle.std.specs.Prelude.{◌≡◌, ◌⊎◌, IfErr, IfOk, List, unwrap_or};
+ghost use Rattle.std.specs.Prelude.{◌≡◌, ◌⊎◌, IfErr, IfOk, List, length, unwrap_or};
 ghost use Rattle.zarrs_chunk_base.specs.Dimension.{array_sizes};
 ghost use Rattle.zarrs_chunk_keys.specs.seen.Encodings.{encoding_in};
 ghost use Rattle.zarrs_chunks.specs.seen.Grids.{grid_in};
@@ -173,6 +173,7 @@ fn write_rechunking<
         (λ text. (groups : List Group)
         × IsRechunking (G.dimensions source.now.grid) (E.is_key source.now.encoding)
         (H.dimensions target.now.grid) (F.is_key target.now.encoding) chunks.now groups
+        × (length chunks.now.start ≡ length (H.dimensions target.now.grid))
         × (text ≡ rechunking_lines share.now groups))
         (IsChunksFault (H.dimensions target.now.grid) chunks.now) result
         (output W.contents held_back.old.items writer.old)

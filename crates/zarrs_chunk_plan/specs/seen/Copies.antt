@@ -27,7 +27,7 @@ module _ {G E H F : Type 0} where
   abbrev pub target_offsets : Copies G E H F → List (List ℕ)
   target_offsets walk = offsets_to_come walk.targets
 
-  -- all chunks of the target, those that came too
+  -- all chunks of the target that something is copied into: those to come, those that came, and those that a share leaves out
   abbrev pub all_targets : Copies G E H F → List (List ℕ)
   all_targets walk = all_chunks walk.targets
 
@@ -54,6 +54,7 @@ module _ {G E : Type 0} where
     pub cover : Box
     pub is_cover : IsCover (dimensions grid) subset cover
     pub left : chunks_to_come walk ≡ chunks_in cover
+    pub all : all_chunks walk ≡ chunks_in cover
 
 -- what holds of a group, where `next` gave one
 abbrev pub IfGroup : {T : Type 0} → (T → Type 0) → Option (Result T AllocError) → Type 0

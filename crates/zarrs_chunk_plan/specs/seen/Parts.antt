@@ -24,7 +24,7 @@ module _ {G E : Type 0} where
   abbrev pub offsets_to_come : Parts G E → List (List ℕ)
   offsets_to_come walk = offsets_between walk.chunks
 
-  -- the chunks of all parts, those that came too
+  -- the chunks of all parts: those to come, those that came, and those that a share leaves out
   abbrev pub all_chunks : Parts G E → List (List ℕ)
   all_chunks walk = all_between walk.chunks
 

@@ -1,4 +1,4 @@
-use Rattle.std.proofs.Common.{ap, inl, inr, refl, subst, ⊎_elim}
+use Rattle.std.proofs.Common.{◌≡◌, ap, inl, inr, length, refl, subst, ⊎_elim}
 use Rattle.std.proofs.lemmas.Result.{err_from_is_err_and}
 use Rattle.zarrs_chunk_keys.specs.ChunkKey.{IsKey}
 use Rattle.zarrs_chunk_keys.specs.seen.Encodings.{encoding_in}
@@ -80,9 +80,10 @@ returns g c =
     let document = document_of c.args.document in
     let stored = stored_of c.in-Rechunk.target in
     step_follows _ (IsPlanned document) (IsChunksFault target.dimensions c.in_ok-chunks-in-Rechunk.chunks) (IsPlanFault document)
-    (λ text (groups, is, lines). of_rechunking stored c.in-Rechunk.chunks source target source_encoding target_encoding groups
+    (λ text (groups, is, lengths, lines). of_rechunking stored c.in-Rechunk.chunks source target source_encoding target_encoding groups
     (ap task_of c.in-Rechunk.is) made
     made_target
+    (subst (λ b. length b.start ≡ length target.dimensions) c.in_ok-chunks-in-Rechunk.ensures lengths)
     (subst (λ b. IsRechunking source.dimensions (IsKey source_encoding) target.dimensions
     (IsKey target_encoding) b groups) c.in_ok-chunks-in-Rechunk.ensures is)
     lines)

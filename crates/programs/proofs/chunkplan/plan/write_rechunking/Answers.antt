@@ -46,6 +46,7 @@ returns-in_ok-first-in-Ok g c =
       all,
       rechunking_of g.G.ChunkGridTraits.dimensions g.E.ChunkKeyEncodingTraits.is_key g.H.ChunkGridTraits.dimensions g.F.ChunkKeyEncodingTraits.is_key
           c.args.source.now c.args.target.now _ c.args.chunks.now targets walk all about is_box are left come_all,
+      said.lengths,
       lines
           ∙ ap (λ k. lines_from (λ n. group_line (counted n) (counted k)) (before_share share.number share.of (length (all_targets walk))) groups)
           (ap length shared.all ∙ count)

@@ -1,4 +1,4 @@
-use Rattle.std.proofs.Common.{inl, refl}
+use Rattle.std.proofs.Common.{◌∙◌, inl, refl}
 use Rattle.zarrs_chunk_plan.proofs.Copied.{gives_copies, has_some}
 use Rattle.zarrs_chunk_plan.proofs.chunk_copies.CopiesIterator.next.Goals as goal
 
@@ -19,4 +19,5 @@ returns-in-Ok-expect_answer-clause-steps g c =
       cover = cover;
       is_cover = is;
       left = left;
+      all = (rw found at c.parts-from.ensures.all) ∙ left;
     }) _ refl refl
