@@ -53,12 +53,14 @@ def share(count, number, of):
     return range(number * count // of, (number + 1) * count // of)
 
 
-def read(grid, encoding, start, shape):
-    """The plan that reads a box of elements."""
+def read(grid, encoding, start, shape, clip=False):
+    """The plan that reads a box of elements, or those of them that are the array's."""
 
     def moved():
         for steps in elements(shape):
-            yield *home(grid, [first + step for first, step in zip(start, steps)]), steps
+            index = [first + step for first, step in zip(start, steps)]
+            if not clip or all(i < size for i, size in zip(index, grid.shape)):
+                yield *home(grid, index), steps
 
     missed = {home(grid, index)[0] for index in elements(grid.shape) if not is_inside(index, start, shape)}
     parts = boxes(moved())

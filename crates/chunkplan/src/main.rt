@@ -2,9 +2,10 @@
 //!
 //! It reads one JSON document on standard input: an array's `shape`, `chunk_grid` and `chunk_key_encoding`, as in its `zarr.json`. With a `target`,
 //! which has a `chunk_grid` and a `chunk_key_encoding` of its own, the lines are those of a rechunking; its `chunks`, if it has any, is a box of the
-//! target's chunk numbers, and nothing is copied into others. Without one they are those of a read of `subset`, or of the whole array. A box is
-//! written as its start and its shape. A line has all that its chunk gets, and its number among the lines, so lines can be shared out in any way;
-//! `share`, a number and how many shares there are, takes of the lines the share with this number, counted from 0.
+//! target's chunk numbers, and nothing is copied into others. Without one they are those of a read of `subset`, or of the whole array; with `clip`
+//! true, of what `subset` has of the array. A box is written as its start and its shape. A line has all that its chunk gets, and its number among the
+//! lines, so lines can be shared out in any way; `share`, a number and how many shares there are, takes of the lines the share with this number,
+//! counted from 0.
 //!
 //! ```text
 //! {"shape":[4],"chunk_grid":{"name":"regular","configuration":{"chunk_shape":[3]}},
@@ -31,9 +32,10 @@ Standard input is one JSON object: the `shape`, `chunk_grid` and
 `chunk_key_encoding` of an array, as in its zarr.json. With a `target`, which
 has a `chunk_grid` and a `chunk_key_encoding`, the lines are those of a
 rechunking; `chunks`, a box of the target's chunk numbers, narrows it. Without
-one they are those of a read of `subset`, or of the whole array. A box is its
-start and its shape. `share`, a number and how many shares there are, takes of
-the lines the share with this number, counted from 0.
+one they are those of a read of `subset`, or of the whole array; with `clip`
+true, of what `subset` has of the array. A box is its start and its shape.
+`share`, a number and how many shares there are, takes of the lines the share
+with this number, counted from 0.
 
   {\"shape\":[4],\"chunk_grid\":{\"name\":\"regular\",\"configuration\":
    {\"chunk_shape\":[3]}},\"chunk_key_encoding\":\"default\",\"subset\":[[1],[3]]}

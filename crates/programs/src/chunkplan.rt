@@ -5,6 +5,7 @@
 //! | `document` | the document that a JSON tree stands for |
 //! | `known_members` | the members that a document may have |
 //! | `boxes` | a box as a document writes it |
+//! | `clip` | whether the box that a document reads is clipped, as it writes that |
 //! | `share` | a share of a plan as a document writes it |
 //! | `plan` | the plan that a document asks for |
 //! | `copying` | the lines of a plan, sent as they are made |
@@ -20,6 +21,7 @@ ghost use Rattle.programs.specs.chunkplan.seen.Steps.{StepLeaves};
 ghost use Rattle.programs.specs.seen.Sent.{output};
 
 mod boxes;
+mod clip;
 mod copying;
 mod document;
 mod known_members;
@@ -66,8 +68,8 @@ pub fn run_to_status<R: Read, W: Write, E: Write>(
 /// # Errors
 /// The first fault: a failed read; a text that is no JSON, or no object; a member that isn't known, then one that is missing, then one that
 /// doesn't go with the others, then one that isn't of its form; a grid or an encoding that can't be made, then those of the target; a box with
-/// another number of dimensions; a box of elements that has no cover. Nothing has been written then. After a failed write, or where memory
-/// runs out, a beginning of the plan may have been written.
+/// another number of dimensions; a box of elements that has no cover, where it isn't clipped to the array. Nothing has been written then. After a
+/// failed write, or where memory runs out, a beginning of the plan may have been written.
 pub fn run<R: Read, W: Write>(
     alloc: Global,
     reader: &mut Watched<R>,

@@ -1,4 +1,4 @@
-//! What no contract says: readers and writers that fail, and that a beginning of the plan is written then.
+//! What no contract says: readers and writers that fail, that a beginning of the plan is written then, and how a wrong `clip` is told.
 use crate::ended::{check_bytes, check_ending, check_that};
 use crate::failing::{FailingReader, FailingWriter};
 use programs::chunkplan::{Watched, run_to_status};
@@ -20,6 +20,22 @@ const SHARE: &[u8] =
 const LINE_OF_SHARE: &[u8] =
     br#"{"chunk":[1],"in_chunk":[[0],[1]],"in_subset":[[3],[1]],"key":"1","number":1,"of":2,"shape":[3],"whole":true}
 "#;
+
+/// The same array in chunks that end with it, of which a box that reaches past it is read, clipped.
+const CLIPPED: &[u8] =
+    br#"{"shape":[4],"chunk_grid":{"name":"zarrs.regular_bounded","configuration":{"chunk_shape":[3]}},"chunk_key_encoding":"v2",
+"subset":[[2],[9]],"clip":true}"#;
+
+const CLIPPED_LINES: &[u8] =
+    br#"{"chunk":[0],"in_chunk":[[2],[1]],"in_subset":[[0],[1]],"key":"0","number":0,"of":2,"shape":[3],"whole":false}
+{"chunk":[1],"in_chunk":[[0],[1]],"in_subset":[[1],[1]],"key":"1","number":1,"of":2,"shape":[1],"whole":true}
+"#;
+
+const CLIP_OF_TARGET: &[u8] =
+    br#"{"shape":[4],"chunk_grid":"","chunk_key_encoding":"","clip":true,"target":{}}"#;
+
+const WRONG_CLIP: &[u8] =
+    br#"{"shape":[4],"chunk_grid":"regular","chunk_key_encoding":"v2","clip":1}"#;
 
 /// A reader of a document that fails after so many reads is told, and nothing is written then; the lines are, where it doesn't fail.
 fn check_read(
@@ -113,4 +129,32 @@ fn check_writes(rt: &(impl Abort + AllocGlobal), document: &[u8], lines: &[u8]) 
 fn a_failed_write_leaves_a_beginning(rt: HostRuntime) {
     check_writes(&rt, DOCUMENT, LINES);
     check_writes(&rt, SHARE, LINE_OF_SHARE);
+}
+
+/// The fault of a document is told by this line, and nothing is written.
+fn check_fault(rt: &(impl Abort + AllocGlobal), document: &[u8], line: &str) {
+    let mut reader = Watched::new(document);
+    let mut writer = Watched::new(Vec::new(rt.alloc()));
+    let mut errors = Vec::new(rt.alloc());
+    let status = run_to_status(rt.alloc(), &mut reader, &mut writer, &mut errors);
+    check_ending(rt, (status, &errors), false, line, 0);
+    check_bytes(rt, writer.inner(), b"", 0);
+}
+
+#[test]
+fn a_box_is_clipped_where_it_is_read(rt: HostRuntime) {
+    let enough = CLIPPED.len().div_ceil(16) + 1;
+    check_read(
+        &rt,
+        (CLIPPED, CLIPPED_LINES),
+        enough,
+        ErrorKind::Other,
+        true,
+    );
+    check_fault(
+        &rt,
+        CLIP_OF_TARGET,
+        "chunkplan: field `clip` is for a read: leave out `target`, or leave it out\n",
+    );
+    check_fault(&rt, WRONG_CLIP, "chunkplan: wrong value in field `clip`\n");
 }

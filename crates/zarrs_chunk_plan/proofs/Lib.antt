@@ -2,6 +2,7 @@ pub mod ArrayCover
 pub mod BeforeShares
 pub mod Between
 pub mod ByNumber
+pub mod Clipped
 pub mod Copied
 pub mod Joined
 pub mod Overlaps

@@ -61,7 +61,7 @@ sizes_between (f ∷ first) (l ∷ last) order =
     ((l - f + 1) ∷ sizes, ap suc lengths, ap₂ (λ n ns. n ∷ ns) here same)
 sizes_between _ _ order = absurd order
 
-has_cover : (ds : List Dimension) → AllByRecursion IsChain ds → (b : Box) → IsBox b → (¬ IsEmptyBox b)
+pub has_cover : (ds : List Dimension) → AllByRecursion IsChain ds → (b : Box) → IsBox b → (¬ IsEmptyBox b)
     → ((index : List ℕ) → IsInside b index → AreBelow (array_sizes ds) index) → (cover : Box) × IsCover ds b cover
 has_cover ds chains b is_box some within =
     let end = lasts b.start b.shape in

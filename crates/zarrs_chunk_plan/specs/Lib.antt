@@ -1,3 +1,4 @@
+pub mod Clip
 pub mod Counted
 pub mod Plan
 pub mod Rechunking

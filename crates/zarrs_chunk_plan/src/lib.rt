@@ -24,6 +24,7 @@
 //! | `chunk_copies` | the walk over what a rechunking copies, a chunk of the target after another |
 //! | `copies_error` | why a rechunking can't be planned |
 //! | `boxes_from_zero` | the box of all elements of an array, and that of all chunks of a grid |
+//! | `clipping` | `clip`: a box of elements without those that the array doesn't have |
 //! | `share` | one of several shares of a plan |
 //! | `chunks_between` | the walk over the chunks of a share |
 //! | `shared` | the elements that a chunk and a box share, counted from either |
@@ -34,6 +35,7 @@
 mod boxes_from_zero;
 mod chunk_copies;
 mod chunks_between;
+mod clipping;
 mod copies_error;
 pub mod laws;
 mod numbered_chunks;
@@ -49,6 +51,7 @@ mod walk;
 
 pub use boxes_from_zero::{all_chunks, whole_array};
 pub use chunk_copies::{ChunkCopies, Copies};
+pub use clipping::clip;
 pub use copies_error::CopiesError;
 pub use numbered_chunks::{SomeChunks, some_chunks};
 pub use numbered_parts::{SomeParts, some_parts};

@@ -18,6 +18,8 @@ pub(crate) fn overlap(
 ) -> Result<ArraySubset, AllocError>
     requires { length one.now.start ≡ length other.now.start }
     ensures is_box { IfOk result (λ both. IsBox both) }
+    ensures start { IfOk result (λ both. both.start
+        ≡ later_starts one.now.start other.now.start) }
     ensures common { IfOk result (λ both. (index : List ℕ)
         → IsInside both index ↔ (IsInside one.now index × IsInside other.now index)) }
 {

@@ -1,16 +1,16 @@
 //! The parts of a box of elements in five dimensions, one after another and by number, more than a thousand of them, what follows the end and an
-//! error, and the laws.
+//! error, what a box has of the array, and the laws.
 use std::alloc::Global;
 use std::num::NonZeroU64;
 use std::process::Abort;
 use std::test::Fail;
-use zarrs_chunk_base::ArraySubset;
+use zarrs_chunk_base::{ArraySubset, IncompatibleDimensionalityError, Refusal};
 use zarrs_chunk_keys::DefaultChunkKeyEncoding;
 use zarrs_chunk_plan::laws::{
     each_element_lies_in_one_part, no_two_parts_have_one_key, the_parts_tile_the_box,
     the_walk_gives_the_plan,
 };
-use zarrs_chunk_plan::{Part, all_chunks, parts, some_chunks, some_parts};
+use zarrs_chunk_plan::{Part, all_chunks, clip, parts, some_chunks, some_parts};
 use zarrs_chunks::RegularChunkGrid;
 
 /// A row of so many elements, in chunks of three: the last of five dimensions.
@@ -112,6 +112,21 @@ fn chunks_are_asked_for_by_their_number(rt: HostRuntime) -> Result<(), Fail> {
     for (chunk, last) in some.chunks.iter().zip([999, 1000]) {
         assert_eq!(rt; chunk.as_slice(), [0, 0, 0, 0, last].as_slice());
     }
+    Ok(())
+}
+
+#[test]
+fn a_box_is_clipped_to_the_array(rt: HostRuntime) -> Result<(), Fail> {
+    let alloc = rt.alloc();
+    let grid = row(alloc, 5)?;
+    let clipped = clip(alloc, &grid, &elements_from(alloc, 3, 9)?)?;
+    assert!(rt; clipped == elements_from(alloc, 3, 2)?);
+    let error = match clip(alloc, &grid, &ArraySubset::new_empty(alloc, 1)?) {
+        Err(Refusal::Refused(error)) => error,
+        Err(Refusal::Memory(error)) => return Err(error.into()),
+        Ok(_) => return Err("a box with one dimension is clipped".into()),
+    };
+    assert_eq!(rt; error, IncompatibleDimensionalityError::new(1, 5));
     Ok(())
 }
 

@@ -1,13 +1,14 @@
 -- What was taken out of a document leaves the other members.
-use Rattle.std.proofs.Common.{◌≡◌, ◌≢◌, ℕ, List, Option, Some, None, MatchOption, ◌<◌, ◌∙◌, ap, sym, subst, codes, length, get_or, arith}
+use Rattle.std.proofs.Common.{◌≡◌, ◌≢◌, ◌⊎◌, ℕ, ◌<◌, Bool, false, List, Option, Some, None, MatchOption, ◌∙◌, ap, sym, subst, codes, length}
+use Rattle.std.proofs.Common.{arith, get_or}
 use Rattle.serde_json.specs.Data.{Data}
-use Rattle.serde_json.specs.Find.{get}
+use Rattle.serde_json.specs.Find.{as_bool, get}
 use Rattle.zarrs_chunk_base.specs.ArraySubset.{Box}
 use Rattle.programs.specs.declared.chunkplan.run_fault.RunFault.{RunFault}
 use Rattle.programs.specs.declared.chunkplan.run_fault.RunFault.TheVariants.{OtherDataType, OtherShape, UnknownOfTarget}
-use Rattle.programs.specs.chunkplan.Document.{HasBox, IsBoxIn, IsOfArray, IsTask, Task, read_of, rechunk_to}
-use Rattle.programs.specs.chunkplan.DocumentFault.{HasBoxFault, IsTargetMisfit, IsTaskFault, of_chunks, of_misfit, of_subset, of_target}
-use Rattle.programs.specs.chunkplan.DocumentFault.{of_target_stored}
+use Rattle.programs.specs.chunkplan.Document.{HasBox, HasClip, IsBoxIn, IsOfArray, IsTask, Task, read_of, rechunk_to}
+use Rattle.programs.specs.chunkplan.DocumentFault.{HasBoxFault, HasClipFault, IsTargetMisfit, IsTaskFault, of_chunks, of_clip, of_misfit}
+use Rattle.programs.specs.chunkplan.DocumentFault.{of_subset, of_target, of_target_stored}
 use Rattle.programs.specs.chunkplan.Known.{Agree, Differ}
 
 -- ---- one member
@@ -18,6 +19,14 @@ has_box d left field subset same = subst (λ found. MatchOption subset (found �
 pub has_box_fault : (d left : Data) (field : List ℕ) (fault : RunFault) → get field left ≡ get field d → HasBoxFault left field fault
     → HasBoxFault d field fault
 has_box_fault d left field fault same (m, there, is) = (m, sym same ∙ there, is)
+
+pub has_clip : (d left : Data) (clip : Bool) → get (codes "clip") left ≡ get (codes "clip") d → HasClip left clip → HasClip d clip
+has_clip d left clip same =
+    subst (λ found. ((found ≡ None) × (clip ≡ false)) ⊎ ((m : Data) × (found ≡ Some m) × (as_bool m ≡ Some clip))) same
+
+pub has_clip_fault : (d left : Data) (fault : RunFault) → get (codes "clip") left ≡ get (codes "clip") d → HasClipFault left fault
+    → HasClipFault d fault
+has_clip_fault d left fault same (m, there, none, tells) = (m, sym same ∙ there, none, tells)
 
 -- ---- a target of the array
 
@@ -57,8 +66,11 @@ module _ (d left : Data) (are_left : AreLeft d left) where
   of_same m = is_of_array d left m (short (codes "shape") (omega arith)) (short (codes "data_type") (omega arith))
 
   pub is_task : (task : Task) → IsTask left task → IsTask d task
-  is_task (read_of b) (none, box) =
-      (sym (short (codes "target") (omega arith)) ∙ none, has_box d left (codes "subset") b (short (codes "subset") (omega arith)) box)
+  is_task (read_of b clip) (none, box, has) = (
+    sym (short (codes "target") (omega arith)) ∙ none,
+    has_box d left (codes "subset") b (short (codes "subset") (omega arith)) box,
+    has_clip d left clip (short (codes "clip") (omega arith)) has,
+  )
   is_task (rechunk_to stored b) (m, there, of_array, has, box) = (
     m,
     sym (short (codes "target") (omega arith)) ∙ there,
@@ -71,6 +83,10 @@ module _ (d left : Data) (are_left : AreLeft d left) where
   is_task_fault fault (of_subset none is) =
       of_subset (sym (short (codes "target") (omega arith)) ∙ none)
       (has_box_fault d left (codes "subset") fault (short (codes "subset") (omega arith)) is)
+  is_task_fault fault (of_clip b none box is) =
+      of_clip b (sym (short (codes "target") (omega arith)) ∙ none)
+      (has_box d left (codes "subset") b (short (codes "subset") (omega arith)) box)
+      (has_clip_fault d left fault (short (codes "clip") (omega arith)) is)
   is_task_fault fault (of_target m there none tells) = of_target m (sym (short (codes "target") (omega arith)) ∙ there) none tells
   is_task_fault fault (of_misfit m there object is) =
       of_misfit m (sym (short (codes "target") (omega arith)) ∙ there) object
@@ -95,3 +111,6 @@ subset_is_no_target same = let first : 115 ≡ 116 = ap (λ name. get_or name 0 
 
 pub chunks_is_no_target : codes "chunks" ≢ codes "target"
 chunks_is_no_target same = let first : 99 ≡ 116 = ap (λ name. get_or name 0 0) same in absurd (omega (arith, first))
+
+pub clip_is_no_target : codes "clip" ≢ codes "target"
+clip_is_no_target same = let first : 99 ≡ 116 = ap (λ name. get_or name 0 0) same in absurd (omega (arith, first))

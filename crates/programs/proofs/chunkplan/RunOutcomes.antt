@@ -9,7 +9,7 @@ use Rattle.programs.specs.chunkplan.Document.{Document}
 use Rattle.programs.specs.chunkplan.DocumentFault.{HasBoxFault, IsBoxFormFault, IsFormFault, IsMisfit, IsTargetMisfit, IsTaskFault}
 use Rattle.programs.specs.chunkplan.DocumentFault.{misfit, misformed_shape, misformed_share, misformed_stored, misformed_task, missing}
 use Rattle.programs.specs.chunkplan.DocumentFault.{no_object, not_of_form}
-use Rattle.programs.specs.chunkplan.DocumentFault.{IsUnknownFault, TellsMissing, TellsWrongValue, of_misfit, of_target_stored, unknown}
+use Rattle.programs.specs.chunkplan.DocumentFault.{IsUnknownFault, TellsMissing, TellsWrongValue, of_clip, of_misfit, of_target_stored, unknown}
 use Rattle.programs.specs.chunkplan.DocumentFault.{of_chunks as of_chunks_box, of_subset as of_subset_box, of_target as of_target_tree}
 use Rattle.programs.specs.chunkplan.PlanFault.{IsChunksFault, IsFirstFault, IsPlanFault, IsReadFault, IsTargetFault, no_document, no_plan, of_chunks}
 use Rattle.programs.specs.chunkplan.PlanFault.{of_source, of_subset, of_target}
@@ -58,6 +58,7 @@ box_still d field fault (m, _, is) = still (IsBoxFormFault m field) (λ h. h) (�
 
 task_still : (d : Data) (fault : RunFault) → IsTaskFault d fault → moves fault ≡ false
 task_still d fault (of_subset_box _ is) = box_still d (codes "subset") fault is
+task_still d fault (of_clip _ _ _ (_, _, _, is)) = still (TellsWrongValue (codes "clip")) (λ h. h) (λ h. h) fault is
 task_still d fault (of_target_tree _ _ _ is) = still (TellsWrongValue (codes "target")) (λ h. h) (λ h. h) fault is
 task_still d fault (of_misfit target _ _ is) = still (IsTargetMisfit d target) (λ h. h) (λ h. h) fault is
 task_still d fault (of_target_stored _ told _ _ _ _ same) = ap moves same ∙ of_document_still told
@@ -74,8 +75,8 @@ form_still d fault (misformed_task _ _ _ _ _ _ _ _ is) = task_still d fault is
 
 plan_still : (document : Document) (fault : RunFault) → IsPlanFault document fault → moves fault ≡ false
 plan_still document fault (of_source told _ same) = ap moves same ∙ of_create_still told
-plan_still document fault (of_subset subset grid _ _ _ is) =
-    still (IsReadFault grid.dimensions (unwrap_or subset (array_box grid.dimensions))) (λ h. h) (λ h. h) fault is
+plan_still document fault (of_subset subset clip grid _ _ _ is) =
+    still (IsReadFault clip grid.dimensions (unwrap_or subset (array_box grid.dimensions))) (λ h. h) (λ h. h) fault is
 plan_still document fault (of_target stored _ _ _ _ _ is) = still (IsTargetFault stored document.shape) (λ h. h) (λ h. h) fault is
 plan_still document fault (of_chunks _ chunks _ target _ _ _ _ _ is) =
     still (IsChunksFault target.dimensions (unwrap_or chunks (all_chunks_box target.dimensions))) (λ h. h) (λ h. h) fault is

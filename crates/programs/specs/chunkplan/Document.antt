@@ -1,9 +1,9 @@
--- The program's document: a JSON object with the members `shape`, `chunk_grid` and `chunk_key_encoding`, and either `subset`, which may be
--- absent, or `target` and `chunks`, which may be absent; and `share`, which may be absent too. What else an array's `zarr.json` has may stand in
--- it and in the target.
-use Rattle.std.specs.Prelude.{◌≡◌, ◌⊎◌, ℕ, List, Option, Some, None, IsSome, codes, MatchOption}
+-- The program's document: a JSON object with the members `shape`, `chunk_grid` and `chunk_key_encoding`, and either `subset` and `clip`, which
+-- may be absent, or `target` and `chunks`, which may be absent; and `share`, which may be absent too. What else an array's `zarr.json` has may
+-- stand in it and in the target.
+use Rattle.std.specs.Prelude.{◌≡◌, ◌⊎◌, ℕ, Bool, false, List, Option, Some, None, IsSome, codes, MatchOption}
 use Rattle.serde_json.specs.Data.{Data}
-use Rattle.serde_json.specs.Find.{get}
+use Rattle.serde_json.specs.Find.{as_bool, get}
 use Rattle.zarrs_chunk_base.specs.ArraySubset.{Box, IsBox}
 use Rattle.zarrs_chunk_base.specs.Json.{size_of, list_of, pair_of}
 use Rattle.zarrs_chunk_plan.specs.declared.share.Share.{Share}
@@ -14,9 +14,9 @@ use Rattle.programs.specs.declared.chunkplan.document.Document.{Document as Docu
 use Rattle.programs.specs.declared.chunkplan.document.Task.{Task as TaskValue}
 use Rattle.programs.specs.declared.chunkplan.document.Task.TheVariants.{Read as ReadValue, Rechunk as RechunkValue}
 
--- what is asked for: a read of a box of elements, or of all, or a rechunking into chunks of a box, or into all
+-- what is asked for: a read of a box of elements, or of all, as it is or clipped to the array; or a rechunking into chunks of a box, or into all
 pub data Task : Type 0 where
-  read_of : Option Box → Task
+  read_of : Option Box → (clip : Bool) → Task
   rechunk_to : Stored → Option Box → Task
 
 -- a document, without where it lies in memory
@@ -28,7 +28,7 @@ pub record Document : Type 0 where
 
 -- what a value of the program stands for
 abbrev pub task_of : TaskValue → Task
-task_of (ReadValue subset) = read_of subset
+task_of (ReadValue subset clip) = read_of subset clip
 task_of (RechunkValue target chunks) = rechunk_to (stored_of target) chunks
 
 abbrev pub document_of : DocumentValue → Document
@@ -43,6 +43,11 @@ pub record IsBoxIn (d : Data) (b : Box) : Type 0 where
 abbrev pub HasBox : Data → List ℕ → Option Box → Type 0
 HasBox d field subset = MatchOption subset (get field d ≡ None) (λ b. (m : Data) × (get field d ≡ Some m) × IsBoxIn m b)
 
+-- the member `clip` is true or false; where it is absent, the box is read as it is
+abbrev pub HasClip : Data → Bool → Type 0
+HasClip d clip =
+    ((get (codes "clip") d ≡ None) × (clip ≡ false)) ⊎ ((m : Data) × (get (codes "clip") d ≡ Some m) × (as_bool m ≡ Some clip))
+
 -- The member `share` is a list of the share's number, counted from 0, and how many shares there are, which is greater, as of any `Share`; where it
 -- is absent, the share is the one that is the whole plan.
 abbrev pub HasShare : Data → Share → Type 0
@@ -56,16 +61,16 @@ pub record IsOfArray (d target : Data) : Type 0 where
   pub same_shape : Agree (codes "shape") d target
   pub same_data_type : Agree (codes "data_type") d target
 
--- `subset`, where there is no target, or `target` with its own two members, and `chunks`
+-- `subset` and `clip`, where there is no target, or `target` with its own two members, and `chunks`
 abbrev pub IsTask : Data → Task → Type 0
-IsTask d (read_of subset) = (get (codes "target") d ≡ None) × HasBox d (codes "subset") subset
+IsTask d (read_of subset clip) = (get (codes "target") d ≡ None) × HasBox d (codes "subset") subset × HasClip d clip
 IsTask d (rechunk_to stored chunks) = (m : Data) × (get (codes "target") d ≡ Some m) × IsOfArray d m × HasStored m stored
     × HasBox d (codes "chunks") chunks
 
--- `subset` stands beside no target, and `chunks` beside one
+-- `subset` and `clip` stand beside no target, and `chunks` beside one
 pub record Fit (d : Data) : Type 0 where
   pub of_read : get (codes "target") d ≡ None → get (codes "chunks") d ≡ None
-  pub of_rechunking : IsSome (get (codes "target") d) → get (codes "subset") d ≡ None
+  pub of_rechunking : IsSome (get (codes "target") d) → (get (codes "subset") d ≡ None) × (get (codes "clip") d ≡ None)
 
 -- the document that a tree stands for
 pub record IsDocument (d : Data) (document : Document) : Type 0 where

@@ -1,19 +1,20 @@
 -- The first fault of an input that is no document.
-use Rattle.std.specs.Prelude.{◌≡◌, ℕ, ◌≤◌, List, [], ◌∷◌, IsSome, Some, None, codes}
+use Rattle.std.specs.Prelude.{◌≡◌, ℕ, ◌≤◌, List, [], ◌∷◌, Option, IsSome, Some, None, codes}
 use Rattle.serde_json.specs.Data.{Data}
-use Rattle.serde_json.specs.Find.{get, as_object}
+use Rattle.serde_json.specs.Find.{as_bool, as_object, get}
+use Rattle.zarrs_chunk_base.specs.ArraySubset.{Box as ElementBox}
 use Rattle.zarrs_chunk_base.specs.ArraySubsetError.{IsBoxFault}
 use Rattle.zarrs_chunk_base.specs.First.{IsFirst}
 use Rattle.zarrs_chunk_base.specs.Json.{size_of, list_of, pair_of}
 use Rattle.zarrs_chunk_plan.specs.declared.share.Share.{Share}
 use Rattle.programs.specs.Document.{HasAll, HasStored, IsObjectOf, IsStoredFault, IsTextFault, shape_in}
 use Rattle.programs.specs.Stored.{Stored}
-use Rattle.programs.specs.chunkplan.Document.{Fit, HasShare, IsOfArray}
+use Rattle.programs.specs.chunkplan.Document.{Fit, HasBox, HasShare, IsOfArray}
 use Rattle.programs.specs.chunkplan.Known.{Agree, Differ, HasOnly, IsFirstUnknown, known_members, zarr_json_members}
 use Rattle.programs.specs.chunkplan.RunFault.{of_document}
 use Rattle.programs.specs.declared.chunkplan.run_fault.RunFault.{RunFault}
-use Rattle.programs.specs.declared.chunkplan.run_fault.RunFault.TheVariants.{Box, ChunksOfNoTarget, Missing, OtherDataType, OtherShape}
-use Rattle.programs.specs.declared.chunkplan.run_fault.RunFault.TheVariants.{SubsetOfTarget, Unknown, UnknownOfTarget, WrongValue}
+use Rattle.programs.specs.declared.chunkplan.run_fault.RunFault.TheVariants.{Box, ChunksOfNoTarget, ClipOfTarget, Missing, OtherDataType}
+use Rattle.programs.specs.declared.chunkplan.run_fault.RunFault.TheVariants.{OtherShape, SubsetOfTarget, Unknown, UnknownOfTarget, WrongValue}
 use Rattle.programs.specs.declared.document_fault.DocumentFault.{DocumentFault}
 
 -- the fault says that the member of this name is missing, or isn't of its form
@@ -46,9 +47,10 @@ document_members = codes "shape" ∷ codes "chunk_grid" ∷ codes "chunk_key_enc
 abbrev pub HasMembers : Data → Type 0
 HasMembers = HasAll document_members
 
--- the fault says which member doesn't go with the others
+-- the fault says which member doesn't go with the others, the first of `subset` and `clip`
 abbrev pub IsMisfit : Data → RunFault → Type 0
 IsMisfit d SubsetOfTarget = IsSome (get (codes "target") d) × IsSome (get (codes "subset") d)
+IsMisfit d ClipOfTarget = IsSome (get (codes "target") d) × (get (codes "subset") d ≡ None) × IsSome (get (codes "clip") d)
 IsMisfit d ChunksOfNoTarget = (get (codes "target") d ≡ None) × IsSome (get (codes "chunks") d)
 IsMisfit d _ = ⊥
 
@@ -64,15 +66,20 @@ IsBoxFormFault _ _ _ = ⊥
 abbrev pub HasBoxFault : Data → List ℕ → RunFault → Type 0
 HasBoxFault d field fault = (m : Data) × (get field d ≡ Some m) × IsBoxFormFault m field fault
 
+-- the member `clip` is there, and neither true nor false
+abbrev pub HasClipFault : Data → RunFault → Type 0
+HasClipFault d fault = (m : Data) × (get (codes "clip") d ≡ Some m) × (as_bool m ≡ None) × TellsWrongValue (codes "clip") fault
+
 -- the share is no list of two sizes, or its number isn't below how many there are
 abbrev pub HasShareFault : Data → RunFault → Type 0
 HasShareFault d fault = (m : Data) × (get (codes "share") d ≡ Some m) × TellsWrongValue (codes "share") fault
     × ((number of : ℕ) → pair_of size_of m ≡ Some (number, of) → of ≤ number)
 
--- The first fault of what a tree asks for: its `subset`, where there is no target; and else the target, that it isn't of the array, its own two
--- members, or `chunks`.
+-- The first fault of what a tree asks for: its `subset` and its `clip`, where there is no target; and else the target, that it isn't of the array,
+-- its own two members, or `chunks`.
 pub data IsTaskFault (d : Data) (fault : RunFault) : Type 0 where
   of_subset : get (codes "target") d ≡ None → HasBoxFault d (codes "subset") fault → IsTaskFault d fault
+  of_clip : (subset : Option ElementBox) → get (codes "target") d ≡ None → HasBox d (codes "subset") subset → HasClipFault d fault → IsTaskFault d fault
   of_target : (target : Data) → get (codes "target") d ≡ Some target → as_object target ≡ None → TellsWrongValue (codes "target") fault
       → IsTaskFault d fault
   of_misfit : (target : Data) → get (codes "target") d ≡ Some target → IsSome (as_object target) → IsTargetMisfit d target fault → IsTaskFault d fault

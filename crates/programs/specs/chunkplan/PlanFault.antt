@@ -1,5 +1,5 @@
 -- The first fault of an input that has no plan.
-use Rattle.std.specs.Prelude.{◌≡◌, ◌≢◌, ◌⊎◌, ℕ, List, length, Option, unwrap_or}
+use Rattle.std.specs.Prelude.{◌≡◌, ◌≢◌, ◌⊎◌, ℕ, Bool, false, List, length, Option, unwrap_or}
 use Rattle.serde_json.specs.Data.{Data}
 use Rattle.zarrs_chunk_base.specs.ArraySubset.{Box, IsEmptyBox, lasts}
 use Rattle.zarrs_chunk_base.specs.Dimension.{Dimension}
@@ -25,12 +25,14 @@ IsTargetFault stored shape (TargetGrid error) = IsCreateFault stored shape (Grid
 IsTargetFault stored shape (TargetEncoding error) = IsCreateFault stored shape (Encoding error)
 IsTargetFault _ _ _ = ⊥
 
--- the fault says why there is no plan of reading the box: it has another number of dimensions; or its first or its last element lies in no chunk
-abbrev pub IsReadFault : List Dimension → Box → RunFault → Type 0
-IsReadFault ds subset (SubsetDimensionality e) = (length subset.start ≢ length ds) × TellsLengths (length subset.start) (length ds) e
-IsReadFault ds subset Uncovered =
-    (length subset.start ≡ length ds) × (¬ IsEmptyBox subset) × (HasNoHome ds subset.start ⊎ HasNoHome ds (lasts subset.start subset.shape))
-IsReadFault ds subset _ = ⊥
+-- The fault says why there is no plan of reading the box: it has another number of dimensions; or its first or its last element lies in no chunk,
+-- where it isn't clipped.
+abbrev pub IsReadFault : (clip : Bool) → List Dimension → Box → RunFault → Type 0
+IsReadFault clip ds subset (SubsetDimensionality e) = (length subset.start ≢ length ds) × TellsLengths (length subset.start) (length ds) e
+IsReadFault clip ds subset Uncovered =
+    (clip ≡ false) × (length subset.start ≡ length ds) × (¬ IsEmptyBox subset)
+    × (HasNoHome ds subset.start ⊎ HasNoHome ds (lasts subset.start subset.shape))
+IsReadFault clip ds subset _ = ⊥
 
 -- the fault says that the box of chunks has another number of dimensions than the target
 abbrev pub IsChunksFault : List Dimension → Box → RunFault → Type 0
@@ -41,9 +43,9 @@ IsChunksFault ds chunks _ = ⊥
 -- the target, and then the box of its chunks.
 pub data IsPlanFault (document : Document) (fault : RunFault) : Type 0 where
   of_source : (told : CreateFault) → IsCreateFault document.stored document.shape told → fault ≡ of_create told → IsPlanFault document fault
-  of_subset : (subset : Option Box) (grid : ChunkGrid) (encoding : KeyEncoding) → document.task ≡ read_of subset
+  of_subset : (subset : Option Box) (clip : Bool) (grid : ChunkGrid) (encoding : KeyEncoding) → document.task ≡ read_of subset clip
       → IsStored document.stored document.shape grid encoding
-      → IsReadFault grid.dimensions (unwrap_or subset (array_box grid.dimensions)) fault → IsPlanFault document fault
+      → IsReadFault clip grid.dimensions (unwrap_or subset (array_box grid.dimensions)) fault → IsPlanFault document fault
   of_target : (stored : Stored) (chunks : Option Box) (grid : ChunkGrid) (encoding : KeyEncoding) → document.task ≡ rechunk_to stored chunks
       → IsStored document.stored document.shape grid encoding → IsTargetFault stored document.shape fault → IsPlanFault document fault
   of_chunks : (stored : Stored) (chunks : Option Box) (source target : ChunkGrid) (source_encoding target_encoding : KeyEncoding)

@@ -1,10 +1,11 @@
 -- What the program writes for a document.
-use Rattle.std.specs.Prelude.{◌≡◌, ℕ, List, [], length, Option, unwrap_or}
+use Rattle.std.specs.Prelude.{◌≡◌, ℕ, Bool, true, false, List, [], length, Option, unwrap_or}
 use Rattle.serde_json.specs.Data.{Data}
 use Rattle.zarrs_chunk_base.specs.ArraySubset.{Box, IsEmptyBox}
 use Rattle.zarrs_chunk_base.specs.Dimension.{Dimension}
 use Rattle.zarrs_chunk_base.specs.Grid.{Grid}
 use Rattle.zarrs_chunk_keys.specs.ChunkKey.{Encoding, IsKey}
+use Rattle.zarrs_chunk_plan.specs.Clip.{IsClipped}
 use Rattle.zarrs_chunk_plan.specs.Plan.{IsPlan}
 use Rattle.zarrs_chunk_plan.specs.Rechunking.{Group, IsRechunking, all_chunks_box, array_box}
 use Rattle.zarrs_chunk_plan.specs.declared.part.Part.{Part}
@@ -19,13 +20,18 @@ pub record IsReadPlan (ds : List Dimension) (IsKeyOf : List ℕ → List ℕ →
   pub some : (¬ IsEmptyBox subset) → IsPlan ds IsKeyOf subset parts
   pub none : IsEmptyBox subset → parts ≡ []
 
+-- the box that is read for a box: it itself, or what it has of the array, where it is clipped
+abbrev pub IsAsked : (clip : Bool) → List Dimension → Box → Box → Type 0
+IsAsked false ds b asked = asked ≡ b
+IsAsked true ds b asked = IsClipped ds b asked
+
 -- The share of the plan that a document asks for, as text: of a read of a box of elements, or of all, or of a rechunking into the chunks of a box,
 -- or into all.
 pub data IsPlanned (document : Document) (text : List ℕ) : Type 0 where
-  of_read : (subset : Option Box) (grid : Grid) (encoding : Encoding) (parts : List Part) → document.task ≡ read_of subset
-      → IsStored document.stored document.shape grid encoding
-      → IsReadPlan grid.dimensions (IsKey encoding) (unwrap_or subset (array_box grid.dimensions)) parts → text ≡ read_lines document.share parts
-      → IsPlanned document text
+  of_read : (subset : Option Box) (clip : Bool) (asked : Box) (grid : Grid) (encoding : Encoding) (parts : List Part)
+      → document.task ≡ read_of subset clip → IsStored document.stored document.shape grid encoding
+      → IsAsked clip grid.dimensions (unwrap_or subset (array_box grid.dimensions)) asked
+      → IsReadPlan grid.dimensions (IsKey encoding) asked parts → text ≡ read_lines document.share parts → IsPlanned document text
   of_rechunking : (stored : Stored) (chunks : Option Box) (source target : Grid) (source_encoding target_encoding : Encoding) (groups : List Group)
       → document.task ≡ rechunk_to stored chunks → IsStored document.stored document.shape source source_encoding
       → IsStored stored document.shape target target_encoding

@@ -10,6 +10,7 @@ ghost use Rattle.programs.specs.declared.chunkplan.run_fault.RunFault.TheVariant
 
 use crate::chunkplan::RunFault;
 use crate::chunkplan::boxes::member_box;
+use crate::chunkplan::clip::member_clip;
 use crate::chunkplan::known_members::{DOCUMENT, ZARR_JSON, agree, check_known};
 use crate::chunkplan::share::member_share;
 use crate::document::{read_object, read_shape, required_member, take_stored};
@@ -22,8 +23,11 @@ use zarrs_chunk_plan::Share;
 /// What a document asks for.
 #[derive(Drop)]
 pub(crate) enum Task {
-    /// A read of a box of elements, or of the whole array.
-    Read(Option<ArraySubset>),
+    /// A read of a box of elements, or of the whole array, and whether the box is clipped to the array.
+    Read {
+        subset: Option<ArraySubset>,
+        clip: bool,
+    },
     /// A rechunking into the chunks of a box of chunk numbers, or into all.
     Rechunk(Stored, Option<ArraySubset>),
 }
@@ -41,8 +45,8 @@ pub(crate) struct Document {
 ///
 /// # Errors
 /// The first that applies: the input is no JSON, or no object; a member isn't known; one is missing; one doesn't go with the others; one isn't of its
-/// form, of `shape`, `share`, `chunk_grid`, `chunk_key_encoding`, and of `subset`, or of `target` and `chunks`; before its own members, the target
-/// has one that isn't known, or is of another array. Or out of memory.
+/// form, of `shape`, `share`, `chunk_grid`, `chunk_key_encoding`, and of `subset` and `clip`, or of `target` and `chunks`; before its own members,
+/// the target has one that isn't known, or is of another array. Or out of memory.
 pub(crate) fn parse(alloc: Global, input: &[u8]) -> Result<Document, RunFault>
     ensures { MatchResult result
         (λ document. (tree : Data) × IsTreeOf input.now tree
@@ -94,6 +98,7 @@ fn check_fitting(tree: &Value) -> Result<(), RunFault>
 {
     match tree.get("target") {
         Some(_) if tree.get("subset").is_some() => { Err(RunFault::SubsetOfTarget) }
+        Some(_) if tree.get("clip").is_some() => { Err(RunFault::ClipOfTarget) }
         None if tree.get("chunks").is_some() => { Err(RunFault::ChunksOfNoTarget) }
         _ => Ok(()),
     }
@@ -124,7 +129,9 @@ fn task_from(alloc: Global, mut tree: Value) -> Result<Task, RunFault>
         (λ fault. (fault ≡ Memory) ⊎ IsTaskFault (view tree) fault) }
 {
     let Some(mut target) = take_member(&mut tree, "target") else {
-        return Ok(Task::Read(member_box(alloc, &tree, "subset")?));
+        let subset = member_box(alloc, &tree, "subset")?;
+        let clip = member_clip(&tree)?;
+        return Ok(Task::Read { subset, clip });
     };
     if !target.is_object() {
         return Err(RunFault::WrongValue("target"));

@@ -26,7 +26,7 @@ pub(crate) const ZARR_JSON: [&str; 11] = [
 ];
 
 /// What a document may have.
-pub(crate) const DOCUMENT: [&str; 15] = [
+pub(crate) const DOCUMENT: [&str; 16] = [
     "attributes",
     "chunk_grid",
     "chunk_key_encoding",
@@ -39,6 +39,7 @@ pub(crate) const DOCUMENT: [&str; 15] = [
     "storage_transformers",
     "zarr_format",
     "chunks",
+    "clip",
     "share",
     "subset",
     "target",

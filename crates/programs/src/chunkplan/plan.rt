@@ -1,5 +1,6 @@
 //! The plan that a document asks for.
-ghost use Rattle.std.specs.Prelude.{◌≡◌, ◌⊎◌, IfErr, IfOk, List, length, unwrap_or};
+ghost use Rattle.std.specs.Prelude.{◌≡◌, ◌⊎◌, false, IfErr, IfOk, List, length, unwrap_or};
+ghost use Rattle.zarrs_chunk_base.specs.ArraySubset.{Box};
 ghost use Rattle.zarrs_chunk_base.specs.Dimension.{array_sizes};
 ghost use Rattle.zarrs_chunk_keys.specs.seen.Encodings.{encoding_in};
 ghost use Rattle.zarrs_chunks.specs.seen.Grids.{grid_in};
@@ -10,7 +11,7 @@ ghost use Rattle.programs.specs.Stored.{IsStored, stored_of};
 ghost use Rattle.programs.specs.chunkplan.Document.{document_of};
 ghost use Rattle.programs.specs.chunkplan.Line.{read_lines, rechunking_lines};
 ghost use Rattle.programs.specs.chunkplan.PlanFault.{IsChunksFault, IsPlanFault, IsReadFault, IsTargetFault};
-ghost use Rattle.programs.specs.chunkplan.Planned.{IsPlanned, IsReadPlan};
+ghost use Rattle.programs.specs.chunkplan.Planned.{IsAsked, IsPlanned, IsReadPlan};
 ghost use Rattle.programs.specs.chunkplan.seen.Steps.{StepLeaves};
 ghost use Rattle.programs.specs.declared.chunkplan.run_fault.RunFault.TheVariants.{Memory};
 ghost use Rattle.programs.specs.seen.Sent.{output};
@@ -31,8 +32,8 @@ use zarrs_chunks::{ChunkGrid, ChunkGridTraits};
 /// Sends the plan that a document asks for, line by line.
 ///
 /// # Errors
-/// The grid or the encoding can't be made, or those of the target; the box has another number of dimensions, or no cover; a write failed; or
-/// out of memory. Nothing has been written where it is none of the last two.
+/// The grid or the encoding can't be made, or those of the target; the box has another number of dimensions, or no cover, where it isn't clipped; a
+/// write failed; or out of memory. Nothing has been written where it is none of the last two.
 pub(crate) fn write_plan<W: Write>(
     alloc: Global,
     document: Document,
@@ -52,9 +53,9 @@ pub(crate) fn write_plan<W: Write>(
     } = document;
     let array = stored.open(alloc, &shape)?;
     match task {
-        Task::Read(subset) => {
+        Task::Read { subset, clip } => {
             let subset = or_whole_array(alloc, subset, &array.grid)?;
-            write_read(alloc, &array, &subset, &share, held_back, writer)
+            write_read(alloc, &array, subset, clip, &share, held_back, writer)
         }
         Task::Rechunk(target, chunks) => {
             let target = open_target(alloc, target, &shape)?;
@@ -113,8 +114,53 @@ fn or_all_chunks<G: ChunkGridTraits>(
     }
 }
 
-/// Sends a share of the plan of reading a box of elements.
+/// Sends a share of the plan of reading a box of elements, as it is or clipped to the array.
 fn write_read<G: ChunkGridTraits, E: ChunkKeyEncodingTraits, W: Write>(
+    alloc: Global,
+    array: &StoredArray<G, E>,
+    subset: ArraySubset,
+    clip: bool,
+    share: &Share,
+    held_back: &mut Vec<u8>,
+    writer: &mut Watched<W>,
+) -> Result<(), RunFault>
+    requires { HasKeys (E.is_key array.now.encoding) }
+    ensures { StepLeaves
+        (λ text. (asked : Box) × (parts : List PartValue)
+        × IsAsked clip (G.dimensions array.now.grid) subset asked
+        × IsReadPlan (G.dimensions array.now.grid) (E.is_key array.now.encoding) asked parts
+        × (text ≡ read_lines share.now parts))
+        (IsReadFault clip (G.dimensions array.now.grid) subset) result
+        (output W.contents held_back.old.items writer.old)
+        (output W.contents held_back.new.items writer.new) }
+{
+    let asked = asked_box(alloc, &array.grid, subset, clip)?;
+    write_asked(alloc, array, &asked, share, held_back, writer)
+}
+
+/// The box that is read for a box of elements: it itself, or what it has of the array, where it is clipped.
+fn asked_box<G: ChunkGridTraits>(
+    alloc: Global,
+    grid: &G,
+    subset: ArraySubset,
+    clip: bool,
+) -> Result<ArraySubset, RunFault>
+    ensures asked { IfOk result (IsAsked clip (G.dimensions grid.now) subset) }
+    ensures refused { IfErr result (λ fault. (fault ≡ Memory)
+        ⊎ IsReadFault clip (G.dimensions grid.now) subset fault) }
+{
+    if !clip {
+        return Ok(subset);
+    }
+    match zarrs_chunk_plan::clip(alloc, grid, &subset) {
+        Ok(clipped) => Ok(clipped),
+        Err(Refusal::Refused(error)) => Err(RunFault::SubsetDimensionality(error)),
+        Err(Refusal::Memory(_)) => Err(RunFault::Memory),
+    }
+}
+
+/// Sends a share of the plan of reading a box of elements as it is.
+fn write_asked<G: ChunkGridTraits, E: ChunkKeyEncodingTraits, W: Write>(
     alloc: Global,
     array: &StoredArray<G, E>,
     subset: &ArraySubset,
@@ -127,7 +173,7 @@ fn write_read<G: ChunkGridTraits, E: ChunkKeyEncodingTraits, W: Write>(
         (λ text. (parts : List PartValue)
         × IsReadPlan (G.dimensions array.now.grid) (E.is_key array.now.encoding) subset.now parts
         × (text ≡ read_lines share.now parts))
-        (IsReadFault (G.dimensions array.now.grid) subset.now) result
+        (IsReadFault false (G.dimensions array.now.grid) subset.now) result
         (output W.contents held_back.old.items writer.old)
         (output W.contents held_back.new.items writer.new) }
 {

@@ -47,6 +47,9 @@ pub enum RunFault {
     /// The document has a box of elements, and a target.
     #[error("field `subset` is for a read: leave out `target`, or leave it out")]
     SubsetOfTarget,
+    /// The document says whether the box that it reads is clipped, and has a target.
+    #[error("field `clip` is for a read: leave out `target`, or leave it out")]
+    ClipOfTarget,
     /// A member of the target isn't known.
     #[error("field `target`: {0}")]
     UnknownOfTarget(UnknownMember),

@@ -3,10 +3,11 @@ use Rattle.std.proofs.lemmas.Result.{err_from_is_err_and}
 use Rattle.serde_json.specs.Find.{as_object, get}
 use Rattle.serde_json.specs.View.{view}
 use Rattle.programs.specs.Stored.{stored_of}
-use Rattle.programs.specs.chunkplan.DocumentFault.{of_chunks, of_misfit, of_subset, of_target, of_target_stored}
+use Rattle.programs.specs.chunkplan.DocumentFault.{of_chunks, of_clip, of_misfit, of_subset, of_target, of_target_stored}
 use Rattle.programs.specs.chunkplan.RunFault.{of_document}
-use Rattle.programs.proofs.chunkplan.LeftMembers.{chunks_is_no_target, data_type_is_no_target, has_box_fault, is_of_array}
-use Rattle.programs.proofs.chunkplan.LeftMembers.{is_target_misfit, shape_is_no_target, subset_is_no_target}
+use Rattle.programs.proofs.chunkplan.LeftMembers.{chunks_is_no_target, clip_is_no_target, data_type_is_no_target, has_box}
+use Rattle.programs.proofs.chunkplan.LeftMembers.{has_box_fault, has_clip_fault, is_of_array, is_target_misfit, shape_is_no_target}
+use Rattle.programs.proofs.chunkplan.LeftMembers.{subset_is_no_target}
 use Rattle.programs.proofs.chunkplan.document.task_from.Goals as goal
 
 pub returns-then-not-is_object : goal.returns-then-not-is_object
@@ -27,8 +28,8 @@ returns-in_err-stored c =
     (c.take_member.ensures.others (codes "data_type") data_type_is_no_target) c.in_ok-check_target.ensures) is refl))
     c.in_err-stored.ensures.stored)
 
-pub returns-in_err-member_box : goal.returns-in_err-member_box
-returns-in_err-member_box c =
+pub returns-in_err-subset : goal.returns-in_err-subset
+returns-in_err-subset c =
     let p = err_from_is_err_and c.from_residual.result c.from_residual.ensures.1 in
     let tree = view c.args.tree in
     let left = view c.take_member.new.tree in
@@ -36,11 +37,22 @@ returns-in_err-member_box c =
     rw (p.1, p.2)
     (⊎_elim (λ memory. inl memory)
     (λ is. inr (of_subset none (has_box_fault tree left (codes "subset") _ (c.take_member.ensures.others (codes "subset") subset_is_no_target) is)))
-    c.in_err-member_box.ensures)
+    c.in_err-subset.ensures)
 
-pub returns-in_err-member_box-2 : goal.returns-in_err-member_box-2
-returns-in_err-member_box-2 c =
-    let p = err_from_is_err_and c.from_residual-in_err-member_box-2.result c.from_residual-in_err-member_box-2.ensures.1 in
+pub returns-in_err-clip : goal.returns-in_err-clip
+returns-in_err-clip c =
+    let p = err_from_is_err_and c.from_residual-in_err-clip.result c.from_residual-in_err-clip.ensures.1 in
+    let tree = view c.args.tree in
+    let left = view c.take_member.new.tree in
+    let none : get (codes "target") tree ≡ None = sym c.take_member.ensures.taken ∙ ap (option_map view) c.in_default.is in
+    rw (p.1, p.2)
+    (inr (of_clip c.in_ok-subset.subset none
+    (has_box tree left (codes "subset") _ (c.take_member.ensures.others (codes "subset") subset_is_no_target) c.in_ok-subset.ensures)
+    (has_clip_fault tree left _ (c.take_member.ensures.others (codes "clip") clip_is_no_target) c.in_err-clip.ensures)))
+
+pub returns-in_err-member_box : goal.returns-in_err-member_box
+returns-in_err-member_box c =
+    let p = err_from_is_err_and c.from_residual-in_err-member_box.result c.from_residual-in_err-member_box.ensures.1 in
     let tree = view c.args.tree in
     let left = view c.take_member.new.tree in
     let there = sym c.take_member.ensures.taken ∙ ap (option_map view) c.in-Some.is in
@@ -51,7 +63,7 @@ returns-in_err-member_box-2 c =
     (c.take_member.ensures.others (codes "data_type") data_type_is_no_target) c.in_ok-check_target.ensures)
     c.in_ok-stored.ensures.stored
     (has_box_fault tree left (codes "chunks") _ (c.take_member.ensures.others (codes "chunks") chunks_is_no_target) is)))
-    c.in_err-member_box-2.ensures)
+    c.in_err-member_box.ensures)
 
 pub returns-in_err-check_target : goal.returns-in_err-check_target
 returns-in_err-check_target c =

@@ -8,7 +8,7 @@ use Rattle.zarrs_chunk_plan.specs.Rechunking.{IsRechunking}
 use Rattle.programs.specs.Stored.{stored_of}
 use Rattle.programs.specs.chunkplan.Document.{document_of, task_of}
 use Rattle.programs.specs.chunkplan.PlanFault.{IsChunksFault, IsPlanFault, IsReadFault, of_chunks, of_source, of_subset, of_target}
-use Rattle.programs.specs.chunkplan.Planned.{IsPlanned, IsReadPlan, of_read, of_rechunking}
+use Rattle.programs.specs.chunkplan.Planned.{IsAsked, IsPlanned, of_read, of_rechunking}
 use Rattle.programs.specs.chunkplan.RunFault.{of_create}
 use Rattle.programs.specs.seen.Sent.{output}
 use Rattle.programs.proofs.chunkplan.RunOutcomes.{no_failed_write}
@@ -44,11 +44,12 @@ returns-in-Read g c =
     let grid = grid_in c.in_ok-array.array.grid in
     let encoding = encoding_in c.in_ok-array.array.encoding in
     let document = document_of c.args.document in
-    step_follows _ (IsPlanned document) (IsReadFault grid.dimensions c.in_ok-subset-in-Read.subset) (IsPlanFault document)
-    (λ text (parts, is, lines). of_read c.in-Read.subset grid encoding parts (ap task_of c.in-Read.is) made
-    (subst (λ b. IsReadPlan grid.dimensions (IsKey encoding) b parts) c.in_ok-subset-in-Read.ensures is) lines)
-    (λ fault is. of_subset c.in-Read.subset grid encoding (ap task_of c.in-Read.is) made
-    (subst (λ b. IsReadFault grid.dimensions b fault) c.in_ok-subset-in-Read.ensures is))
+    let clip = c.in-Read.clip in
+    step_follows _ (IsPlanned document) (IsReadFault clip grid.dimensions c.in_ok-subset-in-Read.subset) (IsPlanFault document)
+    (λ text (asked, parts, meant, is, lines). of_read c.in-Read.subset clip asked grid encoding parts (ap task_of c.in-Read.is) made
+    (subst (λ b. IsAsked clip grid.dimensions b asked) c.in_ok-subset-in-Read.ensures meant) is lines)
+    (λ fault is. of_subset c.in-Read.subset clip grid encoding (ap task_of c.in-Read.is) made
+    (subst (λ b. IsReadFault clip grid.dimensions b fault) c.in_ok-subset-in-Read.ensures is))
     (output g.W.Write.contents c.args.held_back.now.items c.args.writer.now)
     (output g.W.Write.contents c.write_read.new.held_back.items c.write_read.new.writer)
     c.write_read.result c.write_read.ensures
