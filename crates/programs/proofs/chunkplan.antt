@@ -1,6 +1,8 @@
 pub mod Asked
 pub mod Begun
 pub mod Behind
+pub mod CountedPlans
+pub mod Digits
 pub mod FormFaults
 pub mod LeftMembers
 pub mod Numbered

@@ -1,3 +1,4 @@
+pub mod CountsLine
 pub mod Document
 pub mod DocumentFault
 pub mod Known

@@ -5,11 +5,13 @@
 //! | `document` | the document that a JSON tree stands for |
 //! | `known_members` | the members that a document may have |
 //! | `boxes` | a box as a document writes it |
-//! | `clip` | whether the box that a document reads is clipped, as it writes that |
+//! | `flag` | a flag as a document writes it |
 //! | `share` | a share of a plan as a document writes it |
 //! | `plan` | the plan that a document asks for |
 //! | `copying` | the lines of a plan, sent as they are made |
 //! | `line` | one line |
+//! | `counting` | the counts of a plan, as one line |
+//! | `product` | products of numbers, in decimal digits |
 //! | `run_fault` | why a run stops |
 ghost use Rattle.std.specs.Prelude.{◌≡◌, ◌≤◌, false, IfSome, MatchResult, OnOk};
 ghost use Rattle.std.specs.Io.KnownBytes.{Keeps};
@@ -21,12 +23,14 @@ ghost use Rattle.programs.specs.chunkplan.seen.Steps.{StepLeaves};
 ghost use Rattle.programs.specs.seen.Sent.{output};
 
 mod boxes;
-mod clip;
 mod copying;
+mod counting;
 mod document;
+mod flag;
 mod known_members;
 mod line;
 mod plan;
+mod product;
 mod run_fault;
 mod share;
 

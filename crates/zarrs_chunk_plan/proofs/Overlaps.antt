@@ -36,3 +36,8 @@ overlap_holds (s ∷ one) (n ∷ sizes) (t ∷ other) (m ∷ others) (i ∷ inde
           (omega arith, omega arith, rest.1 (both.0.2, both.1.2)),
     )
 overlap_holds _ _ _ _ _ a b c also = absurd (omega arith)
+
+pub later_starts_long : (one other : List ℕ) → length one ≡ length other → length (later_starts one other) ≡ length one
+later_starts_long [] [] same = refl
+later_starts_long (s ∷ one) (t ∷ other) same = ap suc (later_starts_long one other (omega arith))
+later_starts_long _ _ same = absurd (omega arith)

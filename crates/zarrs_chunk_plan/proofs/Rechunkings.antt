@@ -21,7 +21,7 @@ use Rattle.zarrs_chunk_plan.proofs.Plans.{source_of}
 -- ---- the whole array
 
 -- what is counted from 0 is as it was
-counted_from_zeros : (n : ℕ) (xs : List ℕ) → length xs ≡ n → counted_from (replicate n 0) xs ≡ xs
+pub counted_from_zeros : (n : ℕ) (xs : List ℕ) → length xs ≡ n → counted_from (replicate n 0) xs ≡ xs
 counted_from_zeros zero [] same = refl
 counted_from_zeros (suc n) (x ∷ xs) same = let here : 0 + x ≡ x = omega arith in ap₂ (λ y rest. y ∷ rest) here (counted_from_zeros n xs (omega arith))
 counted_from_zeros _ _ same = absurd (omega arith)
@@ -127,15 +127,15 @@ module _ (source : List Dimension) (IsSourceKey : List ℕ → List ℕ → Type
   Apart copy other = (steps also index : List ℕ) → Moves source target copy steps index → Moves source target other also index → ⊥
 
   -- of a copy: the group that it is in and the group's chunk, and its part of the source and that part's chunk
-  record IsOf (chunks : Box) (copy : Part × Part) : Type 0 where
-    chunk : List ℕ
-    inside : IsInside chunks chunk
-    meets : Meets target (array_box target) chunk
-    to : IsPart target IsTargetKey (array_box target) chunk copy.1
-    s : List ℕ
-    from : IsPart source IsSourceKey copy.1.in_subset s copy.0
+  pub record IsOf (chunks : Box) (copy : Part × Part) : Type 0 where
+    pub chunk : List ℕ
+    pub inside : IsInside chunks chunk
+    pub meets : Meets target (array_box target) chunk
+    pub to : IsPart target IsTargetKey (array_box target) chunk copy.1
+    pub s : List ℕ
+    pub from : IsPart source IsSourceKey copy.1.in_subset s copy.0
 
-  origin_of : (chunks : Box) (groups : List Group) → IsRechunking source IsSourceKey target IsTargetKey chunks groups → (copy : Part × Part)
+  pub origin_of : (chunks : Box) (groups : List Group) → IsRechunking source IsSourceKey target IsTargetKey chunks groups → (copy : Part × Part)
       → Contains (copies_of groups) copy → IsOf chunks copy
   origin_of chunks groups plan copy among =
       let (group, in_groups, in_group) = in_some (λ g. map (λ from. (from, g.0)) g.1) groups copy among in

@@ -113,15 +113,18 @@ module _ (ds : List Dimension) (IsKey : List ℕ → List ℕ → Type 0) (chain
       let (parts, are) = have_parts b is_box chunks meet.1 in
       (part ∷ parts, (is, are))
 
-  has_plan : (b : Box) → IsBox b → (¬ IsEmptyBox b) → ((index : List ℕ) → IsInside b index → AreBelow (array_sizes ds) index)
-      → (parts : List Part) × IsPlan ds IsKey b parts
-  has_plan b is_box some within =
-      let (cover, is) = has_cover ds chains b is_box some within in
+  -- over a cover there is a plan
+  pub plan_over : (b cover : Box) → IsBox b → (¬ IsEmptyBox b) → IsCover ds b cover → (parts : List Part) × IsPlan ds IsKey b parts
+  plan_over b cover is_box some is =
       let meet = all_of_each (Meets ds b) (chunks_in cover)
       (λ chunk has. (cover_meets ds b cover chains is_box some is chunk).0 ((are_those_inside cover is.is_box chunk).0 has))
       in
       let (parts, are) = have_parts b is_box (chunks_in cover) meet in
       (parts, record { cover = cover; is_cover = is; are_parts = are })
+
+  has_plan : (b : Box) → IsBox b → (¬ IsEmptyBox b) → ((index : List ℕ) → IsInside b index → AreBelow (array_sizes ds) index)
+      → (parts : List Part) × IsPlan ds IsKey b parts
+  has_plan b is_box some within = let (cover, is) = has_cover ds chains b is_box some within in plan_over b cover is_box some is
 
 -- ---- the groups
 

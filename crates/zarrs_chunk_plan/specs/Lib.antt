@@ -1,5 +1,6 @@
 pub mod Clip
 pub mod Counted
+pub mod Counts
 pub mod Plan
 pub mod Rechunking
 pub mod Shares

@@ -22,6 +22,8 @@
 //! | `stored_array` | an array as it is stored: a grid and an encoding |
 //! | `rechunking` | `copies`: the plan of a rechunking |
 //! | `chunk_copies` | the walk over what a rechunking copies, a chunk of the target after another |
+//! | `counts` | how much a plan copies, without a walk over it |
+//! | `sources` | how many chunks of the source share elements with those of the target, along each dimension |
 //! | `copies_error` | why a rechunking can't be planned |
 //! | `boxes_from_zero` | the box of all elements of an array, and that of all chunks of a grid |
 //! | `clipping` | `clip`: a box of elements without those that the array doesn't have |
@@ -37,6 +39,7 @@ mod chunk_copies;
 mod chunks_between;
 mod clipping;
 mod copies_error;
+mod counts;
 pub mod laws;
 mod numbered_chunks;
 mod numbered_parts;
@@ -46,6 +49,7 @@ mod plan;
 mod rechunking;
 mod share;
 mod shared;
+mod sources;
 mod stored_array;
 mod walk;
 
@@ -53,6 +57,7 @@ pub use boxes_from_zero::{all_chunks, whole_array};
 pub use chunk_copies::{ChunkCopies, Copies};
 pub use clipping::clip;
 pub use copies_error::CopiesError;
+pub use counts::{Counts, counts_of_read, counts_of_rechunking};
 pub use numbered_chunks::{SomeChunks, some_chunks};
 pub use numbered_parts::{SomeParts, some_parts};
 pub use part::{ChunkShapeTinyVec, Part};

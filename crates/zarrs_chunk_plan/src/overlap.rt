@@ -24,7 +24,7 @@ pub(crate) fn overlap(
         → IsInside both index ↔ (IsInside one.now index × IsInside other.now index)) }
 {
     let start = later_starts(alloc, one.start(), other.start())?;
-    let shape = sizes_shared(alloc, one.start(), one.shape(), other)?;
+    let shape = sizes_shared(one.start(), Vec::from_slice(alloc, one.shape())?, other);
     Ok(box_of(start, shape))
 }
 

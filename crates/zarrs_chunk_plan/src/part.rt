@@ -56,7 +56,7 @@ pub(crate) fn part_of<G: ChunkGridTraits, E: ChunkKeyEncodingTraits>(
     Ok(Part {
         key,
         chunk,
-        shape: SmallVec::from_vec(shape),
+        shape,
         in_chunk,
         in_subset,
         whole,

@@ -61,21 +61,50 @@ pub fn copies<
     ensures lengths_first { length chunks.now.start ≢ length (H.dimensions target.now.grid)
         → HasMemory result }
 {
-    let grid = &target.grid;
-    if !are_of_one_array(&source.grid, grid) {
+    let targets = targets_of(alloc, &source.grid, &target.grid, chunks)?;
+    let array = whole_array(alloc, &target.grid)?;
+    let walk = Parts::new(alloc, &target.grid, &target.encoding, array, targets)?;
+    Ok(Copies::new(alloc, source, walk))
+}
+
+/// The chunks of the target that are written: those in a box of chunk numbers that hold elements of the array.
+///
+/// # Errors
+/// As of [`copies`].
+pub(crate) fn targets_of<G: ChunkGridTraits, H: ChunkGridTraits>(
+    alloc: Global,
+    source: &G,
+    target: &H,
+    chunks: &ArraySubset,
+) -> Result<ArraySubset, Refusal<CopiesError>>
+    ensures targets { IfOk result (AreTargets (H.dimensions target.now) chunks.now) }
+    ensures is_box { IfOk result IsBox }
+    ensures long { IfOk result (λ targets. length targets.start ≡ length (H.dimensions target.now)) }
+    ensures array { IfOk result (λ _. IsBox (array_box (H.dimensions target.now))) }
+    ensures one_array { IfOk result (λ _. array_sizes (G.dimensions source.now)
+        ≡ array_sizes (H.dimensions target.now)) }
+    ensures lengths { IfOk result (λ _. length chunks.now.start
+        ≡ length (H.dimensions target.now)) }
+    ensures refused { IfErr result (OrMemory (IsCopiesFault
+        (array_sizes (G.dimensions source.now)) (array_sizes (H.dimensions target.now))
+        (length chunks.now.start) (length (H.dimensions target.now)))) }
+    ensures shapes_first { array_sizes (G.dimensions source.now)
+        ≢ array_sizes (H.dimensions target.now) → HasMemory result }
+    ensures lengths_first { length chunks.now.start ≢ length (H.dimensions target.now)
+        → HasMemory result }
+{
+    if !are_of_one_array(source, target) {
         return Err(Refusal::Refused(CopiesError::ArrayShapes));
     }
-    if chunks.dimensionality() != grid.dimensionality() {
+    if chunks.dimensionality() != target.dimensionality() {
         return Err(Refusal::Refused(CopiesError::Chunks(IncompatibleDimensionalityError::new(
             chunks.dimensionality(),
-            grid.dimensionality(),
+            target.dimensionality(),
         ))));
     }
-    let array = whole_array(alloc, grid)?;
-    let written = chunks_of_array(alloc, grid, &array)?;
-    let wanted = overlap(alloc, &written, chunks)?;
-    let targets = Parts::new(alloc, grid, &target.encoding, array, wanted)?;
-    Ok(Copies::new(alloc, source, targets))
+    let array = whole_array(alloc, target)?;
+    let written = chunks_of_array(alloc, target, &array)?;
+    Ok(overlap(alloc, &written, chunks)?)
 }
 
 /// Whether two grids are of arrays of one shape.

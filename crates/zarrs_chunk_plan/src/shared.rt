@@ -6,6 +6,8 @@ ghost use Rattle.zarrs_chunk_base.specs.Greatest.{greatest};
 ghost use Rattle.zarrs_chunk_plan.specs.Plan.{AreShared, HasAllOf, Meets};
 ghost use Rattle.zarrs_chunk_plan.specs.seen.Shared.{HoldSome, HoldsRest, Reaches, distances, shared_sizes};
 
+use crate::part::ChunkShapeTinyVec;
+use smallvec::SmallVec;
 use std::alloc::{AllocError, Global};
 use zarrs_chunk_base::{
     ArrayIndices, ArrayShape, ArraySubset, IncompatibleDimensionalityError, Refusal,
@@ -16,7 +18,7 @@ use zarrs_chunks::ChunkGridTraits;
 #[derive(Drop)]
 pub(crate) struct Shared {
     /// The chunk's edges.
-    pub(crate) shape: ArrayShape,
+    pub(crate) shape: ChunkShapeTinyVec,
     /// The shared elements, counted from the chunk's first element.
     pub(crate) in_chunk: ArraySubset,
     /// The same, counted from the first element of the box.
@@ -47,11 +49,18 @@ pub(crate) fn shared_elements<G: ChunkGridTraits>(
 {
     let start = array_subset.start();
     let origin = expect_answer(grid.chunk_origin(alloc, chunk))?;
-    let shape = expect_answer(grid.chunk_shape_u64(alloc, chunk))?;
-    let sizes = sizes_shared(alloc, &origin, &shape, array_subset)?;
-    let in_chunk = made_box(steps_to(alloc, &origin, start)?, sizes.clone()?)?;
-    let in_subset = made_box(steps_to(alloc, start, &origin)?, sizes)?;
-    let whole = has_all(array_subset, &origin, &shape, grid.array_shape());
+    let edges = expect_answer(grid.chunk_shape_u64(alloc, chunk))?;
+    if start.len() != origin.len() {
+        // Never: a chunk that holds an element of the box has a number for each of its dimensions.
+        return Err(AllocError);
+    }
+    let shape = SmallVec::from_slice(alloc, &edges)?;
+    let whole = has_all(array_subset, &origin, &edges, grid.array_shape());
+    // From here on the lists of the chunk's origin and edges become those of the part.
+    let sizes = sizes_shared(&origin, edges, array_subset);
+    let from_start = steps_to(Vec::from_slice(alloc, start)?, &origin);
+    let in_subset = made_box(from_start, Vec::from_slice(alloc, &sizes)?)?;
+    let in_chunk = made_box(steps_to(origin, start), sizes)?;
     Ok(Shared {
         shape,
         in_chunk,
@@ -75,41 +84,34 @@ pub(crate) fn expect_answer<T: Drop>(
     }
 }
 
-/// For each dimension how far after the one index the other lies; 0 where it lies before.
-///
-/// # Errors
-/// Out of memory.
-fn steps_to(alloc: Global, from: &[u64], to: &[u64]) -> Result<ArrayIndices, AllocError>
-    ensures { IfOk result (λ v. v.items ≡ distances from.now to.now) }
+/// For each dimension how far after the one index the other lies, in the one list's own memory; 0 where it lies before.
+pub(crate) fn steps_to(mut from: ArrayIndices, to: &[u64]) -> ArrayIndices
+    requires { length from.items ≡ length to.now }
+    ensures { result.items ≡ distances from.items to.now }
 {
-    let mut steps = Vec::with_capacity(alloc, from.len())?;
-    let pairs = from.iter().zip(to);
-    steps.extend(pairs.map(|(first, last)| last.saturating_sub(*first)))?;
-    Ok(steps)
+    for (dimension, last) in to.iter().enumerate() {
+        from[dimension] = last.saturating_sub(from[dimension]);
+    }
+    from
 }
 
-/// For each dimension how many indices two ranges share: one from a start on, of so many indices, and that of a box.
-///
-/// # Errors
-/// Out of memory.
-pub(crate) fn sizes_shared(
-    alloc: Global,
-    start: &[u64],
-    sizes: &[u64],
-    other: &ArraySubset,
-) -> Result<ArrayShape, AllocError>
-    ensures { IfOk result (λ v. v.items ≡ shared_sizes start.now sizes.now
-        other.now.start other.now.shape) }
+/// For each dimension how many indices two ranges share: one from a start on, of so many indices, and that of a box. They are given in the memory
+/// of the first range's sizes.
+pub(crate) fn sizes_shared(start: &[u64], mut sizes: ArrayShape, other: &ArraySubset) -> ArrayShape
+    requires sizes { length sizes.items ≡ length start.now }
+    requires other { length other.now.start ≡ length start.now }
+    ensures { result.items ≡ shared_sizes start.now sizes.items other.now.start other.now.shape }
 {
-    let mut shared = Vec::with_capacity(alloc, start.len())?;
-    let ranges = start.iter().zip(sizes);
-    let others = other.start().iter().zip(other.shape());
-    shared.extend(
-        ranges.zip(others).map(|((first, size), (start, also))| size_shared(
-            *first, *size, *start, *also,
-        )),
-    )?;
-    Ok(shared)
+    let (starts, also) = (other.start(), other.shape());
+    for (dimension, first) in start.iter().enumerate() {
+        sizes[dimension] = size_shared(
+            *first,
+            sizes[dimension],
+            starts[dimension],
+            also[dimension],
+        );
+    }
+    sizes
 }
 
 /// How many indices two ranges share, which are given by their first index and how many they hold. An index past

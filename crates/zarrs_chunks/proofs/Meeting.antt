@@ -87,7 +87,7 @@ cover_meets ds b cover chains is_box some is =
     is.is_box.lengths (length_values Holds ds cover.start b.start is.first) is_box.lengths chains is.some some is.first is.last
 
 -- an index from where one chunk starts to where a later one ends lies in a chunk from the one to the other
-lies_between : (d : Dimension) → IsChain d → (first k i : ℕ) → IsTrue (d.has_chunk (first + k)) → d.start first ≤ i → i < d.end (first + k)
+pub lies_between : (d : Dimension) → IsChain d → (first k i : ℕ) → IsTrue (d.has_chunk (first + k)) → d.start first ≤ i → i < d.end (first + k)
     → (c : ℕ) × (first ≤ c) × (c ≤ first + k) × Holds d c i
 lies_between d chain first zero i has from below =
     let same : first + zero ≡ first = omega arith in (
@@ -147,7 +147,7 @@ answered_cover_meets ds b chains is_box some _ h = tt
 -- ---- the box of a box of chunks
 
 -- an index of a chunk between two lies from where the one starts to where the other ends
-lies_within : (d : Dimension) → IsChain d → (first last c i : ℕ) → IsTrue (d.has_chunk last) → first ≤ c → c ≤ last → Holds d c i
+pub lies_within : (d : Dimension) → IsChain d → (first last c i : ℕ) → IsTrue (d.has_chunk last) → first ≤ c → c ≤ last → Holds d c i
     → (d.start first ≤ i) × (i < d.end last)
 lies_within d chain first last c i has low high here =
     let (start, _) = in_chain d chain first c low here.chunk in

@@ -4,11 +4,14 @@ use Rattle.serde_json.specs.Data.{Data}
 use Rattle.serde_json.specs.Find.{get}
 use Rattle.zarrs_chunk_base.specs.First.{IsFirst}
 use Rattle.programs.specs.Document.{IsMissingFault, IsShapeFault}
+use Rattle.programs.specs.declared.chunkplan.run_fault.RunFault.{RunFault}
+use Rattle.programs.specs.declared.chunkplan.run_fault.RunFault.TheVariants.{ShareOfCounts}
 use Rattle.programs.specs.declared.document_fault.DocumentFault.{DocumentFault}
 use Rattle.programs.specs.declared.document_fault.DocumentFault.TheVariants.{Missing, WrongValue}
 use Rattle.programs.proofs.Members.{has_more, is_there, no_more}
 use Rattle.programs.specs.chunkplan.Document.{Fit}
-use Rattle.programs.specs.chunkplan.DocumentFault.{HasMembers, IsFormFault, document_members, misformed_shape, missing}
+use Rattle.programs.specs.chunkplan.DocumentFault.{HasMembers, IsFormFault, IsMisfit, IsTaskMisfit, document_members}
+use Rattle.programs.specs.chunkplan.DocumentFault.{misformed_shape, missing}
 use Rattle.programs.specs.chunkplan.Known.{HasOnly, known_members}
 use Rattle.programs.specs.chunkplan.RunFault.{of_document}
 
@@ -32,3 +35,8 @@ pub no_shape : (d m : Data) (told : DocumentFault) → HasOnly known_members d �
 no_shape d m (Missing field) known members fit there is = absurd (is_there d m (codes "shape") there is.1)
 no_shape d m (WrongValue field) known members fit there is = misformed_shape known members fit is.1 is.0
 no_shape d m _ known members fit there is = absurd is
+
+-- what doesn't go with what is asked for comes first
+pub task_misfit : (d : Data) (fault : RunFault) → IsTaskMisfit d fault → IsMisfit d fault
+task_misfit d ShareOfCounts is = absurd is
+task_misfit d _ is = is

@@ -6,8 +6,8 @@ use Rattle.serde_json.specs.Find.{as_bool, get}
 use Rattle.zarrs_chunk_base.specs.ArraySubset.{Box}
 use Rattle.programs.specs.declared.chunkplan.run_fault.RunFault.{RunFault}
 use Rattle.programs.specs.declared.chunkplan.run_fault.RunFault.TheVariants.{OtherDataType, OtherShape, UnknownOfTarget}
-use Rattle.programs.specs.chunkplan.Document.{HasBox, HasClip, IsBoxIn, IsOfArray, IsTask, Task, read_of, rechunk_to}
-use Rattle.programs.specs.chunkplan.DocumentFault.{HasBoxFault, HasClipFault, IsTargetMisfit, IsTaskFault, of_chunks, of_clip, of_misfit}
+use Rattle.programs.specs.chunkplan.Document.{HasBox, HasFlag, IsBoxIn, IsOfArray, IsTask, Task, read_of, rechunk_to}
+use Rattle.programs.specs.chunkplan.DocumentFault.{HasBoxFault, HasFlagFault, IsTargetMisfit, IsTaskFault, of_chunks, of_clip, of_misfit}
 use Rattle.programs.specs.chunkplan.DocumentFault.{of_subset, of_target, of_target_stored}
 use Rattle.programs.specs.chunkplan.Known.{Agree, Differ}
 
@@ -20,13 +20,13 @@ pub has_box_fault : (d left : Data) (field : List ℕ) (fault : RunFault) → ge
     → HasBoxFault d field fault
 has_box_fault d left field fault same (m, there, is) = (m, sym same ∙ there, is)
 
-pub has_clip : (d left : Data) (clip : Bool) → get (codes "clip") left ≡ get (codes "clip") d → HasClip left clip → HasClip d clip
-has_clip d left clip same =
-    subst (λ found. ((found ≡ None) × (clip ≡ false)) ⊎ ((m : Data) × (found ≡ Some m) × (as_bool m ≡ Some clip))) same
+pub has_flag : (d left : Data) (field : List ℕ) (flag : Bool) → get field left ≡ get field d → HasFlag left field flag → HasFlag d field flag
+has_flag d left field flag same =
+    subst (λ found. ((found ≡ None) × (flag ≡ false)) ⊎ ((m : Data) × (found ≡ Some m) × (as_bool m ≡ Some flag))) same
 
-pub has_clip_fault : (d left : Data) (fault : RunFault) → get (codes "clip") left ≡ get (codes "clip") d → HasClipFault left fault
-    → HasClipFault d fault
-has_clip_fault d left fault same (m, there, none, tells) = (m, sym same ∙ there, none, tells)
+pub has_flag_fault : (d left : Data) (field : List ℕ) (fault : RunFault) → get field left ≡ get field d → HasFlagFault left field fault
+    → HasFlagFault d field fault
+has_flag_fault d left field fault same (m, there, none, tells) = (m, sym same ∙ there, none, tells)
 
 -- ---- a target of the array
 
@@ -69,7 +69,7 @@ module _ (d left : Data) (are_left : AreLeft d left) where
   is_task (read_of b clip) (none, box, has) = (
     sym (short (codes "target") (omega arith)) ∙ none,
     has_box d left (codes "subset") b (short (codes "subset") (omega arith)) box,
-    has_clip d left clip (short (codes "clip") (omega arith)) has,
+    has_flag d left (codes "clip") clip (short (codes "clip") (omega arith)) has,
   )
   is_task (rechunk_to stored b) (m, there, of_array, has, box) = (
     m,
@@ -86,7 +86,7 @@ module _ (d left : Data) (are_left : AreLeft d left) where
   is_task_fault fault (of_clip b none box is) =
       of_clip b (sym (short (codes "target") (omega arith)) ∙ none)
       (has_box d left (codes "subset") b (short (codes "subset") (omega arith)) box)
-      (has_clip_fault d left fault (short (codes "clip") (omega arith)) is)
+      (has_flag_fault d left (codes "clip") fault (short (codes "clip") (omega arith)) is)
   is_task_fault fault (of_target m there none tells) = of_target m (sym (short (codes "target") (omega arith)) ∙ there) none tells
   is_task_fault fault (of_misfit m there object is) =
       of_misfit m (sym (short (codes "target") (omega arith)) ∙ there) object

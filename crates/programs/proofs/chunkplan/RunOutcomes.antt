@@ -6,8 +6,8 @@ use Rattle.zarrs_chunk_plan.specs.Rechunking.{all_chunks_box, array_box}
 use Rattle.programs.specs.Streams.{IsReadToEnd, IsWritten, Streams}
 use Rattle.programs.specs.Watched.{IsReadFailure}
 use Rattle.programs.specs.chunkplan.Document.{Document}
-use Rattle.programs.specs.chunkplan.DocumentFault.{HasBoxFault, IsBoxFormFault, IsFormFault, IsMisfit, IsTargetMisfit, IsTaskFault}
-use Rattle.programs.specs.chunkplan.DocumentFault.{misfit, misformed_shape, misformed_share, misformed_stored, misformed_task, missing}
+use Rattle.programs.specs.chunkplan.DocumentFault.{HasBoxFault, HasWantedFault, IsBoxFormFault, IsFormFault, IsMisfit, IsTargetMisfit, IsTaskFault}
+use Rattle.programs.specs.chunkplan.DocumentFault.{misfit, misformed_shape, misformed_stored, misformed_task, misformed_wanted, missing}
 use Rattle.programs.specs.chunkplan.DocumentFault.{no_object, not_of_form}
 use Rattle.programs.specs.chunkplan.DocumentFault.{IsUnknownFault, TellsMissing, TellsWrongValue, of_clip, of_misfit, of_target_stored, unknown}
 use Rattle.programs.specs.chunkplan.DocumentFault.{of_chunks as of_chunks_box, of_subset as of_subset_box, of_target as of_target_tree}
@@ -64,12 +64,17 @@ task_still d fault (of_misfit target _ _ is) = still (IsTargetMisfit d target) (
 task_still d fault (of_target_stored _ told _ _ _ _ same) = ap moves same ∙ of_document_still told
 task_still d fault (of_chunks_box _ _ _ _ _ is) = box_still d (codes "chunks") fault is
 
+-- a fault of what is wanted is a wrong value
+wanted_still : (d : Data) (fault : RunFault) → HasWantedFault d fault → moves fault ≡ false
+wanted_still d fault (inl (_, _, _, is)) = still (TellsWrongValue (codes "counts")) (λ h. h) (λ h. h) fault is
+wanted_still d fault (inr (_, (_, _, is, _))) = still (TellsWrongValue (codes "share")) (λ h. h) (λ h. h) fault is
+
 form_still : (d : Data) (fault : RunFault) → IsFormFault d fault → moves fault ≡ false
 form_still d fault (unknown is) = still (IsUnknownFault d) (λ h. h) (λ h. h) fault is
 form_still d fault (missing name _ _ is) = still (TellsMissing name) (λ h. h) (λ h. h) fault is
 form_still d fault (misfit _ _ is) = still (IsMisfit d) (λ h. h) (λ h. h) fault is
 form_still d fault (misformed_shape _ _ _ _ is) = still (TellsWrongValue (codes "shape")) (λ h. h) (λ h. h) fault is
-form_still d fault (misformed_share _ _ _ _ (_, _, is, _)) = still (TellsWrongValue (codes "share")) (λ h. h) (λ h. h) fault is
+form_still d fault (misformed_wanted _ _ _ _ is) = wanted_still d fault is
 form_still d fault (misformed_stored told _ _ _ _ _ _ _ same) = ap moves same ∙ of_document_still told
 form_still d fault (misformed_task _ _ _ _ _ _ _ _ is) = task_still d fault is
 

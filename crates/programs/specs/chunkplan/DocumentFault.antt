@@ -1,20 +1,19 @@
 -- The first fault of an input that is no document.
-use Rattle.std.specs.Prelude.{◌≡◌, ℕ, ◌≤◌, List, [], ◌∷◌, Option, IsSome, Some, None, codes}
+use Rattle.std.specs.Prelude.{◌≡◌, ◌⊎◌, ℕ, false, ◌≤◌, List, [], ◌∷◌, Option, IsSome, Some, None, codes}
 use Rattle.serde_json.specs.Data.{Data}
 use Rattle.serde_json.specs.Find.{as_bool, as_object, get}
 use Rattle.zarrs_chunk_base.specs.ArraySubset.{Box as ElementBox}
 use Rattle.zarrs_chunk_base.specs.ArraySubsetError.{IsBoxFault}
 use Rattle.zarrs_chunk_base.specs.First.{IsFirst}
 use Rattle.zarrs_chunk_base.specs.Json.{size_of, list_of, pair_of}
-use Rattle.zarrs_chunk_plan.specs.declared.share.Share.{Share}
 use Rattle.programs.specs.Document.{HasAll, HasStored, IsObjectOf, IsStoredFault, IsTextFault, shape_in}
 use Rattle.programs.specs.Stored.{Stored}
-use Rattle.programs.specs.chunkplan.Document.{Fit, HasBox, HasShare, IsOfArray}
+use Rattle.programs.specs.chunkplan.Document.{Fit, FitTask, HasBox, HasFlag, HasWanted, IsOfArray, Wanted}
 use Rattle.programs.specs.chunkplan.Known.{Agree, Differ, HasOnly, IsFirstUnknown, known_members, zarr_json_members}
 use Rattle.programs.specs.chunkplan.RunFault.{of_document}
 use Rattle.programs.specs.declared.chunkplan.run_fault.RunFault.{RunFault}
 use Rattle.programs.specs.declared.chunkplan.run_fault.RunFault.TheVariants.{Box, ChunksOfNoTarget, ClipOfTarget, Missing, OtherDataType}
-use Rattle.programs.specs.declared.chunkplan.run_fault.RunFault.TheVariants.{OtherShape, SubsetOfTarget, Unknown, UnknownOfTarget, WrongValue}
+use Rattle.programs.specs.declared.chunkplan.run_fault.RunFault.TheVariants.{OtherShape, ShareOfCounts, SubsetOfTarget, Unknown, UnknownOfTarget, WrongValue}
 use Rattle.programs.specs.declared.document_fault.DocumentFault.{DocumentFault}
 
 -- the fault says that the member of this name is missing, or isn't of its form
@@ -47,12 +46,17 @@ document_members = codes "shape" ∷ codes "chunk_grid" ∷ codes "chunk_key_enc
 abbrev pub HasMembers : Data → Type 0
 HasMembers = HasAll document_members
 
--- the fault says which member doesn't go with the others, the first of `subset` and `clip`
+-- the fault says which member doesn't go with what is asked for, the first of `subset` and `clip`
+abbrev pub IsTaskMisfit : Data → RunFault → Type 0
+IsTaskMisfit d SubsetOfTarget = IsSome (get (codes "target") d) × IsSome (get (codes "subset") d)
+IsTaskMisfit d ClipOfTarget = IsSome (get (codes "target") d) × (get (codes "subset") d ≡ None) × IsSome (get (codes "clip") d)
+IsTaskMisfit d ChunksOfNoTarget = (get (codes "target") d ≡ None) × IsSome (get (codes "chunks") d)
+IsTaskMisfit d _ = ⊥
+
+-- and then, that a share doesn't go with counts
 abbrev pub IsMisfit : Data → RunFault → Type 0
-IsMisfit d SubsetOfTarget = IsSome (get (codes "target") d) × IsSome (get (codes "subset") d)
-IsMisfit d ClipOfTarget = IsSome (get (codes "target") d) × (get (codes "subset") d ≡ None) × IsSome (get (codes "clip") d)
-IsMisfit d ChunksOfNoTarget = (get (codes "target") d ≡ None) × IsSome (get (codes "chunks") d)
-IsMisfit d _ = ⊥
+IsMisfit d ShareOfCounts = FitTask d × IsSome (get (codes "counts") d) × IsSome (get (codes "share") d)
+IsMisfit d fault = IsTaskMisfit d fault
 
 -- the fault says why a member's value is no box: it is no list of two lists of sizes, or these make no box
 abbrev pub IsBoxFormFault : Data → List ℕ → RunFault → Type 0
@@ -66,20 +70,24 @@ IsBoxFormFault _ _ _ = ⊥
 abbrev pub HasBoxFault : Data → List ℕ → RunFault → Type 0
 HasBoxFault d field fault = (m : Data) × (get field d ≡ Some m) × IsBoxFormFault m field fault
 
--- the member `clip` is there, and neither true nor false
-abbrev pub HasClipFault : Data → RunFault → Type 0
-HasClipFault d fault = (m : Data) × (get (codes "clip") d ≡ Some m) × (as_bool m ≡ None) × TellsWrongValue (codes "clip") fault
+-- the member is there, and neither true nor false
+abbrev pub HasFlagFault : Data → List ℕ → RunFault → Type 0
+HasFlagFault d field fault = (m : Data) × (get field d ≡ Some m) × (as_bool m ≡ None) × TellsWrongValue field fault
 
 -- the share is no list of two sizes, or its number isn't below how many there are
 abbrev pub HasShareFault : Data → RunFault → Type 0
 HasShareFault d fault = (m : Data) × (get (codes "share") d ≡ Some m) × TellsWrongValue (codes "share") fault
     × ((number of : ℕ) → pair_of size_of m ≡ Some (number, of) → of ≤ number)
 
+-- the first fault of what is wanted of the plan: of `counts`, and then of `share`
+abbrev pub HasWantedFault : Data → RunFault → Type 0
+HasWantedFault d fault = HasFlagFault d (codes "counts") fault ⊎ (HasFlag d (codes "counts") false × HasShareFault d fault)
+
 -- The first fault of what a tree asks for: its `subset` and its `clip`, where there is no target; and else the target, that it isn't of the array,
 -- its own two members, or `chunks`.
 pub data IsTaskFault (d : Data) (fault : RunFault) : Type 0 where
   of_subset : get (codes "target") d ≡ None → HasBoxFault d (codes "subset") fault → IsTaskFault d fault
-  of_clip : (subset : Option ElementBox) → get (codes "target") d ≡ None → HasBox d (codes "subset") subset → HasClipFault d fault → IsTaskFault d fault
+  of_clip : (subset : Option ElementBox) → get (codes "target") d ≡ None → HasBox d (codes "subset") subset → HasFlagFault d (codes "clip") fault → IsTaskFault d fault
   of_target : (target : Data) → get (codes "target") d ≡ Some target → as_object target ≡ None → TellsWrongValue (codes "target") fault
       → IsTaskFault d fault
   of_misfit : (target : Data) → get (codes "target") d ≡ Some target → IsSome (as_object target) → IsTargetMisfit d target fault → IsTaskFault d fault
@@ -90,17 +98,17 @@ pub data IsTaskFault (d : Data) (fault : RunFault) : Type 0 where
       → HasBoxFault d (codes "chunks") fault → IsTaskFault d fault
 
 -- The first fault of an object that is no document: a member isn't known; one is missing; one doesn't go with the others; and then, of the
--- shape, of the share, of how the array is stored and of what is asked for, the first that isn't of its form.
+-- shape, of what is wanted of the plan, of how the array is stored and of what is asked for, the first that isn't of its form.
 pub data IsFormFault (d : Data) (fault : RunFault) : Type 0 where
   unknown : IsUnknownFault d fault → IsFormFault d fault
   missing : (name : List ℕ) → HasOnly known_members d → IsFirst (λ member. get member d ≡ None) document_members name → TellsMissing name fault
       → IsFormFault d fault
   misfit : HasOnly known_members d → HasMembers d → IsMisfit d fault → IsFormFault d fault
   misformed_shape : HasOnly known_members d → HasMembers d → Fit d → shape_in d ≡ None → TellsWrongValue (codes "shape") fault → IsFormFault d fault
-  misformed_share : HasOnly known_members d → HasMembers d → Fit d → IsSome (shape_in d) → HasShareFault d fault → IsFormFault d fault
-  misformed_stored : (told : DocumentFault) (share : Share) → HasOnly known_members d → HasMembers d → Fit d → IsSome (shape_in d) → HasShare d share
-      → IsStoredFault d (codes "chunk_grid") (codes "chunk_key_encoding") told → fault ≡ of_document told → IsFormFault d fault
-  misformed_task : (share : Share) (stored : Stored) → HasOnly known_members d → HasMembers d → Fit d → IsSome (shape_in d) → HasShare d share
+  misformed_wanted : HasOnly known_members d → HasMembers d → Fit d → IsSome (shape_in d) → HasWantedFault d fault → IsFormFault d fault
+  misformed_stored : (told : DocumentFault) (wanted : Wanted) → HasOnly known_members d → HasMembers d → Fit d → IsSome (shape_in d)
+      → HasWanted d wanted → IsStoredFault d (codes "chunk_grid") (codes "chunk_key_encoding") told → fault ≡ of_document told → IsFormFault d fault
+  misformed_task : (wanted : Wanted) (stored : Stored) → HasOnly known_members d → HasMembers d → Fit d → IsSome (shape_in d) → HasWanted d wanted
       → HasStored d stored → IsTaskFault d fault → IsFormFault d fault
 
 -- The first fault of an input that is no document: it is no text of an object, or its object isn't of the form.

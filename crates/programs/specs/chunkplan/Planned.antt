@@ -1,17 +1,20 @@
 -- What the program writes for a document.
 use Rattle.std.specs.Prelude.{◌≡◌, ℕ, Bool, true, false, List, [], length, Option, unwrap_or}
 use Rattle.serde_json.specs.Data.{Data}
-use Rattle.zarrs_chunk_base.specs.ArraySubset.{Box, IsEmptyBox}
+use Rattle.zarrs_chunk_base.specs.ArraySubset.{Box, IsBox, IsEmptyBox}
 use Rattle.zarrs_chunk_base.specs.Dimension.{Dimension}
 use Rattle.zarrs_chunk_base.specs.Grid.{Grid}
 use Rattle.zarrs_chunk_keys.specs.ChunkKey.{Encoding, IsKey}
 use Rattle.zarrs_chunk_plan.specs.Clip.{IsClipped}
+use Rattle.zarrs_chunk_plan.specs.Counts.{AreReadCounts, AreRechunkingCounts}
 use Rattle.zarrs_chunk_plan.specs.Plan.{IsPlan}
-use Rattle.zarrs_chunk_plan.specs.Rechunking.{Group, IsRechunking, all_chunks_box, array_box}
+use Rattle.zarrs_chunk_plan.specs.Rechunking.{AreTargets, Group, IsRechunking, all_chunks_box, array_box}
+use Rattle.zarrs_chunk_plan.specs.declared.counts.Counts.{Counts}
 use Rattle.zarrs_chunk_plan.specs.declared.part.Part.{Part}
 use Rattle.programs.specs.Document.{IsTreeOf}
 use Rattle.programs.specs.Stored.{IsStored, Stored}
-use Rattle.programs.specs.chunkplan.Document.{Document, IsDocument, read_of, rechunk_to}
+use Rattle.programs.specs.chunkplan.CountsLine.{IsCountsLine}
+use Rattle.programs.specs.chunkplan.Document.{Document, IsDocument, Wanted, counts_wanted, lines_wanted, read_of, rechunk_to}
 use Rattle.programs.specs.chunkplan.Line.{read_lines, rechunking_lines}
 
 -- the plan of reading a box of elements, which has as many dimensions as the grid; an empty box has no parts
@@ -25,19 +28,31 @@ abbrev pub IsAsked : (clip : Bool) → List Dimension → Box → Box → Type 0
 IsAsked false ds b asked = asked ≡ b
 IsAsked true ds b asked = IsClipped ds b asked
 
--- The share of the plan that a document asks for, as text: of a read of a box of elements, or of all, or of a rechunking into the chunks of a box,
--- or into all.
+-- what is written of the plan of a read: the lines of a share, or the line of its counts
+abbrev pub IsReadText : Wanted → Box → List Part → List ℕ → Type 0
+IsReadText (lines_wanted share) asked parts text = text ≡ read_lines share parts
+IsReadText counts_wanted asked parts text = (counts : Counts) × AreReadCounts asked parts counts × IsCountsLine counts text
+
+-- and of that of a rechunking into chunks of a box
+abbrev pub IsRechunkingText : Wanted → (source target : List Dimension) → (chunks : Box) → List Group → List ℕ → Type 0
+IsRechunkingText (lines_wanted share) source target chunks groups text = text ≡ rechunking_lines share groups
+IsRechunkingText counts_wanted source target chunks groups text = (targets : Box) × IsBox targets × AreTargets target chunks targets
+    × ((counts : Counts) × AreRechunkingCounts source target targets groups counts × IsCountsLine counts text)
+
+-- What a document wants of its plan, as text: of a read of a box of elements, or of all, or of a rechunking into the chunks of a box, or into all.
 pub data IsPlanned (document : Document) (text : List ℕ) : Type 0 where
   of_read : (subset : Option Box) (clip : Bool) (asked : Box) (grid : Grid) (encoding : Encoding) (parts : List Part)
       → document.task ≡ read_of subset clip → IsStored document.stored document.shape grid encoding
       → IsAsked clip grid.dimensions (unwrap_or subset (array_box grid.dimensions)) asked
-      → IsReadPlan grid.dimensions (IsKey encoding) asked parts → text ≡ read_lines document.share parts → IsPlanned document text
+      → IsReadPlan grid.dimensions (IsKey encoding) asked parts → IsReadText document.wanted asked parts text → IsPlanned document text
   of_rechunking : (stored : Stored) (chunks : Option Box) (source target : Grid) (source_encoding target_encoding : Encoding) (groups : List Group)
       → document.task ≡ rechunk_to stored chunks → IsStored document.stored document.shape source source_encoding
       → IsStored stored document.shape target target_encoding
       → length (unwrap_or chunks (all_chunks_box target.dimensions)).start ≡ length target.dimensions
       → IsRechunking source.dimensions (IsKey source_encoding) target.dimensions (IsKey target_encoding)
-      (unwrap_or chunks (all_chunks_box target.dimensions)) groups → text ≡ rechunking_lines document.share groups → IsPlanned document text
+      (unwrap_or chunks (all_chunks_box target.dimensions)) groups
+      → IsRechunkingText document.wanted source.dimensions target.dimensions (unwrap_or chunks (all_chunks_box target.dimensions)) groups text
+      → IsPlanned document text
 
 -- the text that the program writes for an input
 pub record IsPlanOf (input text : List ℕ) : Type 0 where

@@ -1,3 +1,4 @@
 pub mod Added
+pub mod Digits
 pub mod Pieces
 pub mod Steps

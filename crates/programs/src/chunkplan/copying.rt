@@ -120,7 +120,10 @@ fn write_group<G: ChunkGridTraits, E: ChunkKeyEncodingTraits, W: Write>(
 }
 
 /// Sends a text.
-fn send_text<W: Write>(
+///
+/// # Errors
+/// As `write_parts`.
+pub(crate) fn send_text<W: Write>(
     text: &[u8],
     held_back: &mut Vec<u8>,
     writer: &mut Watched<W>,

@@ -3,14 +3,15 @@ ghost use Rattle.std.specs.Prelude.{◌≡◌, ◌⊎◌, MatchResult};
 ghost use Rattle.serde_json.specs.Data.{Data};
 ghost use Rattle.serde_json.specs.View.{view};
 ghost use Rattle.programs.specs.Document.{IsTreeOf};
-ghost use Rattle.programs.specs.chunkplan.Document.{Fit, IsDocument, IsOfArray, IsTask, document_of, task_of};
-ghost use Rattle.programs.specs.chunkplan.DocumentFault.{IsFormFault, IsInputFault, IsMisfit, IsTargetMisfit, IsTaskFault, IsUnknownFault};
+ghost use Rattle.programs.specs.chunkplan.Document.{Fit, FitTask, HasWanted, IsDocument, IsOfArray, IsTask, document_of, task_of, wanted_of};
+ghost use Rattle.programs.specs.chunkplan.DocumentFault.{HasWantedFault, IsFormFault, IsInputFault, IsMisfit, IsTargetMisfit, IsTaskFault};
+ghost use Rattle.programs.specs.chunkplan.DocumentFault.{IsTaskMisfit, IsUnknownFault};
 ghost use Rattle.programs.specs.chunkplan.Known.{HasOnly, known_members};
 ghost use Rattle.programs.specs.declared.chunkplan.run_fault.RunFault.TheVariants.{Memory};
 
 use crate::chunkplan::RunFault;
 use crate::chunkplan::boxes::member_box;
-use crate::chunkplan::clip::member_clip;
+use crate::chunkplan::flag::member_flag;
 use crate::chunkplan::known_members::{DOCUMENT, ZARR_JSON, agree, check_known};
 use crate::chunkplan::share::member_share;
 use crate::document::{read_object, read_shape, required_member, take_stored};
@@ -32,11 +33,20 @@ pub(crate) enum Task {
     Rechunk(Stored, Option<ArraySubset>),
 }
 
+/// What is wanted of a plan.
+#[derive(Drop)]
+pub(crate) enum Wanted {
+    /// The lines of a share of it.
+    Lines(Share),
+    /// How much it copies.
+    Counts,
+}
+
 /// An array's metadata, and what is asked of it.
 #[derive(Drop)]
 pub(crate) struct Document {
     pub(crate) shape: Vec<u64>,
-    pub(crate) share: Share,
+    pub(crate) wanted: Wanted,
     pub(crate) stored: Stored,
     pub(crate) task: Task,
 }
@@ -45,7 +55,7 @@ pub(crate) struct Document {
 ///
 /// # Errors
 /// The first that applies: the input is no JSON, or no object; a member isn't known; one is missing; one doesn't go with the others; one isn't of its
-/// form, of `shape`, `share`, `chunk_grid`, `chunk_key_encoding`, and of `subset` and `clip`, or of `target` and `chunks`; before its own members,
+/// form, of `shape`, `counts`, `share`, `chunk_grid`, `chunk_key_encoding`, and of `subset` and `clip`, or of `target` and `chunks`; before its own members,
 /// the target has one that isn't known, or is of another array. Or out of memory.
 pub(crate) fn parse(alloc: Global, input: &[u8]) -> Result<Document, RunFault>
     ensures { MatchResult result
@@ -68,12 +78,12 @@ fn document_from(alloc: Global, mut tree: Value) -> Result<Document, RunFault>
     required_member(&tree, "chunk_key_encoding", "chunk_key_encoding")?;
     check_fitting(&tree)?;
     let shape = read_shape(alloc, &tree)?;
-    let share = member_share(alloc, &tree)?;
+    let wanted = wanted_from(alloc, &tree)?;
     let stored = take_stored(alloc, &mut tree, "chunk_grid", "chunk_key_encoding")?;
     let task = task_from(alloc, tree)?;
     Ok(Document {
         shape,
-        share,
+        wanted,
         stored,
         task,
     })
@@ -91,10 +101,33 @@ fn check_document(alloc: Global, tree: &Value) -> Result<(), RunFault>
     }
 }
 
+/// What a document wants of its plan: its counts, where `counts` is true, and else the lines of a share.
+fn wanted_from(alloc: Global, tree: &Value) -> Result<Wanted, RunFault>
+    ensures { MatchResult result (λ wanted. HasWanted (view tree.now) (wanted_of wanted))
+        (λ fault. (fault ≡ Memory) ⊎ HasWantedFault (view tree.now) fault) }
+{
+    if member_flag(tree, "counts")? {
+        return Ok(Wanted::Counts);
+    }
+    Ok(Wanted::Lines(member_share(alloc, tree)?))
+}
+
 /// Refuses a member that doesn't go with the others.
 fn check_fitting(tree: &Value) -> Result<(), RunFault>
     ensures { MatchResult result (λ _. Fit (view tree.now))
         (IsMisfit (view tree.now)) }
+{
+    check_fitting_task(tree)?;
+    if tree.get("counts").is_some() && tree.get("share").is_some() {
+        return Err(RunFault::ShareOfCounts);
+    }
+    Ok(())
+}
+
+/// Refuses a member that doesn't go with what is asked for.
+fn check_fitting_task(tree: &Value) -> Result<(), RunFault>
+    ensures { MatchResult result (λ _. FitTask (view tree.now))
+        (IsTaskMisfit (view tree.now)) }
 {
     match tree.get("target") {
         Some(_) if tree.get("subset").is_some() => { Err(RunFault::SubsetOfTarget) }
@@ -130,7 +163,7 @@ fn task_from(alloc: Global, mut tree: Value) -> Result<Task, RunFault>
 {
     let Some(mut target) = take_member(&mut tree, "target") else {
         let subset = member_box(alloc, &tree, "subset")?;
-        let clip = member_clip(&tree)?;
+        let clip = member_flag(&tree, "clip")?;
         return Ok(Task::Read { subset, clip });
     };
     if !target.is_object() {

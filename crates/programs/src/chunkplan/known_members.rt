@@ -26,7 +26,7 @@ pub(crate) const ZARR_JSON: [&str; 11] = [
 ];
 
 /// What a document may have.
-pub(crate) const DOCUMENT: [&str; 16] = [
+pub(crate) const DOCUMENT: [&str; 17] = [
     "attributes",
     "chunk_grid",
     "chunk_key_encoding",
@@ -40,6 +40,7 @@ pub(crate) const DOCUMENT: [&str; 16] = [
     "zarr_format",
     "chunks",
     "clip",
+    "counts",
     "share",
     "subset",
     "target",

@@ -8,17 +8,19 @@ ghost use Rattle.zarrs_chunk_plan.specs.Rechunking.{Group, IsRechunking, all_chu
 ghost use Rattle.zarrs_chunk_plan.specs.declared.part.Part.{Part as PartValue};
 ghost use Rattle.zarrs_chunk_plan.specs.seen.Parts.{HasKeys};
 ghost use Rattle.programs.specs.Stored.{IsStored, stored_of};
-ghost use Rattle.programs.specs.chunkplan.Document.{document_of};
+ghost use Rattle.programs.specs.chunkplan.CountsLine.{IsCountsLine};
+ghost use Rattle.programs.specs.chunkplan.Document.{counts_wanted, document_of, wanted_of};
 ghost use Rattle.programs.specs.chunkplan.Line.{read_lines, rechunking_lines};
 ghost use Rattle.programs.specs.chunkplan.PlanFault.{IsChunksFault, IsPlanFault, IsReadFault, IsTargetFault};
-ghost use Rattle.programs.specs.chunkplan.Planned.{IsAsked, IsPlanned, IsReadPlan};
+ghost use Rattle.programs.specs.chunkplan.Planned.{IsAsked, IsPlanned, IsReadPlan, IsReadText, IsRechunkingText};
 ghost use Rattle.programs.specs.chunkplan.seen.Steps.{StepLeaves};
 ghost use Rattle.programs.specs.declared.chunkplan.run_fault.RunFault.TheVariants.{Memory};
 ghost use Rattle.programs.specs.seen.Sent.{output};
 
 use crate::chunkplan::RunFault;
-use crate::chunkplan::copying::{write_copies, write_parts};
-use crate::chunkplan::document::{Document, Task};
+use crate::chunkplan::copying::{send_text, write_copies, write_parts};
+use crate::chunkplan::counting::counts_line;
+use crate::chunkplan::document::{Document, Task, Wanted};
 use crate::chunkplan::line::Form;
 use crate::stored::{CreateFault, Stored};
 use crate::watched::Watched;
@@ -26,7 +28,10 @@ use std::alloc::{AllocError, Global};
 use std::io::Write;
 use zarrs_chunk_base::{ArraySubset, IncompatibleDimensionalityError, Refusal};
 use zarrs_chunk_keys::{ChunkKeyEncoding, ChunkKeyEncodingTraits};
-use zarrs_chunk_plan::{Share, StoredArray, all_chunks, copies, parts, whole_array};
+use zarrs_chunk_plan::{
+    Counts, Share, StoredArray, all_chunks, copies, counts_of_read, counts_of_rechunking, parts,
+    whole_array,
+};
 use zarrs_chunks::{ChunkGrid, ChunkGridTraits};
 
 /// Sends the plan that a document asks for, line by line.
@@ -47,7 +52,7 @@ pub(crate) fn write_plan<W: Write>(
 {
     let Document {
         shape,
-        share,
+        wanted,
         stored,
         task,
     } = document;
@@ -55,12 +60,12 @@ pub(crate) fn write_plan<W: Write>(
     match task {
         Task::Read { subset, clip } => {
             let subset = or_whole_array(alloc, subset, &array.grid)?;
-            write_read(alloc, &array, subset, clip, &share, held_back, writer)
+            write_read(alloc, &array, subset, clip, &wanted, held_back, writer)
         }
         Task::Rechunk(target, chunks) => {
             let target = open_target(alloc, target, &shape)?;
             let chunks = or_all_chunks(alloc, chunks, &target.grid)?;
-            write_rechunking(alloc, &array, &target, &chunks, &share, held_back, writer)
+            write_rechunking(alloc, &array, &target, &chunks, &wanted, held_back, writer)
         }
     }
 }
@@ -114,13 +119,13 @@ fn or_all_chunks<G: ChunkGridTraits>(
     }
 }
 
-/// Sends a share of the plan of reading a box of elements, as it is or clipped to the array.
+/// Sends what is wanted of the plan of reading a box of elements, as it is or clipped to the array.
 fn write_read<G: ChunkGridTraits, E: ChunkKeyEncodingTraits, W: Write>(
     alloc: Global,
     array: &StoredArray<G, E>,
     subset: ArraySubset,
     clip: bool,
-    share: &Share,
+    wanted: &Wanted,
     held_back: &mut Vec<u8>,
     writer: &mut Watched<W>,
 ) -> Result<(), RunFault>
@@ -129,13 +134,13 @@ fn write_read<G: ChunkGridTraits, E: ChunkKeyEncodingTraits, W: Write>(
         (λ text. (asked : Box) × (parts : List PartValue)
         × IsAsked clip (G.dimensions array.now.grid) subset asked
         × IsReadPlan (G.dimensions array.now.grid) (E.is_key array.now.encoding) asked parts
-        × (text ≡ read_lines share.now parts))
+        × IsReadText (wanted_of wanted.now) asked parts text)
         (IsReadFault clip (G.dimensions array.now.grid) subset) result
         (output W.contents held_back.old.items writer.old)
         (output W.contents held_back.new.items writer.new) }
 {
     let asked = asked_box(alloc, &array.grid, subset, clip)?;
-    write_asked(alloc, array, &asked, share, held_back, writer)
+    write_asked(alloc, array, &asked, wanted, held_back, writer)
 }
 
 /// The box that is read for a box of elements: it itself, or what it has of the array, where it is clipped.
@@ -159,12 +164,12 @@ fn asked_box<G: ChunkGridTraits>(
     }
 }
 
-/// Sends a share of the plan of reading a box of elements as it is.
+/// Sends what is wanted of the plan of reading a box of elements as it is.
 fn write_asked<G: ChunkGridTraits, E: ChunkKeyEncodingTraits, W: Write>(
     alloc: Global,
     array: &StoredArray<G, E>,
     subset: &ArraySubset,
-    share: &Share,
+    wanted: &Wanted,
     held_back: &mut Vec<u8>,
     writer: &mut Watched<W>,
 ) -> Result<(), RunFault>
@@ -172,7 +177,7 @@ fn write_asked<G: ChunkGridTraits, E: ChunkKeyEncodingTraits, W: Write>(
     ensures { StepLeaves
         (λ text. (parts : List PartValue)
         × IsReadPlan (G.dimensions array.now.grid) (E.is_key array.now.encoding) subset.now parts
-        × (text ≡ read_lines share.now parts))
+        × IsReadText (wanted_of wanted.now) subset.now parts text)
         (IsReadFault false (G.dimensions array.now.grid) subset.now) result
         (output W.contents held_back.old.items writer.old)
         (output W.contents held_back.new.items writer.new) }
@@ -183,6 +188,32 @@ fn write_asked<G: ChunkGridTraits, E: ChunkKeyEncodingTraits, W: Write>(
         let error = IncompatibleDimensionalityError::new(dimensionality, expected);
         return Err(RunFault::SubsetDimensionality(error));
     }
+    match wanted {
+        Wanted::Lines(share) => write_parts_of(alloc, array, subset, share, held_back, writer),
+        Wanted::Counts => write_counts_of(alloc, array, subset, held_back, writer),
+    }
+}
+
+/// Sends a share of the plan of reading a box of elements, which has as many dimensions as the grid.
+fn write_parts_of<G: ChunkGridTraits, E: ChunkKeyEncodingTraits, W: Write>(
+    alloc: Global,
+    array: &StoredArray<G, E>,
+    subset: &ArraySubset,
+    share: &Share,
+    held_back: &mut Vec<u8>,
+    writer: &mut Watched<W>,
+) -> Result<(), RunFault>
+    requires keys { HasKeys (E.is_key array.now.encoding) }
+    requires lengths { length subset.now.start ≡ length (G.dimensions array.now.grid) }
+    ensures { StepLeaves
+        (λ text. (parts : List PartValue)
+        × IsReadPlan (G.dimensions array.now.grid) (E.is_key array.now.encoding) subset.now parts
+        × (text ≡ read_lines share.now parts))
+        (IsReadFault false (G.dimensions array.now.grid) subset.now) result
+        (output W.contents held_back.old.items writer.old)
+        (output W.contents held_back.new.items writer.new) }
+{
+    subset.is_a_box();
     match parts(alloc, &array.grid, &array.encoding, subset) {
         Ok(Some(mut walk)) => {
             let form = Form::Line(walk.in_all());
@@ -195,8 +226,128 @@ fn write_asked<G: ChunkGridTraits, E: ChunkKeyEncodingTraits, W: Write>(
     }
 }
 
-/// Sends a share of the plan of a rechunking into the chunks of a box.
+/// Sends the counts of that plan.
+fn write_counts_of<G: ChunkGridTraits, E: ChunkKeyEncodingTraits, W: Write>(
+    alloc: Global,
+    array: &StoredArray<G, E>,
+    subset: &ArraySubset,
+    held_back: &mut Vec<u8>,
+    writer: &mut Watched<W>,
+) -> Result<(), RunFault>
+    requires keys { HasKeys (E.is_key array.now.encoding) }
+    requires lengths { length subset.now.start ≡ length (G.dimensions array.now.grid) }
+    ensures { StepLeaves
+        (λ text. (parts : List PartValue)
+        × IsReadPlan (G.dimensions array.now.grid) (E.is_key array.now.encoding) subset.now parts
+        × IsReadText counts_wanted subset.now parts text)
+        (IsReadFault false (G.dimensions array.now.grid) subset.now) result
+        (output W.contents held_back.old.items writer.old)
+        (output W.contents held_back.new.items writer.new) }
+{
+    subset.is_a_box();
+    match counts_of_read(alloc, array, subset) {
+        Ok(Some(counts)) => write_counts(alloc, &counts, held_back, writer),
+        Ok(None) => Err(RunFault::Uncovered),
+        Err(Refusal::Refused(error)) => Err(RunFault::SubsetDimensionality(error)),
+        Err(Refusal::Memory(_)) => Err(RunFault::Memory),
+    }
+}
+
+/// Sends the line of a plan's counts.
+fn write_counts<W: Write>(
+    alloc: Global,
+    counts: &Counts,
+    held_back: &mut Vec<u8>,
+    writer: &mut Watched<W>,
+) -> Result<(), RunFault>
+    ensures { StepLeaves (IsCountsLine counts.now) (λ _. ⊥) result
+        (output W.contents held_back.old.items writer.old)
+        (output W.contents held_back.new.items writer.new) }
+{
+    let line = counts_line(alloc, counts)?;
+    send_text(&line, held_back, writer)
+}
+
+/// Sends what is wanted of the plan of a rechunking into the chunks of a box.
 fn write_rechunking<
+    G: ChunkGridTraits,
+    E: ChunkKeyEncodingTraits,
+    H: ChunkGridTraits,
+    F: ChunkKeyEncodingTraits,
+    W: Write,
+>(
+    alloc: Global,
+    source: &StoredArray<G, E>,
+    target: &StoredArray<H, F>,
+    chunks: &ArraySubset,
+    wanted: &Wanted,
+    held_back: &mut Vec<u8>,
+    writer: &mut Watched<W>,
+) -> Result<(), RunFault>
+    requires one_array { array_sizes (G.dimensions source.now.grid)
+        ≡ array_sizes (H.dimensions target.now.grid) }
+    requires keys { HasKeys (E.is_key source.now.encoding) }
+    requires target_keys { HasKeys (F.is_key target.now.encoding) }
+    ensures { StepLeaves
+        (λ text. (groups : List Group)
+        × IsRechunking (G.dimensions source.now.grid) (E.is_key source.now.encoding)
+        (H.dimensions target.now.grid) (F.is_key target.now.encoding) chunks.now groups
+        × (length chunks.now.start ≡ length (H.dimensions target.now.grid))
+        × IsRechunkingText (wanted_of wanted.now) (G.dimensions source.now.grid)
+        (H.dimensions target.now.grid) chunks.now groups text)
+        (IsChunksFault (H.dimensions target.now.grid) chunks.now) result
+        (output W.contents held_back.old.items writer.old)
+        (output W.contents held_back.new.items writer.new) }
+{
+    match wanted {
+        Wanted::Lines(share) => {
+            write_groups(alloc, source, target, chunks, share, held_back, writer)
+        }
+        Wanted::Counts => {
+            write_counts_of_groups(alloc, source, target, chunks, held_back, writer)
+        }
+    }
+}
+
+/// Sends the counts of that plan.
+fn write_counts_of_groups<
+    G: ChunkGridTraits,
+    E: ChunkKeyEncodingTraits,
+    H: ChunkGridTraits,
+    F: ChunkKeyEncodingTraits,
+    W: Write,
+>(
+    alloc: Global,
+    source: &StoredArray<G, E>,
+    target: &StoredArray<H, F>,
+    chunks: &ArraySubset,
+    held_back: &mut Vec<u8>,
+    writer: &mut Watched<W>,
+) -> Result<(), RunFault>
+    requires one_array { array_sizes (G.dimensions source.now.grid)
+        ≡ array_sizes (H.dimensions target.now.grid) }
+    requires keys { HasKeys (E.is_key source.now.encoding) }
+    requires target_keys { HasKeys (F.is_key target.now.encoding) }
+    ensures { StepLeaves
+        (λ text. (groups : List Group)
+        × IsRechunking (G.dimensions source.now.grid) (E.is_key source.now.encoding)
+        (H.dimensions target.now.grid) (F.is_key target.now.encoding) chunks.now groups
+        × (length chunks.now.start ≡ length (H.dimensions target.now.grid))
+        × IsRechunkingText counts_wanted (G.dimensions source.now.grid)
+        (H.dimensions target.now.grid) chunks.now groups text)
+        (IsChunksFault (H.dimensions target.now.grid) chunks.now) result
+        (output W.contents held_back.old.items writer.old)
+        (output W.contents held_back.new.items writer.new) }
+{
+    match counts_of_rechunking(alloc, source, target, chunks) {
+        Ok(counts) => write_counts(alloc, &counts, held_back, writer),
+        Err(Refusal::Refused(error)) => Err(RunFault::Copies(error)),
+        Err(Refusal::Memory(_)) => Err(RunFault::Memory),
+    }
+}
+
+/// Sends a share of the plan of a rechunking into the chunks of a box.
+fn write_groups<
     G: ChunkGridTraits,
     E: ChunkKeyEncodingTraits,
     H: ChunkGridTraits,

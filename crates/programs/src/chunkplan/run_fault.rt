@@ -50,6 +50,9 @@ pub enum RunFault {
     /// The document says whether the box that it reads is clipped, and has a target.
     #[error("field `clip` is for a read: leave out `target`, or leave it out")]
     ClipOfTarget,
+    /// The document has a share, and asks for counts.
+    #[error("field `share` is for lines: leave out `counts`, or leave it out")]
+    ShareOfCounts,
     /// A member of the target isn't known.
     #[error("field `target`: {0}")]
     UnknownOfTarget(UnknownMember),

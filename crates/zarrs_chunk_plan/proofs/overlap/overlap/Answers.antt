@@ -7,7 +7,7 @@ box_of-requires c =
     let one = c.args.one.now in
     let other = c.args.other.now in
     let starts = rw (c.start.ensures.value, c.start-2.ensures.value) at c.in_ok-start.ensures in
-    let sizes = rw (c.start-3.ensures.value, c.shape.ensures.value) at c.in_ok-shape.ensures in
+    let sizes = rw (c.start-3.ensures.value, c.in_ok-from_slice.ensures.items, c.shape.ensures.value) at c.sizes_shared-shape.ensures in
     let is_one = c.start.ensures.is_box in
     let is_other = c.start-2.ensures.is_box in
     let fit = starts_fit one.start one.shape is_one.lengths is_one.fits in
@@ -19,7 +19,7 @@ returns-clause-common c = λ index.
     let one = c.args.one.now in
     let other = c.args.other.now in
     let starts = rw (c.start.ensures.value, c.start-2.ensures.value) at c.in_ok-start.ensures in
-    let sizes = rw (c.start-3.ensures.value, c.shape.ensures.value) at c.in_ok-shape.ensures in
+    let sizes = rw (c.start-3.ensures.value, c.in_ok-from_slice.ensures.items, c.shape.ensures.value) at c.sizes_shared-shape.ensures in
     let is_one = c.start.ensures.is_box in
     let is_other = c.start-2.ensures.is_box in
     rw (c.box_of.ensures, starts, sizes)

@@ -1,15 +1,15 @@
-use Rattle.zarrs_chunk_plan.proofs.ArrayCover.{cover_many, cover_names}
+use Rattle.zarrs_chunk_plan.proofs.BoxCover.{cover_many, cover_names, some_dimension}
 use Rattle.zarrs_chunk_plan.proofs.rechunking.chunks_of_array.Goals as goal
 
 pub returns-clause-lengths : goal.returns-clause-lengths
 returns-clause-lengths g c =
     let cover = c.chunks_in_array_subset-cover in
-    cover_many _ cover.result (rw c.requires at cover.ensures.empty) (rw c.requires at cover.ensures.answers)
+    cover_many _ _ (some_dimension _) cover.result (rw c.requires at cover.ensures.empty) (rw c.requires at cover.ensures.answers)
     c.in_ok-expect_answer.field-0 c.in_ok-expect_answer.ensures
 
 pub returns-clause-named : goal.returns-clause-named
 returns-clause-named g c =
     let cover = c.chunks_in_array_subset-cover in
-    cover_names _ cover.result (rw c.requires at cover.ensures.empty) (rw c.requires at cover.ensures.answers)
+    cover_names _ _ (some_dimension _) cover.result (rw c.requires at cover.ensures.empty) (rw c.requires at cover.ensures.answers)
     c.in_ok-expect_answer.field-0 c.in_ok-expect_answer.ensures (g.met.G.ChunkGridTraits.chained c.args.grid.now)
     (rw c.requires at c.is_a_box.ensures)

@@ -11,26 +11,17 @@ use Rattle.zarrs_chunk_plan.proofs.rechunking.copies.Goals as goal
 
 pub returns-clause-targets : goal.returns-clause-targets
 returns-clause-targets g c =
-    let both = c.in_ok-wanted.ensures.common in
-    let named = c.in_ok-written.ensures.named in (
-      c.in_ok-wanted.wanted,
-      c.in_ok-wanted.ensures.is_box,
-      λ chunk. (
-        λ inside. (((both chunk).0 inside).1, (named chunk).0 ((both chunk).0 inside).0),
-        λ (wanted, meets). (both chunk).1 ((named chunk).1 meets, wanted),
-      ),
-      ap chunks_to_come c.new-3.ensures.targets ∙ c.in_ok-targets.ensures.left,
-    )
+    let targets = c.in_ok-targets.ensures in
+    (c.in_ok-targets.targets, targets.is_box, targets.targets, ap chunks_to_come c.new-2.ensures.targets ∙ c.in_ok-walk.ensures.left)
 
 pub returns-clause-can_copy : goal.returns-clause-can_copy
 returns-clause-can_copy g c =
     let ds = g.H.ChunkGridTraits.dimensions c.args.target.now.grid in
-    let both = c.in_ok-wanted.ensures.common in
-    let named = c.in_ok-written.ensures.named in
-    let meet = all_of_each (Meets ds (array_box ds)) (chunks_in c.in_ok-wanted.wanted)
-    (λ chunk has. (named chunk).0 ((both chunk).0 ((are_those_inside c.in_ok-wanted.wanted c.in_ok-wanted.ensures.is_box chunk).0 has)).0)
+    let targets = c.in_ok-targets.targets in
+    let meet = all_of_each (Meets ds (array_box ds)) (chunks_in targets)
+    (λ chunk has. ((c.in_ok-targets.ensures.targets chunk).0 ((are_those_inside targets c.in_ok-targets.ensures.is_box chunk).0 has)).1)
     in
     let one : array_sizes (g.G.ChunkGridTraits.dimensions c.args.source.now.grid) ≡ array_sizes ds = search rules in
     can_copy g.G.ChunkGridTraits.dimensions g.H.ChunkGridTraits.dimensions c.args.source.now c.args.target.now.grid
-    c.args.target.now.encoding c.new-3.result c.in_ok-targets.targets c.in_ok-wanted.wanted c.new-3.ensures.same_source c.new-3.ensures.targets
-    (rw c.in_ok-array.ensures.elements at c.in_ok-targets.ensures.about) c.in_ok-targets.ensures.left one meet
+    c.args.target.now.encoding c.new-2.result c.in_ok-walk.walk targets c.new-2.ensures.same_source c.new-2.ensures.targets
+    (rw c.in_ok-array.ensures.elements at c.in_ok-walk.ensures.about) c.in_ok-walk.ensures.left one meet

@@ -1,14 +1,8 @@
-use Rattle.std.proofs.Common.{rules, zip, ◌≡◌, ◌-◌, map, tests}
-use Rattle.std.proofs.lemmas.Iterator.{YieldsList-from_map, YieldsList-from_slice, YieldsList-from_zip}
-use Rattle.std.proofs.lemmas.Iterator.Adapters.{items_from_extend}
-use Rattle.std.proofs.lemmas.Iterator.Consumers.{YieldsList-at}
+use Rattle.std.proofs.Common.{arith}
+use Rattle.zarrs_chunk_plan.proofs.InPlace.{are_distances}
 use Rattle.zarrs_chunk_plan.proofs.shared.steps_to.Goals as goal
 
 pub returns : goal.returns
 returns c =
-    let pairs = YieldsList-from_zip {s = c.zip-pairs.result} (YieldsList-from_slice c.args.from.now (cc))
-    (YieldsList-from_slice c.args.to.now (cc)) in
-    let h = items_from_extend c.extend.result c.extend.ensures.ran
-    (YieldsList-from_map _ (λ p. p.1 - p.0) (YieldsList-at c.map.ensures.source pairs) c.map.ensures.closure (λ x r q k. search (rules, tests))) in
-    let e : c.extend.new.self.items ≡ map (λ p. p.1 - p.0) (zip c.args.from.now c.args.to.now) = search rules in
-    e
+    let (as_many, steps, _) = c.loop-dimension.invariant in
+    are_distances c.args.from.items c.args.to.now c.loop-dimension.from.items c.requires as_many (λ k below. steps k (omega arith))

@@ -2,7 +2,8 @@ use Rattle.std.proofs.Common.{codes, is_some, ap, inl, inr, refl, ⊎_elim}
 use Rattle.std.proofs.lemmas.Result.{err_from_is_err_and}
 use Rattle.serde_json.specs.View.{view}
 use Rattle.programs.specs.Stored.{stored_of}
-use Rattle.programs.specs.chunkplan.DocumentFault.{HasMembers, misfit, misformed_share, misformed_stored, misformed_task, unknown}
+use Rattle.programs.specs.chunkplan.Document.{wanted_of}
+use Rattle.programs.specs.chunkplan.DocumentFault.{HasMembers, misfit, misformed_wanted, misformed_stored, misformed_task, unknown}
 use Rattle.programs.specs.chunkplan.RunFault.{of_document}
 use Rattle.programs.proofs.Members.{is_there}
 use Rattle.programs.proofs.chunkplan.FormFaults.{has_members, no_member, no_shape}
@@ -55,16 +56,16 @@ returns-in_err-shape c =
     (λ is. inr (no_shape tree _ _ c.in_ok-check_document.ensures members c.in_ok-check_fitting.ensures c.in_ok-required_member.ensures is))
     c.in_err-shape.ensures)
 
-pub returns-in_err-share : goal.returns-in_err-share
-returns-in_err-share c =
-    let p = err_from_is_err_and c.from_residual-in_err-share.result c.from_residual-in_err-share.ensures.1 in
+pub returns-in_err-wanted : goal.returns-in_err-wanted
+returns-in_err-wanted c =
+    let p = err_from_is_err_and c.from_residual-in_err-wanted.result c.from_residual-in_err-wanted.ensures.1 in
     let tree = view c.args.tree in
     let members : HasMembers tree =
     has_members tree _ _ _ c.in_ok-required_member.ensures c.in_ok-required_member-2.ensures c.in_ok-required_member-3.ensures in
     rw (p.1, p.2)
     (⊎_elim (λ memory. inl memory)
-    (λ is. inr (misformed_share c.in_ok-check_document.ensures members c.in_ok-check_fitting.ensures (ap is_some c.in_ok-shape.ensures) is))
-    c.in_err-share.ensures)
+    (λ is. inr (misformed_wanted c.in_ok-check_document.ensures members c.in_ok-check_fitting.ensures (ap is_some c.in_ok-shape.ensures) is))
+    c.in_err-wanted.ensures)
 
 pub returns-in_err-stored : goal.returns-in_err-stored
 returns-in_err-stored c =
@@ -74,8 +75,8 @@ returns-in_err-stored c =
     has_members tree _ _ _ c.in_ok-required_member.ensures c.in_ok-required_member-2.ensures c.in_ok-required_member-3.ensures in
     rw (p.1, p.2)
     (⊎_elim (λ memory. inl (ap of_document memory))
-    (λ is. inr (misformed_stored _ c.in_ok-share.share c.in_ok-check_document.ensures members c.in_ok-check_fitting.ensures
-    (ap is_some c.in_ok-shape.ensures) c.in_ok-share.ensures is refl))
+    (λ is. inr (misformed_stored _ (wanted_of c.in_ok-wanted.wanted) c.in_ok-check_document.ensures members c.in_ok-check_fitting.ensures
+    (ap is_some c.in_ok-shape.ensures) c.in_ok-wanted.ensures is refl))
     c.in_err-stored.ensures.stored)
 
 pub returns-in_err-task : goal.returns-in_err-task
@@ -86,8 +87,8 @@ returns-in_err-task c =
     has_members tree _ _ _ c.in_ok-required_member.ensures c.in_ok-required_member-2.ensures c.in_ok-required_member-3.ensures in
     rw (p.1, p.2)
     (⊎_elim (λ memory. inl memory)
-    (λ is. inr (misformed_task c.in_ok-share.share (stored_of c.in_ok-stored.stored) c.in_ok-check_document.ensures members
-    c.in_ok-check_fitting.ensures (ap is_some c.in_ok-shape.ensures) c.in_ok-share.ensures c.in_ok-stored.ensures.stored
+    (λ is. inr (misformed_task (wanted_of c.in_ok-wanted.wanted) (stored_of c.in_ok-stored.stored) c.in_ok-check_document.ensures members
+    c.in_ok-check_fitting.ensures (ap is_some c.in_ok-shape.ensures) c.in_ok-wanted.ensures c.in_ok-stored.ensures.stored
     (is_task_fault tree (view c.take_stored.new.tree) c.in_ok-stored.ensures.others _ is)))
     c.in_err-task.ensures)
 
@@ -96,7 +97,7 @@ returns c = record {
   known = c.in_ok-check_document.ensures;
   fitting = c.in_ok-check_fitting.ensures;
   shape = c.in_ok-shape.ensures;
-  share = c.in_ok-share.ensures;
+  wanted = c.in_ok-wanted.ensures;
   stored = c.in_ok-stored.ensures.stored;
   task = is_task (view c.args.tree) (view c.take_stored.new.tree) c.in_ok-stored.ensures.others _ c.in_ok-task.ensures;
 }

@@ -6,7 +6,7 @@ use Rattle.programs.specs.Stored.{stored_of}
 use Rattle.programs.specs.chunkplan.DocumentFault.{of_chunks, of_clip, of_misfit, of_subset, of_target, of_target_stored}
 use Rattle.programs.specs.chunkplan.RunFault.{of_document}
 use Rattle.programs.proofs.chunkplan.LeftMembers.{chunks_is_no_target, clip_is_no_target, data_type_is_no_target, has_box}
-use Rattle.programs.proofs.chunkplan.LeftMembers.{has_box_fault, has_clip_fault, is_of_array, is_target_misfit, shape_is_no_target}
+use Rattle.programs.proofs.chunkplan.LeftMembers.{has_box_fault, has_flag_fault, is_of_array, is_target_misfit, shape_is_no_target}
 use Rattle.programs.proofs.chunkplan.LeftMembers.{subset_is_no_target}
 use Rattle.programs.proofs.chunkplan.document.task_from.Goals as goal
 
@@ -48,7 +48,7 @@ returns-in_err-clip c =
     rw (p.1, p.2)
     (inr (of_clip c.in_ok-subset.subset none
     (has_box tree left (codes "subset") _ (c.take_member.ensures.others (codes "subset") subset_is_no_target) c.in_ok-subset.ensures)
-    (has_clip_fault tree left _ (c.take_member.ensures.others (codes "clip") clip_is_no_target) c.in_err-clip.ensures)))
+    (has_flag_fault tree left (codes "clip") _ (c.take_member.ensures.others (codes "clip") clip_is_no_target) c.in_err-clip.ensures)))
 
 pub returns-in_err-member_box : goal.returns-in_err-member_box
 returns-in_err-member_box c =

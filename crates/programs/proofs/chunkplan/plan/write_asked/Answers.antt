@@ -1,63 +1,7 @@
-use Rattle.std.proofs.Common.{◌≡◌, ◌∙◌, ap, false, inl, length, refl, rules, sym}
-use Rattle.std.proofs.lemmas.Result.{err_from_is_err_and}
-use Rattle.zarrs_chunk_plan.specs.Counted.{counted}
-use Rattle.zarrs_chunk_plan.specs.Shares.{before_share, share_of}
-use Rattle.zarrs_chunk_plan.specs.seen.Parts.{all_chunks}
-use Rattle.programs.specs.chunkplan.Line.{line_of, lines_from, part_json}
-use Rattle.programs.specs.chunkplan.PlanFault.{IsReadFault}
-use Rattle.programs.specs.seen.Sent.{output}
-use Rattle.programs.proofs.chunkplan.Begun.{parts_of_share, share_meets}
-use Rattle.programs.proofs.chunkplan.ReadPlans.{is_read_plan}
-use Rattle.programs.proofs.chunkplan.Steps.{step_follows}
 use Rattle.programs.proofs.chunkplan.plan.write_asked.Goals as goal
 
-pub write_parts-requires-clause-meet : goal.write_parts-requires-clause-meet
-write_parts-requires-clause-meet g c =
-    let walk = c.in-Ok-Some.walk in
-    let is = c.in-Ok-Some.field-0-is in
-    let said = c.in-Ok-Some.ensures in
-    let shared = c.in_ok-first-in-Ok-Some.ensures in
-    share_meets g.G.ChunkGridTraits.dimensions g.E.ChunkKeyEncodingTraits.is_key walk c.share.new.self c.args.share.now shared.about
-    (shared.left ∙ ap (share_of c.args.share.now) (rw is at said.all)) (rw is at said.meet)
+pub returns-in-Lines : goal.returns-in-Lines
+returns-in-Lines g c = rw c.in-Lines.is c.write_parts_of.ensures
 
-pub returns-in_err-first-in-Ok-Some : goal.returns-in_err-first-in-Ok-Some
-returns-in_err-first-in-Ok-Some g c = let p = err_from_is_err_and c.from_residual.result c.from_residual.ensures.1 in rw (p.1, p.2) (refl, inl refl)
-
-pub returns-in_ok-first-in-Ok-Some : goal.returns-in_ok-first-in-Ok-Some
-returns-in_ok-first-in-Ok-Some g c =
-    let walk = c.in-Ok-Some.walk in
-    let share = c.args.share.now in
-    let is = c.in-Ok-Some.field-0-is in
-    let said = c.in-Ok-Some.ensures in
-    let shared = c.in_ok-first-in-Ok-Some.ensures in
-    let dimensions = g.G.ChunkGridTraits.dimensions in
-    let is_key = g.E.ChunkKeyEncodingTraits.is_key in
-    let about = rw is at said.about in
-    let all_come = rw is at said.all in
-    let many_dimensions : length c.start-dimensionality.result.now ≡ length (dimensions c.args.array.now.grid) = search rules in
-    let many = rw c.start-dimensionality.ensures.value at many_dimensions in
-    step_follows _ _ (λ _. ⊥) (IsReadFault false (dimensions c.args.array.now.grid) c.args.subset.now)
-    (λ text (parts, are, lines).
-    let (all, are_all, is_share, long) =
-    parts_of_share dimensions is_key walk c.share.new.self share shared.about (shared.left ∙ ap (share_of share) all_come) (rw is at said.meet)
-    (rw about.same_grid (g.met.G.ChunkGridTraits.chained c.args.array.now.grid)) (rw about.same_encoding c.requires)
-    (rw about.same_subset c.start-dimensionality.ensures.is_box) parts are
-    in
-    let count : length (all_chunks walk) ≡ length all = ap length all_come ∙ sym long in (
-      all,
-      is_read_plan dimensions is_key c.args.array.now.grid c.args.array.now.encoding c.args.subset.now walk all
-          c.start-dimensionality.ensures.is_box many about (rw is at said.empty) (rw is at said.answers) are_all,
-      lines
-          ∙ ap
-          (λ of. lines_from (λ n part. line_of (part_json (counted n) of part)) (before_share share.number share.of (length (all_chunks walk))) parts)
-          c.in_all.ensures
-          ∙ ap (λ k. lines_from (λ n part. line_of (part_json (counted n) (counted k) part)) (before_share share.number share.of k) parts) count
-          ∙ ap
-          (λ ps. lines_from (λ n part. line_of (part_json (counted n) (counted (length all)) part))
-          (before_share share.number share.of (length all)) ps)
-          (sym is_share),
-    ))
-    (λ fault none. absurd none)
-    (output g.W.Write.contents c.args.held_back.now.items c.args.writer.now)
-    (output g.W.Write.contents c.write_parts.new.held_back.items c.write_parts.new.writer)
-    c.write_parts.result (c.write_parts.ensures _ shared.before)
+pub returns-in-Counts : goal.returns-in-Counts
+returns-in-Counts g c = rw c.in-Counts.is c.write_counts_of.ensures

@@ -8,7 +8,7 @@ use Rattle.zarrs_chunk_plan.specs.Rechunking.{IsRechunking}
 use Rattle.programs.specs.Stored.{stored_of}
 use Rattle.programs.specs.chunkplan.Document.{document_of, task_of}
 use Rattle.programs.specs.chunkplan.PlanFault.{IsChunksFault, IsPlanFault, IsReadFault, of_chunks, of_source, of_subset, of_target}
-use Rattle.programs.specs.chunkplan.Planned.{IsAsked, IsPlanned, of_read, of_rechunking}
+use Rattle.programs.specs.chunkplan.Planned.{IsAsked, IsPlanned, IsRechunkingText, of_read, of_rechunking}
 use Rattle.programs.specs.chunkplan.RunFault.{of_create}
 use Rattle.programs.specs.seen.Sent.{output}
 use Rattle.programs.proofs.chunkplan.RunOutcomes.{no_failed_write}
@@ -87,7 +87,7 @@ returns g c =
     (subst (λ b. length b.start ≡ length target.dimensions) c.in_ok-chunks-in-Rechunk.ensures lengths)
     (subst (λ b. IsRechunking source.dimensions (IsKey source_encoding) target.dimensions
     (IsKey target_encoding) b groups) c.in_ok-chunks-in-Rechunk.ensures is)
-    lines)
+    (subst (λ b. IsRechunkingText document.wanted source.dimensions target.dimensions b groups text) c.in_ok-chunks-in-Rechunk.ensures lines))
     (λ fault is. of_chunks stored c.in-Rechunk.chunks source target source_encoding target_encoding (ap task_of c.in-Rechunk.is) made made_target
     (subst (λ b. IsChunksFault target.dimensions b fault) c.in_ok-chunks-in-Rechunk.ensures is))
     (output g.W.Write.contents c.args.held_back.now.items c.args.writer.now)

@@ -1,0 +1,9 @@
+use Rattle.std.proofs.lemmas.Result.{err_from_is_err_and}
+use Rattle.serde_json.specs.View.{view}
+use Rattle.programs.proofs.chunkplan.FormFaults.{task_misfit}
+use Rattle.programs.proofs.chunkplan.document.check_fitting.Goals as goal
+
+pub returns-in_err-check_fitting_task : goal.returns-in_err-check_fitting_task
+returns-in_err-check_fitting_task c =
+    let p = err_from_is_err_and c.from_residual.result c.from_residual.ensures.1 in
+    rw (p.1, p.2) (task_misfit (view c.args.tree.now) c.in_err-check_fitting_task.field-0.0 c.in_err-check_fitting_task.ensures)

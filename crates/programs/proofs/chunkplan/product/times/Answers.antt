@@ -1,0 +1,35 @@
+use Rattle.std.proofs.Common.{◌≡◌, ◌∙◌, ◌+◌, ◌*◌, ◌/◌, ◌%◌, ◌<◌, ◌≤◌, ℕ, zero, suc, ap, drop, refl, slice_index_or, arith}
+use Rattle.std.proofs.lemmas.List.{drop_more}
+use Rattle.programs.specs.chunkplan.seen.Digits.{value, value_with}
+use Rattle.programs.proofs.chunkplan.Digits.{carried, digit_at, digits_pushed, value_pushed}
+use Rattle.programs.proofs.chunkplan.product.times.Goals as goal
+
+nine_times : (one factor : ℕ) → one < 10 → one * factor ≤ 9 * factor
+nine_times one zero below = omega arith
+nine_times one (suc factor) below = let rest = nine_times one factor below in omega arith
+
+pub loop-digit-preserved : goal.loop-digit-preserved
+loop-digit-preserved c =
+    let (are, small, is) = c.loop-digit.invariant in
+    let digits = c.args.digits.now in
+    let k = c.loop-digit.digit-index in
+    let one = slice_index_or digits k 0 in
+    let below = digit_at digits k c.requires c.loop-digit-test.true in
+    let most = nine_times one c.args.factor below in
+    let sum = c.loop-digit.carry + one * c.args.factor in
+    let next = rw (drop_more digits k 0 c.loop-digit-test.true) at is in (
+      rw c.in_ok-push.ensures.items (digits_pushed c.loop-digit.more.items (sum % 10) are (omega arith)),
+      omega arith,
+      rw c.in_ok-push.ensures.items
+          (carried c.loop-digit.more.items c.loop-digit.carry c.args.factor one (value (drop (k + 1) digits)) sum (c.args.factor * value digits) refl next),
+    )
+
+pub loop-carry-preserved : goal.loop-carry-preserved
+loop-carry-preserved c =
+    let (are, is) = c.loop-carry.invariant in
+    let carry = c.loop-carry.carry in
+    let more = c.loop-carry.more.items in
+    let same : carry % 10 + 10 * (carry / 10) ≡ carry = omega arith in (
+      rw c.in_ok-push-2.ensures.items (digits_pushed more (carry % 10) are (omega arith)),
+      rw c.in_ok-push-2.ensures.items (value_pushed more (carry % 10) (carry / 10) ∙ ap (value_with more) same ∙ is),
+    )

@@ -1,0 +1,92 @@
+//! Products of numbers, in decimal digits, however large they are.
+ghost use Rattle.std.specs.Prelude.{◌≡◌, ◌+◌, ◌*◌, ◌<◌, ℕ, IfOk, OnOk};
+ghost use Rattle.zarrs_chunk_keys.specs.Numeral.{IsNumeral};
+ghost use Rattle.zarrs_chunk_plan.specs.Counts.{product};
+ghost use Rattle.programs.specs.chunkplan.seen.Digits.{AreDigits, HasText, value};
+
+use std::alloc::{AllocError, Global};
+
+/// How many digits a number of 64 bits has at most.
+const LONGEST: usize = 20;
+
+/// The digits of a product, the first one first.
+///
+/// # Errors
+/// Out of memory.
+pub(crate) fn product_text(alloc: Global, factors: &[u64]) -> Result<Vec<u8>, AllocError>
+    ensures { IfOk result (λ text. IsNumeral (product factors.now) text.items) }
+{
+    let mut digits = Vec::with_capacity(alloc, 1)?;
+    digits.push(1)?;
+    for factor in factors {
+        digits = times(alloc, &digits, *factor)?;
+    }
+    numeral(alloc, &digits)
+}
+
+/// So many times a number, as its digits, of which the last one comes first. Where it is 0, they may be several zeros.
+///
+/// # Errors
+/// Out of memory.
+fn times(alloc: Global, digits: &[u8], factor: u64) -> Result<Vec<u8>, AllocError>
+    requires { AreDigits digits.now }
+    ensures digits { IfOk result (λ more. AreDigits more.items) }
+    ensures value { IfOk result (λ more. value more.items ≡ factor * value digits.now) }
+{
+    let mut more = Vec::with_capacity(alloc, digits.len() + LONGEST)?;
+    let mut carry = 0;
+    for digit in digits {
+        carry += *digit as u128 * factor as u128;
+        more.push((carry % 10) as u8)?;
+        carry /= 10;
+    }
+    while carry > 0 {
+        more.push((carry % 10) as u8)?;
+        carry /= 10;
+    }
+    Ok(more)
+}
+
+/// The numeral of a number, of whose digits the last one comes first.
+///
+/// # Errors
+/// Out of memory.
+fn numeral(alloc: Global, digits: &[u8]) -> Result<Vec<u8>, AllocError>
+    requires { AreDigits digits.now }
+    ensures { IfOk result (λ text. IsNumeral (value digits.now) text.items) }
+{
+    let mut text = Vec::with_capacity(alloc, digits.len() + 1)?;
+    for place in (0..digits.len()).rev() {
+        append_digit(&mut text, digits[place])?;
+    }
+    or_zero(text)
+}
+
+/// Appends a digit, unless it is a 0 that no other comes before.
+///
+/// # Errors
+/// Out of memory.
+fn append_digit(text: &mut Vec<u8>, digit: u8) -> Result<(), AllocError>
+    requires { digit < 10 }
+    ensures { (n : ℕ) → HasText n text.old.items → OnOk result (HasText (digit + 10 * n) text.new.items) }
+{
+    if digit == 0 && text.is_empty() {
+        return Ok(());
+    }
+    text.push(b'0' + digit)?;
+    Ok(())
+}
+
+/// The digits, or the digit 0 where there are none.
+///
+/// # Errors
+/// Out of memory.
+fn or_zero(mut text: Vec<u8>) -> Result<Vec<u8>, AllocError>
+    ensures { (n : ℕ) → HasText n text.items → IfOk result (λ digits. IsNumeral n digits.items) }
+{
+    if !text.is_empty() {
+        return Ok(text);
+    }
+    text.push(b'0')?;
+    Ok(text)
+}

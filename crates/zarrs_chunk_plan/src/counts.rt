@@ -1,0 +1,239 @@
+//! How much a plan copies, without a walk over it.
+ghost use Rattle.std.specs.Prelude.{◌≡◌, ◌≢◌, ◌⊎◌, ◌≤◌, ◌↔◌, ℕ, IfErr, IfOk, IsTrue, List, MatchOption, fold, length, map, max, min};
+ghost use Rattle.std.specs.List.{AllZip, sum};
+ghost use Rattle.zarrs_chunk_base.specs.ArraySubset.{Box, IsBox, IsEmptyBox, IsInside, ends};
+ghost use Rattle.zarrs_chunk_base.specs.Dimension.{InBox, array_sizes};
+ghost use Rattle.zarrs_chunk_base.specs.Refusal.{HasMemory, OrMemory};
+ghost use Rattle.zarrs_chunk_axes.specs.InBounds.{AreBelow};
+ghost use Rattle.zarrs_chunk_plan.specs.Counts.{AreFew, AreRechunkingCounts, product};
+ghost use Rattle.zarrs_chunk_plan.specs.Plan.{Meets};
+ghost use Rattle.zarrs_chunk_plan.specs.Rechunking.{AreTargets, Group, IsRechunking, array_box};
+ghost use Rattle.zarrs_chunk_plan.specs.seen.Copies.{IsCopiesFault};
+ghost use Rattle.zarrs_chunk_plan.specs.seen.ReadCounts.{AnswersCounts, AnswersNoCounts};
+ghost use Rattle.zarrs_chunk_plan.specs.seen.Shared.{distances};
+ghost use Rattle.zarrs_chunk_plan.specs.seen.TargetCounts.{AreTargetCounts, met_by_each};
+ghost use Rattle.zarrs_chunk_plan.specs.seen.Sources.{AreWritten};
+
+use crate::boxes_from_zero::whole_array;
+use crate::copies_error::CopiesError;
+use crate::rechunking::targets_of;
+use crate::shared::{box_of, expect_answer, shared_elements, steps_to};
+use crate::sources::sources_along_each;
+use crate::stored_array::StoredArray;
+use std::alloc::{AllocError, Global};
+use zarrs_chunk_base::{ArrayShape, ArraySubset, IncompatibleDimensionalityError, Refusal};
+use zarrs_chunk_keys::ChunkKeyEncodingTraits;
+use zarrs_chunks::ChunkGridTraits;
+
+/// How much a plan copies. Each count is the product of the numbers in its list, one for each dimension, since such a product may be larger than
+/// any integer type holds.
+#[derive(Debug, Drop)]
+pub struct Counts {
+    /// Pairs of a chunk that is read and what is made of it: of a rechunking, a chunk of the target that it shares elements with. `None` where they
+    /// aren't counted, since a dimension has more than 2^24 chunks of the target to go through.
+    pub copies: Option<ArrayShape>,
+    /// Elements of the array, or of the box that is read.
+    pub elements: ArrayShape,
+    /// Copies of the line that has the most. `None` as of `copies`.
+    pub largest_line: Option<ArrayShape>,
+    /// Lines of the plan: chunks that are read, or chunks of the target that are written.
+    pub lines: ArrayShape,
+    /// Different chunks that are read.
+    pub source_chunks: ArrayShape,
+}
+
+/// The counts of the plan of reading a box of elements. `None` where the box has no cover.
+///
+/// It takes the time and the memory of the cover.
+///
+/// # Errors
+/// As of [`parts`](crate::parts).
+pub fn counts_of_read<G: ChunkGridTraits, E: ChunkKeyEncodingTraits>(
+    alloc: Global,
+    array: &StoredArray<G, E>,
+    array_subset: &ArraySubset,
+) -> Result<Option<Counts>, Refusal<IncompatibleDimensionalityError>>
+    ensures empty { IsEmptyBox array_subset.now → length (G.dimensions array.now.grid) ≢ 0
+        → AnswersNoCounts array_subset.now result }
+    ensures answers { (¬ IsEmptyBox array_subset.now) ⊎ (length (G.dimensions array.now.grid) ≡ 0)
+        → AnswersCounts (G.dimensions array.now.grid) (E.is_key array.now.encoding)
+        array_subset.now result }
+{
+    array_subset.is_a_box();
+    let cover = array.grid.chunks_in_array_subset(alloc, array_subset)?;
+    let Some(cover) = cover else {
+        return Ok(None);
+    };
+    let chunks = cover.shape();
+    Ok(Some(Counts {
+        copies: Some(chunks.to_vec(alloc)?),
+        elements: array_subset.shape().to_vec(alloc)?,
+        largest_line: Some(at_most_one(alloc, chunks)?),
+        lines: chunks.to_vec(alloc)?,
+        source_chunks: chunks.to_vec(alloc)?,
+    }))
+}
+
+/// For each number 1, and 0 for 0.
+///
+/// # Errors
+/// Out of memory.
+fn at_most_one(alloc: Global, numbers: &[u64]) -> Result<ArrayShape, AllocError>
+    ensures { IfOk result (λ v. v.items ≡ map (λ n. min n 1) numbers.now) }
+{
+    let mut least = Vec::with_capacity(alloc, numbers.len())?;
+    least.extend(numbers.iter().map(|n| (*n).min(1)))?;
+    Ok(least)
+}
+
+/// The counts of the plan of a rechunking into the chunks of a box.
+///
+/// It takes the time of some look-ups for each chunk of the target along each dimension by itself, where none has more than 2^24 of them, and
+/// that of a few look-ups otherwise.
+///
+/// # Errors
+/// As of [`copies`](crate::copies).
+pub fn counts_of_rechunking<
+    G: ChunkGridTraits,
+    E: ChunkKeyEncodingTraits,
+    H: ChunkGridTraits,
+    F: ChunkKeyEncodingTraits,
+>(
+    alloc: Global,
+    source: &StoredArray<G, E>,
+    target: &StoredArray<H, F>,
+    chunks: &ArraySubset,
+) -> Result<Counts, Refusal<CopiesError>>
+    ensures counts { IfOk result (λ counts. (targets : Box) × IsBox targets
+        × AreTargets (H.dimensions target.now.grid) chunks.now targets
+        × ((groups : List Group) → IsRechunking (G.dimensions source.now.grid)
+        (E.is_key source.now.encoding) (H.dimensions target.now.grid) (F.is_key target.now.encoding)
+        chunks.now groups → AreRechunkingCounts (G.dimensions source.now.grid)
+        (H.dimensions target.now.grid) targets groups counts)) }
+    ensures is_box { IfOk result (λ _. IsBox (array_box (H.dimensions target.now.grid))) }
+    ensures one_array { IfOk result (λ _. array_sizes (G.dimensions source.now.grid)
+        ≡ array_sizes (H.dimensions target.now.grid)) }
+    ensures lengths { IfOk result (λ _. length chunks.now.start
+        ≡ length (H.dimensions target.now.grid)) }
+    ensures refused { IfErr result (OrMemory (IsCopiesFault
+        (array_sizes (G.dimensions source.now.grid)) (array_sizes (H.dimensions target.now.grid))
+        (length chunks.now.start) (length (H.dimensions target.now.grid)))) }
+    ensures shapes_first { array_sizes (G.dimensions source.now.grid)
+        ≢ array_sizes (H.dimensions target.now.grid) → HasMemory result }
+    ensures lengths_first { length chunks.now.start ≢ length (H.dimensions target.now.grid)
+        → HasMemory result }
+{
+    let targets = targets_of(alloc, &source.grid, &target.grid, chunks)?;
+    Ok(counts_of_targets(alloc, &source.grid, &target.grid, &targets)?)
+}
+
+/// How many chunks of the target are gone through along a dimension, at most.
+const MOST_ALONG: u64 = 1 << 24;
+
+/// Whether no dimension has more chunks of the target than are gone through.
+fn are_few(sizes: &[u64]) -> bool
+    ensures { IsTrue result ↔ AreFew sizes.now }
+{
+    sizes.iter().all(|size| *size <= MOST_ALONG)
+}
+
+/// The counts of a rechunking into chunks that hold elements of the array.
+///
+/// # Errors
+/// Out of memory.
+fn counts_of_targets<G: ChunkGridTraits, H: ChunkGridTraits>(
+    alloc: Global,
+    source: &G,
+    target: &H,
+    targets: &ArraySubset,
+) -> Result<Counts, AllocError>
+    requires { AreWritten (G.dimensions source.now) (H.dimensions target.now) targets.now }
+    ensures { IfOk result (λ counts. AreTargetCounts (G.dimensions source.now) (H.dimensions target.now)
+        targets.now counts) }
+{
+    let elements = elements_in(alloc, target, targets)?;
+    let cover = expect_answer(source.chunks_in_array_subset(alloc, &elements))?;
+    let (copies, largest_line) = copies_along(alloc, source, target, targets)?;
+    Ok(Counts {
+        copies,
+        elements: elements.shape().to_vec(alloc)?,
+        largest_line,
+        lines: targets.shape().to_vec(alloc)?,
+        source_chunks: cover.shape().to_vec(alloc)?,
+    })
+}
+
+/// How many copies there are, and how many into the chunk that gets the most, where there are few enough chunks of the target to go through.
+///
+/// # Errors
+/// Out of memory.
+fn copies_along<G: ChunkGridTraits, H: ChunkGridTraits>(
+    alloc: Global,
+    source: &G,
+    target: &H,
+    targets: &ArraySubset,
+) -> Result<(Option<ArrayShape>, Option<ArrayShape>), AllocError>
+    requires { AreWritten (G.dimensions source.now) (H.dimensions target.now) targets.now }
+    ensures copies { IfOk result (λ both. MatchOption both.0 (¬ AreFew targets.now.shape) (λ factors.
+        AreFew targets.now.shape × (product factors.items ≡ sum (met_by_each (G.dimensions source.now)
+        (H.dimensions target.now) targets.now)))) }
+    ensures largest { IfOk result (λ both. MatchOption both.1 (¬ AreFew targets.now.shape) (λ factors.
+        AreFew targets.now.shape × (product factors.items ≡ fold max 0 (met_by_each
+        (G.dimensions source.now) (H.dimensions target.now) targets.now)))) }
+{
+    if !are_few(targets.shape()) {
+        return Ok((None, None));
+    }
+    let sources = sources_along_each(alloc, source, target, targets)?;
+    Ok((Some(sources.in_all), Some(sources.most)))
+}
+
+/// The box of the elements of the array that chunks hold, which each hold some: from the first one of the first chunk to the last one of the last. Of
+/// no chunks it is an empty box.
+///
+/// # Errors
+/// Out of memory.
+fn elements_in<G: ChunkGridTraits>(
+    alloc: Global,
+    grid: &G,
+    chunks: &ArraySubset,
+) -> Result<ArraySubset, AllocError>
+    requires meet { (chunk : List ℕ) → IsInside chunks.now chunk
+        → Meets (G.dimensions grid.now) (array_box (G.dimensions grid.now)) chunk }
+    requires long { length chunks.now.start ≡ length (G.dimensions grid.now) }
+    ensures elements { IfOk result (λ b. (index : List ℕ) → IsInside b index
+        ↔ (AreBelow (array_sizes (G.dimensions grid.now)) index × ((chunk : List ℕ)
+        × IsInside chunks.now chunk × InBox (G.dimensions grid.now) chunk index))) }
+    ensures empty { IfOk result (λ b. IsEmptyBox b ↔ IsEmptyBox chunks.now) }
+{
+    chunks.is_a_box();
+    let Some(last) = chunks.end_inc(alloc)? else {
+        return Ok(ArraySubset::new_empty(alloc, grid.dimensionality())?);
+    };
+    let array = whole_array(alloc, grid)?;
+    let first = shared_elements(alloc, grid, &array, chunks.start())?.in_subset;
+    let last = shared_elements(alloc, grid, &array, &last)?.in_subset;
+    Ok(box_between(alloc, &first, &last)?)
+}
+
+/// The box from the start of one box to the end of another.
+///
+/// # Errors
+/// Out of memory.
+fn box_between(
+    alloc: Global,
+    first: &ArraySubset,
+    last: &ArraySubset,
+) -> Result<ArraySubset, AllocError>
+    requires { AllZip ◌≤◌ first.now.start (ends last.now.start last.now.shape) }
+    ensures { IfOk result (λ b. b ≡ record {
+      start = first.now.start;
+      shape = distances first.now.start (ends last.now.start last.now.shape);
+    }) }
+{
+    last.is_a_box();
+    let end = last.end_exc(alloc)?;
+    let start = first.start().to_vec(alloc)?;
+    let shape = steps_to(start.clone()?, &end);
+    Ok(box_of(start, shape))
+}
