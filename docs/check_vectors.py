@@ -11,14 +11,16 @@ import sys
 
 sys.path.insert(0, str(pathlib.Path(__file__).resolve().parent.parent / "tools"))
 from built import CRATES, vectors  # noqa: E402
-from call_names import CALLS, OF_BOX, OF_CHUNK, OF_INDEX, OF_NOTHING, OF_RECTILINEAR, WALKS  # noqa: E402
+from call_names import CALLS, OF_BOX, OF_CHUNK, OF_INDEX, OF_NOTHING, OF_RECTILINEAR, OF_TARGET, WALKS  # noqa: E402
 from extensions import GRIDS  # noqa: E402
 
 OF_A_LIST = OF_CHUNK + OF_INDEX
+OF_LISTS = OF_BOX + OF_TARGET
 # From this number on, twice a number is past the greatest.
 GREAT = 2**63
 ENDS, ZERO, NONE = "at the ends of numbers", "along a size of 0", "without dimensions"
 LENGTH = "with a list of a wrong length"
+OF_LENGTH = ("refused: incompatible dimensionality", "refused: the box of chunks: incompatible dimensionality", "false")
 
 
 def is_great(value):
@@ -32,7 +34,7 @@ def is_list_of_lists(value):
 
 
 def has_a_wrong_length(call, of, shape):
-    lists = of if call in OF_BOX else [of]
+    lists = of if call in OF_LISTS else [of]
     return is_list_of_lists(lists) and len(lists) > 0 and all(len(numbers) != len(shape) for numbers in lists)
 
 
@@ -57,8 +59,9 @@ def questions():
 
 def points(question, answer):
     """Where a question asks its call, if the answer is one of the call's."""
-    call, shape, of = question.get("call"), question["shape"], question.get("of")
-    if has_a_wrong_length(call, of, shape) and answer.startswith(("refused: incompatible dimensionality", "false")):
+    call, shape = question.get("call"), question["shape"]
+    of = question.get("chunks" if call in OF_TARGET else "of")
+    if has_a_wrong_length(call, of, shape) and answer.startswith(OF_LENGTH):
         yield LENGTH
     if answer.startswith(("refused: ", "unreadable: ")):
         return
@@ -72,11 +75,11 @@ def points(question, answer):
 
 def wanted():
     for grid in GRIDS:
-        for call in [*OF_NOTHING, *WALKS, *OF_A_LIST, *OF_BOX, "runs"]:
+        for call in [*OF_NOTHING, *WALKS, *OF_A_LIST, *OF_LISTS, "runs"]:
             if call in OF_RECTILINEAR and grid != "rectilinear":
                 continue
             yield from ((grid, call, point) for point in (ENDS, ZERO, NONE))
-            if call in OF_A_LIST + OF_BOX:
+            if call in OF_A_LIST + OF_LISTS:
                 yield grid, call, LENGTH
 
 

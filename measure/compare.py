@@ -26,10 +26,10 @@ import sys
 for folder in ("measure", "tools"):
     sys.path.insert(0, str(pathlib.Path(__file__).resolve().parent.parent / folder))
 from built import builds  # noqa: E402
-from call_names import CALLS, OF_BOX, OF_CHUNK, OF_INDEX, OF_KEYS, OF_RECTILINEAR, WALKS, WITH_ENCODING  # noqa: E402
+from call_names import CALLS, OF_BOX, OF_CHUNK, OF_INDEX, OF_KEYS, OF_RECTILINEAR, OF_TARGET, WALKS, WITH_ENCODING  # noqa: E402
 from chunk_grids import Grid, first_of  # noqa: E402
 from chunk_keys import Encoding  # noqa: E402
-from extensions import GREATEST, Refused, regular  # noqa: E402
+from extensions import GREATEST, GRIDS, Refused, regular  # noqa: E402
 from random_arrays import EQUAL, Generator  # noqa: E402
 from runs import run  # noqa: E402
 
@@ -47,7 +47,7 @@ class Asking(Generator):
     def question(self, call):
         """A question of a call, with a fault in one of ten."""
         metadata, shape = self.grid()
-        while call in OF_RECTILINEAR and metadata["name"] != "rectilinear":
+        while not self.may_ask(call, metadata, shape):
             metadata, shape = self.grid()
         grid, encoding = Grid(metadata, shape), self.encoding()
         question = {"call": call}
@@ -68,9 +68,27 @@ class Asking(Generator):
             question["of"] = self.key(Encoding(encoding), chunk)
             lengths = [len(chunk)] * 4 + [len(chunk) + 1, max(len(chunk) - 1, 0), GREATEST]
             question["dimensionality"] = self.random.choice(lengths)
-        if call in WALKS or call == "parts":
+        if call in OF_TARGET:
+            question |= self.target(shape)
+        if call in WALKS or call in ("parts", "copies"):
             question["items"] = self.number(30)
         return self.with_fault(question) if self.one_in(10) else question
+
+    def may_ask(self, call, metadata, shape):
+        """Whether the grid has the call, and its answer isn't too long: what is copied into one chunk is given whole."""
+        is_small = len(shape) <= 2 and max(shape, default=0) <= 40
+        return (call not in OF_RECTILINEAR or metadata["name"] == "rectilinear") and (call not in OF_TARGET or is_small)
+
+    def target(self, shape):
+        """How an array of this shape is to be stored, and perhaps into which chunks, from which number on."""
+        metadata = self.grid_over(shape, self.random.choice(list(GRIDS)))
+        members = {"target": {"chunk_grid": metadata, "chunk_key_encoding": self.encoding()}}
+        if self.one_in(2):
+            chunk = self.chunk(Grid(metadata, shape))
+            members["chunks"] = self.box(self.longer_or_shorter(chunk) if self.one_in(8) else chunk)
+        if self.one_in(2):
+            members["first"] = self.number(30)
+        return members
 
     def with_fault(self, question):
         call, of = question["call"], question.get("of")
@@ -158,6 +176,11 @@ def model_answer(question):
         if of.endswith("/"):
             raise Refused(f"invalid store key {of}")
         return encoding[0].chunk(of, question["dimensionality"])
+    if call in OF_TARGET:
+        target = question["target"]
+        made = Grid(target["chunk_grid"], question["shape"]), Encoding(target["chunk_key_encoding"])
+        groups = grid.copies(*encoding, *made, question.get("chunks"))
+        return first_of(itertools.islice(groups, question.get("first", 0), None), question["items"])
     arguments = of if call in OF_BOX else [of] if "of" in question else []
     found = getattr(grid, call)(*arguments, *encoding)
     return first_of(found, question["items"]) if "items" in question and found is not None else found

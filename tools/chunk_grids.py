@@ -219,6 +219,26 @@ class Grid:
             "key": encoding.key(chunk),
         }
 
+    def copies(self, encoding, target, target_encoding, chunks=None):
+        """What is copied into the target's chunks in a box, or into all: a group for each that holds elements of the array,
+        one after another."""
+        array = [[0] * len(self.shape), self.shape]
+        written = target.chunks_in_array_subset(*array)
+        if chunks is not None:
+            check_box(*chunks)
+            if len(chunks[0]) != len(self.shape):
+                raise Refused(f"the box of chunks: incompatible dimensionality {len(chunks[0])}, expected {len(self.shape)}")
+            written = overlap(written, chunks)
+        return (self.group(target.part(chunk, *array, target_encoding), encoding) for chunk in numbers_in(*written))
+
+    def group(self, to, encoding):
+        """What is copied into a chunk of the target, which is a part of the array."""
+        sources = [
+            {"chunk": part["chunk"], "in_chunk": part["in_chunk"], "in_target": part["in_subset"], "key": part["key"]}
+            for part in self.parts(*to["in_subset"], encoding)
+        ]
+        return {"from": sources, "to": {"chunk": to["chunk"], "key": to["key"]}}
+
     # Walks.
 
     def iter_chunk_indices(self):
@@ -254,6 +274,13 @@ def numbers_in(start, shape):
             numbers[place] = start[place]
         else:
             return
+
+
+def overlap(box, other):
+    """What two boxes have in common."""
+    starts = [max(pair) for pair in zip(box[0], other[0])]
+    ends = [min(s + n, t + m) for s, n, t, m in zip(*box, *other)]
+    return [starts, [max(end - start, 0) for start, end in zip(starts, ends)]]
 
 
 def check_box(start, shape):

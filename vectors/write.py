@@ -29,7 +29,7 @@ SUBJECTS = {
     "boxes": ["chunks_subset", "chunks_in_array_subset"],
     "bounds": ["chunk_indices_inbounds", "array_indices_inbounds"],
     "walks": ["iter_chunk_indices", "iter_chunk_subsets", "iter_chunk_indices_and_subsets"],
-    "plans": ["parts"],
+    "plans": ["parts", "copies"],
     "keys": ["encode", "decode"],
     "metadata": ["configuration", "metadata"],
     "runs": ["runs", "chunk_indices_counted"],

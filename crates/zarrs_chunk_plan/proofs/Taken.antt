@@ -1,4 +1,4 @@
--- The parts of some of the chunks in a list, from one of them on.
+-- What there is of some of the chunks in a list, from one of them on.
 use Rattle.std.proofs.Common.{◌≡◌, ◌∙◌, ℕ, zero, suc, ◌+◌, ◌-◌, ◌≤◌, List, [], ◌∷◌, ◌++◌, Some, drop, get_or, length, min, take, refl, ap, subst, sym}
 use Rattle.std.proofs.Common.{arith}
 use Rattle.std.proofs.lemmas.List.{get_or-drop, length-drop}
@@ -52,19 +52,26 @@ pub none_taken : {X : Type 0} (first count : ℕ) (xs : List X) → xs ≡ [] �
 none_taken first count [] none = ap (take count) (drop-nil first) ∙ take-nil count
 none_taken first count (_ ∷ _) none = cc
 
+-- those up to an end that is at most as far as there are chunks in the box, and as were asked for
+pub some_of : {Y : Type 0} (R : List ℕ → Y → Type 0) (box : Box) (first most end in_all : ℕ) (ys : List Y)
+    → in_all ≡ min (length (row_major box.shape)) greatest → end ≡ min (min (first + most) greatest) in_all
+    → AllZip R (take (end - first) (drop first (chunks_in box))) ys
+    → (in_all ≡ min (length (chunks_in box)) greatest) × AllZip R (take (min (in_all - first) most) (drop first (chunks_in box))) ys
+some_of R box first most end in_all ys counted ends are =
+    let lists = as_many box.start box.shape in
+    let same : end - first ≡ min (in_all - first) most = omega arith in (
+      counted ∙ ap (λ n. min n greatest) (sym lists),
+      subst (λ n. AllZip R (take n (drop first (chunks_in box))) ys) same are,
+    )
+
 module _ (ds : List Dimension) (IsKey : List ℕ → List ℕ → Type 0) (subset cover : Box) (first most : ℕ) where
-  -- the parts up to an end that is at most as far as there are parts, and as were asked for
   pub some_of_plan : (end : ℕ) (some : SomeParts) → some.in_all ≡ min (length (row_major cover.shape)) greatest
       → end ≡ min (min (first + most) greatest) some.in_all
       → AllZip (IsPart ds IsKey subset) (take (end - first) (drop first (chunks_in cover))) some.parts.items
       → AreSomeParts ds IsKey subset cover first most some
   some_of_plan end some counted ends are =
-      let lists = as_many cover.start cover.shape in
-      let same : end - first ≡ min (some.in_all - first) most = omega arith in
-      record {
-        in_all = counted ∙ ap (λ n. min n greatest) (sym lists);
-        are_parts = subst (λ n. AllZip (IsPart ds IsKey subset) (take n (drop first (chunks_in cover))) some.parts.items) same are;
-      }
+      let (all, parts) = some_of (IsPart ds IsKey subset) cover first most end some.in_all some.parts.items counted ends are in
+      record { in_all = all; are_parts = parts }
 
   pub none_of_plan : (some : SomeParts) → AreSomeParts ds IsKey subset cover first most some → chunks_in cover ≡ []
       → (some.in_all ≡ 0) × (some.parts.items ≡ [])

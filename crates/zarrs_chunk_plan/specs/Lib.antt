@@ -5,6 +5,7 @@ pub mod Plan
 pub mod Rechunking
 pub mod Shares
 pub mod SomeChunks
+pub mod SomeCopies
 pub mod SomeParts
 pub mod lemmas
 pub mod seen

@@ -20,9 +20,9 @@ ghost use Rattle.zarrs_chunk_plan.specs.Plan.{AnswersNoPart, AnswersPlan, HasEle
 ghost use Rattle.zarrs_chunk_plan.specs.Rechunking.{Group, IsRechunking, Moves, ShareOut, copies_of};
 ghost use Rattle.zarrs_chunk_plan.specs.Shares.{numbered_share};
 ghost use Rattle.zarrs_chunk_plan.specs.seen.Copies.{AreGroupsToCome, CanCopy, IsCopiesFault, groups_of};
-ghost use Rattle.zarrs_chunk_plan.specs.seen.Parts.{ArePartsToCome, MeetSubset};
 
-use crate::{Copies, CopiesError, Part, Parts, StoredArray, copies, parts};
+use crate::plan::all_parts;
+use crate::{Copies, CopiesError, Part, StoredArray, copies, parts};
 use std::alloc::{AllocError, Global};
 use zarrs_chunk_base::{ArraySubset, IncompatibleDimensionalityError, Refusal};
 use zarrs_chunk_keys::ChunkKeyEncodingTraits;
@@ -48,24 +48,6 @@ pub fn the_walk_gives_the_plan<G: ChunkGridTraits, E: ChunkKeyEncodingTraits>(
         Some(walk) => Ok(Some(all_parts(alloc, walk)?)),
         None => Ok(None),
     }
-}
-
-/// The parts that a walk has left.
-///
-/// # Errors
-/// Out of memory.
-fn all_parts<G: ChunkGridTraits, E: ChunkKeyEncodingTraits>(
-    alloc: Global,
-    walk: Parts<'_, G, E>,
-) -> Result<Vec<Part>, AllocError>
-    requires { MeetSubset G.dimensions walk }
-    ensures { IfOk result (λ all. ArePartsToCome G.dimensions E.is_key walk.entry all.items) }
-{
-    let mut all = Vec::new(alloc);
-    for part in walk {
-        all.push(part?)?;
-    }
-    Ok(all)
 }
 
 /// So many shares of a plan, one behind another, are the plan: nothing of it is in two of them, and nothing is left out.

@@ -20,7 +20,8 @@
 //! | `numbered_parts` | `some_parts`: some of the parts of that plan, from any one on |
 //! | `numbered_chunks` | the chunks in a box of chunk numbers, by their number; `some_chunks`: those from any one on |
 //! | `stored_array` | an array as it is stored: a grid and an encoding |
-//! | `rechunking` | `copies`: the plan of a rechunking |
+//! | `rechunking` | `copies`: the plan of a rechunking; `targets_of`: the chunks that it writes |
+//! | `numbered_copies` | `some_copies`: some of the groups of that plan, from any one on |
 //! | `chunk_copies` | the walk over what a rechunking copies, a chunk of the target after another |
 //! | `counts` | how much a plan copies, without a walk over it |
 //! | `sources` | how many chunks of the source share elements with those of the target, along each dimension |
@@ -42,6 +43,7 @@ mod copies_error;
 mod counts;
 pub mod laws;
 mod numbered_chunks;
+mod numbered_copies;
 mod numbered_parts;
 mod overlap;
 mod part;
@@ -59,10 +61,11 @@ pub use clipping::clip;
 pub use copies_error::CopiesError;
 pub use counts::{Counts, counts_of_read, counts_of_rechunking};
 pub use numbered_chunks::{SomeChunks, some_chunks};
+pub use numbered_copies::{SomeCopies, some_copies};
 pub use numbered_parts::{SomeParts, some_parts};
 pub use part::{ChunkShapeTinyVec, Part};
 pub use plan::parts;
-pub use rechunking::copies;
+pub use rechunking::{copies, targets_of};
 pub use share::Share;
 pub use stored_array::StoredArray;
 pub use walk::Parts;

@@ -67,11 +67,12 @@ pub fn copies<
     Ok(Copies::new(alloc, source, walk))
 }
 
-/// The chunks of the target that are written: those in a box of chunk numbers that hold elements of the array.
+/// The chunks of the target that a rechunking writes: of a box of chunk numbers those that hold elements of the array, as a box of chunk numbers.
+/// [`copies`] gives a group for each of them. Where there are none, it is an empty box.
 ///
 /// # Errors
 /// As of [`copies`].
-pub(crate) fn targets_of<G: ChunkGridTraits, H: ChunkGridTraits>(
+pub fn targets_of<G: ChunkGridTraits, H: ChunkGridTraits>(
     alloc: Global,
     source: &G,
     target: &H,

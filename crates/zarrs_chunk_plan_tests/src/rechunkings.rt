@@ -1,4 +1,5 @@
-//! What a rechunking of a row of seven elements copies, and one of two rows in four, five and a thousand dimensions; what refuses one, and the laws.
+//! What a rechunking of a row of seven elements copies, one group after another and by number, and one of two rows in four, five and a thousand
+//! dimensions; what refuses one, and the laws.
 use std::alloc::{AllocError, Global};
 use std::num::NonZeroU64;
 use std::process::Abort;
@@ -9,7 +10,9 @@ use zarrs_chunk_plan::laws::{
     each_element_is_copied_once, rechunkings_that_share_out_are_the_whole_one,
     the_walk_gives_the_rechunking,
 };
-use zarrs_chunk_plan::{CopiesError, Part, StoredArray, all_chunks, copies, whole_array};
+use zarrs_chunk_plan::{
+    CopiesError, Part, StoredArray, all_chunks, copies, some_copies, targets_of, whole_array,
+};
 use zarrs_chunks::RegularChunkGrid;
 
 const COPIES: &str = "\
@@ -17,6 +20,12 @@ c/0/0/0/0/0 Some(0) c/0/0/0/0/0 Some(0) (Some(3), Some(3))
 c/0/0/0/0/0 Some(3) c/0/0/0/0/1 Some(0) (Some(1), Some(1))
 c/0/0/0/0/1 Some(0) c/0/0/0/0/1 Some(1) (Some(2), Some(2))
 c/0/0/0/0/1 Some(2) c/0/0/0/0/2 Some(0) (Some(1), Some(1))
+";
+
+/// Those into the second chunk of the target.
+const COPIES_INTO_THE_SECOND: &str = "\
+c/0/0/0/0/0 Some(3) c/0/0/0/0/1 Some(0) (Some(1), Some(1))
+c/0/0/0/0/1 Some(0) c/0/0/0/0/1 Some(1) (Some(2), Some(2))
 ";
 
 /// What is copied between chunks of [1, 1, .., 3] and of [2, 1, .., 4] in an array of [2, 1, .., 5] elements: the numbers of the first and of the
@@ -101,6 +110,41 @@ fn each_chunk_of_the_target_has_its_copies(rt: HostRuntime) -> Result<(), Fail> 
     Ok(())
 }
 
+/// Of three groups the second, and none behind the last.
+#[test]
+fn a_group_is_asked_for_by_its_number(rt: HostRuntime) -> Result<(), Fail> {
+    let alloc = rt.alloc();
+    let (source, target) = (row(alloc, 7, 4)?, row(alloc, 7, 3)?);
+    let all = all_chunks(alloc, &target.grid)?;
+    for (first, most, count, expected) in [
+        (0, 9, 3, COPIES),
+        (1, 1, 1, COPIES_INTO_THE_SECOND),
+        (3, 9, 0, ""),
+    ] {
+        let some = some_copies(alloc, &source, &target, &all, first, most)?;
+        assert_eq!(rt; some.in_all, 3);
+        assert_eq!(rt; some.groups.len(), count);
+        let lines = lines_of(alloc, &some.groups)?;
+        assert_eq!(rt; lines.as_str(), expected);
+    }
+    Ok(())
+}
+
+/// Of chunk numbers from 1 on the two that hold some of the row.
+#[test]
+fn the_chunks_that_are_written_are_a_box(rt: HostRuntime) -> Result<(), Fail> {
+    let alloc = rt.alloc();
+    let (source, target) = (row(alloc, 7, 4)?, row(alloc, 7, 3)?);
+    let asked = ArraySubset::new_with_start_shape(
+        [0, 0, 0, 0, 1].to_vec(alloc)?,
+        [1, 1, 1, 1, 9].to_vec(alloc)?,
+    )?;
+    let targets = targets_of(alloc, &source.grid, &target.grid, &asked)?;
+    assert_eq!(rt; targets.start(), [0, 0, 0, 0, 1].as_slice());
+    assert_eq!(rt; targets.shape(), [1, 1, 1, 1, 2].as_slice());
+    Ok(())
+}
+
 /// Appends the first and the last of some numbers, and what stands behind them.
 fn append_ends(
     alloc: Global,
@@ -173,7 +217,10 @@ fn grids_of_two_arrays_are_refused(rt: HostRuntime) -> Result<(), Fail> {
     let none = ArraySubset::new_empty(alloc, 2)?;
     let error = refusal_of(copies(alloc, &source, &target, &none))?;
     assert_eq!(rt; error, CopiesError::ArrayShapes);
-    let error = refusal_of(copies(alloc, &source, &source, &none))?;
+    let error = refusal_of(some_copies(alloc, &source, &target, &none, 0, 1))?;
+    assert_eq!(rt; error, CopiesError::ArrayShapes);
+    let error = refusal_of(some_copies(alloc, &source, &source, &none, 0, 1))?;
+    assert_eq!(rt; error, refusal_of(copies(alloc, &source, &source, &none))?);
     let text = format!(in alloc; "{error}")?;
     assert_eq!(rt;
         text.as_str(),

@@ -3,21 +3,23 @@ use crate::extensions::{make_encoding, make_grid};
 use crate::line_fault::LineFault;
 use crate::located::located_tree;
 use crate::pages::{Page, WalkOf, items_from, parts_from};
-use crate::question::{number, numbers, required_member};
+use crate::question::{number, numbers, optional_box, required_box, required_member};
+use crate::rechunking::{Target, copies_from};
 use crate::walk_items::{Limits, first_items};
 use serde_json::{Map, Value};
 use std::alloc::{AllocError, Global};
 use zarrs_chunk_base::{
     ArraySubset, IncompatibleDimensionalityError, Refusal, TreeForm, write_box, write_list,
 };
-use zarrs_chunk_plan::parts;
+use zarrs_chunk_plan::{StoredArray, all_chunks, parts};
 use zarrs_chunks::{ChunkGrid, ChunkGridTraits, Comparisons, RectilinearChunkGrid, locate};
 
 /// A call of the chunk grid of an array with this shape.
 #[derive(Drop)]
 pub(crate) struct GridQuestion<'t> {
     /// The line's tree. What the call is asked of is its member `of`; how many items of a walk are given, and from which on, its members
-    /// `items` and `first`; `locate` and `parts` take its member `chunk_key_encoding` too.
+    /// `items` and `first`; `locate`, `parts` and `copies` take its member `chunk_key_encoding` too, and `copies` its members `target` and
+    /// `chunks`.
     pub(crate) tree: &'t Value,
     pub(crate) shape: Vec<u64>,
     pub(crate) chunk_grid: &'t Value,
@@ -33,8 +35,8 @@ impl GridQuestion<'_> {
     ///
     /// # Errors
     /// The first that applies: there is no such call; the call takes an argument, and that is missing or isn't of its form; the
-    /// grid can't be made; it has no such call; the call is asked of an encoding or a box that can't be made, in this order; the call
-    /// refuses; the items of a walk are longer than there is room for. Or out of memory.
+    /// grid can't be made; it has no such call; the call is asked of an encoding, a target or a box that can't be made, in this order; the
+    /// call refuses; the items of a walk are longer than there is room for. Or out of memory.
     pub(crate) fn answer(&self, alloc: Global) -> Result<Value, Refusal<LineFault>> {
         match self.call {
             "dimensionality" => Ok(Value::from(self.grid(alloc)?.dimensionality())),
@@ -44,6 +46,7 @@ impl GridQuestion<'_> {
             "metadata" => Ok(self.grid(alloc)?.metadata(alloc)?.to_tree(alloc)?),
             "locate" => self.locate(alloc),
             "parts" => self.some_parts(alloc),
+            "copies" => self.some_copies(alloc),
             _ => self.answer_of_numbers(alloc),
         }
     }
@@ -172,7 +175,7 @@ impl GridQuestion<'_> {
     fn some_parts(&self, alloc: Global) -> Result<Value, Refusal<LineFault>> {
         let encoding = required_member(self.tree, "chunk_key_encoding")?;
         let page = Page::from_tree(alloc, self.tree)?;
-        let elements = self.box_asked(alloc)?;
+        let elements = required_box(alloc, self.tree, "of")?;
         let grid = self.grid(alloc)?;
         let encoding = make_encoding(alloc, encoding)?;
         let elements = box_of(elements)?;
@@ -185,6 +188,31 @@ impl GridQuestion<'_> {
             Ok(None) => Ok(Value::Null),
             Err(refusal) => Err(refusal.map(LineFault::Lengths)),
         }
+    }
+
+    /// Some of the groups of the plan of a rechunking of the grid's array.
+    fn some_copies(&self, alloc: Global) -> Result<Value, Refusal<LineFault>> {
+        let encoding = required_member(self.tree, "chunk_key_encoding")?;
+        let target = Target::from_tree(self.tree)?;
+        let page = Page::from_tree(alloc, self.tree)?;
+        let chunks = optional_box(alloc, self.tree, "chunks")?;
+        let grid = self.grid(alloc)?;
+        let limits = self.limits(&page, &grid, 5);
+        let encoding = make_encoding(alloc, encoding)?;
+        let source = StoredArray { grid, encoding };
+        let target = target.make(alloc, &self.shape)?;
+        let chunks = match chunks {
+            Some(chunks) => box_of(chunks)?,
+            None => all_chunks(alloc, &target.grid)?,
+        };
+        copies_from(
+            alloc,
+            &source,
+            &target,
+            &chunks,
+            page.first.unwrap_or(0),
+            &limits,
+        )
     }
 
     /// The grid, where it is `rectilinear`; no other grid has this call.
@@ -215,15 +243,9 @@ impl GridQuestion<'_> {
     /// The box that the call is asked of, and the grid. A box that can't be made is a fault of the call's, and so comes after those
     /// of the grid.
     fn box_and_grid(&self, alloc: Global) -> Result<(ArraySubset, ChunkGrid), Refusal<LineFault>> {
-        let elements = self.box_asked(alloc)?;
+        let elements = required_box(alloc, self.tree, "of")?;
         let grid = self.grid(alloc)?;
         Ok((box_of(elements)?, grid))
-    }
-
-    /// The start and the shape that the call is asked of.
-    fn box_asked(&self, alloc: Global) -> Result<(Vec<u64>, Vec<u64>), Refusal<LineFault>> {
-        let both = <(Vec<u64>, Vec<u64>)>::from_tree(alloc, required_member(self.tree, "of")?)?;
-        both.ok_or(Refusal::Refused(LineFault::WrongValue("of")))
     }
 }
 

@@ -4,6 +4,7 @@ use zarrs_chunk_base::{
     ArraySubsetError, IncompatibleDimensionalityError, MetadataError, PluginCreateError,
     StoreKeyError,
 };
+use zarrs_chunk_plan::CopiesError;
 
 /// Why a line has no answer: it can't be read, or the library refuses.
 #[derive(Debug, Drop, Error)]
@@ -29,6 +30,12 @@ pub(crate) enum LineFault {
     /// The chunk grid or the chunk key encoding can't be made.
     #[error("refused: {0}")]
     Extension(PluginCreateError),
+    /// The chunk grid or the chunk key encoding of the target is no extension's metadata.
+    #[error("refused: field `target`: {0}")]
+    TargetMetadata(MetadataError),
+    /// The chunk grid or the chunk key encoding of the target can't be made.
+    #[error("refused: field `target`: {0}")]
+    TargetExtension(PluginCreateError),
     /// The box that the call is asked of can't be made.
     #[error("refused: {0}")]
     Box(ArraySubsetError),
@@ -38,7 +45,21 @@ pub(crate) enum LineFault {
     /// What the call is asked of has another number of dimensions than the grid.
     #[error("refused: {0}")]
     Lengths(IncompatibleDimensionalityError),
+    /// The rechunking that is asked for can't be planned.
+    #[error("refused: {0}")]
+    Copies(CopiesError),
     /// The items of a walk are longer than there is room for.
     #[error("refused: the answer is too long")]
     TooLong,
+}
+
+impl LineFault {
+    /// The fault of a grid or an encoding, as that of a target's.
+    pub(crate) fn of_target(self) -> LineFault {
+        match self {
+            LineFault::Metadata(error) => LineFault::TargetMetadata(error),
+            LineFault::Extension(error) => LineFault::TargetExtension(error),
+            fault => fault,
+        }
+    }
 }

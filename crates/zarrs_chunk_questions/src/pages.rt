@@ -128,7 +128,7 @@ pub(crate) fn parts_from(
 ///
 /// # Errors
 /// The items are longer than there is room for; or out of memory.
-fn page_tree(
+pub(crate) fn page_tree(
     alloc: Global,
     items: Vec<Value>,
     limits: &Limits,

@@ -102,6 +102,28 @@ pub(crate) fn numbers(alloc: Global, tree: &Value) -> Result<Vec<u64>, Refusal<L
     numbers.ok_or(Refusal::Refused(LineFault::WrongValue("of")))
 }
 
+/// A member that is the start and the shape of a box.
+pub(crate) fn required_box(
+    alloc: Global,
+    tree: &Value,
+    field: &'static str,
+) -> Result<(Vec<u64>, Vec<u64>), Refusal<LineFault>> {
+    let both = <(Vec<u64>, Vec<u64>)>::from_tree(alloc, required_member(tree, field)?)?;
+    both.ok_or(Refusal::Refused(LineFault::WrongValue(field)))
+}
+
+/// A member that is the start and the shape of a box, or `None` where there is no such member.
+pub(crate) fn optional_box(
+    alloc: Global,
+    tree: &Value,
+    field: &'static str,
+) -> Result<Option<(Vec<u64>, Vec<u64>)>, Refusal<LineFault>> {
+    match tree.get(field) {
+        Some(_) => Ok(Some(required_box(alloc, tree, field)?)),
+        None => Ok(None),
+    }
+}
+
 /// A member that is a number, or `None` where there is no such member.
 pub(crate) fn optional_number(
     alloc: Global,

@@ -41,16 +41,39 @@ impl WalkItem for (ArrayIndicesTinyVec, ArraySubset) {
 /// A part of a box of elements: `{"chunk":[..],"in_chunk":[start,shape],"in_subset":[start,shape],"key":".."}`.
 impl WalkItem for Part {
     fn to_tree(&self, alloc: Global) -> Result<Value, AllocError> {
-        let mut members = Map::new(alloc);
-        serde_json::put(&mut members, alloc, "chunk", self.chunk.to_tree(alloc)?)?;
-        let in_chunk = write_box(alloc, &self.in_chunk)?;
-        serde_json::put(&mut members, alloc, "in_chunk", in_chunk)?;
-        let in_subset = write_box(alloc, &self.in_subset)?;
-        serde_json::put(&mut members, alloc, "in_subset", in_subset)?;
-        let key = Value::try_from_str(alloc, self.key.as_str())?;
-        serde_json::put(&mut members, alloc, "key", key)?;
-        Ok(Value::Object(members))
+        part_tree(alloc, self, "in_subset")
     }
+}
+
+/// The tree of a part; the member with this name says where its elements go, as a box.
+pub(crate) fn part_tree(
+    alloc: Global,
+    part: &Part,
+    name: &'static str,
+) -> Result<Value, AllocError> {
+    let mut members = chunk_members(alloc, part)?;
+    serde_json::put(
+        &mut members,
+        alloc,
+        "in_chunk",
+        write_box(alloc, &part.in_chunk)?,
+    )?;
+    serde_json::put(
+        &mut members,
+        alloc,
+        name,
+        write_box(alloc, &part.in_subset)?,
+    )?;
+    Ok(Value::Object(members))
+}
+
+/// The members of a part that say which chunk it is of: its numbers and its key.
+pub(crate) fn chunk_members(alloc: Global, part: &Part) -> Result<Map<String, Value>, AllocError> {
+    let mut members = Map::new(alloc);
+    serde_json::put(&mut members, alloc, "chunk", part.chunk.to_tree(alloc)?)?;
+    let key = Value::try_from_str(alloc, part.key.as_str())?;
+    serde_json::put(&mut members, alloc, "key", key)?;
+    Ok(members)
 }
 
 /// How many items are given.

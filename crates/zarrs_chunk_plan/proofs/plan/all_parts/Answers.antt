@@ -1,5 +1,5 @@
 use Rattle.zarrs_chunk_plan.proofs.Walked.{at_first, at_last, one_more}
-use Rattle.zarrs_chunk_plan.proofs.laws.all_parts.Goals as goal
+use Rattle.zarrs_chunk_plan.proofs.plan.all_parts.Goals as goal
 
 pub loop-part-init : goal.loop-part-init
 loop-part-init g c =

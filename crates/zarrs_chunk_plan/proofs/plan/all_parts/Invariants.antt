@@ -1,5 +1,5 @@
 use Rattle.zarrs_chunk_plan.proofs.Walked.{HaveCome}
-use Rattle.zarrs_chunk_plan.proofs.laws.all_parts.Given as goal
+use Rattle.zarrs_chunk_plan.proofs.plan.all_parts.Given as goal
 
 -- the parts so far are those of the chunks that came
 abbrev pub invariant-loop-part : goal.invariant-loop-part
