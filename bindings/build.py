@@ -82,8 +82,9 @@ def link(backend, kit_folder):
     subprocess.run(
         [
             toolchain / "bin" / "ld.lld", "-shared", "-soname", shared.name, "-z", "defs", "-z", "text", "-z", "noexecstack", "-z", "relro", "-z", "now",
-            "-z", "separate-code", "--build-id=sha1", "--gc-sections", "--version-script", exported, "--whole-archive", out / f"{NAME}.a", "--no-whole-archive", runtime, toolchain / "lib" / "libc.so.6",
-            "-o", shared,
+            "-z", "separate-code", "--build-id=sha1", "--gc-sections", "--version-script", exported, "--whole-archive", out / f"{NAME}.a", "--no-whole-archive", runtime,
+            # a compiler's own runtime: LLVM calls it to divide numbers of 128 bits
+            toolchain / "lib" / "libgcc.a", toolchain / "lib" / "libc.so.6", "-o", shared,
         ],
         check=True,
     )  # fmt: skip

@@ -5,7 +5,7 @@
 //! target's chunk numbers, and nothing is copied into others. Without one they are those of a read of `subset`, or of the whole array; with `clip`
 //! true, of what `subset` has of the array. A box is written as its start and its shape. A line has all that its chunk gets, and its number among the
 //! lines, so lines can be shared out in any way; `share`, a number and how many shares there are, takes of the lines the share with this number,
-//! counted from 0.
+//! counted from 0. With `counts` true there is one line in their place, of how much the plan copies, for who sizes tasks before they are planned.
 //!
 //! ```text
 //! {"shape":[4],"chunk_grid":{"name":"regular","configuration":{"chunk_shape":[3]}},
@@ -13,6 +13,10 @@
 //!
 //! {"chunk":[0],"in_chunk":[[1],[2]],"in_subset":[[0],[2]],"key":"c/0","number":0,"of":2,"shape":[3],"whole":false}
 //! {"chunk":[1],"in_chunk":[[0],[1]],"in_subset":[[2],[1]],"key":"c/1","number":1,"of":2,"shape":[3],"whole":true}
+//!
+//! with "counts":true
+//!
+//! {"copies":2,"elements":3,"largest_line":1,"lines":2,"source_chunks":2}
 //! ```
 //!
 //! With no words it is `run_to_status` of `programs::chunkplan`, over what the process was given; words are answered by `answer_words`.
@@ -35,7 +39,8 @@ rechunking; `chunks`, a box of the target's chunk numbers, narrows it. Without
 one they are those of a read of `subset`, or of the whole array; with `clip`
 true, of what `subset` has of the array. A box is its start and its shape.
 `share`, a number and how many shares there are, takes of the lines the share
-with this number, counted from 0.
+with this number, counted from 0. With `counts` true one line is written in
+place of all: how many copies, elements, lines and source chunks there are.
 
   {\"shape\":[4],\"chunk_grid\":{\"name\":\"regular\",\"configuration\":
    {\"chunk_shape\":[3]}},\"chunk_key_encoding\":\"default\",\"subset\":[[1],[3]]}

@@ -1,4 +1,4 @@
-//! What no contract says: readers and writers that fail, that a beginning of the plan is written then, and how a wrong `clip` is told.
+//! What no contract says: readers and writers that fail, that a beginning of the plan is written then, and how a wrong `clip` or `counts` is told.
 use crate::ended::{check_bytes, check_ending, check_that};
 use crate::failing::{FailingReader, FailingWriter};
 use programs::chunkplan::{Watched, run_to_status};
@@ -36,6 +36,20 @@ const CLIP_OF_TARGET: &[u8] =
 
 const WRONG_CLIP: &[u8] =
     br#"{"shape":[4],"chunk_grid":"regular","chunk_key_encoding":"v2","clip":1}"#;
+
+/// The same array, whose rechunking into chunks of two is counted: the second of these takes the last element of one chunk and the one of the other.
+const COUNTED: &[u8] =
+    br#"{"shape":[4],"chunk_grid":{"name":"regular","configuration":{"chunk_shape":[3]}},"chunk_key_encoding":"v2","counts":true,
+"target":{"chunk_grid":{"name":"regular","configuration":{"chunk_shape":[2]}},"chunk_key_encoding":"v2"}}"#;
+
+const COUNTS_LINE: &[u8] =
+    br#"{"copies":3,"elements":4,"largest_line":2,"lines":2,"source_chunks":2}
+"#;
+
+const SHARE_OF_COUNTS: &[u8] =
+    br#"{"shape":[4],"chunk_grid":"","chunk_key_encoding":"","counts":false,"share":1}"#;
+
+const WRONG_COUNTS: &[u8] = br#"{"shape":[4],"chunk_grid":"","chunk_key_encoding":"","counts":1}"#;
 
 /// A reader of a document that fails after so many reads is told, and nothing is written then; the lines are, where it doesn't fail.
 fn check_read(
@@ -157,4 +171,20 @@ fn a_box_is_clipped_where_it_is_read(rt: HostRuntime) {
         "chunkplan: field `clip` is for a read: leave out `target`, or leave it out\n",
     );
     check_fault(&rt, WRONG_CLIP, "chunkplan: wrong value in field `clip`\n");
+}
+
+#[test]
+fn a_plan_is_counted(rt: HostRuntime) {
+    let enough = COUNTED.len().div_ceil(16) + 1;
+    check_read(&rt, (COUNTED, COUNTS_LINE), enough, ErrorKind::Other, true);
+    check_fault(
+        &rt,
+        SHARE_OF_COUNTS,
+        "chunkplan: field `share` is for lines: leave out `counts`, or leave it out\n",
+    );
+    check_fault(
+        &rt,
+        WRONG_COUNTS,
+        "chunkplan: wrong value in field `counts`\n",
+    );
 }

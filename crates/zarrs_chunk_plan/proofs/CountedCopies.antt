@@ -110,7 +110,8 @@ module _ (source : List Dimension) (IsSourceKey : List ℕ → List ℕ → Type
     read_from copy among =
         let (group, in_groups, in_group) = in_some (λ g. map (λ from. (from, g.0)) g.1) groups copy among in
         let (from, in_parts, same) = is_of (λ from. (from, group.0)) group.1 copy in_group in
-        let (chunk, counted, into) = source_of (AreCopiesInto source IsSourceKey target IsTargetKey) (chunks_in targets) groups are_groups group in_groups in
+        let (chunk, counted, into) =
+        source_of (AreCopiesInto source IsSourceKey target IsTargetKey) (chunks_in targets) groups are_groups group in_groups in
         let inside = (are_those_inside targets written.is_box chunk).0 counted in
         let meets = written.meet chunk inside in
         let cover = into.from.cover in
@@ -131,9 +132,10 @@ module _ (source : List Dimension) (IsSourceKey : List ℕ → List ℕ → Type
     counts_are counts are = record {
       lines = ap product are.lines ∙ sym (in_box_many targets)
           ∙ sym (AllZip-long (AreCopiesInto source IsSourceKey target IsTargetKey) (chunks_in targets) groups are_groups);
-      copies = subst (λ n. MatchOption counts.copies (¬ AreFew targets.shape) (λ factors. AreFew targets.shape × (product factors.items ≡ n)))
+      copies = subst (λ n. MatchOption counts.copies (¬ AreFew targets) (λ factors. AreFew targets × (product factors.items ≡ n)))
           (ap sum (sym lengths) ∙ sym (copies_of_all groups)) are.copies;
-      largest_line = subst (λ n. MatchOption counts.largest_line (¬ AreFew targets.shape) (λ factors. AreFew targets.shape × (product factors.items ≡ n)))
+      largest_line = subst
+          (λ n. MatchOption counts.largest_line (¬ AreFew targets) (λ factors. AreFew targets × (product factors.items ≡ n)))
           (ap (fold max 0) (sym lengths)) are.largest_line;
       elements = many_same (IsWritten target targets) _ (product counts.elements.items)
           (λ index. (λ here. (here.0, moved index here), λ (below, (copy, among, (steps, moves))). is_written index steps copy below among moves))

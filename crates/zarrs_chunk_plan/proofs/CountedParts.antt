@@ -48,7 +48,8 @@ module _ (b cover : Box) (copies elements largest lines chunks : Vec ℕ Global)
     lines = ap product lines_are ∙ many;
     copies = ap product copies_are ∙ many;
     largest_line = most (length parts) many;
-    elements = subst (λ items. AreMany (λ index. (part : Part) × Contains parts part × ((place : List ℕ) × HasElement b part index place)) (product items))
+    elements = subst
+        (λ items. AreMany (λ index. (part : Part) × Contains parts part × ((place : List ℕ) × HasElement b part index place)) (product items))
         (sym elements_are)
         (box_many b _ is_box
         (λ index. (

@@ -78,7 +78,8 @@ met_at_most s t chain c a b some low high =
     let gap = chain.no_gap a (earlier_has s chain (a + 1) b (omega arith) high.chunk) in
     let from_next = steps_far s chain (a + 1) (b - (a + 1))
     (subst (λ n. IsTrue (s.has_chunk n)) (let split_next : b ≡ a + 1 + (b - (a + 1)) = omega arith in split_next) high.chunk) in
-    let start_next : s.start (a + 1 + (b - (a + 1))) ≡ s.start b = ap s.start (let split_next : a + 1 + (b - (a + 1)) ≡ b = omega arith in split_next) in
+    let start_next : s.start (a + 1 + (b - (a + 1))) ≡ s.start b =
+    ap s.start (let split_next : a + 1 + (b - (a + 1)) ≡ b = omega arith in split_next) in
     omega (arith, gap.1))
     (λ (le : b ≤ a). omega arith)
     (cases_lt a b)

@@ -19,7 +19,8 @@ use Rattle.zarrs_chunk_plan.proofs.MetChunks.{cover_sizes, held_common, meets_ho
 use Rattle.zarrs_chunk_plan.proofs.Plans.{not_empty_if_inside}
 use Rattle.zarrs_chunk_plan.proofs.Rechunkings.{counted_from_zeros, in_array}
 use Rattle.zarrs_chunk_plan.proofs.SameBoxes.{same_box_of}
-use Rattle.zarrs_chunk_plan.proofs.Written.{RangesHold, all_held_has, first_within, last_within, met_there, ranges_hold, set_within, starts_before_ends}
+use Rattle.zarrs_chunk_plan.proofs.Written.{RangesHold, all_held_has, first_within, last_within, met_there, ranges_hold, set_within}
+use Rattle.zarrs_chunk_plan.proofs.Written.{starts_before_ends}
 
 -- what is found of a chunk and the whole array is the chunk's box of the array
 pub held_is : (ds : List Dimension) (chunk : List ℕ) (in_chunk in_subset : Box) → AreShared ds (array_box ds) chunk in_chunk in_subset

@@ -1,5 +1,6 @@
 -- Products of one number from each of some lists: their sum, and the greatest of them.
-use Rattle.std.proofs.Common.{◌≡◌, ◌∙◌, ℕ, zero, suc, ◌+◌, ◌*◌, ◌<◌, ◌≤◌, List, [], ◌∷◌, ◌++◌, fold, length, map, max, refl, ap, ap₂, sym, ⊎_elim, arith}
+use Rattle.std.proofs.Common.{◌≡◌, ◌∙◌, ℕ, zero, suc, ◌+◌, ◌*◌, ◌<◌, ◌≤◌, List, [], ◌∷◌, ◌++◌, fold, length, map, max}
+use Rattle.std.proofs.Common.{refl, ap, ap₂, sym, ⊎_elim, arith}
 use Rattle.std.proofs.Math.Nat.{mul_comm}
 use Rattle.std.proofs.lemmas.Bool.{cases_lt}
 use Rattle.std.proofs.lemmas.List.Sums.{sum_by-cons}
@@ -19,7 +20,8 @@ products (xs ∷ lists) = flat_map (λ x. times_each x (products lists)) xs
 
 -- ---- what is made of all of a list by an operation over which products distribute
 
-module _ (r : List ℕ → ℕ) (op : ℕ → ℕ → ℕ) (none : r [] ≡ 0) (one : (x : ℕ) (xs : List ℕ) → r (x ∷ xs) ≡ op x (r xs)) (zero_first : (x : ℕ) → op 0 x ≡ x)
+module _ (r : List ℕ → ℕ) (op : ℕ → ℕ → ℕ) (none : r [] ≡ 0) (one : (x : ℕ) (xs : List ℕ) → r (x ∷ xs) ≡ op x (r xs))
+    (zero_first : (x : ℕ) → op 0 x ≡ x)
     (zero_last : (x : ℕ) → op x 0 ≡ x)
     (again : (x y z : ℕ) → op (op x y) z ≡ op x (op y z)) (times : (x y z : ℕ) → op x y * z ≡ op (x * z) (y * z)) where
   of_both : (xs ys : List ℕ) → r (xs ++ ys) ≡ op (r xs) (r ys)
@@ -43,10 +45,11 @@ module _ (r : List ℕ → ℕ) (op : ℕ → ℕ → ℕ) (none : r [] ≡ 0) (
   of_products (xs ∷ lists) = of_rows xs (products lists) ∙ ap (λ n. r xs * n) (of_products lists)
 
 pub sum_of_products : (lists : List (List ℕ)) → sum (products lists) ≡ product (map sum lists)
-sum_of_products = of_products sum ◌+◌ refl (λ x xs. sum_by-cons (λ y. y) x xs) (λ x. omega arith) (λ x. omega arith) (λ x y z. omega arith) distributes where
-  distributes : (x y z : ℕ) → (x + y) * z ≡ x * z + y * z
-  distributes x y zero = omega arith
-  distributes x y (suc z) = let rest = distributes x y z in omega arith
+sum_of_products =
+    of_products sum ◌+◌ refl (λ x xs. sum_by-cons (λ y. y) x xs) (λ x. omega arith) (λ x. omega arith) (λ x y z. omega arith) distributes where
+      distributes : (x y z : ℕ) → (x + y) * z ≡ x * z + y * z
+      distributes x y zero = omega arith
+      distributes x y (suc z) = let rest = distributes x y z in omega arith
 
 abbrev pub greatest_of : List ℕ → ℕ
 greatest_of = fold max 0

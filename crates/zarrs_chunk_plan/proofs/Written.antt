@@ -81,7 +81,8 @@ met_there _ _ _ _ k j e f g within less = absurd (omega arith)
 pub tables_long : (source target : List Dimension) (first sizes : List ℕ) → length source ≡ length target → length first ≡ length target
     → length first ≡ length sizes → length (met_in source target first sizes) ≡ length sizes
 tables_long [] [] [] [] e f g = refl
-tables_long (s ∷ source) (t ∷ target) (a ∷ first) (n ∷ sizes) e f g = ap suc (tables_long source target first sizes (omega arith) (omega arith) (omega arith))
+tables_long (s ∷ source) (t ∷ target) (a ∷ first) (n ∷ sizes) e f g =
+    ap suc (tables_long source target first sizes (omega arith) (omega arith) (omega arith))
 tables_long _ _ _ _ e f g = absurd (omega arith)
 
 pub table_long : (source target : List Dimension) (first sizes : List ℕ) (k : ℕ) → length source ≡ length target → length first ≡ length target

@@ -1,8 +1,8 @@
--- How much a plan copies. Each count is a product of numbers, one for each dimension, that are found without a walk over the plan.
+-- How much a plan copies. Each count is a product of numbers that are found without a walk over the plan.
 -- Source: this library's own.
-use Rattle.std.specs.Prelude.{◌≡◌, ◌≢◌, ◌↔◌, ◌*◌, ◌≤◌, ◌^◌, ℕ, List, [], ◌∷◌, MatchOption, fold, length, map, max, min}
+use Rattle.std.specs.Prelude.{◌≡◌, ◌≢◌, ◌↔◌, ◌⊎◌, ◌*◌, ◌≤◌, ◌^◌, ℕ, List, [], ◌∷◌, MatchOption, fold, length, map, max, min}
 use Rattle.std.specs.List.{AllByRecursion, AllPairs, Contains}
-use Rattle.zarrs_chunk_base.specs.ArraySubset.{Box}
+use Rattle.zarrs_chunk_base.specs.ArraySubset.{Box, IsEmptyBox}
 use Rattle.zarrs_chunk_base.specs.Dimension.{Dimension, array_sizes}
 use Rattle.zarrs_chunk_axes.specs.InBounds.{AreBelow}
 use Rattle.zarrs_chunk_plan.specs.Plan.{HasElement}
@@ -22,9 +22,9 @@ abbrev pub product : List ℕ → ℕ
 product [] = 1
 product (n ∷ numbers) = n * product numbers
 
--- along no dimension are there more chunks of the target than are gone through
-abbrev pub AreFew : List ℕ → Type 0
-AreFew = AllByRecursion (λ size. size ≤ 2 ^ 24)
+-- the chunks in a box are few enough to go through along each dimension: there are none, or along each at most 2 ^ 24
+abbrev pub AreFew : Box → Type 0
+AreFew chunks = IsEmptyBox chunks ⊎ AllByRecursion (λ size. size ≤ 2 ^ 24) chunks.shape
 
 -- how many copies the longest line has
 abbrev pub longest : List Group → ℕ
@@ -39,14 +39,14 @@ pub record AreReadCounts (subset : Box) (parts : List Part) (counts : Counts) : 
       (product counts.elements.items)
   pub source_chunks : AreMany (λ chunk. (part : Part) × Contains parts part × (part.chunk.items ≡ chunk)) (product counts.source_chunks.items)
 
--- The counts of a rechunking into the chunks of a box, of which these are the groups: each group is a line. Where the box has more chunks along a
--- dimension than are gone through, there is no count of copies.
+-- The counts of a rechunking that writes the chunks in a box, of which these are the groups: each group is a line. Where the chunks aren't few, there
+-- is no count of copies, and none of those of the longest line.
 pub record AreRechunkingCounts (source target : List Dimension) (targets : Box) (groups : List Group) (counts : Counts) : Type 0 where
   pub lines : product counts.lines.items ≡ length groups
-  pub copies : MatchOption counts.copies (¬ AreFew targets.shape)
-      (λ factors. AreFew targets.shape × (product factors.items ≡ length (copies_of groups)))
-  pub largest_line : MatchOption counts.largest_line (¬ AreFew targets.shape)
-      (λ factors. AreFew targets.shape × (product factors.items ≡ longest groups))
+  pub copies : MatchOption counts.copies (¬ AreFew targets)
+      (λ factors. AreFew targets × (product factors.items ≡ length (copies_of groups)))
+  pub largest_line : MatchOption counts.largest_line (¬ AreFew targets)
+      (λ factors. AreFew targets × (product factors.items ≡ longest groups))
   pub elements : AreMany
       (λ index. AreBelow (array_sizes target) index
       × ((copy : Part × Part) × Contains (copies_of groups) copy × ((steps : List ℕ) × Moves source target copy steps index)))

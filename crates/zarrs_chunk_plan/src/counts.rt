@@ -1,6 +1,6 @@
 //! How much a plan copies, without a walk over it.
 ghost use Rattle.std.specs.Prelude.{◌≡◌, ◌≢◌, ◌⊎◌, ◌≤◌, ◌↔◌, ℕ, IfErr, IfOk, IsTrue, List, MatchOption, fold, length, map, max, min};
-ghost use Rattle.std.specs.List.{AllZip, sum};
+ghost use Rattle.std.specs.List.{AllByRecursion, AllZip, sum};
 ghost use Rattle.zarrs_chunk_base.specs.ArraySubset.{Box, IsBox, IsEmptyBox, IsInside, ends};
 ghost use Rattle.zarrs_chunk_base.specs.Dimension.{InBox, array_sizes};
 ghost use Rattle.zarrs_chunk_base.specs.Refusal.{HasMemory, OrMemory};
@@ -25,26 +25,26 @@ use zarrs_chunk_base::{ArrayShape, ArraySubset, IncompatibleDimensionalityError,
 use zarrs_chunk_keys::ChunkKeyEncodingTraits;
 use zarrs_chunks::ChunkGridTraits;
 
-/// How much a plan copies. Each count is the product of the numbers in its list, one for each dimension, since such a product may be larger than
-/// any integer type holds.
+/// How much a plan copies. Each count is the product of the numbers in its list: it may be larger than any integer type holds. These are found
+/// dimension by dimension; that there is one for each isn't promised.
 #[derive(Debug, Drop)]
 pub struct Counts {
-    /// Pairs of a chunk that is read and what is made of it: of a rechunking, a chunk of the target that it shares elements with. `None` where they
-    /// aren't counted, since a dimension has more than 2^24 chunks of the target to go through.
+    /// How many copies there are. In a rechunking these are pairs of a chunk of the source and one of the target that share elements; in a read,
+    /// chunks that are read. `None` where a rechunking writes some chunks, and along some dimension more than 2^24.
     pub copies: Option<ArrayShape>,
-    /// Elements of the array, or of the box that is read.
+    /// How many elements are copied.
     pub elements: ArrayShape,
-    /// Copies of the line that has the most. `None` as of `copies`.
+    /// How many copies the line has that has the most. `None` where `copies` is.
     pub largest_line: Option<ArrayShape>,
-    /// Lines of the plan: chunks that are read, or chunks of the target that are written.
+    /// How many lines there are: chunks of the target that are written, or chunks that are read.
     pub lines: ArrayShape,
-    /// Different chunks that are read.
+    /// How many different chunks are read.
     pub source_chunks: ArrayShape,
 }
 
 /// The counts of the plan of reading a box of elements. `None` where the box has no cover.
 ///
-/// It takes the time and the memory of the cover.
+/// It takes the time and the memory of the cover. Of an encoding that has no key for some chunk nothing is said.
 ///
 /// # Errors
 /// As of [`parts`](crate::parts).
@@ -88,8 +88,8 @@ fn at_most_one(alloc: Global, numbers: &[u64]) -> Result<ArrayShape, AllocError>
 
 /// The counts of the plan of a rechunking into the chunks of a box.
 ///
-/// It takes the time of some look-ups for each chunk of the target along each dimension by itself, where none has more than 2^24 of them, and
-/// that of a few look-ups otherwise.
+/// It takes the time of some look-ups for each chunk that is written along each dimension by itself, where none has more than 2^24 of them, and
+/// that of a few look-ups otherwise. Of an encoding that has no key for some chunk nothing is said.
 ///
 /// # Errors
 /// As of [`copies`](crate::copies).
@@ -130,11 +130,18 @@ pub fn counts_of_rechunking<
 /// How many chunks of the target are gone through along a dimension, at most.
 const MOST_ALONG: u64 = 1 << 24;
 
-/// Whether no dimension has more chunks of the target than are gone through.
-fn are_few(sizes: &[u64]) -> bool
-    ensures { IsTrue result ↔ AreFew sizes.now }
+/// Whether the chunks in a box are few enough to go through along each dimension.
+fn are_few(chunks: &ArraySubset) -> bool
+    ensures { IsTrue result ↔ AreFew chunks.now }
 {
-    sizes.iter().all(|size| *size <= MOST_ALONG)
+    chunks.is_empty() || are_at_most(chunks.shape(), MOST_ALONG)
+}
+
+/// Whether each number is at most the other.
+fn are_at_most(numbers: &[u64], most: u64) -> bool
+    ensures { IsTrue result ↔ AllByRecursion (λ n. n ≤ most) numbers.now }
+{
+    numbers.iter().all(|n| *n <= most)
 }
 
 /// The counts of a rechunking into chunks that hold elements of the array.
@@ -148,8 +155,8 @@ fn counts_of_targets<G: ChunkGridTraits, H: ChunkGridTraits>(
     targets: &ArraySubset,
 ) -> Result<Counts, AllocError>
     requires { AreWritten (G.dimensions source.now) (H.dimensions target.now) targets.now }
-    ensures { IfOk result (λ counts. AreTargetCounts (G.dimensions source.now) (H.dimensions target.now)
-        targets.now counts) }
+    ensures { IfOk result (λ counts. AreTargetCounts (G.dimensions source.now)
+        (H.dimensions target.now) targets.now counts) }
 {
     let elements = elements_in(alloc, target, targets)?;
     let cover = expect_answer(source.chunks_in_array_subset(alloc, &elements))?;
@@ -174,14 +181,14 @@ fn copies_along<G: ChunkGridTraits, H: ChunkGridTraits>(
     targets: &ArraySubset,
 ) -> Result<(Option<ArrayShape>, Option<ArrayShape>), AllocError>
     requires { AreWritten (G.dimensions source.now) (H.dimensions target.now) targets.now }
-    ensures copies { IfOk result (λ both. MatchOption both.0 (¬ AreFew targets.now.shape) (λ factors.
-        AreFew targets.now.shape × (product factors.items ≡ sum (met_by_each (G.dimensions source.now)
-        (H.dimensions target.now) targets.now)))) }
-    ensures largest { IfOk result (λ both. MatchOption both.1 (¬ AreFew targets.now.shape) (λ factors.
-        AreFew targets.now.shape × (product factors.items ≡ fold max 0 (met_by_each
+    ensures copies { IfOk result (λ both. MatchOption both.0 (¬ AreFew targets.now)
+        (λ factors. AreFew targets.now × (product factors.items ≡ sum (met_by_each
+        (G.dimensions source.now) (H.dimensions target.now) targets.now)))) }
+    ensures largest { IfOk result (λ both. MatchOption both.1 (¬ AreFew targets.now)
+        (λ factors. AreFew targets.now × (product factors.items ≡ fold max 0 (met_by_each
         (G.dimensions source.now) (H.dimensions target.now) targets.now)))) }
 {
-    if !are_few(targets.shape()) {
+    if !are_few(targets) {
         return Ok((None, None));
     }
     let sources = sources_along_each(alloc, source, target, targets)?;

@@ -80,7 +80,8 @@ pub fn targets_of<G: ChunkGridTraits, H: ChunkGridTraits>(
 ) -> Result<ArraySubset, Refusal<CopiesError>>
     ensures targets { IfOk result (AreTargets (H.dimensions target.now) chunks.now) }
     ensures is_box { IfOk result IsBox }
-    ensures long { IfOk result (λ targets. length targets.start ≡ length (H.dimensions target.now)) }
+    ensures long { IfOk result (λ targets. length targets.start
+        ≡ length (H.dimensions target.now)) }
     ensures array { IfOk result (λ _. IsBox (array_box (H.dimensions target.now))) }
     ensures one_array { IfOk result (λ _. array_sizes (G.dimensions source.now)
         ≡ array_sizes (H.dimensions target.now)) }

@@ -5,7 +5,7 @@
 //! | Module | What it tests |
 //! |---|---|
 //! | `plans` | the parts of a box of elements, and the laws |
-//! | `rechunkings` | what a rechunking copies, what refuses it, and the laws |
+//! | `rechunkings` | what a rechunking copies, what refuses it, the counts of it and of a read, and the laws |
 #![tactic(auto)]
 
 #[cfg(test)]

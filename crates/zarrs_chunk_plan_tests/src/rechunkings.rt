@@ -1,5 +1,5 @@
 //! What a rechunking of a row of seven elements copies, one group after another and by number, and one of two rows in four, five and a thousand
-//! dimensions; what refuses one, and the laws.
+//! dimensions; what refuses one, and the laws; and the counts of such a rechunking, and of a read.
 use std::alloc::{AllocError, Global};
 use std::num::NonZeroU64;
 use std::process::Abort;
@@ -11,7 +11,8 @@ use zarrs_chunk_plan::laws::{
     the_walk_gives_the_rechunking,
 };
 use zarrs_chunk_plan::{
-    CopiesError, Part, StoredArray, all_chunks, copies, some_copies, targets_of, whole_array,
+    CopiesError, Counts, Part, StoredArray, all_chunks, copies, counts_of_read,
+    counts_of_rechunking, some_copies, targets_of, whole_array,
 };
 use zarrs_chunks::RegularChunkGrid;
 
@@ -226,6 +227,62 @@ fn grids_of_two_arrays_are_refused(rt: HostRuntime) -> Result<(), Fail> {
         text.as_str(),
         "the box of chunks: incompatible dimensionality 2, expected 5"
     );
+    Ok(())
+}
+
+/// The factors are 1 but for the last of five.
+fn check_factors(rt: &impl Abort, factors: &[u64], last: u64) {
+    assert_eq!(rt; factors, [1, 1, 1, 1, last].as_slice());
+}
+
+/// The counts have these last factors: of lines, of elements and of chunks of the source.
+fn check_counts(rt: &impl Abort, counts: &Counts, lines: u64, elements: u64, source_chunks: u64) {
+    check_factors(rt, &counts.lines, lines);
+    check_factors(rt, &counts.elements, elements);
+    check_factors(rt, &counts.source_chunks, source_chunks);
+}
+
+/// And these, of all copies and of those of the longest line.
+fn check_copies(rt: &impl Abort, counts: &Counts, in_all: u64, most: u64) -> Result<(), Fail> {
+    let copies = counts.copies.as_deref().ok_or("copies aren't counted")?;
+    check_factors(rt, copies, in_all);
+    let longest = counts
+        .largest_line
+        .as_deref()
+        .ok_or("those of a line aren't")?;
+    check_factors(rt, longest, most);
+    Ok(())
+}
+
+/// The copies of the row of seven elements, which are written above, and a read of its last four elements.
+#[test]
+fn what_is_copied_is_counted(rt: HostRuntime) -> Result<(), Fail> {
+    let alloc = rt.alloc();
+    let (source, target) = (row(alloc, 7, 4)?, row(alloc, 7, 3)?);
+    let all = all_chunks(alloc, &target.grid)?;
+    let counts = counts_of_rechunking(alloc, &source, &target, &all)?;
+    check_counts(&rt, &counts, 3, 7, 2);
+    check_copies(&rt, &counts, 4, 2)?;
+    let subset = ArraySubset::new_with_start_shape(
+        [0, 0, 0, 0, 3].to_vec(alloc)?,
+        [1, 1, 1, 1, 4].to_vec(alloc)?,
+    )?;
+    let counts = counts_of_read(alloc, &source, &subset)?.ok_or("no cover")?;
+    check_counts(&rt, &counts, 2, 4, 2);
+    check_copies(&rt, &counts, 2, 1)
+}
+
+/// The row has 2^24 + 1 elements, a chunk of the target each.
+#[test]
+fn copies_into_too_many_chunks_are_not_counted(rt: HostRuntime) -> Result<(), Fail> {
+    let alloc = rt.alloc();
+    let (source, target) = (row(alloc, 16777217, 3)?, row(alloc, 16777217, 1)?);
+    let all = all_chunks(alloc, &target.grid)?;
+    let counts = counts_of_rechunking(alloc, &source, &target, &all)?;
+    check_counts(&rt, &counts, 16777217, 16777217, 5592406);
+    assert!(rt; counts.copies.is_none() && counts.largest_line.is_none());
+    let error = refusal_of(counts_of_rechunking(alloc, &source, &row(alloc, 7, 3)?, &all))?;
+    assert_eq!(rt; error, CopiesError::ArrayShapes);
     Ok(())
 }
 

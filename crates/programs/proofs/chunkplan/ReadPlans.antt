@@ -19,14 +19,15 @@ pub is_read_plan : {G E : Type 0} (dimensions : G → List Dimension) (is_key : 
     → (length subset.start ≡ length (dimensions grid))
     × ((cover : Box) × IsCover (dimensions grid) subset cover × (chunks_to_come walk ≡ chunks_in cover)))
     → ArePartsToCome dimensions is_key walk parts → IsReadPlan (dimensions grid) (is_key encoding) subset parts
-is_read_plan dimensions is_key grid encoding subset walk parts is_box many about if_empty if_some are = record { lengths = many; some = some; none = none } where
-  some : (¬ IsEmptyBox subset) → IsPlan (dimensions grid) (is_key encoding) subset parts
-  some is_some =
-      let (_, (cover, is, left)) = if_some (inl is_some) in
-      plan_of dimensions is_key grid encoding subset cover walk parts about is left are
+is_read_plan dimensions is_key grid encoding subset walk parts is_box many about if_empty if_some are =
+    record { lengths = many; some = some; none = none } where
+      some : (¬ IsEmptyBox subset) → IsPlan (dimensions grid) (is_key encoding) subset parts
+      some is_some =
+          let (_, (cover, is, left)) = if_some (inl is_some) in
+          plan_of dimensions is_key grid encoding subset cover walk parts about is left are
 
-  none : IsEmptyBox subset → parts ≡ []
-  none (k, within, is) =
-      let some_dimension : length (dimensions grid) ≢ 0 = λ zero. let lengths = is_box.lengths in absurd (omega arith) in
-      no_parts (IsPart (dimensions walk.grid.now) (is_key walk.encoding.now) walk.array_subset) (chunks_to_come walk) parts
-      (if_empty (k, within, is) some_dimension) are
+      none : IsEmptyBox subset → parts ≡ []
+      none (k, within, is) =
+          let some_dimension : length (dimensions grid) ≢ 0 = λ zero. let lengths = is_box.lengths in absurd (omega arith) in
+          no_parts (IsPart (dimensions walk.grid.now) (is_key walk.encoding.now) walk.array_subset) (chunks_to_come walk) parts
+          (if_empty (k, within, is) some_dimension) are

@@ -1,5 +1,5 @@
 -- The line of a plan's counts.
--- Source: RFC 8259 and its canonical form, RFC 8785; the members are this program's own.
+-- Source: RFC 8259; the members, in the order of their names, are this program's own.
 use Rattle.std.specs.Prelude.{◌≡◌, ℕ, List, ◌++◌, Option, Some, None, Vec, codes}
 use Rattle.std.specs.declared.alloc.Global.{Global}
 use Rattle.zarrs_chunk_keys.specs.Numeral.{IsNumeral}

@@ -13,7 +13,8 @@ use Rattle.programs.specs.chunkplan.Known.{Agree, Differ, HasOnly, IsFirstUnknow
 use Rattle.programs.specs.chunkplan.RunFault.{of_document}
 use Rattle.programs.specs.declared.chunkplan.run_fault.RunFault.{RunFault}
 use Rattle.programs.specs.declared.chunkplan.run_fault.RunFault.TheVariants.{Box, ChunksOfNoTarget, ClipOfTarget, Missing, OtherDataType}
-use Rattle.programs.specs.declared.chunkplan.run_fault.RunFault.TheVariants.{OtherShape, ShareOfCounts, SubsetOfTarget, Unknown, UnknownOfTarget, WrongValue}
+use Rattle.programs.specs.declared.chunkplan.run_fault.RunFault.TheVariants.{OtherShape, ShareOfCounts, SubsetOfTarget, Unknown, UnknownOfTarget}
+use Rattle.programs.specs.declared.chunkplan.run_fault.RunFault.TheVariants.{WrongValue}
 use Rattle.programs.specs.declared.document_fault.DocumentFault.{DocumentFault}
 
 -- the fault says that the member of this name is missing, or isn't of its form
@@ -87,7 +88,8 @@ HasWantedFault d fault = HasFlagFault d (codes "counts") fault ⊎ (HasFlag d (c
 -- its own two members, or `chunks`.
 pub data IsTaskFault (d : Data) (fault : RunFault) : Type 0 where
   of_subset : get (codes "target") d ≡ None → HasBoxFault d (codes "subset") fault → IsTaskFault d fault
-  of_clip : (subset : Option ElementBox) → get (codes "target") d ≡ None → HasBox d (codes "subset") subset → HasFlagFault d (codes "clip") fault → IsTaskFault d fault
+  of_clip : (subset : Option ElementBox) → get (codes "target") d ≡ None → HasBox d (codes "subset") subset → HasFlagFault d (codes "clip") fault
+      → IsTaskFault d fault
   of_target : (target : Data) → get (codes "target") d ≡ Some target → as_object target ≡ None → TellsWrongValue (codes "target") fault
       → IsTaskFault d fault
   of_misfit : (target : Data) → get (codes "target") d ≡ Some target → IsSome (as_object target) → IsTargetMisfit d target fault → IsTaskFault d fault

@@ -341,7 +341,7 @@ fn write_counts_of_groups<
 {
     match counts_of_rechunking(alloc, source, target, chunks) {
         Ok(counts) => write_counts(alloc, &counts, held_back, writer),
-        Err(Refusal::Refused(error)) => Err(RunFault::Copies(error)),
+        Err(Refusal::Refused(told)) => Err(RunFault::Copies(told)),
         Err(Refusal::Memory(_)) => Err(RunFault::Memory),
     }
 }

@@ -68,7 +68,8 @@ fn numeral(alloc: Global, digits: &[u8]) -> Result<Vec<u8>, AllocError>
 /// Out of memory.
 fn append_digit(text: &mut Vec<u8>, digit: u8) -> Result<(), AllocError>
     requires { digit < 10 }
-    ensures { (n : ℕ) → HasText n text.old.items → OnOk result (HasText (digit + 10 * n) text.new.items) }
+    ensures { (n : ℕ) → HasText n text.old.items
+        → OnOk result (HasText (digit + 10 * n) text.new.items) }
 {
     if digit == 0 && text.is_empty() {
         return Ok(());

@@ -17,12 +17,13 @@ IsWritten target targets index = AreBelow (array_sizes target) index × ((chunk 
 abbrev pub met_by_each : (source target : List Dimension) → Box → List ℕ
 met_by_each source target targets = map (λ chunk. product (met_by source target chunk)) (chunks_in targets)
 
+-- the counts of a rechunking that writes these chunks
 pub record AreTargetCounts (source target : List Dimension) (targets : Box) (counts : Counts) : Type 0 where
   pub lines : counts.lines.items ≡ targets.shape
-  pub copies : MatchOption counts.copies (¬ AreFew targets.shape)
-      (λ factors. AreFew targets.shape × (product factors.items ≡ sum (met_by_each source target targets)))
-  pub largest_line : MatchOption counts.largest_line (¬ AreFew targets.shape)
-      (λ factors. AreFew targets.shape × (product factors.items ≡ fold max 0 (met_by_each source target targets)))
+  pub copies : MatchOption counts.copies (¬ AreFew targets)
+      (λ factors. AreFew targets × (product factors.items ≡ sum (met_by_each source target targets)))
+  pub largest_line : MatchOption counts.largest_line (¬ AreFew targets)
+      (λ factors. AreFew targets × (product factors.items ≡ fold max 0 (met_by_each source target targets)))
   pub elements : AreMany (IsWritten target targets) (product counts.elements.items)
   pub source_chunks : AreMany (λ chunk. (index : List ℕ) × InBox source chunk index × IsWritten target targets index)
       (product counts.source_chunks.items)

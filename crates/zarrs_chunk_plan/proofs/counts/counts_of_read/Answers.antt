@@ -28,7 +28,8 @@ returns-clause-answers g c = λ may.
             (c.in_ok-to_vec-2.ensures.items_if_clones_equal (λ x y same. same) ∙ c.shape.ensures.value)
             (rw chunks at c.in_ok-at_most_one.ensures)
             (c.in_ok-to_vec-3.ensures.items_if_clones_equal (λ x y same. same) ∙ chunks)
-            (c.in_ok-to_vec-4.ensures.items_if_clones_equal (λ x y same. same) ∙ chunks) ds (g.E.ChunkKeyEncodingTraits.is_key c.args.array.now.encoding)
+            (c.in_ok-to_vec-4.ensures.items_if_clones_equal (λ x y same. same) ∙ chunks) ds
+            (g.E.ChunkKeyEncodingTraits.is_key c.args.array.now.encoding)
             (g.met.G.ChunkGridTraits.chained c.args.array.now.grid) c.is_a_box.ensures may is,
       ),
     )

@@ -41,7 +41,8 @@ loop-steps-preserved g c =
     in
     let (sum, most) = c.loop-steps.invariant in (
       ap₂ ◌+◌ sum c.in_ok-sources.ensures ∙ sym (sum_by_more (λ n. n) met c.loop-steps.steps 0 (omega arith)),
-      c.max-most.ensures ∙ greater c.loop-steps.most c.in_ok-sources.sources ∙ ap₂ max most c.in_ok-sources.ensures ∙ sym (fold_more max 0 met c.loop-steps.steps 0 (omega arith)),
+      c.max-most.ensures ∙ greater c.loop-steps.most c.in_ok-sources.sources ∙ ap₂ max most c.in_ok-sources.ensures
+          ∙ sym (fold_more max 0 met c.loop-steps.steps 0 (omega arith)),
     )
 
 pub returns-clause-sum : goal.returns-clause-sum

@@ -10,7 +10,8 @@ returns-in-Ok g c =
     let said = c.in-Ok.ensures in
     let counts = c.in-Ok.counts in
     let (targets, is_box, are, each) = said.counts in
-    let (groups, plan) = counted_groups (g.G.ChunkGridTraits.dimensions c.args.source.now.grid) (g.E.ChunkKeyEncodingTraits.is_key c.args.source.now.encoding)
+    let (groups, plan) = counted_groups (g.G.ChunkGridTraits.dimensions c.args.source.now.grid)
+    (g.E.ChunkKeyEncodingTraits.is_key c.args.source.now.encoding)
     (g.H.ChunkGridTraits.dimensions c.args.target.now.grid) (g.F.ChunkKeyEncodingTraits.is_key c.args.target.now.encoding)
     (g.met.G.ChunkGridTraits.chained c.args.source.now.grid) (g.met.H.ChunkGridTraits.chained c.args.target.now.grid) c.requires.keys
     c.requires.target_keys said.one_array said.is_box c.args.chunks.now targets is_box are

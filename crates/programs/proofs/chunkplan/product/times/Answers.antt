@@ -21,7 +21,8 @@ loop-digit-preserved c =
       rw c.in_ok-push.ensures.items (digits_pushed c.loop-digit.more.items (sum % 10) are (omega arith)),
       omega arith,
       rw c.in_ok-push.ensures.items
-          (carried c.loop-digit.more.items c.loop-digit.carry c.args.factor one (value (drop (k + 1) digits)) sum (c.args.factor * value digits) refl next),
+          (carried c.loop-digit.more.items c.loop-digit.carry c.args.factor one (value (drop (k + 1) digits)) sum
+          (c.args.factor * value digits) refl next),
     )
 
 pub loop-carry-preserved : goal.loop-carry-preserved
