@@ -1,0 +1,364 @@
+"""Zarr arrays in folders: what their metadata say, the keys of their chunks, and their chunks' elements as bytes.
+
+Format 2 (`.zarray`) and format 3 (`zarr.json`), by their standards. What isn't known here is refused, in words.
+"""
+import base64
+import bz2
+import dataclasses
+import json
+import math
+import pathlib
+import struct
+import sys
+import typing
+import zlib
+
+import numcodecs
+import numpy
+from numcodecs.compat import ensure_contiguous_ndarray
+
+UNFINISHED = ".unfinished"  # the folder in an array's folder that has what isn't yet under its key
+
+
+class Refused(Exception):
+    """What can't be done, in words."""
+
+
+@dataclasses.dataclass
+class StoredArray:
+    folder: pathlib.Path
+    shape: list
+    chunk_shape: list
+    dtype: numpy.dtype  # with the byte order of the stored chunks
+    fill: typing.Any  # None where the array has no fill value
+    key_encoding: dict
+    permutation: list  # the dimensions of a chunk in the order in which its elements are stored
+    codecs: list  # those that a chunk's elements go through on their way to the store
+
+    def grid(self):
+        """How many chunks there are along each dimension."""
+        return [-(-size // edge) for size, edge in zip(self.shape, self.chunk_shape)]
+
+    def key(self, chunk):
+        """The key of a chunk."""
+        separator = self.key_encoding["configuration"]["separator"]
+        if self.key_encoding["name"] == "v2":
+            return separator.join(map(str, chunk)) or "0"
+        return separator.join(["c", *map(str, chunk)])
+
+    def path(self, chunk):
+        return self.folder / self.key(chunk)
+
+    def held(self, chunk):
+        """What a chunk has of the array: its first element there, and how many along each dimension."""
+        start = [number * edge for number, edge in zip(chunk, self.chunk_shape)]
+        return start, [min(edge, size - first) for edge, size, first in zip(self.chunk_shape, self.shape, start)]
+
+    def new_chunk(self):
+        """Memory for a chunk, in which its elements lie as they are stored."""
+        stored = numpy.empty([self.chunk_shape[dimension] for dimension in self.permutation], self.dtype)
+        return stored.transpose(numpy.argsort(self.permutation))
+
+    def encode(self, chunk):
+        encoded = numpy.ascontiguousarray(chunk.transpose(self.permutation)).reshape(-1)
+        for codec in self.codecs:
+            encoded = codec.encode(encoded)
+        return ensure_contiguous_ndarray(encoded).reshape(-1).view("u1").data
+
+    def decode(self, stored):
+        for codec in reversed(self.codecs):
+            stored = codec.decode(stored)
+        elements = ensure_contiguous_ndarray(stored).reshape(-1).view("u1")
+        expected = math.prod(self.chunk_shape) * self.dtype.itemsize
+        if elements.nbytes != expected:
+            raise ValueError(f"{elements.nbytes} bytes where {expected} belong")
+        shape = [self.chunk_shape[dimension] for dimension in self.permutation]
+        return elements.view(self.dtype).reshape(shape).transpose(numpy.argsort(self.permutation))
+
+    def read(self, chunk):
+        """A chunk's elements. One that isn't stored has the fill value throughout."""
+        try:
+            stored = self.path(chunk).read_bytes()
+        except FileNotFoundError:
+            if self.fill is None:
+                raise Refused(f"chunk {self.key(chunk)} of {self.folder} isn't stored, and there is no fill value") from None
+            return numpy.broadcast_to(numpy.array(self.fill, self.dtype), self.chunk_shape)
+        except OSError as error:
+            raise Refused(f"chunk {self.key(chunk)} of {self.folder} can't be read: {error}") from error
+        try:
+            return self.decode(stored)
+        except Exception as error:  # each codec has exceptions of its own
+            raise Refused(f"chunk {self.key(chunk)} of {self.folder} can't be decoded: {error}") from error
+
+
+def open_array(folder):
+    """The array in a folder."""
+    folder = pathlib.Path(folder)
+    for name, read in ((".zarray", read_format_2), ("zarr.json", read_format_3)):
+        path = folder / name
+        if path.exists():
+            try:
+                return checked(read(folder, json.loads(path.read_text())))
+            except Refused as error:
+                raise Refused(f"{path}: {error}") from None
+            except (KeyError, TypeError, ValueError, AttributeError) as error:
+                raise Refused(f"{path} isn't the metadata of an array: {error!r}") from error
+    raise Refused(f"{folder} has no .zarray and no zarr.json")
+
+
+def checked(array):
+    if len(array.shape) != len(array.chunk_shape) or sorted(array.permutation) != list(range(len(array.shape))):
+        raise Refused("the shape, the chunk shape and the order have different dimensions")
+    if not all(type(number) is int for number in array.shape + array.chunk_shape) or min(array.shape, default=0) < 0:
+        raise Refused("a size that is no whole number")
+    if min(array.chunk_shape, default=1) < 1:
+        raise Refused("an edge of a chunk that is less than 1")
+    if array.key_encoding["configuration"]["separator"] not in (".", "/"):
+        raise Refused("a separator other than '.' and '/'")
+    if array.dtype.hasobject or array.dtype.itemsize == 0:
+        raise Refused(f"the data type {array.dtype}, whose elements have no bytes of their own, isn't moved")
+    return array
+
+
+def check_movable(source, target):
+    """Refuses a target that can't have the source's elements."""
+    if source.folder.resolve() == target.folder.resolve():
+        raise Refused("source and target are one folder")
+    if source.shape != target.shape:
+        raise Refused(f"another shape: {source.shape} in {source.folder}, {target.shape} in {target.folder}")
+    if source.dtype.newbyteorder("=") != target.dtype.newbyteorder("="):
+        raise Refused(f"another data type: {source.dtype} in {source.folder}, {target.dtype} in {target.folder}")
+
+
+# Format 2.
+
+
+def read_format_2(folder, metadata):
+    if metadata["zarr_format"] != 2:
+        raise Refused(f"zarr_format {metadata['zarr_format']}")
+    if metadata["order"] not in ("C", "F"):
+        raise Refused(f"order {metadata['order']}")
+    dtype = dtype_2(metadata["dtype"])
+    dimensions = list(range(len(metadata["shape"])))
+    return StoredArray(
+        folder=folder,
+        shape=metadata["shape"],
+        chunk_shape=metadata["chunks"],
+        dtype=dtype,
+        fill=fill_2(metadata["fill_value"], dtype),
+        key_encoding={"name": "v2", "configuration": {"separator": metadata.get("dimension_separator", ".")}},
+        permutation=dimensions if metadata["order"] == "C" else dimensions[::-1],
+        codecs=[codec_2(codec) for codec in [*(metadata["filters"] or []), metadata["compressor"]] if codec],
+    )
+
+
+def dtype_2(written):
+    if isinstance(written, str):
+        return numpy.dtype(written)
+    return numpy.dtype([(name, dtype_2(kind), *map(tuple, shape)) for name, kind, *shape in written])
+
+
+def fill_2(written, dtype):
+    if written is not None and dtype.kind in "SV":
+        return from_bytes(base64.b64decode(written, validate=True), dtype)
+    return number(written, dtype)
+
+
+COMPRESSORS_2 = {"blosc", "bz2", "gzip", "lz4", "lzma", "zlib", "zstd"}
+FILTERS_2 = {"adler32", "astype", "bitround", "crc32", "delta", "fixedscaleoffset", "packbits", "quantize", "shuffle"}
+
+
+def codec_2(configuration):
+    if configuration["id"] not in COMPRESSORS_2 | FILTERS_2:  # not `pickle`, say, whose chunks are programs
+        raise Refused(f"the codec {configuration['id']} isn't known here")
+    if configuration["id"] == "blosc":
+        return Blosc(**{name: value for name, value in configuration.items() if name != "id"})
+    if configuration["id"] in ("zlib", "bz2"):
+        return WholeStream(configuration)
+    return numcodecs.get_codec(dict(configuration))
+
+
+# Format 3.
+
+
+def read_format_3(folder, metadata):
+    known = {"zarr_format", "node_type", "shape", "data_type", "chunk_grid", "chunk_key_encoding", "fill_value", "codecs"}
+    silent = {"attributes", "dimension_names"}
+    for name in metadata.keys() - known - silent:
+        if metadata[name] and not (isinstance(metadata[name], dict) and metadata[name].get("must_understand") is False):
+            raise Refused(f"the member {name} isn't known here")
+    if (metadata["zarr_format"], metadata["node_type"]) != (3, "array"):
+        raise Refused("no array of format 3")
+    grid, edges = named(metadata["chunk_grid"])
+    encoding, separated = named(metadata["chunk_key_encoding"])
+    if grid != "regular" or encoding not in ("default", "v2"):
+        raise Refused(f"chunk grid {grid} with keys {encoding}: only regular ones with default or v2 are moved here")
+    separator = separated.get("separator", "/" if encoding == "default" else ".")
+    dtype = dtype_3(metadata["data_type"])
+    dtype, permutation, codecs = codecs_3(metadata["codecs"], dtype, len(metadata["shape"]))
+    return StoredArray(
+        folder=folder,
+        shape=metadata["shape"],
+        chunk_shape=edges["chunk_shape"],
+        dtype=dtype,
+        fill=fill_3(metadata["fill_value"], dtype),
+        key_encoding={"name": encoding, "configuration": {"separator": separator}},
+        permutation=permutation,
+        codecs=codecs,
+    )
+
+
+def named(extension):
+    """The name and the configuration of an extension, which may be its name alone."""
+    if isinstance(extension, str):
+        return extension, {}
+    return extension["name"], extension.get("configuration", {})
+
+
+def dtype_3(written):
+    numbers = {f"{kind}{bits}" for kind in ("int", "uint") for bits in (8, 16, 32, 64)}
+    if written in numbers | {"bool", "float16", "float32", "float64", "complex64", "complex128"}:
+        return numpy.dtype(written)
+    if isinstance(written, str) and written[:1] == "r" and written[1:].isdecimal() and int(written[1:]) % 8 == 0:
+        return numpy.dtype(f"V{int(written[1:]) // 8}")
+    raise Refused(f"the data type {written} isn't known here")
+
+
+def fill_3(written, dtype):
+    if written is not None and dtype.kind == "V":
+        return from_bytes(bytes(written), dtype)
+    return number(written, dtype)
+
+
+def codecs_3(chain, dtype, dimensions):
+    """The data type with its byte order, the order of the dimensions, and what the bytes go through."""
+    chain = [named(codec) for codec in chain]
+    permutation = list(range(dimensions))
+    while chain and chain[0][0] == "transpose":
+        order = chain.pop(0)[1]["order"]
+        if sorted(order) != list(range(dimensions)):
+            raise Refused(f"the codec transpose has the order {order}")
+        permutation = [permutation[dimension] for dimension in order]
+    if not chain or chain[0][0] != "bytes":
+        raise Refused(f"the codec {chain[0][0] if chain else 'bytes'} isn't known here, or not in its place")
+    endian = chain.pop(0)[1].get("endian")
+    if endian not in ("little", "big") and (endian is not None or dtype.itemsize > 1 and dtype.kind != "V"):
+        raise Refused(f"the codec bytes has the endian {endian}")
+    if endian:
+        dtype = dtype.newbyteorder(endian)
+    return dtype, permutation, [codec_3(*codec) for codec in chain]
+
+
+def codec_3(name, configuration):
+    if name == "blosc":
+        shuffle = {"noshuffle": 0, "shuffle": 1, "bitshuffle": 2}[configuration["shuffle"]]
+        return Blosc(configuration["cname"], configuration["clevel"], shuffle, configuration["blocksize"], configuration.get("typesize"))
+    if name == "gzip":
+        return numcodecs.GZip(configuration["level"])
+    if name == "zstd":
+        return CheckedZstd(configuration["level"]) if configuration.get("checksum") else numcodecs.Zstd(configuration["level"])
+    if name == "crc32c":
+        return Crc32c()
+    raise Refused(f"the codec {name} isn't known here, or not in its place")
+
+
+# Of both formats.
+
+
+def from_bytes(held, dtype):
+    """A fill value whose bytes are written, without the zeros at their end."""
+    if len(held) > dtype.itemsize:
+        raise Refused(f"the fill value has {len(held)} bytes, an element {dtype.itemsize}")
+    return numpy.frombuffer(held.ljust(dtype.itemsize, b"\0"), dtype)[0]
+
+
+def number(written, dtype):
+    """A fill value as both formats write it. Format 3 also has a float's bits, as hexadecimal digits."""
+    if written is None:
+        return None
+    if dtype.kind == "c":
+        parts = numpy.dtype(f"{dtype.byteorder}f{dtype.itemsize // 2}")
+        return numpy.array([number(part, parts) for part in written], parts).view(dtype)[0]
+    if dtype.kind == "f" and isinstance(written, str) and written.startswith("0x"):
+        return from_bytes(bytes.fromhex(written[2:]), dtype.newbyteorder(">"))
+    if dtype.kind == "f" and isinstance(written, str) and written not in ("NaN", "Infinity", "-Infinity"):
+        raise Refused(f"the fill value {written}")
+    value = numpy.array(written).astype(dtype)[()]
+    if dtype.kind in "iu" and int(value) != written:
+        raise Refused(f"the fill value {written} is none of {dtype}")
+    return value
+
+
+class Blosc:
+    """Blosc by numcodecs, which reads past the end of a chunk that was cut off: the length is looked at before."""
+
+    def __init__(self, cname="lz4", clevel=5, shuffle=1, blocksize=0, typesize=None):
+        self.codec, self.typesize = numcodecs.Blosc(cname, clevel, shuffle, blocksize), typesize
+
+    def encode(self, elements):
+        elements = ensure_contiguous_ndarray(elements)
+        if self.typesize and elements.nbytes % self.typesize == 0:
+            elements = elements.view("u1").view(f"V{self.typesize}")  # Blosc shuffles the bytes of elements of this size
+        return self.codec.encode(elements)
+
+    def decode(self, stored):
+        stored = ensure_contiguous_ndarray(stored).view("u1").data
+        if len(stored) < 16 or struct.unpack_from("<I", stored, 12)[0] != len(stored):
+            raise ValueError(f"{len(stored)} bytes aren't what Blosc wrote")
+        return self.codec.decode(stored)
+
+
+class WholeStream:
+    """zlib and bz2 by numcodecs, which passes over what stands behind the end of a stream; here it is refused."""
+
+    def __init__(self, configuration):
+        self.encode = numcodecs.get_codec(dict(configuration)).encode
+        self.decompressor = {"zlib": zlib.decompressobj, "bz2": bz2.BZ2Decompressor}[configuration["id"]]
+
+    def decode(self, stored):
+        decompressor = self.decompressor()
+        decoded = decompressor.decompress(stored)
+        if not decompressor.eof or decompressor.unused_data:
+            raise ValueError("the compressed stream doesn't end where the chunk does")
+        return decoded
+
+
+class Crc32c:
+    """The CRC-32C of some bytes behind them."""
+
+    def __init__(self):
+        self.crc32c = imported("crc32c", "python3-crc32c", "the codec crc32c").crc32c
+
+    def encode(self, elements):
+        held = ensure_contiguous_ndarray(elements).view("u1").tobytes()
+        return held + struct.pack("<I", self.crc32c(held))
+
+    def decode(self, stored):
+        held = ensure_contiguous_ndarray(stored).view("u1").tobytes()
+        if len(held) < 4 or struct.unpack("<I", held[-4:])[0] != self.crc32c(held[:-4]):
+            raise ValueError("the checksum is another one")
+        return held[:-4]
+
+
+class CheckedZstd:
+    """Zstandard with a checksum, which numcodecs reads and Debian's doesn't write."""
+
+    def __init__(self, level):
+        zstandard = imported("zstandard", "python3-zstandard", "the codec zstd with a checksum")
+        self.encode = zstandard.ZstdCompressor(level=level, write_checksum=True).compress
+        self.decode = numcodecs.Zstd(level).decode
+
+
+def imported(module, package, wanted_by):
+    try:
+        return __import__(module)
+    except ImportError:
+        raise Refused(f"{wanted_by} needs the module {module} (Debian: {package})") from None
+
+
+def ended_by(main):
+    """Runs the main function of a script. What it refuses, and what the system refuses it, goes to standard error."""
+    try:
+        main()
+    except (Refused, OSError) as error:
+        sys.exit(f"{pathlib.Path(sys.argv[0]).name}: {error}")

@@ -1,0 +1,110 @@
+#!/usr/bin/env python3
+"""Plants mistakes in copies of these scripts, one at a time: the tests have to fail on each.
+
+    planted.py CHUNKPLAN
+
+It takes some minutes. It ends with the status 1 where the tests accept a mistake.
+"""
+import pathlib
+import shutil
+import subprocess
+import sys
+import tempfile
+
+TOOLS = pathlib.Path(__file__).resolve().parent.parent
+
+PLANTED = [
+    # what is wrong, the edits of files that make it so, and the test that has to fail
+    (
+        "a chunk stands under its key before it is written",
+        [
+            ("copy_chunks.py", 'with open(unfinished, "xb") as file:', 'with open(path, "wb") as file:'),
+            ("copy_chunks.py", "            unfinished.rename(path)\n", ""),
+        ],
+        "faults.py full_disk",
+    ),
+    (
+        "a number is said to be done before its chunk is in its place",
+        [
+            ("copy_chunks.py", "            record.add(line)\n", ""),
+            ("copy_chunks.py", "            assemble(chunk, ", "            record.add(line)\n            assemble(chunk, "),
+        ],
+        "faults.py full_disk",
+    ),
+    ("the check of numbers always passes", [("check_done.py", "    if missing:", "    if False:")], "moves.py worker"),
+    (
+        "a planner's end is told by nothing",
+        [("check_done.py", "    if missing:", "    if False:"), ("engines/share.sh", "set -euo pipefail", "set -eu")],
+        "faults.py planner",
+    ),
+    (
+        "a worker's end is told by nothing",
+        [("check_done.py", "    if missing:", "    if False:"), ("engines/xargs_shares.sh", "|| status=$?", "|| true")],
+        "faults.py cut_source",
+    ),
+    (
+        "what was done is passed over though it isn't stored",
+        [("copy_chunks.py", ' and target.path(line["to"]["chunk"]).exists()', "")],
+        "moves.py worker",
+    ),
+    ("what is unfinished is left", [("copy_chunks.py", "            unfinished.unlink(missing_ok=True)\n", "")], "moves.py worker"),
+    ("a line's boxes are taken as they are", [("copy_chunks.py", "!= in_array(target", "is in_array(target")], "moves.py lines"),
+    ("a box that is left out isn't missed", [("copy_chunks.py", "!= math.prod(held)", "> math.prod(held)")], "moves.py lines"),
+    ("a key is taken as it is", [("copy_chunks.py", 'named["key"] == array.key(numbers)', 'named["key"] != ""')], "moves.py lines"),
+    ("the order F is forgotten", [("stored_arrays.py", 'if metadata["order"] == "C" else dimensions[::-1]', "")], "moves.py kinds"),
+    (
+        "a byte order is forgotten",
+        [("stored_arrays.py", "        dtype = dtype.newbyteorder(endian)\n", "        pass\n")],
+        "moves.py by_hand",
+    ),
+    (
+        "a fill value of the source is forgotten",
+        [("stored_arrays.py", "numpy.array(self.fill, self.dtype)", "numpy.zeros((), self.dtype)")],
+        "moves.py kinds",
+    ),
+    (
+        "orders are put together the wrong way",
+        [("stored_arrays.py", "[permutation[dimension] for dimension in order]", "[order[dimension] for dimension in permutation]")],
+        "moves.py kinds",
+    ),
+    (
+        "the length of a chunk isn't looked at",
+        [
+            ("stored_arrays.py", "if elements.nbytes != expected:", "if elements.nbytes < expected:"),
+            ("stored_arrays.py", "elements.view(self.dtype)", "elements[:expected].view(self.dtype)"),
+        ],
+        "moves.py broken_sources",
+    ),
+    ("a filter is forgotten", [("stored_arrays.py", '*(metadata["filters"] or [])', "*[]")], "moves.py kinds"),
+    ("another data type is moved", [("stored_arrays.py", "source.dtype.newbyteorder", "target.dtype.newbyteorder")], "moves.py metadata"),
+    ("verify sees only elements all of whose bytes differ", [("verify.py", ".any(axis=1)", ".all(axis=1)")], "moves.py worker"),
+    ("the cache has no bound", [("copy_chunks.py", "while self.size > self.most:", "while False:")], "moves.py worker"),
+]
+
+
+def planted(folder, edits):
+    """A copy of the scripts with some edits, each of which has to be one."""
+    shutil.copytree(TOOLS, folder, ignore=shutil.ignore_patterns("__pycache__"))
+    for name, old, new in edits:
+        text = (folder / name).read_text()
+        assert text.count(old) == 1, f"{old!r} stands {text.count(old)} times in {name}"
+        (folder / name).write_text(text.replace(old, new))
+
+
+def main():
+    accepted = 0
+    for what, edits, test in PLANTED:
+        with tempfile.TemporaryDirectory() as room:
+            copied = pathlib.Path(room, "rechunk")
+            planted(copied, edits)
+            script, part = test.split()
+            words = ["--engines", "xargs_shares", "--rounds", "4", "--faults", part] if script == "faults.py" else ["--checks", part]
+            run = subprocess.run([sys.executable, copied / "tests" / script, sys.argv[1], *words], capture_output=True, text=True)
+            told = [line for line in run.stdout.splitlines() if "WRONG" in line or "FAILED" in line]
+            accepted += not told
+            print(f"{'refused' if told else 'ACCEPTED'} by {test}: {what}", *told[:1], sep="\n    ", flush=True)
+    print(f"{len(PLANTED)} mistakes, {accepted} accepted")
+    sys.exit(bool(accepted))
+
+
+main()
