@@ -3,8 +3,8 @@
 
     python3 docs/check_changing.py
 
-Such a file names every kind of grid, or every encoding, that there is; in `zarrs_chunk_base`, every one that has a
-configuration of its own. The sources, definitions and proofs are searched, but for those of tests and of callers. On
+Such a file names every kind of grid, or every encoding, that there is, an encoding by its kind, by its case of
+`Encoding` or by the relation that its keys are; in `zarrs_chunk_base`, every one that has a configuration of its own. The sources, definitions and proofs are searched, but for those of tests and of callers. On
 the page a path stands in the folder of the crate that is named last before it, or begins with a crate; one that ends in
 a slash names the files beneath it. The script prints each file that isn't named, and each path of those sections that
 isn't there, where it has no placeholder such as NAME; and ends with the status 1 where it printed any.
@@ -34,9 +34,21 @@ def sources():
                 yield crate, path
 
 
+def words_of_keys():
+    """Of each kind of encoding, by name, its case of `Encoding` and the relation that its keys are."""
+    specs = CRATES / "zarrs_chunk_keys" / "specs"
+    relations = dict(re.findall(r"^IsKey \((\w+).*?\) = (\w+)", (specs / "ChunkKey.antt").read_text(), re.M))
+    cases = re.findall(r"^kind_of \((\w+).*?\) = (\w+)", (specs / "KeyKinds.antt").read_text(), re.M)
+    return {kind: {case, relations[case]} for case, kind in cases}
+
+
+WORDS = words_of_keys()
+
+
 def named_in(text, kinds):
     """The kinds that a text names, as `default_suffix` or `DefaultSuffix`; a longer name is no shorter one."""
-    found = set()
+    words = set(re.findall(r"\w+", text))
+    found = {kind for kind, others in WORDS.items() if kind in kinds and words & others}
     for kind in sorted(kinds, key=len, reverse=True):
         text, count = re.subn(kind.replace("_", "_?"), " ", text, flags=re.IGNORECASE)
         found |= {kind} if count else set()

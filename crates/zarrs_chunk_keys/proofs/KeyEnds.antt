@@ -1,9 +1,9 @@
--- Keys end in `c`, in a digit or in a suffix, and not in a slash.
+-- Keys end in `c` or in a digit, and not in a slash; nor do two texts that are put together, of which neither does.
 use Rattle.std.proofs.Common.{◌≡◌, ◌∙◌, ℕ, ◌<◌, List, [], ◌∷◌, ◌++◌, refl, ap, append-nil, sym, subst, arith}
 use Rattle.zarrs_chunk_base.specs.ChunkKeySeparator.{separator_byte}
 use Rattle.zarrs_chunk_base.specs.StoreKey.{EndsInSlash}
 use Rattle.zarrs_chunk_base.specs.declared.chunk_key_separator.ChunkKeySeparator.{ChunkKeySeparator}
-use Rattle.zarrs_chunk_keys.specs.ChunkKey.{IsDefaultKey, IsSuffixedKey, IsV2Key, c_alone, number_more, one_more, one_number, suffixed, zero_alone}
+use Rattle.zarrs_chunk_keys.specs.ChunkKey.{IsDefaultKey, IsV2Key, c_alone, number_more, one_more, one_number, zero_alone}
 use Rattle.zarrs_chunk_keys.specs.Numeral.{digit, IsNumeral, one_digit, more_digits}
 
 -- the last byte, or another one where there is none
@@ -41,18 +41,13 @@ ends_in_last : (c : ℕ) (more : List ℕ) → last_of c more ≡ 47 → EndsInS
 ends_in_last c [] is = ([], ap (λ b. b ∷ []) is)
 ends_in_last c (d ∷ more) is = let (front, same) = ends_in_last d more is in (c ∷ front, ap (λ text. c ∷ text) same)
 
-behind_no_slash : (front suffix : List ℕ) → 47 < last_of 99 front → ¬ EndsInSlash suffix → ¬ EndsInSlash (front ++ suffix)
-behind_no_slash front [] past none ends = no_slash (front ++ []) (rw (append-nil front) past) ends
-behind_no_slash front (c ∷ more) past none (begins, slash) =
-    none (ends_in_last c more (sym (last_behind 99 front c more) ∙ ap (last_of 99) slash ∙ last_behind 99 begins 47 []))
+pub together_no_slash : (front behind : List ℕ) → ¬ EndsInSlash front → ¬ EndsInSlash behind → ¬ EndsInSlash (front ++ behind)
+together_no_slash front [] first last ends = first (subst EndsInSlash (append-nil front) ends)
+together_no_slash front (c ∷ more) first last (begins, slash) =
+    last (ends_in_last c more (sym (last_behind 99 front c more) ∙ ap (last_of 99) slash ∙ last_behind 99 begins 47 []))
 
 pub default_has_no_slash : (separator : ChunkKeySeparator) (chunk key : List ℕ) → IsDefaultKey separator chunk key → ¬ EndsInSlash key
 default_has_no_slash separator chunk key is = no_slash key (default_past separator chunk key 99 is)
 
 pub v2_has_no_slash : (separator : ChunkKeySeparator) (chunk key : List ℕ) → IsV2Key separator chunk key → ¬ EndsInSlash key
 v2_has_no_slash separator chunk key is = no_slash key (v2_past separator chunk key 99 is)
-
-pub suffixed_has_no_slash : (separator : ChunkKeySeparator) (suffix chunk key : List ℕ) → ¬ EndsInSlash suffix
-    → IsSuffixedKey separator suffix chunk key → ¬ EndsInSlash key
-suffixed_has_no_slash separator suffix chunk key none (suffixed {front = front} is ends) =
-    subst (λ text. ¬ EndsInSlash text) (sym ends) (behind_no_slash front suffix (default_past separator chunk front 99 is) none)

@@ -5,10 +5,9 @@ use Rattle.std.specs.declared.alloc.Global.{Global}
 use Rattle.zarrs_chunk_base.specs.declared.chunk_key_separator.ChunkKeySeparator.{ChunkKeySeparator}
 use Rattle.zarrs_chunk_base.specs.ChunkKeySeparator.{separator_byte}
 use Rattle.zarrs_chunk_base.specs.Greatest.{AllFit}
-use Rattle.zarrs_chunk_keys.specs.ChunkKey.{IsDefaultKey, IsSuffixedKey, IsV2Key, c_alone, number_more, one_more, one_number, suffixed, zero_alone}
+use Rattle.zarrs_chunk_keys.specs.ChunkKey.{IsDefaultKey, IsV2Key, c_alone, number_more, one_more, one_number, zero_alone}
 use Rattle.zarrs_chunk_keys.specs.Decoded.{IsDecoded}
 use Rattle.zarrs_chunk_keys.specs.Numeral.{AreJoined, IsNumerals}
-use Rattle.zarrs_chunk_keys.specs.lemmas.Parts.{same_front}
 use Rattle.zarrs_chunk_keys.proofs.Keys.{is_v2_key}
 use Rattle.zarrs_chunk_keys.proofs.NumeralLemmas.{IsNumerals-push}
 
@@ -80,17 +79,6 @@ behind_c separator chunk key numerals begins is =
     let both : 99 ∷ others ≡ 99 ∷ numerals = sym also ∙ begins in
     let same : others ≡ numerals = cc in
     subst (IsNumerals (separator_byte separator) chunk) same are
-
--- a key with a suffix ends in it
-pub ends_in_suffix : (separator : ChunkKeySeparator) (suffix chunk key : List ℕ) → IsSuffixedKey separator suffix chunk key
-    → (front : List ℕ) × (key ≡ front ++ suffix)
-ends_in_suffix separator suffix chunk key (suffixed {front = front} is ends) = (front, ends)
-
--- what stands before the suffix of a key is a default key
-pub before_suffix : (separator : ChunkKeySeparator) (suffix chunk key front : List ℕ) → key ≡ front ++ suffix
-    → IsSuffixedKey separator suffix chunk key → IsDefaultKey separator chunk front
-before_suffix separator suffix chunk key front ends (suffixed {front = other} is also) =
-    subst (IsDefaultKey separator chunk) (same_front other front suffix (sym also ∙ ends)) is
 
 -- the chunk that was read has the key
 pub has_key : (HasKey : List ℕ → Type 0) (dimensionality : ℕ) (read : Option (Vec ℕ Global)) (chunk : List ℕ) → IsDecoded HasKey dimensionality read

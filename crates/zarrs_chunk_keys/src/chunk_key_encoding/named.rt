@@ -8,13 +8,13 @@
 //!
 //! Unlike zarrs, no encoding registers itself, and no name has an alias: an encoding of another crate is passed to functions over
 //! [`ChunkKeyEncodingTraits`] as it is.
-ghost use Rattle.std.specs.Prelude.{◌≡◌, IfOk, MatchResult};
+ghost use Rattle.std.specs.Prelude.{◌≡◌, Contains, IfOk, IsErrAnd, MatchResult};
 ghost use Rattle.serde_json.specs.View.{members_view};
-ghost use Rattle.zarrs_chunk_base.specs.Kinds.{IsConfigurationOf, IsMetadata};
+ghost use Rattle.zarrs_chunk_base.specs.Kinds.{IsConfigurationOf, IsMetadata, names};
 ghost use Rattle.zarrs_chunk_base.specs.Metadata.{extension_of};
 ghost use Rattle.zarrs_chunk_base.specs.Refusal.{OrMemory};
 ghost use Rattle.zarrs_chunk_keys.specs.ChunkKey.{IsKey};
-ghost use Rattle.zarrs_chunk_keys.specs.KeyKinds.{IsEncoding, IsEncodingFault, key_kind, kind_of};
+ghost use Rattle.zarrs_chunk_keys.specs.KeyKinds.{IsEncoding, IsEncodingFault, key_kind, key_kinds, kind_of};
 ghost use Rattle.zarrs_chunk_keys.specs.declared.chunk_key_encoding.named.ChunkKeyEncoding.TheVariants.{Default, DefaultSuffix, V2};
 ghost use Rattle.zarrs_chunk_keys.specs.lemmas.ExactKeys.{exact};
 ghost use Rattle.zarrs_chunk_keys.specs.seen.Encodings.{encoding_in};
@@ -22,6 +22,7 @@ ghost use Rattle.zarrs_chunk_keys.specs.seen.Encodings.{encoding_in};
 use crate::ChunkKeyEncodingTraits;
 use crate::chunk_key_encoding::default::DefaultChunkKeyEncoding;
 use crate::chunk_key_encoding::default_suffix::DefaultSuffixChunkKeyEncoding;
+use crate::chunk_key_encoding::of_kind::{configuration_inside, create_named};
 use crate::chunk_key_encoding::v2::V2ChunkKeyEncoding;
 use std::alloc::{AllocError, Global};
 use zarrs_chunk_base::{
@@ -73,16 +74,10 @@ impl ChunkKeyEncoding {
             (OrMemory (IsEncodingFault (extension_of metadata.now))) }
     {
         match metadata.name() {
-            DEFAULT => Ok(ChunkKeyEncoding::Default(DefaultChunkKeyEncoding::create(
-                alloc, metadata,
-            )?)),
-            V2 => Ok(ChunkKeyEncoding::V2(V2ChunkKeyEncoding::create(alloc, metadata)?)),
-            DEFAULT_SUFFIX => Ok(ChunkKeyEncoding::DefaultSuffix(
-                DefaultSuffixChunkKeyEncoding::create(alloc, metadata)?,
-            )),
-            name => Err(Refusal::Refused(PluginCreateError::NameUnsupported(String::from_str(
-                alloc, name,
-            )?))),
+            DEFAULT => Ok(ChunkKeyEncoding::Default(create_named(alloc, metadata)?)),
+            V2 => Ok(ChunkKeyEncoding::V2(create_named(alloc, metadata)?)),
+            DEFAULT_SUFFIX => Ok(ChunkKeyEncoding::DefaultSuffix(create_named(alloc, metadata)?)),
+            _ => refuse_name(alloc, metadata),
         }
     }
 
@@ -128,6 +123,18 @@ impl ChunkKeyEncoding {
     }
 }
 
+/// The refusal of a name that no kind has.
+fn refuse_name(
+    alloc: Global,
+    metadata: &MetadataV3,
+) -> Result<ChunkKeyEncoding, Refusal<PluginCreateError>>
+    requires { ¬ Contains (names key_kind key_kinds) (extension_of metadata.now).name }
+    ensures { IsErrAnd result (OrMemory (IsEncodingFault (extension_of metadata.now))) }
+{
+    let name = String::from_str(alloc, metadata.name())?;
+    Err(Refusal::Refused(PluginCreateError::NameUnsupported(name)))
+}
+
 impl ChunkKeyEncodingTraits for ChunkKeyEncoding {
     ghost is_key = { λ encoding. IsKey (encoding_in encoding) };
 
@@ -150,7 +157,7 @@ impl ChunkKeyEncodingTraits for ChunkKeyEncoding {
             (key_kind (kind_of (encoding_in self.now))) tt (encoding_in self.now)
             (members_view c.entries)) }
     {
-        inside!(self, encoding => encoding.configuration(alloc))
+        inside!(self, encoding => configuration_inside(alloc, encoding))
     }
 
     fn encode(&self, alloc: Global, chunk_indices: &[u64]) -> Result<StoreKey, AllocError> {

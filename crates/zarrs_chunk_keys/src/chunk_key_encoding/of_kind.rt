@@ -7,7 +7,7 @@ ghost use Rattle.zarrs_chunk_base.specs.Refusal.{OrMemory};
 ghost use Rattle.zarrs_chunk_base.specs.StoreKey.{EndsInSlash};
 ghost use Rattle.zarrs_chunk_keys.specs.ChunkKey.{Encoding, IsKey};
 ghost use Rattle.zarrs_chunk_keys.specs.Decoded.{IsDecoded};
-ghost use Rattle.zarrs_chunk_keys.specs.KeyKinds.{KeyKind, key_kind};
+ghost use Rattle.zarrs_chunk_keys.specs.KeyKinds.{IsEncoding, IsEncodingFault, KeyKind, key_kind, kind_of};
 ghost use Rattle.zarrs_chunk_keys.specs.lemmas.ExactKeys as keys;
 
 use crate::ChunkKeyEncodingTraits;
@@ -116,4 +116,35 @@ impl<E: OfKind> ChunkKeyEncodingTraits for E {
     ) -> Result<Option<ArrayIndices>, AllocError> {
         self.read(alloc, dimensionality, key.as_str().as_bytes())
     }
+}
+
+/// The encoding of a kind that has the extension's name.
+///
+/// # Errors
+/// The first that applies: the configuration isn't of the kind's form; the encoding doesn't accept it. Or out of memory.
+pub(crate) fn create_named<E: OfKind>(
+    alloc: Global,
+    metadata: &MetadataV3,
+) -> Result<E, Refusal<PluginCreateError>>
+    requires { (extension_of metadata.now).name ≡ (key_kind E.kind).name }
+    ensures { MatchResult result
+        (λ made. IsEncoding (extension_of metadata.now) (E.encoding made))
+        (OrMemory (IsEncodingFault (extension_of metadata.now))) }
+{
+    E::of_metadata(alloc, metadata)
+}
+
+/// The configuration of an encoding, for one that holds it: of its kind, and the same encoding of chunk numbers.
+///
+/// # Errors
+/// Out of memory.
+pub(crate) fn configuration_inside<E: OfKind>(
+    alloc: Global,
+    encoding: &E,
+) -> Result<Configuration, AllocError>
+    ensures { (same : Encoding) → same ≡ E.encoding encoding.now → kind_of same ≡ E.kind
+        → IfOk result (λ c. IsConfigurationOf (key_kind (kind_of same)) tt same
+        (members_view c.entries)) }
+{
+    encoding.to_configuration(alloc)
 }

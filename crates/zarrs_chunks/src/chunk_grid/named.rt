@@ -9,17 +9,18 @@
 //!
 //! Unlike zarrs, no grid registers itself, no name has an alias, and no name is warned of: a grid of another crate is passed to
 //! functions over [`ChunkGridTraits`] as it is.
-ghost use Rattle.std.specs.Prelude.{◌≡◌, ◌↔◌, IfOk, IsTrue, MatchResult};
+ghost use Rattle.std.specs.Prelude.{◌≡◌, ◌↔◌, Contains, IfOk, IsErrAnd, IsTrue, MatchResult};
 ghost use Rattle.serde_json.specs.View.{members_view};
 ghost use Rattle.zarrs_chunk_base.specs.Dimension.{array_sizes};
-ghost use Rattle.zarrs_chunk_base.specs.Kinds.{IsConfigurationOf, IsMetadata, IsOf};
+ghost use Rattle.zarrs_chunk_base.specs.Kinds.{IsConfigurationOf, IsMetadata, IsOf, names};
 ghost use Rattle.zarrs_chunk_base.specs.Metadata.{extension_of};
 ghost use Rattle.zarrs_chunk_base.specs.Refusal.{OrMemory};
 ghost use Rattle.zarrs_chunk_axes.specs.InBounds.{AreBelow, AreInBounds, AreIndicesInBounds};
-ghost use Rattle.zarrs_chunks.specs.GridKinds.{IsGridFault, grid_kind};
+ghost use Rattle.zarrs_chunks.specs.GridKinds.{IsGridFault, grid_kind, grid_kinds};
 ghost use Rattle.zarrs_chunks.specs.declared.chunk_grid.named.ChunkGrid.TheVariants.{Rectangular, Rectilinear, Regular, RegularBounded};
 ghost use Rattle.zarrs_chunks.specs.seen.Grids.{chained_in, grid_in, kind_in};
 
+use super::over_axes::{configuration_inside, create_named};
 use super::rectangular::RectangularChunkGrid;
 use super::rectilinear::RectilinearChunkGrid;
 use super::regular::RegularChunkGrid;
@@ -87,29 +88,15 @@ impl ChunkGrid {
             (IsGridFault (extension_of metadata.now) array_shape.now)) }
     {
         match metadata.name() {
-            REGULAR => Ok(ChunkGrid::Regular(RegularChunkGrid::create(
+            REGULAR => Ok(ChunkGrid::Regular(create_named(alloc, metadata, array_shape)?)),
+            REGULAR_BOUNDED => Ok(ChunkGrid::RegularBounded(create_named(
                 alloc,
                 metadata,
                 array_shape,
             )?)),
-            REGULAR_BOUNDED => Ok(ChunkGrid::RegularBounded(RegularBoundedChunkGrid::create(
-                alloc,
-                metadata,
-                array_shape,
-            )?)),
-            RECTANGULAR => Ok(ChunkGrid::Rectangular(RectangularChunkGrid::create(
-                alloc,
-                metadata,
-                array_shape,
-            )?)),
-            RECTILINEAR => Ok(ChunkGrid::Rectilinear(RectilinearChunkGrid::create(
-                alloc,
-                metadata,
-                array_shape,
-            )?)),
-            name => Err(Refusal::Refused(PluginCreateError::NameUnsupported(String::from_str(
-                alloc, name,
-            )?))),
+            RECTANGULAR => Ok(ChunkGrid::Rectangular(create_named(alloc, metadata, array_shape)?)),
+            RECTILINEAR => Ok(ChunkGrid::Rectilinear(create_named(alloc, metadata, array_shape)?)),
+            _ => refuse_name(alloc, metadata, array_shape),
         }
     }
 
@@ -158,6 +145,20 @@ impl ChunkGrid {
     }
 }
 
+/// The refusal of a name that no kind has, whatever the array's sizes.
+fn refuse_name(
+    alloc: Global,
+    metadata: &MetadataV3,
+    array_shape: &[u64],
+) -> Result<ChunkGrid, Refusal<PluginCreateError>>
+    requires { ¬ Contains (names grid_kind grid_kinds) (extension_of metadata.now).name }
+    ensures { IsErrAnd result (OrMemory
+        (IsGridFault (extension_of metadata.now) array_shape.now)) }
+{
+    let name = String::from_str(alloc, metadata.name())?;
+    Err(Refusal::Refused(PluginCreateError::NameUnsupported(name)))
+}
+
 impl ChunkGridTraits for ChunkGrid {
     ghost dimensions = { λ grid. (grid_in grid).dimensions };
 
@@ -184,7 +185,7 @@ impl ChunkGridTraits for ChunkGrid {
             (array_sizes (grid_in self.now).dimensions) (grid_in self.now)
             (members_view c.entries)) }
     {
-        inside!(self, grid => grid.configuration(alloc))
+        inside!(self, grid => configuration_inside(alloc, grid))
     }
 
     fn dimensionality(&self) -> usize {

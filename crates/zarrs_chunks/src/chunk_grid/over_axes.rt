@@ -4,12 +4,12 @@ ghost use Rattle.std.specs.List.{AllByRecursion};
 ghost use Rattle.serde_json.specs.View.{members_view};
 ghost use Rattle.zarrs_chunk_base.specs.Dimension.{IsChain, array_sizes};
 ghost use Rattle.zarrs_chunk_base.specs.Grid.{Grid};
-ghost use Rattle.zarrs_chunk_base.specs.Kinds.{IsConfigurationOf, IsFaultOf, IsMadeOf};
+ghost use Rattle.zarrs_chunk_base.specs.Kinds.{IsConfigurationOf, IsFaultOf, IsMadeOf, IsOf};
 ghost use Rattle.zarrs_chunk_base.specs.Metadata.{extension_of};
 ghost use Rattle.zarrs_chunk_base.specs.Refusal.{OrMemory};
 ghost use Rattle.zarrs_chunk_axes.specs.InBounds.{AreBelow, AreInBounds, AreIndicesInBounds};
 ghost use Rattle.zarrs_chunk_axes.specs.seen.AxisGrid.{dimensions_of, edges_of};
-ghost use Rattle.zarrs_chunks.specs.GridKinds.{GridKind, grid_kind};
+ghost use Rattle.zarrs_chunks.specs.GridKinds.{GridKind, IsGridFault, grid_kind};
 ghost use Rattle.zarrs_chunks.specs.lemmas.Refused.{IsRefusedBy};
 
 use crate::{ChunkGridTraits, Home};
@@ -172,6 +172,40 @@ impl<G: OverAxes> ChunkGridTraits for G {
     {
         self.axes().are_in_bounds(array_indices)
     }
+}
+
+/// The grid of a kind that has the extension's name, of an array with these sizes.
+///
+/// # Errors
+/// The first that applies: the configuration isn't of the kind's form; the grid doesn't accept it for this array shape. Or out of
+/// memory.
+pub(super) fn create_named<G: OverAxes>(
+    alloc: Global,
+    metadata: &MetadataV3,
+    array_shape: &[u64],
+) -> Result<G, Refusal<PluginCreateError>>
+    requires { (extension_of metadata.now).name ≡ (grid_kind G.kind).name }
+    ensures shape { IfOk result (λ grid. array_sizes (G.grid grid).dimensions ≡ array_shape.now) }
+    ensures made { MatchResult result
+        (λ grid. IsOf (grid_kind G.kind) (extension_of metadata.now) array_shape.now (G.grid grid))
+        (OrMemory (IsGridFault (extension_of metadata.now) array_shape.now)) }
+{
+    G::of_metadata(alloc, metadata, array_shape)
+}
+
+/// The configuration of a grid, for one that holds it: of its kind, and with the same meaning.
+///
+/// # Errors
+/// Out of memory.
+pub(super) fn configuration_inside<G: OverAxes>(
+    alloc: Global,
+    grid: &G,
+) -> Result<Configuration, AllocError>
+    ensures { (kind : GridKind) (same : Grid) → kind ≡ G.kind → same ≡ G.grid grid.now
+        → IfOk result (λ c. IsConfigurationOf (grid_kind kind) (array_sizes same.dimensions) same
+        (members_view c.entries)) }
+{
+    grid.to_configuration(alloc)
 }
 
 /// The refusal that says what a text says.

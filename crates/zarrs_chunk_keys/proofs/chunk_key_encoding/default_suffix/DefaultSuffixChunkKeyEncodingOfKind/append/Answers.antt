@@ -1,6 +1,6 @@
 use Rattle.std.proofs.Common.{◌++◌, ◌∙◌, ap, append_assoc, refl, string_bytes}
 use Rattle.zarrs_chunk_keys.specs.ChunkKey.{IsKey, IsSuffixedKey, suffixed}
-use Rattle.zarrs_chunk_keys.proofs.KeyEnds.{suffixed_has_no_slash}
+use Rattle.zarrs_chunk_keys.proofs.KeyEnds.{together_no_slash}
 use Rattle.zarrs_chunk_keys.proofs.chunk_key_encoding.default_suffix.DefaultSuffixChunkKeyEncodingOfKind.append.Goals as goal
 
 pub returns-clause-appended : goal.returns-clause-appended
@@ -14,7 +14,7 @@ returns-clause-appended c =
     let is_suffixed : IsSuffixedKey separator suffix chunk (key ++ suffix) = suffixed is_key refl in (
       key ++ suffix,
       is_suffixed,
-      suffixed_has_no_slash separator suffix chunk (key ++ suffix) c.as_str.ensures.no_slash is_suffixed,
+      together_no_slash key suffix no_slash c.as_str.ensures.no_slash,
       c.in_ok-push_str.ensures.bytes ∙ ap (λ t. string_bytes c.append.new.text ++ t) c.as_str.ensures.value ∙ ap (λ t. t ++ suffix) begun
           ∙ append_assoc old key suffix,
     )

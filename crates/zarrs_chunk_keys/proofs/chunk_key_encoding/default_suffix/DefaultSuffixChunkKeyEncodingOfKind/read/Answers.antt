@@ -1,9 +1,22 @@
-use Rattle.std.proofs.Common.{◌≡◌, ◌∙◌, ◌++◌, Some, None, ap, sym}
+use Rattle.std.proofs.Common.{◌≡◌, ◌∙◌, ◌++◌, ℕ, List, Some, None, ap, subst, sym}
 use Rattle.std.proofs.lemmas.Bool.Decides.{Decides-eqb}
 use Rattle.std.proofs.lemmas.Slice.Eq.{strip_suffix_is}
+use Rattle.zarrs_chunk_base.specs.declared.chunk_key_separator.ChunkKeySeparator.{ChunkKeySeparator}
 use Rattle.zarrs_chunk_keys.specs.ChunkKey.{IsDefaultKey, IsKey, IsSuffixedKey, suffixed}
-use Rattle.zarrs_chunk_keys.proofs.ReadKeys.{before_suffix, ends_in_suffix, read_as}
+use Rattle.zarrs_chunk_keys.specs.lemmas.Parts.{same_front}
+use Rattle.zarrs_chunk_keys.proofs.ReadKeys.{read_as}
 use Rattle.zarrs_chunk_keys.proofs.chunk_key_encoding.default_suffix.DefaultSuffixChunkKeyEncodingOfKind.read.Goals as goal
+
+-- a key with a suffix ends in it
+ends_in_suffix : (separator : ChunkKeySeparator) (suffix chunk key : List ℕ) → IsSuffixedKey separator suffix chunk key
+    → (front : List ℕ) × (key ≡ front ++ suffix)
+ends_in_suffix separator suffix chunk key (suffixed {front = front} is ends) = (front, ends)
+
+-- what stands before the suffix of a key is a default key
+before_suffix : (separator : ChunkKeySeparator) (suffix chunk key front : List ℕ) → key ≡ front ++ suffix
+    → IsSuffixedKey separator suffix chunk key → IsDefaultKey separator chunk front
+before_suffix separator suffix chunk key front ends (suffixed {front = other} is also) =
+    subst (IsDefaultKey separator chunk) (same_front other front suffix (sym also ∙ ends)) is
 
 pub returns-in-Some : goal.returns-in-Some
 unfolding IsKey
