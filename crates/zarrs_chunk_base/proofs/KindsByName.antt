@@ -1,5 +1,5 @@
 -- Kinds of extensions: they are told apart by their whole names, and what was made is made again of its metadata.
-use Rattle.std.proofs.Common.{◌≡◌, ◌≢◌, ℕ, suc, Bool, true, false, cond, List, [], ◌∷◌, Option, Some, Contains, find, bytes_eq, Result, Ok, Err}
+use Rattle.std.proofs.Common.{◌≡◌, ℕ, suc, Bool, true, false, cond, List, [], ◌∷◌, Option, Some, Contains, find, bytes_eq, Result, Ok, Err}
 use Rattle.std.proofs.Common.{IsErrAnd, MatchResult, sym, ap, ◌∙◌, subst, unwrap_or, true≢false, is_some, arith}
 use Rattle.std.specs.List.{AllByRecursion}
 use Rattle.serde_json.specs.Data.{Members, no_members}
@@ -11,7 +11,6 @@ use Rattle.zarrs_chunk_base.specs.declared.plugin_create_error.PluginCreateError
 use Rattle.zarrs_chunk_base.specs.declared.plugin_create_error.PluginCreateError.TheVariants.{NameUnsupported, ConfigurationUnsupported, Other}
 use Rattle.zarrs_chunk_base.specs.declared.refusal.Refusal.{Refusal}
 use Rattle.zarrs_chunk_base.proofs.FirstMembers.{no_fault}
-use Rattle.zarrs_chunk_base.proofs.KnownNames.{in_no_list, not_first}
 use Rattle.zarrs_chunk_base.proofs.Refusals.{refused_weaker}
 
 -- ---- of one kind
@@ -73,11 +72,6 @@ module _ {K G M : Type 0} (kind : K → Kind G M) where
   -- the name of a kind is one of the names
   pub is_named : (kinds : List K) → AreFound kinds → (k : K) → Contains (names kind kinds) (kind k).name
   is_named kinds are_found k = found_within kinds (kind k).name k (are_found k)
-
-  -- a name that is no kind's isn't
-  pub unnamed : (kinds : List K) (name : List ℕ) → ((k : K) → name ≢ (kind k).name) → ¬ Contains (names kind kinds) name
-  unnamed [] name none = in_no_list name
-  unnamed (k ∷ kinds) name none = not_first (kind k).name name (names kind kinds) (none k) (unnamed kinds name none)
 
   -- a kind's refusal that is handed on is that of the extension's name
   pub handed_on : (kinds : List K) {A : Type 0} (P : A → Type 0) (k : K) (given : G) (e : Extension) (refusal : Refusal PluginCreateError)

@@ -18,7 +18,7 @@ use Rattle.serde_json.specs.Find.{get_member}
 use Rattle.serde_json.specs.View.{view, members_view}
 use Rattle.serde_json.specs.declared.value.Value.{Value}
 use Rattle.zarrs_chunk_base.specs.Configuration.{HasNoUnknown, IsConfiguration, IsLeastName, IsUnknown, Table, names_of}
-use Rattle.zarrs_chunk_base.proofs.FirstMembers.{Equal≢Greater, Less≢Greater, contained}
+use Rattle.zarrs_chunk_base.proofs.FirstMembers.{Equal≢Greater, Less≢Greater}
 
 abbrev pub Entry : Type 0
 Entry = String Global × Value
@@ -158,14 +158,6 @@ pub reads_back : {X : Type 0} (table : Table) (value : Members → Option X) (ms
     → names_of table.members ≡ keys_of_members written → value written ≡ Some x → IsConfiguration table value ms x
 reads_back table value ms written x same names is =
     rw (same, names) (all_named written, is)
-
--- no list without names contains one
-pub in_no_list : (name : List ℕ) → ¬ Contains [] name
-in_no_list name (k, within, at) = absurd (omega arith)
-
--- a list with another name first doesn't contain a name, where the rest doesn't
-pub not_first : (first name : List ℕ) (names : List (List ℕ)) → name ≢ first → ¬ Contains names name → ¬ Contains (first ∷ names) name
-not_first first name names other rest known = ⊎_elim (λ same. other (sym same)) rest (contained first names name known)
 
 -- also where it may not have been written
 pub reads_back_if_ok : {X C E : Type 0} (table : Table) (value : Members → Option X) (members : C → Members) (answer : Result C E)
