@@ -4,7 +4,7 @@
     python3 docs/check_errors.py
 
 The texts are those of `#[error(..)]`, and of the sentences that are printed or kept as constants, in the sources of the libraries and the programs; what stands in
-braces there is `..` on the page. The first cell of a row of the page is such a text. The script prints each text that the page hasn't, each row whose text no source
+braces there is `..` on the page, and those of questions have there what a line puts before them. The first cell of a row of the page is such a text. The script prints each text that the page hasn't, each row whose text no source
 has, and each text with two rows, and ends with the status 1 where it printed any.
 """
 import pathlib
@@ -20,6 +20,8 @@ PRINTED = [
     rf"write_str\(\s*{TEXT}",
     rf"const \w+: &(?:'static )?str\s*=\s*{TEXT}",
 ]
+# What stands before them in a line of `chunkcalls`.
+BEFORE = {"unreadable.rt": "unreadable: ", "line_fault.rt": "refused: "}
 ROW = re.compile(r"^\| (`+) ?(.*?) ?\1 \|", re.M)
 
 
@@ -35,7 +37,7 @@ def told():
     for path in sources():
         for pattern in PRINTED:
             for text in re.findall(pattern, path.read_text()):
-                text = re.sub(r"\{[^{}]*\}", "..", text)
+                text = BEFORE.get(path.name, "") + re.sub(r"\{[^{}]*\}", "..", text)
                 if " " in text and re.search("[a-z]{2}", text):
                     yield text, path.relative_to(ROOT)
 

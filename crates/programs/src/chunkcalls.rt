@@ -6,7 +6,7 @@
 ghost use Rattle.std.specs.Prelude.{◌≡◌, ◌≤◌, IfErr, IfSome, MatchResult, OnOk};
 ghost use Rattle.std.specs.Io.KnownBytes.{Keeps};
 ghost use Rattle.programs.specs.Watched.{has_failed, watched};
-ghost use Rattle.programs.specs.chunkcalls.Lines.{HasAnswered};
+ghost use Rattle.programs.specs.chunkcalls.Lines.{HasAnswered, HoldsAnswers};
 ghost use Rattle.programs.specs.chunkcalls.Run.{TellsFailure};
 
 mod answering;
@@ -44,6 +44,9 @@ pub fn run<R: Read, W: Write>(
     ensures answered { OnOk result (IfSome (R.remaining (watched reader.old)) (λ input.
         IfSome (W.contents (watched writer.old)) (λ held.
         HasAnswered input held (W.contents (watched writer.new))))) }
+    ensures says { OnOk result (IfSome (R.remaining (watched reader.old)) (λ input.
+        IfSome (W.contents (watched writer.old)) (λ held.
+        HoldsAnswers input held (W.contents (watched writer.new))))) }
     ensures failed { IfErr result (λ fault.
         TellsFailure fault (has_failed reader.new) (has_failed writer.new)) }
 {

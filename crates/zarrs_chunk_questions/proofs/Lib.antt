@@ -1,1 +1,5 @@
+pub mod FirstFaults
+pub mod Refusals
 pub mod LineFeeds
+pub mod AnswerLines
+pub mod SomeItems

@@ -1,16 +1,14 @@
--- Counting line feeds.
-use Rattle.std.proofs.Common.{◌≡◌, ◌≢◌, ℕ, ◌+◌, List, [], ◌∷◌, ◌++◌, arith}
+-- A text as one line.
+use Rattle.std.proofs.Common.{◌≡◌, ℕ, List, [], ◌∷◌, map, refl, arith}
 use Rattle.std.proofs.lemmas.Bool.Decides.{nat_tests}
-use Rattle.zarrs_chunk_questions.specs.Line.{line_feeds}
+use Rattle.zarrs_chunk_questions.specs.AnswerLine.{line_of, unbroken}
+use Rattle.zarrs_chunk_questions.specs.Line.{IsOneLine, line_feeds}
 
-pub line_feeds-append : (front back : List ℕ) → line_feeds (front ++ back) ≡ line_feeds front + line_feeds back
-line_feeds-append [] back = omega arith
-line_feeds-append (b ∷ front) back =
-    let rest = line_feeds-append front back in
-    omega arith
-
--- one byte more that is no line feed
-pub line_feeds-push : (front : List ℕ) (b : ℕ) → b ≢ 10 → line_feeds front ≡ 0 → line_feeds (front ++ b ∷ []) ≡ 0
-line_feeds-push front b other none =
-    let sum = line_feeds-append front (b ∷ []) in
+no_line_feed : (text : List ℕ) → line_feeds (map unbroken text) ≡ 0
+no_line_feed [] = refl
+no_line_feed (byte ∷ text) =
+    let rest = no_line_feed text in
     grind (arith, nat_tests)
+
+pub is_one_line : (text : List ℕ) → IsOneLine (line_of text)
+is_one_line text = (map unbroken text, no_line_feed text, refl)

@@ -1,9 +1,15 @@
 //! The line that answers a line.
-ghost use Rattle.std.specs.Prelude.{◌≡◌, ◌==◌, if◌then◌else◌, IfOk, IfSome};
+ghost use Rattle.std.specs.Prelude.{◌≡◌, ℕ, IfOk, IfSome, List, MatchResult, string_bytes};
+ghost use Rattle.serde_json.specs.View.{view};
+ghost use Rattle.zarrs_chunk_base.specs.Refusal.{OrMemory};
+ghost use Rattle.zarrs_chunk_questions.specs.AnswerLine.{IsAnswerLine, Tells, line_of, unbroken as unbroken_of};
 ghost use Rattle.zarrs_chunk_questions.specs.Line.{IsOneLine};
+ghost use Rattle.zarrs_chunk_questions.specs.seen.Lines.{IsAnswerText, IsLineAnswer, IsLineFault, IsTreeAnswer, IsTreeFault};
 
+use crate::answering::answer_question;
 use crate::line_fault::LineFault;
-use crate::question::answer_question;
+use crate::question::Question;
+use crate::unreadable::Unreadable;
 use serde_json::Value;
 use std::alloc::{AllocError, Global};
 use zarrs_chunk_base::Refusal;
@@ -13,9 +19,14 @@ use zarrs_chunk_base::Refusal;
 /// # Errors
 /// Out of memory.
 pub fn answer(alloc: Global, line: &[u8]) -> Result<Vec<u8>, AllocError>
-    ensures { IfOk result (λ answer. IsOneLine answer.items) }
+    ensures one { IfOk result (λ answer. IsOneLine answer.items) }
+    ensures says { IfOk result (λ answer. IsAnswerLine line.now answer.items) }
 {
-    write_line(alloc, answer_tree(alloc, line, usize::MAX))
+    match answer_within(alloc, line, usize::MAX)? {
+        Some(answer) => Ok(answer),
+        // No memory has more bytes than there are addresses.
+        None => Err(AllocError),
+    }
 }
 
 /// The same, or `None` where a walk's items alone are longer than `room` bytes. A walk is ended there, so whatever number of items is asked
@@ -24,13 +35,15 @@ pub fn answer(alloc: Global, line: &[u8]) -> Result<Vec<u8>, AllocError>
 /// # Errors
 /// Out of memory.
 pub fn answer_within(alloc: Global, line: &[u8], room: usize) -> Result<Option<Vec<u8>>, AllocError>
-    ensures { IfOk result (λ answer. IfSome answer (λ line. IsOneLine line.items)) }
+    ensures one { IfOk result (λ answer. IfSome answer (λ line. IsOneLine line.items)) }
+    ensures says { IfOk result (λ found. IfSome found (λ answer.
+        IsAnswerLine line.now answer.items)) }
 {
-    let answered = answer_tree(alloc, line, room);
-    if let Err(Refusal::Refused(LineFault::TooLong)) = &answered {
-        return Ok(None);
+    match answer_of(alloc, line, room) {
+        Ok(Some(tree)) => Ok(Some(write_line(alloc, &Ok(tree))?)),
+        Ok(None) => Ok(None),
+        Err(refusal) => Ok(Some(write_line(alloc, &Err(refusal))?)),
     }
-    Ok(Some(write_line(alloc, answered)?))
 }
 
 /// The line that says an answer, or why there is none.
@@ -39,30 +52,85 @@ pub fn answer_within(alloc: Global, line: &[u8], room: usize) -> Result<Option<V
 /// Out of memory.
 fn write_line(
     alloc: Global,
-    answered: Result<Value, Refusal<LineFault>>,
+    answered: &Result<Value, Refusal<LineFault>>,
 ) -> Result<Vec<u8>, AllocError>
-    ensures { IfOk result (λ line. IsOneLine line.items) }
+    ensures one { IfOk result (λ line. IsOneLine line.items) }
+    ensures says { IfOk result (λ line. (text : List ℕ) × IsAnswerText answered.now text
+        × (line.items ≡ line_of text)) }
 {
-    let text = match answered {
-        Ok(tree) => tree.to_string(alloc)?,
-        Err(Refusal::Refused(fault)) => format!(in alloc; "{fault}")?,
-        Err(Refusal::Memory(error)) => return Err(error),
-    };
+    let text = answer_text(alloc, answered)?;
     one_line(alloc, text.as_str())
 }
 
-/// The tree of the answer to a line, of which a walk's items may be so many bytes long, or the first fault.
-fn answer_tree(alloc: Global, line: &[u8], room: usize) -> Result<Value, Refusal<LineFault>> {
+/// The text of an answer, or of why there is none.
+///
+/// # Errors
+/// Out of memory.
+fn answer_text(
+    alloc: Global,
+    answered: &Result<Value, Refusal<LineFault>>,
+) -> Result<String, AllocError>
+    ensures { IfOk result (λ text. IsAnswerText answered.now (string_bytes text)) }
+{
+    match answered {
+        Ok(tree) => tree.to_string(alloc),
+        Err(Refusal::Refused(fault)) => fault_text(alloc, fault),
+        Err(Refusal::Memory(_)) => Err(AllocError),
+    }
+}
+
+/// The text that tells a fault.
+///
+/// # Errors
+/// Out of memory.
+fn fault_text(alloc: Global, fault: &LineFault) -> Result<String, AllocError>
+    ensures { IfOk result (λ text. Tells fault.now (string_bytes text)) }
+{
+    if let LineFault::Unreadable(fault) = fault {
+        return format!(in alloc; "unreadable: {fault}");
+    }
+    let words = format!(in alloc; "{fault}")?;
+    let mut text = String::from_str(alloc, "refused: ")?;
+    text.push_str(words.as_str())?;
+    Ok(text)
+}
+
+/// The tree of the answer to a line; `None` where the items of a walk are longer than there is room for.
+///
+/// # Errors
+/// The first fault of the line; or out of memory.
+fn answer_of(alloc: Global, line: &[u8], room: usize) -> Result<Option<Value>, Refusal<LineFault>>
+    ensures { MatchResult result (λ found. IfSome found (λ tree. IsLineAnswer line.now (view tree)))
+        (OrMemory (IsLineFault line.now)) }
+{
     match Value::from_slice(alloc, line) {
-        Ok(tree) => answer_question(alloc, &tree, room),
+        Ok(tree) => answer_tree(alloc, &tree, room),
         Err(error) if error.is_memory() => Err(Refusal::Memory(AllocError)),
-        Err(_) => Err(Refusal::Refused(LineFault::NotJson)),
+        Err(_) => Err(Refusal::Refused(LineFault::Unreadable(Unreadable::NotJson))),
+    }
+}
+
+/// The same of a line's tree.
+fn answer_tree(
+    alloc: Global,
+    tree: &Value,
+    room: usize,
+) -> Result<Option<Value>, Refusal<LineFault>>
+    ensures { MatchResult result (λ found. IfSome found (λ answer.
+        IsTreeAnswer (view tree.now) (view answer)))
+        (OrMemory (IsTreeFault (view tree.now))) }
+{
+    match Question::from_tree(alloc, tree) {
+        Ok(question) => answer_question(alloc, question, room),
+        Err(Refusal::Refused(fault)) => Err(Refusal::Refused(LineFault::Unreadable(fault))),
+        Err(Refusal::Memory(error)) => Err(Refusal::Memory(error)),
     }
 }
 
 /// A text as one line: each line feed in it as a space, and one at its end.
 fn one_line(alloc: Global, text: &str) -> Result<Vec<u8>, AllocError>
-    ensures { IfOk result (λ line. IsOneLine line.items) }
+    ensures one { IfOk result (λ line. IsOneLine line.items) }
+    ensures says { IfOk result (λ line. line.items ≡ line_of text.now) }
 {
     let mut line = Vec::with_capacity(alloc, text.len())?;
     for byte in text.as_bytes() {
@@ -74,7 +142,7 @@ fn one_line(alloc: Global, text: &str) -> Result<Vec<u8>, AllocError>
 
 /// The byte, or a space for a line feed.
 fn unbroken(byte: u8) -> u8
-    ensures { result ≡ (if byte == 10 then 32 else byte) }
+    ensures { result ≡ unbroken_of byte }
 {
     if byte == b'\n' { b' ' } else { byte }
 }

@@ -11,27 +11,39 @@
 //! [[0,6,51],[1,2,3]]
 //! ```
 //!
+//! A line is answered in three steps: its question is read, it is answered as a tree, and the tree is written.
+//!
 //! | Module | What it holds |
 //! |---|---|
-//! | `answer_line` | the line that answers a question |
-//! | `question` | what is asked, and what answers it |
-//! | `grid_question` | the calls of a chunk grid, by their names, and what each answers |
-//! | `extensions` | the chunk grid and the chunk key encoding that metadata gives, as a tree or as text |
-//! | `located` | where an element is stored, as an answer writes it |
-//! | `walk_items` | the items of a walk, as an answer writes them |
-//! | `pages` | the items of a walk and of a plan, from one of them on |
-//! | `rechunking` | what a rechunking copies, from one chunk of the target on |
-//! | `line_fault` | why a question has no answer |
+//! | `call` | the calls, by their names |
+//! | `question`, `asked` | what a line asks, and what of an array's grid |
+//! | `reading` | the members of a line's tree |
+//! | `unreadable`, `line_fault` | why a line can't be read, and why it has no answer |
+//! | `answering`, `array_question` | what answers a question, and one to an array's grid |
+//! | `extensions` | the grid, the encoding and the box that a line gives |
+//! | `grid_answers`, `rectilinear_answers`, `key_answers` | what a grid answers, one that is `rectilinear` alone, and an encoding |
+//! | `walk_items`, `pages`, `rechunking` | the items of a walk; those of a walk and of a plan from one of them on; those of a rechunking |
+//! | `trees`, `plan_trees` | the trees that answers are written as, and the parts of plans |
+//! | `answer_line` | the line that answers a line |
 #![tactic(auto)]
 
 mod answer_line;
+mod answering;
+mod array_question;
+mod asked;
+mod call;
 mod extensions;
-mod grid_question;
+mod grid_answers;
+mod key_answers;
 mod line_fault;
-mod located;
 mod pages;
+mod plan_trees;
 mod question;
+mod reading;
 mod rechunking;
+mod rectilinear_answers;
+mod trees;
+mod unreadable;
 mod walk_items;
 
 pub use answer_line::{answer, answer_within};

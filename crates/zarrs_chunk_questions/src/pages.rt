@@ -1,45 +1,24 @@
 //! The items of a walk, and of a plan, from one of them on: those before it take no time.
+ghost use Rattle.std.specs.Prelude.{◌≡◌, ◌≢◌, IfOk, IfSome, MatchResult, map};
+ghost use Rattle.serde_json.specs.View.{view};
+ghost use Rattle.zarrs_chunk_base.specs.Refusal.{OrMemory};
+ghost use Rattle.zarrs_chunk_keys.specs.ChunkKey.{IsKey};
+ghost use Rattle.zarrs_chunk_keys.specs.seen.Encodings.{encoding_in};
+ghost use Rattle.zarrs_chunks.specs.seen.Grids.{grid_in};
+ghost use Rattle.zarrs_chunk_questions.specs.Answers.{IsPartsAnswer, is_more, page_tree as tree_of_page, part_tree as tree_of_part};
+ghost use Rattle.zarrs_chunk_questions.specs.Refused.{IsPartsRefusal};
+
+use crate::call::WalkOf;
 use crate::line_fault::LineFault;
-use crate::question::{number, optional_number};
+use crate::plan_trees::part_tree;
+use crate::trees::found;
 use crate::walk_items::{Limits, WalkItem, items_tree};
 use serde_json::Value;
 use std::alloc::{AllocError, Global};
 use zarrs_chunk_base::{ArraySubset, Refusal};
 use zarrs_chunk_keys::ChunkKeyEncoding;
-use zarrs_chunk_plan::{all_chunks, some_chunks, some_parts};
+use zarrs_chunk_plan::{Part, all_chunks, some_chunks, some_parts};
 use zarrs_chunks::{ArrayIndicesTinyVec, ChunkGrid, ChunkGridTraits};
-
-/// Which items a line asks for.
-#[derive(Drop)]
-pub(crate) struct Page {
-    /// The number of the first one, counted from 0; `None` for a walk from its beginning.
-    pub(crate) first: Option<u64>,
-    /// How many are given at most.
-    pub(crate) most: u64,
-}
-
-impl Page {
-    /// What the members `items` and `first` of a line ask for.
-    ///
-    /// # Errors
-    /// The first that applies: `items` is missing or no size; `first` is no size. Or out of memory.
-    pub(crate) fn from_tree(alloc: Global, tree: &Value) -> Result<Page, Refusal<LineFault>> {
-        let most = number(alloc, tree, "items")?;
-        let first = optional_number(alloc, tree, "first")?;
-        Ok(Page { first, most })
-    }
-}
-
-/// What a walk gives of each chunk.
-#[derive(Clone, Copy, Drop)]
-pub(crate) enum WalkOf {
-    /// Its numbers.
-    Chunks,
-    /// Its box.
-    Boxes,
-    /// Both.
-    ChunksAndBoxes,
-}
 
 impl WalkOf {
     /// How many lists of numbers an item has.
@@ -62,8 +41,7 @@ impl WalkOf {
         if let WalkOf::Chunks = self {
             return Ok(Some(numbers));
         }
-        let subset = grid.subset(alloc, chunk.as_slice());
-        let Some(subset) = subset.map_err(|refusal| refusal.map(LineFault::Lengths))? else {
+        let Some(subset) = found(grid.subset(alloc, chunk.as_slice()))? else {
             return Ok(None);
         };
         let subset = subset.to_tree(alloc)?;
@@ -77,18 +55,18 @@ impl WalkOf {
     }
 }
 
-/// The tree of a walk's items of the chunks that a grid counts, from the one with this number on. Chunks without a box have no item where the walk
-/// gives boxes, and are counted all the same.
+/// The tree of a walk's items of the chunks that a grid counts, from the one with this number on; `None` where they are longer than there is room
+/// for. Chunks without a box have no item where the walk gives boxes, and are counted all the same.
 ///
 /// # Errors
-/// The items are longer than there is room for; or out of memory.
+/// Out of memory.
 pub(crate) fn items_from(
     alloc: Global,
     grid: &ChunkGrid,
     walk: WalkOf,
     first: u64,
     limits: &Limits,
-) -> Result<Value, Refusal<LineFault>> {
+) -> Result<Option<Value>, Refusal<LineFault>> {
     let chunks = all_chunks(alloc, grid)?;
     let some = some_chunks(alloc, &chunks, first, limits.wanted() as usize)?;
     let mut items = Vec::new(alloc);
@@ -97,13 +75,15 @@ pub(crate) fn items_from(
             items.push(item)?;
         }
     }
-    page_tree(alloc, items, limits, first, some.chunks.len(), some.in_all)
+    let page = page_tree(alloc, items, limits, first, some.chunks.len(), some.in_all)?;
+    Ok(page)
 }
 
-/// The tree of the parts of the plan of reading a box of elements, from the one with this number on; `null` where it has no plan.
+/// The tree of the parts of the plan of reading a box of elements, from the one with this number on; `null` where it has no plan. `None` where the
+/// parts are longer than there is room for.
 ///
 /// # Errors
-/// The first that applies: the box has another number of dimensions; the parts are longer than there is room for. Or out of memory.
+/// The box has another number of dimensions; or out of memory.
 pub(crate) fn parts_from(
     alloc: Global,
     grid: &ChunkGrid,
@@ -111,23 +91,41 @@ pub(crate) fn parts_from(
     elements: &ArraySubset,
     first: u64,
     limits: &Limits,
-) -> Result<Value, Refusal<LineFault>> {
+) -> Result<Option<Value>, Refusal<LineFault>>
+    ensures { MatchResult result (λ found. IfSome found (λ tree.
+        IsPartsAnswer (grid_in grid.now).dimensions (IsKey (encoding_in encoding.now))
+        elements.now first limits.now.most (view tree)))
+        (OrMemory (IsPartsRefusal (grid_in grid.now).dimensions (IsKey (encoding_in encoding.now))
+        elements.now)) }
+{
     let most = limits.wanted() as usize;
-    let some = some_parts(alloc, grid, encoding, elements, first, most);
-    let Some(some) = some.map_err(|refusal| refusal.map(LineFault::Lengths))? else {
-        return Ok(Value::Null);
+    let Some(some) = found(some_parts(alloc, grid, encoding, elements, first, most))? else {
+        return Ok(Some(Value::Null));
     };
-    let mut items = Vec::new(alloc);
-    for part in &some.parts {
-        items.push(part.to_tree(alloc)?)?;
-    }
-    page_tree(alloc, items, limits, first, some.parts.len(), some.in_all)
+    let items = part_trees(alloc, &some.parts)?;
+    let page = page_tree(alloc, items, limits, first, some.parts.len(), some.in_all)?;
+    Ok(page)
 }
 
-/// The tree of the items of so many chunks, from the one with the number `first` on, of so many in all.
+/// The trees of parts.
 ///
 /// # Errors
-/// The items are longer than there is room for; or out of memory.
+/// Out of memory.
+fn part_trees(alloc: Global, parts: &[Part]) -> Result<Vec<Value>, AllocError>
+    ensures { IfOk result (λ trees. map view trees.items ≡ map tree_of_part parts.now) }
+{
+    let mut trees = Vec::new(alloc);
+    for part in parts {
+        trees.push(part_tree(alloc, part)?)?;
+    }
+    Ok(trees)
+}
+
+/// The tree of the items of so many chunks, from the one with the number `first` on, of so many in all; `None` where they are longer than there is
+/// room for.
+///
+/// # Errors
+/// Out of memory.
 pub(crate) fn page_tree(
     alloc: Global,
     items: Vec<Value>,
@@ -135,10 +133,13 @@ pub(crate) fn page_tree(
     first: u64,
     count: usize,
     in_all: u64,
-) -> Result<Value, Refusal<LineFault>> {
-    if count as u64 == limits.too_many {
-        return Err(Refusal::Refused(LineFault::TooLong));
+) -> Result<Option<Value>, AllocError>
+    ensures { IfOk result (λ page. IfSome page (λ tree. (count ≢ limits.now.too_many)
+        × (view tree ≡ tree_of_page (map view items.items) (is_more first count in_all)))) }
+{
+    if limits.is_too_many(count) {
+        return Ok(None);
     }
     let more = first.saturating_add(count as u64) < in_all;
-    Ok(items_tree(alloc, items, more)?)
+    Ok(Some(items_tree(alloc, items, more)?))
 }

@@ -1,147 +1,105 @@
-//! What a line asks, and what answers it.
-use crate::extensions::make_encoding;
-use crate::grid_question::GridQuestion;
-use crate::line_fault::LineFault;
+//! What a line asks.
+ghost use Rattle.std.specs.Prelude.{Option, None, Some, codes};
+ghost use Rattle.serde_json.specs.View.{view};
+ghost use Rattle.zarrs_chunk_questions.specs.Calls.{IsNamed};
+ghost use Rattle.zarrs_chunk_questions.specs.Question.{IsReading, decode_in, encode_in, of_array_in, text_in};
+ghost use Rattle.zarrs_chunk_questions.specs.Reading.{Reading};
+ghost use Rattle.zarrs_chunk_questions.specs.Question as question;
+ghost use Rattle.zarrs_chunk_questions.specs.seen.Read.{IsRead, question_of};
+
+use crate::asked::{Asked, encoding, numbers};
+use crate::call::{Call, OfArray};
+use crate::reading::{in_form, required, required_in};
+use crate::unreadable::Unreadable;
 use serde_json::Value;
 use std::alloc::Global;
-use zarrs_chunk_base::{Refusal, StoreKey, TreeForm};
-use zarrs_chunk_keys::ChunkKeyEncodingTraits;
+use zarrs_chunk_base::Refusal;
 
-/// The tree of the answer to a line's tree, of which a walk's items may be `room` bytes long. What else the tree has says nothing.
-///
-/// # Errors
-/// The tree is no object; or, where the call is `encode` or `decode`, a fault of [`key_of_chunk`] or [`chunk_of_key`], and else one
-/// of [`ask_grid`]. Or out of memory.
-pub(crate) fn answer_question(
-    alloc: Global,
-    tree: &Value,
-    room: usize,
-) -> Result<Value, Refusal<LineFault>> {
-    if !tree.is_object() {
-        return Err(Refusal::Refused(LineFault::NotObject));
+/// What a line asks.
+#[derive(Drop)]
+pub(crate) enum Question<'t> {
+    /// Of the grid of an array with this shape, of which the tree is the metadata.
+    OfArray(Vec<u64>, &'t Value, Asked<'t>),
+    /// The key of a chunk, in the encoding of which the tree is the metadata.
+    Encode(&'t Value, Vec<u64>),
+    /// The chunk with so many numbers that has a key, in the encoding of which the tree is the metadata.
+    Decode(&'t Value, String, u64),
+}
+
+impl<'t> Question<'t> {
+    /// What a line's tree asks. What else it has says nothing.
+    ///
+    /// # Errors
+    /// The first that applies: the tree is no object; where the call is `encode` or `decode`, a member that it reads is missing or isn't of its
+    /// form, in the order in which they are read; and else one of [`of_array`]. Or out of memory.
+    pub(crate) fn from_tree(
+        alloc: Global,
+        tree: &'t Value,
+    ) -> Result<Question<'t>, Refusal<Unreadable>>
+        ensures { (reading : Reading question.Question) × IsReading (view tree.now) reading
+            × IsRead question_of reading result }
+    {
+        if !tree.is_object() {
+            return Err(Refusal::Refused(Unreadable::NotObject));
+        }
+        match named_in(tree) {
+            Some(Call::Encode) => encode(alloc, tree),
+            Some(Call::Decode) => decode(alloc, tree),
+            Some(Call::OfArray(call)) => of_array(alloc, Some(call), tree),
+            None => of_array(alloc, None, tree),
+        }
     }
+}
+
+/// The call that a line names, if it names one.
+fn named_in(tree: &Value) -> Option<Call>
+    ensures { IsNamed (text_in (codes "call") (view tree.now)) result }
+{
     match tree.get("call").and_then(|call| call.as_str()) {
-        Some("encode") => key_of_chunk(alloc, tree),
-        Some("decode") => chunk_of_key(alloc, tree),
-        _ => ask_grid(alloc, tree, room),
+        Some(name) => Call::named(name),
+        None => None,
     }
 }
 
-/// The key of a chunk in a chunk key encoding.
-///
-/// # Errors
-/// The first that applies: `chunk_key_encoding` or `of` is missing, in this order; `of` is no list of sizes; the encoding
-/// can't be made. Or out of memory.
-fn key_of_chunk(alloc: Global, tree: &Value) -> Result<Value, Refusal<LineFault>> {
-    let chunk_key_encoding = required_member(tree, "chunk_key_encoding")?;
+/// What `encode` is asked: the key of a chunk.
+fn encode<'t>(alloc: Global, tree: &'t Value) -> Result<Question<'t>, Refusal<Unreadable>>
+    ensures { IsRead question_of (encode_in (view tree.now)) result }
+{
+    let encoding = encoding(tree)?;
     let chunk = numbers(alloc, tree)?;
-    let encoding = make_encoding(alloc, chunk_key_encoding)?;
-    let key = encoding.encode(alloc, &chunk)?;
-    Ok(Value::try_from_str(alloc, key.as_str())?)
+    Ok(Question::Encode(encoding, chunk))
 }
 
-/// The chunk with this many numbers that has a key in a chunk key encoding, or `null`.
+/// What `decode` is asked: the chunk of a key.
+fn decode<'t>(alloc: Global, tree: &'t Value) -> Result<Question<'t>, Refusal<Unreadable>>
+    ensures { IsRead question_of (decode_in (view tree.now)) result }
+{
+    let encoding = encoding(tree)?;
+    let key = required_in(alloc, "of", tree)?;
+    let dimensionality = required_in(alloc, "dimensionality", tree)?;
+    Ok(Question::Decode(encoding, key, dimensionality))
+}
+
+/// What an array's grid is asked, by a call of its own, if the line names one.
 ///
 /// # Errors
-/// The first that applies: `chunk_key_encoding` is missing; `of` is missing or no text; `dimensionality` is missing or no size; the
-/// encoding can't be made; the text is no store key. Or out of memory.
-fn chunk_of_key(alloc: Global, tree: &Value) -> Result<Value, Refusal<LineFault>> {
-    let chunk_key_encoding = required_member(tree, "chunk_key_encoding")?;
-    let Some(text) = String::from_tree(alloc, required_member(tree, "of")?)? else {
-        return Err(Refusal::Refused(LineFault::WrongValue("of")));
-    };
-    let dimensionality = number(alloc, tree, "dimensionality")? as usize;
-    let encoding = make_encoding(alloc, chunk_key_encoding)?;
-    let key = match StoreKey::new(text) {
-        Ok(key) => key,
-        Err(error) => return Err(Refusal::Refused(LineFault::Key(error))),
-    };
-    match encoding.decode(alloc, dimensionality, &key)? {
-        Some(chunk) => Ok(chunk.to_tree(alloc)?),
-        None => Ok(Value::Null),
-    }
-}
-
-/// What a call of a chunk grid answers.
-///
-/// # Errors
-/// The first that applies: `shape`, `chunk_grid` or `call` is missing, in this order; `shape` is no list of sizes; `call`
-/// is no text; a fault of [`GridQuestion::answer`]. Or out of memory.
-fn ask_grid(alloc: Global, tree: &Value, room: usize) -> Result<Value, Refusal<LineFault>> {
-    let shape = required_member(tree, "shape")?;
-    let chunk_grid = required_member(tree, "chunk_grid")?;
-    let call = required_member(tree, "call")?;
-    let Some(shape) = Vec::from_tree(alloc, shape)? else {
-        return Err(Refusal::Refused(LineFault::WrongValue("shape")));
-    };
-    let Some(call) = call.as_str() else {
-        return Err(Refusal::Refused(LineFault::WrongValue("call")));
-    };
-    let question = GridQuestion {
-        tree,
-        shape,
-        chunk_grid,
-        call,
-        room,
-    };
-    question.answer(alloc)
-}
-
-/// A member that has to be there.
-pub(crate) fn required_member<'t>(
+/// The first that applies: `shape`, `chunk_grid` or `call` is missing, in this order; `shape` is no list of sizes; `call` is no text; there is no
+/// such call; a member that the call reads is missing or isn't of its form. Or out of memory.
+fn of_array<'t>(
+    alloc: Global,
+    named: Option<OfArray>,
     tree: &'t Value,
-    field: &'static str,
-) -> Result<&'t Value, Refusal<LineFault>> {
-    tree.get(field)
-        .ok_or(Refusal::Refused(LineFault::Missing(field)))
-}
-
-/// The numbers that a call is asked of.
-pub(crate) fn numbers(alloc: Global, tree: &Value) -> Result<Vec<u64>, Refusal<LineFault>> {
-    let numbers = Vec::from_tree(alloc, required_member(tree, "of")?)?;
-    numbers.ok_or(Refusal::Refused(LineFault::WrongValue("of")))
-}
-
-/// A member that is the start and the shape of a box.
-pub(crate) fn required_box(
-    alloc: Global,
-    tree: &Value,
-    field: &'static str,
-) -> Result<(Vec<u64>, Vec<u64>), Refusal<LineFault>> {
-    let both = <(Vec<u64>, Vec<u64>)>::from_tree(alloc, required_member(tree, field)?)?;
-    both.ok_or(Refusal::Refused(LineFault::WrongValue(field)))
-}
-
-/// A member that is the start and the shape of a box, or `None` where there is no such member.
-pub(crate) fn optional_box(
-    alloc: Global,
-    tree: &Value,
-    field: &'static str,
-) -> Result<Option<(Vec<u64>, Vec<u64>)>, Refusal<LineFault>> {
-    match tree.get(field) {
-        Some(_) => Ok(Some(required_box(alloc, tree, field)?)),
-        None => Ok(None),
-    }
-}
-
-/// A member that is a number, or `None` where there is no such member.
-pub(crate) fn optional_number(
-    alloc: Global,
-    tree: &Value,
-    field: &'static str,
-) -> Result<Option<u64>, Refusal<LineFault>> {
-    match tree.get(field) {
-        Some(_) => Ok(Some(number(alloc, tree, field)?)),
-        None => Ok(None),
-    }
-}
-
-/// A member that is a number.
-pub(crate) fn number(
-    alloc: Global,
-    tree: &Value,
-    field: &'static str,
-) -> Result<u64, Refusal<LineFault>> {
-    let number = u64::from_tree(alloc, required_member(tree, field)?)?;
-    number.ok_or(Refusal::Refused(LineFault::WrongValue(field)))
+) -> Result<Question<'t>, Refusal<Unreadable>>
+    ensures { IsRead question_of (of_array_in named (view tree.now)) result }
+{
+    let shape = required(tree, "shape")?;
+    let chunk_grid = required(tree, "chunk_grid")?;
+    let call = required(tree, "call")?;
+    let shape = in_form(alloc, "shape", shape)?;
+    let name: String = in_form(alloc, "call", call)?;
+    let Some(call) = named else {
+        return Err(Refusal::Refused(Unreadable::NoCall(name)));
+    };
+    let asked = Asked::from_tree(alloc, call, tree)?;
+    Ok(Question::OfArray(shape, chunk_grid, asked))
 }

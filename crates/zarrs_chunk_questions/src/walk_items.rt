@@ -1,11 +1,12 @@
 //! The items of a walk, as a line writes them.
 ghost use Rattle.std.specs.Iterator.{IsFinite};
+ghost use Rattle.std.specs.Prelude.{◌≡◌, ◌==◌, IfOk, map, min};
+ghost use Rattle.serde_json.specs.View.{view};
+ghost use Rattle.zarrs_chunk_questions.specs.Answers.{page_tree};
 
-use crate::line_fault::LineFault;
 use serde_json::{Map, Value};
 use std::alloc::{AllocError, Global};
-use zarrs_chunk_base::{ArraySubset, Refusal, write_box, write_list};
-use zarrs_chunk_plan::Part;
+use zarrs_chunk_base::{ArraySubset, write_box, write_list};
 use zarrs_chunks::ArrayIndicesTinyVec;
 
 /// An item of a walk.
@@ -38,44 +39,6 @@ impl WalkItem for (ArrayIndicesTinyVec, ArraySubset) {
     }
 }
 
-/// A part of a box of elements: `{"chunk":[..],"in_chunk":[start,shape],"in_subset":[start,shape],"key":".."}`.
-impl WalkItem for Part {
-    fn to_tree(&self, alloc: Global) -> Result<Value, AllocError> {
-        part_tree(alloc, self, "in_subset")
-    }
-}
-
-/// The tree of a part; the member with this name says where its elements go, as a box.
-pub(crate) fn part_tree(
-    alloc: Global,
-    part: &Part,
-    name: &'static str,
-) -> Result<Value, AllocError> {
-    let mut members = chunk_members(alloc, part)?;
-    serde_json::put(
-        &mut members,
-        alloc,
-        "in_chunk",
-        write_box(alloc, &part.in_chunk)?,
-    )?;
-    serde_json::put(
-        &mut members,
-        alloc,
-        name,
-        write_box(alloc, &part.in_subset)?,
-    )?;
-    Ok(Value::Object(members))
-}
-
-/// The members of a part that say which chunk it is of: its numbers and its key.
-pub(crate) fn chunk_members(alloc: Global, part: &Part) -> Result<Map<String, Value>, AllocError> {
-    let mut members = Map::new(alloc);
-    serde_json::put(&mut members, alloc, "chunk", part.chunk.to_tree(alloc)?)?;
-    let key = Value::try_from_str(alloc, part.key.as_str())?;
-    serde_json::put(&mut members, alloc, "key", key)?;
-    Ok(members)
-}
-
 /// How many items are given.
 #[derive(Drop)]
 pub(crate) struct Limits {
@@ -88,7 +51,9 @@ pub(crate) struct Limits {
 impl Limits {
     /// The limits of at most so many items, where so many bytes have room and each item has as many numbers. The text of a number has a digit and
     /// what follows it, and that of an item one byte more.
-    pub(crate) fn new(most: u64, numbers: usize, room: usize) -> Limits {
+    pub(crate) fn new(most: u64, numbers: usize, room: usize) -> Limits
+        ensures { result.most ≡ most }
+    {
         let least = numbers.saturating_mul(2).saturating_add(1);
         let too_many = (room / least) as u64;
         Limits {
@@ -98,20 +63,30 @@ impl Limits {
     }
 
     /// How many items there are to be made: all that are given, or as many as are too many.
-    pub(crate) fn wanted(&self) -> u64 {
+    pub(crate) fn wanted(&self) -> u64
+        ensures { result ≡ min self.now.most self.now.too_many }
+    {
         self.most.min(self.too_many)
+    }
+
+    /// Whether so many items are too many.
+    pub(crate) fn is_too_many(&self, count: usize) -> bool
+        ensures { result ≡ (count == self.now.too_many) }
+    {
+        self.too_many == count as u64
     }
 }
 
-/// The tree of the first items of a walk and of whether more follow: `{"items":[..],"more":b}`.
+/// The tree of the first items of a walk and of whether more follow: `{"items":[..],"more":b}`. `None` where the items are longer than there is room
+/// for.
 ///
 /// # Errors
-/// The items are longer than there is room for; or out of memory.
+/// Out of memory.
 pub(crate) fn first_items<T: WalkItem, I: Iterator<Item = Result<T, AllocError>> + Drop>(
     alloc: Global,
     walk: I,
     limits: &Limits,
-) -> Result<Value, Refusal<LineFault>>
+) -> Result<Option<Value>, AllocError>
     requires can { I.can_next walk }
     requires ends { IsFinite (I.remaining walk) }
 {
@@ -124,22 +99,20 @@ pub(crate) fn first_items<T: WalkItem, I: Iterator<Item = Result<T, AllocError>>
             break;
         }
         items.push(item.to_tree(alloc)?)?;
-        if items.len() as u64 == limits.too_many {
-            return Err(Refusal::Refused(LineFault::TooLong));
+        if limits.is_too_many(items.len()) {
+            return Ok(None);
         }
     }
-    Ok(items_tree(alloc, items, more)?)
+    Ok(Some(items_tree(alloc, items, more)?))
 }
 
 /// The tree of items, and of whether more follow.
 ///
 /// # Errors
 /// Out of memory.
-pub(crate) fn items_tree(
-    alloc: Global,
-    items: Vec<Value>,
-    more: bool,
-) -> Result<Value, AllocError> {
+pub(crate) fn items_tree(alloc: Global, items: Vec<Value>, more: bool) -> Result<Value, AllocError>
+    ensures { IfOk result (λ tree. view tree ≡ page_tree (map view items.items) more) }
+{
     let mut members = Map::new(alloc);
     serde_json::put(&mut members, alloc, "items", Value::Array(items))?;
     serde_json::put(&mut members, alloc, "more", Value::from(more))?;

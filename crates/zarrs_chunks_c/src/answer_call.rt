@@ -16,7 +16,7 @@ pub extern "C" fn zarrs_answer(
     line: &mut [u8],
     needed: &mut usize,
 ) -> i32
-    ensures ends { Ends (IsEndOf (answer_call line.new needed.new)) result }
+    ensures ends { Ends (IsEndOf (answer_call question.now line.new needed.new)) result }
     ensures kept_if_short { Ends (IsKeptIfShort line.old line.new) result }
 {
     code_of(answer_line(alloc, question, line, needed))
@@ -33,7 +33,7 @@ fn answer_line(
     line: &mut [u8],
     needed: &mut usize,
 ) -> Result<(), Fault>
-    ensures ends { IsEndOf (answer_call line.new needed.new) result }
+    ensures ends { IsEndOf (answer_call question.now line.new needed.new) result }
     ensures kept_if_short { IsKeptIfShort line.old line.new result }
 {
     let Some(answer) = answer_within(alloc, question, line.len())? else {

@@ -1,27 +1,23 @@
 -- Counting lines.
-use Rattle.std.proofs.Common.{◌≡◌, ℕ, ◌+◌, ◌<◌, List, [], ◌∷◌, ◌++◌, length, refl, length-append, arith}
+use Rattle.std.proofs.Common.{◌≡◌, ◌≢◌, ℕ, ◌+◌, ◌<◌, List, [], ◌∷◌, ◌++◌, length, refl, length-append, append-nil, append_assoc, arith}
 use Rattle.std.proofs.lemmas.Bool.Decides.{nat_tests}
 use Rattle.zarrs_chunk_questions.specs.Line.{line_feeds, IsOneLine}
-use Rattle.zarrs_chunk_questions.proofs.LineFeeds.{line_feeds-append}
-use Rattle.programs.specs.chunkcalls.Lines.{line_count}
+use Rattle.programs.specs.chunkcalls.Lines.{AreAnswers, AreLinesFor, first_line, last_line, line_count, no_line}
 
--- one line more is one line feed more
-pub line_feeds-line : (front line : List ℕ) → IsOneLine line → line_feeds (front ++ line) ≡ line_feeds front + 1
-line_feeds-line front line (text, none, is) =
-    let outer = line_feeds-append front (text ++ 10 ∷ []) in
-    let inner = line_feeds-append text (10 ∷ []) in
-    rw is (omega arith)
+line_feeds-append : (front back : List ℕ) → line_feeds (front ++ back) ≡ line_feeds front + line_feeds back
+line_feeds-append [] back = omega arith
+line_feeds-append (b ∷ front) back =
+    let rest = line_feeds-append front back in
+    omega arith
 
--- where the last byte is a line feed, each line ends in one
-pub line_count-ended : (text : List ℕ) → line_count (text ++ 10 ∷ []) ≡ line_feeds (text ++ 10 ∷ [])
-line_count-ended [] = refl
-line_count-ended (b ∷ text) =
-    let rest = line_count-ended text in
-    let longer : length (text ++ 10 ∷ []) ≡ length text + 1 = omega (arith, length-append text (10 ∷ [])) in
+-- one byte more that is no line feed
+pub line_feeds-push : (front : List ℕ) (b : ℕ) → b ≢ 10 → line_feeds front ≡ 0 → line_feeds (front ++ b ∷ []) ≡ 0
+line_feeds-push front b other none =
+    let sum = line_feeds-append front (b ∷ []) in
     grind (arith, nat_tests)
 
 -- the first line ends in the first line feed
-pub line_count-first : (line rest : List ℕ) → line_feeds line ≡ 0 → line_count (line ++ 10 ∷ rest) ≡ 1 + line_count rest
+line_count-first : (line rest : List ℕ) → line_feeds line ≡ 0 → line_count (line ++ 10 ∷ rest) ≡ 1 + line_count rest
 line_count-first [] rest none = grind (arith, nat_tests)
 line_count-first (b ∷ line) rest none =
     let tail : line_feeds line ≡ 0 = omega (arith, none) in
@@ -30,22 +26,36 @@ line_count-first (b ∷ line) rest none =
     grind (arith, nat_tests)
 
 -- a line that no line feed ends
-pub line_count-last : (line : List ℕ) → line_feeds line ≡ 0 → 0 < length line → line_count line ≡ 1
+line_count-last : (line : List ℕ) → line_feeds line ≡ 0 → 0 < length line → line_count line ≡ 1
 line_count-last [] none some = absurd (omega (arith, some))
 line_count-last (b ∷ []) none some = grind (arith, nat_tests)
 line_count-last (b ∷ c ∷ line) none some =
     let rest = line_count-last (c ∷ line) (omega (arith, none)) (omega arith) in
     grind (arith, nat_tests)
 
--- behind lines that are ended others begin
-pub line_count-behind : (front back : List ℕ) → line_count front ≡ line_feeds front → line_count (front ++ back) ≡ line_feeds front + line_count back
-line_count-behind [] back ended = omega arith
-line_count-behind (b ∷ []) back ended = grind (arith, nat_tests)
-line_count-behind (b ∷ c ∷ front) back ended =
-    let rest : line_count (c ∷ front) ≡ line_feeds (c ∷ front) = grind (arith, nat_tests) in
-    let behind = line_count-behind (c ∷ front) back rest in
-    grind (arith, nat_tests)
+-- an answer, and what comes behind it
+module _ (answer rest : List ℕ) where
+  line_count-answer : IsOneLine answer → line_count (answer ++ rest) ≡ 1 + line_count rest
+  line_count-answer (text, none, is) = rw (is, append_assoc) (line_count-first text rest none)
 
-pub both_ended : (front back : List ℕ) → line_count front ≡ line_feeds front → line_count back ≡ line_feeds back
-    → line_count (front ++ back) ≡ line_feeds (front ++ back)
-both_ended front back ended also = omega (arith, line_count-behind front back ended, line_feeds-append front back, also)
+  line_feeds-answer : IsOneLine answer → line_feeds (answer ++ rest) ≡ 1 + line_feeds rest
+  line_feeds-answer (text, none, is) =
+      let sum = line_feeds-append text (10 ∷ rest) in
+      rw (is, append_assoc) (omega (arith, sum, none))
+
+-- the answers to the lines of an input are as many lines
+pub are_lines_for : (input answers : List ℕ) → AreAnswers input answers → AreLinesFor input answers
+are_lines_for _ _ no_line = record { lines = refl; ended = refl }
+are_lines_for _ _ (last_line line answer some unbroken is) =
+    let one = line_count-last line unbroken some in
+    let count : line_count answer ≡ 1 = rw append-nil at (line_count-answer answer [] is.0) in
+    let feeds : line_feeds answer ≡ 1 = rw append-nil at (line_feeds-answer answer [] is.0) in
+    record { lines = omega (arith, one, count); ended = omega (arith, one, feeds) }
+are_lines_for _ _ (first_line line answer others others_answers unbroken is are) =
+    let behind = are_lines_for others others_answers are in
+    let first = line_count-first line others unbroken in
+    let count = line_count-answer answer others_answers is.0 in
+    let feeds = line_feeds-answer answer others_answers is.0 in
+    let lines = behind.lines in
+    let ended = behind.ended in
+    record { lines = omega (arith, first, count, lines); ended = omega (arith, first, feeds, ended) }

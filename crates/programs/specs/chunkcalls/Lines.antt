@@ -1,5 +1,6 @@
--- Lines of bytes.
-use Rattle.std.specs.Prelude.{◌≡◌, ℕ, ◌+◌, ◌==◌, ◌||◌, if◌then◌else◌, List, [], ◌∷◌, ◌++◌, length, Option, Some}
+-- Lines of bytes, and what answers them.
+use Rattle.std.specs.Prelude.{◌≡◌, ℕ, ◌+◌, ◌<◌, ◌==◌, ◌||◌, if◌then◌else◌, List, [], ◌∷◌, ◌++◌, length, Option, Some}
+use Rattle.zarrs_chunk_questions.specs.AnswerLine.{IsAnswerTo}
 use Rattle.zarrs_chunk_questions.specs.Line.{line_feeds}
 
 -- how many lines there are: each line feed ends one, and so does the last byte
@@ -16,3 +17,15 @@ pub record AreLinesFor (input answers : List ℕ) : Type 0 where
 abbrev pub HasAnswered : (input held : List ℕ) → Option (List ℕ) → Type 0
 HasAnswered input held holds =
     (answers : List ℕ) × AreLinesFor input answers × (holds ≡ Some (held ++ answers))
+
+-- The answers to the lines of an input, in order. Where there are no bytes, there is no line; where there are some, but no line feed, they are the
+-- last line; else the first line stands before the first line feed, and the others behind it.
+pub data AreAnswers : (input answers : List ℕ) → Type 0 where
+  no_line : AreAnswers [] []
+  last_line : (line answer : List ℕ) → 0 < length line → line_feeds line ≡ 0 → IsAnswerTo line answer → AreAnswers line answer
+  first_line : (line answer others others_answers : List ℕ) → line_feeds line ≡ 0 → IsAnswerTo line answer → AreAnswers others others_answers
+      → AreAnswers (line ++ 10 ∷ others) (answer ++ others_answers)
+
+-- the writer held some bytes, and now holds the answers to the input's lines behind them
+abbrev pub HoldsAnswers : (input held : List ℕ) → Option (List ℕ) → Type 0
+HoldsAnswers input held holds = (answers : List ℕ) × AreAnswers input answers × (holds ≡ Some (held ++ answers))

@@ -1,8 +1,9 @@
 //! The lines that answer what is read.
 ghost use Rattle.std.specs.Prelude.{◌≡◌, ℕ, List, IfErr, IfSome, OnOk};
-ghost use Rattle.zarrs_chunk_questions.specs.Line.{IsOneLine, line_feeds};
+ghost use Rattle.zarrs_chunk_questions.specs.AnswerLine.{IsAnswerTo};
+ghost use Rattle.zarrs_chunk_questions.specs.Line.{line_feeds};
 ghost use Rattle.programs.specs.Watched.{has_failed, watched};
-ghost use Rattle.programs.specs.chunkcalls.Lines.{AreLinesFor};
+ghost use Rattle.programs.specs.chunkcalls.Lines.{AreAnswers};
 ghost use Rattle.programs.specs.chunkcalls.Run.{TellsFailure, TellsWriteFailure};
 ghost use Rattle.programs.specs.chunkcalls.seen.Answered.{HasAnsweredPiece};
 ghost use Rattle.programs.specs.seen.Sent.{IsSent, output};
@@ -25,7 +26,7 @@ pub(crate) fn answer_lines<R: Read, W: Write>(
     writer: &mut Watched<W>,
 ) -> Result<(), RunFault>
     ensures answered { OnOk result (IfSome (R.remaining (watched reader.old)) (λ input.
-        (answers : List ℕ) × AreLinesFor input answers
+        (answers : List ℕ) × AreAnswers input answers
         × IsSent (output W.contents held_back.old.items writer.old)
         (output W.contents held_back.new.items writer.new) answers)) }
     ensures failed { IfErr result (λ fault.
@@ -67,8 +68,8 @@ fn answer_piece<W: Write>(
     ensures failed { IfErr result (λ fault. TellsWriteFailure fault (has_failed writer.new)) }
 {
     for byte in piece {
-        line.push(*byte)?;
         if *byte != b'\n' {
+            line.push(*byte)?;
             continue;
         }
         answer_line(alloc, line, held_back, writer)?;
@@ -88,7 +89,7 @@ fn answer_rest<W: Write>(
     writer: &mut Watched<W>,
 ) -> Result<(), RunFault>
     requires { line_feeds line.now ≡ 0 }
-    ensures answered { OnOk result ((answers : List ℕ) × AreLinesFor line.now answers
+    ensures answered { OnOk result ((answers : List ℕ) × AreAnswers line.now answers
         × IsSent (output W.contents held_back.old.items writer.old)
         (output W.contents held_back.new.items writer.new) answers) }
     ensures failed { IfErr result (λ fault. TellsWriteFailure fault (has_failed writer.new)) }
@@ -109,7 +110,7 @@ fn answer_line<W: Write>(
     held_back: &mut Vec<u8>,
     writer: &mut Watched<W>,
 ) -> Result<(), RunFault>
-    ensures answered { OnOk result ((answer : List ℕ) × IsOneLine answer
+    ensures answered { OnOk result ((answer : List ℕ) × IsAnswerTo line.now answer
         × IsSent (output W.contents held_back.old.items writer.old)
         (output W.contents held_back.new.items writer.new) answer) }
     ensures failed { IfErr result (λ fault. TellsWriteFailure fault (has_failed writer.new)) }

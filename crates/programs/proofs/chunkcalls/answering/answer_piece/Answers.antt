@@ -1,5 +1,6 @@
-use Rattle.std.proofs.Common.{◌≡◌, ◌≢◌, ◌+◌, ◌∷◌, ◌++◌, [], get_or, take, arith}
+use Rattle.std.proofs.Common.{◌≡◌, ◌≢◌, ◌+◌, ◌∷◌, ◌++◌, [], get_or, subst, take, arith}
 use Rattle.std.proofs.lemmas.Bool.Decides.{nat_tests}
+use Rattle.zarrs_chunk_questions.specs.AnswerLine.{IsAnswerTo}
 use Rattle.programs.specs.seen.Sent.{output}
 use Rattle.programs.proofs.chunkcalls.PartWay.{no_byte, one_byte, one_line, take_next}
 use Rattle.programs.proofs.chunkcalls.answering.answer_piece.Goals as goal
@@ -29,4 +30,5 @@ loop-byte-preserved g c =
     rw (more, c.clear.ensures.items)
     (one_line c.args.line.now.items (output g.W.Write.contents c.args.held_back.now.items c.args.writer.now) (take i piece) c.loop-byte.line.items
     (output g.W.Write.contents c.loop-byte.held_back.items c.loop-byte.writer) c.loop-byte.invariant answer
-    (output g.W.Write.contents c.answer_line.new.held_back.items c.answer_line.new.writer) is sent)
+    (output g.W.Write.contents c.answer_line.new.held_back.items c.answer_line.new.writer)
+    (subst (λ line. IsAnswerTo line answer) c.deref.ensures.value is) sent)

@@ -2,17 +2,16 @@ use Rattle.std.proofs.Common.{◌≡◌, ◌<◌, [], length, subst, sym, arith}
 use Rattle.std.proofs.lemmas.Bool.Decides.{nat_tests}
 use Rattle.std.proofs.lemmas.List.{nil_from_length}
 use Rattle.std.proofs.lemmas.Result.{on_ok_weaker}
-use Rattle.programs.specs.chunkcalls.Lines.{AreLinesFor}
+use Rattle.programs.specs.chunkcalls.Lines.{AreAnswers, last_line, no_line}
 use Rattle.programs.specs.seen.Sent.{output}
 use Rattle.programs.proofs.Sent.{sends_nothing}
-use Rattle.programs.proofs.chunkcalls.PartWay.{last_line, no_last}
 use Rattle.programs.proofs.chunkcalls.answering.answer_rest.Goals as goal
 
 pub returns-then-is_empty-clause-answered : goal.returns-then-is_empty-clause-answered
 returns-then-is_empty-clause-answered g c =
     let none : length c.args.line.now ≡ 0 = grind (arith, nat_tests) in (
       [],
-      subst (λ line. AreLinesFor line []) (sym (nil_from_length c.args.line.now none)) no_last,
+      subst (λ line. AreAnswers line []) (sym (nil_from_length c.args.line.now none)) no_line,
       sends_nothing (output g.W.Write.contents c.args.held_back.now.items c.args.writer.now),
     )
 
@@ -20,4 +19,4 @@ pub returns-clause-answered : goal.returns-clause-answered
 returns-clause-answered g c =
     let some : 0 < length c.args.line.now = grind (arith, nat_tests) in
     on_ok_weaker c.answer_line.result
-    (λ (answer, is, sent). (answer, last_line c.args.line.now answer c.requires some is, sent)) c.answer_line.ensures.answered
+    (λ (answer, is, sent). (answer, last_line c.args.line.now answer some c.requires is, sent)) c.answer_line.ensures.answered

@@ -1,0 +1,68 @@
+-- What is answered of what a look-up finds, and why a question is refused.
+use Rattle.std.proofs.Common.{◌≡◌, List, ℕ, Option, Result, Ok, Err, IsErrAnd, IfErr, IfOk, IfSome, MatchResult, None, Some, inl}
+use Rattle.std.proofs.lemmas.Result.{err_from_is_err_and}
+use Rattle.serde_json.specs.Data.{Data}
+use Rattle.serde_json.specs.View.{view}
+use Rattle.serde_json.specs.declared.value.Value.{Value}
+use Rattle.zarrs_chunk_base.specs.ArraySubset.{Box}
+use Rattle.zarrs_chunk_base.specs.Refusal.{AnswersStoring, OrMemory}
+use Rattle.zarrs_chunk_base.specs.declared.incompatible_dimensionality_error.IncompatibleDimensionalityError.{IncompatibleDimensionalityError}
+use Rattle.zarrs_chunk_base.specs.declared.refusal.Refusal.{Refusal}
+use Rattle.zarrs_chunk_base.specs.declared.refusal.Refusal.TheVariants.{Refused, Memory}
+use Rattle.zarrs_chunk_keys.specs.seen.Encodings.{encoding_in}
+use Rattle.zarrs_chunk_keys.specs.declared.chunk_key_encoding.named.ChunkKeyEncoding.{ChunkKeyEncoding}
+use Rattle.zarrs_chunks.specs.Subsets.{LookedBox}
+use Rattle.zarrs_chunks.specs.seen.Grids.{grid_in, kind_in}
+use Rattle.zarrs_chunks.specs.declared.chunk_grid.named.ChunkGrid.{ChunkGrid}
+use Rattle.zarrs_chunk_questions.specs.Answers.{IsEncodingIn, IsGridIn, Says, box_tree, or_null}
+use Rattle.zarrs_chunk_questions.specs.Refused.{IsErrorOf, IsLengthFault, IsNoEncoding, IsNoExtension, IsNoGrid}
+use Rattle.zarrs_chunk_questions.specs.seen.Found.{TellsError}
+use Rattle.zarrs_chunk_questions.specs.declared.line_fault.LineFault.{LineFault}
+
+-- what holds of a refusal holds of what a `?` hands on
+pub handed_on : {X : Type 0} (P : X → Type 0) (Q R : LineFault → Type 0) (result : Result X (Refusal LineFault)) (refusal : Refusal LineFault)
+    → ((fault : LineFault) → Q fault → R fault) → OrMemory Q refusal → IsErrAnd result (λ other. other ≡ refusal) → MatchResult result P (OrMemory R)
+handed_on P Q R result (Refused fault) told is handed = let p = err_from_is_err_and result handed in rw (p.1, p.2) (told fault is)
+handed_on P Q R result (Memory error) told is handed = let p = err_from_is_err_and result handed in rw (p.1, p.2) tt
+
+pub no_grid_in : (tree : Data) (shape : List ℕ) (refusal : Refusal LineFault) (result : Result ChunkGrid (Refusal LineFault))
+    → OrMemory (IsNoExtension tree) refusal → IsErrAnd result (λ other. other ≡ refusal)
+    → MatchResult result (λ grid. IsGridIn tree shape (kind_in grid) (grid_in grid)) (OrMemory (IsNoGrid tree shape))
+no_grid_in tree shape refusal result is handed =
+    handed_on (λ grid. IsGridIn tree shape (kind_in grid) (grid_in grid)) (IsNoExtension tree) (IsNoGrid tree shape) result refusal
+    (λ fault is. inl is) is handed
+
+pub no_encoding_in : (tree : Data) (refusal : Refusal LineFault) (result : Result ChunkKeyEncoding (Refusal LineFault))
+    → OrMemory (IsNoExtension tree) refusal → IsErrAnd result (λ other. other ≡ refusal)
+    → MatchResult result (λ encoding. IsEncodingIn tree (encoding_in encoding)) (OrMemory (IsNoEncoding tree))
+no_encoding_in tree refusal result is handed =
+    handed_on (λ encoding. IsEncodingIn tree (encoding_in encoding)) (IsNoExtension tree) (IsNoEncoding tree) result refusal
+    (λ fault is. inl is) is handed
+
+-- the tree of what a call answered that may answer so
+pub says_box : (MayAnswer : LookedBox → Type 0) (answer : LookedBox) (result : Result Value (Refusal LineFault)) → MayAnswer answer
+    → IfOk result (λ t. (found : Option Box) × (answer ≡ Ok found) × (view t ≡ or_null box_tree found))
+    → IfErr result (OrMemory (TellsError answer))
+    → MatchResult result (λ t. Says box_tree MayAnswer (view t)) (OrMemory (IsErrorOf MayAnswer))
+says_box MayAnswer answer (Ok t) may (found, same, tree) refused = (found, rw same at may, tree)
+says_box MayAnswer answer (Err (Refused fault)) may said (e, same, told) = rw told (rw same at may)
+says_box MayAnswer answer (Err (Memory _)) may said refused = tt
+
+-- a look-up refuses another length only
+pub length_fault : {X : Type 0} (Stores : Type 0) (given expected : ℕ) (Found : X → Type 0) (Absent : Type 0)
+    (answer : Result (Option X) (Refusal IncompatibleDimensionalityError)) (fault : LineFault)
+    → AnswersStoring Stores given expected Found Absent answer
+    → TellsError answer fault → IsLengthFault given expected fault
+length_fault Stores given expected Found Absent answer fault may (e, same, told) = rw told (rw same at may)
+
+-- what is said of what there is, in other words
+pub if_some : {X : Type 0} (P R : X → Type 0) (found : Option X) → ((x : X) → P x → R x) → IfSome found P → IfSome found R
+if_some P R None of_each is = tt
+if_some P R (Some x) of_each is = of_each x is
+
+-- what is said of an answer and of a refusal, each in other words
+pub in_other_words : {X : Type 0} (P R : X → Type 0) (Q S : LineFault → Type 0) (result : Result X (Refusal LineFault)) → ((x : X) → P x → R x)
+    → ((fault : LineFault) → Q fault → S fault) → MatchResult result P (OrMemory Q) → MatchResult result R (OrMemory S)
+in_other_words P R Q S (Ok x) of_answer of_fault is = of_answer x is
+in_other_words P R Q S (Err (Refused fault)) of_answer of_fault is = of_fault fault is
+in_other_words P R Q S (Err (Memory _)) of_answer of_fault is = tt

@@ -1,0 +1,28 @@
+use Rattle.std.proofs.Common.{◌≡◌, ◌∙◌, Ok, ap, length, map, rules}
+use Rattle.zarrs_chunk_keys.specs.ChunkKey.{IsKey}
+use Rattle.zarrs_chunk_keys.specs.seen.Encodings.{encoding_in}
+use Rattle.zarrs_chunks.specs.seen.Grids.{grid_in}
+use Rattle.zarrs_chunk_questions.specs.Answers.{part_tree}
+use Rattle.zarrs_chunk_questions.proofs.Refusals.{handed_on}
+use Rattle.zarrs_chunk_questions.proofs.SomeItems.{no_parts, parts_page}
+use Rattle.zarrs_chunk_questions.proofs.pages.parts_from.Goals as goal
+
+pub returns-in_err-some : goal.returns-in_err-some
+returns-in_err-some c =
+    let ds = (grid_in c.args.grid.now).dimensions in
+    let told = c.some_parts.ensures in
+    handed_on _ _ _ c.from_residual.result c.in_err-some.field-0.0
+    (λ fault. no_parts ds (IsKey (encoding_in c.args.encoding.now)) c.args.elements.now c.args.first c.wanted-most.result c.some_parts.result fault
+    (told.empty, told.answers))
+    c.in_err-some.ensures.refused c.from_residual.ensures.1
+
+pub returns : goal.returns
+returns c =
+    let ds = (grid_in c.args.grid.now).dimensions in
+    let some = c.in-Some.some in
+    let told = c.some_parts.ensures in
+    let limits = c.args.limits.now in
+    let counted : c.len.result ≡ length some.parts.items = search rules in
+    parts_page ds (IsKey (encoding_in c.args.encoding.now)) c.args.elements.now c.args.first c.wanted-most.result limits.most limits.too_many
+    c.len.result some c.some_parts.result c.in_ok-items.items.items c.in_ok-page.page (c.in_ok-some.ensures.found ∙ ap Ok c.in-Some.is)
+    (told.empty, told.answers) c.wanted-most.ensures (c.in_ok-items.ensures ∙ ap (map part_tree) c.deref.ensures.value) counted c.in_ok-page.ensures

@@ -1,0 +1,119 @@
+-- Why a question has no answer: the first reason that applies.
+-- Sources: Zarr V3 core, chunk grids and chunk key encodings; the order is this library's own.
+use Rattle.std.specs.Prelude.{◌≡◌, ◌≢◌, ◌⊎◌, ℕ, List, length, string_bytes, codes, Err, Option, Result}
+use Rattle.serde_json.specs.Data.{Data}
+use Rattle.zarrs_chunk_base.specs.ArraySubset.{Box, IsBox}
+use Rattle.zarrs_chunk_base.specs.ArraySubsetError.{IsBoxFault}
+use Rattle.zarrs_chunk_base.specs.Dimension.{Dimension}
+use Rattle.zarrs_chunk_base.specs.Grid.{Grid}
+use Rattle.zarrs_chunk_base.specs.Metadata.{Extension as IsSaid, IsExtension, IsMetadataFault}
+use Rattle.zarrs_chunk_base.specs.Refusal.{TellsLengths}
+use Rattle.zarrs_chunk_base.specs.StoreKey.{EndsInSlash}
+use Rattle.zarrs_chunk_base.specs.declared.metadata_error.MetadataError.{MetadataError}
+use Rattle.zarrs_chunk_base.specs.declared.plugin_create_error.PluginCreateError.{PluginCreateError}
+use Rattle.zarrs_chunk_base.specs.declared.incompatible_dimensionality_error.IncompatibleDimensionalityError.{IncompatibleDimensionalityError}
+use Rattle.zarrs_chunk_base.specs.declared.refusal.Refusal.{Refusal}
+use Rattle.zarrs_chunk_base.specs.declared.refusal.Refusal.TheVariants.{Refused}
+use Rattle.zarrs_chunk_keys.specs.ChunkKey.{Encoding, IsKey}
+use Rattle.zarrs_chunk_keys.specs.KeyKinds.{IsEncodingFault}
+use Rattle.zarrs_chunks.specs.GridKinds.{GridKind, IsGridFault, rectilinear}
+use Rattle.zarrs_chunks.specs.Subsets.{AnswersChunksSubset}
+use Rattle.zarrs_chunk_questions.specs.Answers.{AnswersCoverOf, AnswersPartsOf, IsEncodingIn, IsGridIn, box_of}
+use Rattle.zarrs_chunk_questions.specs.Question.{Asked, Lists, Question, counted, decode, encode, located, of_array, of_box, of_grid, of_numbers}
+use Rattle.zarrs_chunk_questions.specs.Question.{parts, runs}
+use Rattle.zarrs_chunk_questions.specs.declared.call.OfBox.{OfBox}
+use Rattle.zarrs_chunk_questions.specs.declared.call.OfBox.TheVariants.{ChunksInArraySubset, ChunksSubset}
+use Rattle.zarrs_chunk_questions.specs.declared.call.OfNumbers.{OfNumbers}
+use Rattle.zarrs_chunk_questions.specs.declared.call.OfNumbers.TheVariants.{ArrayIndicesInbounds, ChunkIndicesInbounds}
+use Rattle.zarrs_chunk_questions.specs.declared.line_fault.LineFault.{LineFault}
+use Rattle.zarrs_chunk_questions.specs.declared.line_fault.LineFault.TheVariants.{Extension, Key, Lengths, Metadata, NotBox, Unreadable}
+use Rattle.zarrs_chunk_questions.specs.declared.unreadable.Unreadable.TheVariants.{NoCall}
+
+-- the fault tells that so many numbers were given, and others expected
+abbrev pub IsLengthFault : (given expected : ℕ) → LineFault → Type 0
+IsLengthFault given expected (Lengths e) = (given ≢ expected) × TellsLengths given expected e
+IsLengthFault _ _ _ = ⊥
+
+-- the fault tells why a tree is no extension's metadata
+abbrev pub IsNoExtension : Data → LineFault → Type 0
+IsNoExtension tree fault = (error : MetadataError) × (fault ≡ Metadata error) × IsMetadataFault tree error
+
+-- the fault tells why an extension gives nothing
+abbrev pub IsNotMade : (IsSaid → PluginCreateError → Type 0) → Data → LineFault → Type 0
+IsNotMade IsFaultOf tree fault =
+    (error : PluginCreateError) × (fault ≡ Extension error) × (e : IsSaid) × IsExtension tree e × IsFaultOf e error
+
+-- why a tree gives no grid of an array of a shape: it is no extension's metadata; or the grid can't be made
+abbrev pub IsNoGrid : Data → List ℕ → LineFault → Type 0
+IsNoGrid tree shape fault = IsNoExtension tree fault ⊎ IsNotMade (λ e. IsGridFault e shape) tree fault
+
+-- the same of an encoding
+abbrev pub IsNoEncoding : Data → LineFault → Type 0
+IsNoEncoding tree fault = IsNoExtension tree fault ⊎ IsNotMade IsEncodingFault tree fault
+
+-- why a start and a shape make no box
+abbrev pub IsNoBox : Box → LineFault → Type 0
+IsNoBox b (NotBox error) = IsBoxFault b.start b.shape error
+IsNoBox _ _ = ⊥
+
+-- a text that is no store key, which is handed back
+abbrev pub IsNoKey : List ℕ → LineFault → Type 0
+IsNoKey text (Key error) = EndsInSlash text × (string_bytes error.0 ≡ text)
+IsNoKey _ _ = ⊥
+
+-- a grid of another kind hasn't the call
+abbrev pub IsNotOfKind : (name : List ℕ) → GridKind → LineFault → Type 0
+IsNotOfKind name kind (Unreadable (NoCall told)) = (kind ≢ rectilinear) × (string_bytes told ≡ name)
+IsNotOfKind _ _ _ = ⊥
+
+-- the call refuses a list of another length, but for the two that answer `false` then
+abbrev pub IsNumbersRefusal : OfNumbers → (given expected : ℕ) → LineFault → Type 0
+IsNumbersRefusal ChunkIndicesInbounds _ _ fault = ⊥
+IsNumbersRefusal ArrayIndicesInbounds _ _ fault = ⊥
+IsNumbersRefusal _ given expected fault = IsLengthFault given expected fault
+
+-- the fault is the error that a call may answer
+abbrev pub IsErrorOf : {X : Type 0} → (Result (Option X) (Refusal IncompatibleDimensionalityError) → Type 0) → LineFault → Type 0
+IsErrorOf MayAnswer (Lengths e) = MayAnswer (Err (Refused e))
+IsErrorOf _ _ = ⊥
+
+abbrev pub IsBoxRefusal : OfBox → List Dimension → Box → LineFault → Type 0
+IsBoxRefusal ChunksSubset ds chunks = IsErrorOf (AnswersChunksSubset ds chunks)
+IsBoxRefusal ChunksInArraySubset ds elements = IsErrorOf (AnswersCoverOf ds elements)
+
+-- there is no encoding; or the index has another number of dimensions
+abbrev pub IsLocatedRefusal : Data → (given expected : ℕ) → LineFault → Type 0
+IsLocatedRefusal tree given expected fault =
+    IsNoEncoding tree fault ⊎ ((encoding : Encoding) × IsEncodingIn tree encoding × IsLengthFault given expected fault)
+
+-- why a plan has no parts
+abbrev pub IsPartsRefusal : List Dimension → (List ℕ → List ℕ → Type 0) → Box → LineFault → Type 0
+IsPartsRefusal ds HasKey b fault = (first most : ℕ) × IsErrorOf (AnswersPartsOf ds HasKey b first most) fault
+
+-- there is no encoding; or no box; or the box has another number of dimensions
+abbrev pub IsSomePartsRefusal : Data → Lists → Grid → LineFault → Type 0
+IsSomePartsRefusal tree lists grid fault =
+    IsNoEncoding tree fault
+    ⊎ ((encoding : Encoding) × IsEncodingIn tree encoding
+    × (IsNoBox (box_of lists) fault ⊎ (IsBox (box_of lists) × IsPartsRefusal grid.dimensions (IsKey encoding) (box_of lists) fault)))
+
+-- Why the grid of an array has no answer. Nothing is said yet of walks and of rechunkings.
+abbrev pub IsArrayRefusal : Asked → GridKind → Grid → LineFault → Type 0
+IsArrayRefusal (of_grid call) kind grid fault = ⊥
+IsArrayRefusal (of_numbers call numbers) kind grid fault = IsNumbersRefusal call (length numbers) (length grid.dimensions) fault
+IsArrayRefusal (of_box call lists) kind grid fault =
+    IsNoBox (box_of lists) fault ⊎ (IsBox (box_of lists) × IsBoxRefusal call grid.dimensions (box_of lists) fault)
+IsArrayRefusal (runs dimension) kind grid fault = IsNotOfKind (codes "runs") kind fault
+IsArrayRefusal (counted index) kind grid fault =
+    IsNotOfKind (codes "chunk_indices_counted") kind fault ⊎ ((kind ≡ rectilinear) × IsLengthFault (length index) (length grid.dimensions) fault)
+IsArrayRefusal (located tree index) kind grid fault = IsLocatedRefusal tree (length index) (length grid.dimensions) fault
+IsArrayRefusal (parts tree items lists) kind grid fault = IsSomePartsRefusal tree lists grid fault
+IsArrayRefusal _ kind grid fault = Unit {0}
+
+-- Why a question has no answer.
+abbrev pub IsRefusal : Question → LineFault → Type 0
+IsRefusal (of_array shape tree asked) fault =
+    IsNoGrid tree shape fault ⊎ ((kind : GridKind) × (grid : Grid) × IsGridIn tree shape kind grid × IsArrayRefusal asked kind grid fault)
+IsRefusal (encode tree chunk) fault = IsNoEncoding tree fault
+IsRefusal (decode tree key dimensionality) fault =
+    IsNoEncoding tree fault ⊎ ((encoding : Encoding) × IsEncodingIn tree encoding × IsNoKey key fault)

@@ -1,0 +1,46 @@
+-- What the steps leave that make a line.
+use Rattle.std.specs.Prelude.{◌≡◌, ◌⊎◌, ℕ, List, Result, Ok, Err, false}
+use Rattle.serde_json.specs.Data.{Data}
+use Rattle.serde_json.specs.View.{view}
+use Rattle.serde_json.specs.Written.{compact_text, has_float}
+use Rattle.serde_json.specs.declared.value.Value.{Value}
+use Rattle.zarrs_chunk_base.specs.declared.refusal.Refusal.{Refusal}
+use Rattle.zarrs_chunk_base.specs.declared.refusal.Refusal.TheVariants.{Refused, Memory}
+use Rattle.zarrs_chunk_questions.specs.AnswerLine.{IsTextOf, Tells}
+use Rattle.zarrs_chunk_questions.specs.Answers.{IsAnswer}
+use Rattle.zarrs_chunk_questions.specs.Question.{IsReading, Question}
+use Rattle.zarrs_chunk_questions.specs.Reading.{Fault, not_json}
+use Rattle.zarrs_chunk_questions.specs.Refused.{IsRefusal}
+use Rattle.zarrs_chunk_questions.specs.declared.line_fault.LineFault.{LineFault}
+use Rattle.zarrs_chunk_questions.specs.declared.line_fault.LineFault.TheVariants.{Unreadable as UnreadableFault}
+use Rattle.zarrs_chunk_questions.specs.declared.unreadable.Unreadable.{Unreadable}
+use Rattle.zarrs_chunk_questions.specs.seen.Read.{fault_of}
+
+-- the fault is that the line can't be read, and why
+abbrev pub IsUnreadableAs : LineFault → Fault → Type 0
+IsUnreadableAs fault why = (told : Unreadable) × (fault ≡ UnreadableFault told) × (fault_of told ≡ why)
+
+-- the answer of a tree
+abbrev pub IsTreeAnswer : Data → Data → Type 0
+IsTreeAnswer d tree = (question : Question) × IsReading d (Ok question) × IsAnswer question tree
+
+-- why a tree has no answer
+abbrev pub IsTreeFault : Data → LineFault → Type 0
+IsTreeFault d fault =
+    ((why : Fault) × IsReading d (Err why) × IsUnreadableAs fault why)
+    ⊎ ((question : Question) × IsReading d (Ok question) × IsRefusal question fault)
+
+-- the answer of a line, as a tree
+abbrev pub IsLineAnswer : List ℕ → Data → Type 0
+IsLineAnswer line tree = (d : Data) × IsTextOf line d × IsTreeAnswer d tree
+
+-- why a line has no answer
+abbrev pub IsLineFault : List ℕ → LineFault → Type 0
+IsLineFault line fault =
+    (((d : Data) → ¬ IsTextOf line d) × IsUnreadableAs fault not_json) ⊎ ((d : Data) × IsTextOf line d × IsTreeFault d fault)
+
+-- the text of an answer, or of why there is none
+abbrev pub IsAnswerText : Result Value (Refusal LineFault) → List ℕ → Type 0
+IsAnswerText (Ok tree) text = has_float (view tree) ≡ false → text ≡ compact_text (view tree)
+IsAnswerText (Err (Refused fault)) text = Tells fault text
+IsAnswerText (Err (Memory _)) text = ⊥

@@ -1,0 +1,53 @@
+-- What values of the program stand for that hold a question, or why there is none.
+use Rattle.std.specs.Prelude.{◌≡◌, ℕ, option_map, Result, Ok, Err, Vec, MatchResult, string_bytes}
+use Rattle.std.specs.declared.alloc.Global.{Global}
+use Rattle.serde_json.specs.View.{view}
+use Rattle.zarrs_chunk_base.specs.Refusal.{OrMemory}
+use Rattle.zarrs_chunk_base.specs.declared.refusal.Refusal.{Refusal}
+use Rattle.zarrs_chunk_questions.specs.Question as question
+use Rattle.zarrs_chunk_questions.specs.Reading.{Fault, Reading, missing, no_call, not_json, not_object, wrong_value}
+use Rattle.zarrs_chunk_questions.specs.declared.asked.Asked.{Asked}
+use Rattle.zarrs_chunk_questions.specs.declared.asked.Asked.TheVariants as asked
+use Rattle.zarrs_chunk_questions.specs.declared.asked.Items.{Items}
+use Rattle.zarrs_chunk_questions.specs.declared.asked.Target.{Target}
+use Rattle.zarrs_chunk_questions.specs.declared.question.Question.{Question}
+use Rattle.zarrs_chunk_questions.specs.declared.question.Question.TheVariants as asks
+use Rattle.zarrs_chunk_questions.specs.declared.unreadable.Unreadable.{Unreadable}
+use Rattle.zarrs_chunk_questions.specs.declared.unreadable.Unreadable.TheVariants.{Missing, NoCall, NotJson, NotObject, WrongValue}
+
+abbrev pub fault_of : Unreadable → Fault
+fault_of NotJson = not_json
+fault_of NotObject = not_object
+fault_of (Missing field) = missing field.now
+fault_of (WrongValue field) = wrong_value field.now
+fault_of (NoCall name) = no_call (string_bytes name)
+
+-- what was read is what the definition says; or there was no memory
+abbrev pub IsRead : {X Y : Type 0} → (X → Y) → Reading Y → Result X (Refusal Unreadable) → Type 0
+IsRead seen reading result = MatchResult result (λ x. reading ≡ Ok (seen x)) (OrMemory (λ fault. reading ≡ Err (fault_of fault)))
+
+abbrev pub lists_of : Vec ℕ Global × Vec ℕ Global → question.Lists
+lists_of both = (both.0.items, both.1.items)
+
+abbrev pub items_of : Items → question.Items
+items_of items = record { most = items.most; first = items.first }
+
+abbrev pub target_of : Target → question.Metadata
+target_of target = record { chunk_grid = view target.chunk_grid.now; chunk_key_encoding = view target.chunk_key_encoding.now }
+
+abbrev pub asked_of : Asked → question.Asked
+asked_of (asked.OfGrid call) = question.of_grid call
+asked_of (asked.OfNumbers call numbers) = question.of_numbers call numbers.items
+asked_of (asked.OfBox call lists) = question.of_box call (lists_of lists)
+asked_of (asked.OfWalk walk items) = question.of_walk walk (items_of items)
+asked_of (asked.Runs dimension) = question.runs dimension
+asked_of (asked.Counted index) = question.counted index.items
+asked_of (asked.Located encoding index) = question.located (view encoding.now) index.items
+asked_of (asked.Parts encoding items lists) = question.parts (view encoding.now) (items_of items) (lists_of lists)
+asked_of (asked.Copies encoding target items chunks) =
+    question.copies (view encoding.now) (target_of target) (items_of items) (option_map lists_of chunks)
+
+abbrev pub question_of : Question → question.Question
+question_of (asks.OfArray shape chunk_grid asked) = question.of_array shape.items (view chunk_grid.now) (asked_of asked)
+question_of (asks.Encode encoding chunk) = question.encode (view encoding.now) chunk.items
+question_of (asks.Decode encoding key dimensionality) = question.decode (view encoding.now) (string_bytes key) dimensionality

@@ -1,0 +1,176 @@
+//! What is asked of the grid of an array, and what answers it.
+ghost use Rattle.std.specs.Prelude.{◌≡◌, IfSome, MatchResult, length};
+ghost use Rattle.serde_json.specs.View.{view};
+ghost use Rattle.zarrs_chunk_base.specs.Refusal.{OrMemory};
+ghost use Rattle.zarrs_chunk_keys.specs.ChunkKey.{Encoding};
+ghost use Rattle.zarrs_chunks.specs.seen.Grids.{grid_in, kind_in};
+ghost use Rattle.zarrs_chunk_questions.specs.Answers.{IsArrayAnswer, IsEncodingIn, IsLocatedAnswer, IsSomePartsAnswer};
+ghost use Rattle.zarrs_chunk_questions.specs.Refused.{IsArrayRefusal, IsLocatedRefusal, IsSomePartsRefusal};
+ghost use Rattle.zarrs_chunk_questions.specs.seen.Read.{asked_of, items_of, lists_of};
+
+use crate::asked::{Asked, Items, Lists, Target};
+use crate::call::WalkOf;
+use crate::extensions::{box_of, make_encoding};
+use crate::grid_answers::{answer_alone, answer_box, answer_numbers};
+use crate::line_fault::LineFault;
+use crate::pages::{items_from, parts_from};
+use crate::rechunking::{copies_from, make_target};
+use crate::rectilinear_answers::{answer_counted, answer_runs, expect_rectilinear};
+use crate::trees::{found, located_tree};
+use crate::walk_items::{Limits, first_items};
+use serde_json::Value;
+use std::alloc::Global;
+use zarrs_chunk_base::Refusal;
+use zarrs_chunk_plan::{StoredArray, all_chunks};
+use zarrs_chunks::{ChunkGrid, ChunkGridTraits, locate};
+
+/// What the grid of an array with this shape answers; `None` where the items of a walk are longer than there is room for.
+///
+/// # Errors
+/// The first that applies: the grid's kind hasn't the call; an encoding, a target or a box that the call is asked of can't be made, in this order;
+/// the call refuses. Or out of memory.
+pub(crate) fn answer_asked(
+    alloc: Global,
+    shape: &[u64],
+    grid: ChunkGrid,
+    asked: Asked<'_>,
+    room: usize,
+) -> Result<Option<Value>, Refusal<LineFault>>
+    ensures { MatchResult result (λ found. IfSome found (λ tree.
+        IsArrayAnswer (asked_of asked.entry) (kind_in grid) (grid_in grid) (view tree)))
+        (OrMemory (IsArrayRefusal (asked_of asked.entry) (kind_in grid) (grid_in grid))) }
+{
+    match asked {
+        Asked::OfGrid(call) => Ok(Some(answer_alone(alloc, call, &grid)?)),
+        Asked::OfNumbers(call, numbers) => {
+            Ok(Some(answer_numbers(alloc, call, &grid, &numbers)?))
+        }
+        Asked::OfBox(call, lists) => match box_of(lists) {
+            Ok(subset) => Ok(Some(answer_box(alloc, call, &grid, &subset)?)),
+            Err(fault) => Err(Refusal::Refused(fault)),
+        },
+        Asked::OfWalk(walk, items) => some_items(alloc, &grid, walk, items, room),
+        Asked::Runs(dimension) => {
+            let grid = expect_rectilinear(alloc, "runs", grid)?;
+            Ok(Some(answer_runs(&grid, dimension)))
+        }
+        Asked::Counted(index) => {
+            let grid = expect_rectilinear(alloc, "chunk_indices_counted", grid)?;
+            Ok(Some(answer_counted(alloc, &grid, &index)?))
+        }
+        Asked::Located(encoding, index) => {
+            Ok(Some(answer_located(alloc, &grid, encoding, &index)?))
+        }
+        Asked::Parts(encoding, items, lists) => {
+            some_parts(alloc, &grid, encoding, items, lists, room)
+        }
+        Asked::Copies(encoding, target, items, chunks) => {
+            some_copies(alloc, shape, grid, (encoding, target), items, chunks, room)
+        }
+    }
+}
+
+/// Where the grid's array stores an element.
+///
+/// # Errors
+/// The first that applies: the encoding can't be made; there are more or fewer indices than dimensions. Or out of memory.
+fn answer_located(
+    alloc: Global,
+    grid: &ChunkGrid,
+    encoding_tree: &Value,
+    index: &[u64],
+) -> Result<Value, Refusal<LineFault>>
+    ensures { MatchResult result
+        (λ tree. (encoding : Encoding) × IsEncodingIn (view encoding_tree.now) encoding
+        × IsLocatedAnswer (grid_in grid.now) encoding index.now (view tree))
+        (OrMemory (IsLocatedRefusal (view encoding_tree.now) (length index.now)
+        (length (grid_in grid.now).dimensions))) }
+{
+    let encoding = make_encoding(alloc, encoding_tree)?;
+    match found(locate(alloc, grid, &encoding, index))? {
+        Some(located) => Ok(located_tree(alloc, &located)?),
+        None => Ok(Value::Null),
+    }
+}
+
+/// Some of the items of a walk.
+fn some_items(
+    alloc: Global,
+    grid: &ChunkGrid,
+    walk: WalkOf,
+    items: Items,
+    room: usize,
+) -> Result<Option<Value>, Refusal<LineFault>> {
+    let limits = limits_of(grid, items, walk.lists(), room);
+    if let Some(first) = items.first {
+        return items_from(alloc, grid, walk, first, &limits);
+    }
+    match walk {
+        WalkOf::Chunks => Ok(first_items(alloc, grid.iter_chunk_indices(alloc), &limits)?),
+        WalkOf::Boxes => Ok(first_items(alloc, grid.iter_chunk_subsets(alloc), &limits)?),
+        WalkOf::ChunksAndBoxes => Ok(first_items(
+            alloc,
+            grid.iter_chunk_indices_and_subsets(alloc),
+            &limits,
+        )?),
+    }
+}
+
+/// How many items are given that have so many lists of a number for each dimension.
+fn limits_of(grid: &ChunkGrid, items: Items, lists: usize, room: usize) -> Limits
+    ensures { result.most ≡ items.most }
+{
+    let numbers = grid.dimensionality().saturating_mul(lists);
+    Limits::new(items.most, numbers, room)
+}
+
+/// Some of the parts of the plan of reading a box of elements of the grid's array.
+///
+/// # Errors
+/// The first that applies: the encoding can't be made; the start and the shape make no box; the box has another number of dimensions. Or out of
+/// memory.
+fn some_parts(
+    alloc: Global,
+    grid: &ChunkGrid,
+    encoding_tree: &Value,
+    items: Items,
+    lists: Lists,
+    room: usize,
+) -> Result<Option<Value>, Refusal<LineFault>>
+    ensures { MatchResult result (λ found. IfSome found (λ tree. IsSomePartsAnswer
+        (view encoding_tree.now) (items_of items) (lists_of lists) (grid_in grid.now) (view tree)))
+        (OrMemory (IsSomePartsRefusal (view encoding_tree.now) (lists_of lists)
+        (grid_in grid.now))) }
+{
+    let encoding = make_encoding(alloc, encoding_tree)?;
+    let elements = match box_of(lists) {
+        Ok(elements) => elements,
+        Err(fault) => return Err(Refusal::Refused(fault)),
+    };
+    let limits = limits_of(grid, items, 5, room);
+    let first = items.first.unwrap_or(0);
+    parts_from(alloc, grid, &encoding, &elements, first, &limits)
+}
+
+/// Some of the groups of the plan of a rechunking of the grid's array.
+fn some_copies(
+    alloc: Global,
+    shape: &[u64],
+    grid: ChunkGrid,
+    (encoding, target): (&Value, Target<'_>),
+    items: Items,
+    chunks: Option<Lists>,
+    room: usize,
+) -> Result<Option<Value>, Refusal<LineFault>> {
+    let limits = limits_of(&grid, items, 5, room);
+    let encoding = make_encoding(alloc, encoding)?;
+    let source = StoredArray { grid, encoding };
+    let target = make_target(alloc, &target, shape)?;
+    let chunks = match chunks.map(box_of) {
+        Some(Ok(chunks)) => chunks,
+        Some(Err(fault)) => return Err(Refusal::Refused(fault)),
+        None => all_chunks(alloc, &target.grid)?,
+    };
+    let first = items.first.unwrap_or(0);
+    copies_from(alloc, &source, &target, &chunks, first, &limits)
+}

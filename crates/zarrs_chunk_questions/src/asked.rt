@@ -1,0 +1,183 @@
+//! What an array's grid is asked.
+ghost use Rattle.std.specs.Prelude.{codes};
+ghost use Rattle.serde_json.specs.View.{view};
+ghost use Rattle.zarrs_chunk_questions.specs.Question.{asked_in, encoding_in, items_in, lists_in, numbers_in, of_target as member_of, target_in};
+ghost use Rattle.zarrs_chunk_questions.specs.seen.Read.{IsRead, asked_of, items_of, lists_of, target_of};
+ghost use Rattle.zarrs_chunk_questions.specs.declared.call.OfArray.TheVariants.{Copies, Locate, Parts};
+
+use crate::call::{OfArray, OfBox, OfGrid, OfNumbers, WalkOf};
+use crate::reading::{optional_in, required, required_in};
+use crate::unreadable::Unreadable;
+use serde_json::Value;
+use std::alloc::Global;
+use zarrs_chunk_base::{Refusal, TreeForm};
+
+/// A box, as its start and its shape say it.
+pub(crate) type Lists = (Vec<u64>, Vec<u64>);
+
+/// What an array's grid is asked, by some calls with the tree of an encoding's metadata.
+#[derive(Drop)]
+pub(crate) enum Asked<'t> {
+    OfGrid(OfGrid),
+    OfNumbers(OfNumbers, Vec<u64>),
+    OfBox(OfBox, Lists),
+    OfWalk(WalkOf, Items),
+    /// How many runs a dimension has.
+    Runs(u64),
+    /// The chunk of an index, and how many comparisons that took.
+    Counted(Vec<u64>),
+    /// Where an element is stored.
+    Located(&'t Value, Vec<u64>),
+    /// Some of the parts of the plan of reading a box.
+    Parts(&'t Value, Items, Lists),
+    /// Some of the groups of the plan of a rechunking, into the chunks of a box, where one is given.
+    Copies(&'t Value, Target<'t>, Items, Option<Lists>),
+}
+
+/// Which items of a walk are asked for.
+#[derive(Clone, Copy, Drop)]
+pub(crate) struct Items {
+    /// How many at most.
+    pub(crate) most: u64,
+    /// The number of the first one, counted from 0; `None` for a walk from its beginning.
+    pub(crate) first: Option<u64>,
+}
+
+/// How an array is to be stored: the trees of a grid's and an encoding's metadata.
+#[derive(Clone, Copy, Drop)]
+pub(crate) struct Target<'t> {
+    pub(crate) chunk_grid: &'t Value,
+    pub(crate) chunk_key_encoding: &'t Value,
+}
+
+impl<'t> Asked<'t> {
+    /// What a call of a grid reads of a line's tree.
+    ///
+    /// # Errors
+    /// The first that applies, in the order in which the members are read here: one that has to be there is missing; one isn't of its
+    /// form. Or out of memory.
+    pub(crate) fn from_tree(
+        alloc: Global,
+        call: OfArray,
+        tree: &'t Value,
+    ) -> Result<Asked<'t>, Refusal<Unreadable>>
+        ensures { IsRead asked_of (asked_in call (view tree.now)) result }
+    {
+        match call {
+            OfArray::OfGrid(call) => Ok(Asked::OfGrid(call)),
+            OfArray::OfNumbers(call) => Ok(Asked::OfNumbers(call, numbers(alloc, tree)?)),
+            OfArray::OfBox(call) => Ok(Asked::OfBox(call, lists(alloc, "of", tree)?)),
+            OfArray::OfWalk(walk) => Ok(Asked::OfWalk(walk, Items::from_tree(alloc, tree)?)),
+            OfArray::Runs => Ok(Asked::Runs(required_in(alloc, "of", tree)?)),
+            OfArray::ChunkIndicesCounted => Ok(Asked::Counted(numbers(alloc, tree)?)),
+            OfArray::Locate => located(alloc, tree),
+            OfArray::Parts => parts(alloc, tree),
+            OfArray::Copies => copies(alloc, tree),
+        }
+    }
+}
+
+/// The numbers that a call is asked of.
+pub(crate) fn numbers(alloc: Global, tree: &Value) -> Result<Vec<u64>, Refusal<Unreadable>>
+    ensures { IsRead (λ numbers. numbers.items) (numbers_in (view tree.now)) result }
+{
+    required_in(alloc, "of", tree)
+}
+
+/// A member that is the start and the shape of a box.
+fn lists(alloc: Global, field: &'static str, tree: &Value) -> Result<Lists, Refusal<Unreadable>>
+    ensures { IsRead lists_of (lists_in field.now (view tree.now)) result }
+{
+    required_in(alloc, field, tree)
+}
+
+/// The tree of the metadata of an encoding.
+pub(crate) fn encoding(tree: &Value) -> Result<&Value, Refusal<Unreadable>>
+    ensures { IsRead (λ value. view value.now) (encoding_in (view tree.now)) result }
+{
+    required(tree, "chunk_key_encoding")
+}
+
+/// What `locate` is asked of.
+fn located<'t>(alloc: Global, tree: &'t Value) -> Result<Asked<'t>, Refusal<Unreadable>>
+    ensures { IsRead asked_of (asked_in Locate (view tree.now)) result }
+{
+    let encoding = encoding(tree)?;
+    let index = numbers(alloc, tree)?;
+    Ok(Asked::Located(encoding, index))
+}
+
+/// What `parts` is asked of.
+fn parts<'t>(alloc: Global, tree: &'t Value) -> Result<Asked<'t>, Refusal<Unreadable>>
+    ensures { IsRead asked_of (asked_in Parts (view tree.now)) result }
+{
+    let encoding = encoding(tree)?;
+    let items = Items::from_tree(alloc, tree)?;
+    let elements = lists(alloc, "of", tree)?;
+    Ok(Asked::Parts(encoding, items, elements))
+}
+
+/// What `copies` is asked of.
+fn copies<'t>(alloc: Global, tree: &'t Value) -> Result<Asked<'t>, Refusal<Unreadable>>
+    ensures { IsRead asked_of (asked_in Copies (view tree.now)) result }
+{
+    let encoding = encoding(tree)?;
+    let target = Target::from_tree(tree)?;
+    let items = Items::from_tree(alloc, tree)?;
+    let chunks = optional_in(alloc, "chunks", tree)?;
+    Ok(Asked::Copies(encoding, target, items, chunks))
+}
+
+impl Items {
+    /// The items that a line asks for.
+    ///
+    /// # Errors
+    /// The first that applies: `items` is missing or no size; `first` is no size. Or out of memory.
+    pub(crate) fn from_tree(alloc: Global, tree: &Value) -> Result<Items, Refusal<Unreadable>>
+        ensures { IsRead items_of (items_in (view tree.now)) result }
+    {
+        let most = required_in(alloc, "items", tree)?;
+        let first = optional_in(alloc, "first", tree)?;
+        Ok(Items { most, first })
+    }
+}
+
+impl<'t> Target<'t> {
+    /// The target that a line asks for: its member `target`. What else that has says nothing.
+    ///
+    /// # Errors
+    /// The first that applies: `target` is missing, or no object; it has no `chunk_grid`; it has no `chunk_key_encoding`.
+    pub(crate) fn from_tree(tree: &'t Value) -> Result<Target<'t>, Refusal<Unreadable>>
+        ensures { IsRead target_of (target_in (view tree.now)) result }
+    {
+        let target = required(tree, "target")?;
+        if !target.is_object() {
+            return Err(Refusal::Refused(Unreadable::WrongValue("target")));
+        }
+        let chunk_grid = of_target("chunk_grid", "target.chunk_grid", target)?;
+        let chunk_key_encoding = of_target(
+            "chunk_key_encoding",
+            "target.chunk_key_encoding",
+            target,
+        )?;
+        Ok(Target {
+            chunk_grid,
+            chunk_key_encoding,
+        })
+    }
+}
+
+/// A member that a target has to have, which a fault calls by its path.
+fn of_target<'t>(
+    field: &str,
+    path: &'static str,
+    target: &'t Value,
+) -> Result<&'t Value, Refusal<Unreadable>>
+    ensures { IsRead (λ value. view value.now) (member_of field.now path.now (view target.now))
+        result }
+{
+    match target.get(field) {
+        Some(value) => Ok(value),
+        None => Err(Refusal::Refused(Unreadable::Missing(path))),
+    }
+}
