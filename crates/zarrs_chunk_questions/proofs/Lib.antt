@@ -3,3 +3,8 @@ pub mod Refusals
 pub mod LineFeeds
 pub mod AnswerLines
 pub mod SomeItems
+pub mod Groups
+pub mod Listed
+pub mod OfTargets
+pub mod WalkPages
+pub mod CopiesAsked

@@ -14,7 +14,7 @@ use Rattle.zarrs_chunk_keys.specs.declared.chunk_key_encoding.named.ChunkKeyEnco
 use Rattle.zarrs_chunks.specs.Subsets.{LookedBox}
 use Rattle.zarrs_chunks.specs.seen.Grids.{grid_in, kind_in}
 use Rattle.zarrs_chunks.specs.declared.chunk_grid.named.ChunkGrid.{ChunkGrid}
-use Rattle.zarrs_chunk_questions.specs.Answers.{IsEncodingIn, IsGridIn, Says, box_tree, or_null}
+use Rattle.zarrs_chunk_questions.specs.Trees.{IsEncodingIn, IsGridIn, Says, box_tree, or_null}
 use Rattle.zarrs_chunk_questions.specs.Refused.{IsErrorOf, IsLengthFault, IsNoEncoding, IsNoExtension, IsNoGrid}
 use Rattle.zarrs_chunk_questions.specs.seen.Found.{TellsError}
 use Rattle.zarrs_chunk_questions.specs.declared.line_fault.LineFault.{LineFault}

@@ -20,8 +20,9 @@ use Rattle.zarrs_chunks.specs.Walks.{chunks_in}
 use Rattle.zarrs_chunk_plan.specs.Plan.{IsPart}
 use Rattle.zarrs_chunk_plan.specs.SomeParts.{AreSomeParts}
 use Rattle.zarrs_chunk_plan.specs.declared.numbered_parts.SomeParts.{SomeParts}
-use Rattle.zarrs_chunk_questions.specs.Answers.{AnswersPartsOf, IsEncodingIn, IsPartsAnswer, IsSomePartsAnswer, box_of, first_of, is_more, page_tree}
-use Rattle.zarrs_chunk_questions.specs.Answers.{part_tree}
+use Rattle.zarrs_chunk_questions.specs.Pages.{AnswersPartsOf, IsPartsAnswer, IsSomePartsAnswer, first_of, is_more, page_tree}
+use Rattle.zarrs_chunk_questions.specs.Trees.{IsEncodingIn, box_of}
+use Rattle.zarrs_chunk_questions.specs.Pages.{part_tree}
 use Rattle.zarrs_chunk_questions.specs.Question.{Items, Lists}
 use Rattle.zarrs_chunk_questions.specs.Refused.{IsPartsRefusal, IsSomePartsRefusal}
 use Rattle.zarrs_chunk_questions.specs.seen.Found.{TellsError}

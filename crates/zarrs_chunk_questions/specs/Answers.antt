@@ -1,39 +1,32 @@
 -- What the answer of each question is, as a tree.
 -- Sources: Zarr V3 core, chunk grids and chunk key encodings; the forms of the answers are this library's own.
-use Rattle.std.specs.Prelude.{◌≡◌, ◌≢◌, ◌↔◌, ◌⊎◌, ℕ, Bool, IsTrue, IsSome, List, [], ◌∷◌, length, map, codes, nat_lt, ◌+◌, unwrap_or, Option, Result}
-use Rattle.std.specs.Prelude.{Ok, Vec}
+use Rattle.std.specs.Prelude.{◌≡◌, ◌≢◌, ◌↔◌, ◌⊎◌, ℕ, Bool, IsTrue, IsSome, List, length, map, codes, Option, Ok, Vec}
 use Rattle.std.specs.Int.NonZero.{non_zero_u64_get}
 use Rattle.std.specs.List.{slice_get}
-use Rattle.std.specs.Option.{option_map_or}
 use Rattle.std.specs.declared.alloc.Global.{Global}
 use Rattle.std.specs.declared.num.NonZeroU64.{NonZeroU64}
-use Rattle.serde_json.specs.Data.{Data, Members, array, boolean, member, no_members, null, object, string}
-use Rattle.serde_json.specs.View.{items_of}
+use Rattle.serde_json.specs.Data.{Data, Members, boolean, member, no_members, object, string}
 use Rattle.zarrs_chunk_base.specs.ArraySubset.{Box, IsBox, IsEmptyBox}
 use Rattle.zarrs_chunk_base.specs.Dimension.{Dimension, array_sizes, grid_sizes}
 use Rattle.zarrs_chunk_base.specs.Grid.{Grid}
-use Rattle.zarrs_chunk_base.specs.Json.{list_tree, size_tree}
-use Rattle.zarrs_chunk_base.specs.Kinds.{IsConfigurationOf, IsMetadata, IsOf}
-use Rattle.zarrs_chunk_base.specs.Metadata.{Extension, IsExtension, extension_tree}
+use Rattle.zarrs_chunk_base.specs.Json.{size_tree}
+use Rattle.zarrs_chunk_base.specs.Kinds.{IsConfigurationOf, IsMetadata}
+use Rattle.zarrs_chunk_base.specs.Metadata.{Extension, extension_tree}
 use Rattle.zarrs_chunk_base.specs.Refusal.{AnswersOrMemory}
 use Rattle.zarrs_chunk_base.specs.StoreKey.{EndsInSlash}
-use Rattle.zarrs_chunk_base.specs.declared.incompatible_dimensionality_error.IncompatibleDimensionalityError.{IncompatibleDimensionalityError}
-use Rattle.zarrs_chunk_base.specs.declared.refusal.Refusal.{Refusal}
 use Rattle.zarrs_chunk_axes.specs.Counted.{AreCounted, HasOneForEach, TellsRuns}
 use Rattle.zarrs_chunk_axes.specs.InBounds.{AreInBounds, AreIndicesInBounds}
 use Rattle.zarrs_chunk_axes.specs.LookUp.{AnswersChunk, AnswersOrigin, AnswersPlace, AnswersShape, AnswersShapeNumbers}
 use Rattle.zarrs_chunk_keys.specs.ChunkKey.{Encoding, IsKey}
 use Rattle.zarrs_chunk_keys.specs.Decoded.{IsDecoded}
-use Rattle.zarrs_chunk_keys.specs.KeyKinds.{IsEncoding}
 use Rattle.zarrs_chunks.specs.GridKinds.{GridKind, grid_kind, rectilinear}
 use Rattle.zarrs_chunks.specs.Located.{IsLocated}
 use Rattle.zarrs_chunks.specs.Subsets.{AnswersChunksSubset, AnswersCover, AnswersEmptyCover, AnswersSubset, HasNoHome, LookedBox}
 use Rattle.zarrs_chunks.specs.declared.location.Located.{Located}
-use Rattle.zarrs_chunk_plan.specs.SomeParts.{AnswersNone, AnswersSome}
-use Rattle.zarrs_chunk_plan.specs.declared.numbered_parts.SomeParts.{SomeParts}
-use Rattle.zarrs_chunk_plan.specs.declared.part.Part.{Part}
-use Rattle.zarrs_chunk_questions.specs.Question.{Asked, Items, Lists, Question, counted, decode, encode, located, of_array, of_box, of_grid}
-use Rattle.zarrs_chunk_questions.specs.Question.{of_numbers, parts, runs}
+use Rattle.zarrs_chunk_questions.specs.Pages.{IsSomeCopiesAnswer, IsSomePartsAnswer, walk_tree}
+use Rattle.zarrs_chunk_questions.specs.Question.{Asked, Question, copies, counted, decode, encode, located, of_array, of_box, of_grid, of_numbers}
+use Rattle.zarrs_chunk_questions.specs.Question.{of_walk, parts, runs}
+use Rattle.zarrs_chunk_questions.specs.Trees.{IsEncodingIn, IsGridIn, Says, box_of, box_tree, numbers_tree, or_null}
 use Rattle.zarrs_chunk_questions.specs.declared.call.OfBox.{OfBox}
 use Rattle.zarrs_chunk_questions.specs.declared.call.OfBox.TheVariants.{ChunksInArraySubset, ChunksSubset}
 use Rattle.zarrs_chunk_questions.specs.declared.call.OfGrid.{OfGrid}
@@ -41,32 +34,6 @@ use Rattle.zarrs_chunk_questions.specs.declared.call.OfGrid.TheVariants.{ArraySh
 use Rattle.zarrs_chunk_questions.specs.declared.call.OfNumbers.{OfNumbers}
 use Rattle.zarrs_chunk_questions.specs.declared.call.OfNumbers.TheVariants.{ArrayIndicesInbounds, ChunkElementIndices, ChunkIndices}
 use Rattle.zarrs_chunk_questions.specs.declared.call.OfNumbers.TheVariants.{ChunkIndicesInbounds, ChunkOrigin, ChunkShape, ChunkShapeNumbers, Subset}
-
--- ---- the forms
-
-abbrev pub numbers_tree : List ℕ → Data
-numbers_tree = list_tree size_tree
-
--- a box: its start and its shape
-abbrev pub box_tree : Box → Data
-box_tree b = list_tree numbers_tree (b.start ∷ b.shape ∷ [])
-
--- null, where there is nothing
-abbrev pub or_null : {X : Type 0} → (X → Data) → Option X → Data
-or_null tree answer = option_map_or tree answer null
-
--- The tree says an answer that the call may give.
-abbrev pub Says : {X E : Type 0} → (X → Data) → (Result (Option X) E → Type 0) → Data → Type 0
-Says {X} tree MayAnswer t = (answer : Option X) × MayAnswer (Ok answer) × (t ≡ or_null tree answer)
-
--- ---- what is made of metadata in a tree
-
--- the grid of this kind, of an array of a shape
-abbrev pub IsGridIn : Data → List ℕ → GridKind → Grid → Type 0
-IsGridIn tree shape kind grid = (e : Extension) × IsExtension tree e × IsOf (grid_kind kind) e shape grid
-
-abbrev pub IsEncodingIn : Data → Encoding → Type 0
-IsEncodingIn tree encoding = (e : Extension) × IsExtension tree e × IsEncoding e encoding
 
 -- ---- of a grid alone
 
@@ -102,9 +69,6 @@ IsNumbersAnswer ChunkIndicesInbounds grid chunk = IsTruthOf (AreInBounds (grid_s
 IsNumbersAnswer ArrayIndicesInbounds grid index = IsTruthOf (AreIndicesInBounds grid index)
 
 -- ---- of a box
-
-abbrev pub box_of : Lists → Box
-box_of lists = record { start = lists.0; shape = lists.1 }
 
 -- the cover of a box, that of an empty one, or why there is none
 abbrev pub AnswersCoverOf : List Dimension → Box → LookedBox → Type 0
@@ -146,45 +110,6 @@ IsLocatedAnswer grid encoding index =
     Says located_tree
     (AnswersOrMemory (length index) (length grid.dimensions) (IsLocated grid.dimensions (IsKey encoding) index) (HasNoHome grid.dimensions index))
 
--- ---- of a walk and of a plan, some items
-
--- some items, and whether more follow
-abbrev pub page_tree : List Data → Bool → Data
-page_tree items more = object (member (codes "items") (array (items_of items)) (member (codes "more") (boolean more) no_members))
-
--- of so many in all more follow behind these, from the first of them on
-abbrev pub is_more : (first count in_all : ℕ) → Bool
-is_more first count in_all = nat_lt (first + count) in_all
-
-abbrev pub part_tree : Part → Data
-part_tree part =
-    object (member (codes "chunk") (numbers_tree part.chunk.items)
-    (member (codes "in_chunk") (box_tree part.in_chunk)
-    (member (codes "in_subset") (box_tree part.in_subset)
-    (member (codes "key") (string part.key) no_members))))
-
-abbrev pub parts_tree : (first : ℕ) → SomeParts → Data
-parts_tree first some = page_tree (map part_tree some.parts.items) (is_more first (length some.parts.items) some.in_all)
-
--- parts of the plan of a box, none of an empty one, or why there are none
-abbrev pub AnswersPartsOf : List Dimension → (List ℕ → List ℕ → Type 0) → Box → (first most : ℕ)
-    → Result (Option SomeParts) (Refusal IncompatibleDimensionalityError) → Type 0
-AnswersPartsOf ds HasKey b first most answer =
-    (IsEmptyBox b → length ds ≢ 0 → AnswersNone answer) × ((¬ IsEmptyBox b) ⊎ (length ds ≡ 0) → AnswersSome ds HasKey b first most answer)
-
--- at most so many parts, from the one with this number on
-abbrev pub IsPartsAnswer : List Dimension → (List ℕ → List ℕ → Type 0) → Box → (first most : ℕ) → Data → Type 0
-IsPartsAnswer ds HasKey b first most = Says (parts_tree first) (AnswersPartsOf ds HasKey b first most)
-
--- the number of the first item: that of the beginning, where none is given
-abbrev pub first_of : Items → ℕ
-first_of items = unwrap_or items.first 0
-
-abbrev pub IsSomePartsAnswer : Data → Items → Lists → Grid → Data → Type 0
-IsSomePartsAnswer tree items lists grid t =
-    (encoding : Encoding) × IsEncodingIn tree encoding × IsBox (box_of lists)
-    × IsPartsAnswer grid.dimensions (IsKey encoding) (box_of lists) (first_of items) items.most t
-
 -- ---- of an encoding
 
 -- the key of a chunk
@@ -198,20 +123,23 @@ IsDecodedAnswer encoding key dimensionality t =
 
 -- ---- of a question
 
--- What the grid of an array answers. Nothing is said yet of walks and of rechunkings.
-abbrev pub IsArrayAnswer : Asked → GridKind → Grid → Data → Type 0
-IsArrayAnswer (of_grid call) kind grid t = IsGridAnswer call kind grid t
-IsArrayAnswer (of_numbers call numbers) kind grid t = IsNumbersAnswer call grid numbers t
-IsArrayAnswer (of_box call lists) kind grid t = IsBox (box_of lists) × IsBoxAnswer call grid.dimensions (box_of lists) t
-IsArrayAnswer (runs dimension) kind grid t = (kind ≡ rectilinear) × IsRunsAnswer grid dimension t
-IsArrayAnswer (counted index) kind grid t = (kind ≡ rectilinear) × IsCountedAnswer grid index t
-IsArrayAnswer (located tree index) kind grid t = (encoding : Encoding) × IsEncodingIn tree encoding × IsLocatedAnswer grid encoding index t
-IsArrayAnswer (parts tree items lists) kind grid t = IsSomePartsAnswer tree items lists grid t
-IsArrayAnswer _ kind grid t = Unit {0}
+-- What the grid of an array of this shape answers.
+abbrev pub IsArrayAnswer : (shape : List ℕ) → Asked → GridKind → Grid → Data → Type 0
+IsArrayAnswer shape (of_grid call) kind grid t = IsGridAnswer call kind grid t
+IsArrayAnswer shape (of_numbers call numbers) kind grid t = IsNumbersAnswer call grid numbers t
+IsArrayAnswer shape (of_box call lists) kind grid t = IsBox (box_of lists) × IsBoxAnswer call grid.dimensions (box_of lists) t
+IsArrayAnswer shape (of_walk walk items) kind grid t = t ≡ walk_tree walk grid.dimensions items
+IsArrayAnswer shape (runs dimension) kind grid t = (kind ≡ rectilinear) × IsRunsAnswer grid dimension t
+IsArrayAnswer shape (counted index) kind grid t = (kind ≡ rectilinear) × IsCountedAnswer grid index t
+IsArrayAnswer shape (located tree index) kind grid t =
+    (encoding : Encoding) × IsEncodingIn tree encoding × IsLocatedAnswer grid encoding index t
+IsArrayAnswer shape (parts tree items lists) kind grid t = IsSomePartsAnswer tree items lists grid t
+IsArrayAnswer shape (copies tree target items chunks) kind grid t = IsSomeCopiesAnswer shape tree target items chunks grid t
 
 -- The answer of a question.
 abbrev pub IsAnswer : Question → Data → Type 0
-IsAnswer (of_array shape tree asked) t = (kind : GridKind) × (grid : Grid) × IsGridIn tree shape kind grid × IsArrayAnswer asked kind grid t
+IsAnswer (of_array shape tree asked) t =
+    (kind : GridKind) × (grid : Grid) × IsGridIn tree shape kind grid × IsArrayAnswer shape asked kind grid t
 IsAnswer (encode tree chunk) t = (encoding : Encoding) × IsEncodingIn tree encoding × IsKeyAnswer encoding chunk t
 IsAnswer (decode tree key dimensionality) t =
     (encoding : Encoding) × IsEncodingIn tree encoding × (¬ EndsInSlash key) × IsDecodedAnswer encoding key dimensionality t

@@ -2,7 +2,9 @@ pub mod AnswerLine
 pub mod Answers
 pub mod Calls
 pub mod Line
+pub mod Pages
 pub mod Question
 pub mod Reading
 pub mod Refused
+pub mod Trees
 pub mod seen

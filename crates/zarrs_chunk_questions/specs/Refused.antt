@@ -1,10 +1,10 @@
 -- Why a question has no answer: the first reason that applies.
 -- Sources: Zarr V3 core, chunk grids and chunk key encodings; the order is this library's own.
-use Rattle.std.specs.Prelude.{◌≡◌, ◌≢◌, ◌⊎◌, ℕ, List, length, string_bytes, codes, Err, Option, Result}
+use Rattle.std.specs.Prelude.{◌≡◌, ◌≢◌, ◌⊎◌, ℕ, IfSome, List, length, string_bytes, codes, Err, Option, Some, None, Result}
 use Rattle.serde_json.specs.Data.{Data}
 use Rattle.zarrs_chunk_base.specs.ArraySubset.{Box, IsBox}
 use Rattle.zarrs_chunk_base.specs.ArraySubsetError.{IsBoxFault}
-use Rattle.zarrs_chunk_base.specs.Dimension.{Dimension}
+use Rattle.zarrs_chunk_base.specs.Dimension.{Dimension, array_sizes}
 use Rattle.zarrs_chunk_base.specs.Grid.{Grid}
 use Rattle.zarrs_chunk_base.specs.Metadata.{Extension as IsSaid, IsExtension, IsMetadataFault}
 use Rattle.zarrs_chunk_base.specs.Refusal.{TellsLengths}
@@ -18,15 +18,20 @@ use Rattle.zarrs_chunk_keys.specs.ChunkKey.{Encoding, IsKey}
 use Rattle.zarrs_chunk_keys.specs.KeyKinds.{IsEncodingFault}
 use Rattle.zarrs_chunks.specs.GridKinds.{GridKind, IsGridFault, rectilinear}
 use Rattle.zarrs_chunks.specs.Subsets.{AnswersChunksSubset}
-use Rattle.zarrs_chunk_questions.specs.Answers.{AnswersCoverOf, AnswersPartsOf, IsEncodingIn, IsGridIn, box_of}
-use Rattle.zarrs_chunk_questions.specs.Question.{Asked, Lists, Question, counted, decode, encode, located, of_array, of_box, of_grid, of_numbers}
-use Rattle.zarrs_chunk_questions.specs.Question.{parts, runs}
+use Rattle.zarrs_chunk_plan.specs.seen.Copies.{IsCopiesFault}
+use Rattle.zarrs_chunk_questions.specs.Answers.{AnswersCoverOf}
+use Rattle.zarrs_chunk_questions.specs.Pages.{AnswersPartsOf, target_chunks}
+use Rattle.zarrs_chunk_questions.specs.Question.{Asked, Lists, Metadata as TargetMetadata, Question, copies, counted, decode, encode, located}
+use Rattle.zarrs_chunk_questions.specs.Question.{of_array, of_box, of_grid, of_numbers, of_walk, parts, runs}
+use Rattle.zarrs_chunk_questions.specs.Trees.{IsEncodingIn, IsGridIn, box_of}
 use Rattle.zarrs_chunk_questions.specs.declared.call.OfBox.{OfBox}
 use Rattle.zarrs_chunk_questions.specs.declared.call.OfBox.TheVariants.{ChunksInArraySubset, ChunksSubset}
 use Rattle.zarrs_chunk_questions.specs.declared.call.OfNumbers.{OfNumbers}
 use Rattle.zarrs_chunk_questions.specs.declared.call.OfNumbers.TheVariants.{ArrayIndicesInbounds, ChunkIndicesInbounds}
 use Rattle.zarrs_chunk_questions.specs.declared.line_fault.LineFault.{LineFault}
-use Rattle.zarrs_chunk_questions.specs.declared.line_fault.LineFault.TheVariants.{Extension, Key, Lengths, Metadata, NotBox, Unreadable}
+use Rattle.zarrs_chunk_questions.specs.declared.line_fault.LineFault.TheVariants.{Copies, Extension, Key, Lengths, Metadata, NotBox, Unreadable}
+use Rattle.zarrs_chunk_questions.specs.declared.line_fault.LineFault.TheVariants.{TargetExtension as OfTargetExtension}
+use Rattle.zarrs_chunk_questions.specs.declared.line_fault.LineFault.TheVariants.{TargetMetadata as OfTargetMetadata}
 use Rattle.zarrs_chunk_questions.specs.declared.unreadable.Unreadable.TheVariants.{NoCall}
 
 -- the fault tells that so many numbers were given, and others expected
@@ -97,23 +102,62 @@ IsSomePartsRefusal tree lists grid fault =
     ⊎ ((encoding : Encoding) × IsEncodingIn tree encoding
     × (IsNoBox (box_of lists) fault ⊎ (IsBox (box_of lists) × IsPartsRefusal grid.dimensions (IsKey encoding) (box_of lists) fault)))
 
--- Why the grid of an array has no answer. Nothing is said yet of walks and of rechunkings.
-abbrev pub IsArrayRefusal : Asked → GridKind → Grid → LineFault → Type 0
-IsArrayRefusal (of_grid call) kind grid fault = ⊥
-IsArrayRefusal (of_numbers call numbers) kind grid fault = IsNumbersRefusal call (length numbers) (length grid.dimensions) fault
-IsArrayRefusal (of_box call lists) kind grid fault =
+-- it is the fault of the target's grid or encoding
+abbrev pub IsOfTarget : (LineFault → Type 0) → LineFault → Type 0
+IsOfTarget IsFault (OfTargetMetadata error) = IsFault (Metadata error)
+IsOfTarget IsFault (OfTargetExtension error) = IsFault (Extension error)
+IsOfTarget _ _ = ⊥
+
+-- the library refuses the rechunking
+abbrev pub IsNoRechunking : (source target : List Dimension) (chunks : Box) → LineFault → Type 0
+IsNoRechunking source target chunks (Copies error) =
+    IsCopiesFault (array_sizes source) (array_sizes target) (length chunks.start) (length target) error
+IsNoRechunking _ _ _ _ = ⊥
+
+-- no box is given by its start and its shape
+abbrev pub IsNoBoxOf : Option Lists → LineFault → Type 0
+IsNoBoxOf (Some lists) fault = IsNoBox (box_of lists) fault
+IsNoBoxOf None fault = ⊥
+
+-- there is no box; or the library refuses
+abbrev pub IsBoxOrCopiesRefusal : (source target : List Dimension) → Option Lists → LineFault → Type 0
+IsBoxOrCopiesRefusal source target chunks fault =
+    IsNoBoxOf chunks fault
+    ⊎ (IfSome chunks (λ lists. IsBox (box_of lists)) × IsNoRechunking source target (target_chunks chunks target) fault)
+
+-- there is no grid of the target; no encoding of it; or one of these
+abbrev pub IsTargetRefusal : (shape : List ℕ) → TargetMetadata → Option Lists → Grid → LineFault → Type 0
+IsTargetRefusal shape target chunks grid fault =
+    IsOfTarget (IsNoGrid target.chunk_grid shape) fault
+    ⊎ ((kind : GridKind) × (to : Grid) × IsGridIn target.chunk_grid shape kind to
+    × (IsOfTarget (IsNoEncoding target.chunk_key_encoding) fault
+    ⊎ ((encoding : Encoding) × IsEncodingIn target.chunk_key_encoding encoding
+    × IsBoxOrCopiesRefusal grid.dimensions to.dimensions chunks fault)))
+
+-- there is no encoding; or one of these
+abbrev pub IsSomeCopiesRefusal : (shape : List ℕ) → Data → TargetMetadata → Option Lists → Grid → LineFault → Type 0
+IsSomeCopiesRefusal shape tree target chunks grid fault =
+    IsNoEncoding tree fault
+    ⊎ ((encoding : Encoding) × IsEncodingIn tree encoding × IsTargetRefusal shape target chunks grid fault)
+
+-- Why the grid of an array of this shape has no answer.
+abbrev pub IsArrayRefusal : (shape : List ℕ) → Asked → GridKind → Grid → LineFault → Type 0
+IsArrayRefusal shape (of_grid call) kind grid fault = ⊥
+IsArrayRefusal shape (of_numbers call numbers) kind grid fault = IsNumbersRefusal call (length numbers) (length grid.dimensions) fault
+IsArrayRefusal shape (of_box call lists) kind grid fault =
     IsNoBox (box_of lists) fault ⊎ (IsBox (box_of lists) × IsBoxRefusal call grid.dimensions (box_of lists) fault)
-IsArrayRefusal (runs dimension) kind grid fault = IsNotOfKind (codes "runs") kind fault
-IsArrayRefusal (counted index) kind grid fault =
+IsArrayRefusal shape (of_walk walk items) kind grid fault = ⊥
+IsArrayRefusal shape (runs dimension) kind grid fault = IsNotOfKind (codes "runs") kind fault
+IsArrayRefusal shape (counted index) kind grid fault =
     IsNotOfKind (codes "chunk_indices_counted") kind fault ⊎ ((kind ≡ rectilinear) × IsLengthFault (length index) (length grid.dimensions) fault)
-IsArrayRefusal (located tree index) kind grid fault = IsLocatedRefusal tree (length index) (length grid.dimensions) fault
-IsArrayRefusal (parts tree items lists) kind grid fault = IsSomePartsRefusal tree lists grid fault
-IsArrayRefusal _ kind grid fault = Unit {0}
+IsArrayRefusal shape (located tree index) kind grid fault = IsLocatedRefusal tree (length index) (length grid.dimensions) fault
+IsArrayRefusal shape (parts tree items lists) kind grid fault = IsSomePartsRefusal tree lists grid fault
+IsArrayRefusal shape (copies tree target items chunks) kind grid fault = IsSomeCopiesRefusal shape tree target chunks grid fault
 
 -- Why a question has no answer.
 abbrev pub IsRefusal : Question → LineFault → Type 0
 IsRefusal (of_array shape tree asked) fault =
-    IsNoGrid tree shape fault ⊎ ((kind : GridKind) × (grid : Grid) × IsGridIn tree shape kind grid × IsArrayRefusal asked kind grid fault)
+    IsNoGrid tree shape fault ⊎ ((kind : GridKind) × (grid : Grid) × IsGridIn tree shape kind grid × IsArrayRefusal shape asked kind grid fault)
 IsRefusal (encode tree chunk) fault = IsNoEncoding tree fault
 IsRefusal (decode tree key dimensionality) fault =
     IsNoEncoding tree fault ⊎ ((encoding : Encoding) × IsEncodingIn tree encoding × IsNoKey key fault)

@@ -1,3 +1,5 @@
 pub mod Read
 pub mod Lines
 pub mod Found
+pub mod Walked
+pub mod Targets

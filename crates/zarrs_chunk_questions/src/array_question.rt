@@ -1,27 +1,30 @@
 //! What is asked of the grid of an array, and what answers it.
-ghost use Rattle.std.specs.Prelude.{◌≡◌, IfSome, MatchResult, length};
+ghost use Rattle.std.specs.Prelude.{◌≡◌, IfOk, IfSome, MatchResult, length, option_map};
 ghost use Rattle.serde_json.specs.View.{view};
 ghost use Rattle.zarrs_chunk_base.specs.Refusal.{OrMemory};
 ghost use Rattle.zarrs_chunk_keys.specs.ChunkKey.{Encoding};
 ghost use Rattle.zarrs_chunks.specs.seen.Grids.{grid_in, kind_in};
-ghost use Rattle.zarrs_chunk_questions.specs.Answers.{IsArrayAnswer, IsEncodingIn, IsLocatedAnswer, IsSomePartsAnswer};
-ghost use Rattle.zarrs_chunk_questions.specs.Refused.{IsArrayRefusal, IsLocatedRefusal, IsSomePartsRefusal};
-ghost use Rattle.zarrs_chunk_questions.specs.seen.Read.{asked_of, items_of, lists_of};
+ghost use Rattle.zarrs_chunk_questions.specs.Answers.{IsArrayAnswer, IsLocatedAnswer};
+ghost use Rattle.zarrs_chunk_questions.specs.Pages.{IsSomeCopiesAnswer, IsSomePartsAnswer, walk_tree};
+ghost use Rattle.zarrs_chunk_questions.specs.Trees.{IsEncodingIn};
+ghost use Rattle.zarrs_chunk_questions.specs.Refused.{IsArrayRefusal, IsLocatedRefusal, IsSomeCopiesRefusal, IsSomePartsRefusal};
+ghost use Rattle.zarrs_chunk_questions.specs.seen.Read.{asked_of, items_of, lists_of, target_of};
 
 use crate::asked::{Asked, Items, Lists, Target};
 use crate::call::WalkOf;
 use crate::extensions::{box_of, make_encoding};
 use crate::grid_answers::{answer_alone, answer_box, answer_numbers};
+use crate::limits::Limits;
 use crate::line_fault::LineFault;
 use crate::pages::{items_from, parts_from};
-use crate::rechunking::{copies_from, make_target};
+use crate::rechunking::{copies_from, make_target, target_chunks};
 use crate::rectilinear_answers::{answer_counted, answer_runs, expect_rectilinear};
 use crate::trees::{found, located_tree};
-use crate::walk_items::{Limits, first_items};
+use crate::walk_items::items_of_walk;
 use serde_json::Value;
-use std::alloc::Global;
+use std::alloc::{AllocError, Global};
 use zarrs_chunk_base::Refusal;
-use zarrs_chunk_plan::{StoredArray, all_chunks};
+use zarrs_chunk_plan::StoredArray;
 use zarrs_chunks::{ChunkGrid, ChunkGridTraits, locate};
 
 /// What the grid of an array with this shape answers; `None` where the items of a walk are longer than there is room for.
@@ -37,8 +40,8 @@ pub(crate) fn answer_asked(
     room: usize,
 ) -> Result<Option<Value>, Refusal<LineFault>>
     ensures { MatchResult result (λ found. IfSome found (λ tree.
-        IsArrayAnswer (asked_of asked.entry) (kind_in grid) (grid_in grid) (view tree)))
-        (OrMemory (IsArrayRefusal (asked_of asked.entry) (kind_in grid) (grid_in grid))) }
+        IsArrayAnswer shape.now (asked_of asked.entry) (kind_in grid) (grid_in grid) (view tree)))
+        (OrMemory (IsArrayRefusal shape.now (asked_of asked.entry) (kind_in grid) (grid_in grid))) }
 {
     match asked {
         Asked::OfGrid(call) => Ok(Some(answer_alone(alloc, call, &grid)?)),
@@ -49,7 +52,7 @@ pub(crate) fn answer_asked(
             Ok(subset) => Ok(Some(answer_box(alloc, call, &grid, &subset)?)),
             Err(fault) => Err(Refusal::Refused(fault)),
         },
-        Asked::OfWalk(walk, items) => some_items(alloc, &grid, walk, items, room),
+        Asked::OfWalk(walk, items) => Ok(some_items(alloc, &grid, walk, items, room)?),
         Asked::Runs(dimension) => {
             let grid = expect_rectilinear(alloc, "runs", grid)?;
             Ok(Some(answer_runs(&grid, dimension)))
@@ -65,7 +68,7 @@ pub(crate) fn answer_asked(
             some_parts(alloc, &grid, encoding, items, lists, room)
         }
         Asked::Copies(encoding, target, items, chunks) => {
-            some_copies(alloc, shape, grid, (encoding, target), items, chunks, room)
+            some_copies(alloc, shape, grid, encoding, target, items, chunks, room)
         }
     }
 }
@@ -94,25 +97,23 @@ fn answer_located(
 }
 
 /// Some of the items of a walk.
+///
+/// # Errors
+/// Out of memory.
 fn some_items(
     alloc: Global,
     grid: &ChunkGrid,
     walk: WalkOf,
     items: Items,
     room: usize,
-) -> Result<Option<Value>, Refusal<LineFault>> {
+) -> Result<Option<Value>, AllocError>
+    ensures { IfOk result (λ found. IfSome found (λ tree.
+        view tree ≡ walk_tree walk (grid_in grid.now).dimensions (items_of items))) }
+{
     let limits = limits_of(grid, items, walk.lists(), room);
-    if let Some(first) = items.first {
-        return items_from(alloc, grid, walk, first, &limits);
-    }
-    match walk {
-        WalkOf::Chunks => Ok(first_items(alloc, grid.iter_chunk_indices(alloc), &limits)?),
-        WalkOf::Boxes => Ok(first_items(alloc, grid.iter_chunk_subsets(alloc), &limits)?),
-        WalkOf::ChunksAndBoxes => Ok(first_items(
-            alloc,
-            grid.iter_chunk_indices_and_subsets(alloc),
-            &limits,
-        )?),
+    match items.first {
+        Some(first) => items_from(alloc, grid, walk, first, &limits),
+        None => items_of_walk(alloc, grid, walk, &limits),
     }
 }
 
@@ -152,25 +153,32 @@ fn some_parts(
     parts_from(alloc, grid, &encoding, &elements, first, &limits)
 }
 
-/// Some of the groups of the plan of a rechunking of the grid's array.
+/// Some of the groups of the plan of a rechunking of the grid's array, which has this shape.
+///
+/// # Errors
+/// The first that applies: the encoding can't be made; the target's grid or its encoding; the start and the shape make no box; the box has another
+/// number of dimensions than the target. Or out of memory.
 fn some_copies(
     alloc: Global,
     shape: &[u64],
     grid: ChunkGrid,
-    (encoding, target): (&Value, Target<'_>),
+    encoding_tree: &Value,
+    target: Target<'_>,
     items: Items,
     chunks: Option<Lists>,
     room: usize,
-) -> Result<Option<Value>, Refusal<LineFault>> {
+) -> Result<Option<Value>, Refusal<LineFault>>
+    ensures { MatchResult result (λ found. IfSome found (λ tree. IsSomeCopiesAnswer shape.now
+        (view encoding_tree.now) (target_of target.entry) (items_of items)
+        (option_map lists_of chunks) (grid_in grid) (view tree)))
+        (OrMemory (IsSomeCopiesRefusal shape.now (view encoding_tree.now) (target_of target.entry)
+        (option_map lists_of chunks) (grid_in grid))) }
+{
     let limits = limits_of(&grid, items, 5, room);
-    let encoding = make_encoding(alloc, encoding)?;
+    let encoding = make_encoding(alloc, encoding_tree)?;
     let source = StoredArray { grid, encoding };
-    let target = make_target(alloc, &target, shape)?;
-    let chunks = match chunks.map(box_of) {
-        Some(Ok(chunks)) => chunks,
-        Some(Err(fault)) => return Err(Refusal::Refused(fault)),
-        None => all_chunks(alloc, &target.grid)?,
-    };
+    let target = make_target(alloc, target, shape)?;
+    let chunks = target_chunks(alloc, chunks, &target.grid)?;
     let first = items.first.unwrap_or(0);
     copies_from(alloc, &source, &target, &chunks, first, &limits)
 }

@@ -6,7 +6,7 @@ ghost use Rattle.zarrs_chunk_base.specs.Metadata.{IsExtension, extension_of};
 ghost use Rattle.zarrs_chunk_base.specs.Refusal.{OrMemory};
 ghost use Rattle.zarrs_chunk_keys.specs.seen.Encodings.{encoding_in};
 ghost use Rattle.zarrs_chunks.specs.seen.Grids.{grid_in, kind_in};
-ghost use Rattle.zarrs_chunk_questions.specs.Answers.{IsEncodingIn, IsGridIn, box_of as box_said};
+ghost use Rattle.zarrs_chunk_questions.specs.Trees.{IsEncodingIn, IsGridIn, box_of as box_said};
 ghost use Rattle.zarrs_chunk_questions.specs.Refused.{IsNoBox, IsNoEncoding, IsNoExtension, IsNoGrid};
 ghost use Rattle.zarrs_chunk_questions.specs.seen.Read.{lists_of};
 

@@ -23,6 +23,7 @@
 //! | `extensions` | the grid, the encoding and the box that a line gives |
 //! | `grid_answers`, `rectilinear_answers`, `key_answers` | what a grid answers, one that is `rectilinear` alone, and an encoding |
 //! | `walk_items`, `pages`, `rechunking` | the items of a walk; those of a walk and of a plan from one of them on; those of a rechunking |
+//! | `limits` | how many of them are given |
 //! | `trees`, `plan_trees` | the trees that answers are written as, and the parts of plans |
 //! | `answer_line` | the line that answers a line |
 #![tactic(auto)]
@@ -35,6 +36,7 @@ mod call;
 mod extensions;
 mod grid_answers;
 mod key_answers;
+mod limits;
 mod line_fault;
 mod pages;
 mod plan_trees;

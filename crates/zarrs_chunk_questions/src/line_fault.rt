@@ -1,4 +1,7 @@
 //! Why a line has no answer.
+ghost use Rattle.std.specs.Prelude.{◌≡◌};
+ghost use Rattle.zarrs_chunk_questions.specs.seen.Targets.{as_of_target};
+
 use crate::unreadable::Unreadable;
 use thiserror::Error;
 use zarrs_chunk_base::{
@@ -41,7 +44,9 @@ pub(crate) enum LineFault {
 
 impl LineFault {
     /// The fault of a grid or an encoding, as that of a target's.
-    pub(crate) fn of_target(self) -> LineFault {
+    pub(crate) fn of_target(self) -> LineFault
+        ensures { result ≡ as_of_target self }
+    {
         match self {
             LineFault::Metadata(error) => LineFault::TargetMetadata(error),
             LineFault::Extension(error) => LineFault::TargetExtension(error),

@@ -1,21 +1,27 @@
 //! The items of a walk, and of a plan, from one of them on: those before it take no time.
 ghost use Rattle.std.specs.Prelude.{◌≡◌, ◌≢◌, IfOk, IfSome, MatchResult, map};
+ghost use Rattle.std.specs.List.{AllByRecursion};
 ghost use Rattle.serde_json.specs.View.{view};
+ghost use Rattle.zarrs_chunk_axes.specs.InBounds.{AreBelow};
+ghost use Rattle.zarrs_chunk_base.specs.Dimension.{grid_sizes};
 ghost use Rattle.zarrs_chunk_base.specs.Refusal.{OrMemory};
 ghost use Rattle.zarrs_chunk_keys.specs.ChunkKey.{IsKey};
 ghost use Rattle.zarrs_chunk_keys.specs.seen.Encodings.{encoding_in};
 ghost use Rattle.zarrs_chunks.specs.seen.Grids.{grid_in};
-ghost use Rattle.zarrs_chunk_questions.specs.Answers.{IsPartsAnswer, is_more, page_tree as tree_of_page, part_tree as tree_of_part};
+ghost use Rattle.zarrs_chunk_questions.specs.Pages.{IsPartsAnswer, is_more, item_trees as trees_of_items, page_from, page_tree as tree_of_page};
+ghost use Rattle.zarrs_chunk_questions.specs.Pages.{part_tree as tree_of_part};
 ghost use Rattle.zarrs_chunk_questions.specs.Refused.{IsPartsRefusal};
+ghost use Rattle.zarrs_chunk_questions.specs.seen.Walked.{IsBoxOf, IsItemOf};
 
 use crate::call::WalkOf;
+use crate::limits::Limits;
 use crate::line_fault::LineFault;
 use crate::plan_trees::part_tree;
 use crate::trees::found;
-use crate::walk_items::{Limits, WalkItem, items_tree};
-use serde_json::Value;
+use crate::walk_items::pair_tree;
+use serde_json::{Map, Value};
 use std::alloc::{AllocError, Global};
-use zarrs_chunk_base::{ArraySubset, Refusal};
+use zarrs_chunk_base::{ArraySubset, Refusal, write_box, write_list};
 use zarrs_chunk_keys::ChunkKeyEncoding;
 use zarrs_chunk_plan::{Part, all_chunks, some_chunks, some_parts};
 use zarrs_chunks::{ArrayIndicesTinyVec, ChunkGrid, ChunkGridTraits};
@@ -30,28 +36,50 @@ impl WalkOf {
         }
     }
 
-    /// The tree of what the walk gives of a chunk; `None` where that has no box.
-    fn item_tree(
+    /// The tree of what the walk gives of a chunk that a grid counts; `None` where it gives boxes, and the chunk has none.
+    ///
+    /// # Errors
+    /// Out of memory.
+    fn item_of<G: ChunkGridTraits>(
         self,
         alloc: Global,
-        grid: &ChunkGrid,
-        chunk: &ArrayIndicesTinyVec,
-    ) -> Result<Option<Value>, Refusal<LineFault>> {
-        let numbers = chunk.to_tree(alloc)?;
-        if let WalkOf::Chunks = self {
-            return Ok(Some(numbers));
+        grid: &G,
+        chunk: &[u64],
+    ) -> Result<Option<Value>, AllocError>
+        requires { AreBelow (grid_sizes (G.dimensions grid.now)) chunk.now }
+        ensures { IfOk result (IsItemOf self (G.dimensions grid.now) chunk.now) }
+    {
+        match self {
+            WalkOf::Chunks => Ok(Some(write_list(alloc, chunk)?)),
+            WalkOf::Boxes => box_of_chunk(alloc, grid, chunk),
+            WalkOf::ChunksAndBoxes => match box_of_chunk(alloc, grid, chunk)? {
+                Some(subset) => {
+                    let numbers = write_list(alloc, chunk)?;
+                    Ok(Some(pair_tree(alloc, numbers, subset)?))
+                }
+                None => Ok(None),
+            },
         }
-        let Some(subset) = found(grid.subset(alloc, chunk.as_slice()))? else {
-            return Ok(None);
-        };
-        let subset = subset.to_tree(alloc)?;
-        if let WalkOf::Boxes = self {
-            return Ok(Some(subset));
-        }
-        let mut both = Vec::with_capacity(alloc, 2)?;
-        both.push(numbers)?;
-        both.push(subset)?;
-        Ok(Some(Value::Array(both)))
+    }
+}
+
+/// The tree of the box of a chunk that a grid counts; `None` where it has none.
+///
+/// # Errors
+/// Out of memory.
+fn box_of_chunk<G: ChunkGridTraits>(
+    alloc: Global,
+    grid: &G,
+    chunk: &[u64],
+) -> Result<Option<Value>, AllocError>
+    requires { AreBelow (grid_sizes (G.dimensions grid.now)) chunk.now }
+    ensures { IfOk result (IsBoxOf (G.dimensions grid.now) chunk.now) }
+{
+    match grid.subset(alloc, chunk) {
+        Ok(Some(subset)) => Ok(Some(write_box(alloc, &subset)?)),
+        Ok(None) => Ok(None),
+        // Out of memory: a chunk that a grid counts has as many numbers as the grid has dimensions.
+        Err(_) => Err(AllocError),
     }
 }
 
@@ -60,23 +88,45 @@ impl WalkOf {
 ///
 /// # Errors
 /// Out of memory.
-pub(crate) fn items_from(
+pub(crate) fn items_from<G: ChunkGridTraits>(
     alloc: Global,
-    grid: &ChunkGrid,
+    grid: &G,
     walk: WalkOf,
     first: u64,
     limits: &Limits,
-) -> Result<Option<Value>, Refusal<LineFault>> {
+) -> Result<Option<Value>, AllocError>
+    ensures { IfOk result (λ found. IfSome found (λ tree.
+        view tree ≡ page_from walk (G.dimensions grid.now) first limits.now.most)) }
+{
     let chunks = all_chunks(alloc, grid)?;
     let some = some_chunks(alloc, &chunks, first, limits.wanted() as usize)?;
+    let items = item_trees(alloc, grid, walk, &some.chunks)?;
+    let page = page_tree(alloc, items, limits, first, some.chunks.len(), some.in_all)?;
+    Ok(page)
+}
+
+/// The trees of what a walk gives of chunks that a grid counts.
+///
+/// # Errors
+/// Out of memory.
+fn item_trees<G: ChunkGridTraits>(
+    alloc: Global,
+    grid: &G,
+    walk: WalkOf,
+    chunks: &[ArrayIndicesTinyVec],
+) -> Result<Vec<Value>, AllocError>
+    requires { AllByRecursion (λ chunk. AreBelow (grid_sizes (G.dimensions grid.now)) chunk.items)
+        chunks.now }
+    ensures { IfOk result (λ items. map view items.items
+        ≡ trees_of_items walk (G.dimensions grid.now) (map (λ chunk. chunk.items) chunks.now)) }
+{
     let mut items = Vec::new(alloc);
-    for chunk in &some.chunks {
-        if let Some(item) = walk.item_tree(alloc, grid, chunk)? {
+    for chunk in chunks {
+        if let Some(item) = walk.item_of(alloc, grid, chunk.as_slice())? {
             items.push(item)?;
         }
     }
-    let page = page_tree(alloc, items, limits, first, some.chunks.len(), some.in_all)?;
-    Ok(page)
+    Ok(items)
 }
 
 /// The tree of the parts of the plan of reading a box of elements, from the one with this number on; `null` where it has no plan. `None` where the
@@ -142,4 +192,17 @@ pub(crate) fn page_tree(
     }
     let more = first.saturating_add(count as u64) < in_all;
     Ok(Some(items_tree(alloc, items, more)?))
+}
+
+/// The tree of items, and of whether more follow.
+///
+/// # Errors
+/// Out of memory.
+pub(crate) fn items_tree(alloc: Global, items: Vec<Value>, more: bool) -> Result<Value, AllocError>
+    ensures { IfOk result (λ tree. view tree ≡ tree_of_page (map view items.items) more) }
+{
+    let mut members = Map::new(alloc);
+    serde_json::put(&mut members, alloc, "items", Value::Array(items))?;
+    serde_json::put(&mut members, alloc, "more", Value::from(more))?;
+    Ok(Value::Object(members))
 }

@@ -1,7 +1,8 @@
 //! The trees that the parts of a plan are written as.
-ghost use Rattle.std.specs.Prelude.{◌≡◌, IfOk};
+ghost use Rattle.std.specs.Prelude.{◌≡◌, IfOk, map};
 ghost use Rattle.serde_json.specs.View.{view};
-ghost use Rattle.zarrs_chunk_questions.specs.Answers.{part_tree as tree_of_part};
+ghost use Rattle.zarrs_chunk_questions.specs.Pages.{target_tree as tree_of_target};
+ghost use Rattle.zarrs_chunk_questions.specs.Pages.{group_tree as tree_of_group, part_tree as tree_of_part, source_tree as tree_of_source};
 
 use serde_json::{Map, Value};
 use std::alloc::{AllocError, Global};
@@ -25,7 +26,9 @@ pub(crate) fn part_tree(alloc: Global, part: &Part) -> Result<Value, AllocError>
 }
 
 /// The tree of a source of a chunk of the target: `{"chunk":[..],"in_chunk":[start,shape],"in_target":[start,shape],"key":".."}`.
-pub(crate) fn source_tree(alloc: Global, part: &Part) -> Result<Value, AllocError> {
+fn source_tree(alloc: Global, part: &Part) -> Result<Value, AllocError>
+    ensures { IfOk result (λ tree. view tree ≡ tree_of_source part.now) }
+{
     let chunk = write_list(alloc, part.chunk.as_slice())?;
     let in_chunk = write_box(alloc, &part.in_chunk)?;
     let in_target = write_box(alloc, &part.in_subset)?;
@@ -38,19 +41,37 @@ pub(crate) fn source_tree(alloc: Global, part: &Part) -> Result<Value, AllocErro
     Ok(Value::Object(members))
 }
 
+/// The trees of the sources of a chunk of the target.
+fn source_trees(alloc: Global, parts: &[Part]) -> Result<Vec<Value>, AllocError>
+    ensures { IfOk result (λ trees. map view trees.items ≡ map tree_of_source parts.now) }
+{
+    let mut trees = Vec::new(alloc);
+    for part in parts {
+        trees.push(source_tree(alloc, part)?)?;
+    }
+    Ok(trees)
+}
+
+/// The tree of a chunk of the target: `{"chunk":[..],"key":".."}`.
+fn target_tree(alloc: Global, part: &Part) -> Result<Value, AllocError>
+    ensures { IfOk result (λ tree. view tree ≡ tree_of_target part.now) }
+{
+    let chunk = write_list(alloc, part.chunk.as_slice())?;
+    let key = Value::try_from_str(alloc, part.key.as_str())?;
+    let mut members = Map::new(alloc);
+    serde_json::put(&mut members, alloc, "chunk", chunk)?;
+    serde_json::put(&mut members, alloc, "key", key)?;
+    Ok(Value::Object(members))
+}
+
 /// The tree of a chunk of the target and of the sources that are copied into it: `{"from":[..],"to":{"chunk":[..],"key":".."}}`.
-pub(crate) fn group_tree(
-    alloc: Global,
-    sources: Vec<Value>,
-    to: &Part,
-) -> Result<Value, AllocError> {
-    let chunk = write_list(alloc, to.chunk.as_slice())?;
-    let key = Value::try_from_str(alloc, to.key.as_str())?;
-    let mut target = Map::new(alloc);
-    serde_json::put(&mut target, alloc, "chunk", chunk)?;
-    serde_json::put(&mut target, alloc, "key", key)?;
+pub(crate) fn group_tree(alloc: Global, to: &Part, from: &[Part]) -> Result<Value, AllocError>
+    ensures { IfOk result (λ tree. view tree ≡ tree_of_group (to.now, from.now)) }
+{
+    let sources = source_trees(alloc, from)?;
+    let target = target_tree(alloc, to)?;
     let mut members = Map::new(alloc);
     serde_json::put(&mut members, alloc, "from", Value::Array(sources))?;
-    serde_json::put(&mut members, alloc, "to", Value::Object(target))?;
+    serde_json::put(&mut members, alloc, "to", target)?;
     Ok(Value::Object(members))
 }

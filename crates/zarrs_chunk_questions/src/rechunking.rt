@@ -1,16 +1,36 @@
 //! The groups of the plan of a rechunking, from one of them on: those before it take no time.
-use crate::asked::Target;
-use crate::extensions::{make_encoding, make_grid};
+ghost use Rattle.std.specs.Prelude.{◌≡◌, IfOk, IfSome, List, MatchResult, length, map, option_map, replicate};
+ghost use Rattle.std.specs.List.{AllByRecursion, AllZip};
+ghost use Rattle.serde_json.specs.View.{view};
+ghost use Rattle.zarrs_chunk_base.specs.ArraySubset.{IsBox};
+ghost use Rattle.zarrs_chunk_base.specs.Refusal.{OrMemory};
+ghost use Rattle.zarrs_chunk_keys.specs.ChunkKey.{IsKey};
+ghost use Rattle.zarrs_chunk_keys.specs.seen.Encodings.{encoding_in};
+ghost use Rattle.zarrs_chunk_plan.specs.Plan.{IsPart, Meets};
+ghost use Rattle.zarrs_chunk_plan.specs.Rechunking.{AreCopiesInto, Group, array_box};
+ghost use Rattle.zarrs_chunk_plan.specs.seen.Copies.{IsPlanned};
+ghost use Rattle.zarrs_chunk_plan.specs.seen.Parts.{ArePartsToCome, MeetSubset};
+ghost use Rattle.zarrs_chunks.specs.seen.Grids.{grid_in};
+ghost use Rattle.zarrs_chunk_questions.specs.Pages.{IsCopiesAnswer, group_tree as tree_of_group, target_chunks as chunks_asked};
+ghost use Rattle.zarrs_chunk_questions.specs.Refused.{IsNoBoxOf, IsNoRechunking};
+ghost use Rattle.zarrs_chunk_questions.specs.seen.Read.{lists_of, target_of};
+ghost use Rattle.zarrs_chunk_questions.specs.Trees.{box_of as box_said};
+ghost use Rattle.zarrs_chunk_questions.specs.seen.Targets.{IsNoTarget, IsTargetIn};
+
+use crate::asked::{Lists, Target};
+use crate::extensions::{box_of, make_encoding, make_grid};
+use crate::limits::Limits;
 use crate::line_fault::LineFault;
 use crate::pages::page_tree;
-use crate::plan_trees::{group_tree, source_tree};
-use crate::walk_items::Limits;
+use crate::plan_trees::group_tree;
 use serde_json::Value;
 use std::alloc::{AllocError, Global};
 use zarrs_chunk_base::{ArraySubset, Refusal};
-use zarrs_chunk_keys::ChunkKeyEncoding;
-use zarrs_chunk_plan::{ChunkCopies, StoredArray, copies, some_chunks, targets_of};
-use zarrs_chunks::{ArrayIndicesTinyVec, ChunkGrid};
+use zarrs_chunk_keys::{ChunkKeyEncoding, ChunkKeyEncodingTraits};
+use zarrs_chunk_plan::{
+    ChunkCopies, Part, Parts, StoredArray, all_chunks, copies, some_chunks, targets_of,
+};
+use zarrs_chunks::{ArrayIndicesTinyVec, ChunkGrid, ChunkGridTraits};
 
 /// An array as it is stored, by metadata.
 pub(crate) type Stored = StoredArray<ChunkGrid, ChunkKeyEncoding>;
@@ -21,19 +41,49 @@ pub(crate) type Stored = StoredArray<ChunkGrid, ChunkKeyEncoding>;
 /// The first that applies: the grid can't be made; the encoding can't. Or out of memory.
 pub(crate) fn make_target(
     alloc: Global,
-    target: &Target<'_>,
+    target: Target<'_>,
     shape: &[u64],
-) -> Result<Stored, Refusal<LineFault>> {
-    let grid = make_grid(alloc, target.chunk_grid, shape);
-    let grid = grid.map_err(|refusal| refusal.map(|fault| fault.of_target()))?;
-    let encoding = make_encoding(alloc, target.chunk_key_encoding);
-    let encoding = encoding.map_err(|refusal| refusal.map(|fault| fault.of_target()))?;
-    Ok(StoredArray { grid, encoding })
+) -> Result<Stored, Refusal<LineFault>>
+    ensures { MatchResult result (IsTargetIn (target_of target.entry) shape.now)
+        (OrMemory (IsNoTarget (target_of target.entry) shape.now)) }
+{
+    let grid = match make_grid(alloc, target.chunk_grid, shape) {
+        Ok(grid) => grid,
+        Err(Refusal::Refused(fault)) => return Err(Refusal::Refused(fault.of_target())),
+        Err(Refusal::Memory(error)) => return Err(Refusal::Memory(error)),
+    };
+    match make_encoding(alloc, target.chunk_key_encoding) {
+        Ok(encoding) => Ok(StoredArray { grid, encoding }),
+        Err(Refusal::Refused(fault)) => Err(Refusal::Refused(fault.of_target())),
+        Err(Refusal::Memory(error)) => Err(Refusal::Memory(error)),
+    }
+}
+
+/// The box of the target's chunks that is asked for: the one that is given, or that of all.
+///
+/// # Errors
+/// The start and the shape make no box; or out of memory.
+pub(crate) fn target_chunks(
+    alloc: Global,
+    chunks: Option<Lists>,
+    grid: &ChunkGrid,
+) -> Result<ArraySubset, Refusal<LineFault>>
+    ensures { MatchResult result
+        (λ b. (b ≡ chunks_asked (option_map lists_of chunks) (grid_in grid.now).dimensions)
+        × IfSome (option_map lists_of chunks) (λ lists. IsBox (box_said lists)))
+        (OrMemory (IsNoBoxOf (option_map lists_of chunks))) }
+{
+    match chunks {
+        Some(lists) => match box_of(lists) {
+            Ok(chunks) => Ok(chunks),
+            Err(fault) => Err(Refusal::Refused(fault)),
+        },
+        None => Ok(all_chunks(alloc, grid)?),
+    }
 }
 
 /// The tree of the groups of the plan of a rechunking into the chunks of a box, from the one with this number on; `None` where the parts are longer
-/// than there is room for. A group is made for one chunk of the target at a time, and each of its parts when it is written: so no more of them are
-/// made than there is room for.
+/// than there is room for. A group is made for one chunk of the target at a time, and no more of its parts than there is room for.
 ///
 /// # Errors
 /// The box has another number of dimensions than the target; or out of memory.
@@ -44,62 +94,136 @@ pub(crate) fn copies_from(
     chunks: &ArraySubset,
     first: u64,
     limits: &Limits,
-) -> Result<Option<Value>, Refusal<LineFault>> {
-    let targets = targets_of(alloc, &source.grid, &target.grid, chunks);
-    let targets = targets.map_err(|refusal| refusal.map(LineFault::Copies))?;
+) -> Result<Option<Value>, Refusal<LineFault>>
+    ensures { MatchResult result (λ found. IfSome found (λ tree. IsCopiesAnswer
+        (grid_in source.now.grid).dimensions (IsKey (encoding_in source.now.encoding))
+        (grid_in target.now.grid).dimensions (IsKey (encoding_in target.now.encoding))
+        chunks.now first limits.now.most (view tree)))
+        (OrMemory (IsNoRechunking (grid_in source.now.grid).dimensions
+        (grid_in target.now.grid).dimensions chunks.now)) }
+{
+    let targets = match targets_of(alloc, &source.grid, &target.grid, chunks) {
+        Ok(targets) => targets,
+        Err(Refusal::Refused(error)) => return Err(Refusal::Refused(LineFault::Copies(error))),
+        Err(Refusal::Memory(error)) => return Err(Refusal::Memory(error)),
+    };
     let some = some_chunks(alloc, &targets, first, limits.wanted() as usize)?;
-    let mut items = Vec::new(alloc);
-    let mut left = limits.too_many;
-    for chunk in &some.chunks {
-        if !push_group(alloc, source, target, chunk, &mut items, &mut left)? {
-            return Ok(None);
-        }
-    }
-    let page = page_tree(alloc, items, limits, first, some.chunks.len(), some.in_all)?;
+    let Some(groups) = group_trees(alloc, source, target, &some.chunks, limits.too_many)? else {
+        return Ok(None);
+    };
+    let page = page_tree(alloc, groups, limits, first, some.chunks.len(), some.in_all)?;
     Ok(page)
 }
 
-/// Appends the tree of the group of a chunk of the target; `left` counts down how many parts are too many. `false` where they are.
-fn push_group(
+/// The trees of the groups of chunks of the target, each of which holds some element of the array; `None` where they have that many parts, or more.
+///
+/// # Errors
+/// Out of memory.
+fn group_trees<
+    G: ChunkGridTraits,
+    E: ChunkKeyEncodingTraits,
+    H: ChunkGridTraits,
+    F: ChunkKeyEncodingTraits,
+>(
     alloc: Global,
-    source: &Stored,
-    target: &Stored,
-    chunk: &ArrayIndicesTinyVec,
-    items: &mut Vec<Value>,
-    left: &mut u64,
-) -> Result<bool, Refusal<LineFault>> {
-    let one = box_of_one(alloc, chunk.as_slice())?;
-    let walk = copies(alloc, source, target, &one);
-    for group in walk.map_err(|refusal| refusal.map(LineFault::Copies))? {
-        match read_group(alloc, group?, left)? {
-            Some(tree) => items.push(tree)?,
-            None => return Ok(false),
-        }
+    source: &StoredArray<G, E>,
+    target: &StoredArray<H, F>,
+    chunks: &[ArrayIndicesTinyVec],
+    too_many: u64,
+) -> Result<Option<Vec<Value>>, AllocError>
+    requires { AllByRecursion (λ chunk. Meets (H.dimensions target.now.grid)
+        (array_box (H.dimensions target.now.grid)) chunk.items) chunks.now }
+    ensures { IfOk result (λ found. IfSome found (λ trees. (groups : List Group)
+        × AllZip (λ chunk group. AreCopiesInto (G.dimensions source.now.grid)
+        (E.is_key source.now.encoding) (H.dimensions target.now.grid) (F.is_key target.now.encoding)
+        chunk.items group) chunks.now groups
+        × (map view trees.items ≡ map tree_of_group groups))) }
+{
+    let mut trees = Vec::new(alloc);
+    let mut left = too_many;
+    for chunk in chunks {
+        let group = copies_into(alloc, source, target, chunk.as_slice())?;
+        let ChunkCopies { to, from } = group;
+        let Some(parts) = parts_below(alloc, from, left)? else {
+            return Ok(None);
+        };
+        left = left.saturating_sub(parts.len() as u64);
+        trees.push(group_tree(alloc, &to, &parts)?)?;
     }
-    Ok(true)
+    Ok(Some(trees))
+}
+
+/// What is copied into a chunk of the target that holds some element of the array.
+///
+/// # Errors
+/// Out of memory.
+fn copies_into<
+    'a,
+    G: ChunkGridTraits,
+    E: ChunkKeyEncodingTraits,
+    H: ChunkGridTraits,
+    F: ChunkKeyEncodingTraits,
+>(
+    alloc: Global,
+    source: &'a StoredArray<G, E>,
+    target: &'a StoredArray<H, F>,
+    chunk: &[u64],
+) -> Result<ChunkCopies<'a, G, E>, AllocError>
+    requires { Meets (H.dimensions target.now.grid) (array_box (H.dimensions target.now.grid))
+        chunk.now }
+    ensures to { IfOk result (λ group. IsPart (H.dimensions target.now.grid)
+        (F.is_key target.now.encoding) (array_box (H.dimensions target.now.grid)) chunk.now group.to) }
+    ensures from { IfOk result (λ group. IsPlanned G.dimensions source.now.grid
+        source.now.encoding group.to.in_subset group.from) }
+{
+    let one = box_of_one(alloc, chunk)?;
+    let Ok(mut walk) = copies(alloc, source, target, &one) else {
+        return Err(AllocError);
+    };
+    match walk.next() {
+        Some(group) => group,
+        // Never: something is copied into the chunk.
+        None => Err(AllocError),
+    }
 }
 
 /// The box of one chunk number.
-fn box_of_one(alloc: Global, chunk: &[u64]) -> Result<ArraySubset, Refusal<LineFault>> {
-    let shape = vec![in alloc; 1; chunk.len()]?;
-    let one = ArraySubset::new_with_start_shape(chunk.to_vec(alloc)?, shape);
-    one.map_err(|error| Refusal::Refused(LineFault::NotBox(error)))
+///
+/// # Errors
+/// Out of memory; or no box holds the number.
+fn box_of_one(alloc: Global, chunk: &[u64]) -> Result<ArraySubset, AllocError>
+    ensures one { IfOk result (λ one. one
+        ≡ record { start = chunk.now; shape = replicate (length chunk.now) 1 }) }
+    ensures is_box { IfOk result IsBox }
+{
+    let start = chunk.to_vec(alloc)?;
+    let mut shape = Vec::with_capacity(alloc, chunk.len())?;
+    shape.resize(chunk.len(), 1)?;
+    match ArraySubset::new_with_start_shape(start, shape) {
+        Ok(one) => Ok(one),
+        Err(_) => Err(AllocError),
+    }
 }
 
-/// The tree of a group; `None` where its parts are too many.
-fn read_group(
+/// The parts that a walk has left; `None` where they are that many, or more.
+///
+/// # Errors
+/// Out of memory.
+fn parts_below<G: ChunkGridTraits, E: ChunkKeyEncodingTraits>(
     alloc: Global,
-    group: ChunkCopies<'_, ChunkGrid, ChunkKeyEncoding>,
-    left: &mut u64,
-) -> Result<Option<Value>, AllocError> {
-    let ChunkCopies { to, from } = group;
-    let mut sources = Vec::new(alloc);
-    for part in from {
-        sources.push(source_tree(alloc, &part?)?)?;
-        *left = left.saturating_sub(1);
-        if *left == 0 {
+    walk: Parts<'_, G, E>,
+    too_many: u64,
+) -> Result<Option<Vec<Part>>, AllocError>
+    requires { MeetSubset G.dimensions walk }
+    ensures { IfOk result (λ found. IfSome found (λ all.
+        ArePartsToCome G.dimensions E.is_key walk.entry all.items)) }
+{
+    let mut all = Vec::new(alloc);
+    for part in walk {
+        all.push(part?)?;
+        if all.len() as u64 >= too_many {
             return Ok(None);
         }
     }
-    Ok(Some(group_tree(alloc, sources, &to)?))
+    Ok(Some(all))
 }

@@ -3,7 +3,8 @@ ghost use Rattle.std.specs.Prelude.{◌≡◌, IfErr, IfOk, Option, Ok};
 ghost use Rattle.serde_json.specs.View.{view};
 ghost use Rattle.zarrs_chunk_base.specs.ArraySubset.{Box};
 ghost use Rattle.zarrs_chunk_base.specs.Refusal.{OrMemory};
-ghost use Rattle.zarrs_chunk_questions.specs.Answers.{box_tree, items_tree, located_tree as tree_of_located, or_null};
+ghost use Rattle.zarrs_chunk_questions.specs.Answers.{items_tree, located_tree as tree_of_located};
+ghost use Rattle.zarrs_chunk_questions.specs.Trees.{box_tree, or_null};
 ghost use Rattle.zarrs_chunk_questions.specs.seen.Found.{TellsError};
 
 use crate::line_fault::LineFault;

@@ -1,120 +1,146 @@
-//! The items of a walk, as a line writes them.
-ghost use Rattle.std.specs.Iterator.{IsFinite};
-ghost use Rattle.std.specs.Prelude.{◌≡◌, ◌==◌, IfOk, map, min};
-ghost use Rattle.serde_json.specs.View.{view};
-ghost use Rattle.zarrs_chunk_questions.specs.Answers.{page_tree};
+//! The items of a walk, from its beginning on.
+ghost use Rattle.std.specs.Prelude.{◌≡◌, ◌∷◌, [], IfOk, IfSome, List, map};
+ghost use Rattle.serde_json.specs.Data.{Data, array};
+ghost use Rattle.serde_json.specs.View.{items_of, view};
+ghost use Rattle.zarrs_chunk_questions.specs.Pages.{first_page, item_trees};
+ghost use Rattle.zarrs_chunk_questions.specs.Trees.{box_tree, numbers_tree};
+ghost use Rattle.zarrs_chunk_questions.specs.seen.Walked.{GivesTree, both_trees};
+ghost use Rattle.zarrs_chunks.specs.Walks.{chunks_of};
+ghost use Rattle.zarrs_chunks.specs.seen.Walks.{AreBoxesOfGrid, AreChunksOfGrid, boxes_left, chunks_and_boxes_left, chunks_left};
 
-use serde_json::{Map, Value};
+use crate::call::WalkOf;
+use crate::limits::Limits;
+use crate::pages::items_tree;
+use serde_json::Value;
 use std::alloc::{AllocError, Global};
-use zarrs_chunk_base::{ArraySubset, write_box, write_list};
-use zarrs_chunks::ArrayIndicesTinyVec;
+use zarrs_chunk_base::{write_box, write_list};
+use zarrs_chunks::{ChunkGridTraits, ChunkIndices, ChunkIndicesAndSubsets, ChunkSubsets};
 
-/// An item of a walk.
-pub(crate) trait WalkItem: Drop {
-    /// The tree that the item is written as.
-    fn to_tree(&self, alloc: Global) -> Result<Value, AllocError>;
+/// A walk whose items are written as trees.
+pub(crate) trait TreeWalk: Drop {
+    /// The trees that are still to come.
+    ghost left: { Self → List Data };
+
+    /// The walk goes through the chunks of its grid.
+    ghost is_walk: { Self → Type 0 };
+
+    /// The tree of the next item; `None` at the end.
+    ///
+    /// # Errors
+    /// Out of memory.
+    fn next_tree(&mut self, alloc: Global) -> Result<Option<Value>, AllocError>
+        requires { is_walk self.old }
+        ensures next { IfOk result (GivesTree (left self.old) (left self.new)) }
+        ensures goes_on { IfOk result (λ _. is_walk self.new) };
 }
 
-/// A chunk: its numbers.
-impl WalkItem for ArrayIndicesTinyVec {
-    fn to_tree(&self, alloc: Global) -> Result<Value, AllocError> {
-        write_list(alloc, self.as_slice())
-    }
-}
+/// The walk over the numbers of the chunks.
+impl TreeWalk for ChunkIndices<'_> {
+    ghost left = { λ walk. map numbers_tree (chunks_left walk) };
 
-/// A box: `[start, shape]`.
-impl WalkItem for ArraySubset {
-    fn to_tree(&self, alloc: Global) -> Result<Value, AllocError> {
-        write_box(alloc, self)
-    }
-}
+    ghost is_walk = { λ _. Unit {0} };
 
-/// A chunk and its box: `[chunk, [start, shape]]`.
-impl WalkItem for (ArrayIndicesTinyVec, ArraySubset) {
-    fn to_tree(&self, alloc: Global) -> Result<Value, AllocError> {
-        let mut both = Vec::with_capacity(alloc, 2)?;
-        both.push(self.0.to_tree(alloc)?)?;
-        both.push(self.1.to_tree(alloc)?)?;
-        Ok(Value::Array(both))
-    }
-}
-
-/// How many items are given.
-#[derive(Drop)]
-pub(crate) struct Limits {
-    /// At most so many.
-    pub(crate) most: u64,
-    /// So many would be longer, as text, than there is room for.
-    pub(crate) too_many: u64,
-}
-
-impl Limits {
-    /// The limits of at most so many items, where so many bytes have room and each item has as many numbers. The text of a number has a digit and
-    /// what follows it, and that of an item one byte more.
-    pub(crate) fn new(most: u64, numbers: usize, room: usize) -> Limits
-        ensures { result.most ≡ most }
-    {
-        let least = numbers.saturating_mul(2).saturating_add(1);
-        let too_many = (room / least) as u64;
-        Limits {
-            most,
-            too_many: too_many.saturating_add(1),
+    fn next_tree(&mut self, alloc: Global) -> Result<Option<Value>, AllocError> {
+        match self.next() {
+            Some(Ok(chunk)) => Ok(Some(write_list(alloc, chunk.as_slice())?)),
+            Some(Err(error)) => Err(error),
+            None => Ok(None),
         }
     }
+}
 
-    /// How many items there are to be made: all that are given, or as many as are too many.
-    pub(crate) fn wanted(&self) -> u64
-        ensures { result ≡ min self.now.most self.now.too_many }
-    {
-        self.most.min(self.too_many)
-    }
+/// The walk over their boxes: `[start, shape]`.
+impl<G: ChunkGridTraits> TreeWalk for ChunkSubsets<'_, G> {
+    ghost left = { λ walk. map box_tree (boxes_left G.dimensions walk) };
 
-    /// Whether so many items are too many.
-    pub(crate) fn is_too_many(&self, count: usize) -> bool
-        ensures { result ≡ (count == self.now.too_many) }
-    {
-        self.too_many == count as u64
+    ghost is_walk = { AreBoxesOfGrid G.dimensions };
+
+    fn next_tree(&mut self, alloc: Global) -> Result<Option<Value>, AllocError> {
+        match self.next() {
+            Some(Ok(subset)) => Ok(Some(write_box(alloc, &subset)?)),
+            Some(Err(error)) => Err(error),
+            None => Ok(None),
+        }
     }
 }
 
-/// The tree of the first items of a walk and of whether more follow: `{"items":[..],"more":b}`. `None` where the items are longer than there is room
-/// for.
+/// The walk over both: `[chunk, [start, shape]]`.
+impl<G: ChunkGridTraits> TreeWalk for ChunkIndicesAndSubsets<'_, G> {
+    ghost left = { λ walk. map both_trees (chunks_and_boxes_left G.dimensions walk) };
+
+    ghost is_walk = { AreChunksOfGrid G.dimensions };
+
+    fn next_tree(&mut self, alloc: Global) -> Result<Option<Value>, AllocError> {
+        match self.next() {
+            Some(Ok((chunk, subset))) => {
+                let numbers = write_list(alloc, chunk.as_slice())?;
+                Ok(Some(pair_tree(alloc, numbers, write_box(alloc, &subset)?)?))
+            }
+            Some(Err(error)) => Err(error),
+            None => Ok(None),
+        }
+    }
+}
+
+/// The tree of a list of two.
 ///
 /// # Errors
 /// Out of memory.
-pub(crate) fn first_items<T: WalkItem, I: Iterator<Item = Result<T, AllocError>> + Drop>(
+pub(crate) fn pair_tree(alloc: Global, one: Value, other: Value) -> Result<Value, AllocError>
+    ensures { IfOk result (λ tree. view tree
+        ≡ array (items_of (view one ∷ view other ∷ []))) }
+{
+    let mut both = Vec::with_capacity(alloc, 2)?;
+    both.push(one)?;
+    both.push(other)?;
+    Ok(Value::Array(both))
+}
+
+/// The tree of the first items of a walk over the chunks of a grid and of whether more follow: `{"items":[..],"more":b}`. `None` where the items are
+/// longer than there is room for.
+///
+/// # Errors
+/// Out of memory.
+pub(crate) fn items_of_walk<G: ChunkGridTraits>(
     alloc: Global,
-    walk: I,
+    grid: &G,
+    walk: WalkOf,
     limits: &Limits,
 ) -> Result<Option<Value>, AllocError>
-    requires can { I.can_next walk }
-    requires ends { IsFinite (I.remaining walk) }
+    ensures { IfOk result (λ found. IfSome found (λ tree. view tree ≡ first_page limits.now.most
+        (item_trees walk (G.dimensions grid.now) (chunks_of (G.dimensions grid.now))))) }
+{
+    match walk {
+        WalkOf::Chunks => first_items(alloc, grid.iter_chunk_indices(alloc), limits),
+        WalkOf::Boxes => first_items(alloc, grid.iter_chunk_subsets(alloc), limits),
+        WalkOf::ChunksAndBoxes => {
+            first_items(alloc, grid.iter_chunk_indices_and_subsets(alloc), limits)
+        }
+    }
+}
+
+/// The same of the items that a walk has left.
+///
+/// # Errors
+/// Out of memory.
+fn first_items<W: TreeWalk>(
+    alloc: Global,
+    mut walk: W,
+    limits: &Limits,
+) -> Result<Option<Value>, AllocError>
+    requires { W.is_walk walk }
+    ensures { IfOk result (λ found. IfSome found (λ tree.
+        view tree ≡ first_page limits.now.most (W.left walk))) }
 {
     let mut items = Vec::new(alloc);
-    let mut more = false;
-    for item in walk {
-        let item = item?;
+    while let Some(tree) = walk.next_tree(alloc)? {
         if items.len() as u64 == limits.most {
-            more = true;
-            break;
+            return Ok(Some(items_tree(alloc, items, true)?));
         }
-        items.push(item.to_tree(alloc)?)?;
+        items.push(tree)?;
         if limits.is_too_many(items.len()) {
             return Ok(None);
         }
     }
-    Ok(Some(items_tree(alloc, items, more)?))
-}
-
-/// The tree of items, and of whether more follow.
-///
-/// # Errors
-/// Out of memory.
-pub(crate) fn items_tree(alloc: Global, items: Vec<Value>, more: bool) -> Result<Value, AllocError>
-    ensures { IfOk result (λ tree. view tree ≡ page_tree (map view items.items) more) }
-{
-    let mut members = Map::new(alloc);
-    serde_json::put(&mut members, alloc, "items", Value::Array(items))?;
-    serde_json::put(&mut members, alloc, "more", Value::from(more))?;
-    Ok(Value::Object(members))
+    Ok(Some(items_tree(alloc, items, false)?))
 }

@@ -36,6 +36,6 @@ returns-clause-copies g c =
       targets = targets;
       is_box = c.in_ok-targets.ensures.is_box;
       are_targets = c.in_ok-targets.ensures.targets;
-      in_all = all;
+      counted = all;
       are_groups = are;
     }

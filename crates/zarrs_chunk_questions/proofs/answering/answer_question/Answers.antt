@@ -17,4 +17,4 @@ returns-in_ok-grid-in-OfArray c =
     rw c.in-OfArray.is
     (in_other_words _ _ _ _ c.answer_asked.result
     (λ found is. if_some _ _ found (λ tree is. (kind_in grid, grid_in grid, made, is)) is)
-    (λ fault is. inr (kind_in grid, grid_in grid, made, is)) c.answer_asked.ensures)
+    (λ fault is. inr (kind_in grid, grid_in grid, made, is)) (rw c.deref-in-OfArray.ensures.value at c.answer_asked.ensures))

@@ -2,7 +2,7 @@ use Rattle.std.proofs.Common.{◌≡◌, ◌∙◌, Ok, ap, length, map, rules}
 use Rattle.zarrs_chunk_keys.specs.ChunkKey.{IsKey}
 use Rattle.zarrs_chunk_keys.specs.seen.Encodings.{encoding_in}
 use Rattle.zarrs_chunks.specs.seen.Grids.{grid_in}
-use Rattle.zarrs_chunk_questions.specs.Answers.{part_tree}
+use Rattle.zarrs_chunk_questions.specs.Pages.{part_tree}
 use Rattle.zarrs_chunk_questions.proofs.Refusals.{handed_on}
 use Rattle.zarrs_chunk_questions.proofs.SomeItems.{no_parts, parts_page}
 use Rattle.zarrs_chunk_questions.proofs.pages.parts_from.Goals as goal

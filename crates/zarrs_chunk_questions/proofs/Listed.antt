@@ -1,0 +1,67 @@
+-- Some of the chunks in a list, as they were listed.
+use Rattle.std.proofs.Common.{◌≡◌, ◌≢◌, ℕ, zero, suc, ◌-◌, ◌≤◌, List, [], ◌∷◌, ap₂, drop, length, map, min, refl, subst, sym, take, arith}
+use Rattle.std.specs.List.{AllByRecursion, AllZip}
+use Rattle.zarrs_chunk_base.specs.ArraySubset.{Box}
+use Rattle.zarrs_chunk_base.specs.Greatest.{greatest}
+use Rattle.zarrs_chunks.specs.Walks.{chunks_in}
+use Rattle.zarrs_chunk_plan.specs.SomeChunks.{AreSomeChunks}
+use Rattle.zarrs_chunk_plan.specs.declared.numbered_chunks.SomeChunks.{SomeChunks}
+use Rattle.zarrs_chunk_questions.proofs.SomeItems.{all_wanted}
+
+-- what holds of each holds of those taken, and of those behind them
+all_taken : {X : Type 0} (P : X → Type 0) (count : ℕ) (xs : List X) → AllByRecursion P xs → AllByRecursion P (take count xs)
+all_taken P zero xs all = tt
+all_taken P (suc count) [] all = tt
+all_taken P (suc count) (x ∷ xs) all = (all.0, all_taken P count xs all.1)
+
+all_behind : {X : Type 0} (P : X → Type 0) (count : ℕ) (xs : List X) → AllByRecursion P xs → AllByRecursion P (drop count xs)
+all_behind P zero xs all = all
+all_behind P (suc count) [] all = tt
+all_behind P (suc count) (x ∷ xs) all = all_behind P count xs all.1
+
+-- ---- chunks whose numbers are in a list
+
+module _ {C : Type 0} (numbers_of : C → List ℕ) where
+  -- the chunk has these numbers
+  abbrev pub HasNumbers : List ℕ → C → Type 0
+  HasNumbers numbers chunk = numbers_of chunk ≡ numbers
+
+  -- what holds of the numbers holds of the chunks
+  each_listed : (P : List ℕ → Type 0) (lists : List (List ℕ)) (chunks : List C) → AllByRecursion P lists → AllZip HasNumbers lists chunks
+      → AllByRecursion (λ chunk. P (numbers_of chunk)) chunks
+  each_listed P [] [] all are = tt
+  each_listed P (numbers ∷ lists) (chunk ∷ chunks) all are = (subst P (sym are.0) all.0, each_listed P lists chunks all.1 are.1)
+  each_listed P [] (_ ∷ _) all are = absurd are
+  each_listed P (_ ∷ _) [] all are = absurd are
+
+  -- the numbers of the chunks
+  pub numbers_are : (lists : List (List ℕ)) (chunks : List C) → AllZip HasNumbers lists chunks → map numbers_of chunks ≡ lists
+  numbers_are [] [] are = refl
+  numbers_are (numbers ∷ lists) (chunk ∷ chunks) are = ap₂ (λ x xs. x ∷ xs) are.0 (numbers_are lists chunks are.1)
+  numbers_are [] (_ ∷ _) are = absurd are
+  numbers_are (_ ∷ _) [] are = absurd are
+
+  -- what was made of each chunk was made of its numbers
+  pub made_of : {Y : Type 0} (R : List ℕ → Y → Type 0) (lists : List (List ℕ)) (chunks : List C) (ys : List Y)
+      → AllZip HasNumbers lists chunks → AllZip (λ chunk y. R (numbers_of chunk) y) chunks ys → AllZip R lists ys
+  made_of R [] [] ys are made = made
+  made_of R (numbers ∷ lists) (chunk ∷ chunks) (y ∷ ys) are made = (subst (λ n. R n y) are.0 made.0, made_of R lists chunks ys are.1 made.1)
+  made_of R (_ ∷ _) (_ ∷ _) [] are made = absurd made
+  made_of R [] (_ ∷ _) ys are made = absurd are
+  made_of R (_ ∷ _) [] ys are made = absurd are
+
+module _ (box : Box) (first : ℕ) (some : SomeChunks) where
+  -- what holds of all chunks holds of some
+  pub each_of_some : (P : List ℕ → Type 0) (most : ℕ) → AreSomeChunks box first most some → AllByRecursion P (chunks_in box)
+      → AllByRecursion (λ chunk. P chunk.items) some.chunks.items
+  each_of_some P most are all =
+      each_listed (λ chunk. chunk.items) P (take (min (some.in_all - first) most) (drop first (chunks_in box))) some.chunks.items
+      (all_taken P (min (some.in_all - first) most) (drop first (chunks_in box)) (all_behind P first (chunks_in box) all)) are.are_chunks
+
+  -- where they aren't too many, they are all that were wanted
+  pub wanted_chunks : (most too_many : ℕ) → AreSomeChunks box first (min most too_many) some → length some.chunks.items ≢ too_many
+      → AllZip (λ numbers chunk. chunk.items ≡ numbers) (take (min (some.in_all - first) most) (drop first (chunks_in box))) some.chunks.items
+  wanted_chunks most too_many are few =
+      let in_all : some.in_all ≡ min (length (chunks_in box)) greatest = are.in_all in
+      let within : some.in_all ≤ length (chunks_in box) = omega arith in
+      all_wanted (λ numbers chunk. chunk.items ≡ numbers) (chunks_in box) some.chunks.items first most too_many some.in_all within are.are_chunks few
