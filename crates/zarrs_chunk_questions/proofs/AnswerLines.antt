@@ -13,6 +13,7 @@ use Rattle.zarrs_chunk_questions.specs.declared.line_fault.LineFault.TheVariants
 use Rattle.zarrs_chunk_questions.specs.declared.unreadable.Unreadable.{Unreadable}
 use Rattle.zarrs_chunk_questions.specs.Question.{IsReading, Question}
 use Rattle.zarrs_chunk_questions.specs.seen.Read.{fault_of}
+use Rattle.zarrs_chunk_questions.proofs.NoFloats.{no_float}
 use Rattle.zarrs_chunk_questions.specs.seen.Lines.{IsAnswerText, IsLineAnswer, IsLineFault, IsTreeFault, IsUnreadableAs}
 
 -- the text of a fault that says why a line can't be read
@@ -25,7 +26,7 @@ pub is_answer_line : (line answer text : List ℕ) (outcome : Result Value (Refu
     → MatchResult outcome (λ tree. IsLineAnswer line (view tree)) (OrMemory (IsLineFault line)) → IsAnswerText outcome text → answer ≡ line_of text
     → IsAnswerLine line answer
 is_answer_line line answer text (Ok tree) (d, is_text, (question, reading, is)) says same =
-    answered d question (view tree) is_text reading is (λ none. same ∙ ap line_of (says none))
+    answered d question (view tree) is_text reading is (same ∙ ap line_of (says (no_float question (view tree) is)))
 is_answer_line line answer text (Err (Refused fault)) (inl (none, why)) says same =
     no_text none (same ∙ ap line_of (told_as fault _ text why says))
 is_answer_line line answer text (Err (Refused fault)) (inr (d, is_text, inl (why, reading, is))) says same =

@@ -8,3 +8,4 @@ pub mod Listed
 pub mod OfTargets
 pub mod WalkPages
 pub mod CopiesAsked
+pub mod NoFloats

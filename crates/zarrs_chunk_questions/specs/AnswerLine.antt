@@ -1,9 +1,9 @@
 -- The line that answers a line.
 -- Sources: RFC 8259, and JSON Lines; the words are this library's own.
-use Rattle.std.specs.Prelude.{◌≡◌, ℕ, ◌==◌, if◌then◌else◌, List, ◌++◌, map, codes, false, Ok, Err, Some, IsUtf8}
+use Rattle.std.specs.Prelude.{◌≡◌, ℕ, ◌==◌, if◌then◌else◌, List, ◌++◌, map, codes, Ok, Err, Some, IsUtf8}
 use Rattle.serde_json.specs.Data.{Data}
 use Rattle.serde_json.specs.Read.{read}
-use Rattle.serde_json.specs.Written.{compact_text, has_float}
+use Rattle.serde_json.specs.Written.{compact_text}
 use Rattle.zarrs_chunk_questions.specs.Answers.{IsAnswer}
 use Rattle.zarrs_chunk_questions.specs.Line.{IsOneLine}
 use Rattle.zarrs_chunk_questions.specs.Question.{IsReading, Question}
@@ -39,7 +39,7 @@ pub data IsAnswerLine (line answer : List ℕ) : Type 0 where
   no_question : (d : Data) (fault : Fault) → IsTextOf line d → IsReading d (Err fault) → answer ≡ line_of (unreadable fault)
       → IsAnswerLine line answer
   answered : (d : Data) (question : Question) (tree : Data) → IsTextOf line d → IsReading d (Ok question) → IsAnswer question tree
-      → (has_float tree ≡ false → answer ≡ line_of (compact_text tree)) → IsAnswerLine line answer
+      → answer ≡ line_of (compact_text tree) → IsAnswerLine line answer
   refused : (d : Data) (question : Question) (fault : LineFault) (text : List ℕ) → IsTextOf line d → IsReading d (Ok question)
       → IsRefusal question fault → Tells fault text → answer ≡ line_of text → IsAnswerLine line answer
 

@@ -59,7 +59,7 @@ fn write_line(
         × (line.items ≡ line_of text)) }
 {
     let text = answer_text(alloc, answered)?;
-    one_line(alloc, text.as_str())
+    one_line(text)
 }
 
 /// The text of an answer, or of why there is none.
@@ -127,14 +127,17 @@ fn answer_tree(
     }
 }
 
-/// A text as one line: each line feed in it as a space, and one at its end.
-fn one_line(alloc: Global, text: &str) -> Result<Vec<u8>, AllocError>
+/// A text as one line, in its own memory: each line feed in it as a space, and one at its end.
+///
+/// # Errors
+/// Out of memory.
+fn one_line(text: String) -> Result<Vec<u8>, AllocError>
     ensures one { IfOk result (λ line. IsOneLine line.items) }
-    ensures says { IfOk result (λ line. line.items ≡ line_of text.now) }
+    ensures says { IfOk result (λ line. line.items ≡ line_of (string_bytes text)) }
 {
-    let mut line = Vec::with_capacity(alloc, text.len())?;
-    for byte in text.as_bytes() {
-        line.push(unbroken(*byte))?;
+    let mut line = text.into_bytes();
+    for byte in line.iter_mut() {
+        *byte = unbroken(*byte);
     }
     line.push(b'\n')?;
     Ok(line)

@@ -1,0 +1,179 @@
+-- No answer has a float: its numbers are sizes.
+use Rattle.std.proofs.Common.{◌≡◌, ◌∙◌, ◌||◌, ℕ, zero, suc, Bool, false, List, [], ◌∷◌, Option, Some, None, ap, ap₂, length, map, nat_lt, refl, take}
+use Rattle.std.proofs.lemmas.Bool.{or_parts}
+use Rattle.std.specs.Int.NonZero.{non_zero_u64_get}
+use Rattle.serde_json.specs.Data.{Data, Members}
+use Rattle.serde_json.specs.View.{items_of}
+use Rattle.serde_json.specs.Written.{has_float, items_have_float, members_have_float}
+use Rattle.zarrs_chunk_base.specs.ArraySubset.{Box}
+use Rattle.zarrs_chunk_base.specs.DimensionEdges.{DimensionEdges, equal, listed}
+use Rattle.zarrs_chunk_base.specs.Grid.{Grid}
+use Rattle.zarrs_chunk_base.specs.GridConfigurations.{dimension_edges_tree, element_tree, lengths_tree}
+use Rattle.zarrs_chunk_base.specs.Json.{list_tree, size_tree}
+use Rattle.zarrs_chunk_base.specs.Metadata.{extension_tree}
+use Rattle.zarrs_chunk_base.specs.RunLength.{EdgeLengths, Element, repeated, scalar, single, varying}
+use Rattle.zarrs_chunks.specs.GridKinds.{GridKind, grid_kind, rectangular, rectilinear, regular, regular_bounded}
+use Rattle.zarrs_chunks.specs.Walks.{box_at, boxed, chunks_of}
+use Rattle.zarrs_chunk_base.specs.Dimension.{Dimension, array_sizes, grid_sizes}
+use Rattle.zarrs_chunk_plan.specs.Rechunking.{Group}
+use Rattle.zarrs_chunk_plan.specs.declared.numbered_parts.SomeParts.{SomeParts}
+use Rattle.zarrs_chunk_questions.specs.Answers.{IsAnswer, IsArrayAnswer, IsBoxAnswer, IsGridAnswer, IsNumbersAnswer, edges_tree, items_tree, located_tree}
+use Rattle.zarrs_chunk_questions.specs.Pages.{chunks_from, first_of, group_tree, is_more, item_tree, item_trees, number_of, page_tree, part_tree, parts_tree, source_tree, walk_page}
+use Rattle.zarrs_chunk_questions.specs.Question.{Asked, Question, copies, counted, decode, encode, located, of_array, of_box, of_grid, of_numbers}
+use Rattle.zarrs_chunk_questions.specs.Question.{of_walk, parts, runs}
+use Rattle.zarrs_chunk_questions.specs.Trees.{box_of, box_tree, numbers_tree, or_null}
+use Rattle.zarrs_chunk_questions.specs.declared.call.OfBox.{OfBox}
+use Rattle.zarrs_chunk_questions.specs.declared.call.OfBox.TheVariants.{ChunksInArraySubset, ChunksSubset}
+use Rattle.zarrs_chunk_questions.specs.declared.call.OfGrid.{OfGrid}
+use Rattle.zarrs_chunk_questions.specs.declared.call.OfGrid.TheVariants.{ArrayShape, Configuration, Dimensionality, GridShape, Metadata}
+use Rattle.zarrs_chunk_questions.specs.declared.call.OfNumbers.{OfNumbers}
+use Rattle.zarrs_chunk_questions.specs.declared.call.OfNumbers.TheVariants.{ArrayIndicesInbounds, ChunkElementIndices, ChunkIndices}
+use Rattle.zarrs_chunk_questions.specs.declared.call.OfNumbers.TheVariants.{ChunkIndicesInbounds, ChunkOrigin, ChunkShape, ChunkShapeNumbers, Subset}
+use Rattle.zarrs_chunk_questions.specs.declared.call.WalkOf.{WalkOf}
+use Rattle.zarrs_chunk_questions.specs.declared.call.WalkOf.TheVariants.{Boxes, Chunks, ChunksAndBoxes}
+
+abbrev HasNone : Data → Type 0
+HasNone d = has_float d ≡ false
+
+-- ---- the forms
+
+mapped : {X : Type 0} (tree : X → Data) → ((x : X) → HasNone (tree x)) → (xs : List X) → items_have_float (items_of (map tree xs)) ≡ false
+mapped tree each [] = refl
+mapped tree each (x ∷ xs) = ap₂ (λ a b. a || b) (each x) (mapped tree each xs)
+
+of_list : {X : Type 0} (tree : X → Data) → ((x : X) → HasNone (tree x)) → (xs : List X) → HasNone (list_tree tree xs)
+of_list tree each xs = mapped tree each xs
+
+numbers : (xs : List ℕ) → HasNone (numbers_tree xs)
+numbers = of_list size_tree (λ n. refl)
+
+a_box : (b : Box) → HasNone (box_tree b)
+a_box b = of_list numbers_tree numbers (b.start ∷ b.shape ∷ [])
+
+or_none : {X : Type 0} (tree : X → Data) → ((x : X) → HasNone (tree x)) → (answer : Option X) → HasNone (or_null tree answer)
+or_none tree each None = refl
+or_none tree each (Some x) = each x
+
+-- ---- configurations
+
+edges : (e : DimensionEdges) → HasNone (dimension_edges_tree e)
+edges (equal edge) = refl
+edges (listed xs) = numbers xs
+
+element : (e : Element) → HasNone (element_tree e)
+element (single edge) = refl
+element (repeated edge count) = numbers (edge ∷ count ∷ [])
+
+lengths : (l : EdgeLengths) → HasNone (lengths_tree l)
+lengths (scalar edge) = refl
+lengths (varying elements) = of_list element_tree element elements
+
+or_false : (d : Data) → HasNone d → (has_float d || false) ≡ false
+or_false d none = ap (λ b. b || false) none
+
+configuration : (kind : GridKind) (x : (grid_kind kind).Said) → members_have_float ((grid_kind kind).written x) ≡ false
+configuration regular xs = or_false (numbers_tree xs) (numbers xs)
+configuration regular_bounded xs = or_false (numbers_tree xs) (numbers xs)
+configuration rectangular xs = or_false (list_tree dimension_edges_tree xs) (of_list dimension_edges_tree edges xs)
+configuration rectilinear xs = or_false (list_tree lengths_tree xs) (of_list lengths_tree lengths xs)
+
+of_members : (name : List ℕ) (configuration : Option Members) (said : Members) → configuration ≡ Some said → members_have_float said ≡ false
+    → HasNone (extension_tree (record { name = name; configuration = configuration }))
+of_members name configuration said is none = rw is (ap (λ b. b || false) none)
+
+-- ---- a grid, numbers and boxes
+
+of_alone : (call : OfGrid) (kind : GridKind) (grid : Grid) (t : Data) → IsGridAnswer call kind grid t → HasNone t
+of_alone Dimensionality kind grid t is = ap has_float is
+of_alone ArrayShape kind grid t is = ap has_float is ∙ numbers (array_sizes grid.dimensions)
+of_alone GridShape kind grid t is = ap has_float is ∙ numbers (grid_sizes grid.dimensions)
+of_alone Configuration kind grid t (said, (x, accepts, makes, is_written, written, reads), is) =
+    ap has_float is ∙ ap members_have_float written ∙ configuration kind x
+of_alone Metadata kind grid t (e, is, same) =
+    let (x, accepts, makes, is_written, written, reads) = is.is_configuration in
+    let none : members_have_float is.members ≡ false = ap members_have_float written ∙ configuration kind x in
+    ap has_float same ∙ of_members e.name e.configuration is.members is.configuration none
+
+of_says : {X : Type 0} (tree : X → Data) → ((x : X) → HasNone (tree x)) → (answer : Option X) (t : Data) → t ≡ or_null tree answer → HasNone t
+of_says tree each answer t is = ap has_float is ∙ or_none tree each answer
+
+of_list_of_numbers : (call : OfNumbers) (grid : Grid) (xs : List ℕ) (t : Data) → IsNumbersAnswer call grid xs t → HasNone t
+of_list_of_numbers ChunkShape grid xs t (answer, may, is) = of_says edges_tree (λ v. numbers (map non_zero_u64_get v.items)) answer t is
+of_list_of_numbers ChunkShapeNumbers grid xs t (answer, may, is) = of_says items_tree (λ v. numbers v.items) answer t is
+of_list_of_numbers ChunkOrigin grid xs t (answer, may, is) = of_says items_tree (λ v. numbers v.items) answer t is
+of_list_of_numbers ChunkIndices grid xs t (answer, may, is) = of_says items_tree (λ v. numbers v.items) answer t is
+of_list_of_numbers ChunkElementIndices grid xs t (answer, may, is) = of_says items_tree (λ v. numbers v.items) answer t is
+of_list_of_numbers Subset grid xs t (answer, may, is) = of_says box_tree a_box answer t is
+of_list_of_numbers ChunkIndicesInbounds grid xs t (answer, same, is) = ap has_float is
+of_list_of_numbers ArrayIndicesInbounds grid xs t (answer, same, is) = ap has_float is
+
+of_a_box : (call : OfBox) (ds : List Dimension) (b : Box) (t : Data) → IsBoxAnswer call ds b t → HasNone t
+of_a_box ChunksSubset ds b t (answer, may, is) = of_says box_tree a_box answer t is
+of_a_box ChunksInArraySubset ds b t (answer, may, is) = of_says box_tree a_box answer t is
+
+-- ---- items of walks and of plans
+
+of_page : (items : List Data) (more : Bool) → items_have_float (items_of items) ≡ false → HasNone (page_tree items more)
+of_page items more none = ap (λ b. b || false) none
+
+an_item : (walk : WalkOf) (ds : List Dimension) (chunk : List ℕ) → HasNone (item_tree walk ds chunk)
+an_item Chunks ds chunk = numbers chunk
+an_item Boxes ds chunk = a_box (box_at ds chunk)
+an_item ChunksAndBoxes ds chunk = ap₂ (λ a b. a || (b || false)) (numbers chunk) (a_box (box_at ds chunk))
+
+items : (walk : WalkOf) (ds : List Dimension) (chunks : List (List ℕ)) → items_have_float (items_of (item_trees walk ds chunks)) ≡ false
+items Chunks ds chunks = mapped (item_tree Chunks ds) (an_item Chunks ds) chunks
+items Boxes ds chunks = mapped (item_tree Boxes ds) (an_item Boxes ds) (boxed ds chunks)
+items ChunksAndBoxes ds chunks = mapped (item_tree ChunksAndBoxes ds) (an_item ChunksAndBoxes ds) (boxed ds chunks)
+
+some_taken : (count : ℕ) (xs : List Data) → items_have_float (items_of xs) ≡ false → items_have_float (items_of (take count xs)) ≡ false
+some_taken zero xs none = refl
+some_taken (suc count) [] none = refl
+some_taken (suc count) (x ∷ xs) none =
+    let both = or_parts (has_float x) (items_have_float (items_of xs)) none in
+    ap₂ (λ a b. a || b) both.0 (some_taken count xs both.1)
+
+of_a_walk : (walk : WalkOf) (ds : List Dimension) (most : ℕ) (first : Option ℕ) → HasNone (walk_page walk ds most first)
+of_a_walk walk ds most None =
+    let all = item_trees walk ds (chunks_of ds) in
+    of_page (take most all) (nat_lt most (length all)) (some_taken most all (items walk ds (chunks_of ds)))
+of_a_walk walk ds most (Some first) =
+    let chunks = chunks_from first most (chunks_of ds) in
+    of_page (item_trees walk ds chunks) (is_more first (length chunks) (number_of (chunks_of ds))) (items walk ds chunks)
+
+-- numbers and two boxes
+of_part : (chunk : List ℕ) (b other : Box)
+    → (has_float (numbers_tree chunk) || (has_float (box_tree b) || (has_float (box_tree other) || (false || false)))) ≡ false
+of_part chunk b other = rw (numbers chunk, a_box b, a_box other) refl
+
+of_some_parts : (first : ℕ) (some : SomeParts) → HasNone (parts_tree first some)
+of_some_parts first some =
+    of_page (map part_tree some.parts.items) (is_more first (length some.parts.items) some.in_all)
+    (mapped part_tree (λ part. of_part part.chunk.items part.in_chunk part.in_subset) some.parts.items)
+
+a_group : (group : Group) → HasNone (group_tree group)
+a_group group =
+    rw (mapped source_tree (λ part. of_part part.chunk.items part.in_chunk part.in_subset) group.1, numbers group.0.chunk.items) refl
+
+-- ---- of a question
+
+of_an_array : (shape : List ℕ) (asked : Asked) (kind : GridKind) (grid : Grid) (t : Data) → IsArrayAnswer shape asked kind grid t → HasNone t
+of_an_array shape (of_grid call) kind grid t is = of_alone call kind grid t is
+of_an_array shape (of_numbers call xs) kind grid t is = of_list_of_numbers call grid xs t is
+of_an_array shape (of_box call lists) kind grid t is = of_a_box call grid.dimensions (box_of lists) t is.1
+of_an_array shape (of_walk walk wanted) kind grid t is = ap has_float is ∙ of_a_walk walk grid.dimensions wanted.most wanted.first
+of_an_array shape (runs dimension) kind grid t (of_kind, (answer, told, is)) = of_says size_tree (λ n. refl) answer t is
+of_an_array shape (counted index) kind grid t (of_kind, is) =
+    ap has_float is.tree ∙ ap (λ b. b || (false || false)) (or_none items_tree (λ v. numbers v.items) is.answer)
+of_an_array shape (located tree index) kind grid t (encoding, made, (answer, may, is)) =
+    of_says located_tree (λ at. rw (numbers at.chunk.items, numbers at.element.items) refl) answer t is
+of_an_array shape (parts tree wanted lists) kind grid t (encoding, made, is_box, (answer, may, is)) =
+    of_says (parts_tree (first_of wanted)) (of_some_parts (first_of wanted)) answer t is
+of_an_array shape (copies tree target wanted chunks) kind grid t is =
+    let (in_all, groups, are, same) = is.answers in
+    ap has_float same ∙ of_page (map group_tree groups) (is_more (first_of wanted) (length groups) in_all) (mapped group_tree a_group groups)
+
+pub no_float : (question : Question) (t : Data) → IsAnswer question t → has_float t ≡ false
+no_float (of_array shape tree asked) t (kind, grid, made, is) = of_an_array shape asked kind grid t is
+no_float (encode tree chunk) t (encoding, made, (key, is_key, is)) = ap has_float is
+no_float (decode tree key dimensionality) t (encoding, made, no_slash, (answer, is_decoded, is)) = of_says items_tree (λ v. numbers v.items) answer t is
