@@ -15,13 +15,13 @@ use Rattle.zarrs_chunk_plan.specs.declared.stored_array.StoredArray.{StoredArray
 use Rattle.zarrs_chunks.specs.seen.Grids.{grid_in, kind_in}
 use Rattle.zarrs_chunks.specs.declared.chunk_grid.named.ChunkGrid.{ChunkGrid}
 use Rattle.zarrs_chunk_questions.specs.Pages.{IsCopiesAnswer, IsSomeCopiesAnswer, first_of, target_chunks}
-use Rattle.zarrs_chunk_questions.specs.Question.{Items, Lists, Metadata}
+use Rattle.zarrs_chunk_questions.specs.Question.{Items, Lists, Target}
 use Rattle.zarrs_chunk_questions.specs.Refused.{IsNoRechunking, IsSomeCopiesRefusal}
 use Rattle.zarrs_chunk_questions.specs.Trees.{IsEncodingIn, box_of}
 use Rattle.zarrs_chunk_questions.specs.seen.Targets.{IsTargetIn}
 use Rattle.zarrs_chunk_questions.specs.declared.line_fault.LineFault.{LineFault}
 
-module _ (shape : List ℕ) (tree : Data) (target : Metadata) (items : Items) (chunks : Option Lists) (grid : Grid) (encoding : Encoding)
+module _ (shape : List ℕ) (tree : Data) (target : Target) (items : Items) (chunks : Option Lists) (grid : Grid) (encoding : Encoding)
     (is_encoding : IsEncodingIn tree encoding) (made : StoredArray ChunkGrid ChunkKeyEncoding) (is_target : IsTargetIn target shape made) where
   abbrev IsAnswerOf : Box → (first most : ℕ) → Data → Type 0
   IsAnswerOf =

@@ -6,13 +6,12 @@ use Rattle.serde_json.specs.Data.{Data, Members}
 use Rattle.serde_json.specs.View.{items_of}
 use Rattle.serde_json.specs.Written.{has_float, items_have_float, members_have_float}
 use Rattle.zarrs_chunk_base.specs.ArraySubset.{Box}
-use Rattle.zarrs_chunk_base.specs.DimensionEdges.{DimensionEdges, equal, listed}
 use Rattle.zarrs_chunk_base.specs.Grid.{Grid}
-use Rattle.zarrs_chunk_base.specs.GridConfigurations.{dimension_edges_tree, element_tree, lengths_tree}
-use Rattle.zarrs_chunk_base.specs.Json.{list_tree, size_tree}
+use Rattle.zarrs_chunk_base.specs.Json.{size_tree}
 use Rattle.zarrs_chunk_base.specs.Metadata.{extension_tree}
-use Rattle.zarrs_chunk_base.specs.RunLength.{EdgeLengths, Element, repeated, scalar, single, varying}
-use Rattle.zarrs_chunks.specs.GridKinds.{GridKind, grid_kind, rectangular, rectilinear, regular, regular_bounded}
+use Rattle.zarrs_chunks.specs.GridKinds.{GridKind}
+use Rattle.zarrs_chunks.proofs.NoFloats.{no_float_in_list, no_float_in_numbers, no_float_mapped}
+use Rattle.zarrs_chunks.proofs.SeenGrids.{no_float_written}
 use Rattle.zarrs_chunks.specs.Walks.{box_at, boxed, chunks_of}
 use Rattle.zarrs_chunk_base.specs.Dimension.{Dimension, array_sizes, grid_sizes}
 use Rattle.zarrs_chunk_plan.specs.Rechunking.{Group}
@@ -37,46 +36,14 @@ HasNone d = has_float d ≡ false
 
 -- ---- the forms
 
-mapped : {X : Type 0} (tree : X → Data) → ((x : X) → HasNone (tree x)) → (xs : List X) → items_have_float (items_of (map tree xs)) ≡ false
-mapped tree each [] = refl
-mapped tree each (x ∷ xs) = ap₂ (λ a b. a || b) (each x) (mapped tree each xs)
-
-of_list : {X : Type 0} (tree : X → Data) → ((x : X) → HasNone (tree x)) → (xs : List X) → HasNone (list_tree tree xs)
-of_list tree each xs = mapped tree each xs
-
-numbers : (xs : List ℕ) → HasNone (numbers_tree xs)
-numbers = of_list size_tree (λ n. refl)
-
 a_box : (b : Box) → HasNone (box_tree b)
-a_box b = of_list numbers_tree numbers (b.start ∷ b.shape ∷ [])
+a_box b = no_float_in_list numbers_tree no_float_in_numbers (b.start ∷ b.shape ∷ [])
 
 or_none : {X : Type 0} (tree : X → Data) → ((x : X) → HasNone (tree x)) → (answer : Option X) → HasNone (or_null tree answer)
 or_none tree each None = refl
 or_none tree each (Some x) = each x
 
--- ---- configurations
-
-edges : (e : DimensionEdges) → HasNone (dimension_edges_tree e)
-edges (equal edge) = refl
-edges (listed xs) = numbers xs
-
-element : (e : Element) → HasNone (element_tree e)
-element (single edge) = refl
-element (repeated edge count) = numbers (edge ∷ count ∷ [])
-
-lengths : (l : EdgeLengths) → HasNone (lengths_tree l)
-lengths (scalar edge) = refl
-lengths (varying elements) = of_list element_tree element elements
-
-or_false : (d : Data) → HasNone d → (has_float d || false) ≡ false
-or_false d none = ap (λ b. b || false) none
-
-configuration : (kind : GridKind) (x : (grid_kind kind).Said) → members_have_float ((grid_kind kind).written x) ≡ false
-configuration regular xs = or_false (numbers_tree xs) (numbers xs)
-configuration regular_bounded xs = or_false (numbers_tree xs) (numbers xs)
-configuration rectangular xs = or_false (list_tree dimension_edges_tree xs) (of_list dimension_edges_tree edges xs)
-configuration rectilinear xs = or_false (list_tree lengths_tree xs) (of_list lengths_tree lengths xs)
-
+-- the metadata of an extension whose configuration has none
 of_members : (name : List ℕ) (configuration : Option Members) (said : Members) → configuration ≡ Some said → members_have_float said ≡ false
     → HasNone (extension_tree (record { name = name; configuration = configuration }))
 of_members name configuration said is none = rw is (ap (λ b. b || false) none)
@@ -85,24 +52,24 @@ of_members name configuration said is none = rw is (ap (λ b. b || false) none)
 
 of_alone : (call : OfGrid) (kind : GridKind) (grid : Grid) (t : Data) → IsGridAnswer call kind grid t → HasNone t
 of_alone Dimensionality kind grid t is = ap has_float is
-of_alone ArrayShape kind grid t is = ap has_float is ∙ numbers (array_sizes grid.dimensions)
-of_alone GridShape kind grid t is = ap has_float is ∙ numbers (grid_sizes grid.dimensions)
+of_alone ArrayShape kind grid t is = ap has_float is ∙ no_float_in_numbers (array_sizes grid.dimensions)
+of_alone GridShape kind grid t is = ap has_float is ∙ no_float_in_numbers (grid_sizes grid.dimensions)
 of_alone Configuration kind grid t (said, (x, accepts, makes, is_written, written, reads), is) =
-    ap has_float is ∙ ap members_have_float written ∙ configuration kind x
+    ap has_float is ∙ ap members_have_float written ∙ no_float_written kind x
 of_alone Metadata kind grid t (e, is, same) =
     let (x, accepts, makes, is_written, written, reads) = is.is_configuration in
-    let none : members_have_float is.members ≡ false = ap members_have_float written ∙ configuration kind x in
+    let none : members_have_float is.members ≡ false = ap members_have_float written ∙ no_float_written kind x in
     ap has_float same ∙ of_members e.name e.configuration is.members is.configuration none
 
 of_says : {X : Type 0} (tree : X → Data) → ((x : X) → HasNone (tree x)) → (answer : Option X) (t : Data) → t ≡ or_null tree answer → HasNone t
 of_says tree each answer t is = ap has_float is ∙ or_none tree each answer
 
 of_list_of_numbers : (call : OfNumbers) (grid : Grid) (xs : List ℕ) (t : Data) → IsNumbersAnswer call grid xs t → HasNone t
-of_list_of_numbers ChunkShape grid xs t (answer, may, is) = of_says edges_tree (λ v. numbers (map non_zero_u64_get v.items)) answer t is
-of_list_of_numbers ChunkShapeNumbers grid xs t (answer, may, is) = of_says items_tree (λ v. numbers v.items) answer t is
-of_list_of_numbers ChunkOrigin grid xs t (answer, may, is) = of_says items_tree (λ v. numbers v.items) answer t is
-of_list_of_numbers ChunkIndices grid xs t (answer, may, is) = of_says items_tree (λ v. numbers v.items) answer t is
-of_list_of_numbers ChunkElementIndices grid xs t (answer, may, is) = of_says items_tree (λ v. numbers v.items) answer t is
+of_list_of_numbers ChunkShape grid xs t (answer, may, is) = of_says edges_tree (λ v. no_float_in_numbers (map non_zero_u64_get v.items)) answer t is
+of_list_of_numbers ChunkShapeNumbers grid xs t (answer, may, is) = of_says items_tree (λ v. no_float_in_numbers v.items) answer t is
+of_list_of_numbers ChunkOrigin grid xs t (answer, may, is) = of_says items_tree (λ v. no_float_in_numbers v.items) answer t is
+of_list_of_numbers ChunkIndices grid xs t (answer, may, is) = of_says items_tree (λ v. no_float_in_numbers v.items) answer t is
+of_list_of_numbers ChunkElementIndices grid xs t (answer, may, is) = of_says items_tree (λ v. no_float_in_numbers v.items) answer t is
 of_list_of_numbers Subset grid xs t (answer, may, is) = of_says box_tree a_box answer t is
 of_list_of_numbers ChunkIndicesInbounds grid xs t (answer, same, is) = ap has_float is
 of_list_of_numbers ArrayIndicesInbounds grid xs t (answer, same, is) = ap has_float is
@@ -117,14 +84,14 @@ of_page : (items : List Data) (more : Bool) → items_have_float (items_of items
 of_page items more none = ap (λ b. b || false) none
 
 an_item : (walk : WalkOf) (ds : List Dimension) (chunk : List ℕ) → HasNone (item_tree walk ds chunk)
-an_item Chunks ds chunk = numbers chunk
+an_item Chunks ds chunk = no_float_in_numbers chunk
 an_item Boxes ds chunk = a_box (box_at ds chunk)
-an_item ChunksAndBoxes ds chunk = ap₂ (λ a b. a || (b || false)) (numbers chunk) (a_box (box_at ds chunk))
+an_item ChunksAndBoxes ds chunk = ap₂ (λ a b. a || (b || false)) (no_float_in_numbers chunk) (a_box (box_at ds chunk))
 
 items : (walk : WalkOf) (ds : List Dimension) (chunks : List (List ℕ)) → items_have_float (items_of (item_trees walk ds chunks)) ≡ false
-items Chunks ds chunks = mapped (item_tree Chunks ds) (an_item Chunks ds) chunks
-items Boxes ds chunks = mapped (item_tree Boxes ds) (an_item Boxes ds) (boxed ds chunks)
-items ChunksAndBoxes ds chunks = mapped (item_tree ChunksAndBoxes ds) (an_item ChunksAndBoxes ds) (boxed ds chunks)
+items Chunks ds chunks = no_float_mapped (item_tree Chunks ds) (an_item Chunks ds) chunks
+items Boxes ds chunks = no_float_mapped (item_tree Boxes ds) (an_item Boxes ds) (boxed ds chunks)
+items ChunksAndBoxes ds chunks = no_float_mapped (item_tree ChunksAndBoxes ds) (an_item ChunksAndBoxes ds) (boxed ds chunks)
 
 some_taken : (count : ℕ) (xs : List Data) → items_have_float (items_of xs) ≡ false → items_have_float (items_of (take count xs)) ≡ false
 some_taken zero xs none = refl
@@ -144,16 +111,16 @@ of_a_walk walk ds most (Some first) =
 -- numbers and two boxes
 of_part : (chunk : List ℕ) (b other : Box)
     → (has_float (numbers_tree chunk) || (has_float (box_tree b) || (has_float (box_tree other) || (false || false)))) ≡ false
-of_part chunk b other = rw (numbers chunk, a_box b, a_box other) refl
+of_part chunk b other = rw (no_float_in_numbers chunk, a_box b, a_box other) refl
 
 of_some_parts : (first : ℕ) (some : SomeParts) → HasNone (parts_tree first some)
 of_some_parts first some =
     of_page (map part_tree some.parts.items) (is_more first (length some.parts.items) some.in_all)
-    (mapped part_tree (λ part. of_part part.chunk.items part.in_chunk part.in_subset) some.parts.items)
+    (no_float_mapped part_tree (λ part. of_part part.chunk.items part.in_chunk part.in_subset) some.parts.items)
 
 a_group : (group : Group) → HasNone (group_tree group)
 a_group group =
-    rw (mapped source_tree (λ part. of_part part.chunk.items part.in_chunk part.in_subset) group.1, numbers group.0.chunk.items) refl
+    rw (no_float_mapped source_tree (λ part. of_part part.chunk.items part.in_chunk part.in_subset) group.1, no_float_in_numbers group.0.chunk.items) refl
 
 -- ---- of a question
 
@@ -164,16 +131,16 @@ of_an_array shape (of_box call lists) kind grid t is = of_a_box call grid.dimens
 of_an_array shape (of_walk walk wanted) kind grid t is = ap has_float is ∙ of_a_walk walk grid.dimensions wanted.most wanted.first
 of_an_array shape (runs dimension) kind grid t (of_kind, (answer, told, is)) = of_says size_tree (λ n. refl) answer t is
 of_an_array shape (counted index) kind grid t (of_kind, is) =
-    ap has_float is.tree ∙ ap (λ b. b || (false || false)) (or_none items_tree (λ v. numbers v.items) is.answer)
+    ap has_float is.tree ∙ ap (λ b. b || (false || false)) (or_none items_tree (λ v. no_float_in_numbers v.items) is.answer)
 of_an_array shape (located tree index) kind grid t (encoding, made, (answer, may, is)) =
-    of_says located_tree (λ at. rw (numbers at.chunk.items, numbers at.element.items) refl) answer t is
+    of_says located_tree (λ at. rw (no_float_in_numbers at.chunk.items, no_float_in_numbers at.element.items) refl) answer t is
 of_an_array shape (parts tree wanted lists) kind grid t (encoding, made, is_box, (answer, may, is)) =
     of_says (parts_tree (first_of wanted)) (of_some_parts (first_of wanted)) answer t is
 of_an_array shape (copies tree target wanted chunks) kind grid t is =
     let (in_all, groups, are, same) = is.answers in
-    ap has_float same ∙ of_page (map group_tree groups) (is_more (first_of wanted) (length groups) in_all) (mapped group_tree a_group groups)
+    ap has_float same ∙ of_page (map group_tree groups) (is_more (first_of wanted) (length groups) in_all) (no_float_mapped group_tree a_group groups)
 
 pub no_float : (question : Question) (t : Data) → IsAnswer question t → has_float t ≡ false
 no_float (of_array shape tree asked) t (kind, grid, made, is) = of_an_array shape asked kind grid t is
 no_float (encode tree chunk) t (encoding, made, (key, is_key, is)) = ap has_float is
-no_float (decode tree key dimensionality) t (encoding, made, no_slash, (answer, is_decoded, is)) = of_says items_tree (λ v. numbers v.items) answer t is
+no_float (decode tree key dimensionality) t (encoding, made, no_slash, (answer, is_decoded, is)) = of_says items_tree (λ v. no_float_in_numbers v.items) answer t is

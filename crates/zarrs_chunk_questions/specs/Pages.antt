@@ -18,7 +18,7 @@ use Rattle.zarrs_chunk_plan.specs.SomeCopies.{AreGroupsFrom}
 use Rattle.zarrs_chunk_plan.specs.SomeParts.{AnswersNone, AnswersSome}
 use Rattle.zarrs_chunk_plan.specs.declared.numbered_parts.SomeParts.{SomeParts}
 use Rattle.zarrs_chunk_plan.specs.declared.part.Part.{Part}
-use Rattle.zarrs_chunk_questions.specs.Question.{Items, Lists, Metadata}
+use Rattle.zarrs_chunk_questions.specs.Question.{Items, Lists, Target}
 use Rattle.zarrs_chunk_questions.specs.Trees.{IsEncodingIn, IsGridIn, Says, box_of, box_tree, numbers_tree}
 use Rattle.zarrs_chunk_questions.specs.declared.call.WalkOf.{WalkOf}
 use Rattle.zarrs_chunk_questions.specs.declared.call.WalkOf.TheVariants.{Boxes, Chunks, ChunksAndBoxes}
@@ -135,7 +135,7 @@ target_chunks (Some lists) ds = box_of lists
 target_chunks None ds = all_chunks_box ds
 
 -- from this grid's array and an encoding to those of the target, which are made of its metadata for an array of this shape
-pub record IsSomeCopiesAnswer (shape : List ℕ) (tree : Data) (target : Metadata) (items : Items) (chunks : Option Lists) (grid : Grid)
+pub record IsSomeCopiesAnswer (shape : List ℕ) (tree : Data) (target : Target) (items : Items) (chunks : Option Lists) (grid : Grid)
     (t : Data) : Type 0 where
   pub encoding : Encoding
   pub is_encoding : IsEncodingIn tree encoding

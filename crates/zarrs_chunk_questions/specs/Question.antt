@@ -25,8 +25,8 @@ pub record Items : Type 0 where
   pub most : ℕ
   pub first : Option ℕ
 
--- the trees of a grid's and an encoding's metadata
-pub record Metadata : Type 0 where
+-- how an array is to be stored: the trees of a grid's and an encoding's metadata
+pub record Target : Type 0 where
   pub chunk_grid : Data
   pub chunk_key_encoding : Data
 
@@ -40,7 +40,7 @@ pub data Asked : Type 0 where
   counted : (index : List ℕ) → Asked
   located : (encoding : Data) (index : List ℕ) → Asked
   parts : (encoding : Data) (items : Items) (b : Lists) → Asked
-  copies : (encoding : Data) (target : Metadata) (items : Items) (chunks : Option Lists) → Asked
+  copies : (encoding : Data) (target : Target) (items : Items) (chunks : Option Lists) → Asked
 
 -- what is asked: of the grid of an array with this shape, of which the tree is the metadata; the key of a chunk; or the chunk of a key
 pub data Question : Type 0 where
@@ -66,7 +66,7 @@ items_in d =
 abbrev pub of_target : (field path : List ℕ) → Data → Reading Data
 of_target field path target = ok_or (get field target) (missing path)
 
-abbrev pub target_in : Data → Reading Metadata
+abbrev pub target_in : Data → Reading Target
 target_in d =
     then (required (codes "target") d) (λ target.
     then (in_form as_object (codes "target") target) (λ _.

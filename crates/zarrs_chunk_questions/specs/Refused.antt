@@ -21,7 +21,7 @@ use Rattle.zarrs_chunks.specs.Subsets.{AnswersChunksSubset}
 use Rattle.zarrs_chunk_plan.specs.seen.Copies.{IsCopiesFault}
 use Rattle.zarrs_chunk_questions.specs.Answers.{AnswersCoverOf}
 use Rattle.zarrs_chunk_questions.specs.Pages.{AnswersPartsOf, target_chunks}
-use Rattle.zarrs_chunk_questions.specs.Question.{Asked, Lists, Metadata as TargetMetadata, Question, copies, counted, decode, encode, located}
+use Rattle.zarrs_chunk_questions.specs.Question.{Asked, Lists, Question, Target, copies, counted, decode, encode, located}
 use Rattle.zarrs_chunk_questions.specs.Question.{of_array, of_box, of_grid, of_numbers, of_walk, parts, runs}
 use Rattle.zarrs_chunk_questions.specs.Trees.{IsEncodingIn, IsGridIn, box_of}
 use Rattle.zarrs_chunk_questions.specs.declared.call.OfBox.{OfBox}
@@ -30,8 +30,7 @@ use Rattle.zarrs_chunk_questions.specs.declared.call.OfNumbers.{OfNumbers}
 use Rattle.zarrs_chunk_questions.specs.declared.call.OfNumbers.TheVariants.{ArrayIndicesInbounds, ChunkIndicesInbounds}
 use Rattle.zarrs_chunk_questions.specs.declared.line_fault.LineFault.{LineFault}
 use Rattle.zarrs_chunk_questions.specs.declared.line_fault.LineFault.TheVariants.{Copies, Extension, Key, Lengths, Metadata, NotBox, Unreadable}
-use Rattle.zarrs_chunk_questions.specs.declared.line_fault.LineFault.TheVariants.{TargetExtension as OfTargetExtension}
-use Rattle.zarrs_chunk_questions.specs.declared.line_fault.LineFault.TheVariants.{TargetMetadata as OfTargetMetadata}
+use Rattle.zarrs_chunk_questions.specs.declared.line_fault.LineFault.TheVariants.{TargetExtension, TargetMetadata}
 use Rattle.zarrs_chunk_questions.specs.declared.unreadable.Unreadable.TheVariants.{NoCall}
 
 -- the fault tells that so many numbers were given, and others expected
@@ -104,8 +103,8 @@ IsSomePartsRefusal tree lists grid fault =
 
 -- it is the fault of the target's grid or encoding
 abbrev pub IsOfTarget : (LineFault → Type 0) → LineFault → Type 0
-IsOfTarget IsFault (OfTargetMetadata error) = IsFault (Metadata error)
-IsOfTarget IsFault (OfTargetExtension error) = IsFault (Extension error)
+IsOfTarget IsFault (TargetMetadata error) = IsFault (Metadata error)
+IsOfTarget IsFault (TargetExtension error) = IsFault (Extension error)
 IsOfTarget _ _ = ⊥
 
 -- the library refuses the rechunking
@@ -126,7 +125,7 @@ IsBoxOrCopiesRefusal source target chunks fault =
     ⊎ (IfSome chunks (λ lists. IsBox (box_of lists)) × IsNoRechunking source target (target_chunks chunks target) fault)
 
 -- there is no grid of the target; no encoding of it; or one of these
-abbrev pub IsTargetRefusal : (shape : List ℕ) → TargetMetadata → Option Lists → Grid → LineFault → Type 0
+abbrev pub IsTargetRefusal : (shape : List ℕ) → Target → Option Lists → Grid → LineFault → Type 0
 IsTargetRefusal shape target chunks grid fault =
     IsOfTarget (IsNoGrid target.chunk_grid shape) fault
     ⊎ ((kind : GridKind) × (to : Grid) × IsGridIn target.chunk_grid shape kind to
@@ -135,7 +134,7 @@ IsTargetRefusal shape target chunks grid fault =
     × IsBoxOrCopiesRefusal grid.dimensions to.dimensions chunks fault)))
 
 -- there is no encoding; or one of these
-abbrev pub IsSomeCopiesRefusal : (shape : List ℕ) → Data → TargetMetadata → Option Lists → Grid → LineFault → Type 0
+abbrev pub IsSomeCopiesRefusal : (shape : List ℕ) → Data → Target → Option Lists → Grid → LineFault → Type 0
 IsSomeCopiesRefusal shape tree target chunks grid fault =
     IsNoEncoding tree fault
     ⊎ ((encoding : Encoding) × IsEncodingIn tree encoding × IsTargetRefusal shape target chunks grid fault)

@@ -7,6 +7,7 @@ pub mod Configured
 pub mod Covers
 pub mod FittingChunks
 pub mod Meeting
+pub mod NoFloats
 pub mod SeenGrids
 pub mod Subsets
 pub mod UpTo

@@ -1,8 +1,10 @@
 -- What is known of the dimensions of each kind of grid, and that a grid is made again of its metadata.
-use Rattle.std.proofs.Common.{◌≡◌, ℕ, List, Some, map, true, false, refl, subst, sym, ap, ◌∙◌}
+use Rattle.std.proofs.Common.{◌≡◌, ◌||◌, ℕ, List, Some, map, true, false, refl, subst, sym, ap, ◌∙◌}
 use Rattle.serde_json.specs.Data.{Members}
+use Rattle.serde_json.specs.Written.{members_have_float}
 use Rattle.zarrs_chunk_base.specs.Dimension.{Dimension, InEach, array_sizes}
 use Rattle.zarrs_chunk_base.specs.Grid.{Grid}
+use Rattle.zarrs_chunk_base.specs.GridConfigurations.{dimension_edges_tree, lengths_tree}
 use Rattle.zarrs_chunk_base.specs.Metadata.{Extension}
 use Rattle.zarrs_chunk_base.specs.RunLength.{EdgeLengths, edges_of_lengths}
 use Rattle.zarrs_chunk_base.specs.declared.plugin_create_error.PluginCreateError.{PluginCreateError}
@@ -35,6 +37,7 @@ use Rattle.zarrs_chunks.specs.declared.chunk_grid.rectangular.RectangularChunkGr
 use Rattle.zarrs_chunks.specs.declared.chunk_grid.rectilinear.RectilinearChunkGrid.{RectilinearChunkGrid}
 use Rattle.zarrs_chunks.specs.declared.chunk_grid.regular.RegularChunkGrid.{RegularChunkGrid}
 use Rattle.zarrs_chunks.specs.declared.chunk_grid.regular_bounded.RegularBoundedChunkGrid.{RegularBoundedChunkGrid}
+use Rattle.zarrs_chunks.proofs.NoFloats.{no_float_in_edges, no_float_in_lengths, no_float_in_list, no_float_in_numbers}
 use Rattle.zarrs_chunks.proofs.WrittenLengths.{written_alike}
 
 -- ---- the dimensions are made of the array sizes and the edges
@@ -161,3 +164,11 @@ pub configured_again : (grid again : RectilinearChunkGrid) (configuration others
 configured_again grid again configuration others said has says edges also =
     (written_alike _ _ (rectilinear_of again) (rectilinear_of grid) others configuration also has).1
     (edges ∙ sym (said_edges grid configuration said has says).1)
+
+-- ---- a configuration that a kind writes has no float
+
+pub no_float_written : (kind : GridKind) (x : (grid_kind kind).Said) → members_have_float ((grid_kind kind).written x) ≡ false
+no_float_written regular edges = ap (λ b. b || false) (no_float_in_numbers edges)
+no_float_written regular_bounded edges = ap (λ b. b || false) (no_float_in_numbers edges)
+no_float_written rectangular edges = ap (λ b. b || false) (no_float_in_list dimension_edges_tree no_float_in_edges edges)
+no_float_written rectilinear lengths = ap (λ b. b || false) (no_float_in_list lengths_tree no_float_in_lengths lengths)

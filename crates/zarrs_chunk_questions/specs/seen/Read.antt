@@ -32,7 +32,7 @@ lists_of both = (both.0.items, both.1.items)
 abbrev pub items_of : Items → question.Items
 items_of items = record { most = items.most; first = items.first }
 
-abbrev pub target_of : Target → question.Metadata
+abbrev pub target_of : Target → question.Target
 target_of target = record { chunk_grid = view target.chunk_grid.now; chunk_key_encoding = view target.chunk_key_encoding.now }
 
 abbrev pub asked_of : Asked → question.Asked

@@ -5,7 +5,7 @@ use Rattle.zarrs_chunk_keys.specs.declared.chunk_key_encoding.named.ChunkKeyEnco
 use Rattle.zarrs_chunk_plan.specs.declared.stored_array.StoredArray.{StoredArray}
 use Rattle.zarrs_chunks.specs.seen.Grids.{grid_in, kind_in}
 use Rattle.zarrs_chunks.specs.declared.chunk_grid.named.ChunkGrid.{ChunkGrid}
-use Rattle.zarrs_chunk_questions.specs.Question.{Metadata as Target}
+use Rattle.zarrs_chunk_questions.specs.Question.{Target}
 use Rattle.zarrs_chunk_questions.specs.Refused.{IsNoEncoding, IsNoGrid, IsOfTarget}
 use Rattle.zarrs_chunk_questions.specs.Trees.{IsEncodingIn, IsGridIn}
 use Rattle.zarrs_chunk_questions.specs.declared.line_fault.LineFault.{LineFault}
