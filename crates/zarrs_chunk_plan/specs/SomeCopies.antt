@@ -10,18 +10,19 @@ use Rattle.zarrs_chunk_plan.specs.Rechunking.{AreCopiesInto, AreTargets, Group}
 use Rattle.zarrs_chunk_plan.specs.declared.numbered_copies.SomeCopies.{SomeCopies}
 use Rattle.zarrs_chunk_plan.specs.seen.Copies.{groups_of}
 
--- Of the groups of the rechunking into the chunks of a box, of which there are so many, as far as a number counts them: those from the one with the
--- number `first` on, at most so many, one for each chunk that is written, in row-major order. Each has all parts of the source.
-pub record AreGroupsFrom (source : List Dimension) (IsSourceKey : List ℕ → List ℕ → Type 0)
-    (target : List Dimension) (IsTargetKey : List ℕ → List ℕ → Type 0) (chunks : Box) (first most in_all : ℕ) (groups : List Group) : Type 0 where
+-- Of the groups of the rechunking into the chunks of a box, of which there are `count`, as far as a number counts them: at most `most`, from the one
+-- with the number `first` on. Each is that of a chunk that is written, and they come in row-major order of these chunks.
+pub record AreSomeGroups (source : List Dimension) (IsSourceKey : List ℕ → List ℕ → Type 0)
+    (target : List Dimension) (IsTargetKey : List ℕ → List ℕ → Type 0) (chunks : Box) (first most count : ℕ) (groups : List Group) : Type 0 where
   pub targets : Box
   pub is_box : IsBox targets
   pub are_targets : AreTargets target chunks targets
-  pub counted : in_all ≡ min (length (chunks_in targets)) greatest
-  pub are_groups : AllZip (AreCopiesInto source IsSourceKey target IsTargetKey) (take (min (in_all - first) most) (drop first (chunks_in targets))) groups
+  pub in_all : count ≡ min (length (chunks_in targets)) greatest
+  pub are_groups : AllZip (AreCopiesInto source IsSourceKey target IsTargetKey)
+      (take (min (count - first) most) (drop first (chunks_in targets))) groups
 
 -- some of the groups, and how many there are
 abbrev pub AreSomeCopies : (source : List Dimension) (IsSourceKey : List ℕ → List ℕ → Type 0)
     (target : List Dimension) (IsTargetKey : List ℕ → List ℕ → Type 0) (chunks : Box) (first most : ℕ) (some : SomeCopies) → Type 0
 AreSomeCopies source IsSourceKey target IsTargetKey chunks first most some =
-    AreGroupsFrom source IsSourceKey target IsTargetKey chunks first most some.in_all (groups_of some.groups.items)
+    AreSomeGroups source IsSourceKey target IsTargetKey chunks first most some.in_all (groups_of some.groups.items)

@@ -40,7 +40,7 @@ module _ (shape : List ℕ) (tree : Data) (target : Target) (items : Items) (chu
       record {
         encoding = encoding;
         is_encoding = is_encoding;
-        kind = kind_in made.grid;
+        target_kind = kind_in made.grid;
         target_grid = grid_in made.grid;
         is_target_grid = is_target.0;
         target_encoding = encoding_in made.encoding;

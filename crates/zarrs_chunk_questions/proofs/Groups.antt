@@ -1,5 +1,6 @@
 -- The groups of a rechunking, each of which is made for one chunk of the target.
-use Rattle.std.proofs.Common.{◌≡◌, ◌≢◌, ◌↔◌, ◌∙◌, ℕ, zero, suc, ◌+◌, ◌-◌, ◌<◌, List, [], ◌∷◌, ◌++◌, Option, Some, None, Result, Ok, Err, IfOk, IfSome, ap, ap₂, append-nil, drop, get_or, length, map, min, refl}
+use Rattle.std.proofs.Common.{◌≡◌, ◌≢◌, ◌↔◌, ◌∙◌, ℕ, zero, suc, ◌+◌, ◌-◌, ◌<◌, List, [], ◌∷◌, ◌++◌, Option, Some, None, Result, Ok, Err, IfOk, IfSome}
+use Rattle.std.proofs.Common.{ap, ap₂, append-nil, drop, get_or, length, map, min, refl}
 use Rattle.std.proofs.Common.{replicate, subst, sym, take, arith}
 use Rattle.std.proofs.lemmas.List.{map-append, take_more}
 use Rattle.std.proofs.lemmas.Slice.Zip.{AllZip-long, all_zipped_more}
@@ -85,8 +86,8 @@ module _ {G E H F : Type 0} (source_dimensions : G → List Dimension) (target_d
       let same : group.to.chunk.items ≡ chunk = cc in
       let of_target = rw (about.targets.same_grid, about.targets.same_encoding, about.targets.same_subset) at (gives.to can) in
       subst
-      (λ numbers. IsPart (target_dimensions target.grid) (target_key target.encoding) (array_box (target_dimensions target.grid)) numbers group.to) same
-      of_target
+      (λ numbers. IsPart (target_dimensions target.grid) (target_key target.encoding) (array_box (target_dimensions target.grid)) numbers group.to)
+      same of_target
 
 -- each chunk that is written holds some element of the array
 pub targets_meet : (ds : List Dimension) (chunks targets : Box) → IsBox targets → AreTargets ds chunks targets
@@ -96,8 +97,8 @@ targets_meet ds chunks targets is_box are =
     (λ chunk has. ((are chunk).0 ((are_those_inside targets is_box chunk).0 has)).1)
 
 -- of one chunk more the group
-pub group_more : {C Y : Type 0} (R : C → Group → Type 0) (view_of : Y → Data) (chunks : List C) (index : ℕ) (chunk : C) (trees more : List Y) (tree : Y)
-    (group : Group) → index < length chunks → get_or chunks index chunk ≡ chunk
+pub group_more : {C Y : Type 0} (R : C → Group → Type 0) (view_of : Y → Data) (chunks : List C) (index : ℕ) (chunk : C) (trees more : List Y)
+    (tree : Y) (group : Group) → index < length chunks → get_or chunks index chunk ≡ chunk
     → (groups : List Group) × AllZip R (take index chunks) groups × (map view_of trees ≡ map group_tree groups)
     → R chunk group → view_of tree ≡ group_tree group → more ≡ trees ++ tree ∷ []
     → (groups : List Group) × AllZip R (take (index + 1) chunks) groups × (map view_of more ≡ map group_tree groups)
@@ -109,28 +110,29 @@ group_more R view_of chunks index chunk trees more tree group within at (groups,
 )
 
 -- the page of the groups that were made
-pub groups_page : (source : List Dimension) (IsSourceKey : List ℕ → List ℕ → Type 0) (target : List Dimension) (IsTargetKey : List ℕ → List ℕ → Type 0)
-    (chunks targets : Box) (first most too_many count : ℕ) (some : SomeChunks) (trees : List Value) (page : Option Value)
-    → IsBox targets → AreTargets target chunks targets → AreSomeChunks targets first (min most too_many) some
+pub groups_page : (source : List Dimension) (IsSourceKey : List ℕ → List ℕ → Type 0) (target : List Dimension)
+    (IsTargetKey : List ℕ → List ℕ → Type 0) (chunks targets : Box) (first most too_many count : ℕ) (some : SomeChunks) (trees : List Value) (page : Option Value)
+    → length chunks.start ≡ length target → IsBox targets → AreTargets target chunks targets → AreSomeChunks targets first (min most too_many) some
     → (groups : List Group) × AllZip (λ chunk. AreCopiesInto source IsSourceKey target IsTargetKey chunk.items) some.chunks.items groups
     × (map view trees ≡ map group_tree groups)
     → count ≡ length some.chunks.items
     → IfSome page (λ tree. (count ≢ too_many) × (view tree ≡ page_tree (map view trees) (is_more first count some.in_all)))
     → IfSome page (λ tree. IsCopiesAnswer source IsSourceKey target IsTargetKey chunks first most (view tree))
-groups_page source IsSourceKey target IsTargetKey chunks targets first most too_many count some trees None is_box are listed made counted is = tt
-groups_page source IsSourceKey target IsTargetKey chunks targets first most too_many count some trees (Some tree) is_box are listed
+groups_page source IsSourceKey target IsTargetKey chunks targets first most too_many count some trees None long is_box are listed made counted is = tt
+groups_page source IsSourceKey target IsTargetKey chunks targets first most too_many count some trees (Some tree) as_long is_box are listed
     (groups, zipped, written) counted (few, is) =
     let IsGroupOf = AreCopiesInto source IsSourceKey target IsTargetKey in
     let fewer : length some.chunks.items ≢ too_many = rw counted at few in
     let long : count ≡ length groups =
     counted ∙ sym (AllZip-long (λ chunk. IsGroupOf chunk.items) some.chunks.items groups zipped) in (
+      as_long,
       some.in_all,
       groups,
       record {
         targets = targets;
         is_box = is_box;
         are_targets = are;
-        counted = listed.in_all;
+        in_all = listed.in_all;
         are_groups = made_of (λ chunk. chunk.items) IsGroupOf (take (min (some.in_all - first) most) (drop first (chunks_in targets)))
             some.chunks.items groups (wanted_chunks targets first some most too_many listed fewer) zipped;
       },

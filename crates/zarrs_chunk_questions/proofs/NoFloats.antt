@@ -16,8 +16,10 @@ use Rattle.zarrs_chunks.specs.Walks.{box_at, boxed, chunks_of}
 use Rattle.zarrs_chunk_base.specs.Dimension.{Dimension, array_sizes, grid_sizes}
 use Rattle.zarrs_chunk_plan.specs.Rechunking.{Group}
 use Rattle.zarrs_chunk_plan.specs.declared.numbered_parts.SomeParts.{SomeParts}
-use Rattle.zarrs_chunk_questions.specs.Answers.{IsAnswer, IsArrayAnswer, IsBoxAnswer, IsGridAnswer, IsNumbersAnswer, edges_tree, items_tree, located_tree}
-use Rattle.zarrs_chunk_questions.specs.Pages.{chunks_from, first_of, group_tree, is_more, item_tree, item_trees, number_of, page_tree, part_tree, parts_tree, source_tree, walk_page}
+use Rattle.zarrs_chunk_questions.specs.Answers.{IsAnswer, IsArrayAnswer, IsBoxAnswer, IsGridAnswer, IsNumbersAnswer, edges_tree, items_tree}
+use Rattle.zarrs_chunk_questions.specs.Answers.{located_tree}
+use Rattle.zarrs_chunk_questions.specs.Pages.{chunks_from, first_of, group_tree, is_more, item_tree, item_trees, count_of, page_tree, part_tree}
+use Rattle.zarrs_chunk_questions.specs.Pages.{parts_tree, source_tree, walk_page}
 use Rattle.zarrs_chunk_questions.specs.Question.{Asked, Question, copies, counted, decode, encode, located, of_array, of_box, of_grid, of_numbers}
 use Rattle.zarrs_chunk_questions.specs.Question.{of_walk, parts, runs}
 use Rattle.zarrs_chunk_questions.specs.Trees.{box_of, box_tree, numbers_tree, or_null}
@@ -106,7 +108,7 @@ of_a_walk walk ds most None =
     of_page (take most all) (nat_lt most (length all)) (some_taken most all (items walk ds (chunks_of ds)))
 of_a_walk walk ds most (Some first) =
     let chunks = chunks_from first most (chunks_of ds) in
-    of_page (item_trees walk ds chunks) (is_more first (length chunks) (number_of (chunks_of ds))) (items walk ds chunks)
+    of_page (item_trees walk ds chunks) (is_more first (length chunks) (count_of (chunks_of ds))) (items walk ds chunks)
 
 -- numbers and two boxes
 of_part : (chunk : List ℕ) (b other : Box)
@@ -120,7 +122,10 @@ of_some_parts first some =
 
 a_group : (group : Group) → HasNone (group_tree group)
 a_group group =
-    rw (no_float_mapped source_tree (λ part. of_part part.chunk.items part.in_chunk part.in_subset) group.1, no_float_in_numbers group.0.chunk.items) refl
+    rw (
+      no_float_mapped source_tree (λ part. of_part part.chunk.items part.in_chunk part.in_subset) group.1,
+      no_float_in_numbers group.0.chunk.items,
+    ) refl
 
 -- ---- of a question
 
@@ -137,10 +142,11 @@ of_an_array shape (located tree index) kind grid t (encoding, made, (answer, may
 of_an_array shape (parts tree wanted lists) kind grid t (encoding, made, is_box, (answer, may, is)) =
     of_says (parts_tree (first_of wanted)) (of_some_parts (first_of wanted)) answer t is
 of_an_array shape (copies tree target wanted chunks) kind grid t is =
-    let (in_all, groups, are, same) = is.answers in
+    let (as_long, in_all, groups, are, same) = is.answers in
     ap has_float same ∙ of_page (map group_tree groups) (is_more (first_of wanted) (length groups) in_all) (no_float_mapped group_tree a_group groups)
 
 pub no_float : (question : Question) (t : Data) → IsAnswer question t → has_float t ≡ false
 no_float (of_array shape tree asked) t (kind, grid, made, is) = of_an_array shape asked kind grid t is
 no_float (encode tree chunk) t (encoding, made, (key, is_key, is)) = ap has_float is
-no_float (decode tree key dimensionality) t (encoding, made, no_slash, (answer, is_decoded, is)) = of_says items_tree (λ v. no_float_in_numbers v.items) answer t is
+no_float (decode tree key dimensionality) t (encoding, made, no_slash, (answer, is_decoded, is)) =
+    of_says items_tree (λ v. no_float_in_numbers v.items) answer t is

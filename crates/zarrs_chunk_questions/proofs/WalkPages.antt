@@ -1,5 +1,6 @@
 -- The items of a walk over the chunks of a grid: the first ones, and those of chunks from one of them on.
-use Rattle.std.proofs.Common.{◌≡◌, ◌≢◌, ◌∙◌, ℕ, suc, ◌+◌, ◌-◌, ◌<◌, ◌≤◌, Bool, true, false, IfSome, List, [], ◌∷◌, ◌++◌, Option, Some, None, Result, Ok, IfOk, ap, ap₂, append-nil, cond}
+use Rattle.std.proofs.Common.{◌≡◌, ◌≢◌, ◌∙◌, ℕ, suc, ◌+◌, ◌-◌, ◌<◌, ◌≤◌, Bool, true, false, IfSome, List, [], ◌∷◌, ◌++◌, Option, Some, None, Result}
+use Rattle.std.proofs.Common.{Ok, IfOk, ap, ap₂, append-nil, cond}
 use Rattle.std.proofs.Common.{drop, length, map, min, refl, replicate, subst, sym, take, arith}
 use Rattle.std.proofs.lemmas.Bool.{le-ltb, lt-ltb}
 use Rattle.std.proofs.lemmas.List.{length-append, length-map, map-append, take-append-le, take_all}
@@ -21,7 +22,7 @@ use Rattle.zarrs_chunk_plan.specs.Rechunking.{all_chunks_box}
 use Rattle.zarrs_chunk_plan.specs.SomeChunks.{AreSomeChunks}
 use Rattle.zarrs_chunk_plan.specs.declared.numbered_chunks.SomeChunks.{SomeChunks}
 use Rattle.zarrs_chunk_plan.proofs.Rechunkings.{counted_from_zeros}
-use Rattle.zarrs_chunk_questions.specs.Pages.{chunks_from, first_page, is_more, item_tree, item_trees, number_of, page_from, page_tree}
+use Rattle.zarrs_chunk_questions.specs.Pages.{chunks_from, first_page, is_more, item_tree, item_trees, count_of, page_from, page_tree}
 use Rattle.zarrs_chunk_questions.specs.declared.call.WalkOf.{WalkOf}
 use Rattle.zarrs_chunk_questions.specs.declared.call.WalkOf.TheVariants.{Boxes, Chunks, ChunksAndBoxes}
 use Rattle.zarrs_chunk_questions.proofs.Listed.{numbers_are, wanted_chunks}
@@ -76,7 +77,8 @@ module _ (ds : List Dimension) (chunk : List ℕ) (answer : LookedBox) (answers 
 filter-append : {X : Type 0} (test : X → Bool) (xs ys : List X) → filter test (xs ++ ys) ≡ filter test xs ++ filter test ys
 filter-append test [] ys = refl
 filter-append test (x ∷ xs) ys = rw (filter-append test xs ys) (kept (test x)) where
-  kept : (b : Bool) → cond b (x ∷ (filter test xs ++ filter test ys)) (filter test xs ++ filter test ys) ≡ cond b (x ∷ filter test xs) (filter test xs) ++ filter test ys
+  kept : (b : Bool) → cond b (x ∷ (filter test xs ++ filter test ys)) (filter test xs ++ filter test ys)
+      ≡ cond b (x ∷ filter test xs) (filter test xs) ++ filter test ys
   kept true = refl
   kept false = refl
 
@@ -111,11 +113,13 @@ all_below_grid ds = rw (all_counted ds) (all_below (grid_sizes ds))
 -- the chunks that were wanted
 pub chunks_wanted : (ds : List Dimension) (first most too_many : ℕ) (some : SomeChunks)
     → AreSomeChunks (all_chunks_box ds) first (min most too_many) some → length some.chunks.items ≢ too_many
-    → (some.in_all ≡ number_of (chunks_of ds)) × (map (λ chunk. chunk.items) some.chunks.items ≡ chunks_from first most (chunks_of ds))
+    → (some.in_all ≡ count_of (chunks_of ds)) × (map (λ chunk. chunk.items) some.chunks.items ≡ chunks_from first most (chunks_of ds))
 chunks_wanted ds first most too_many some are few =
-    let in_all : some.in_all ≡ number_of (chunks_of ds) = are.in_all ∙ ap number_of (all_counted ds) in
+    let in_all : some.in_all ≡ count_of (chunks_of ds) = are.in_all ∙ ap count_of (all_counted ds) in
     let wanted = wanted_chunks (all_chunks_box ds) first some most too_many are few in
-    let listed = numbers_are (λ chunk. chunk.items) (take (min (some.in_all - first) most) (drop first (chunks_in (all_chunks_box ds)))) some.chunks.items wanted in (
+    let listed =
+    numbers_are (λ chunk. chunk.items) (take (min (some.in_all - first) most) (drop first (chunks_in (all_chunks_box ds))))
+    some.chunks.items wanted in (
       in_all,
       listed ∙ ap₂ (λ count chunks. take (min (count - first) most) (drop first chunks)) in_all (all_counted ds),
     )

@@ -14,7 +14,7 @@ use Rattle.zarrs_chunk_keys.specs.ChunkKey.{Encoding, IsKey}
 use Rattle.zarrs_chunks.specs.GridKinds.{GridKind}
 use Rattle.zarrs_chunks.specs.Walks.{box_at, boxed, chunks_of}
 use Rattle.zarrs_chunk_plan.specs.Rechunking.{Group, all_chunks_box}
-use Rattle.zarrs_chunk_plan.specs.SomeCopies.{AreGroupsFrom}
+use Rattle.zarrs_chunk_plan.specs.SomeCopies.{AreSomeGroups}
 use Rattle.zarrs_chunk_plan.specs.SomeParts.{AnswersNone, AnswersSome}
 use Rattle.zarrs_chunk_plan.specs.declared.numbered_parts.SomeParts.{SomeParts}
 use Rattle.zarrs_chunk_plan.specs.declared.part.Part.{Part}
@@ -29,7 +29,7 @@ use Rattle.zarrs_chunk_questions.specs.declared.call.WalkOf.TheVariants.{Boxes, 
 abbrev pub page_tree : List Data → Bool → Data
 page_tree items more = object (member (codes "items") (array (items_of items)) (member (codes "more") (boolean more) no_members))
 
--- of so many in all more follow behind these, from the first of them on
+-- whether more follow behind `count` items from the number `first` on, of `in_all`
 abbrev pub is_more : (first count in_all : ℕ) → Bool
 is_more first count in_all = nat_lt (first + count) in_all
 
@@ -45,7 +45,7 @@ item_tree Chunks ds chunk = numbers_tree chunk
 item_tree Boxes ds chunk = box_tree (box_at ds chunk)
 item_tree ChunksAndBoxes ds chunk = array (items_of (numbers_tree chunk ∷ box_tree (box_at ds chunk) ∷ []))
 
--- what it gives of chunks; nothing, where it gives boxes, of one that has none
+-- What it gives of chunks. A walk that gives boxes passes over a chunk that has none.
 abbrev pub item_trees : WalkOf → List Dimension → List (List ℕ) → List Data
 item_trees Chunks ds chunks = map (item_tree Chunks ds) chunks
 item_trees Boxes ds chunks = map (item_tree Boxes ds) (boxed ds chunks)
@@ -56,24 +56,25 @@ abbrev pub first_page : (most : ℕ) → List Data → Data
 first_page most items = page_tree (take most items) (nat_lt most (length items))
 
 -- how many chunks there are, as far as a number counts them
-abbrev pub number_of : List (List ℕ) → ℕ
-number_of chunks = min (length chunks) greatest
+abbrev pub count_of : List (List ℕ) → ℕ
+count_of chunks = min (length chunks) greatest
 
 -- at most so many of the chunks, from the one with this number on
 abbrev pub chunks_from : (first most : ℕ) → List (List ℕ) → List (List ℕ)
-chunks_from first most chunks = take (min (number_of chunks - first) most) (drop first chunks)
+chunks_from first most chunks = take (min (count_of chunks - first) most) (drop first chunks)
 
 -- from the chunk with this number on: what the walk gives of at most so many chunks
 abbrev pub page_from : WalkOf → List Dimension → (first most : ℕ) → Data
 page_from walk ds first most =
     let chunks = chunks_from first most (chunks_of ds) in
-    page_tree (item_trees walk ds chunks) (is_more first (length chunks) (number_of (chunks_of ds)))
+    page_tree (item_trees walk ds chunks) (is_more first (length chunks) (count_of (chunks_of ds)))
 
--- of the chunks that a grid counts, in row-major order
+-- the page of a walk over the chunks that a grid counts, in row-major order
 abbrev pub walk_page : WalkOf → List Dimension → (most : ℕ) → (first : Option ℕ) → Data
 walk_page walk ds most None = first_page most (item_trees walk ds (chunks_of ds))
 walk_page walk ds most (Some first) = page_from walk ds first most
 
+-- the page that is asked for
 abbrev pub walk_tree : WalkOf → List Dimension → Items → Data
 walk_tree walk ds items = walk_page walk ds items.most items.first
 
@@ -115,33 +116,34 @@ source_tree part =
     (member (codes "key") (string part.key) no_members))))
 
 -- a chunk of the target
-abbrev pub target_tree : Part → Data
-target_tree part = object (member (codes "chunk") (numbers_tree part.chunk.items) (member (codes "key") (string part.key) no_members))
+abbrev pub target_chunk_tree : Part → Data
+target_chunk_tree part = object (member (codes "chunk") (numbers_tree part.chunk.items) (member (codes "key") (string part.key) no_members))
 
 abbrev pub group_tree : Group → Data
 group_tree group =
-    object (member (codes "from") (array (items_of (map source_tree group.1))) (member (codes "to") (target_tree group.0) no_members))
+    object (member (codes "from") (array (items_of (map source_tree group.1))) (member (codes "to") (target_chunk_tree group.0) no_members))
 
--- at most so many groups, from the one with this number on
+-- at most so many groups, from the one with this number on; the box has as many dimensions as the target
 abbrev pub IsCopiesAnswer : (source : List Dimension) (IsSourceKey : List ℕ → List ℕ → Type 0)
     (target : List Dimension) (IsTargetKey : List ℕ → List ℕ → Type 0) (chunks : Box) (first most : ℕ) → Data → Type 0
 IsCopiesAnswer source IsSourceKey target IsTargetKey chunks first most t =
-    (in_all : ℕ) × (groups : List Group) × AreGroupsFrom source IsSourceKey target IsTargetKey chunks first most in_all groups
-    × (t ≡ page_tree (map group_tree groups) (is_more first (length groups) in_all))
+    (length chunks.start ≡ length target) × (in_all : ℕ) × (groups : List Group)
+    × AreSomeGroups source IsSourceKey target IsTargetKey chunks first most in_all groups × (t ≡ page_tree (map group_tree groups) (is_more first (length groups) in_all))
 
 -- the chunks of the target: those of the box that is given, or all
 abbrev pub target_chunks : Option Lists → List Dimension → Box
 target_chunks (Some lists) ds = box_of lists
 target_chunks None ds = all_chunks_box ds
 
--- from this grid's array and an encoding to those of the target, which are made of its metadata for an array of this shape
+-- The answer `t` to `copies`, of an array of this shape that has this grid: its encoding, and the target's grid and encoding, are made of the trees
+-- that the question gives.
 pub record IsSomeCopiesAnswer (shape : List ℕ) (tree : Data) (target : Target) (items : Items) (chunks : Option Lists) (grid : Grid)
     (t : Data) : Type 0 where
   pub encoding : Encoding
   pub is_encoding : IsEncodingIn tree encoding
-  pub kind : GridKind
+  pub target_kind : GridKind
   pub target_grid : Grid
-  pub is_target_grid : IsGridIn target.chunk_grid shape kind target_grid
+  pub is_target_grid : IsGridIn target.chunk_grid shape target_kind target_grid
   pub target_encoding : Encoding
   pub is_target_encoding : IsEncodingIn target.chunk_key_encoding target_encoding
   pub is_box : IfSome chunks (λ lists. IsBox (box_of lists))

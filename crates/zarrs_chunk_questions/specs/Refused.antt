@@ -113,27 +113,27 @@ IsNoRechunking source target chunks (Copies error) =
     IsCopiesFault (array_sizes source) (array_sizes target) (length chunks.start) (length target) error
 IsNoRechunking _ _ _ _ = ⊥
 
--- no box is given by its start and its shape
+-- the start and the shape that are given make no box
 abbrev pub IsNoBoxOf : Option Lists → LineFault → Type 0
 IsNoBoxOf (Some lists) fault = IsNoBox (box_of lists) fault
 IsNoBoxOf None fault = ⊥
 
--- there is no box; or the library refuses
-abbrev pub IsBoxOrCopiesRefusal : (source target : List Dimension) → Option Lists → LineFault → Type 0
-IsBoxOrCopiesRefusal source target chunks fault =
+-- why nothing is copied into the chunks that are asked for: they are no box; or the library refuses
+abbrev pub IsChunksRefusal : (source target : List Dimension) → Option Lists → LineFault → Type 0
+IsChunksRefusal source target chunks fault =
     IsNoBoxOf chunks fault
     ⊎ (IfSome chunks (λ lists. IsBox (box_of lists)) × IsNoRechunking source target (target_chunks chunks target) fault)
 
--- there is no grid of the target; no encoding of it; or one of these
+-- why nothing is copied to the target: its grid can't be made; its encoding can't; or nothing is copied into the chunks
 abbrev pub IsTargetRefusal : (shape : List ℕ) → Target → Option Lists → Grid → LineFault → Type 0
 IsTargetRefusal shape target chunks grid fault =
     IsOfTarget (IsNoGrid target.chunk_grid shape) fault
     ⊎ ((kind : GridKind) × (to : Grid) × IsGridIn target.chunk_grid shape kind to
     × (IsOfTarget (IsNoEncoding target.chunk_key_encoding) fault
     ⊎ ((encoding : Encoding) × IsEncodingIn target.chunk_key_encoding encoding
-    × IsBoxOrCopiesRefusal grid.dimensions to.dimensions chunks fault)))
+    × IsChunksRefusal grid.dimensions to.dimensions chunks fault)))
 
--- there is no encoding; or one of these
+-- there is no encoding of the array; or nothing is copied to the target
 abbrev pub IsSomeCopiesRefusal : (shape : List ℕ) → Data → Target → Option Lists → Grid → LineFault → Type 0
 IsSomeCopiesRefusal shape tree target chunks grid fault =
     IsNoEncoding tree fault

@@ -1,7 +1,7 @@
 //! The trees that the parts of a plan are written as.
 ghost use Rattle.std.specs.Prelude.{◌≡◌, IfOk, map};
 ghost use Rattle.serde_json.specs.View.{view};
-ghost use Rattle.zarrs_chunk_questions.specs.Pages.{target_tree as tree_of_target};
+ghost use Rattle.zarrs_chunk_questions.specs.Pages.{target_chunk_tree as tree_of_target};
 ghost use Rattle.zarrs_chunk_questions.specs.Pages.{group_tree as tree_of_group, part_tree as tree_of_part, source_tree as tree_of_source};
 
 use serde_json::{Map, Value};
@@ -53,7 +53,7 @@ fn source_trees(alloc: Global, parts: &[Part]) -> Result<Vec<Value>, AllocError>
 }
 
 /// The tree of a chunk of the target: `{"chunk":[..],"key":".."}`.
-fn target_tree(alloc: Global, part: &Part) -> Result<Value, AllocError>
+fn target_chunk_tree(alloc: Global, part: &Part) -> Result<Value, AllocError>
     ensures { IfOk result (λ tree. view tree ≡ tree_of_target part.now) }
 {
     let chunk = write_list(alloc, part.chunk.as_slice())?;
@@ -69,7 +69,7 @@ pub(crate) fn group_tree(alloc: Global, to: &Part, from: &[Part]) -> Result<Valu
     ensures { IfOk result (λ tree. view tree ≡ tree_of_group (to.now, from.now)) }
 {
     let sources = source_trees(alloc, from)?;
-    let target = target_tree(alloc, to)?;
+    let target = target_chunk_tree(alloc, to)?;
     let mut members = Map::new(alloc);
     serde_json::put(&mut members, alloc, "from", Value::Array(sources))?;
     serde_json::put(&mut members, alloc, "to", target)?;

@@ -36,6 +36,6 @@ returns-clause-copies g c =
       targets = targets;
       is_box = c.in_ok-targets.ensures.is_box;
       are_targets = c.in_ok-targets.ensures.targets;
-      counted = all;
+      in_all = all;
       are_groups = are;
     }

@@ -1,4 +1,5 @@
-use Rattle.std.proofs.Common.{◌≡◌, ◌∙◌, ◌<◌, ◌≤◌, [], ◌∷◌, ◌++◌, ap, append-nil, drop, get_or, length, map, refl, rules, set, string_bytes, subst, sym, take}
+use Rattle.std.proofs.Common.{◌≡◌, ◌∙◌, ◌<◌, ◌≤◌, [], ◌∷◌, ◌++◌, ap, append-nil, drop, get_or, length, map, refl, rules, set, string_bytes, subst}
+use Rattle.std.proofs.Common.{sym, take}
 use Rattle.std.proofs.Common.{take_all, arith}
 use Rattle.std.proofs.lemmas.List.{drop_all}
 use Rattle.zarrs_chunks.proofs.ChunksInBoxes.{written}

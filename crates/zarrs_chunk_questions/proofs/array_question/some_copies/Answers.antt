@@ -35,6 +35,6 @@ returns c =
     let target = c.in_ok-target in
     let chunks = c.in_ok-chunks in
     copies_asked c.args.shape.now (view c.args.encoding_tree.now) (target_of c.args.target) (items_of c.args.items)
-    (option_map lists_of c.args.chunks) (grid_in c.args.grid) (encoding_in encoding.encoding) encoding.ensures target.target target.ensures chunks.chunks
-    chunks.ensures c.unwrap_or-first.result c.limits_of-limits.result.most c.unwrap_or-first.ensures c.limits_of-limits.ensures
+    (option_map lists_of c.args.chunks) (grid_in c.args.grid) (encoding_in encoding.encoding) encoding.ensures target.target target.ensures
+    chunks.chunks chunks.ensures c.unwrap_or-first.result c.limits_of-limits.result.most c.unwrap_or-first.ensures c.limits_of-limits.ensures
     c.copies_from.result c.copies_from.ensures
