@@ -137,4 +137,4 @@ walked_page walk ds first most too_many count some items (Some tree) are made co
     let chunks = chunks_from first most (chunks_of ds) in
     let long : count ≡ length chunks = counted ∙ sym (length-map some.chunks.items (λ chunk. chunk.items)) ∙ ap length same in
     is ∙ ap (λ xs. page_tree xs (is_more first count some.in_all)) (made ∙ ap (item_trees walk ds) same)
-        ∙ ap₂ (λ n all. page_tree (item_trees walk ds chunks) (is_more first n all)) long in_all
+    ∙ ap₂ (λ n all. page_tree (item_trees walk ds chunks) (is_more first n all)) long in_all
