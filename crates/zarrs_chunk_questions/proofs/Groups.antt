@@ -111,8 +111,9 @@ group_more R view_of chunks index chunk trees more tree group within at (groups,
 
 -- the page of the groups that were made
 pub groups_page : (source : List Dimension) (IsSourceKey : List ℕ → List ℕ → Type 0) (target : List Dimension)
-    (IsTargetKey : List ℕ → List ℕ → Type 0) (chunks targets : Box) (first most too_many count : ℕ) (some : SomeChunks) (trees : List Value) (page : Option Value)
-    → length chunks.start ≡ length target → IsBox targets → AreTargets target chunks targets → AreSomeChunks targets first (min most too_many) some
+    (IsTargetKey : List ℕ → List ℕ → Type 0) (chunks targets : Box) (first most too_many count : ℕ) (some : SomeChunks) (trees : List Value)
+    (page : Option Value) → length chunks.start ≡ length target → IsBox targets → AreTargets target chunks targets
+    → AreSomeChunks targets first (min most too_many) some
     → (groups : List Group) × AllZip (λ chunk. AreCopiesInto source IsSourceKey target IsTargetKey chunk.items) some.chunks.items groups
     × (map view trees ≡ map group_tree groups)
     → count ≡ length some.chunks.items

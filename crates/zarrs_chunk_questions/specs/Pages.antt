@@ -128,7 +128,8 @@ abbrev pub IsCopiesAnswer : (source : List Dimension) (IsSourceKey : List ℕ �
     (target : List Dimension) (IsTargetKey : List ℕ → List ℕ → Type 0) (chunks : Box) (first most : ℕ) → Data → Type 0
 IsCopiesAnswer source IsSourceKey target IsTargetKey chunks first most t =
     (length chunks.start ≡ length target) × (in_all : ℕ) × (groups : List Group)
-    × AreSomeGroups source IsSourceKey target IsTargetKey chunks first most in_all groups × (t ≡ page_tree (map group_tree groups) (is_more first (length groups) in_all))
+    × AreSomeGroups source IsSourceKey target IsTargetKey chunks first most in_all groups
+    × (t ≡ page_tree (map group_tree groups) (is_more first (length groups) in_all))
 
 -- the chunks of the target: those of the box that is given, or all
 abbrev pub target_chunks : Option Lists → List Dimension → Box

@@ -28,5 +28,5 @@ returns c =
     let counted : c.len.result ≡ length some.chunks.items = search rules in
     groups_page (grid_in source.grid).dimensions (IsKey (encoding_in source.encoding)) (grid_in target.grid).dimensions
     (IsKey (encoding_in target.encoding)) c.args.chunks.now c.in-Ok.targets c.args.first limits.most limits.too_many c.len.result some
-    c.in-Some.groups.items c.in_ok-page.page c.in-Ok.ensures.lengths c.in-Ok.ensures.is_box c.in-Ok.ensures.targets (rw c.wanted.ensures at c.in_ok-some.ensures)
-    (rw (c.in-Some.is, c.deref.ensures.value) at c.in_ok-groups.ensures) counted c.in_ok-page.ensures
+    c.in-Some.groups.items c.in_ok-page.page c.in-Ok.ensures.lengths c.in-Ok.ensures.is_box c.in-Ok.ensures.targets
+    (rw c.wanted.ensures at c.in_ok-some.ensures) (rw (c.in-Some.is, c.deref.ensures.value) at c.in_ok-groups.ensures) counted c.in_ok-page.ensures
