@@ -47,8 +47,10 @@ pub fn run<R: Read, W: Write>(
     ensures says { OnOk result (IfSome (R.remaining (watched reader.old)) (λ input.
         IfSome (W.contents (watched writer.old)) (λ held.
         HoldsAnswers input held (W.contents (watched writer.new))))) }
-    ensures failed { IfErr result (λ fault.
-        TellsFailure fault (has_failed reader.new) (has_failed writer.new)) }
+    ensures no_read_failed { OnOk result (has_failed reader.new ≡ has_failed reader.old) }
+    ensures no_write_failed { OnOk result (has_failed writer.new ≡ has_failed writer.old) }
+    ensures failed { IfErr result (λ fault. TellsFailure fault
+        (has_failed reader.old) (has_failed reader.new) (has_failed writer.new)) }
 {
     let mut held_back = Vec::new(alloc);
     match answer_lines(alloc, reader, &mut held_back, writer) {

@@ -3,14 +3,9 @@ use Rattle.std.specs.Prelude.{◌≡◌, Bool, true}
 use Rattle.programs.specs.declared.stream_fault.StreamFault.{StreamFault}
 use Rattle.programs.specs.declared.stream_fault.StreamFault.TheVariants.{Memory, Read, Write}
 
--- a fault of reading comes only where a read failed, and one of writing only where a write did
-abbrev pub TellsFailure : StreamFault → (read_failed write_failed : Bool) → Type 0
-TellsFailure Read read_failed write_failed = read_failed ≡ true
-TellsFailure Write read_failed write_failed = write_failed ≡ true
-TellsFailure Memory read_failed write_failed = Unit {0}
-
--- the same of a step that reads nothing
-abbrev pub TellsWriteFailure : StreamFault → (write_failed : Bool) → Type 0
-TellsWriteFailure Read write_failed = ⊥
-TellsWriteFailure Write write_failed = write_failed ≡ true
-TellsWriteFailure Memory write_failed = Unit {0}
+-- By whether a read had failed before the run, and after it, and a write after it: a read failed; or a write did, or memory ran out, and no read had
+-- failed meanwhile.
+abbrev pub TellsFailure : StreamFault → (read_before read_after write_after : Bool) → Type 0
+TellsFailure Read read_before read_after write_after = read_after ≡ true
+TellsFailure Write read_before read_after write_after = (read_after ≡ read_before) × (write_after ≡ true)
+TellsFailure Memory read_before read_after write_after = read_after ≡ read_before

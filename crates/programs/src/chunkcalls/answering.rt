@@ -1,10 +1,10 @@
 //! The lines that answer what is read.
-ghost use Rattle.std.specs.Prelude.{◌≡◌, ℕ, List, IfErr, IfSome, OnOk};
+ghost use Rattle.std.specs.Prelude.{◌≡◌, ℕ, List, IfErr, IfSome, MatchResult, OnOk};
 ghost use Rattle.zarrs_chunk_questions.specs.AnswerLine.{IsAnswerTo};
 ghost use Rattle.zarrs_chunk_questions.specs.Line.{line_feeds};
-ghost use Rattle.programs.specs.Watched.{has_failed, watched};
+ghost use Rattle.programs.specs.Watched.{IsWriteFailure, has_failed, watched};
 ghost use Rattle.programs.specs.chunkcalls.Lines.{AreAnswers};
-ghost use Rattle.programs.specs.chunkcalls.Run.{TellsFailure, TellsWriteFailure};
+ghost use Rattle.programs.specs.chunkcalls.Run.{TellsFailure};
 ghost use Rattle.programs.specs.chunkcalls.seen.Answered.{HasAnsweredPiece};
 ghost use Rattle.programs.specs.seen.Sent.{IsSent, output};
 
@@ -29,8 +29,10 @@ pub(crate) fn answer_lines<R: Read, W: Write>(
         (answers : List ℕ) × AreAnswers input answers
         × IsSent (output W.contents held_back.old.items writer.old)
         (output W.contents held_back.new.items writer.new) answers)) }
-    ensures failed { IfErr result (λ fault.
-        TellsFailure fault (has_failed reader.new) (has_failed writer.new)) }
+    ensures no_read_failed { OnOk result (has_failed reader.new ≡ has_failed reader.old) }
+    ensures no_write_failed { OnOk result (has_failed writer.new ≡ has_failed writer.old) }
+    ensures failed { IfErr result (λ fault. TellsFailure fault
+        (has_failed reader.old) (has_failed reader.new) (has_failed writer.new)) }
 {
     let mut buffer = [0; BUFFER_LEN];
     let mut line = Vec::new(alloc);
@@ -65,7 +67,8 @@ fn answer_piece<W: Write>(
     ensures answered { OnOk result (HasAnsweredPiece line.old.items piece.now line.new.items
         (output W.contents held_back.old.items writer.old)
         (output W.contents held_back.new.items writer.new)) }
-    ensures failed { IfErr result (λ fault. TellsWriteFailure fault (has_failed writer.new)) }
+    ensures failed { MatchResult result (λ _. has_failed writer.new ≡ has_failed writer.old)
+        (λ fault. IsWriteFailure fault (has_failed writer.old) (has_failed writer.new)) }
 {
     for byte in piece {
         if *byte != b'\n' {
@@ -92,7 +95,8 @@ fn answer_rest<W: Write>(
     ensures answered { OnOk result ((answers : List ℕ) × AreAnswers line.now answers
         × IsSent (output W.contents held_back.old.items writer.old)
         (output W.contents held_back.new.items writer.new) answers) }
-    ensures failed { IfErr result (λ fault. TellsWriteFailure fault (has_failed writer.new)) }
+    ensures failed { MatchResult result (λ _. has_failed writer.new ≡ has_failed writer.old)
+        (λ fault. IsWriteFailure fault (has_failed writer.old) (has_failed writer.new)) }
 {
     if line.is_empty() {
         return Ok(());
@@ -113,7 +117,8 @@ fn answer_line<W: Write>(
     ensures answered { OnOk result ((answer : List ℕ) × IsAnswerTo line.now answer
         × IsSent (output W.contents held_back.old.items writer.old)
         (output W.contents held_back.new.items writer.new) answer) }
-    ensures failed { IfErr result (λ fault. TellsWriteFailure fault (has_failed writer.new)) }
+    ensures failed { MatchResult result (λ _. has_failed writer.new ≡ has_failed writer.old)
+        (λ fault. IsWriteFailure fault (has_failed writer.old) (has_failed writer.new)) }
 {
     let answer = answer(alloc, line)?;
     send(&answer, held_back, writer)

@@ -1,7 +1,8 @@
 use Rattle.std.proofs.Common.{◌≡◌, ◌∙◌, ◌<◌, length, ap, refl, arith}
+use Rattle.std.proofs.Math.Bool.{or-false}
 use Rattle.std.proofs.lemmas.Result.{on_ok_weaker}
 use Rattle.zarrs_chunk_questions.specs.Line.{line_feeds}
-use Rattle.programs.specs.Watched.{watched}
+use Rattle.programs.specs.Watched.{has_failed, watched}
 use Rattle.programs.specs.seen.Sent.{Output, output}
 use Rattle.programs.proofs.Known.{for_known}
 use Rattle.programs.proofs.Sent.{flushed}
@@ -15,6 +16,8 @@ loop-init g c =
       λ input is_input.
           part_way_at_start input (output g.W.Write.contents c.args.held_back.now.items c.args.writer.now)
           (g.R.Read.remaining (watched c.args.reader.now)) is_input,
+      refl,
+      refl,
     )
 
 pub answer_rest-requires : goal.answer_rest-requires
@@ -57,4 +60,6 @@ loop-preserved g c =
           c.in-Ok.ensures.bytes.0 has)
           after
           (flushed answered after c.deref-in-loop.result.now c.deref-in-loop.ensures.value c.clear.ensures.items c.in_ok-write_all.ensures.ok),
+      c.in-Ok.ensures.failed ∙ or-false (has_failed c.loop.reader) ∙ c.loop.invariant.2,
+      c.in_ok-write_all.ensures.unfailed ∙ c.in_ok-answer_piece.ensures.failed ∙ c.loop.invariant.3,
     )
