@@ -12,7 +12,7 @@ use std::process::Abort;
 use std::test::Fail;
 use zarrs_chunk_base::{ArraySubset, ChunkShape, MetadataV3, Refusal, RunLengthElement, StoreKey};
 use zarrs_chunk_keys::{ChunkKeyEncoding, ChunkKeyEncodingTraits, DefaultChunkKeyEncoding};
-use zarrs_chunks::laws::{chunk_indices_names_the_home, key_and_place_determine_the_index};
+use zarrs_chunks::laws::key_and_place_determine_the_index;
 use zarrs_chunks::{ChunkGridTraits, RegularChunkGrid, locate};
 
 fn non_zero(edge: u64) -> Result<NonZeroU64, Fail> {
@@ -208,7 +208,7 @@ fn check_home(
     home: u64,
     at: u64,
 ) -> Result<(), Fail> {
-    let chunk = chunk_indices_names_the_home(rt.alloc(), grid, &[index])?;
+    let chunk = grid.chunk_indices(rt.alloc(), &[index])?;
     check_numbers(rt, &chunk.ok_or("no chunk")?, &[home]);
     let place = grid.chunk_element_indices(rt.alloc(), &[index])?;
     check_numbers(rt, &place.ok_or("no place")?, &[at]);
@@ -217,7 +217,7 @@ fn check_home(
 
 /// No chunk holds the element.
 fn check_no_home(rt: &(impl Abort + AllocGlobal), grid: &Stairs, index: u64) -> Result<(), Fail> {
-    let chunk = chunk_indices_names_the_home(rt.alloc(), grid, &[index])?;
+    let chunk = grid.chunk_indices(rt.alloc(), &[index])?;
     let place = grid.chunk_element_indices(rt.alloc(), &[index])?;
     check_that(rt, chunk.is_none() && place.is_none(), "no chunk holds it");
     Ok(())

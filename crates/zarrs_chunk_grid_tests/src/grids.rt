@@ -1,4 +1,4 @@
-//! The grids: that laws, homes and copies succeed with ample memory, what is refused, and what a kind of grid makes of metadata.
+//! The grids: that look-ups, boxes, covers, homes and copies succeed with ample memory, what is refused, and what a kind of grid makes of metadata.
 //!
 //! Each look-up, box, cover, bound, walk and configuration of each kind of grid is a vector of `chunkcalls`.
 use crate::compared::{check_numbers, check_same, check_that, refusal};
@@ -155,8 +155,8 @@ fn check_homes(
     Ok(())
 }
 
-/// The laws about chunks in a box, and about those that meet one.
-fn check_box_laws(
+/// The box of the two chunks in each dimension, and the chunks that meet a box, with the laws about them.
+fn check_boxes_of_chunks(
     rt: &(impl Abort + AllocGlobal),
     grid: &ChunkGrid,
     end: u64,
@@ -164,25 +164,28 @@ fn check_box_laws(
 ) -> Result<(), Fail> {
     let alloc = rt.alloc();
     let chunks = box_of(alloc, 0..2, dimensions)?;
-    let union = the_box_of_chunks_is_the_union_of_their_boxes(alloc, grid, &chunks);
+    let union = grid.chunks_subset(alloc, &chunks);
     check_box(rt, union, 0..end, dimensions)?;
+    the_box_of_chunks_is_the_union_of_their_boxes(grid);
     let elements = box_of(alloc, 3..5, dimensions)?;
-    let met = the_cover_names_the_chunks_that_meet_a_box(alloc, grid, &elements);
-    check_box(rt, met, 1..2, dimensions)
+    let met = grid.chunks_in_array_subset(alloc, &elements);
+    check_box(rt, met, 1..2, dimensions)?;
+    the_cover_names_the_chunks_that_meet_a_box(grid);
+    Ok(())
 }
 
-/// Each law that makes a call, on a grid of five elements in each dimension, in a chunk of three and another one up to `end`, and
-/// homes.
-fn check_laws(
+/// The calls that need memory and their laws, on a grid of five elements in each dimension, in a chunk of three and another one up to `end`.
+fn check_calls(
     rt: &(impl Abort + AllocGlobal),
     grid: &ChunkGrid,
     end: u64,
     dimensions: usize,
 ) -> Result<(), Fail> {
     let last = vec![in rt.alloc(); 4; dimensions]?;
-    let chunk = chunk_indices_names_the_home(rt.alloc(), grid, &last)?.ok_or("no chunk")?;
+    let chunk = grid.chunk_indices(rt.alloc(), &last)?.ok_or("no chunk")?;
     check_each(rt, &chunk, 1, dimensions)?;
-    check_box_laws(rt, grid, end, dimensions)?;
+    chunk_indices_names_the_home(grid);
+    check_boxes_of_chunks(rt, grid, end, dimensions)?;
     chunks_share_no_index(grid);
     check_homes(rt, grid, dimensions)
 }
@@ -194,8 +197,8 @@ fn check_copy(
     end: u64,
     dimensions: usize,
 ) -> Result<(), Fail> {
-    check_laws(rt, grid, end, dimensions)?;
-    check_laws(rt, &grid.clone()?, end, dimensions)
+    check_calls(rt, grid, end, dimensions)?;
+    check_calls(rt, &grid.clone()?, end, dimensions)
 }
 
 /// Each kind of grid, and its copy.
@@ -219,7 +222,7 @@ fn check_again(
     let array_shape = vec![in rt.alloc(); 5; dimensions]?;
     let again = ChunkGrid::from_metadata(rt.alloc(), &metadata, &array_shape)?;
     check_same(rt, again.metadata(rt.alloc())?.name(), name);
-    check_laws(rt, &again, end, dimensions)?;
+    check_calls(rt, &again, end, dimensions)?;
     the_edges_determine_the_dimensions(grid, &again);
     grids_of_like_dimensions_answer_alike(grid, &again);
     Ok(())

@@ -1,9 +1,11 @@
 //! What holds of the library's chunk key encodings. What every encoding has to prove, one of another crate too, is the law of
-//! [`ChunkKeyEncodingTraits`](crate::ChunkKeyEncodingTraits).
-ghost use Rattle.std.specs.Prelude.{◌≡◌, ℕ, IfOk, List, Option, Some, Vec, length, option_map};
+//! [`ChunkKeyEncodingTraits`](crate::ChunkKeyEncodingTraits). A law makes no call: where it is about a call, it holds of every answer that the
+//! contract of the call allows.
+ghost use Rattle.std.specs.Prelude.{◌≡◌, ◌↔◌, ℕ, List, Option, Some, Vec, length, option_map};
 ghost use Rattle.std.specs.declared.alloc.Global.{Global};
 ghost use Rattle.zarrs_chunk_base.specs.declared.chunk_key_separator.ChunkKeySeparator.{ChunkKeySeparator};
 ghost use Rattle.zarrs_chunk_base.specs.declared.plugin_create_error.PluginCreateError.{PluginCreateError};
+ghost use Rattle.zarrs_chunk_base.specs.Greatest.{AllFit};
 ghost use Rattle.zarrs_chunk_base.specs.Kinds.{IsMetadata};
 ghost use Rattle.zarrs_chunk_base.specs.Metadata.{Extension};
 ghost use Rattle.zarrs_chunk_keys.specs.ChunkKey.{Encoding, IsKey, default_keys, suffixed_keys};
@@ -11,8 +13,6 @@ ghost use Rattle.zarrs_chunk_keys.specs.Decoded.{IsDecoded};
 ghost use Rattle.zarrs_chunk_keys.specs.KeyKinds.{IsEncoding, IsEncodingFault, key_kind, kind_of};
 
 use crate::ChunkKeyEncodingTraits;
-use std::alloc::{AllocError, Global};
-use zarrs_chunk_base::{ArrayIndices, StoreKey};
 
 /// Under one separator, and one suffix where there is one, a key of the `default` encoding is that of one list of numbers, whatever its length.
 pub fn a_default_key_names_one_chunk()
@@ -30,26 +30,13 @@ pub fn a_chunk_has_one_key()
         → IsKey encoding chunk other → key ≡ other }
 {}
 
-/// The key that `encode` writes of a chunk, and what `decode` reads it as: that chunk. This is so of every encoding, one of another crate
-/// too.
-///
-/// # Errors
-/// Out of memory.
-pub fn a_key_is_read_back<E: ChunkKeyEncodingTraits>(
-    alloc: Global,
-    encoding: &E,
-    chunk_indices: &[u64],
-) -> Result<(StoreKey, Option<ArrayIndices>), AllocError>
-    ensures key { IfOk result (λ both. E.is_key encoding.now chunk_indices.now both.0) }
-    ensures read { IfOk result (λ both. IsDecoded (λ chunk. E.is_key encoding.now chunk both.0)
-        (length chunk_indices.now) both.1) }
-    ensures same { IfOk result (λ both. option_map (λ chunk. chunk.items) both.1
-        ≡ Some chunk_indices.now) }
-{
-    let key = encoding.encode(alloc, chunk_indices)?;
-    let chunk = encoding.decode(alloc, chunk_indices.len(), &key)?;
-    Ok((key, chunk))
-}
+/// What `decode` answers of a text is a chunk exactly where the text is a key of that chunk. So a key that `encode` writes is read back as its
+/// chunk, under every encoding, one of another crate too.
+pub fn a_key_is_read_back<E: ChunkKeyEncodingTraits>(encoding: &E)
+    ensures { (chunk key : List ℕ) (answer : Option (Vec ℕ Global)) → AllFit chunk
+        → IsDecoded (λ other. E.is_key encoding.now other key) (length chunk) answer
+        → E.is_key encoding.now chunk key ↔ (option_map (λ v. v.items) answer ≡ Some chunk) }
+{}
 
 /// Two keys that are read as one chunk, as `decode` reads them, are equal.
 pub fn keys_read_as_one_chunk_are_equal()

@@ -1,6 +1,8 @@
 -- A walk over what a rechunking copies: that it can go on, and what it gives.
-use Rattle.std.proofs.Common.{◌≡◌, ◌∙◌, ℕ, List, [], ◌∷◌, ◌++◌, Some, None, Ok, append-nil, ap, refl, subst, sym}
+use Rattle.std.proofs.Common.{◌≡◌, ◌∙◌, ℕ, List, [], ◌∷◌, ◌++◌, Option, Some, None, Result, Ok, map, append_assoc, append-nil, ap, refl, subst, sym}
+use Rattle.std.specs.Iterator.{Drains, Yields}
 use Rattle.std.specs.List.{AllByRecursion, AllZip}
+use Rattle.std.specs.declared.alloc.AllocError.{AllocError}
 use Rattle.zarrs_chunk_base.specs.ArraySubset.{Box, IsBox, IsEmptyBox}
 use Rattle.zarrs_chunk_base.specs.Dimension.{Dimension, array_sizes}
 use Rattle.zarrs_chunks.specs.Walks.{chunks_in}
@@ -11,7 +13,8 @@ use Rattle.zarrs_chunk_plan.specs.declared.chunk_copies.Copies.{Copies}
 use Rattle.zarrs_chunk_plan.specs.declared.part.Part.{Part}
 use Rattle.zarrs_chunk_plan.specs.declared.stored_array.StoredArray.{StoredArray}
 use Rattle.zarrs_chunk_plan.specs.declared.walk.Parts.{Parts}
-use Rattle.zarrs_chunk_plan.specs.seen.Copies.{AreGroupsToCome, CanCopy, GivesCopies, IsAboutCopies, IsPlanned, target_of, targets_to_come}
+use Rattle.zarrs_chunk_plan.specs.seen.Copies.{AreGroupsToCome, CanCopy, GivesCopies, HasAllParts, IsAboutCopies, IsPlanned}
+use Rattle.zarrs_chunk_plan.specs.seen.Copies.{target_of, targets_to_come}
 use Rattle.zarrs_chunk_plan.specs.seen.Parts.{ArePartsToCome, GivesPart, IsAbout, chunks_to_come}
 use Rattle.zarrs_chunk_plan.proofs.Plans.{not_empty}
 use Rattle.zarrs_chunk_plan.proofs.Walked.{one_came, plan_of}
@@ -107,6 +110,32 @@ module _ {G E H F : Type 0} (source_dimensions : G → List Dimension) (source_k
       → AreGroupsToCome source_dimensions source_key target_dimensions target_key begin groups
   last_group before after groups (came, left, are, about, can) gives =
       subst (λ chunks. AllZip IsGroupOf chunks groups) (sym (left ∙ ap (λ xs. came ++ xs) gives.gives.0 ∙ append-nil came)) are
+
+  -- what a call of `next` on the walk gives
+  abbrev pub GivesGroup : Copies G E H F → Option (Result (ChunkCopies G E) AllocError) → Copies G E H F → Type 0
+  GivesGroup = GivesCopies source_dimensions target_dimensions target_key
+
+  -- what came and what is given from there up to the end are the groups to come
+  up_to_last : (now last end : Copies G E H F) (came groups : List Group) (given : List (ChunkCopies G E)) → GroupsHaveCome now came
+      → Yields GivesGroup now (map Ok given) last → GivesGroup last None end → AllZip (HasAllParts source_dimensions source_key) given groups
+      → AreGroupsToCome source_dimensions source_key target_dimensions target_key begin (came ++ groups)
+  up_to_last now last end came [] [] have same stops are =
+      subst (AreGroupsToCome source_dimensions source_key target_dimensions target_key begin) (sym (append-nil came))
+      (last_group now end came have (subst (λ walk. GivesGroup walk None end) (sym same) stops))
+  up_to_last now last end came ((to, from) ∷ groups) (group ∷ given) have (after, gives, rest) stops ((same, parts), are) =
+      let more = came ++ (to, from) ∷ [] in
+      let is : more ≡ came ++ (group.to, from) ∷ [] = ap (λ t. came ++ (t, from) ∷ []) (sym same) in
+      subst (AreGroupsToCome source_dimensions source_key target_dimensions target_key begin) (append_assoc came ((to, from) ∷ []) groups)
+      (up_to_last after last end more groups given (one_more_group now after group from came more have gives parts is) rest stops are)
+  up_to_last now last end came [] (_ ∷ _) have yields stops are = absurd are
+  up_to_last now last end came (_ ∷ _) [] have yields stops are = absurd are
+
+  -- so what a walk gives up to its end, each group with all of its parts, are the groups to come
+  pub all_groups_to_come : (given : List (ChunkCopies G E)) (groups : List Group) → CanCopy source_dimensions target_dimensions begin
+      → Drains GivesGroup begin (map Ok given) → AllZip (HasAllParts source_dimensions source_key) given groups
+      → AreGroupsToCome source_dimensions source_key target_dimensions target_key begin groups
+  all_groups_to_come given groups can (end, (last, yields, stops)) are =
+      up_to_last begin last end [] groups given (first_group begin [] refl refl can) yields stops are
 
 -- the groups of all chunks that were to come are a rechunking
 pub rechunking_of : {G E H F : Type 0} (source_dimensions : G → List Dimension) (source_key : E → List ℕ → List ℕ → Type 0)

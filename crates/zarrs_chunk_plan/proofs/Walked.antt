@@ -1,6 +1,7 @@
 -- The parts that came of a walk, one for each chunk that came; at the end they are a plan.
-use Rattle.std.proofs.Common.{◌≡◌, ◌∙◌, ℕ, List, [], ◌∷◌, ◌++◌, Some, None, Ok, append_assoc, append-nil, ap, refl, subst, sym}
+use Rattle.std.proofs.Common.{◌≡◌, ◌∙◌, ℕ, List, [], ◌∷◌, ◌++◌, Some, None, Ok, map, append_assoc, append-nil, ap, refl, subst, sym}
 use Rattle.std.proofs.lemmas.Slice.Zip.{all_zipped_more}
+use Rattle.std.specs.Iterator.{Drains, Yields}
 use Rattle.std.specs.List.{AllZip}
 use Rattle.zarrs_chunk_base.specs.ArraySubset.{Box}
 use Rattle.zarrs_chunk_base.specs.Dimension.{Dimension}
@@ -45,6 +46,23 @@ module _ {G E : Type 0} (dimensions : G → List Dimension) (is_key : E → List
       → ArePartsToCome dimensions is_key begin parts
   at_last before after parts (came, left, are, about, meet) gives =
       subst (λ chunks. AllZip IsPartOf chunks parts) (sym (left ∙ ap (λ xs. came ++ xs) gives.gives.0 ∙ append-nil came)) are
+
+  -- what came and what is given from there up to the end are the parts to come
+  up_to_end : (now last end : Parts G E) (came given : List Part) → HaveCome now came
+      → Yields (GivesPart dimensions is_key) now (map Ok given) last → GivesPart dimensions is_key last None end
+      → ArePartsToCome dimensions is_key begin (came ++ given)
+  up_to_end now last end came [] have same stops =
+      subst (ArePartsToCome dimensions is_key begin) (sym (append-nil came))
+      (at_last now end came have (subst (λ walk. GivesPart dimensions is_key walk None end) (sym same) stops))
+  up_to_end now last end came (part ∷ given) have (after, gives, rest) stops =
+      let more = came ++ part ∷ [] in
+      subst (ArePartsToCome dimensions is_key begin) (append_assoc came (part ∷ []) given)
+      (up_to_end after last end more given (one_more now after part came more have gives refl) rest stops)
+
+  -- so what a walk gives up to its end are the parts to come
+  pub all_to_come : (given : List Part) → MeetSubset dimensions begin → Drains (GivesPart dimensions is_key) begin (map Ok given)
+      → ArePartsToCome dimensions is_key begin given
+  all_to_come given meet (end, (last, yields, stops)) = up_to_end begin last end [] given (at_first begin [] refl refl meet) yields stops
 
 -- the parts of all chunks of the cover are a plan
 pub plan_of : {G E : Type 0} (dimensions : G → List Dimension) (is_key : E → List ℕ → List ℕ → Type 0) (grid : G) (encoding : E) (subset cover : Box)

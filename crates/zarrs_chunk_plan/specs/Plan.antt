@@ -1,16 +1,11 @@
 -- The plan of reading a box of elements: its parts, one for each chunk that holds some of it.
 -- Sources: Zarr V3 core, chunk grids and chunk key encodings; the plan is this library's own.
-use Rattle.std.specs.Prelude.{◌≡◌, ◌↔◌, ◌⊎◌, ℕ, IsTrue, List, [], length, Option, Some, None, Result, Ok, Err, Vec}
+use Rattle.std.specs.Prelude.{◌≡◌, ◌↔◌, ℕ, IsTrue, List}
 use Rattle.std.specs.List.{AllZip}
-use Rattle.std.specs.declared.alloc.Global.{Global}
-use Rattle.zarrs_chunk_base.specs.ArraySubset.{Box, IsBox, IsInside, lasts}
+use Rattle.zarrs_chunk_base.specs.ArraySubset.{Box, IsBox, IsInside}
 use Rattle.zarrs_chunk_base.specs.Dimension.{Dimension, InBox, IsOrigin, IsShape, array_sizes}
-use Rattle.zarrs_chunk_base.specs.Refusal.{AnswersOrMemory}
-use Rattle.zarrs_chunk_base.specs.declared.incompatible_dimensionality_error.IncompatibleDimensionalityError.{IncompatibleDimensionalityError}
-use Rattle.zarrs_chunk_base.specs.declared.refusal.Refusal.{Refusal}
-use Rattle.zarrs_chunk_base.specs.declared.refusal.Refusal.TheVariants.{Refused, Memory}
 use Rattle.zarrs_chunk_axes.specs.InBounds.{AreBelow}
-use Rattle.zarrs_chunks.specs.Subsets.{HasNoHome, IsCover}
+use Rattle.zarrs_chunks.specs.Subsets.{IsCover}
 use Rattle.zarrs_chunks.specs.Walks.{chunks_in, counted_from}
 use Rattle.zarrs_chunk_plan.specs.declared.part.Part.{Part}
 
@@ -56,20 +51,6 @@ pub record IsPlan (ds : List Dimension) (IsKey : List ℕ → List ℕ → Type 
   pub cover : Box
   pub is_cover : IsCover ds subset cover
   pub are_parts : AllZip (IsPart ds IsKey subset) (chunks_in cover) parts
-
--- what is answered of a box that isn't empty: its plan, and none where its first or its last element lies in no chunk
-abbrev pub AnswersPlan : List Dimension → (List ℕ → List ℕ → Type 0) → Box
-    → Result (Option (Vec Part Global)) (Refusal IncompatibleDimensionalityError) → Type 0
-AnswersPlan ds IsKey b =
-    AnswersOrMemory (length b.start) (length ds) (λ parts. IsPlan ds IsKey b parts.items)
-    (HasNoHome ds b.start ⊎ HasNoHome ds (lasts b.start b.shape))
-
--- of an empty one: no parts
-abbrev pub AnswersNoPart : Result (Option (Vec Part Global)) (Refusal IncompatibleDimensionalityError) → Type 0
-AnswersNoPart (Ok (Some parts)) = parts.items ≡ []
-AnswersNoPart (Ok None) = ⊥
-AnswersNoPart (Err (Refused _)) = ⊥
-AnswersNoPart (Err (Memory _)) = Unit {0}
 
 -- The part has the element at an index, and its place in the chunk: both lie as far behind the first of the part's box.
 pub record HasElement (subset : Box) (part : Part) (index place : List ℕ) : Type 0 where

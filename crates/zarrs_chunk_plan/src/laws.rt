@@ -1,54 +1,51 @@
 //! What holds of every plan, over any grid and encoding. It follows from the laws of [`zarrs_chunks::laws`] and from that of encodings.
+//! Where a law is about a call, it holds of every answer that the contract of the call allows, and doesn't make the call.
 //!
 //! | What holds | The function whose contract says it |
 //! |---|---|
-//! | What [`parts`] gives of a box, one after another, is a plan of the box | [`the_walk_gives_the_plan`] |
+//! | What a walk that `parts` answers gives of a box, one after another, is a plan of the box | [`the_walk_gives_the_plan`] |
 //! | Each element of the box lies in exactly one part, at its place in that part's chunk | [`each_element_lies_in_one_part`] |
 //! | No two parts have one key | [`no_two_parts_have_one_key`] |
 //! | The parts' boxes tile the box: each place in it lies in exactly one, they reach nowhere else, and none is empty | [`the_parts_tile_the_box`] |
 //! | Shares of a plan are together the plan | [`shares_are_together_the_plan`] |
-//! | What [`copies`] gives, one group after another, is a rechunking | [`the_walk_gives_the_rechunking`] |
+//! | What a walk that `copies` answers gives, one group after another, is a rechunking | [`the_walk_gives_the_rechunking`] |
 //! | Each element whose target chunk is asked for is moved, place to place, by exactly one copy | [`each_element_is_copied_once`] |
 //! | Rechunkings that share the target's chunks out are together the whole one | [`rechunkings_that_share_out_are_the_whole_one`] |
-ghost use Rattle.std.specs.Prelude.{◌≡◌, ◌≢◌, ◌↔◌, ◌⊎◌, ◌<◌, ℕ, IfErr, IfOk, List, length};
+ghost use Rattle.std.specs.Prelude.{◌≡◌, ◌≢◌, ◌↔◌, ◌<◌, ℕ, [], List, Ok, Some, map};
+ghost use Rattle.std.specs.Iterator.{Drains};
 ghost use Rattle.std.specs.List.{AllPairs, AllZip, Contains, flat_map, range_with_len};
 ghost use Rattle.zarrs_chunk_axes.specs.InBounds.{AreBelow};
-ghost use Rattle.zarrs_chunk_base.specs.ArraySubset.{Box, IsEmptyBox, IsInside};
+ghost use Rattle.zarrs_chunk_base.specs.ArraySubset.{Box, IsBox, IsEmptyBox, IsInside};
 ghost use Rattle.zarrs_chunk_base.specs.Dimension.{InBox, IsPlace, array_sizes};
-ghost use Rattle.zarrs_chunk_base.specs.Refusal.{HasMemory, OrMemory};
-ghost use Rattle.zarrs_chunk_plan.specs.Plan.{AnswersNoPart, AnswersPlan, HasElement, IsPart, IsPlan};
-ghost use Rattle.zarrs_chunk_plan.specs.Rechunking.{Group, IsRechunking, Moves, ShareOut, copies_of};
+ghost use Rattle.zarrs_chunks.specs.Walks.{chunks_in};
+ghost use Rattle.zarrs_chunk_plan.specs.Plan.{HasElement, IsPart, IsPlan};
+ghost use Rattle.zarrs_chunk_plan.specs.Rechunking.{AreTargets, Group, IsRechunking, Moves, ShareOut, array_box, copies_of};
 ghost use Rattle.zarrs_chunk_plan.specs.Shares.{numbered_share};
-ghost use Rattle.zarrs_chunk_plan.specs.seen.Copies.{AreGroupsToCome, CanCopy, IsCopiesFault, groups_of};
+ghost use Rattle.zarrs_chunk_plan.specs.seen.Copies.{AreGroupsToCome, CanCopy, GivesCopies, HasAllParts, IsAboutCopies, targets_to_come};
+ghost use Rattle.zarrs_chunk_plan.specs.seen.Parts.{AnswersNoParts, AnswersParts, ArePartsToCome, GivesPart, IsAbout, MeetSubset};
 
-use crate::plan::all_parts;
-use crate::{Copies, CopiesError, Part, StoredArray, copies, parts};
-use std::alloc::{AllocError, Global};
-use zarrs_chunk_base::{ArraySubset, IncompatibleDimensionalityError, Refusal};
+use crate::{ChunkCopies, Copies, Part, Parts, StoredArray};
+use zarrs_chunk_base::ArraySubset;
 use zarrs_chunk_keys::ChunkKeyEncodingTraits;
 use zarrs_chunks::ChunkGridTraits;
 
-/// The parts that the walk over a box gives, one after another, are a plan of the box: one for each chunk of its cover, in order. There is none
-/// where the box has no cover, and an empty box has no parts.
-///
-/// # Errors
-/// As `parts`, which this calls; or out of memory for the list.
+/// What a walk over a box gives up to its end is its parts to come. Of a walk that `parts` answers these are a plan of the box: one for each chunk of
+/// its cover, in order; of an empty box there are none.
 pub fn the_walk_gives_the_plan<G: ChunkGridTraits, E: ChunkKeyEncodingTraits>(
-    alloc: Global,
     grid: &G,
     encoding: &E,
-    array_subset: &ArraySubset,
-) -> Result<Option<Vec<Part>>, Refusal<IncompatibleDimensionalityError>>
-    ensures empty { IsEmptyBox array_subset.now → length (G.dimensions grid.now) ≢ 0
-        → AnswersNoPart result }
-    ensures answers { (¬ IsEmptyBox array_subset.now) ⊎ (length (G.dimensions grid.now) ≡ 0)
-        → AnswersPlan (G.dimensions grid.now) (E.is_key encoding.now) array_subset.now result }
-{
-    match parts(alloc, grid, encoding, array_subset)? {
-        Some(walk) => Ok(Some(all_parts(alloc, walk)?)),
-        None => Ok(None),
-    }
-}
+)
+    ensures to_come { (walk : Parts G E) (parts : List Part) → MeetSubset G.dimensions walk
+        → Drains (GivesPart G.dimensions E.is_key) walk (map Ok parts)
+        → ArePartsToCome G.dimensions E.is_key walk parts }
+    ensures plan { (elements : Box) (walk : Parts G E) (parts : List Part)
+        → AnswersParts (G.dimensions grid.now) elements (Ok (Some walk))
+        → IsAbout grid.now encoding.now elements walk
+        → ArePartsToCome G.dimensions E.is_key walk parts
+        → IsPlan (G.dimensions grid.now) (E.is_key encoding.now) elements parts }
+    ensures none { (walk : Parts G E) (parts : List Part) → AnswersNoParts (Ok (Some walk))
+        → ArePartsToCome G.dimensions E.is_key walk parts → parts ≡ [] }
+{}
 
 /// So many shares of a plan, one behind another, are the plan: nothing of it is in two of them, and nothing is left out.
 pub fn shares_are_together_the_plan()
@@ -117,62 +114,27 @@ pub fn the_parts_tile_the_box<G: ChunkGridTraits, E: ChunkKeyEncodingTraits>(
     array_subset.is_a_box();
 }
 
-/// What the walk over a rechunking gives, one group after another, each with all of its parts, is a rechunking into the chunks that were asked for.
-///
-/// # Errors
-/// As `copies`, which this calls; or out of memory for the lists.
+/// What a walk over a rechunking gives up to its end, each group with all of its parts, is its groups to come. Of a walk that `copies` answers
+/// these are a rechunking into the chunks that were asked for.
 pub fn the_walk_gives_the_rechunking<
     G: ChunkGridTraits,
     E: ChunkKeyEncodingTraits,
     H: ChunkGridTraits,
     F: ChunkKeyEncodingTraits,
->(
-    alloc: Global,
-    source: &StoredArray<G, E>,
-    target: &StoredArray<H, F>,
-    chunks: &ArraySubset,
-) -> Result<Vec<(Part, Vec<Part>)>, Refusal<CopiesError>>
-    ensures rechunking { IfOk result (λ all. IsRechunking (G.dimensions source.now.grid)
-        (E.is_key source.now.encoding) (H.dimensions target.now.grid) (F.is_key target.now.encoding)
-        chunks.now (groups_of all.items)) }
-    ensures one_array { IfOk result (λ _. array_sizes (G.dimensions source.now.grid)
-        ≡ array_sizes (H.dimensions target.now.grid)) }
-    ensures lengths { IfOk result (λ _. length chunks.now.start
-        ≡ length (H.dimensions target.now.grid)) }
-    ensures refused { IfErr result (OrMemory (IsCopiesFault
-        (array_sizes (G.dimensions source.now.grid)) (array_sizes (H.dimensions target.now.grid))
-        (length chunks.now.start) (length (H.dimensions target.now.grid)))) }
-    ensures shapes_first { array_sizes (G.dimensions source.now.grid)
-        ≢ array_sizes (H.dimensions target.now.grid) → HasMemory result }
-    ensures lengths_first { length chunks.now.start ≢ length (H.dimensions target.now.grid)
-        → HasMemory result }
-{
-    let walk = copies(alloc, source, target, chunks)?;
-    Ok(all_groups(alloc, walk)?)
-}
-
-/// The groups that a walk has left, each with all of its parts.
-///
-/// # Errors
-/// Out of memory.
-fn all_groups<
-    G: ChunkGridTraits,
-    E: ChunkKeyEncodingTraits,
-    H: ChunkGridTraits,
-    F: ChunkKeyEncodingTraits,
->(alloc: Global, walk: Copies<'_, G, E, H, F>) -> Result<Vec<(Part, Vec<Part>)>, AllocError>
-    requires { CanCopy G.dimensions H.dimensions walk }
-    ensures { IfOk result (λ all. AreGroupsToCome G.dimensions E.is_key H.dimensions F.is_key
-        walk.entry (groups_of all.items)) }
-{
-    let mut all = Vec::new(alloc);
-    for group in walk {
-        let group = group?;
-        let from = all_parts(alloc, group.from)?;
-        all.push((group.to, from))?;
-    }
-    Ok(all)
-}
+>(source: &StoredArray<G, E>, target: &StoredArray<H, F>)
+    ensures to_come { (walk : Copies G E H F) (given : List (ChunkCopies G E))
+        (groups : List Group) → CanCopy G.dimensions H.dimensions walk
+        → Drains (GivesCopies G.dimensions H.dimensions F.is_key) walk (map Ok given)
+        → AllZip (HasAllParts G.dimensions E.is_key) given groups
+        → AreGroupsToCome G.dimensions E.is_key H.dimensions F.is_key walk groups }
+    ensures rechunking { (chunks targets : Box) (walk : Copies G E H F) (groups : List Group)
+        → IsBox targets → AreTargets (H.dimensions target.now.grid) chunks targets
+        → targets_to_come walk ≡ chunks_in targets
+        → IsAboutCopies source.now target.now (array_box (H.dimensions target.now.grid)) walk
+        → AreGroupsToCome G.dimensions E.is_key H.dimensions F.is_key walk groups
+        → IsRechunking (G.dimensions source.now.grid) (E.is_key source.now.encoding)
+        (H.dimensions target.now.grid) (F.is_key target.now.encoding) chunks groups }
+{}
 
 /// Each element of the array whose chunk of the target is asked for is moved by exactly one copy, from its place in the chunk of the source that
 /// holds it to its place in the chunk of the target that does. Each copy is under the keys of its two chunks, its two boxes have one shape, and

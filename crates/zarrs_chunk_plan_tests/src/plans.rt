@@ -1,6 +1,6 @@
 //! The parts of a box of elements in five dimensions, one after another and by number, more than a thousand of them, what follows the end and an
 //! error, what a box has of the array, and the laws.
-use std::alloc::Global;
+use std::alloc::{AllocError, Global};
 use std::num::NonZeroU64;
 use std::process::Abort;
 use std::test::Fail;
@@ -10,7 +10,7 @@ use zarrs_chunk_plan::laws::{
     each_element_lies_in_one_part, no_two_parts_have_one_key, the_parts_tile_the_box,
     the_walk_gives_the_plan,
 };
-use zarrs_chunk_plan::{Part, all_chunks, clip, parts, some_chunks, some_parts};
+use zarrs_chunk_plan::{Part, Parts, all_chunks, clip, parts, some_chunks, some_parts};
 use zarrs_chunks::RegularChunkGrid;
 
 /// A row of so many elements, in chunks of three: the last of five dimensions.
@@ -40,6 +40,18 @@ fn check_part(
     assert_eq!(rt; part.in_chunk.shape(), [1, 1, 1, 1, elements].as_slice());
     assert_eq!(rt; part.in_subset.start(), [0, 0, 0, 0, in_subset].as_slice());
     assert_eq!(rt; part.in_subset.shape(), [1, 1, 1, 1, elements].as_slice());
+}
+
+/// All parts that a walk gives.
+pub(crate) fn all_parts(
+    alloc: Global,
+    walk: Parts<'_, RegularChunkGrid, DefaultChunkKeyEncoding>,
+) -> Result<Vec<Part>, AllocError> {
+    let mut all = Vec::new(alloc);
+    for part in walk {
+        all.push(part?)?;
+    }
+    Ok(all)
 }
 
 #[test]
@@ -131,13 +143,14 @@ fn a_box_is_clipped_to_the_array(rt: HostRuntime) -> Result<(), Fail> {
 }
 
 #[test]
-fn the_laws_answer(rt: HostRuntime) -> Result<(), Fail> {
+fn the_parts_are_a_plan(rt: HostRuntime) -> Result<(), Fail> {
     let alloc = rt.alloc();
     let grid = row(alloc, 5)?;
     let encoding = DefaultChunkKeyEncoding::new_slash();
     let elements = elements_from(alloc, 2, 3)?;
-    let all = the_walk_gives_the_plan(alloc, &grid, &encoding, &elements)?.ok_or("no cover")?;
-    assert_eq!(rt; all.len(), 2);
+    let walk = parts(alloc, &grid, &encoding, &elements)?.ok_or("no cover")?;
+    assert_eq!(rt; all_parts(alloc, walk)?.len(), 2);
+    the_walk_gives_the_plan(&grid, &encoding);
     each_element_lies_in_one_part(&grid, &encoding, &elements);
     no_two_parts_have_one_key(&grid, &encoding, &elements);
     the_parts_tile_the_box(&grid, &encoding, &elements);

@@ -1,4 +1,4 @@
-//! Chunk key encodings: that each call and each law succeeds with ample memory, and keys of many dimensions.
+//! Chunk key encodings: that each call succeeds with ample memory, the laws, and keys of many dimensions.
 use crate::compared::{check_numbers, check_same, check_text, check_that};
 use std::alloc::Global;
 use std::process::Abort;
@@ -31,7 +31,8 @@ fn check_key(
     encoding: &ChunkKeyEncoding,
     key: &str,
 ) -> Result<(), Fail> {
-    check_same(rt, encoding.encode(rt.alloc(), &[1, 23])?.as_str(), key);
+    let written = encoding.encode(rt.alloc(), &[1, 23])?;
+    check_same(rt, written.as_str(), key);
     let mut text = String::from_str(rt.alloc(), "key ")?;
     encoding.append_key(&mut text, &[1, 23])?;
     check_same(
@@ -41,9 +42,9 @@ fn check_key(
             .ok_or("another beginning")?,
         key,
     );
-    let (same, read) = a_key_is_read_back(rt.alloc(), encoding, &[1, 23])?;
-    check_same(rt, same.as_str(), key);
+    let read = encoding.decode(rt.alloc(), 2, &written)?;
     check_numbers(rt, &read.ok_or("no chunk")?, &[1, 23]);
+    a_key_is_read_back(encoding);
     Ok(())
 }
 

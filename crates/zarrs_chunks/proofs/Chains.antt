@@ -1,12 +1,13 @@
 -- In a chain an index lies in one chunk at most, and so its box and its place are the only ones.
-use Rattle.std.proofs.Common.{◌≡◌, ◌↔◌, IfOk, Ok, Err, Some, None, option_map, ℕ, zero, suc, ◌+◌, ◌<◌, ◌≤◌, IsTrue, List, refl, sym, ap, subst}
+use Rattle.std.proofs.Common.{◌≡◌, ◌↔◌, Ok, Option, Some, None, Vec, option_map, ℕ, zero, suc, ◌+◌, ◌<◌, ◌≤◌, IsTrue, List, refl, sym, ap, subst}
 use Rattle.std.proofs.Common.{⊎_elim, add-one, arith}
 use Rattle.std.proofs.lemmas.Bool.{cases_lt}
 use Rattle.std.proofs.lemmas.Option.{none-some, same_Some}
 use Rattle.std.specs.List.{AllByRecursion}
+use Rattle.std.specs.declared.alloc.Global.{Global}
 use Rattle.zarrs_chunk_base.specs.Dimension.{Dimension, Holds, IsChain, InBox}
 use Rattle.zarrs_chunk_base.proofs.InEach.{by_dimension_twice, turned}
-use Rattle.zarrs_chunk_axes.specs.LookUp.{Looked, AnswersChunk}
+use Rattle.zarrs_chunk_axes.specs.LookUp.{AnswersChunk}
 
 -- what comes before a chunk is a chunk
 pub earlier_has : (d : Dimension) → IsChain d → (c m : ℕ) → c ≤ m → IsTrue (d.has_chunk m) → IsTrue (d.has_chunk c)
@@ -85,12 +86,10 @@ same_box ds chunk other index chains first second =
     ds index chunk other (turned Holds ds chunk index first) (turned Holds ds other index second) chains
 
 -- what `chunk_indices` names is the chunk whose box holds the index
-pub names_the_home : (ds : List Dimension) (index : List ℕ) → AllByRecursion IsChain ds → (r : Looked ℕ) → AnswersChunk ds index r
-    → IfOk r (λ named. (chunk : List ℕ) → InBox ds chunk index ↔ option_map (λ v. v.items) named ≡ Some chunk)
-names_the_home ds index chains (Ok (Some v)) h =
-    λ chunk. (
-      λ box. ap Some (same_box ds v.items chunk index chains h.1 box),
-      λ same. subst (λ c. InBox ds c index) (same_Some v.items chunk same) h.1,
-    )
-names_the_home ds index chains (Ok None) h = λ chunk. (λ box. absurd (h.1 chunk box), λ same. absurd (none-some chunk same))
-names_the_home ds index chains (Err e) h = tt
+pub names_the_home : (ds : List Dimension) (index chunk : List ℕ) → AllByRecursion IsChain ds → (named : Option (Vec ℕ Global))
+    → AnswersChunk ds index (Ok named) → InBox ds chunk index ↔ option_map (λ v. v.items) named ≡ Some chunk
+names_the_home ds index chunk chains (Some v) h = (
+  λ box. ap Some (same_box ds v.items chunk index chains h.1 box),
+  λ same. subst (λ c. InBox ds c index) (same_Some v.items chunk same) h.1,
+)
+names_the_home ds index chunk chains None h = (λ box. absurd (h.1 chunk box), λ same. absurd (none-some chunk same))

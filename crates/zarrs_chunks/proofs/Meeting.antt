@@ -1,13 +1,12 @@
 -- The chunks that meet a box are those of its cover, and a box of chunks is the union of their boxes.
-use Rattle.std.proofs.Common.{◌≡◌, ◌↔◌, ℕ, zero, suc, ◌+◌, ◌-◌, ◌<◌, ◌≤◌, IsTrue, List, [], ◌∷◌, length, Ok, Some, IfOk, sym, ap, subst, ⊎_elim}
+use Rattle.std.proofs.Common.{◌≡◌, ◌↔◌, ℕ, zero, suc, ◌+◌, ◌-◌, ◌<◌, ◌≤◌, IsTrue, List, [], ◌∷◌, length, sym, ap, subst, ⊎_elim}
 use Rattle.std.proofs.Common.{arith}
-use Rattle.std.specs.Prelude.{IfSome}
 use Rattle.std.proofs.lemmas.Bool.{cases_lt}
 use Rattle.std.specs.List.{AllByRecursion, Contains}
 use Rattle.zarrs_chunk_base.specs.ArraySubset.{AreWithin, Box, IsBox, IsEmptyBox, IsInside, ends, lasts}
 use Rattle.zarrs_chunk_base.specs.Dimension.{Dimension, Holds, IsChain, InBox, IsEnd, IsOrigin, StartsAt}
 use Rattle.zarrs_chunk_base.proofs.InEach.{length_numbers, length_values}
-use Rattle.zarrs_chunks.specs.Subsets.{AnswersCover, AnswersChunksSubset, IsCover, LookedBox, Spans}
+use Rattle.zarrs_chunks.specs.Subsets.{IsCover, Spans}
 use Rattle.zarrs_chunks.proofs.Chains.{apart, earlier_has, in_chain, no_later}
 use Rattle.zarrs_chunks.proofs.Covers.{head_some, tail_some}
 
@@ -138,12 +137,6 @@ cover_holds ds b cover chains is_box is =
       none_has_home chains some f l [] within = ([], tt, tt)
       none_has_home chains some f l (_ ∷ _) within = absurd within
 
-pub answered_cover_meets : (ds : List Dimension) (b : Box) → AllByRecursion IsChain ds → IsBox b → (¬ IsEmptyBox b)
-    → (r : LookedBox) → AnswersCover ds b r
-    → IfOk r (λ found. IfSome found (λ cover. (chunk : List ℕ) → IsInside cover chunk ↔ ((index : List ℕ) × InBox ds chunk index × IsInside b index)))
-answered_cover_meets ds b chains is_box some (Ok (Some cover)) h = cover_meets ds b cover chains is_box some h.1
-answered_cover_meets ds b chains is_box some _ h = tt
-
 -- ---- the box of a box of chunks
 
 -- an index of a chunk between two lies from where the one starts to where the other ends
@@ -204,9 +197,3 @@ is_union ds chunks b chains is_box some spans =
     by_ranges AreThoseOfChunks no_chunks one_more_of_chunks ds chunks.start chunks.shape b.start b.shape
     (length_numbers StartsAt ds chunks.start b.start spans.start)
     is_box.lengths (length_values StartsAt ds chunks.start b.start spans.start) spans.is_box.lengths chains some spans.start spans.end
-
-pub answered_union : (ds : List Dimension) (chunks : Box) → AllByRecursion IsChain ds → IsBox chunks → (¬ IsEmptyBox chunks) → (r : LookedBox)
-    → AnswersChunksSubset ds chunks r
-    → IfOk r (λ found. IfSome found (λ b. (index : List ℕ) → IsInside b index ↔ ((chunk : List ℕ) × IsInside chunks chunk × InBox ds chunk index)))
-answered_union ds chunks chains is_box some (Ok (Some b)) h = is_union ds chunks b chains is_box some (h.1.1 some)
-answered_union ds chunks chains is_box some _ h = tt

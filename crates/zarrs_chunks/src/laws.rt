@@ -1,5 +1,6 @@
 //! What holds of every chunk grid and every encoding, whoever wrote them. It follows from the contracts of [`ChunkGridTraits`] and
 //! [`ChunkKeyEncodingTraits`] and from their laws: each dimension is a chain, and equal keys of equally long lists come from equal lists.
+//! Where a law is about a call, it holds of every answer that the contract of the call allows, and doesn't make the call.
 //! The last seven lines of the table are about the grids of this library; the very last is no law but the contract of a call.
 //!
 //! | What holds | The function whose contract says it |
@@ -23,8 +24,9 @@
 //! | A `rectilinear` grid is made again of its own configuration | [`a_rectilinear_grid_is_made_again_of_its_configuration`] |
 //! | `rectilinear` grids have equal configurations exactly where they have equal edges | [`equal_edges_are_written_alike`] |
 //! | A look-up in runs makes at most as many comparisons as the numbers of runs have binary digits | `RectilinearChunkGrid::chunk_indices_counted` |
-ghost use Rattle.std.specs.Prelude.{◌≡◌, ◌≢◌, ◌↔◌, ◌⊎◌, ℕ, ◌<◌, IfOk, IfSome, IsTrue, List, Some, length, map, option_map};
+ghost use Rattle.std.specs.Prelude.{◌≡◌, ◌≢◌, ◌↔◌, ℕ, ◌<◌, IsTrue, List, Ok, Option, Some, Vec, map, option_map};
 ghost use Rattle.std.specs.List.{AllPairs, Contains};
+ghost use Rattle.std.specs.declared.alloc.Global.{Global};
 ghost use Rattle.serde_json.specs.Data.{Members};
 ghost use Rattle.zarrs_chunk_base.specs.ArraySubset.{Box, IsBox, IsEmptyBox, IsInside};
 ghost use Rattle.zarrs_chunk_base.specs.Dimension.{Dimension, InBox, IsOrigin, IsPlace, array_sizes, grid_sizes};
@@ -46,30 +48,19 @@ ghost use Rattle.zarrs_chunks.specs.Clipped.{AreClipped, AreClippedLists};
 ghost use Rattle.zarrs_chunk_axes.specs.InBounds.{AreBelow};
 ghost use Rattle.zarrs_chunk_axes.specs.LookUp.{AnswersChunk};
 ghost use Rattle.zarrs_chunk_axes.specs.RowMajor.{IsBefore};
-ghost use Rattle.zarrs_chunks.specs.Subsets.{AnswersChunksSubset, AnswersCover, AnswersEmptyCover, IsCover, Spans};
+ghost use Rattle.zarrs_chunks.specs.Subsets.{AnswersChunksSubset, AnswersCover, IsCover, Spans};
 ghost use Rattle.zarrs_chunks.specs.Walks.{box_at, chunks_in, chunks_of, ends_within};
 
 use crate::{ChunkGrid, ChunkGridTraits, Located};
-use std::alloc::Global;
-use zarrs_chunk_base::{ArrayIndices, ArraySubset, IncompatibleDimensionalityError, Refusal};
 use zarrs_chunk_keys::ChunkKeyEncodingTraits;
 
-/// `chunk_indices` names a chunk exactly where that chunk's box holds the index.
-///
-/// # Errors
-/// As `chunk_indices`, which this calls.
-pub fn chunk_indices_names_the_home<G: ChunkGridTraits>(
-    alloc: Global,
-    grid: &G,
-    array_indices: &[u64],
-) -> Result<Option<ArrayIndices>, Refusal<IncompatibleDimensionalityError>>
-    ensures answers { AnswersChunk (G.dimensions grid.now) array_indices.now result }
-    ensures home { IfOk result (λ named. (chunk : List ℕ)
-        → InBox (G.dimensions grid.now) chunk array_indices.now
-        ↔ (option_map (λ v. v.items) named ≡ Some chunk)) }
-{
-    grid.chunk_indices(alloc, array_indices)
-}
+/// What `chunk_indices` answers of an index is a chunk exactly where that chunk's box holds the index.
+pub fn chunk_indices_names_the_home<G: ChunkGridTraits>(grid: &G)
+    ensures { (index chunk : List ℕ) (named : Option (Vec ℕ Global))
+        → AnswersChunk (G.dimensions grid.now) index (Ok named)
+        → InBox (G.dimensions grid.now) chunk index
+        ↔ (option_map (λ v. v.items) named ≡ Some chunk) }
+{}
 
 /// An index that two chunks hold makes them one.
 pub fn chunks_share_no_index<G: ChunkGridTraits>(grid: &G)
@@ -77,46 +68,21 @@ pub fn chunks_share_no_index<G: ChunkGridTraits>(grid: &G)
         → InBox (G.dimensions grid.now) other index → chunk ≡ other }
 {}
 
-/// The cover of a box that isn't empty names a chunk exactly where that chunk holds some element of the box.
-///
-/// # Errors
-/// As `chunks_in_array_subset`, which this calls.
-pub fn the_cover_names_the_chunks_that_meet_a_box<G: ChunkGridTraits>(
-    alloc: Global,
-    grid: &G,
-    array_subset: &ArraySubset,
-) -> Result<Option<ArraySubset>, Refusal<IncompatibleDimensionalityError>>
-    ensures empty { IsEmptyBox array_subset.now → length (G.dimensions grid.now) ≢ 0
-        → AnswersEmptyCover (G.dimensions grid.now) result }
-    ensures answers { (¬ IsEmptyBox array_subset.now) ⊎ (length (G.dimensions grid.now) ≡ 0)
-        → AnswersCover (G.dimensions grid.now) array_subset.now result }
-    ensures cover { (¬ IsEmptyBox array_subset.now)
-        → IfOk result (λ found. IfSome found (λ cover. (chunk : List ℕ)
+/// A cover that `chunks_in_array_subset` answers of a box that isn't empty names a chunk exactly where that chunk holds some element of the box.
+pub fn the_cover_names_the_chunks_that_meet_a_box<G: ChunkGridTraits>(grid: &G)
+    ensures { (elements cover : Box) → IsBox elements → (¬ IsEmptyBox elements)
+        → AnswersCover (G.dimensions grid.now) elements (Ok (Some cover)) → (chunk : List ℕ)
         → IsInside cover chunk ↔ ((index : List ℕ) × InBox (G.dimensions grid.now) chunk index
-        × IsInside array_subset.now index))) }
-{
-    array_subset.is_a_box();
-    grid.chunks_in_array_subset(alloc, array_subset)
-}
+        × IsInside elements index) }
+{}
 
-/// The box of a box of chunks that isn't empty holds an element exactly where one of the chunks does.
-///
-/// # Errors
-/// As `chunks_subset`, which this calls.
-pub fn the_box_of_chunks_is_the_union_of_their_boxes<G: ChunkGridTraits>(
-    alloc: Global,
-    grid: &G,
-    chunks: &ArraySubset,
-) -> Result<Option<ArraySubset>, Refusal<IncompatibleDimensionalityError>>
-    ensures answers { AnswersChunksSubset (G.dimensions grid.now) chunks.now result }
-    ensures union { (¬ IsEmptyBox chunks.now) → IfOk result
-        (λ found. IfSome found (λ b. (index : List ℕ)
-        → IsInside b index ↔ ((chunk : List ℕ) × IsInside chunks.now chunk
-        × InBox (G.dimensions grid.now) chunk index))) }
-{
-    chunks.is_a_box();
-    grid.chunks_subset(alloc, chunks)
-}
+/// A box that `chunks_subset` answers of a box of chunks that isn't empty holds an element exactly where one of the chunks does.
+pub fn the_box_of_chunks_is_the_union_of_their_boxes<G: ChunkGridTraits>(grid: &G)
+    ensures { (chunks union : Box) → IsBox chunks → (¬ IsEmptyBox chunks)
+        → AnswersChunksSubset (G.dimensions grid.now) chunks (Ok (Some union)) → (index : List ℕ)
+        → IsInside union index ↔ ((chunk : List ℕ) × IsInside chunks chunk
+        × InBox (G.dimensions grid.now) chunk index) }
+{}
 
 /// The key and the place under which an element is stored determine the element's indices: where `locate` finds two different elements, their
 /// keys or their places differ.

@@ -17,7 +17,7 @@ use Rattle.zarrs_chunk_plan.specs.declared.copies_error.CopiesError.TheVariants.
 use Rattle.zarrs_chunk_plan.specs.declared.part.Part.{Part}
 use Rattle.zarrs_chunk_plan.specs.declared.stored_array.StoredArray.{StoredArray}
 use Rattle.zarrs_chunk_plan.specs.declared.walk.Parts.{Parts}
-use Rattle.zarrs_chunk_plan.specs.seen.Parts.{IsAbout, MeetSubset, all_chunks, chunks_to_come, offsets_to_come}
+use Rattle.zarrs_chunk_plan.specs.seen.Parts.{ArePartsToCome, IsAbout, MeetSubset, all_chunks, chunks_to_come, offsets_to_come}
 
 module _ {G E H F : Type 0} where
   -- the chunks of the target into which the copies are still to come; and they, counted from the first one
@@ -76,6 +76,10 @@ pub record GivesCopies {G E H F : Type 0} (source_dimensions : G → List Dimens
   pub about : IsAboutCopies before.source.now (target_of before) before.targets.array_subset after
   pub can : CanCopy source_dimensions target_dimensions before → CanCopy source_dimensions target_dimensions after
   pub all : all_targets after ≡ all_targets before
+
+-- a group that `next` gave, with all parts that its own walk has to give
+abbrev pub HasAllParts : {G E : Type 0} → (G → List Dimension) → (E → List ℕ → List ℕ → Type 0) → ChunkCopies G E → Group → Type 0
+HasAllParts dimensions is_key given group = (given.to ≡ group.0) × ArePartsToCome dimensions is_key given.from group.1
 
 -- groups, without where they lie in memory
 abbrev pub groups_of : List (Part × Vec Part Global) → List Group
