@@ -9,7 +9,7 @@ ghost use Rattle.zarrs_chunk_base.specs.Metadata.{IsExtension, extension_of, ext
 use serde_json::Value;
 use std::alloc::{AllocError, Global};
 use zarrs_chunk_base::{
-    ChunkShape, ConfigurationForm, MetadataV3, Refusal, RegularChunkGridConfiguration,
+    ChunkShape, ConfigurationForm, MetadataV3, Refusal, RegularChunkGridConfiguration, read_json,
 };
 
 /// The metadata that a text stands for, as `{"name": "regular", "configuration": {"chunk_shape": [2, 3]}}`; `None` where it stands for none.
@@ -18,10 +18,8 @@ pub fn metadata_of(alloc: Global, text: &str) -> Result<Option<MetadataV3>, Allo
     ensures metadata { IfOk result (λ found. IfSome found (λ metadata. IfSome (read text.now)
         (λ tree. IsExtension tree (extension_of metadata)))) }
 {
-    let tree = match Value::from_str(alloc, text) {
-        Ok(tree) => tree,
-        Err(error) if error.is_memory() => return Err(AllocError),
-        Err(_) => return Ok(None),
+    let Some(tree) = read_json(alloc, text.as_bytes())? else {
+        return Ok(None);
     };
     match MetadataV3::from_tree(alloc, &tree) {
         Ok(metadata) => Ok(Some(metadata)),

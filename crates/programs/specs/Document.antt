@@ -1,22 +1,17 @@
 -- What the documents of the programs have in common: an object of JSON with an array's `shape`, and members that are extensions' metadata.
 -- Source: RFC 8259; Zarr V3 core, array metadata and extension definition.
-use Rattle.std.specs.Prelude.{◌≡◌, ℕ, List, Contains, IsSome, Option, Some, None, IsUtf8, codes, option_and_then}
+use Rattle.std.specs.Prelude.{◌≡◌, ℕ, List, Contains, IsSome, Option, Some, None, codes, option_and_then}
 use Rattle.serde_json.specs.Data.{Data}
-use Rattle.serde_json.specs.Read.{read}
 use Rattle.serde_json.specs.Find.{as_object, get}
-use Rattle.zarrs_chunk_base.specs.Json.{size_of, list_of}
+use Rattle.zarrs_chunk_base.specs.Json.{IsJsonOf, size_of, list_of}
 use Rattle.zarrs_chunk_base.specs.Metadata.{Extension, IsExtension, IsMetadataFault}
 use Rattle.programs.specs.Stored.{Stored}
 use Rattle.programs.specs.declared.document_fault.DocumentFault.{DocumentFault}
 use Rattle.programs.specs.declared.document_fault.DocumentFault.TheVariants.{NotJson, NotObject, Missing, WrongValue, Metadata}
 
--- the tree that bytes are the text of
-abbrev pub IsTreeOf : List ℕ → Data → Type 0
-IsTreeOf input d = IsUtf8 input × (read input ≡ Some d)
-
 -- the object that bytes are the text of
 pub record IsObjectOf (input : List ℕ) (d : Data) : Type 0 where
-  pub is_tree : IsTreeOf input d
+  pub is_tree : IsJsonOf input d
   pub is_object : IsSome (as_object d)
 
 -- each of these members is there
@@ -43,8 +38,8 @@ pub record HasStored (d : Data) (stored : Stored) : Type 0 where
 
 -- the fault says that the input is no JSON, or no object
 abbrev pub IsTextFault : List ℕ → DocumentFault → Type 0
-IsTextFault input NotJson = (tree : Data) → ¬ IsTreeOf input tree
-IsTextFault input NotObject = (tree : Data) × IsTreeOf input tree × (as_object tree ≡ None)
+IsTextFault input NotJson = (tree : Data) → ¬ IsJsonOf input tree
+IsTextFault input NotObject = (tree : Data) × IsJsonOf input tree × (as_object tree ≡ None)
 IsTextFault _ _ = ⊥
 
 -- the fault says that the member is missing, and calls it by the name

@@ -12,7 +12,7 @@ use crate::document_fault::DocumentFault;
 use crate::stored::Stored;
 use serde_json::Value;
 use std::alloc::Global;
-use zarrs_chunk_base::{MetadataV3, Refusal, TreeForm, take_member};
+use zarrs_chunk_base::{MetadataV3, Refusal, TreeForm, read_json, take_member};
 
 /// The object that an input is the text of.
 ///
@@ -22,11 +22,10 @@ pub(crate) fn read_object(alloc: Global, input: &[u8]) -> Result<Value, Document
     ensures { MatchResult result (λ tree. IsObjectOf input.now (view tree))
         (λ fault. (fault ≡ Memory) ⊎ IsTextFault input.now fault) }
 {
-    match Value::from_slice(alloc, input) {
-        Ok(tree) if tree.is_object() => Ok(tree),
-        Ok(_) => Err(DocumentFault::NotObject),
-        Err(error) if error.is_memory() => Err(DocumentFault::Memory),
-        Err(_) => Err(DocumentFault::NotJson),
+    match read_json(alloc, input)? {
+        Some(tree) if tree.is_object() => Ok(tree),
+        Some(_) => Err(DocumentFault::NotObject),
+        None => Err(DocumentFault::NotJson),
     }
 }
 

@@ -8,4 +8,5 @@ pub mod KnownNames
 pub mod MappedErrors
 pub mod Refusals
 pub mod TakenMembers
+pub mod TreeFaults
 pub mod Trees

@@ -1,10 +1,15 @@
 -- What trees of JSON stand for: sizes, edges, texts, and lists of them; and which trees they are written as. A tree is what
 -- `serde_json` reads a text as; a whole number from 0 to 18446744073709551615 is `unsigned` there, and `10.0` is a float.
-use Rattle.std.specs.Prelude.{ℕ, ◌==◌, if◌then◌else◌, List, [], ◌∷◌, map, Option, Some, None, option_map, option_and_then}
+use Rattle.std.specs.Prelude.{◌≡◌, ℕ, ◌==◌, IsUtf8, if◌then◌else◌, List, [], ◌∷◌, map, Option, Some, None, option_map, option_and_then}
 use Rattle.std.specs.Option.{option_or}
 use Rattle.serde_json.specs.Data.{Data, number, unsigned, array, Items, no_items, item}
 use Rattle.serde_json.specs.Find.{as_number, as_u64, as_array}
+use Rattle.serde_json.specs.Read.{read}
 use Rattle.serde_json.specs.View.{items_of}
+
+-- the tree that a text is the JSON of
+abbrev pub IsJsonOf : List ℕ → Data → Type 0
+IsJsonOf text tree = IsUtf8 text × (read text ≡ Some tree)
 
 -- a whole number, as the reader keeps one: from 0 to the greatest u64
 abbrev pub size_of : Data → Option ℕ

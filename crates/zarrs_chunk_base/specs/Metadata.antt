@@ -6,9 +6,12 @@ use Rattle.serde_json.specs.Data.{Data, string, object as object_of, Members, no
 use Rattle.serde_json.specs.Find.{get, as_str, as_object, as_bool}
 use Rattle.serde_json.specs.View.{members_view}
 use Rattle.zarrs_chunk_base.specs.declared.json.metadata_v3.MetadataV3.{MetadataV3}
+use Rattle.zarrs_chunk_base.specs.declared.extension_error.ExtensionError.{ExtensionError}
+use Rattle.zarrs_chunk_base.specs.declared.extension_error.ExtensionError.TheVariants.{Create, Metadata}
 use Rattle.zarrs_chunk_base.specs.declared.metadata_error.MetadataError.{MetadataError}
 use Rattle.zarrs_chunk_base.specs.declared.metadata_error.MetadataError.TheVariants.{NotAnExtension, NameMissing, NameNotText, ConfigurationNotObject}
 use Rattle.zarrs_chunk_base.specs.declared.metadata_error.MetadataError.TheVariants.{MustUnderstandNotBool}
+use Rattle.zarrs_chunk_base.specs.declared.plugin_create_error.PluginCreateError.{PluginCreateError}
 
 -- an extension's metadata, without where it lies in memory
 pub record Extension : Type 0 where
@@ -44,6 +47,10 @@ pub data IsExtension (d : Data) (e : Extension) : Type 0 where
   object : (must_understand : Option Bool) → name_of d ≡ Some e.name → IsOptional as_object (get (codes "configuration") d) e.configuration
       → IsOptional as_bool (get (codes "must_understand") d) must_understand → IsExtension d e
 
+-- the tree is the metadata of an extension that this is made of
+abbrev pub IsMadeOfTree : {X : Type 0} → (Extension → X → Type 0) → Data → X → Type 0
+IsMadeOfTree IsMadeOf d x = (e : Extension) × IsExtension d e × IsMadeOf e x
+
 -- how metadata is written: the name alone, or an object with the name and the configuration
 abbrev pub extension_tree : Extension → Data
 extension_tree e = option_map_or
@@ -59,3 +66,8 @@ IsMetadataFault d ConfigurationNotObject = IsSome (name_of d) × IsMisformed as_
 IsMetadataFault d MustUnderstandNotBool =
     IsSome (name_of d) × ((c : Option Members) × IsOptional as_object (get (codes "configuration") d) c)
     × IsMisformed as_bool (get (codes "must_understand") d)
+
+-- Why a tree gives nothing: it is no extension's metadata; or the extension is refused.
+abbrev pub IsTreeFault : (Extension → PluginCreateError → Type 0) → Data → ExtensionError → Type 0
+IsTreeFault IsRefused d (Metadata error) = IsMetadataFault d error
+IsTreeFault IsRefused d (Create error) = IsMadeOfTree IsRefused d error

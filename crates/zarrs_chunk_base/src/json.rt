@@ -8,5 +8,6 @@ pub(crate) mod rectangular_configuration;
 pub(crate) mod rectilinear_configuration;
 pub(crate) mod regular_configuration;
 mod separator_member;
+pub(crate) mod text;
 pub(crate) mod tree_form;
 pub(crate) mod v2_configuration;

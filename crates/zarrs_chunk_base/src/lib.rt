@@ -27,7 +27,9 @@
 //! | `json::regular_configuration`, `rectangular_..`, `rectilinear_..` | the configurations of chunk grids |
 //! | `json::default_configuration`, `v2_..`, `default_suffix_..`, `separator_member` | those of chunk key encodings, and the member that they share |
 //! | `json::tree_form` | sizes, edges, texts, boxes and lists in a tree |
+//! | `json::text` | the tree of a text |
 //! | `plugin_create_error`, `configuration_fault`, `metadata_error` | why an extension isn't made of its metadata |
+//! | `extension_error` | why it isn't made of a tree: one of these |
 #![tactic(auto)]
 
 use serde_json::{Map, Value};
@@ -39,6 +41,7 @@ mod chunk_edge_lengths;
 mod chunk_key_separator;
 mod configuration_fault;
 mod dimension_configuration;
+mod extension_error;
 mod in_brackets;
 mod incompatible_dimensionality_error;
 mod json;
@@ -54,6 +57,7 @@ pub use chunk_edge_lengths::ChunkEdgeLengths;
 pub use chunk_key_separator::ChunkKeySeparator;
 pub use configuration_fault::ConfigurationFault;
 pub use dimension_configuration::RectangularChunkGridDimensionConfiguration;
+pub use extension_error::ExtensionError;
 pub use in_brackets::InBrackets;
 pub use incompatible_dimensionality_error::IncompatibleDimensionalityError;
 pub use json::configuration_form::{ConfigurationForm, MemberNames};
@@ -66,6 +70,7 @@ pub use json::rectilinear_configuration::RectilinearChunkGridConfiguration;
 pub use json::regular_configuration::{
     RegularBoundedChunkGridConfiguration, RegularChunkGridConfiguration,
 };
+pub use json::text::read_json;
 pub use json::tree_form::{TreeForm, read_list, write_box, write_list};
 pub use json::v2_configuration::V2ChunkKeyEncodingConfiguration;
 pub use metadata_error::MetadataError;

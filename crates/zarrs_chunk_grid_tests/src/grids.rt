@@ -223,6 +223,8 @@ fn check_again(
     let again = ChunkGrid::from_metadata(rt.alloc(), &metadata, &array_shape)?;
     check_same(rt, again.metadata(rt.alloc())?.name(), name);
     check_calls(rt, &again, end, dimensions)?;
+    let tree = metadata.to_tree(rt.alloc())?;
+    let again = ChunkGrid::from_tree(rt.alloc(), &tree, &array_shape)?;
     the_edges_determine_the_dimensions(grid, &again);
     grids_of_like_dimensions_answer_alike(grid, &again);
     Ok(())

@@ -1,12 +1,14 @@
 -- The kinds of chunk key encodings: which configurations each accepts, and which encoding it makes of them.
 -- Sources: Zarr V3 core, chunk key encodings; the extension `zarrs.default_suffix`.
 use Rattle.std.specs.Prelude.{◌≡◌, List, [], ◌∷◌, codes}
+use Rattle.serde_json.specs.Data.{Data}
 use Rattle.zarrs_chunk_base.specs.declared.chunk_key_separator.ChunkKeySeparator.{ChunkKeySeparator}
+use Rattle.zarrs_chunk_base.specs.declared.extension_error.ExtensionError.{ExtensionError}
 use Rattle.zarrs_chunk_base.specs.declared.plugin_create_error.PluginCreateError.{PluginCreateError}
 use Rattle.zarrs_chunk_base.specs.KeyConfigurations.{Suffixed, default_value, separator_members, separator_table, suffix_members, suffix_table}
 use Rattle.zarrs_chunk_base.specs.KeyConfigurations.{suffix_value, v2_value}
 use Rattle.zarrs_chunk_base.specs.Kinds.{IsFault, IsMade, Kind}
-use Rattle.zarrs_chunk_base.specs.Metadata.{Extension}
+use Rattle.zarrs_chunk_base.specs.Metadata.{Extension, IsMadeOfTree, IsTreeFault}
 use Rattle.zarrs_chunk_base.specs.StoreKey.{EndsInSlash}
 use Rattle.zarrs_chunk_keys.specs.ChunkKey.{Encoding, default_keys, suffixed_keys, v2_keys}
 
@@ -70,3 +72,11 @@ IsEncoding e encoding = IsMade key_kind e tt encoding
 -- why metadata gives no encoding
 abbrev pub IsEncodingFault : Extension → PluginCreateError → Type 0
 IsEncodingFault e fault = IsFault key_kind key_kinds e tt fault
+
+-- the encoding that a tree is the metadata of
+abbrev pub IsEncodingIn : Data → Encoding → Type 0
+IsEncodingIn = IsMadeOfTree IsEncoding
+
+-- why a tree is the metadata of none
+abbrev pub IsNoEncodingIn : Data → ExtensionError → Type 0
+IsNoEncodingIn = IsTreeFault IsEncodingFault

@@ -9,6 +9,7 @@ use Rattle.zarrs_chunk_base.specs.Refusal.{OrMemory}
 use Rattle.zarrs_chunk_base.specs.declared.refusal.Refusal.{Refusal}
 use Rattle.zarrs_chunk_base.specs.declared.refusal.Refusal.TheVariants.{Refused, Memory}
 use Rattle.zarrs_chunk_keys.specs.ChunkKey.{Encoding, IsKey}
+use Rattle.zarrs_chunk_keys.specs.KeyKinds.{IsEncodingIn}
 use Rattle.zarrs_chunk_keys.specs.seen.Encodings.{encoding_in}
 use Rattle.zarrs_chunk_keys.specs.declared.chunk_key_encoding.named.ChunkKeyEncoding.{ChunkKeyEncoding}
 use Rattle.zarrs_chunk_plan.specs.declared.stored_array.StoredArray.{StoredArray}
@@ -17,7 +18,7 @@ use Rattle.zarrs_chunks.specs.declared.chunk_grid.named.ChunkGrid.{ChunkGrid}
 use Rattle.zarrs_chunk_questions.specs.Pages.{IsCopiesAnswer, IsSomeCopiesAnswer, first_of, target_chunks}
 use Rattle.zarrs_chunk_questions.specs.Question.{Items, Lists, Target}
 use Rattle.zarrs_chunk_questions.specs.Refused.{IsNoRechunking, IsSomeCopiesRefusal}
-use Rattle.zarrs_chunk_questions.specs.Trees.{IsEncodingIn, box_of}
+use Rattle.zarrs_chunk_questions.specs.Trees.{box_of}
 use Rattle.zarrs_chunk_questions.specs.seen.Targets.{IsTargetIn}
 use Rattle.zarrs_chunk_questions.specs.declared.line_fault.LineFault.{LineFault}
 

@@ -5,7 +5,6 @@ pub mod AnswerLines
 pub mod SomeItems
 pub mod Groups
 pub mod Listed
-pub mod OfTargets
 pub mod WalkPages
 pub mod CopiesAsked
 pub mod NoFloats

@@ -1,7 +1,6 @@
 -- What is answered of what a look-up finds, and why a question is refused.
-use Rattle.std.proofs.Common.{◌≡◌, List, ℕ, Option, Result, Ok, Err, IsErrAnd, IfErr, IfOk, IfSome, MatchResult, None, Some, inl}
+use Rattle.std.proofs.Common.{◌≡◌, ℕ, Option, Result, Ok, Err, IsErrAnd, IfErr, IfOk, IfSome, MatchResult, None, Some}
 use Rattle.std.proofs.lemmas.Result.{err_from_is_err_and}
-use Rattle.serde_json.specs.Data.{Data}
 use Rattle.serde_json.specs.View.{view}
 use Rattle.serde_json.specs.declared.value.Value.{Value}
 use Rattle.zarrs_chunk_base.specs.ArraySubset.{Box}
@@ -9,13 +8,9 @@ use Rattle.zarrs_chunk_base.specs.Refusal.{AnswersStoring, OrMemory}
 use Rattle.zarrs_chunk_base.specs.declared.incompatible_dimensionality_error.IncompatibleDimensionalityError.{IncompatibleDimensionalityError}
 use Rattle.zarrs_chunk_base.specs.declared.refusal.Refusal.{Refusal}
 use Rattle.zarrs_chunk_base.specs.declared.refusal.Refusal.TheVariants.{Refused, Memory}
-use Rattle.zarrs_chunk_keys.specs.seen.Encodings.{encoding_in}
-use Rattle.zarrs_chunk_keys.specs.declared.chunk_key_encoding.named.ChunkKeyEncoding.{ChunkKeyEncoding}
 use Rattle.zarrs_chunks.specs.Subsets.{LookedBox}
-use Rattle.zarrs_chunks.specs.seen.Grids.{grid_in, kind_in}
-use Rattle.zarrs_chunks.specs.declared.chunk_grid.named.ChunkGrid.{ChunkGrid}
-use Rattle.zarrs_chunk_questions.specs.Trees.{IsEncodingIn, IsGridIn, Says, box_tree, or_null}
-use Rattle.zarrs_chunk_questions.specs.Refused.{IsErrorOf, IsLengthFault, IsNoEncoding, IsNoExtension, IsNoGrid}
+use Rattle.zarrs_chunk_questions.specs.Trees.{Says, box_tree, or_null}
+use Rattle.zarrs_chunk_questions.specs.Refused.{IsErrorOf, IsLengthFault}
 use Rattle.zarrs_chunk_questions.specs.seen.Found.{TellsError}
 use Rattle.zarrs_chunk_questions.specs.declared.line_fault.LineFault.{LineFault}
 
@@ -24,20 +19,6 @@ pub handed_on : {X : Type 0} (P : X → Type 0) (Q R : LineFault → Type 0) (re
     → ((fault : LineFault) → Q fault → R fault) → OrMemory Q refusal → IsErrAnd result (λ other. other ≡ refusal) → MatchResult result P (OrMemory R)
 handed_on P Q R result (Refused fault) told is handed = let p = err_from_is_err_and result handed in rw (p.1, p.2) (told fault is)
 handed_on P Q R result (Memory error) told is handed = let p = err_from_is_err_and result handed in rw (p.1, p.2) tt
-
-pub no_grid_in : (tree : Data) (shape : List ℕ) (refusal : Refusal LineFault) (result : Result ChunkGrid (Refusal LineFault))
-    → OrMemory (IsNoExtension tree) refusal → IsErrAnd result (λ other. other ≡ refusal)
-    → MatchResult result (λ grid. IsGridIn tree shape (kind_in grid) (grid_in grid)) (OrMemory (IsNoGrid tree shape))
-no_grid_in tree shape refusal result is handed =
-    handed_on (λ grid. IsGridIn tree shape (kind_in grid) (grid_in grid)) (IsNoExtension tree) (IsNoGrid tree shape) result refusal
-    (λ fault is. inl is) is handed
-
-pub no_encoding_in : (tree : Data) (refusal : Refusal LineFault) (result : Result ChunkKeyEncoding (Refusal LineFault))
-    → OrMemory (IsNoExtension tree) refusal → IsErrAnd result (λ other. other ≡ refusal)
-    → MatchResult result (λ encoding. IsEncodingIn tree (encoding_in encoding)) (OrMemory (IsNoEncoding tree))
-no_encoding_in tree refusal result is handed =
-    handed_on (λ encoding. IsEncodingIn tree (encoding_in encoding)) (IsNoExtension tree) (IsNoEncoding tree) result refusal
-    (λ fault is. inl is) is handed
 
 -- the tree of what a call answered that may answer so
 pub says_box : (MayAnswer : LookedBox → Type 0) (answer : LookedBox) (result : Result Value (Refusal LineFault)) → MayAnswer answer

@@ -16,12 +16,13 @@ use Rattle.zarrs_chunk_base.specs.declared.incompatible_dimensionality_error.Inc
 use Rattle.zarrs_chunk_base.specs.declared.refusal.Refusal.{Refusal}
 use Rattle.zarrs_chunk_base.specs.declared.refusal.Refusal.TheVariants.{Refused, Memory}
 use Rattle.zarrs_chunk_keys.specs.ChunkKey.{Encoding, IsKey}
+use Rattle.zarrs_chunk_keys.specs.KeyKinds.{IsEncodingIn}
 use Rattle.zarrs_chunks.specs.Walks.{chunks_in}
 use Rattle.zarrs_chunk_plan.specs.Plan.{IsPart}
 use Rattle.zarrs_chunk_plan.specs.SomeParts.{AreSomeParts}
 use Rattle.zarrs_chunk_plan.specs.declared.numbered_parts.SomeParts.{SomeParts}
 use Rattle.zarrs_chunk_questions.specs.Pages.{AnswersPartsOf, IsPartsAnswer, IsSomePartsAnswer, first_of, is_more, page_tree}
-use Rattle.zarrs_chunk_questions.specs.Trees.{IsEncodingIn, box_of}
+use Rattle.zarrs_chunk_questions.specs.Trees.{box_of}
 use Rattle.zarrs_chunk_questions.specs.Pages.{part_tree}
 use Rattle.zarrs_chunk_questions.specs.Question.{Items, Lists}
 use Rattle.zarrs_chunk_questions.specs.Refused.{IsPartsRefusal, IsSomePartsRefusal}

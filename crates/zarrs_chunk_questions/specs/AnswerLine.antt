@@ -1,9 +1,9 @@
 -- The line that answers a line.
 -- Sources: RFC 8259, and JSON Lines; the words are this library's own.
-use Rattle.std.specs.Prelude.{◌≡◌, ℕ, ◌==◌, if◌then◌else◌, List, ◌++◌, map, codes, Ok, Err, Some, IsUtf8}
+use Rattle.std.specs.Prelude.{◌≡◌, ℕ, ◌==◌, if◌then◌else◌, List, ◌++◌, map, codes, Ok, Err}
 use Rattle.serde_json.specs.Data.{Data}
-use Rattle.serde_json.specs.Read.{read}
 use Rattle.serde_json.specs.Written.{compact_text}
+use Rattle.zarrs_chunk_base.specs.Json.{IsJsonOf}
 use Rattle.zarrs_chunk_questions.specs.Answers.{IsAnswer}
 use Rattle.zarrs_chunk_questions.specs.Line.{IsOneLine}
 use Rattle.zarrs_chunk_questions.specs.Question.{IsReading, Question}
@@ -12,10 +12,6 @@ use Rattle.zarrs_chunk_questions.specs.Refused.{IsRefusal}
 use Rattle.zarrs_chunk_questions.specs.declared.line_fault.LineFault.{LineFault}
 use Rattle.zarrs_chunk_questions.specs.declared.line_fault.LineFault.TheVariants.{Unreadable}
 use Rattle.zarrs_chunk_questions.specs.seen.Read.{fault_of}
-
--- the line is the text of a tree
-abbrev pub IsTextOf : List ℕ → Data → Type 0
-IsTextOf line d = IsUtf8 line × (read line ≡ Some d)
 
 -- a text as one line: each line feed in it as a space, and one at its end
 abbrev pub unbroken : ℕ → ℕ
@@ -35,12 +31,12 @@ Tells _ text = (words : List ℕ) × (text ≡ codes "refused: " ++ words)
 
 -- The answer to a line: that it is no JSON; the first fault of its tree; the answer of the question as compact JSON; or why the library refuses.
 pub data IsAnswerLine (line answer : List ℕ) : Type 0 where
-  no_text : ((d : Data) → ¬ IsTextOf line d) → answer ≡ line_of (unreadable not_json) → IsAnswerLine line answer
-  no_question : (d : Data) (fault : Fault) → IsTextOf line d → IsReading d (Err fault) → answer ≡ line_of (unreadable fault)
+  no_text : ((d : Data) → ¬ IsJsonOf line d) → answer ≡ line_of (unreadable not_json) → IsAnswerLine line answer
+  no_question : (d : Data) (fault : Fault) → IsJsonOf line d → IsReading d (Err fault) → answer ≡ line_of (unreadable fault)
       → IsAnswerLine line answer
-  answered : (d : Data) (question : Question) (tree : Data) → IsTextOf line d → IsReading d (Ok question) → IsAnswer question tree
+  answered : (d : Data) (question : Question) (tree : Data) → IsJsonOf line d → IsReading d (Ok question) → IsAnswer question tree
       → answer ≡ line_of (compact_text tree) → IsAnswerLine line answer
-  refused : (d : Data) (question : Question) (fault : LineFault) (text : List ℕ) → IsTextOf line d → IsReading d (Ok question)
+  refused : (d : Data) (question : Question) (fault : LineFault) (text : List ℕ) → IsJsonOf line d → IsReading d (Ok question)
       → IsRefusal question fault → Tells fault text → answer ≡ line_of text → IsAnswerLine line answer
 
 -- one line, which answers this one

@@ -19,14 +19,15 @@ use Rattle.zarrs_chunk_axes.specs.InBounds.{AreInBounds, AreIndicesInBounds}
 use Rattle.zarrs_chunk_axes.specs.LookUp.{AnswersChunk, AnswersOrigin, AnswersPlace, AnswersShape, AnswersShapeNumbers}
 use Rattle.zarrs_chunk_keys.specs.ChunkKey.{Encoding, IsKey}
 use Rattle.zarrs_chunk_keys.specs.Decoded.{IsDecoded}
-use Rattle.zarrs_chunks.specs.GridKinds.{GridKind, grid_kind, rectilinear}
+use Rattle.zarrs_chunk_keys.specs.KeyKinds.{IsEncodingIn}
+use Rattle.zarrs_chunks.specs.GridKinds.{GridKind, IsGridIn, grid_kind, rectilinear}
 use Rattle.zarrs_chunks.specs.Located.{IsLocated}
 use Rattle.zarrs_chunks.specs.Subsets.{AnswersChunksSubset, AnswersCover, AnswersEmptyCover, AnswersSubset, HasNoHome, LookedBox}
 use Rattle.zarrs_chunks.specs.declared.location.Located.{Located}
 use Rattle.zarrs_chunk_questions.specs.Pages.{IsSomeCopiesAnswer, IsSomePartsAnswer, walk_tree}
 use Rattle.zarrs_chunk_questions.specs.Question.{Asked, Question, copies, counted, decode, encode, located, of_array, of_box, of_grid, of_numbers}
 use Rattle.zarrs_chunk_questions.specs.Question.{of_walk, parts, runs}
-use Rattle.zarrs_chunk_questions.specs.Trees.{IsEncodingIn, IsGridIn, Says, box_of, box_tree, numbers_tree, or_null}
+use Rattle.zarrs_chunk_questions.specs.Trees.{Says, box_of, box_tree, numbers_tree, or_null}
 use Rattle.zarrs_chunk_questions.specs.declared.call.OfBox.{OfBox}
 use Rattle.zarrs_chunk_questions.specs.declared.call.OfBox.TheVariants.{ChunksInArraySubset, ChunksSubset}
 use Rattle.zarrs_chunk_questions.specs.declared.call.OfGrid.{OfGrid}

@@ -11,7 +11,8 @@ use Rattle.zarrs_chunk_base.specs.Grid.{Grid}
 use Rattle.zarrs_chunk_base.specs.declared.incompatible_dimensionality_error.IncompatibleDimensionalityError.{IncompatibleDimensionalityError}
 use Rattle.zarrs_chunk_base.specs.declared.refusal.Refusal.{Refusal}
 use Rattle.zarrs_chunk_keys.specs.ChunkKey.{Encoding, IsKey}
-use Rattle.zarrs_chunks.specs.GridKinds.{GridKind}
+use Rattle.zarrs_chunk_keys.specs.KeyKinds.{IsEncodingIn}
+use Rattle.zarrs_chunks.specs.GridKinds.{GridKind, IsGridIn}
 use Rattle.zarrs_chunks.specs.Walks.{box_at, boxed, chunks_of}
 use Rattle.zarrs_chunk_plan.specs.Rechunking.{Group, all_chunks_box}
 use Rattle.zarrs_chunk_plan.specs.SomeCopies.{AreSomeGroups}
@@ -19,7 +20,7 @@ use Rattle.zarrs_chunk_plan.specs.SomeParts.{AnswersNone, AnswersSome}
 use Rattle.zarrs_chunk_plan.specs.declared.numbered_parts.SomeParts.{SomeParts}
 use Rattle.zarrs_chunk_plan.specs.declared.part.Part.{Part}
 use Rattle.zarrs_chunk_questions.specs.Question.{Items, Lists, Target}
-use Rattle.zarrs_chunk_questions.specs.Trees.{IsEncodingIn, IsGridIn, Says, box_of, box_tree, numbers_tree}
+use Rattle.zarrs_chunk_questions.specs.Trees.{Says, box_of, box_tree, numbers_tree}
 use Rattle.zarrs_chunk_questions.specs.declared.call.WalkOf.{WalkOf}
 use Rattle.zarrs_chunk_questions.specs.declared.call.WalkOf.TheVariants.{Boxes, Chunks, ChunksAndBoxes}
 

@@ -6,31 +6,29 @@ use Rattle.zarrs_chunk_base.specs.ArraySubset.{Box, IsBox}
 use Rattle.zarrs_chunk_base.specs.ArraySubsetError.{IsBoxFault}
 use Rattle.zarrs_chunk_base.specs.Dimension.{Dimension, array_sizes}
 use Rattle.zarrs_chunk_base.specs.Grid.{Grid}
-use Rattle.zarrs_chunk_base.specs.Metadata.{Extension as IsSaid, IsExtension, IsMetadataFault}
 use Rattle.zarrs_chunk_base.specs.Refusal.{TellsLengths}
 use Rattle.zarrs_chunk_base.specs.StoreKey.{EndsInSlash}
-use Rattle.zarrs_chunk_base.specs.declared.metadata_error.MetadataError.{MetadataError}
-use Rattle.zarrs_chunk_base.specs.declared.plugin_create_error.PluginCreateError.{PluginCreateError}
+use Rattle.zarrs_chunk_base.specs.declared.extension_error.ExtensionError.{ExtensionError}
 use Rattle.zarrs_chunk_base.specs.declared.incompatible_dimensionality_error.IncompatibleDimensionalityError.{IncompatibleDimensionalityError}
 use Rattle.zarrs_chunk_base.specs.declared.refusal.Refusal.{Refusal}
 use Rattle.zarrs_chunk_base.specs.declared.refusal.Refusal.TheVariants.{Refused}
 use Rattle.zarrs_chunk_keys.specs.ChunkKey.{Encoding, IsKey}
-use Rattle.zarrs_chunk_keys.specs.KeyKinds.{IsEncodingFault}
-use Rattle.zarrs_chunks.specs.GridKinds.{GridKind, IsGridFault, rectilinear}
+use Rattle.zarrs_chunk_keys.specs.KeyKinds.{IsEncodingIn, IsNoEncodingIn}
+use Rattle.zarrs_chunks.specs.GridKinds.{GridKind, IsGridIn, IsNoGridIn, rectilinear}
 use Rattle.zarrs_chunks.specs.Subsets.{AnswersChunksSubset}
 use Rattle.zarrs_chunk_plan.specs.seen.Copies.{IsCopiesFault}
 use Rattle.zarrs_chunk_questions.specs.Answers.{AnswersCoverOf}
 use Rattle.zarrs_chunk_questions.specs.Pages.{AnswersPartsOf, target_chunks}
 use Rattle.zarrs_chunk_questions.specs.Question.{Asked, Lists, Question, Target, copies, counted, decode, encode, located}
 use Rattle.zarrs_chunk_questions.specs.Question.{of_array, of_box, of_grid, of_numbers, of_walk, parts, runs}
-use Rattle.zarrs_chunk_questions.specs.Trees.{IsEncodingIn, IsGridIn, box_of}
+use Rattle.zarrs_chunk_questions.specs.Trees.{box_of}
 use Rattle.zarrs_chunk_questions.specs.declared.call.OfBox.{OfBox}
 use Rattle.zarrs_chunk_questions.specs.declared.call.OfBox.TheVariants.{ChunksInArraySubset, ChunksSubset}
 use Rattle.zarrs_chunk_questions.specs.declared.call.OfNumbers.{OfNumbers}
 use Rattle.zarrs_chunk_questions.specs.declared.call.OfNumbers.TheVariants.{ArrayIndicesInbounds, ChunkIndicesInbounds}
 use Rattle.zarrs_chunk_questions.specs.declared.line_fault.LineFault.{LineFault}
-use Rattle.zarrs_chunk_questions.specs.declared.line_fault.LineFault.TheVariants.{Copies, Extension, Key, Lengths, Metadata, NotBox, Unreadable}
-use Rattle.zarrs_chunk_questions.specs.declared.line_fault.LineFault.TheVariants.{TargetExtension, TargetMetadata}
+use Rattle.zarrs_chunk_questions.specs.declared.line_fault.LineFault.TheVariants.{Copies, Extension, Key, Lengths, NotBox}
+use Rattle.zarrs_chunk_questions.specs.declared.line_fault.LineFault.TheVariants.{TargetExtension, Unreadable}
 use Rattle.zarrs_chunk_questions.specs.declared.unreadable.Unreadable.TheVariants.{NoCall}
 
 -- the fault tells that so many numbers were given, and others expected
@@ -38,22 +36,18 @@ abbrev pub IsLengthFault : (given expected : ℕ) → LineFault → Type 0
 IsLengthFault given expected (Lengths e) = (given ≢ expected) × TellsLengths given expected e
 IsLengthFault _ _ _ = ⊥
 
--- the fault tells why a tree is no extension's metadata
-abbrev pub IsNoExtension : Data → LineFault → Type 0
-IsNoExtension tree fault = (error : MetadataError) × (fault ≡ Metadata error) × IsMetadataFault tree error
+-- the fault tells why nothing is made of a tree
+abbrev pub IsNotMade : (Data → ExtensionError → Type 0) → Data → LineFault → Type 0
+IsNotMade IsRefused tree (Extension error) = IsRefused tree error
+IsNotMade _ _ _ = ⊥
 
--- the fault tells why an extension gives nothing
-abbrev pub IsNotMade : (IsSaid → PluginCreateError → Type 0) → Data → LineFault → Type 0
-IsNotMade IsFaultOf tree fault =
-    (error : PluginCreateError) × (fault ≡ Extension error) × (e : IsSaid) × IsExtension tree e × IsFaultOf e error
-
--- why a tree gives no grid of an array of a shape: it is no extension's metadata; or the grid can't be made
+-- why a tree gives no grid of an array of a shape
 abbrev pub IsNoGrid : Data → List ℕ → LineFault → Type 0
-IsNoGrid tree shape fault = IsNoExtension tree fault ⊎ IsNotMade (λ e. IsGridFault e shape) tree fault
+IsNoGrid tree shape = IsNotMade (λ t. IsNoGridIn t shape) tree
 
 -- the same of an encoding
 abbrev pub IsNoEncoding : Data → LineFault → Type 0
-IsNoEncoding tree fault = IsNoExtension tree fault ⊎ IsNotMade IsEncodingFault tree fault
+IsNoEncoding tree = IsNotMade IsNoEncodingIn tree
 
 -- why a start and a shape make no box
 abbrev pub IsNoBox : Box → LineFault → Type 0
@@ -103,7 +97,6 @@ IsSomePartsRefusal tree lists grid fault =
 
 -- it is the fault of the target's grid or encoding
 abbrev pub IsOfTarget : (LineFault → Type 0) → LineFault → Type 0
-IsOfTarget IsFault (TargetMetadata error) = IsFault (Metadata error)
 IsOfTarget IsFault (TargetExtension error) = IsFault (Extension error)
 IsOfTarget _ _ = ⊥
 

@@ -4,13 +4,7 @@ use Rattle.std.specs.Prelude.{◌≡◌, ℕ, List, [], ◌∷◌, Option, Resul
 use Rattle.std.specs.Option.{option_map_or}
 use Rattle.serde_json.specs.Data.{Data, null}
 use Rattle.zarrs_chunk_base.specs.ArraySubset.{Box}
-use Rattle.zarrs_chunk_base.specs.Grid.{Grid}
 use Rattle.zarrs_chunk_base.specs.Json.{list_tree, size_tree}
-use Rattle.zarrs_chunk_base.specs.Kinds.{IsOf}
-use Rattle.zarrs_chunk_base.specs.Metadata.{Extension, IsExtension}
-use Rattle.zarrs_chunk_keys.specs.ChunkKey.{Encoding}
-use Rattle.zarrs_chunk_keys.specs.KeyKinds.{IsEncoding}
-use Rattle.zarrs_chunks.specs.GridKinds.{GridKind, grid_kind}
 use Rattle.zarrs_chunk_questions.specs.Question.{Lists}
 
 -- ---- the forms
@@ -29,15 +23,6 @@ or_null tree answer = option_map_or tree answer null
 -- The tree says an answer that the call may give.
 abbrev pub Says : {X E : Type 0} → (X → Data) → (Result (Option X) E → Type 0) → Data → Type 0
 Says {X} tree MayAnswer t = (answer : Option X) × MayAnswer (Ok answer) × (t ≡ or_null tree answer)
-
--- ---- what is made of metadata in a tree
-
--- the grid of this kind, of an array of a shape
-abbrev pub IsGridIn : Data → List ℕ → GridKind → Grid → Type 0
-IsGridIn tree shape kind grid = (e : Extension) × IsExtension tree e × IsOf (grid_kind kind) e shape grid
-
-abbrev pub IsEncodingIn : Data → Encoding → Type 0
-IsEncodingIn tree encoding = (e : Extension) × IsExtension tree e × IsEncoding e encoding
 
 -- ---- what is made of lists
 

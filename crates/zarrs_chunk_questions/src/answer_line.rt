@@ -12,7 +12,7 @@ use crate::question::Question;
 use crate::unreadable::Unreadable;
 use serde_json::Value;
 use std::alloc::{AllocError, Global};
-use zarrs_chunk_base::Refusal;
+use zarrs_chunk_base::{Refusal, read_json};
 
 /// The line that answers a line: its answer as compact JSON, or why it has none, and a line feed.
 ///
@@ -103,10 +103,9 @@ fn answer_of(alloc: Global, line: &[u8], room: usize) -> Result<Option<Value>, R
     ensures { MatchResult result (λ found. IfSome found (λ tree. IsLineAnswer line.now (view tree)))
         (OrMemory (IsLineFault line.now)) }
 {
-    match Value::from_slice(alloc, line) {
-        Ok(tree) => answer_tree(alloc, &tree, room),
-        Err(error) if error.is_memory() => Err(Refusal::Memory(AllocError)),
-        Err(_) => Err(Refusal::Refused(LineFault::Unreadable(Unreadable::NotJson))),
+    match read_json(alloc, line)? {
+        Some(tree) => answer_tree(alloc, &tree, room),
+        None => Err(Refusal::Refused(LineFault::Unreadable(Unreadable::NotJson))),
     }
 }
 

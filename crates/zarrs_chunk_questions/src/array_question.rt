@@ -3,10 +3,10 @@ ghost use Rattle.std.specs.Prelude.{◌≡◌, IfOk, IfSome, MatchResult, length
 ghost use Rattle.serde_json.specs.View.{view};
 ghost use Rattle.zarrs_chunk_base.specs.Refusal.{OrMemory};
 ghost use Rattle.zarrs_chunk_keys.specs.ChunkKey.{Encoding};
+ghost use Rattle.zarrs_chunk_keys.specs.KeyKinds.{IsEncodingIn};
 ghost use Rattle.zarrs_chunks.specs.seen.Grids.{grid_in, kind_in};
 ghost use Rattle.zarrs_chunk_questions.specs.Answers.{IsArrayAnswer, IsLocatedAnswer};
 ghost use Rattle.zarrs_chunk_questions.specs.Pages.{IsSomeCopiesAnswer, IsSomePartsAnswer, walk_tree};
-ghost use Rattle.zarrs_chunk_questions.specs.Trees.{IsEncodingIn};
 ghost use Rattle.zarrs_chunk_questions.specs.Refused.{IsArrayRefusal, IsLocatedRefusal, IsSomeCopiesRefusal, IsSomePartsRefusal};
 ghost use Rattle.zarrs_chunk_questions.specs.seen.Read.{asked_of, items_of, lists_of, target_of};
 

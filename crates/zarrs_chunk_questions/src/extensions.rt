@@ -2,19 +2,20 @@
 ghost use Rattle.std.specs.Prelude.{◌≡◌, MatchResult};
 ghost use Rattle.serde_json.specs.View.{view};
 ghost use Rattle.zarrs_chunk_base.specs.ArraySubset.{IsBox};
-ghost use Rattle.zarrs_chunk_base.specs.Metadata.{IsExtension, extension_of};
 ghost use Rattle.zarrs_chunk_base.specs.Refusal.{OrMemory};
+ghost use Rattle.zarrs_chunk_keys.specs.KeyKinds.{IsEncodingIn};
 ghost use Rattle.zarrs_chunk_keys.specs.seen.Encodings.{encoding_in};
+ghost use Rattle.zarrs_chunks.specs.GridKinds.{IsGridIn};
 ghost use Rattle.zarrs_chunks.specs.seen.Grids.{grid_in, kind_in};
-ghost use Rattle.zarrs_chunk_questions.specs.Trees.{IsEncodingIn, IsGridIn, box_of as box_said};
-ghost use Rattle.zarrs_chunk_questions.specs.Refused.{IsNoBox, IsNoEncoding, IsNoExtension, IsNoGrid};
+ghost use Rattle.zarrs_chunk_questions.specs.Trees.{box_of as box_said};
+ghost use Rattle.zarrs_chunk_questions.specs.Refused.{IsNoBox, IsNoEncoding, IsNoGrid};
 ghost use Rattle.zarrs_chunk_questions.specs.seen.Read.{lists_of};
 
 use crate::asked::Lists;
 use crate::line_fault::LineFault;
 use serde_json::Value;
 use std::alloc::Global;
-use zarrs_chunk_base::{ArraySubset, MetadataV3, Refusal};
+use zarrs_chunk_base::{ArraySubset, Refusal};
 use zarrs_chunk_keys::ChunkKeyEncoding;
 use zarrs_chunks::ChunkGrid;
 
@@ -31,11 +32,9 @@ pub(crate) fn make_grid(
         (λ grid. IsGridIn (view tree.now) shape.now (kind_in grid) (grid_in grid))
         (OrMemory (IsNoGrid (view tree.now) shape.now)) }
 {
-    let metadata = read_metadata(alloc, tree)?;
-    match ChunkGrid::from_metadata(alloc, &metadata, shape) {
+    match ChunkGrid::from_tree(alloc, tree, shape) {
         Ok(grid) => Ok(grid),
-        Err(Refusal::Refused(error)) => Err(Refusal::Refused(LineFault::Extension(error))),
-        Err(Refusal::Memory(error)) => Err(Refusal::Memory(error)),
+        Err(refusal) => Err(refusal.map(LineFault::Extension)),
     }
 }
 
@@ -51,26 +50,9 @@ pub(crate) fn make_encoding(
         (λ encoding. IsEncodingIn (view tree.now) (encoding_in encoding))
         (OrMemory (IsNoEncoding (view tree.now))) }
 {
-    let metadata = read_metadata(alloc, tree)?;
-    match ChunkKeyEncoding::from_metadata(alloc, &metadata) {
+    match ChunkKeyEncoding::from_tree(alloc, tree) {
         Ok(encoding) => Ok(encoding),
-        Err(Refusal::Refused(error)) => Err(Refusal::Refused(LineFault::Extension(error))),
-        Err(Refusal::Memory(error)) => Err(Refusal::Memory(error)),
-    }
-}
-
-/// The metadata of an extension.
-///
-/// # Errors
-/// The tree is no extension's metadata; or out of memory.
-fn read_metadata(alloc: Global, tree: &Value) -> Result<MetadataV3, Refusal<LineFault>>
-    ensures { MatchResult result (λ metadata. IsExtension (view tree.now) (extension_of metadata))
-        (OrMemory (IsNoExtension (view tree.now))) }
-{
-    match MetadataV3::from_tree(alloc, tree) {
-        Ok(metadata) => Ok(metadata),
-        Err(Refusal::Refused(error)) => Err(Refusal::Refused(LineFault::Metadata(error))),
-        Err(Refusal::Memory(error)) => Err(Refusal::Memory(error)),
+        Err(refusal) => Err(refusal.map(LineFault::Extension)),
     }
 }
 

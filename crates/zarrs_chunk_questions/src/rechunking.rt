@@ -18,7 +18,7 @@ ghost use Rattle.zarrs_chunk_questions.specs.Trees.{box_of as box_said};
 ghost use Rattle.zarrs_chunk_questions.specs.seen.Targets.{IsNoTarget, IsTargetIn};
 
 use crate::asked::{Lists, Target};
-use crate::extensions::{box_of, make_encoding, make_grid};
+use crate::extensions::box_of;
 use crate::limits::Limits;
 use crate::line_fault::LineFault;
 use crate::pages::page_tree;
@@ -47,15 +47,13 @@ pub(crate) fn make_target(
     ensures { MatchResult result (IsTargetIn (target_of target.entry) shape.now)
         (OrMemory (IsNoTarget (target_of target.entry) shape.now)) }
 {
-    let grid = match make_grid(alloc, target.chunk_grid, shape) {
+    let grid = match ChunkGrid::from_tree(alloc, target.chunk_grid, shape) {
         Ok(grid) => grid,
-        Err(Refusal::Refused(fault)) => return Err(Refusal::Refused(fault.of_target())),
-        Err(Refusal::Memory(error)) => return Err(Refusal::Memory(error)),
+        Err(refusal) => return Err(refusal.map(LineFault::TargetExtension)),
     };
-    match make_encoding(alloc, target.chunk_key_encoding) {
+    match ChunkKeyEncoding::from_tree(alloc, target.chunk_key_encoding) {
         Ok(encoding) => Ok(StoredArray { grid, encoding }),
-        Err(Refusal::Refused(fault)) => Err(Refusal::Refused(fault.of_target())),
-        Err(Refusal::Memory(error)) => Err(Refusal::Memory(error)),
+        Err(refusal) => Err(refusal.map(LineFault::TargetExtension)),
     }
 }
 

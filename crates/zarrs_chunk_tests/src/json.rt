@@ -10,7 +10,7 @@ use zarrs_chunk_base::{
     DefaultChunkKeyEncodingConfiguration, DefaultSuffixChunkKeyEncodingConfiguration,
     MetadataError, MetadataV3, RectangularChunkGridConfiguration,
     RectilinearChunkGridConfiguration, Refusal, RegularBoundedChunkGridConfiguration,
-    RegularChunkGridConfiguration, TreeForm, V2ChunkKeyEncodingConfiguration, write_box,
+    RegularChunkGridConfiguration, TreeForm, V2ChunkKeyEncodingConfiguration, read_json, write_box,
 };
 
 #[test]
@@ -282,4 +282,31 @@ fn metadata_has_a_configuration(rt: HostRuntime) -> Result<(), Fail> {
     let present = metadata(alloc, "anything", r#"{"chunk_shape":[7]}"#)?;
     let regular = RegularChunkGridConfiguration::from_metadata(alloc, &present)?;
     Ok(check_text(&rt, &regular, r#"regular chunk grid {"chunk_shape":[7]}"#)?)
+}
+
+/// How often a text opens a list before it closes them all, and whether it is JSON.
+fn check_nested(rt: &(impl Abort + AllocGlobal), depth: usize, is_json: bool) -> Result<(), Fail> {
+    let mut text = vec![in rt.alloc(); b'['; depth]?;
+    let mut ends = vec![in rt.alloc(); b']'; depth]?;
+    text.append(&mut ends)?;
+    check_that(
+        rt,
+        read_json(rt.alloc(), &text)?.is_some() == is_json,
+        "nested",
+    );
+    Ok(())
+}
+
+#[test]
+fn texts_are_read(rt: HostRuntime) -> Result<(), Fail> {
+    let tree = read_json(rt.alloc(), b" [1, \"a\"] ")?.ok_or("not JSON")?;
+    check_tree(&rt, &tree, r#"[1,"a"]"#)?;
+    check_that(&rt, read_json(rt.alloc(), b"[1")?.is_none(), "an open list");
+    check_that(
+        &rt,
+        read_json(rt.alloc(), b"\"\xff\"")?.is_none(),
+        "no UTF-8",
+    );
+    check_nested(&rt, 127, true)?;
+    check_nested(&rt, 128, false)
 }

@@ -3,7 +3,7 @@ use crate::compared::{check_numbers, check_same, check_text, check_that};
 use std::alloc::Global;
 use std::process::Abort;
 use std::test::Fail;
-use zarrs_chunk_base::{ChunkKeySeparator, MetadataV3};
+use zarrs_chunk_base::{ChunkKeySeparator, MetadataV3, read_json};
 use zarrs_chunk_keys::laws::{
     a_chunk_has_one_key, a_default_key_names_one_chunk, a_key_is_read_back,
     keys_read_as_one_chunk_are_equal,
@@ -62,7 +62,23 @@ fn check_encoding(
     let again = ChunkKeyEncoding::from_metadata(rt.alloc(), &metadata)?;
     check_key(rt, &again, key)?;
     check_same(rt, again.metadata(rt.alloc())?.name(), name);
-    Ok(())
+    let tree = metadata.to_tree(rt.alloc())?;
+    check_key(rt, &ChunkKeyEncoding::from_tree(rt.alloc(), &tree)?, key)
+}
+
+/// Why a text is the metadata of no encoding.
+fn check_refused(rt: &(impl Abort + AllocGlobal), text: &str, told: &str) -> Result<(), Fail> {
+    let tree = read_json(rt.alloc(), text.as_bytes())?.ok_or("not JSON")?;
+    match ChunkKeyEncoding::from_tree(rt.alloc(), &tree) {
+        Ok(_) => Err("an encoding".into()),
+        Err(refusal) => Ok(check_text(rt, &refusal, told)?),
+    }
+}
+
+#[test]
+fn trees_are_refused_for_their_form_and_for_their_name(rt: HostRuntime) -> Result<(), Fail> {
+    check_refused(&rt, "5", "not an extension")?;
+    check_refused(&rt, r#""v3""#, "name `v3` is not supported")
 }
 
 #[test]

@@ -3,13 +3,15 @@
 -- extension of zarr-extensions.
 use Rattle.std.specs.Prelude.{◌≡◌, ℕ, Bool, true, false, List, [], ◌∷◌, length, map, codes}
 use Rattle.std.specs.List.{AllByRecursion}
+use Rattle.serde_json.specs.Data.{Data}
 use Rattle.zarrs_chunk_base.specs.DimensionEdges.{DimensionEdges, equal}
 use Rattle.zarrs_chunk_base.specs.Grid.{Grid}
 use Rattle.zarrs_chunk_base.specs.GridConfigurations.{rectangular_members, rectangular_table, rectangular_value, rectilinear_members}
 use Rattle.zarrs_chunk_base.specs.GridConfigurations.{rectilinear_table, rectilinear_value, regular_members, regular_table, regular_value}
-use Rattle.zarrs_chunk_base.specs.Kinds.{IsFault, IsMade, Kind}
-use Rattle.zarrs_chunk_base.specs.Metadata.{Extension}
+use Rattle.zarrs_chunk_base.specs.Kinds.{IsFault, IsMade, IsOf, Kind}
+use Rattle.zarrs_chunk_base.specs.Metadata.{Extension, IsMadeOfTree, IsTreeFault}
 use Rattle.zarrs_chunk_base.specs.RunLength.{EdgeLengths, IsWrittenLengths, edges_of_lengths}
+use Rattle.zarrs_chunk_base.specs.declared.extension_error.ExtensionError.{ExtensionError}
 use Rattle.zarrs_chunk_base.specs.declared.plugin_create_error.PluginCreateError.{PluginCreateError}
 use Rattle.zarrs_chunk_axes.specs.Bounded.{AreBounded}
 use Rattle.zarrs_chunk_axes.specs.EqualEdges.{AreEqualEdges}
@@ -93,3 +95,11 @@ IsGrid = IsMade grid_kind
 -- why there is none
 abbrev pub IsGridFault : Extension → List ℕ → PluginCreateError → Type 0
 IsGridFault = IsFault grid_kind grid_kinds
+
+-- the grid of this kind that a tree is the metadata of, of an array shape
+abbrev pub IsGridIn : Data → List ℕ → GridKind → Grid → Type 0
+IsGridIn tree shape kind = IsMadeOfTree (λ e. IsOf (grid_kind kind) e shape) tree
+
+-- why a tree is the metadata of none
+abbrev pub IsNoGridIn : Data → List ℕ → ExtensionError → Type 0
+IsNoGridIn tree shape = IsTreeFault (λ e. IsGridFault e shape) tree

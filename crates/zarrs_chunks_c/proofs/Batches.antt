@@ -1,6 +1,6 @@
 -- Lists of one length, one after another, and the answers of a batch.
-use Rattle.std.proofs.Common.{◌≡◌, ◌≢◌, ◌∙◌, ℕ, ◌+◌, ◌*◌, ◌<◌, ◌≤◌, Bool, true, false, List, length, cond, slice_index_or, slice_set, take, inl, inr}
-use Rattle.std.proofs.Common.{⊎_elim, refl, ap, subst, sym, arith}
+use Rattle.std.proofs.Common.{◌≡◌, ◌≢◌, ◌∙◌, ℕ, ◌+◌, ◌*◌, ◌<◌, ◌≤◌, Bool, true, false, List, drop, length, cond, slice_index_or, slice_set, take}
+use Rattle.std.proofs.Common.{⊎_elim, inl, inr, refl, ap, subst, sym, arith, add-mul}
 use Rattle.std.proofs.lemmas.List.{drop-take, get_or-set_other, get_or-set_same}
 use Rattle.std.proofs.lemmas.Bool.{cases_lt}
 use Rattle.std.proofs.lemmas.Slice.{drop-put_mid, take-put_mid_below}
@@ -22,6 +22,13 @@ list_at-other width number start count xs ys is counted within long other differ
   later le =
       let after = ends_before width number other (omega arith) in
       ap (take width) (drop-put_mid start count xs ys (other * width) (omega arith) within long)
+
+-- a list that is written changes nothing behind it
+pub behind_list : (width number start count : ℕ) (xs ys : List ℕ) → start ≡ number * width → count ≡ width → start ≤ length xs → length ys ≡ count
+    → drop ((number + 1) * width) (put_mid start count xs ys) ≡ drop ((number + 1) * width) xs
+behind_list width number start count xs ys is counted within long =
+    let split = add-mul number 1 width in
+    drop-put_mid start count xs ys ((number + 1) * width) (omega arith) within long
 
 -- the mark of a question that was asked
 pub marked : (found : Bool) (Answer None : Type 0) → cond found Answer None → IsMarked (cond found 1 0) Answer None

@@ -5,4 +5,5 @@ pub mod EachList
 pub mod Ends
 pub mod Keys
 pub mod LongParts
+pub mod NotMade
 pub mod Planned

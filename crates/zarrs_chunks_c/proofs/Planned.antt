@@ -1,8 +1,8 @@
 -- Parts of a plan that were found, and what is written of them.
-use Rattle.std.proofs.Common.{◌≡◌, ◌≢◌, ◌⊎◌, ◌∙◌, ℕ, zero, suc, ◌+◌, ◌-◌, ◌<◌, ◌≤◌, List, [], ◌∷◌, Option, Some, None, Ok, MatchOption}
-use Rattle.std.proofs.Common.{drop, get_or, length, min, take, inl, inr, ⊎_elim, refl, ap, subst, sym, arith}
+use Rattle.std.proofs.Common.{◌≡◌, ◌≢◌, ◌⊎◌, ◌∙◌, ℕ, zero, suc, ◌+◌, ◌-◌, ◌*◌, ◌<◌, ◌≤◌, List, [], ◌∷◌, Option, Some, None, Ok, MatchOption}
+use Rattle.std.proofs.Common.{drop, get_or, length, min, take, inl, inr, ⊎_elim, refl, ap, subst, sym, arith, add-mul}
 use Rattle.std.proofs.lemmas.Bool.{cases_lt}
-use Rattle.std.proofs.lemmas.List.{get_or-drop, get_or-take, length-drop, length-take}
+use Rattle.std.proofs.lemmas.List.{drop-drop, get_or-drop, get_or-take, length-drop, length-take}
 use Rattle.std.proofs.lemmas.Option.{get_or_from_slice_get}
 use Rattle.std.specs.List.{AllZip, slice_get}
 use Rattle.zarrs_chunk_base.specs.ArraySubset.{Box, IsBox, IsEmptyBox, zero_box}
@@ -16,7 +16,7 @@ use Rattle.zarrs_chunk_plan.proofs.Plans.{empty_or_some, none_in_zeros}
 use Rattle.zarrs_chunk_plan.proofs.Taken.{none_taken}
 use Rattle.zarrs_chunks_c.specs.Asked.{HasNoCover, IsCoverOf}
 use Rattle.zarrs_chunks_c.specs.Batch.{AreTexts}
-use Rattle.zarrs_chunks_c.specs.Parts.{IsPartAt, IsPlanWith}
+use Rattle.zarrs_chunks_c.specs.Parts.{AreListsKept, IsPartAt, IsPlanWith}
 use Rattle.zarrs_chunks_c.specs.declared.structs.PartBuffers.{PartBuffers}
 use Rattle.zarrs_chunks_c.specs.seen.Parts.{AreFoundParts, AreWrittenBelow, IsKeyOf, IsWritten}
 use Rattle.zarrs_chunks_c.proofs.Covers.{none_is_not_empty}
@@ -58,6 +58,29 @@ module _ (IsKey : List ℕ → List ℕ → Type 0) (first most : ℕ) where
       (empty_or_some b.shape)
 
 -- ---- what is written
+
+-- what lies behind more than what lay behind so much is as it was, too
+pub kept_further : (n m : ℕ) (before between after : List ℕ) → n ≤ m → drop n between ≡ drop n before → drop m after ≡ drop m between
+    → drop m after ≡ drop m before
+kept_further n m before between after less same last =
+    let further : n + (m - n) ≡ m = omega arith in
+    let split = drop-drop (m - n) n before in
+    let also = drop-drop (m - n) n between in
+    last ∙ sym (subst (λ k. drop (m - n) (drop n between) ≡ drop k between) further also) ∙ ap (drop (m - n)) same
+    ∙ subst (λ k. drop (m - n) (drop n before) ≡ drop k before) further split
+
+-- the lists behind one more part
+pub kept_more : (width number : ℕ) (initial before after : PartBuffers) → AreListsKept width number initial before
+    → AreListsKept width (number + 1) before after → AreListsKept width (number + 1) initial after
+kept_more width number initial before after kept wrote =
+    let split = add-mul number 1 width in
+    let less : number * width ≤ (number + 1) * width = omega arith in
+    record {
+      chunks = kept_further _ _ _ _ _ less kept.chunks wrote.chunks;
+      in_chunk = kept_further _ _ _ _ _ less kept.in_chunk wrote.in_chunk;
+      in_subset = kept_further _ _ _ _ _ less kept.in_subset wrote.in_subset;
+      shapes = kept_further _ _ _ _ _ less kept.shapes wrote.shapes;
+    }
 
 -- one part more
 pub written_more : (width number : ℕ) (parts : List Part) (part : Part) (before after : PartBuffers) → AreWrittenBelow number width parts before

@@ -39,6 +39,10 @@ AreQuestions count IsQuestion = (number : ℕ) → number < count → IsQuestion
 abbrev pub IsFirstWrong : ℕ → (ℕ → Type 0) → ℕ → Type 0
 IsFirstWrong count IsQuestion number = (number < count) × AreQuestions number IsQuestion × ¬ IsQuestion number
 
+-- P holds where the call has answered, and where the text of its answer is longer than the buffer
+abbrev pub IfAnswered : Type 0 → End → Type 0
+IfAnswered P end = MatchResult end (λ _. P) (λ fault. fault ≡ Short → P)
+
 -- a buffer that is shorter than its text is as it was
 abbrev pub IsKeptIfShort : (before after : List ℕ) → End → Type 0
 IsKeptIfShort before after end = IfErr end (λ fault. fault ≡ Short → after ≡ before)

@@ -1,7 +1,8 @@
 -- The codes that calls end with, and the version of the interface, as the header `zarrs_chunks.h` has them.
-use Rattle.std.specs.Prelude.{◌≡◌, ℤ, pos, negsuc, Result, Ok, Err}
+use Rattle.std.specs.Prelude.{◌≡◌, ℕ, ◌==◌, if◌then◌else◌, ℤ, pos, negsuc, List, [], ◌∷◌, Result, Ok, Err, codes, slice_index_or}
+use Rattle.zarrs_chunk_base.specs.declared.extension_error.ExtensionError.TheVariants.{Create, Metadata}
 use Rattle.zarrs_chunks_c.specs.declared.codes.Fault.{Fault}
-use Rattle.zarrs_chunks_c.specs.declared.codes.Fault.TheVariants.{Memory, Length, NotJson, NotMetadata, NotMade, NotBox, Offsets, Short}
+use Rattle.zarrs_chunks_c.specs.declared.codes.Fault.TheVariants.{Memory, Length, NotJson, Extension, NotBox, Offsets, Short}
 
 -- the version of the interface
 abbrev pub abi_version : ℤ
@@ -12,11 +13,29 @@ abbrev pub fault_code : Fault → ℤ
 fault_code Memory = negsuc 0
 fault_code Length = negsuc 1
 fault_code NotJson = negsuc 2
-fault_code (NotMetadata _) = negsuc 3
-fault_code (NotMade _) = negsuc 4
+fault_code (Extension (Metadata _)) = negsuc 3
+fault_code (Extension (Create _)) = negsuc 4
 fault_code NotBox = negsuc 5
 fault_code Offsets = negsuc 6
 fault_code Short = negsuc 7
+
+-- what the codes of faults say, in words, from -1 down
+abbrev pub fault_words : List (List ℕ)
+fault_words =
+    codes "out of memory"
+    ∷ codes "an array has more or fewer items than the others demand"
+    ∷ codes "the metadata is not JSON"
+    ∷ codes "the metadata is no extension's"
+    ∷ codes "the grid or the encoding is refused"
+    ∷ codes "a box ends past 18446744073709551615"
+    ∷ codes "offsets descend, or lie past the text"
+    ∷ codes "the text of the answer is longer than its buffer"
+    ∷ []
+
+-- what a code says: of one that no call ends with, that it is none
+abbrev pub code_words : ℤ → List ℕ
+code_words (pos n) = if n == 0 then codes "the call has answered" else codes "no call ends with this code"
+code_words (negsuc n) = slice_index_or fault_words n (codes "no call ends with this code")
 
 -- how a call ends: it has answered, or there is a fault
 abbrev pub End : Type 0

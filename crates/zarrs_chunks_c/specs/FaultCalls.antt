@@ -1,12 +1,14 @@
 -- The calls that say in words why another call is refused: what each is given, in the order of its parameters, and what answers it.
-use Rattle.std.specs.Prelude.{◌≡◌, ℕ, ◌<◌, ◌≤◌, List, [], length, take}
+use Rattle.std.specs.Prelude.{◌≡◌, ℕ, ℤ, ◌<◌, ◌≤◌, List, [], length, take}
 use Rattle.zarrs_chunk_base.specs.Grid.{Grid}
 use Rattle.zarrs_chunk_keys.specs.ChunkKey.{Encoding}
 use Rattle.zarrs_chunks_c.specs.Batch.{IsTooLong, IsWhole}
 use Rattle.zarrs_chunks_c.specs.Calls.{Call}
+use Rattle.zarrs_chunks_c.specs.Codes.{code_words, fault_code}
 use Rattle.zarrs_chunks_c.specs.GridCalls.{RefusesNone, grid_call}
 use Rattle.zarrs_chunks_c.specs.KeyCalls.{encoding_call}
-use Rattle.zarrs_chunks_c.specs.declared.codes.Fault.TheVariants.{Short}
+use Rattle.zarrs_chunks_c.specs.declared.codes.Fault.{Fault}
+use Rattle.zarrs_chunks_c.specs.declared.codes.Fault.TheVariants.{Extension, Short}
 
 -- Why metadata says no grid: it ends as each call of a grid does. Of metadata that says one there are no words.
 abbrev pub grid_fault_call : (shape metadata : List ℕ) (needed : ℕ) → Call Grid
@@ -17,18 +19,24 @@ abbrev pub encoding_fault_call : (metadata : List ℕ) (needed : ℕ) → Call E
 encoding_fault_call metadata needed = encoding_call metadata (Unit {0}) RefusesNone (λ _. needed ≡ 0)
 
 -- What a code says. It is refused where that is longer than its buffer.
-abbrev pub words_call : (words : List ℕ) (needed : ℕ) → Call (Unit {0})
-words_call words needed = record {
+abbrev pub words_call : (code : ℤ) (words : List ℕ) (needed : ℕ) → Call (Unit {0})
+words_call code words needed = record {
   Misses = λ _. ⊥;
   Says = λ _. Unit {0};
   Fits = λ _. Unit {0};
-  Refuses = λ _ fault. (fault ≡ Short) × IsTooLong (λ _. Unit {0}) words needed;
-  Answers = λ _. IsWhole (λ _. Unit {0}) words needed;
+  Refuses = λ _ fault. (fault ≡ Short) × IsTooLong (λ text. text ≡ code_words code) words needed;
+  Answers = λ _. IsWhole (λ text. text ≡ code_words code) words needed;
 }
 
--- How long the words are is told, and they are written to the buffer's front; where they are longer, the buffer is as it was.
-pub record IsTold (before after : List ℕ) (needed : ℕ) : Type 0 where
+-- The words of a fault: those of its code. Those that say why an extension isn't made are of another library, and nothing is said of them.
+abbrev pub AreWordsOf : Fault → List ℕ → Type 0
+AreWordsOf (Extension _) text = Unit {0}
+AreWordsOf fault text = text ≡ code_words (fault_code fault)
+
+-- How long the words of the fault are is told, and they are written to the buffer's front; where they are longer, the buffer is as it was.
+pub record IsTold (fault : Fault) (before after : List ℕ) (needed : ℕ) : Type 0 where
   pub text : List ℕ
+  pub words : AreWordsOf fault text
   pub long : needed ≡ length text
   pub written : needed ≤ length after → take needed after ≡ text
   pub kept : length after < needed → after ≡ before

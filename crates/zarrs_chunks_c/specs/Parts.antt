@@ -1,6 +1,6 @@
 -- Parts of a plan, written one after another.
 -- Sources: Zarr V3 core, chunk grids and chunk key encodings; the plan is this library's own.
-use Rattle.std.specs.Prelude.{◌≡◌, ℕ, ◌+◌, ◌-◌, ◌<◌, List, [], ◌∷◌, length, min, slice_index_or}
+use Rattle.std.specs.Prelude.{◌≡◌, ℕ, ◌+◌, ◌-◌, ◌*◌, ◌<◌, List, [], ◌∷◌, drop, length, min, slice_index_or}
 use Rattle.std.specs.Borrow.{MutBor}
 use Rattle.zarrs_chunk_base.specs.ArraySubset.{Box}
 use Rattle.zarrs_chunk_base.specs.Dimension.{Dimension}
@@ -56,3 +56,15 @@ pub record AreSameBuffers (before after : PartBuffers) : Type 0 where
   pub shapes : IsSameBuffer before.shapes after.shapes
   pub text : IsSameBuffer before.text after.text
   pub offsets : IsSameBuffer before.offsets after.offsets
+
+-- behind so many lists the four buffers of lists are as they were
+pub record AreListsKept (width count : ℕ) (before after : PartBuffers) : Type 0 where
+  pub chunks : drop (count * width) after.chunks.now ≡ drop (count * width) before.chunks.now
+  pub in_chunk : drop (count * width) after.in_chunk.now ≡ drop (count * width) before.in_chunk.now
+  pub in_subset : drop (count * width) after.in_subset.now ≡ drop (count * width) before.in_subset.now
+  pub shapes : drop (count * width) after.shapes.now ≡ drop (count * width) before.shapes.now
+
+-- behind the parts that are written the buffers are as they were, that of offsets behind one more, if there is a plan
+pub record AreKeptBehind (width : ℕ) (before after : PartBuffers) : Type 0 where
+  pub lists : AreListsKept width after.count before after
+  pub offsets : drop (after.count + after.found) after.offsets.now ≡ drop (after.count + after.found) before.offsets.now

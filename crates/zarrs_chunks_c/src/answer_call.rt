@@ -1,4 +1,5 @@
 //! The call that answers any question, as text.
+ghost use Rattle.std.specs.Prelude.{◌≡◌, drop};
 ghost use Rattle.zarrs_chunks_c.specs.Calls.{IsEndOf, IsKeptIfShort};
 ghost use Rattle.zarrs_chunks_c.specs.Codes.{Ends};
 ghost use Rattle.zarrs_chunks_c.specs.PlanCall.{answer_call};
@@ -18,6 +19,7 @@ pub extern "C" fn zarrs_answer(
 ) -> i32
     ensures ends { Ends (IsEndOf (answer_call question.now line.new needed.new)) result }
     ensures kept_if_short { Ends (IsKeptIfShort line.old line.new) result }
+    ensures kept_behind { drop needed.new line.new ≡ drop needed.new line.old }
 {
     code_of(answer_line(alloc, question, line, needed))
 }
@@ -35,6 +37,7 @@ fn answer_line(
 ) -> Result<(), Fault>
     ensures ends { IsEndOf (answer_call question.now line.new needed.new) result }
     ensures kept_if_short { IsKeptIfShort line.old line.new result }
+    ensures kept_behind { drop needed.new line.new ≡ drop needed.new line.old }
 {
     let Some(answer) = answer_within(alloc, question, line.len())? else {
         *needed = usize::MAX;

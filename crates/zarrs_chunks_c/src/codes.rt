@@ -1,13 +1,11 @@
 //! Why a call is refused, the code of it, and its words.
 ghost use Rattle.std.specs.Prelude.{◌≡◌};
 ghost use Rattle.zarrs_chunk_base.specs.Refusal.{MatchRefusal};
-ghost use Rattle.zarrs_chunks_c.specs.Codes.{end_code, fault_code};
-ghost use Rattle.zarrs_chunks_c.specs.declared.codes.Fault.TheVariants.{Length, Memory};
+ghost use Rattle.zarrs_chunks_c.specs.Codes.{code_words, end_code, fault_code};
+ghost use Rattle.zarrs_chunks_c.specs.declared.codes.Fault.TheVariants.{Extension, Length, Memory};
 
 use std::alloc::{AllocError, AllocFailed};
-use zarrs_chunk_base::{
-    IncompatibleDimensionalityError, MetadataError, PluginCreateError, Refusal,
-};
+use zarrs_chunk_base::{ExtensionError, IncompatibleDimensionalityError, Refusal};
 
 /// Why a call is refused. The header `zarrs_chunks.h` names the codes.
 #[derive(Drop)]
@@ -18,10 +16,8 @@ pub(crate) enum Fault {
     Length,
     /// The metadata is no text of JSON.
     NotJson,
-    /// The metadata is JSON, and no extension's.
-    NotMetadata(MetadataError),
-    /// The grid or the encoding that the metadata asks for can't be made.
-    NotMade(PluginCreateError),
+    /// The metadata is JSON, and no extension's; or the grid or the encoding that it asks for can't be made.
+    Extension(ExtensionError),
     /// A start and a shape are those of no box: it ends past 18446744073709551615.
     NotBox,
     /// Offsets descend, or lie past the text.
@@ -39,8 +35,8 @@ impl Fault {
             Fault::Memory => -1,
             Fault::Length => -2,
             Fault::NotJson => -3,
-            Fault::NotMetadata(_) => -4,
-            Fault::NotMade(_) => -5,
+            Fault::Extension(ExtensionError::Metadata(_)) => -4,
+            Fault::Extension(ExtensionError::Create(_)) => -5,
             Fault::NotBox => -6,
             Fault::Offsets => -7,
             Fault::Short => -8,
@@ -59,7 +55,9 @@ pub(crate) fn code_of(ended: Result<(), Fault>) -> i32
 }
 
 /// What a code says, in words: of those that no call ends with, that they are none.
-pub(crate) fn words_of(code: i32) -> &'static str {
+pub(crate) fn words_of(code: i32) -> &'static str
+    ensures { result.now ≡ code_words code }
+{
     match code {
         0 => "the call has answered",
         -1 => "out of memory",
@@ -87,6 +85,17 @@ impl<T: Drop> From<AllocFailed<T>> for Fault {
 
     fn from(_failed: AllocFailed<T>) -> Fault {
         Fault::Memory
+    }
+}
+
+impl From<Refusal<ExtensionError>> for Fault {
+    ghost from_gives = { λ refusal fault. MatchRefusal refusal (λ error. fault ≡ Extension error) (λ _. fault ≡ Memory) };
+
+    fn from(refusal: Refusal<ExtensionError>) -> Fault {
+        match refusal {
+            Refusal::Refused(error) => Fault::Extension(error),
+            Refusal::Memory(_) => Fault::Memory,
+        }
     }
 }
 

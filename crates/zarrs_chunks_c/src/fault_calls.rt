@@ -1,8 +1,8 @@
 //! The calls that say in words why another call is refused.
-ghost use Rattle.std.specs.Prelude.{◌≡◌, ◌⊎◌, IfErr, IsOk, MatchResult, OnOk};
+ghost use Rattle.std.specs.Prelude.{◌≡◌, ◌⊎◌, IfErr, IfOk, IsOk, MatchResult, OnOk, drop, string_bytes};
 ghost use Rattle.zarrs_chunks_c.specs.Calls.{IsEndOf, IsKeptIfShort};
 ghost use Rattle.zarrs_chunks_c.specs.Codes.{Ends};
-ghost use Rattle.zarrs_chunks_c.specs.FaultCalls.{IsTold, encoding_fault_call, grid_fault_call, words_call};
+ghost use Rattle.zarrs_chunks_c.specs.FaultCalls.{AreWordsOf, IsTold, encoding_fault_call, grid_fault_call, words_call};
 ghost use Rattle.zarrs_chunks_c.specs.declared.codes.Fault.TheVariants.{Memory};
 
 use crate::codes::{Fault, code_of, words_of};
@@ -22,7 +22,8 @@ pub extern "C" fn zarrs_grid_fault(
     ensures ends { Ends (IsEndOf (grid_fault_call
         shape.now chunk_grid.now needed.new)) result }
     ensures told { Ends (λ end. IfErr end (λ fault. (fault ≡ Memory)
-        ⊎ IsTold words.old words.new needed.new)) result }
+        ⊎ IsTold fault words.old words.new needed.new)) result }
+    ensures kept_behind { drop needed.new words.new ≡ drop needed.new words.old }
 {
     code_of(grid_fault(alloc, shape, chunk_grid, words, needed))
 }
@@ -38,7 +39,8 @@ pub extern "C" fn zarrs_encoding_fault(
     ensures ends { Ends (IsEndOf (encoding_fault_call
         chunk_key_encoding.now needed.new)) result }
     ensures told { Ends (λ end. IfErr end (λ fault. (fault ≡ Memory)
-        ⊎ IsTold words.old words.new needed.new)) result }
+        ⊎ IsTold fault words.old words.new needed.new)) result }
+    ensures kept_behind { drop needed.new words.new ≡ drop needed.new words.old }
 {
     code_of(encoding_fault(alloc, chunk_key_encoding, words, needed))
 }
@@ -46,8 +48,9 @@ pub extern "C" fn zarrs_encoding_fault(
 /// What a code says, in words.
 #[unsafe(no_mangle)]
 pub extern "C" fn zarrs_code_words(code: i32, words: &mut [u8], needed: &mut usize) -> i32
-    ensures ends { Ends (IsEndOf (words_call words.new needed.new)) result }
+    ensures ends { Ends (IsEndOf (words_call code words.new needed.new)) result }
     ensures kept_if_short { Ends (IsKeptIfShort words.old words.new) result }
+    ensures kept_behind { drop needed.new words.new ≡ drop needed.new words.old }
 {
     code_of(code_words(code, words, needed))
 }
@@ -65,7 +68,8 @@ fn grid_fault(
 ) -> Result<(), Fault>
     ensures ends { IsEndOf (grid_fault_call shape.now chunk_grid.now needed.new) result }
     ensures told { IfErr result (λ fault. (fault ≡ Memory)
-        ⊎ IsTold words.old words.new needed.new) }
+        ⊎ IsTold fault words.old words.new needed.new) }
+    ensures kept_behind { drop needed.new words.new ≡ drop needed.new words.old }
 {
     tell(alloc, grid_of(alloc, shape, chunk_grid), words, needed)
 }
@@ -82,7 +86,8 @@ fn encoding_fault(
 ) -> Result<(), Fault>
     ensures ends { IsEndOf (encoding_fault_call chunk_key_encoding.now needed.new) result }
     ensures told { IfErr result (λ fault. (fault ≡ Memory)
-        ⊎ IsTold words.old words.new needed.new) }
+        ⊎ IsTold fault words.old words.new needed.new) }
+    ensures kept_behind { drop needed.new words.new ≡ drop needed.new words.old }
 {
     tell(alloc, encoding_of(alloc, chunk_key_encoding), words, needed)
 }
@@ -92,8 +97,9 @@ fn encoding_fault(
 /// # Errors
 /// The words are longer than their buffer.
 fn code_words(code: i32, words: &mut [u8], needed: &mut usize) -> Result<(), Fault>
-    ensures ends { IsEndOf (words_call words.new needed.new) result }
+    ensures ends { IsEndOf (words_call code words.new needed.new) result }
     ensures kept_if_short { IsKeptIfShort words.old words.new result }
+    ensures kept_behind { drop needed.new words.new ≡ drop needed.new words.old }
 {
     write_text(words_of(code).as_bytes(), words, needed)
 }
@@ -113,7 +119,8 @@ fn tell<T: Drop>(
         (λ fault. MatchResult result (λ _. ⊥) (λ told. (told ≡ Memory) ⊎ (told ≡ fault))) }
     ensures none { OnOk result (needed.new ≡ 0) }
     ensures told { IfErr result (λ fault. (fault ≡ Memory)
-        ⊎ IsTold words.old words.new needed.new) }
+        ⊎ IsTold fault words.old words.new needed.new) }
+    ensures kept_behind { drop needed.new words.new ≡ drop needed.new words.old }
 {
     match made {
         Ok(_) => {
@@ -132,10 +139,11 @@ fn tell<T: Drop>(
 ///
 /// # Errors
 /// Out of memory.
-fn words_of_fault(alloc: Global, fault: &Fault) -> Result<String, AllocError> {
+fn words_of_fault(alloc: Global, fault: &Fault) -> Result<String, AllocError>
+    ensures { IfOk result (λ text. AreWordsOf fault.now (string_bytes text)) }
+{
     match fault {
-        Fault::NotMetadata(error) => format!(in alloc; "{error}"),
-        Fault::NotMade(error) => format!(in alloc; "{error}"),
+        Fault::Extension(error) => format!(in alloc; "{error}"),
         other => String::from_str(alloc, words_of(other.code())),
     }
 }

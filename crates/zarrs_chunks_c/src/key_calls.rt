@@ -1,5 +1,5 @@
 //! The calls of a chunk key encoding.
-ghost use Rattle.std.specs.Prelude.{◌≡◌, ◌+◌, ◌-◌, ◌*◌, IfOk, OnOk, length, string_bytes};
+ghost use Rattle.std.specs.Prelude.{◌≡◌, ◌+◌, ◌-◌, ◌*◌, IfOk, OnOk, drop, length, string_bytes};
 ghost use Rattle.zarrs_chunks_c.specs.Batch.{AreKept, AreKeys};
 ghost use Rattle.zarrs_chunks_c.specs.Calls.{IsEndOf, IsKeptIfShort};
 ghost use Rattle.zarrs_chunks_c.specs.Codes.{Ends};
@@ -28,6 +28,7 @@ pub extern "C" fn zarrs_keys_of(
     ensures ends { Ends (IsEndOf (keys_call chunk_key_encoding.now dimensionality
         chunks.now text.new offsets.new needed.new)) result }
     ensures kept_if_short { Ends (IsKeptIfShort text.old text.new) result }
+    ensures kept_behind { drop needed.new text.new ≡ drop needed.new text.old }
 {
     code_of(keys_of(
         alloc,
@@ -85,6 +86,7 @@ fn keys_of(
     ensures ends { IsEndOf (keys_call chunk_key_encoding.now dimensionality
         chunks.now text.new offsets.new needed.new) result }
     ensures kept_if_short { IsKeptIfShort text.old text.new result }
+    ensures kept_behind { drop needed.new text.new ≡ drop needed.new text.old }
 {
     let encoding = encoding_of(alloc, chunk_key_encoding)?;
     let count = count_of_texts(offsets.len(), &[chunks.len()], dimensionality)?;

@@ -1,5 +1,5 @@
 //! Lists of one length, one after another.
-ghost use Rattle.std.specs.Prelude.{◌≡◌, ◌≢◌, ℕ, ◌*◌, ◌↔◌, IsTrue, MatchResult, length};
+ghost use Rattle.std.specs.Prelude.{◌≡◌, ◌≢◌, ℕ, ◌+◌, ◌*◌, ◌↔◌, IsTrue, MatchResult, drop, length};
 ghost use Rattle.zarrs_chunks_c.specs.Batch.{AreLengths, list_at};
 ghost use Rattle.zarrs_chunks_c.specs.KeyCalls.{AreTextLengths};
 ghost use Rattle.zarrs_chunks_c.specs.declared.codes.Fault.TheVariants.{Length};
@@ -62,6 +62,8 @@ pub(crate) fn write_list(numbers: &mut [u64], width: usize, number: usize, list:
     ensures written { list_at width numbers.new number ≡ list.now }
     ensures others { (other : ℕ) → other ≢ number
         → list_at width numbers.new other ≡ list_at width numbers.old other }
+    ensures behind { drop ((number + 1) * width) numbers.new
+        ≡ drop ((number + 1) * width) numbers.old }
 {
     let start = number * width;
     numbers[start..start + width].copy_from_slice(list);

@@ -1,21 +1,21 @@
 //! The grid and the encoding that metadata says, which is given as text.
-ghost use Rattle.serde_json.specs.Data.{depth};
+ghost use Rattle.serde_json.specs.Data.{Data, depth};
 ghost use Rattle.serde_json.specs.Read.{max_depth};
 ghost use Rattle.serde_json.specs.View.{view};
 ghost use Rattle.std.specs.Prelude.{◌≡◌, ◌⊎◌, ◌≤◌, IfErr, IfOk, MatchResult, length};
-ghost use Rattle.zarrs_chunk_base.specs.Metadata.{extension_of};
+ghost use Rattle.zarrs_chunk_base.specs.Json.{IsJsonOf};
 ghost use Rattle.zarrs_chunk_keys.specs.seen.Encodings.{encoding_in};
 ghost use Rattle.zarrs_chunks.specs.seen.Grids.{grid_in};
 ghost use Rattle.zarrs_chunks_c.specs.Batch.{AreLengths};
 ghost use Rattle.zarrs_chunks_c.specs.Calls.{IsEarlyFault};
-ghost use Rattle.zarrs_chunks_c.specs.Said.{IsJsonOf, IsNoEncoding, IsNoGrid, IsNoJson, SaysEncoding, SaysExtension, SaysGrid, IsTextFault};
-ghost use Rattle.zarrs_chunks_c.specs.declared.codes.Fault.TheVariants.{Memory};
+ghost use Rattle.zarrs_chunks_c.specs.Said.{IsNoEncoding, IsNoGrid, SaysEncoding, SaysGrid};
+ghost use Rattle.zarrs_chunks_c.specs.declared.codes.Fault.TheVariants.{Memory, NotJson};
 
 use crate::codes::Fault;
 use crate::lists::check_lengths;
 use serde_json::Value;
 use std::alloc::Global;
-use zarrs_chunk_base::{MetadataV3, Refusal};
+use zarrs_chunk_base::read_json;
 use zarrs_chunk_keys::ChunkKeyEncoding;
 use zarrs_chunks::{ChunkGrid, ChunkGridTraits};
 
@@ -55,12 +55,8 @@ pub(crate) fn grid_of(alloc: Global, shape: &[u64], chunk_grid: &[u8]) -> Result
         (λ grid. SaysGrid chunk_grid.now shape.now (grid_in grid))
         (λ fault. (fault ≡ Memory) ⊎ IsNoGrid chunk_grid.now shape.now fault) }
 {
-    let metadata = read_metadata(alloc, chunk_grid)?;
-    match ChunkGrid::from_metadata(alloc, &metadata, shape) {
-        Ok(grid) => Ok(grid),
-        Err(Refusal::Memory(_)) => Err(Fault::Memory),
-        Err(Refusal::Refused(error)) => Err(Fault::NotMade(error)),
-    }
+    let tree = read_tree(alloc, chunk_grid)?;
+    Ok(ChunkGrid::from_tree(alloc, &tree, shape)?)
 }
 
 /// The encoding that metadata says.
@@ -75,28 +71,8 @@ pub(crate) fn encoding_of(
         (λ encoding. SaysEncoding chunk_key_encoding.now (encoding_in encoding))
         (λ fault. (fault ≡ Memory) ⊎ IsNoEncoding chunk_key_encoding.now fault) }
 {
-    let metadata = read_metadata(alloc, chunk_key_encoding)?;
-    match ChunkKeyEncoding::from_metadata(alloc, &metadata) {
-        Ok(encoding) => Ok(encoding),
-        Err(Refusal::Memory(_)) => Err(Fault::Memory),
-        Err(Refusal::Refused(error)) => Err(Fault::NotMade(error)),
-    }
-}
-
-/// The metadata that a text says.
-///
-/// # Errors
-/// The text isn't JSON, or no extension's metadata; or out of memory.
-fn read_metadata(alloc: Global, text: &[u8]) -> Result<MetadataV3, Fault>
-    ensures { MatchResult result (λ metadata. SaysExtension text.now (extension_of metadata))
-        (λ fault. (fault ≡ Memory) ⊎ IsTextFault text.now fault) }
-{
-    let tree = read_tree(alloc, text)?;
-    match MetadataV3::from_tree(alloc, &tree) {
-        Ok(metadata) => Ok(metadata),
-        Err(Refusal::Memory(_)) => Err(Fault::Memory),
-        Err(Refusal::Refused(error)) => Err(Fault::NotMetadata(error)),
-    }
+    let tree = read_tree(alloc, chunk_key_encoding)?;
+    Ok(ChunkKeyEncoding::from_tree(alloc, &tree)?)
 }
 
 /// The tree of a text. Lists and objects lie within one another at most 127 deep in it: nothing deeper is built.
@@ -105,12 +81,12 @@ fn read_metadata(alloc: Global, text: &[u8]) -> Result<MetadataV3, Fault>
 /// The text isn't JSON, or nests deeper; or out of memory.
 fn read_tree(alloc: Global, text: &[u8]) -> Result<Value, Fault>
     ensures nests { IfOk result (λ tree. depth (view tree) ≤ max_depth) }
-    ensures said { MatchResult result (λ tree. IsJsonOf text.now (view tree))
-        (λ fault. (fault ≡ Memory) ⊎ IsNoJson text.now fault) }
+    ensures said { IfOk result (λ tree. IsJsonOf text.now (view tree)) }
+    ensures refused { IfErr result (λ fault. (fault ≡ Memory) ⊎ ((fault ≡ NotJson)
+        × ((tree : Data) → ¬ IsJsonOf text.now tree))) }
 {
-    match Value::from_slice(alloc, text) {
-        Ok(tree) => Ok(tree),
-        Err(error) if error.is_memory() => Err(Fault::Memory),
-        Err(_) => Err(Fault::NotJson),
+    match read_json(alloc, text)? {
+        Some(tree) => Ok(tree),
+        None => Err(Fault::NotJson),
     }
 }

@@ -1,10 +1,10 @@
 //! Parts of a plan that are written one after another.
-ghost use Rattle.std.specs.Prelude.{◌≡◌, ℕ, ◌<◌, ◌≤◌, IfErr, IfOk, MatchOption, length, string_bytes};
+ghost use Rattle.std.specs.Prelude.{◌≡◌, ℕ, ◌+◌, ◌<◌, ◌≤◌, IfErr, IfOk, MatchOption, drop, length, string_bytes};
 ghost use Rattle.std.specs.List.{AllByRecursion};
 ghost use Rattle.zarrs_chunk_plan.specs.declared.part.Part.{Part};
 ghost use Rattle.zarrs_chunks_c.specs.Asked.{HasNoCover};
 ghost use Rattle.zarrs_chunks_c.specs.Batch.{AreTexts};
-ghost use Rattle.zarrs_chunks_c.specs.Parts.{AreSameBuffers};
+ghost use Rattle.zarrs_chunks_c.specs.Parts.{AreListsKept, AreSameBuffers};
 ghost use Rattle.zarrs_chunks_c.specs.declared.codes.Fault.TheVariants.{Memory};
 ghost use Rattle.zarrs_chunks_c.specs.seen.Parts.{AreFoundParts, AreWrittenBelow, HasLists, IsKeyOf, IsLongPart, IsWritten};
 
@@ -49,8 +49,10 @@ pub(crate) fn write_parts(parts: &[Part], width: usize, buffers: &mut PartBuffer
     requires room { (k : ℕ) → k < length parts.now → HasLists width buffers.old k }
     requires long { AllByRecursion (IsLongPart width) parts.now }
     ensures written { AreWrittenBelow (length parts.now) width parts.now buffers.new }
+    ensures behind { AreListsKept width (length parts.now) buffers.old buffers.new }
     ensures same_buffers { AreSameBuffers buffers.old buffers.new }
     ensures text_kept { buffers.new.text.now ≡ buffers.old.text.now }
+    ensures offsets_kept { buffers.new.offsets ≡ buffers.old.offsets }
 {
     for (number, part) in parts.iter().enumerate() {
         write_part(part, width, number, buffers);
@@ -64,8 +66,10 @@ fn write_part(part: &Part, width: usize, number: usize, buffers: &mut PartBuffer
     ensures written { IsWritten width part.now buffers.new number }
     ensures earlier { (k : ℕ) → k < number → (p : Part)
         → IsWritten width p buffers.old k → IsWritten width p buffers.new k }
+    ensures behind { AreListsKept width (number + 1) buffers.old buffers.new }
     ensures same_buffers { AreSameBuffers buffers.old buffers.new }
     ensures text_kept { buffers.new.text.now ≡ buffers.old.text.now }
+    ensures offsets_kept { buffers.new.offsets ≡ buffers.old.offsets }
 {
     write_list(buffers.chunks, width, number, part.chunk.as_slice());
     write_list(buffers.in_chunk, width, number, part.in_chunk.start());
@@ -83,8 +87,10 @@ pub(crate) fn join_keys(
     offsets: &mut [u64],
 ) -> Result<String, AllocError>
     requires { length parts.now < length offsets.old }
-    ensures { IfOk result (λ keys. AreTexts (IsKeyOf parts.now) (length parts.now)
+    ensures keys { IfOk result (λ keys. AreTexts (IsKeyOf parts.now) (length parts.now)
         (string_bytes keys) offsets.new) }
+    ensures behind { IfOk result (λ _. drop (length parts.now + 1) offsets.new
+        ≡ drop (length parts.now + 1) offsets.old) }
 {
     let mut keys = String::new(alloc);
     offsets[0] = 0;

@@ -1,8 +1,8 @@
 //! The call of the plan of reading a box.
-ghost use Rattle.std.specs.Prelude.{◌≡◌, ◌⊎◌, ℕ, MatchResult, OnOk, length};
-ghost use Rattle.zarrs_chunks_c.specs.Calls.{IsEndOf, IsKeptIfShort};
+ghost use Rattle.std.specs.Prelude.{◌≡◌, ◌⊎◌, ℕ, MatchResult, OnOk, drop, length};
+ghost use Rattle.zarrs_chunks_c.specs.Calls.{IfAnswered, IsEndOf, IsKeptIfShort};
 ghost use Rattle.zarrs_chunks_c.specs.Codes.{Ends};
-ghost use Rattle.zarrs_chunks_c.specs.Parts.{AreSameBuffers, IsPlanOf, IsPlanTooLong, IsRoomFor};
+ghost use Rattle.zarrs_chunks_c.specs.Parts.{AreKeptBehind, AreSameBuffers, IsPlanOf, IsPlanTooLong, IsRoomFor};
 ghost use Rattle.zarrs_chunks_c.specs.PlanCall.{HasRoom, IsUncounted, parts_call};
 ghost use Rattle.zarrs_chunks_c.specs.declared.codes.Fault.TheVariants.{Length, Memory, Short};
 
@@ -30,6 +30,10 @@ pub extern "C" fn zarrs_parts_of(
     ensures ends { Ends (IsEndOf (parts_call array.now elements.now first buffers.new)) result }
     ensures none_counted { Ends (λ end. OnOk end (IsUncounted buffers.new)) result }
     ensures kept_if_short { Ends (IsKeptIfShort buffers.old.text.now buffers.new.text.now) result }
+    ensures kept_behind { drop buffers.new.needed buffers.new.text.now
+        ≡ drop buffers.new.needed buffers.old.text.now }
+    ensures parts_kept { Ends (IfAnswered (AreKeptBehind (length array.now.shape.now)
+        buffers.old buffers.new)) result }
     ensures same_buffers { AreSameBuffers buffers.old buffers.new }
 {
     code_of(parts_of(alloc, array, elements, first, buffers))
@@ -51,6 +55,10 @@ fn parts_of(
     ensures ends { IsEndOf (parts_call array.now elements.now first buffers.new) result }
     ensures none_counted { OnOk result (IsUncounted buffers.new) }
     ensures kept_if_short { IsKeptIfShort buffers.old.text.now buffers.new.text.now result }
+    ensures kept_behind { drop buffers.new.needed buffers.new.text.now
+        ≡ drop buffers.new.needed buffers.old.text.now }
+    ensures parts_kept { IfAnswered (AreKeptBehind (length array.now.shape.now)
+        buffers.old buffers.new) result }
     ensures same_buffers { AreSameBuffers buffers.old buffers.new }
 {
     let grid = grid_of(alloc, array.shape, array.chunk_grid)?;
@@ -102,6 +110,10 @@ fn write_plan<G: ChunkGridTraits, E: ChunkKeyEncodingTraits>(
         elements.now first buffers.new)) }
     ensures none_counted { OnOk result (IsUncounted buffers.new) }
     ensures kept_if_short { IsKeptIfShort buffers.old.text.now buffers.new.text.now result }
+    ensures kept_behind { drop buffers.new.needed buffers.new.text.now
+        ≡ drop buffers.new.needed buffers.old.text.now }
+    ensures parts_kept { IfAnswered (AreKeptBehind (length (G.dimensions grid.now))
+        buffers.old buffers.new) result }
     ensures same_buffers { AreSameBuffers buffers.old buffers.new }
 {
     let Some(some) = find_parts(alloc, grid, encoding, elements, first, room)? else {

@@ -1,5 +1,5 @@
 //! Texts that are written to a buffer, and texts one after another.
-ghost use Rattle.std.specs.Prelude.{◌≡◌, ◌+◌, ◌<◌, ◌≤◌, IfErr, IfOk, MatchResult, OnErr, OnOk, length, take};
+ghost use Rattle.std.specs.Prelude.{◌≡◌, ◌+◌, ◌<◌, ◌≤◌, IfErr, IfOk, MatchResult, OnErr, OnOk, drop, length, take};
 ghost use Rattle.zarrs_chunks_c.specs.Batch.{HasText, text_at};
 ghost use Rattle.zarrs_chunks_c.specs.declared.codes.Fault.TheVariants.{Offsets, Short};
 
@@ -16,6 +16,7 @@ pub(crate) fn write_text(text: &[u8], buffer: &mut [u8], needed: &mut usize) -> 
     ensures short { IfErr result (λ fault. (fault ≡ Short)
         × (length buffer.new < length text.now)) }
     ensures untouched { OnErr result (buffer.new ≡ buffer.old) }
+    ensures behind { drop needed.new buffer.new ≡ drop needed.new buffer.old }
 {
     *needed = text.len();
     if text.len() > buffer.len() {

@@ -4,12 +4,12 @@ use Rattle.serde_json.specs.Data.{Data}
 use Rattle.zarrs_chunk_base.specs.ArraySubset.{Box, IsEmptyBox, lasts}
 use Rattle.zarrs_chunk_base.specs.Dimension.{Dimension}
 use Rattle.zarrs_chunk_base.specs.Grid.{Grid as ChunkGrid}
+use Rattle.zarrs_chunk_base.specs.Json.{IsJsonOf}
 use Rattle.zarrs_chunk_base.specs.Refusal.{TellsLengths}
 use Rattle.zarrs_chunk_keys.specs.ChunkKey.{Encoding as KeyEncoding}
 use Rattle.zarrs_chunks.specs.Subsets.{HasNoHome}
 use Rattle.zarrs_chunk_plan.specs.Rechunking.{all_chunks_box, array_box}
 use Rattle.zarrs_chunk_plan.specs.declared.copies_error.CopiesError.TheVariants.{Chunks}
-use Rattle.programs.specs.Document.{IsTreeOf}
 use Rattle.programs.specs.Stored.{IsCreateFault, IsStored, Stored}
 use Rattle.programs.specs.chunkplan.Document.{Document, IsDocument, read_of, rechunk_to}
 use Rattle.programs.specs.chunkplan.DocumentFault.{IsInputFault}
@@ -56,5 +56,5 @@ pub data IsPlanFault (document : Document) (fault : RunFault) : Type 0 where
 -- The first fault of an input that has no plan: it is no document, or the document has no plan.
 pub data IsFirstFault (input : List ℕ) (fault : RunFault) : Type 0 where
   no_document : IsInputFault input fault → IsFirstFault input fault
-  no_plan : (tree : Data) (document : Document) → IsTreeOf input tree → IsDocument tree document → IsPlanFault document fault
+  no_plan : (tree : Data) (document : Document) → IsJsonOf input tree → IsDocument tree document → IsPlanFault document fault
       → IsFirstFault input fault

@@ -4,6 +4,7 @@ use Rattle.serde_json.specs.Data.{Data}
 use Rattle.zarrs_chunk_base.specs.ArraySubset.{Box, IsBox, IsEmptyBox}
 use Rattle.zarrs_chunk_base.specs.Dimension.{Dimension}
 use Rattle.zarrs_chunk_base.specs.Grid.{Grid}
+use Rattle.zarrs_chunk_base.specs.Json.{IsJsonOf}
 use Rattle.zarrs_chunk_keys.specs.ChunkKey.{Encoding, IsKey}
 use Rattle.zarrs_chunk_plan.specs.Clip.{IsClipped}
 use Rattle.zarrs_chunk_plan.specs.Counts.{AreReadCounts, AreRechunkingCounts}
@@ -11,7 +12,6 @@ use Rattle.zarrs_chunk_plan.specs.Plan.{IsPlan}
 use Rattle.zarrs_chunk_plan.specs.Rechunking.{AreTargets, Group, IsRechunking, all_chunks_box, array_box}
 use Rattle.zarrs_chunk_plan.specs.declared.counts.Counts.{Counts}
 use Rattle.zarrs_chunk_plan.specs.declared.part.Part.{Part}
-use Rattle.programs.specs.Document.{IsTreeOf}
 use Rattle.programs.specs.Stored.{IsStored, Stored}
 use Rattle.programs.specs.chunkplan.CountsLine.{IsCountsLine}
 use Rattle.programs.specs.chunkplan.Document.{Document, IsDocument, Wanted, counts_wanted, lines_wanted, read_of, rechunk_to}
@@ -58,6 +58,6 @@ pub data IsPlanned (document : Document) (text : List ℕ) : Type 0 where
 pub record IsPlanOf (input text : List ℕ) : Type 0 where
   pub tree : Data
   pub document : Document
-  pub reads : IsTreeOf input tree
+  pub reads : IsJsonOf input tree
   pub stands_for : IsDocument tree document
   pub planned : IsPlanned document text

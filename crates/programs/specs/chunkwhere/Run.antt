@@ -4,22 +4,22 @@ use Rattle.programs.specs.declared.chunkwhere.run_fault.RunFault.{RunFault}
 use Rattle.programs.specs.declared.chunkwhere.run_fault.RunFault.TheVariants.{Memory, Read, Write}
 use Rattle.programs.specs.chunkwhere.Answer.{IsAnswer, IsAnswerFault}
 use Rattle.programs.specs.chunkwhere.Document.{Document, IsDocument, IsInputFault}
-use Rattle.programs.specs.Document.{IsTreeOf}
 use Rattle.programs.specs.Streams.{IsReadToEnd, IsWritten, Streams}
 use Rattle.serde_json.specs.Data.{Data}
+use Rattle.zarrs_chunk_base.specs.Json.{IsJsonOf}
 
 -- the text that answers the input
 pub record IsTextFor (input text : List ℕ) : Type 0 where
   pub tree : Data
   pub document : Document
-  pub reads : IsTreeOf input tree
+  pub reads : IsJsonOf input tree
   pub stands_for : IsDocument tree document
   pub answers : IsAnswer document text
 
 -- The first fault of an input: it is no document, or the document has no answer.
 pub data IsFirstFault (input : List ℕ) (fault : RunFault) : Type 0 where
   no_document : IsInputFault input fault → IsFirstFault input fault
-  no_answer : (tree : Data) (document : Document) → IsTreeOf input tree → IsDocument tree document → IsAnswerFault document fault
+  no_answer : (tree : Data) (document : Document) → IsJsonOf input tree → IsDocument tree document → IsAnswerFault document fault
       → IsFirstFault input fault
 
 -- A run over a reader that had the input left and a writer that held some bytes: what it leaves, by its outcome.

@@ -2,7 +2,7 @@
 ghost use Rattle.std.specs.Prelude.{◌≡◌, ◌⊎◌, MatchResult};
 ghost use Rattle.serde_json.specs.Data.{Data};
 ghost use Rattle.serde_json.specs.View.{view};
-ghost use Rattle.programs.specs.Document.{IsTreeOf};
+ghost use Rattle.zarrs_chunk_base.specs.Json.{IsJsonOf};
 ghost use Rattle.programs.specs.chunkplan.Document.{Fit, FitTask, HasWanted, IsDocument, IsOfArray, IsTask, document_of, task_of, wanted_of};
 ghost use Rattle.programs.specs.chunkplan.DocumentFault.{HasWantedFault, IsFormFault, IsInputFault, IsMisfit, IsTargetMisfit, IsTaskFault};
 ghost use Rattle.programs.specs.chunkplan.DocumentFault.{IsTaskMisfit, IsUnknownFault};
@@ -59,7 +59,7 @@ pub(crate) struct Document {
 /// members, the target has one that isn't known, or is of another array. Or out of memory.
 pub(crate) fn parse(alloc: Global, input: &[u8]) -> Result<Document, RunFault>
     ensures { MatchResult result
-        (λ document. (tree : Data) × IsTreeOf input.now tree
+        (λ document. (tree : Data) × IsJsonOf input.now tree
         × IsDocument tree (document_of document))
         (λ fault. (fault ≡ Memory) ⊎ IsInputFault input.now fault) }
 {

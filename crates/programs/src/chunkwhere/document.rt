@@ -2,7 +2,7 @@
 ghost use Rattle.std.specs.Prelude.{◌≡◌, ◌⊎◌, IfOk, MatchResult, map, option_map, string_bytes};
 ghost use Rattle.serde_json.specs.Data.{Data};
 ghost use Rattle.serde_json.specs.View.{view};
-ghost use Rattle.programs.specs.Document.{IsTreeOf};
+ghost use Rattle.zarrs_chunk_base.specs.Json.{IsJsonOf};
 ghost use Rattle.programs.specs.chunkwhere.Document.{document_of, indices_in, keys_in, lists_in, IsDocument, IsFormFault, IsInputFault};
 ghost use Rattle.programs.specs.declared.chunkwhere.run_fault.RunFault.TheVariants.{Memory};
 
@@ -27,7 +27,7 @@ pub(crate) struct Document {
 /// The document that an input is the text of, or the first fault.
 pub(crate) fn parse(alloc: Global, input: &[u8]) -> Result<Document, RunFault>
     ensures { MatchResult result
-        (λ document. (tree : Data) × IsTreeOf input.now tree
+        (λ document. (tree : Data) × IsJsonOf input.now tree
         × IsDocument tree (document_of document))
         (λ fault. (fault ≡ Memory) ⊎ IsInputFault input.now fault) }
 {

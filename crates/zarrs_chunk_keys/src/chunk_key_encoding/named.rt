@@ -9,12 +9,12 @@
 //! Unlike zarrs, no encoding registers itself, and no name has an alias: an encoding of another crate is passed to functions over
 //! [`ChunkKeyEncodingTraits`] as it is.
 ghost use Rattle.std.specs.Prelude.{◌≡◌, Contains, IfOk, IsErrAnd, MatchResult};
-ghost use Rattle.serde_json.specs.View.{members_view};
+ghost use Rattle.serde_json.specs.View.{members_view, view};
 ghost use Rattle.zarrs_chunk_base.specs.Kinds.{IsConfigurationOf, IsMetadata, names};
 ghost use Rattle.zarrs_chunk_base.specs.Metadata.{extension_of};
 ghost use Rattle.zarrs_chunk_base.specs.Refusal.{OrMemory};
 ghost use Rattle.zarrs_chunk_keys.specs.ChunkKey.{IsKey};
-ghost use Rattle.zarrs_chunk_keys.specs.KeyKinds.{IsEncoding, IsEncodingFault, key_kind, key_kinds, kind_of};
+ghost use Rattle.zarrs_chunk_keys.specs.KeyKinds.{IsEncoding, IsEncodingFault, IsEncodingIn, IsNoEncodingIn, key_kind, key_kinds, kind_of};
 ghost use Rattle.zarrs_chunk_keys.specs.declared.chunk_key_encoding.named.ChunkKeyEncoding.TheVariants.{Default, DefaultSuffix, V2};
 ghost use Rattle.zarrs_chunk_keys.specs.lemmas.ExactKeys.{exact};
 ghost use Rattle.zarrs_chunk_keys.specs.seen.Encodings.{encoding_in};
@@ -24,9 +24,10 @@ use crate::chunk_key_encoding::default::DefaultChunkKeyEncoding;
 use crate::chunk_key_encoding::default_suffix::DefaultSuffixChunkKeyEncoding;
 use crate::chunk_key_encoding::of_kind::{configuration_inside, create_named};
 use crate::chunk_key_encoding::v2::V2ChunkKeyEncoding;
+use serde_json::Value;
 use std::alloc::{AllocError, Global};
 use zarrs_chunk_base::{
-    ArrayIndices, Configuration, MetadataV3, PluginCreateError, Refusal, StoreKey,
+    ArrayIndices, Configuration, ExtensionError, MetadataV3, PluginCreateError, Refusal, StoreKey,
 };
 
 const DEFAULT: &str = "default";
@@ -79,6 +80,23 @@ impl ChunkKeyEncoding {
             DEFAULT_SUFFIX => Ok(ChunkKeyEncoding::DefaultSuffix(create_named(alloc, metadata)?)),
             _ => refuse_name(alloc, metadata),
         }
+    }
+
+    /// The encoding that a tree of JSON is the metadata of.
+    ///
+    /// # Errors
+    /// The first that applies: the tree is no extension's metadata; the encoding can't be made, as [`from_metadata`](Self::from_metadata) says.
+    /// Or out of memory.
+    pub fn from_tree(
+        alloc: Global,
+        tree: &Value,
+    ) -> Result<ChunkKeyEncoding, Refusal<ExtensionError>>
+        ensures { MatchResult result
+            (λ encoding. IsEncodingIn (view tree.now) (encoding_in encoding))
+            (OrMemory (IsNoEncodingIn (view tree.now))) }
+    {
+        let metadata = MetadataV3::from_tree(alloc, tree)?;
+        Ok(ChunkKeyEncoding::from_metadata(alloc, &metadata)?)
     }
 
     /// The metadata of the encoding: its extension's name, and its configuration.

@@ -4,9 +4,10 @@ use Rattle.serde_json.specs.Data.{Data}
 use Rattle.serde_json.specs.View.{view}
 use Rattle.serde_json.specs.Written.{compact_text, has_float}
 use Rattle.serde_json.specs.declared.value.Value.{Value}
+use Rattle.zarrs_chunk_base.specs.Json.{IsJsonOf}
 use Rattle.zarrs_chunk_base.specs.declared.refusal.Refusal.{Refusal}
 use Rattle.zarrs_chunk_base.specs.declared.refusal.Refusal.TheVariants.{Refused, Memory}
-use Rattle.zarrs_chunk_questions.specs.AnswerLine.{IsTextOf, Tells}
+use Rattle.zarrs_chunk_questions.specs.AnswerLine.{Tells}
 use Rattle.zarrs_chunk_questions.specs.Answers.{IsAnswer}
 use Rattle.zarrs_chunk_questions.specs.Question.{IsReading, Question}
 use Rattle.zarrs_chunk_questions.specs.Reading.{Fault, not_json}
@@ -32,12 +33,12 @@ IsTreeFault d fault =
 
 -- the answer of a line, as a tree
 abbrev pub IsLineAnswer : List ℕ → Data → Type 0
-IsLineAnswer line tree = (d : Data) × IsTextOf line d × IsTreeAnswer d tree
+IsLineAnswer line tree = (d : Data) × IsJsonOf line d × IsTreeAnswer d tree
 
 -- why a line has no answer
 abbrev pub IsLineFault : List ℕ → LineFault → Type 0
 IsLineFault line fault =
-    (((d : Data) → ¬ IsTextOf line d) × IsUnreadableAs fault not_json) ⊎ ((d : Data) × IsTextOf line d × IsTreeFault d fault)
+    (((d : Data) → ¬ IsJsonOf line d) × IsUnreadableAs fault not_json) ⊎ ((d : Data) × IsJsonOf line d × IsTreeFault d fault)
 
 -- the text of an answer, or of why there is none
 abbrev pub IsAnswerText : Result Value (Refusal LineFault) → List ℕ → Type 0

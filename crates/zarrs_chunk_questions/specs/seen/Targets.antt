@@ -1,21 +1,15 @@
 -- The target of a rechunking, as it is made of a question's trees.
 use Rattle.std.specs.Prelude.{◌⊎◌, ℕ, List}
+use Rattle.zarrs_chunk_keys.specs.KeyKinds.{IsEncodingIn}
 use Rattle.zarrs_chunk_keys.specs.seen.Encodings.{encoding_in}
 use Rattle.zarrs_chunk_keys.specs.declared.chunk_key_encoding.named.ChunkKeyEncoding.{ChunkKeyEncoding}
+use Rattle.zarrs_chunks.specs.GridKinds.{IsGridIn}
 use Rattle.zarrs_chunk_plan.specs.declared.stored_array.StoredArray.{StoredArray}
 use Rattle.zarrs_chunks.specs.seen.Grids.{grid_in, kind_in}
 use Rattle.zarrs_chunks.specs.declared.chunk_grid.named.ChunkGrid.{ChunkGrid}
 use Rattle.zarrs_chunk_questions.specs.Question.{Target}
 use Rattle.zarrs_chunk_questions.specs.Refused.{IsNoEncoding, IsNoGrid, IsOfTarget}
-use Rattle.zarrs_chunk_questions.specs.Trees.{IsEncodingIn, IsGridIn}
 use Rattle.zarrs_chunk_questions.specs.declared.line_fault.LineFault.{LineFault}
-use Rattle.zarrs_chunk_questions.specs.declared.line_fault.LineFault.TheVariants.{Extension, Metadata, TargetExtension, TargetMetadata}
-
--- the fault of a grid or an encoding, as that of a target's
-abbrev pub as_of_target : LineFault → LineFault
-as_of_target (Metadata error) = TargetMetadata error
-as_of_target (Extension error) = TargetExtension error
-as_of_target fault = fault
 
 -- its grid and its encoding, of an array of this shape
 abbrev pub IsTargetIn : Target → List ℕ → StoredArray ChunkGrid ChunkKeyEncoding → Type 0

@@ -10,13 +10,13 @@
 //! Unlike zarrs, no grid registers itself, no name has an alias, and no name is warned of: a grid of another crate is passed to
 //! functions over [`ChunkGridTraits`] as it is.
 ghost use Rattle.std.specs.Prelude.{◌≡◌, ◌↔◌, Contains, IfOk, IsErrAnd, IsTrue, MatchResult};
-ghost use Rattle.serde_json.specs.View.{members_view};
+ghost use Rattle.serde_json.specs.View.{members_view, view};
 ghost use Rattle.zarrs_chunk_base.specs.Dimension.{array_sizes};
 ghost use Rattle.zarrs_chunk_base.specs.Kinds.{IsConfigurationOf, IsMetadata, IsOf, names};
 ghost use Rattle.zarrs_chunk_base.specs.Metadata.{extension_of};
 ghost use Rattle.zarrs_chunk_base.specs.Refusal.{OrMemory};
 ghost use Rattle.zarrs_chunk_axes.specs.InBounds.{AreBelow, AreInBounds, AreIndicesInBounds};
-ghost use Rattle.zarrs_chunks.specs.GridKinds.{IsGridFault, grid_kind, grid_kinds};
+ghost use Rattle.zarrs_chunks.specs.GridKinds.{IsGridFault, IsGridIn, IsNoGridIn, grid_kind, grid_kinds};
 ghost use Rattle.zarrs_chunks.specs.declared.chunk_grid.named.ChunkGrid.TheVariants.{Rectangular, Rectilinear, Regular, RegularBounded};
 ghost use Rattle.zarrs_chunks.specs.seen.Grids.{chained_in, grid_in, kind_in};
 
@@ -26,10 +26,11 @@ use super::rectilinear::RectilinearChunkGrid;
 use super::regular::RegularChunkGrid;
 use super::regular_bounded::RegularBoundedChunkGrid;
 use crate::{ChunkGridTraits, Home};
+use serde_json::Value;
 use std::alloc::{AllocError, Global};
 use zarrs_chunk_base::{
-    ArrayIndices, ArraySubset, ChunkShape, Configuration, IncompatibleDimensionalityError,
-    MetadataV3, PluginCreateError, Refusal,
+    ArrayIndices, ArraySubset, ChunkShape, Configuration, ExtensionError,
+    IncompatibleDimensionalityError, MetadataV3, PluginCreateError, Refusal,
 };
 
 const REGULAR: &str = "regular";
@@ -98,6 +99,26 @@ impl ChunkGrid {
             RECTILINEAR => Ok(ChunkGrid::Rectilinear(create_named(alloc, metadata, array_shape)?)),
             _ => refuse_name(alloc, metadata, array_shape),
         }
+    }
+
+    /// The grid that a tree of JSON is the metadata of, of an array with these sizes.
+    ///
+    /// # Errors
+    /// The first that applies: the tree is no extension's metadata; the grid can't be made, as [`from_metadata`](Self::from_metadata) says. Or
+    /// out of memory.
+    pub fn from_tree(
+        alloc: Global,
+        tree: &Value,
+        array_shape: &[u64],
+    ) -> Result<ChunkGrid, Refusal<ExtensionError>>
+        ensures shape { IfOk result (λ grid. array_sizes (grid_in grid).dimensions
+            ≡ array_shape.now) }
+        ensures made { MatchResult result
+            (λ grid. IsGridIn (view tree.now) array_shape.now (kind_in grid) (grid_in grid))
+            (OrMemory (IsNoGridIn (view tree.now) array_shape.now)) }
+    {
+        let metadata = MetadataV3::from_tree(alloc, tree)?;
+        Ok(ChunkGrid::from_metadata(alloc, &metadata, array_shape)?)
     }
 
     /// The metadata of the grid: its extension's name, and its configuration.

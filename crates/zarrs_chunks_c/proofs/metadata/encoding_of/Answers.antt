@@ -1,15 +1,12 @@
-use Rattle.std.proofs.Common.{inl, inr, ⊎_elim, refl}
-use Rattle.std.proofs.lemmas.Result.{err_from_is_err_and}
-use Rattle.zarrs_chunk_base.specs.Metadata.{extension_of}
-use Rattle.zarrs_chunks_c.specs.Said.{not_extension, not_made}
+use Rattle.serde_json.specs.View.{view}
+use Rattle.zarrs_chunk_keys.specs.KeyKinds.{IsNoEncodingIn}
+use Rattle.zarrs_chunk_keys.specs.seen.Encodings.{encoding_in}
+use Rattle.zarrs_chunks_c.specs.Said.{SaysEncoding}
+use Rattle.zarrs_chunks_c.proofs.NotMade.{of_tree}
 use Rattle.zarrs_chunks_c.proofs.metadata.encoding_of.Goals as goal
 
-pub returns-in_err-metadata : goal.returns-in_err-metadata
-returns-in_err-metadata c =
-    let p = err_from_is_err_and c.from_residual.result c.from_residual.ensures.1 in
-    rw (p.1, p.2) (⊎_elim (λ memory. inl memory) (λ is. inr (not_extension is)) c.in_err-metadata.ensures)
-
-pub returns : goal.returns
-returns c =
-    let refused = c.in-Err-Refused in
-    inr (not_made refused.error refl (extension_of c.in_ok-metadata.metadata) c.in_ok-metadata.ensures (rw refused.field-0-is at refused.ensures))
+pub returns-in_err-from_tree : goal.returns-in_err-from_tree
+returns-in_err-from_tree c =
+    of_tree (λ encoding. SaysEncoding c.args.chunk_key_encoding.now (encoding_in encoding)) IsNoEncodingIn c.args.chunk_key_encoding.now
+    (view c.in_ok-tree.tree) _ c.from_residual-in_err-from_tree.result c.in_ok-tree.ensures.said c.in_err-from_tree.ensures
+    c.from_residual-in_err-from_tree.ensures.1

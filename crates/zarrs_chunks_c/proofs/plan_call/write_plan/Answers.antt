@@ -53,7 +53,7 @@ returns-clause-ends g c =
     in
     let counted : c.len.result ≡ length parts = omega (arith, some.parts.ok.0, c.len.ensures) in
     let of_keys =
-    subst (λ ps. AreTexts (IsKeyOf ps) (length ps) (string_bytes c.in_ok-keys.keys) offsets) c.deref-2.ensures.value c.in_ok-keys.ensures in
+    subst (λ ps. AreTexts (IsKeyOf ps) (length ps) (string_bytes c.in_ok-keys.keys) offsets) c.deref-2.ensures.value c.in_ok-keys.ensures.keys in
     let texts = subst (λ text. AreTexts (IsKeyOf parts) (length parts) text offsets) (sym c.as_bytes.ensures.value) of_keys in
     let is_plan = all_written ds IsKey c.args.elements.now c.args.first c.args.room some buffers keys found refl counted room are_written texts in
     let IsPlan = IsPlanWith ds IsKey c.args.elements.now c.args.first buffers in
