@@ -9,8 +9,9 @@
  * nothing, so calls may run in several threads at once.
  *
  * Each call answers ZARRS_OK or one of the codes below. After another code than ZARRS_OK and ZARRS_SHORT_BUFFER the buffers that are written to
- * hold anything, but nothing is written beside them; what a call tells of its refusal all the same is said there. zarrs_code_words says in words what
- * a code is, zarrs_grid_fault and zarrs_encoding_fault what metadata lack.
+ * hold anything, but nothing is written beside them; what a call tells of its refusal all the same is said there. After these two, what lies behind a
+ * text and behind the parts that are written is as it was. zarrs_code_words says in words what a code is, zarrs_grid_fault and zarrs_encoding_fault
+ * what metadata lack.
  *
  * Where several things are wrong, the first of them is told, in this order, which is the same for all calls:
  *
@@ -60,7 +61,7 @@ extern "C" {
 #define ZARRS_NOT_JSON (-3)
 /* The metadata is JSON, and no extension's. */
 #define ZARRS_NOT_METADATA (-4)
-/* The grid or the encoding is refused. zarrs_answer gives the words. */
+/* The grid or the encoding is refused. zarrs_grid_fault and zarrs_encoding_fault give the words. */
 #define ZARRS_REFUSED (-5)
 /* A start and a shape are those of no box: it ends past 18446744073709551615. */
 #define ZARRS_NOT_A_BOX (-6)
@@ -205,7 +206,7 @@ int32_t zarrs_encoding_fault(
     uint8_t *words, size_t words_len,
     size_t *needed);
 
-/* What a code says, in words. *needed gets how many bytes they have. ZARRS_SHORT_BUFFER where words is shorter: nothing is written to it. */
+/* What a code says, in words; of a number that is none, that it is none. *needed gets how many bytes they have. ZARRS_SHORT_BUFFER where words is shorter: nothing is written to it. */
 int32_t zarrs_code_words(
     int32_t code,
     uint8_t *words, size_t words_len,

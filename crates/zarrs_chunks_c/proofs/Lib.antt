@@ -7,3 +7,5 @@ pub mod Keys
 pub mod LongParts
 pub mod NotMade
 pub mod Planned
+pub mod RegularHomes
+pub mod Strides

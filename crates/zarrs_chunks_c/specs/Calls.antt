@@ -39,9 +39,9 @@ AreQuestions count IsQuestion = (number : ℕ) → number < count → IsQuestion
 abbrev pub IsFirstWrong : ℕ → (ℕ → Type 0) → ℕ → Type 0
 IsFirstWrong count IsQuestion number = (number < count) × AreQuestions number IsQuestion × ¬ IsQuestion number
 
--- P holds where the call has answered, and where the text of its answer is longer than the buffer
-abbrev pub IfAnswered : Type 0 → End → Type 0
-IfAnswered P end = MatchResult end (λ _. P) (λ fault. fault ≡ Short → P)
+-- P holds where the call has written its answer, or all of it but a text that is longer than its buffer
+abbrev pub IfWritten : Type 0 → End → Type 0
+IfWritten P end = MatchResult end (λ _. P) (λ fault. fault ≡ Short → P)
 
 -- a buffer that is shorter than its text is as it was
 abbrev pub IsKeptIfShort : (before after : List ℕ) → End → Type 0

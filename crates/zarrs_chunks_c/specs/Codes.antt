@@ -19,7 +19,7 @@ fault_code NotBox = negsuc 5
 fault_code Offsets = negsuc 6
 fault_code Short = negsuc 7
 
--- what the codes of faults say, in words, from -1 down
+-- the words of -1, -2 and so on, the codes of faults
 abbrev pub fault_words : List (List ℕ)
 fault_words =
     codes "out of memory"
@@ -32,10 +32,14 @@ fault_words =
     ∷ codes "the text of the answer is longer than its buffer"
     ∷ []
 
--- what a code says: of one that no call ends with, that it is none
+-- of what is no code
+abbrev pub no_code : List ℕ
+no_code = codes "no call ends with this code"
+
+-- what a code says
 abbrev pub code_words : ℤ → List ℕ
-code_words (pos n) = if n == 0 then codes "the call has answered" else codes "no call ends with this code"
-code_words (negsuc n) = slice_index_or fault_words n (codes "no call ends with this code")
+code_words (pos n) = if n == 0 then codes "the call has answered" else no_code
+code_words (negsuc n) = slice_index_or fault_words n no_code
 
 -- how a call ends: it has answered, or there is a fault
 abbrev pub End : Type 0

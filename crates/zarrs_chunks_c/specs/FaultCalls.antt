@@ -28,7 +28,7 @@ words_call code words needed = record {
   Answers = λ _. IsWhole (λ text. text ≡ code_words code) words needed;
 }
 
--- The words of a fault: those of its code. Those that say why an extension isn't made are of another library, and nothing is said of them.
+-- The words of a fault: those of its code. Nothing is said here of those that tell why an extension isn't made.
 abbrev pub AreWordsOf : Fault → List ℕ → Type 0
 AreWordsOf (Extension _) text = Unit {0}
 AreWordsOf fault text = text ≡ code_words (fault_code fault)

@@ -2,7 +2,7 @@
 -- Sources: Zarr V3 core, chunk grids.
 use Rattle.std.specs.Prelude.{◌≡◌, ℕ, List, [], ◌∷◌, length}
 use Rattle.zarrs_chunk_base.specs.ArraySubset.{Box, IsBox}
-use Rattle.zarrs_chunk_base.specs.Dimension.{InBox, IsPlace, grid_sizes}
+use Rattle.zarrs_chunk_base.specs.Dimension.{Dimension, InBox, IsPlace, grid_sizes}
 use Rattle.zarrs_chunk_base.specs.Grid.{Grid}
 use Rattle.zarrs_chunks.specs.Subsets.{HasNoBox, HasNoHome, Spans}
 use Rattle.zarrs_chunks_c.specs.Asked.{HasNoCover, IsCoverOf}
@@ -32,24 +32,26 @@ grid_shape_call shape metadata grid_shape =
     grid_call shape metadata (length grid_shape ∷ []) 1 RefusesNone (λ grid. grid_shape ≡ grid_sizes grid.dimensions)
 
 -- the chunk of each element
+abbrev pub AreChunksOf : List Dimension → (indices chunks marks : List ℕ) → Type 0
+AreChunksOf ds indices chunks marks =
+    AreAnswered (λ k chunk _. InBox ds chunk (list_at (length ds) indices k)) (λ k. HasNoHome ds (list_at (length ds) indices k))
+    (length ds, 0) chunks [] marks
+
 abbrev pub chunk_indices_call : (shape metadata indices chunks marks : List ℕ) → Call Grid
 chunk_indices_call shape metadata indices chunks marks =
     grid_call shape metadata (length indices ∷ length chunks ∷ []) (length marks) RefusesNone
-    (λ grid.
-    let width = length grid.dimensions in
-    AreAnswered (λ k chunk _. InBox grid.dimensions chunk (list_at width indices k)) (λ k. HasNoHome grid.dimensions (list_at width indices k))
-    (width, 0) chunks [] marks)
+    (λ grid. AreChunksOf grid.dimensions indices chunks marks)
 
 -- the chunk of each element, and the place there
+abbrev pub AreHomesOf : List Dimension → (indices chunks places marks : List ℕ) → Type 0
+AreHomesOf ds indices chunks places marks =
+    AreAnswered (λ k chunk place. InBox ds chunk (list_at (length ds) indices k) × IsPlace ds chunk (list_at (length ds) indices k) place)
+    (λ k. HasNoHome ds (list_at (length ds) indices k)) (length ds, length ds) chunks places marks
+
 abbrev pub homes_call : (shape metadata indices chunks places marks : List ℕ) → Call Grid
 homes_call shape metadata indices chunks places marks =
     grid_call shape metadata (length indices ∷ length chunks ∷ length places ∷ []) (length marks) RefusesNone
-    (λ grid.
-    let width = length grid.dimensions in
-    AreAnswered
-    (λ k chunk place.
-    InBox grid.dimensions chunk (list_at width indices k) × IsPlace grid.dimensions chunk (list_at width indices k) place)
-    (λ k. HasNoHome grid.dimensions (list_at width indices k)) (width, width) chunks places marks)
+    (λ grid. AreHomesOf grid.dimensions indices chunks places marks)
 
 -- the box of each chunk
 abbrev pub chunk_boxes_call : (shape metadata chunks origins shapes marks : List ℕ) → Call Grid

@@ -64,7 +64,8 @@ pub record AreListsKept (width count : ℕ) (before after : PartBuffers) : Type 
   pub in_subset : drop (count * width) after.in_subset.now ≡ drop (count * width) before.in_subset.now
   pub shapes : drop (count * width) after.shapes.now ≡ drop (count * width) before.shapes.now
 
--- behind the parts that are written the buffers are as they were, that of offsets behind one more, if there is a plan
+-- Behind the parts that are written the four buffers of lists are as they were, and so is that of offsets: behind one offset more where there is a
+-- plan, and as a whole where there is none, since `found` is 0 then.
 pub record AreKeptBehind (width : ℕ) (before after : PartBuffers) : Type 0 where
   pub lists : AreListsKept width after.count before after
   pub offsets : drop (after.count + after.found) after.offsets.now ≡ drop (after.count + after.found) before.offsets.now

@@ -9,8 +9,9 @@ use crate::batch::answer_all;
 use crate::codes::{Fault, code_of};
 use crate::metadata::grid_of_batch;
 use crate::questions::{ChunkBoxes, Covers, FirstAlone, Homes};
+use crate::regular::{answer_chunks, answer_homes};
 use std::alloc::Global;
-use zarrs_chunks::ChunkGridTraits;
+use zarrs_chunks::{ChunkGrid, ChunkGridTraits};
 
 /// How many chunks are counted along each dimension.
 #[unsafe(no_mangle)]
@@ -157,6 +158,10 @@ fn chunk_indices_of(
 {
     let totals = [indices.len(), chunks.len()];
     let grid = grid_of_batch(alloc, shape, chunk_grid, found.len(), &totals)?;
+    if let ChunkGrid::Regular(regular) = &grid {
+        answer_chunks(regular, indices, chunks, found);
+        return Ok(());
+    }
     let homes = Homes {
         grid: &grid,
         indices,
@@ -186,6 +191,10 @@ fn homes_of(
 {
     let totals = [indices.len(), chunks.len(), places.len()];
     let grid = grid_of_batch(alloc, shape, chunk_grid, found.len(), &totals)?;
+    if let ChunkGrid::Regular(regular) = &grid {
+        answer_homes(regular, indices, chunks, places, found);
+        return Ok(());
+    }
     let homes = Homes {
         grid: &grid,
         indices,

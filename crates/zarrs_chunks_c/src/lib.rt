@@ -19,6 +19,7 @@
 //! | `lists` | lists of one length, one after another |
 //! | `parts` | parts of a plan, one after another |
 //! | `texts` | texts that are written to a buffer, and texts one after another |
+//! | `regular` | the chunks and places of a `regular` grid: a loop for each dimension |
 //! | `questions` | what is asked of a grid, list by list |
 //! | `key_questions` | what is asked of an encoding, key by key |
 //! | `metadata` | the grid and the encoding that metadata says |
@@ -37,6 +38,7 @@ mod metadata;
 mod parts;
 mod plan_call;
 mod questions;
+mod regular;
 mod structs;
 mod texts;
 mod version;

@@ -1,6 +1,6 @@
 //! The call of the plan of reading a box.
 ghost use Rattle.std.specs.Prelude.{◌≡◌, ◌⊎◌, ℕ, MatchResult, OnOk, drop, length};
-ghost use Rattle.zarrs_chunks_c.specs.Calls.{IfAnswered, IsEndOf, IsKeptIfShort};
+ghost use Rattle.zarrs_chunks_c.specs.Calls.{IfWritten, IsEndOf, IsKeptIfShort};
 ghost use Rattle.zarrs_chunks_c.specs.Codes.{Ends};
 ghost use Rattle.zarrs_chunks_c.specs.Parts.{AreKeptBehind, AreSameBuffers, IsPlanOf, IsPlanTooLong, IsRoomFor};
 ghost use Rattle.zarrs_chunks_c.specs.PlanCall.{HasRoom, IsUncounted, parts_call};
@@ -32,7 +32,7 @@ pub extern "C" fn zarrs_parts_of(
     ensures kept_if_short { Ends (IsKeptIfShort buffers.old.text.now buffers.new.text.now) result }
     ensures kept_behind { drop buffers.new.needed buffers.new.text.now
         ≡ drop buffers.new.needed buffers.old.text.now }
-    ensures parts_kept { Ends (IfAnswered (AreKeptBehind (length array.now.shape.now)
+    ensures parts_kept { Ends (IfWritten (AreKeptBehind (length array.now.shape.now)
         buffers.old buffers.new)) result }
     ensures same_buffers { AreSameBuffers buffers.old buffers.new }
 {
@@ -57,7 +57,7 @@ fn parts_of(
     ensures kept_if_short { IsKeptIfShort buffers.old.text.now buffers.new.text.now result }
     ensures kept_behind { drop buffers.new.needed buffers.new.text.now
         ≡ drop buffers.new.needed buffers.old.text.now }
-    ensures parts_kept { IfAnswered (AreKeptBehind (length array.now.shape.now)
+    ensures parts_kept { IfWritten (AreKeptBehind (length array.now.shape.now)
         buffers.old buffers.new) result }
     ensures same_buffers { AreSameBuffers buffers.old buffers.new }
 {
@@ -112,7 +112,7 @@ fn write_plan<G: ChunkGridTraits, E: ChunkKeyEncodingTraits>(
     ensures kept_if_short { IsKeptIfShort buffers.old.text.now buffers.new.text.now result }
     ensures kept_behind { drop buffers.new.needed buffers.new.text.now
         ≡ drop buffers.new.needed buffers.old.text.now }
-    ensures parts_kept { IfAnswered (AreKeptBehind (length (G.dimensions grid.now))
+    ensures parts_kept { IfWritten (AreKeptBehind (length (G.dimensions grid.now))
         buffers.old buffers.new) result }
     ensures same_buffers { AreSameBuffers buffers.old buffers.new }
 {

@@ -1,0 +1,2 @@
+pub mod Divisor
+pub mod Multiplier

@@ -1,0 +1,12 @@
+use Rattle.std.specs.Int.NonZero.{non_zero_u64_get}
+use Rattle.zarrs_chunks_c.specs.seen.Strides.{AreEarlierKept, AreQuotients, AreRests}
+use Rattle.zarrs_chunks_c.proofs.regular.place_dimension.Given as goal
+
+-- the chunks and places of the lists so far
+abbrev pub invariant-loop-list : goal.invariant-loop-list
+invariant-loop-list l = record {
+  divided : AreQuotients l.width l.list l.dimension (non_zero_u64_get l.fn.edge) l.indices l.chunks;
+  placed : AreRests l.width l.list l.dimension (non_zero_u64_get l.fn.edge) l.indices l.chunks l.places;
+  earlier_chunks : AreEarlierKept l.width l.dimension l.initial.chunks l.chunks;
+  earlier_places : AreEarlierKept l.width l.dimension l.initial.places l.places;
+}

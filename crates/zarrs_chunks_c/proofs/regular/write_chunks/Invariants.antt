@@ -1,0 +1,16 @@
+use Rattle.std.proofs.Common.{ℕ, ◌-◌, ◌<◌, ◌≤◌, length, map, slice_index_or}
+use Rattle.std.specs.Int.NonZero.{non_zero_u64_get}
+use Rattle.zarrs_chunks_c.specs.seen.Strides.{AreQuotients}
+use Rattle.zarrs_chunks_c.proofs.regular.write_chunks.Given as goal
+
+-- how many lists are left
+abbrev pub decreases-loop-from : goal.decreases-loop-from
+decreases-loop-from l = l.count - l.from
+
+-- the chunks of the lists so far
+abbrev pub invariant-loop-from : goal.invariant-loop-from
+invariant-loop-from l = record {
+  within : l.from ≤ l.count;
+  divided : (dimension : ℕ) → dimension < length l.edges
+      → AreQuotients (length l.edges) l.from dimension (slice_index_or (map non_zero_u64_get l.edges) dimension 0) l.indices l.chunks;
+}
