@@ -3,7 +3,7 @@ use crate::compared::{check_numbers, check_same, check_text, check_that};
 use std::alloc::Global;
 use std::process::Abort;
 use std::test::Fail;
-use zarrs_chunk_base::{ChunkKeySeparator, MetadataV3, read_json};
+use zarrs_chunk_base::{ChunkKeySeparator, MetadataV3, Refusal, read_json};
 use zarrs_chunk_keys::laws::{
     a_chunk_has_one_key, a_default_key_names_one_chunk, a_key_is_read_back,
     keys_read_as_one_chunk_are_equal,
@@ -71,7 +71,8 @@ fn check_refused(rt: &(impl Abort + AllocGlobal), text: &str, told: &str) -> Res
     let tree = read_json(rt.alloc(), text.as_bytes())?.ok_or("not JSON")?;
     match ChunkKeyEncoding::from_tree(rt.alloc(), &tree) {
         Ok(_) => Err("an encoding".into()),
-        Err(refusal) => Ok(check_text(rt, &refusal, told)?),
+        Err(Refusal::Memory(error)) => Err(error.into()),
+        Err(Refusal::Refused(error)) => Ok(check_text(rt, &error, told)?),
     }
 }
 
