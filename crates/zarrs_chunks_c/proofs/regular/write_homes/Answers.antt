@@ -1,103 +1,56 @@
-use Rattle.std.proofs.Common.{◌≡◌, ◌∙◌, ℕ, ◌+◌, ◌*◌, ◌-◌, ◌<◌, ◌≤◌, length, map, slice_index_or, subst, ⊎_elim, arith}
-use Rattle.std.proofs.lemmas.Bool.{cases_lt}
-use Rattle.std.proofs.Math.Nat.{mul-le-mul_right, mul_comm}
-use borrow.Rule.Slice.PartMut.{put_mid}
+use Rattle.std.proofs.Common.{◌≡◌, ◌∙◌, ◌+◌, ◌*◌, ℕ, length, map, slice_index_or, subst, arith}
 use Rattle.std.specs.Int.NonZero.{non_zero_u64_get}
 use Rattle.zarrs_chunk_division.specs.Division.{IsQuotient}
 use Rattle.zarrs_chunks_c.specs.seen.Strides.{number_in}
-use Rattle.zarrs_chunks_c.proofs.Strides.{long_slice, long_some, number_before, number_of_some, number_written}
+use Rattle.zarrs_chunks_c.proofs.Strides.{both_some_more, long_slice, long_some, next_within, number_of_some, some_more, starts_within}
 use Rattle.zarrs_chunks_c.proofs.regular.write_homes.Goals as goal
 
 pub write_some_homes-requires-clause-indices : goal.write_some_homes-requires-clause-indices
 write_some_homes-requires-clause-indices c =
-    let width = length c.args.edges.now in
-    let from = c.loop-from.from in
-    let to = c.min-to.result in
-    let below = c.loop-from-test.true in
-    let more = c.saturating_add.ensures in
-    let least = c.min-to.ensures in
-    let ascend : from ≤ to = omega arith in
-    let within : to ≤ c.args.count = omega arith in
-    long_some width c.args.count from to c.args.indices.now ascend within c.requires.indices
+    let (ascend, within) = next_within c.loop-from.from c.args.count c.saturating_add.result c.min-to.result c.loop-from-test.true
+    c.saturating_add.ensures c.min-to.ensures (omega arith) in
+    long_some (length c.args.edges.now) c.args.count c.loop-from.from c.min-to.result c.args.indices.now ascend within c.requires.indices
 
 pub write_some_homes-requires-clause-chunks : goal.write_some_homes-requires-clause-chunks
 write_some_homes-requires-clause-chunks c =
-    let width = length c.args.edges.now in
-    let from = c.loop-from.from in
-    let to = c.min-to.result in
-    let below = c.loop-from-test.true in
-    let more = c.saturating_add.ensures in
-    let least = c.min-to.ensures in
-    let ascend : from ≤ to = omega arith in
-    let within : to ≤ c.args.count = omega arith in
-    long_some width c.args.count from to c.loop-from.chunks ascend within (c.loop-from.auto.chunks ∙ c.requires.chunks)
+    let (ascend, within) = next_within c.loop-from.from c.args.count c.saturating_add.result c.min-to.result c.loop-from-test.true
+    c.saturating_add.ensures c.min-to.ensures (omega arith) in
+    long_some (length c.args.edges.now) c.args.count c.loop-from.from c.min-to.result c.loop-from.chunks ascend within
+    (c.loop-from.auto.chunks ∙ c.requires.chunks)
 
 pub write_some_homes-requires-clause-places : goal.write_some_homes-requires-clause-places
 write_some_homes-requires-clause-places c =
-    let width = length c.args.edges.now in
-    let from = c.loop-from.from in
-    let to = c.min-to.result in
-    let below = c.loop-from-test.true in
-    let more = c.saturating_add.ensures in
-    let least = c.min-to.ensures in
-    let ascend : from ≤ to = omega arith in
-    let within : to ≤ c.args.count = omega arith in
-    long_some width c.args.count from to c.loop-from.places ascend within (c.loop-from.auto.places ∙ c.requires.places)
+    let (ascend, within) = next_within c.loop-from.from c.args.count c.saturating_add.result c.min-to.result c.loop-from-test.true
+    c.saturating_add.ensures c.min-to.ensures (omega arith) in
+    long_some (length c.args.edges.now) c.args.count c.loop-from.from c.min-to.result c.loop-from.places ascend within
+    (c.loop-from.auto.places ∙ c.requires.places)
 
 pub loop-from-preserved : goal.loop-from-preserved
 loop-from-preserved c =
+    let (ascend, within) = next_within c.loop-from.from c.args.count c.saturating_add.result c.min-to.result c.loop-from-test.true
+    c.saturating_add.ensures c.min-to.ensures (omega arith) in
     let width = length c.args.edges.now in
     let from = c.loop-from.from in
     let to = c.min-to.result in
-    let below = c.loop-from-test.true in
-    let more = c.saturating_add.ensures in
-    let least = c.min-to.ensures in
-    let ascend : from ≤ to = omega arith in
-    let within : to ≤ c.args.count = omega arith in
+    let count = c.args.count in
     let indices = c.args.indices.now in
+    let edge = λ (d : ℕ). slice_index_or (map non_zero_u64_get c.args.edges.now) d 0 in
     let chunks = c.loop-from.chunks in
+    let long_chunks = c.loop-from.auto.chunks ∙ c.requires.chunks in
     let places = c.loop-from.places in
+    let long_places = c.loop-from.auto.places ∙ c.requires.places in
     let some = c.write_some_homes.new.chunks in
     let also = c.write_some_homes.new.places in
-    let edge = λ (d : ℕ). slice_index_or (map non_zero_u64_get c.args.edges.now) d 0 in
-    let fits = mul-le-mul_right width within in
-    let starts = mul-le-mul_right width ascend in
-    let turned = mul_comm width c.args.count in
-    let long_chunks = c.loop-from.auto.chunks ∙ c.requires.chunks in
-    let long_places = c.loop-from.auto.places ∙ c.requires.places in
-    let room : from * width ≤ length chunks = omega arith in
-    let places_room : from * width ≤ length places = omega arith in
-    let long = c.write_some_homes.auto.chunks ∙ long_slice width c.args.count from to chunks ascend within long_chunks in
-    let places_long = c.write_some_homes.auto.places ∙ long_slice width c.args.count from to places ascend within long_places in
-    let all = put_mid (from * width) (to * width - from * width) chunks some in
-    let all_places = put_mid (from * width) (to * width - from * width) places also in
+    let long = c.write_some_homes.auto.chunks ∙ long_slice width count from to chunks ascend within long_chunks in
+    let room = starts_within width count from to chunks ascend within long_chunks in
     record {
       within = within;
-      divided = λ d inside k less. ⊎_elim
-          (λ (earlier : k < from).
-          rw (number_before width from to ascend d inside chunks some long room k earlier) (c.loop-from.invariant.divided d inside k earlier))
-          (λ (behind : from ≤ k).
-          let is : from + (k - from) ≡ k = omega arith in
-          let here : k - from < to - from = omega arith in
-          let wrote = subst (λ index. IsQuotient index (edge d) (number_in width some (k - from) d))
-          (number_of_some width from to ascend d inside indices (k - from) here) (c.write_some_homes.ensures.divided d inside (k - from) here) in
-          subst (λ n. IsQuotient (number_in width indices n d) (edge d) (number_in width all n d)) is
-          (rw (number_written width from to ascend d inside chunks some long room (k - from) here) wrote))
-          (cases_lt k from);
-      placed = λ d inside k less. ⊎_elim
-          (λ (earlier : k < from).
-          rw (
-            number_before width from to ascend d inside chunks some long room k earlier,
-            number_before width from to ascend d inside places also places_long places_room k earlier,
-          ) (c.loop-from.invariant.placed d inside k earlier))
-          (λ (behind : from ≤ k).
-          let is : from + (k - from) ≡ k = omega arith in
-          let here : k - from < to - from = omega arith in
-          let wrote = c.write_some_homes.ensures.placed d inside (k - from) here ∙ number_of_some width from to ascend d inside indices (k - from) here in
-          subst (λ n. number_in width all n d * edge d + number_in width all_places n d ≡ number_in width indices n d) is
-          (rw (
-            number_written width from to ascend d inside chunks some long room (k - from) here,
-            number_written width from to ascend d inside places also places_long places_room (k - from) here,
-          ) wrote))
-          (cases_lt k from);
+      divided = λ d inside. some_more width from to ascend d inside (λ k x. IsQuotient (number_in width indices k d) (edge d) x) chunks some long room
+          (c.loop-from.invariant.divided d inside)
+          (λ k less. subst (λ index. IsQuotient index (edge d) (number_in width some k d))
+          (number_of_some width from to ascend d inside indices k less) (c.write_some_homes.ensures.divided d inside k less));
+      placed = λ d inside. both_some_more width from to ascend d inside (λ k x p. x * edge d + p ≡ number_in width indices k d)
+          chunks some places also long (c.write_some_homes.auto.places ∙ long_slice width count from to places ascend within long_places) room
+          (starts_within width count from to places ascend within long_places) (c.loop-from.invariant.placed d inside)
+          (λ k less. c.write_some_homes.ensures.placed d inside k less ∙ number_of_some width from to ascend d inside indices k less);
     }
