@@ -40,7 +40,7 @@ impl Divisor {
 
     /// How often the divisor is in a number, and what is left.
     ///
-    /// It takes two products and two shifts, and no division.
+    /// It takes two products, a sum, a difference and two shifts, and no division.
     pub fn div_rem(&self, number: u64) -> (u64, u64)
         ensures { IsDivision number (divisor_of self.now) result.0 result.1 }
     {
@@ -50,7 +50,7 @@ impl Divisor {
 
     /// How often the divisor is in a number.
     ///
-    /// It takes a product and two shifts, and no division.
+    /// It takes a product, a sum and two shifts, and no division.
     pub fn div(&self, number: u64) -> u64
         ensures { IsQuotient number (divisor_of self.now) result }
     {

@@ -1,5 +1,5 @@
 -- The chunks and places of elements in a grid whose chunks have one edge along each dimension.
-use Rattle.std.proofs.Common.{◌≡◌, ◌∙◌, ℕ, suc, ◌+◌, ◌*◌, ◌<◌, List, [], ◌∷◌, drop, get_or, length, map, replicate, slice_index_or, inl, sym}
+use Rattle.std.proofs.Common.{◌≡◌, ◌∙◌, ℕ, suc, ◌+◌, ◌*◌, ◌<◌, List, [], ◌∷◌, drop, get_or, length, map, replicate, inl, sym}
 use Rattle.std.proofs.Common.{arith}
 use Rattle.std.proofs.Math.Nat.{mul_comm}
 use Rattle.std.proofs.lemmas.List.{get_or-drop, get_or-replicate, get_or-take, length-drop, length-map, length-replicate, length-take-le}
@@ -11,7 +11,7 @@ use Rattle.zarrs_chunk_base.proofs.InEach.{length_values}
 use Rattle.zarrs_chunks_c.specs.Batch.{list_at}
 use Rattle.zarrs_chunks_c.specs.GridCalls.{AreChunksOf, AreHomesOf}
 use Rattle.zarrs_chunk_division.specs.Division.{IsQuotient}
-use Rattle.zarrs_chunks_c.specs.seen.Strides.{AreQuotients, AreRests, number_in}
+use Rattle.zarrs_chunks_c.specs.seen.Strides.{AreDivided, ArePlaced, number_in}
 use Rattle.zarrs_chunks_c.proofs.EachList.{ends_before}
 
 -- in each dimension the index lies in the chunk that is its quotient
@@ -70,7 +70,7 @@ width_is ds edges equal =
 
 module _ (ds : List Dimension) (edges : List ℕ) (equal : HaveEqualEdges ds edges) (count : ℕ) (indices chunks : List ℕ)
     (indices_long : length indices ≡ length ds * count) (chunks_long : length chunks ≡ length ds * count)
-    (quotients : (d : ℕ) → d < length ds → AreQuotients (length ds) count d (slice_index_or edges d 0) indices chunks) where
+    (quotients : AreDivided (length ds) count edges indices chunks) where
   width : length edges ≡ length ds
   width = length_values IsEqualEdges ds (array_sizes ds) edges equal
 
@@ -90,7 +90,7 @@ module _ (ds : List Dimension) (edges : List ℕ) (equal : HaveEqualEdges ds edg
 
   -- and its place
   pub homes_answered : (places : List ℕ) → length places ≡ length ds * count
-      → ((d : ℕ) → d < length ds → AreRests (length ds) count d (slice_index_or edges d 0) indices chunks places)
+      → ArePlaced (length ds) count edges indices chunks places
       → AreHomesOf ds indices chunks places (replicate count 1)
   homes_answered places places_long rests k less =
       let within : k < count = omega (arith, length-replicate {A = ℕ} count 1) in

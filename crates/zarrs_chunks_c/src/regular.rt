@@ -1,17 +1,17 @@
 //! The chunks and places of elements in a `regular` grid, whose chunks have one edge along each dimension: a loop for each dimension, without a
 //! division in it.
 ghost use Rattle.std.specs.Int.NonZero.{non_zero_u64_get};
-ghost use Rattle.std.specs.Prelude.{◌≡◌, ℕ, ◌*◌, ◌<◌, length, map, slice_index_or};
+ghost use Rattle.std.specs.Prelude.{◌≡◌, ◌*◌, ◌<◌, length, map};
 ghost use Rattle.zarrs_chunks.specs.seen.Grids.{regular_of};
 ghost use Rattle.zarrs_chunks_c.specs.Batch.{AreKept};
 ghost use Rattle.zarrs_chunks_c.specs.GridCalls.{AreChunksOf, AreHomesOf};
-ghost use Rattle.zarrs_chunks_c.specs.seen.Strides.{AreEarlierKept, AreQuotients, AreRests};
+ghost use Rattle.zarrs_chunks_c.specs.seen.Strides.{AreDivided, AreEarlierKept, ArePlaced, AreQuotients, AreRests};
 
 use std::num::NonZeroU64;
 use zarrs_chunk_division::Divisor;
 use zarrs_chunks::RegularChunkGrid;
 
-/// How many lists are gone through along each dimension before the next ones are, so that they stay near the processor.
+/// How many lists a batch goes through along each dimension before it goes on to the next ones: few enough to stay in the processor's cache.
 const LISTS_AT_A_TIME: usize = 512;
 
 /// Answers in which chunk each element lies: one for each mark, which becomes 1, since each element has one.
@@ -59,13 +59,12 @@ pub(crate) fn answer_homes(
     found.fill(1);
 }
 
-/// Writes the chunk of each of so many elements, of which there are lists of indices, some after others.
+/// Writes the chunk of each of so many elements, some of them at a time.
 fn write_chunks(edges: &[NonZeroU64], count: usize, indices: &[u64], chunks: &mut [u64])
     requires indices { length indices.now ≡ length edges.now * count }
     requires chunks { length chunks.old ≡ length edges.now * count }
-    ensures { (dimension : ℕ) → dimension < length edges.now
-        → AreQuotients (length edges.now) count dimension
-        (slice_index_or (map non_zero_u64_get edges.now) dimension 0) indices.now chunks.new }
+    ensures { AreDivided (length edges.now) count
+        (map non_zero_u64_get edges.now) indices.now chunks.new }
 {
     let width = edges.len();
     let mut from = 0;
@@ -82,20 +81,19 @@ fn write_chunks(edges: &[NonZeroU64], count: usize, indices: &[u64], chunks: &mu
     }
 }
 
-/// Writes the chunk of each of so many elements, of which there are lists of indices, along each dimension.
+/// Writes the chunk of each of so many elements, along one dimension after another.
 fn write_some_chunks(edges: &[NonZeroU64], count: usize, indices: &[u64], chunks: &mut [u64])
     requires indices { length indices.now ≡ length edges.now * count }
     requires chunks { length chunks.old ≡ length edges.now * count }
-    ensures { (dimension : ℕ) → dimension < length edges.now
-        → AreQuotients (length edges.now) count dimension
-        (slice_index_or (map non_zero_u64_get edges.now) dimension 0) indices.now chunks.new }
+    ensures { AreDivided (length edges.now) count
+        (map non_zero_u64_get edges.now) indices.now chunks.new }
 {
     for (dimension, edge) in edges.iter().enumerate() {
         divide_dimension(*edge, edges.len(), count, dimension, indices, chunks);
     }
 }
 
-/// Writes the chunk and the place of each of so many elements, of which there are lists of indices, some after others.
+/// Writes the chunk and the place of each of so many elements, some of them at a time.
 fn write_homes(
     edges: &[NonZeroU64],
     count: usize,
@@ -106,13 +104,10 @@ fn write_homes(
     requires indices { length indices.now ≡ length edges.now * count }
     requires chunks { length chunks.old ≡ length edges.now * count }
     requires places { length places.old ≡ length edges.now * count }
-    ensures divided { (dimension : ℕ) → dimension < length edges.now
-        → AreQuotients (length edges.now) count dimension
-        (slice_index_or (map non_zero_u64_get edges.now) dimension 0) indices.now chunks.new }
-    ensures placed { (dimension : ℕ) → dimension < length edges.now
-        → AreRests (length edges.now) count dimension
-        (slice_index_or (map non_zero_u64_get edges.now) dimension 0)
-        indices.now chunks.new places.new }
+    ensures divided { AreDivided (length edges.now) count
+        (map non_zero_u64_get edges.now) indices.now chunks.new }
+    ensures placed { ArePlaced (length edges.now) count
+        (map non_zero_u64_get edges.now) indices.now chunks.new places.new }
 {
     let width = edges.len();
     let mut from = 0;
@@ -130,7 +125,7 @@ fn write_homes(
     }
 }
 
-/// Writes the chunk and the place of each of so many elements, of which there are lists of indices, along each dimension.
+/// Writes the chunk and the place of each of so many elements, along one dimension after another.
 fn write_some_homes(
     edges: &[NonZeroU64],
     count: usize,
@@ -141,13 +136,10 @@ fn write_some_homes(
     requires indices { length indices.now ≡ length edges.now * count }
     requires chunks { length chunks.old ≡ length edges.now * count }
     requires places { length places.old ≡ length edges.now * count }
-    ensures divided { (dimension : ℕ) → dimension < length edges.now
-        → AreQuotients (length edges.now) count dimension
-        (slice_index_or (map non_zero_u64_get edges.now) dimension 0) indices.now chunks.new }
-    ensures placed { (dimension : ℕ) → dimension < length edges.now
-        → AreRests (length edges.now) count dimension
-        (slice_index_or (map non_zero_u64_get edges.now) dimension 0)
-        indices.now chunks.new places.new }
+    ensures divided { AreDivided (length edges.now) count
+        (map non_zero_u64_get edges.now) indices.now chunks.new }
+    ensures placed { ArePlaced (length edges.now) count
+        (map non_zero_u64_get edges.now) indices.now chunks.new places.new }
 {
     for (dimension, edge) in edges.iter().enumerate() {
         place_dimension(

@@ -17,6 +17,15 @@ AreRests width count dimension edge indices chunks places =
     (list : ℕ) → list < count
     → number_in width chunks list dimension * edge + number_in width places list dimension ≡ number_in width indices list dimension
 
+-- each list has the chunk of its indices, along each dimension by its own edge; and the place there
+abbrev pub AreDivided : (width count : ℕ) → (edges indices chunks : List ℕ) → Type 0
+AreDivided width count edges indices chunks =
+    (dimension : ℕ) → dimension < width → AreQuotients width count dimension (slice_index_or edges dimension 0) indices chunks
+
+abbrev pub ArePlaced : (width count : ℕ) → (edges indices chunks places : List ℕ) → Type 0
+ArePlaced width count edges indices chunks places =
+    (dimension : ℕ) → dimension < width → AreRests width count dimension (slice_index_or edges dimension 0) indices chunks places
+
 -- the numbers of the dimensions before this one are as they were
 abbrev pub AreEarlierKept : (width dimension : ℕ) → (before after : List ℕ) → Type 0
 AreEarlierKept width dimension before after =

@@ -1,7 +1,7 @@
-use Rattle.std.proofs.Common.{◌∙◌, ℕ, ◌<◌, length, map, slice_index_or, subst}
+use Rattle.std.proofs.Common.{◌∙◌, length, map, subst}
 use Rattle.std.specs.Int.NonZero.{non_zero_u64_get}
 use Rattle.zarrs_chunks.specs.seen.Grids.{regular_of}
-use Rattle.zarrs_chunks_c.specs.seen.Strides.{AreQuotients}
+use Rattle.zarrs_chunks_c.specs.seen.Strides.{AreDivided}
 use Rattle.zarrs_chunks_c.proofs.RegularHomes.{chunks_answered, width_is}
 use Rattle.zarrs_chunks_c.proofs.regular.answer_chunks.Goals as goal
 
@@ -18,7 +18,7 @@ returns-clause-answered c =
     let count = length c.args.found.now in
     let chunks = c.write_chunks.new.chunks in
     let quotients =
-    subst (λ width. (d : ℕ) → d < width → AreQuotients width count d (slice_index_or edges d 0) c.args.indices.now chunks)
+    subst (λ width. AreDivided width count edges c.args.indices.now chunks)
     (width_is ds c.chunk_shape.result.now c.chunk_shape.ensures) c.write_chunks.ensures in
     rw (c.fill.ensures.after (λ mark is. is))
     (chunks_answered ds edges c.chunk_shape.ensures count c.args.indices.now chunks c.requires.indices

@@ -1,7 +1,7 @@
-use Rattle.std.proofs.Common.{◌∙◌, ℕ, ◌<◌, length, map, slice_index_or, subst}
+use Rattle.std.proofs.Common.{◌∙◌, length, map, subst}
 use Rattle.std.specs.Int.NonZero.{non_zero_u64_get}
 use Rattle.zarrs_chunks.specs.seen.Grids.{regular_of}
-use Rattle.zarrs_chunks_c.specs.seen.Strides.{AreQuotients, AreRests}
+use Rattle.zarrs_chunks_c.specs.seen.Strides.{AreDivided, ArePlaced}
 use Rattle.zarrs_chunks_c.proofs.RegularHomes.{homes_answered, width_is}
 use Rattle.zarrs_chunks_c.proofs.regular.answer_homes.Goals as goal
 
@@ -23,10 +23,10 @@ returns-clause-answered c =
     let places = c.write_homes.new.places in
     let width = width_is ds c.chunk_shape.result.now c.chunk_shape.ensures in
     let quotients =
-    subst (λ width. (d : ℕ) → d < width → AreQuotients width count d (slice_index_or edges d 0) c.args.indices.now chunks) width
+    subst (λ width. AreDivided width count edges c.args.indices.now chunks) width
     c.write_homes.ensures.divided in
     let rests =
-    subst (λ width. (d : ℕ) → d < width → AreRests width count d (slice_index_or edges d 0) c.args.indices.now chunks places) width
+    subst (λ width. ArePlaced width count edges c.args.indices.now chunks places) width
     c.write_homes.ensures.placed in
     rw (c.fill.ensures.after (λ mark is. is))
     (homes_answered ds edges c.chunk_shape.ensures count c.args.indices.now chunks c.requires.indices

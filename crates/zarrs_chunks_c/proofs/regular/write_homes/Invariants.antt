@@ -1,6 +1,6 @@
-use Rattle.std.proofs.Common.{◌≤◌, ◌-◌, ℕ, ◌<◌, length, map, slice_index_or}
+use Rattle.std.proofs.Common.{◌-◌, ◌≤◌, length, map}
 use Rattle.std.specs.Int.NonZero.{non_zero_u64_get}
-use Rattle.zarrs_chunks_c.specs.seen.Strides.{AreQuotients, AreRests}
+use Rattle.zarrs_chunks_c.specs.seen.Strides.{AreDivided, ArePlaced}
 use Rattle.zarrs_chunks_c.proofs.regular.write_homes.Given as goal
 
 -- how many lists are left
@@ -11,8 +11,6 @@ decreases-loop-from l = l.count - l.from
 abbrev pub invariant-loop-from : goal.invariant-loop-from
 invariant-loop-from l = record {
   within : l.from ≤ l.count;
-  divided : (dimension : ℕ) → dimension < length l.edges
-      → AreQuotients (length l.edges) l.from dimension (slice_index_or (map non_zero_u64_get l.edges) dimension 0) l.indices l.chunks;
-  placed : (dimension : ℕ) → dimension < length l.edges
-      → AreRests (length l.edges) l.from dimension (slice_index_or (map non_zero_u64_get l.edges) dimension 0) l.indices l.chunks l.places;
+  divided : AreDivided (length l.edges) l.from (map non_zero_u64_get l.edges) l.indices l.chunks;
+  placed : ArePlaced (length l.edges) l.from (map non_zero_u64_get l.edges) l.indices l.chunks l.places;
 }

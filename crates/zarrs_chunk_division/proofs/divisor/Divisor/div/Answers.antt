@@ -15,7 +15,8 @@ returns c =
     high.ensures.least in
     let parts = dropped s.first_shift s.second_shift number high.result s.are_shifts within none in
     record {
-      from = not_more divisor s.multiplier _ number high.result is.more is.close (omega arith) (omega arith) high.ensures.least high.ensures.most _ parts.0;
+      from = not_more divisor s.multiplier _ number high.result is.more is.close (omega arith) (omega arith) high.ensures.least high.ensures.most _
+          parts.0;
       below = not_less divisor s.multiplier _ number high.result is.more is.close (omega arith) (omega arith) high.ensures.least high.ensures.most _
           parts.1;
     }
