@@ -9,6 +9,7 @@ pub mod FittingChunks
 pub mod Meeting
 pub mod NoFloats
 pub mod SeenGrids
+pub mod SingleElements
 pub mod Subsets
 pub mod UpTo
 pub mod WrittenLengths

@@ -9,18 +9,19 @@
 //!
 //! Unlike zarrs, no grid registers itself, no name has an alias, and no name is warned of: a grid of another crate is passed to
 //! functions over [`ChunkGridTraits`] as it is.
-ghost use Rattle.std.specs.Prelude.{◌≡◌, ◌↔◌, Contains, IfOk, IsErrAnd, IsTrue, MatchResult};
+ghost use Rattle.std.specs.Prelude.{◌≡◌, ◌↔◌, Contains, IfOk, IsErrAnd, IsTrue, MatchResult, map};
 ghost use Rattle.serde_json.specs.View.{members_view, view};
 ghost use Rattle.zarrs_chunk_base.specs.Dimension.{array_sizes};
 ghost use Rattle.zarrs_chunk_base.specs.Kinds.{IsConfigurationOf, IsMetadata, IsOf, names};
 ghost use Rattle.zarrs_chunk_base.specs.Metadata.{extension_of};
 ghost use Rattle.zarrs_chunk_base.specs.Refusal.{OrMemory};
+ghost use Rattle.zarrs_chunk_base.specs.RunLength.{rectilinear_edges};
 ghost use Rattle.zarrs_chunk_axes.specs.InBounds.{AreBelow, AreInBounds, AreIndicesInBounds};
 ghost use Rattle.zarrs_chunks.specs.GridKinds.{IsGridFault, IsGridIn, IsNoGridIn, grid_kind, grid_kinds};
 ghost use Rattle.zarrs_chunks.specs.declared.chunk_grid.named.ChunkGrid.TheVariants.{Rectangular, Rectilinear, Regular, RegularBounded};
 ghost use Rattle.zarrs_chunks.specs.seen.Grids.{chained_in, grid_in, kind_in};
 
-use super::over_axes::{configuration_inside, create_named};
+use super::over_axes::{OverAxes, configuration_inside, create_named};
 use super::rectangular::RectangularChunkGrid;
 use super::rectilinear::RectilinearChunkGrid;
 use super::regular::RegularChunkGrid;
@@ -29,7 +30,7 @@ use crate::{ChunkGridTraits, Home};
 use serde_json::Value;
 use std::alloc::{AllocError, Global};
 use zarrs_chunk_base::{
-    ArrayIndices, ArraySubset, ChunkShape, Configuration, ExtensionError,
+    ArrayIndices, ArraySubset, ChunkEdgeLengths, ChunkShape, Configuration, ExtensionError,
     IncompatibleDimensionalityError, MetadataV3, PluginCreateError, Refusal,
 };
 
@@ -133,6 +134,18 @@ impl ChunkGrid {
         let name = String::from_str(alloc, self.name())?;
         let configuration = self.configuration(alloc)?;
         Ok(MetadataV3::new(name, Some(configuration)))
+    }
+
+    /// The edges in each dimension, as a `rectilinear` grid has them: one edge for all chunks, or the edges of all chunks as run-length elements.
+    /// Of a `zarrs.regular_bounded` grid they are those of chunks that end within the array.
+    ///
+    /// # Errors
+    /// Out of memory.
+    pub fn edge_lengths(&self, alloc: Global) -> Result<Vec<ChunkEdgeLengths>, AllocError>
+        ensures { IfOk result (λ lengths. map rectilinear_edges lengths.items
+            ≡ (grid_in self.now).edges) }
+    {
+        inside!(self, grid => grid.edge_lengths(alloc))
     }
 
     /// A copy.

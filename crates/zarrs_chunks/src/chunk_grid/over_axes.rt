@@ -1,5 +1,5 @@
 //! The grids that are lists of axes, and what all of them answer.
-ghost use Rattle.std.specs.Prelude.{◌≡◌, ◌↔◌, IfOk, IsTrue, MatchResult};
+ghost use Rattle.std.specs.Prelude.{◌≡◌, ◌↔◌, IfOk, IsTrue, MatchResult, map};
 ghost use Rattle.std.specs.List.{AllByRecursion};
 ghost use Rattle.serde_json.specs.View.{members_view};
 ghost use Rattle.zarrs_chunk_base.specs.Dimension.{IsChain, array_sizes};
@@ -7,6 +7,7 @@ ghost use Rattle.zarrs_chunk_base.specs.Grid.{Grid};
 ghost use Rattle.zarrs_chunk_base.specs.Kinds.{IsConfigurationOf, IsFaultOf, IsMadeOf, IsOf};
 ghost use Rattle.zarrs_chunk_base.specs.Metadata.{extension_of};
 ghost use Rattle.zarrs_chunk_base.specs.Refusal.{OrMemory};
+ghost use Rattle.zarrs_chunk_base.specs.RunLength.{rectilinear_edges};
 ghost use Rattle.zarrs_chunk_axes.specs.InBounds.{AreBelow, AreInBounds, AreIndicesInBounds};
 ghost use Rattle.zarrs_chunk_axes.specs.seen.AxisGrid.{dimensions_of, edges_of};
 ghost use Rattle.zarrs_chunks.specs.GridKinds.{GridKind, IsGridFault, grid_kind};
@@ -18,7 +19,7 @@ use std::fmt;
 use std::fmt::Display;
 use zarrs_chunk_axes::{Axis, AxisGrid};
 use zarrs_chunk_base::{
-    ArrayIndices, ArrayShape, ArraySubset, ChunkShape, Configuration, InBrackets,
+    ArrayIndices, ArrayShape, ArraySubset, ChunkEdgeLengths, ChunkShape, Configuration, InBrackets,
     IncompatibleDimensionalityError, MetadataV3, PluginCreateError, Refusal,
 };
 
@@ -60,6 +61,11 @@ pub(crate) trait OverAxes: GridOfKind + Sized + Drop {
         ensures { IfOk result (λ c. IsConfigurationOf (grid_kind Self.kind)
             (array_sizes (Self.grid self.now).dimensions) (Self.grid self.now)
             (members_view c.entries)) };
+
+    /// The edges in each dimension, as a `rectilinear` grid has them.
+    fn edge_lengths(&self, alloc: Global) -> Result<Vec<ChunkEdgeLengths>, AllocError>
+        ensures { IfOk result (λ lengths. map rectilinear_edges lengths.items
+            ≡ (Self.grid self.now).edges) };
 
     /// Each of its dimensions is a chain.
     ghost axes_chained: { (grid : Self) → AllByRecursion IsChain (Self.grid grid).dimensions };

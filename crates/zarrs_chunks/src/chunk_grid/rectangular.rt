@@ -27,13 +27,14 @@ ghost use Rattle.zarrs_chunk_base.specs.Dimension.{array_sizes};
 ghost use Rattle.zarrs_chunk_axes.specs.lemmas.AcceptedOnce.{are_rectangular_once};
 ghost use Rattle.zarrs_chunk_axes.specs.seen.AxisGrid.{dimensions_of, edges_of};
 
+use super::edges::listed_lengths;
 use super::over_axes::{GridOfKind, OverAxes, write_incompatible};
 use std::alloc::{AllocError, Global};
 use std::error::Error;
 use std::fmt;
 use zarrs_chunk_axes::{AxisGrid, EqualOr, ListedAxis};
 use zarrs_chunk_base::{
-    ArrayShape, Configuration, ConfigurationForm, MetadataV3, PluginCreateError,
+    ArrayShape, ChunkEdgeLengths, Configuration, ConfigurationForm, MetadataV3, PluginCreateError,
     RectangularChunkGridConfiguration, RectangularChunkGridDimensionConfiguration, Refusal,
 };
 
@@ -147,6 +148,11 @@ impl OverAxes for RectangularChunkGrid {
             chunk_shape: self.axes.configurations(alloc)?,
         };
         configuration.to_tree(alloc)
+    }
+
+    fn edge_lengths(&self, alloc: Global) -> Result<Vec<ChunkEdgeLengths>, AllocError> {
+        let configurations = self.axes.configurations(alloc)?;
+        listed_lengths(alloc, &configurations)
     }
 }
 

@@ -192,6 +192,10 @@ impl OverAxes for RectilinearChunkGrid {
         };
         configuration.to_tree(alloc)
     }
+
+    fn edge_lengths(&self, alloc: Global) -> Result<Vec<ChunkEdgeLengths>, AllocError> {
+        self.axes.configurations(alloc)
+    }
 }
 
 /// The edges in each dimension.

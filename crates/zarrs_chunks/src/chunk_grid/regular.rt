@@ -26,15 +26,16 @@ ghost use Rattle.std.specs.Prelude.{◌≡◌, map};
 ghost use Rattle.std.specs.Int.NonZero.{non_zero_u64_get};
 ghost use Rattle.zarrs_chunk_axes.specs.seen.AxisGrid.{dimensions_of};
 
-use super::edges::edge_numbers;
+use super::edges::{edge_numbers, scalar_lengths};
 use super::over_axes::{GridOfKind, OverAxes, other};
 use std::alloc::{AllocError, Global};
 use std::num::NonZeroU64;
 use thiserror::Error;
 use zarrs_chunk_axes::{AxisGrid, EqualAxis};
 use zarrs_chunk_base::{
-    ArrayShape, ChunkShape, Configuration, ConfigurationForm, IncompatibleDimensionalityError,
-    MetadataV3, PluginCreateError, Refusal, RegularChunkGridConfiguration,
+    ArrayShape, ChunkEdgeLengths, ChunkShape, Configuration, ConfigurationForm,
+    IncompatibleDimensionalityError, MetadataV3, PluginCreateError, Refusal,
+    RegularChunkGridConfiguration,
 };
 
 /// A grid whose chunks all have one shape. Chunk numbers and indices past the array have their
@@ -165,6 +166,11 @@ impl OverAxes for RegularChunkGrid {
             chunk_shape: self.axes.configurations(alloc)?,
         };
         configuration.to_tree(alloc)
+    }
+
+    fn edge_lengths(&self, alloc: Global) -> Result<Vec<ChunkEdgeLengths>, AllocError> {
+        let edges = self.axes.configurations(alloc)?;
+        scalar_lengths(alloc, &edges)
     }
 }
 

@@ -22,12 +22,14 @@
 //! | Chunks | those that hold some element of the array; the last one ends where the array does |
 //! | A size of 0 | no chunk, so every look-up answers `None`; any index is in bounds, as in zarrs |
 //! | Differs from zarrs | the clipped edge is exact at every 64-bit number, where zarrs forms sums that can overflow |
+use super::edges::scalar_lengths;
 use super::over_axes::{GridOfKind, OverAxes, other};
 use std::alloc::{AllocError, Global};
 use zarrs_chunk_axes::{AxisGrid, BoundedAxis};
 use zarrs_chunk_base::{
-    ArrayShape, ChunkShape, Configuration, ConfigurationForm, IncompatibleDimensionalityError,
-    MetadataV3, PluginCreateError, Refusal, RegularBoundedChunkGridConfiguration,
+    ArrayShape, ChunkEdgeLengths, ChunkShape, Configuration, ConfigurationForm,
+    IncompatibleDimensionalityError, MetadataV3, PluginCreateError, Refusal,
+    RegularBoundedChunkGridConfiguration,
 };
 
 /// A grid whose chunks all have one shape, except that none reaches past the array. There are no chunks past
@@ -134,6 +136,11 @@ impl OverAxes for RegularBoundedChunkGrid {
             chunk_shape: self.axes.configurations(alloc)?,
         };
         configuration.to_tree(alloc)
+    }
+
+    fn edge_lengths(&self, alloc: Global) -> Result<Vec<ChunkEdgeLengths>, AllocError> {
+        let edges = self.axes.configurations(alloc)?;
+        scalar_lengths(alloc, &edges)
     }
 }
 
