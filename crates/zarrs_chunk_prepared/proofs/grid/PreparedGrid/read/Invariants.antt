@@ -1,0 +1,15 @@
+use Rattle.std.proofs.Common.{◌≡◌, ◌++◌, List, length, map}
+use Rattle.std.specs.List.{AllByRecursion, flat_map}
+use Rattle.zarrs_chunk_prepared.specs.Prepared.{HasAsMany, Table, row}
+use Rattle.zarrs_chunk_prepared.specs.seen.Axis.{table_of}
+use Rattle.zarrs_chunk_prepared.proofs.grid.PreparedGrid.read.Given as goal
+
+-- of the numbers of dimensions, those so far are read, and those of the others are left
+abbrev pub invariant-loop-axis : goal.invariant-loop-axis
+invariant-loop-axis l =
+    (tables : List Table) → AllByRecursion HasAsMany tables → l.initial.rest ≡ flat_map row tables
+    → (left : List Table) × (map table_of l.axes.items ++ left ≡ tables) × AllByRecursion HasAsMany left × (l.rest ≡ flat_map row left)
+
+-- how many numbers are left
+abbrev pub decreases-loop-axis : goal.decreases-loop-axis
+decreases-loop-axis l = length l.rest

@@ -1,0 +1,3 @@
+pub mod Axis
+pub mod PreparedGrid
+pub mod Ranges

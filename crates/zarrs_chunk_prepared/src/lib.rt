@@ -1,0 +1,9 @@
+//! A chunk grid as numbers in a buffer, which whoever asks keeps: they are written once, and read by each call, without making the grid again.
+#![tactic(auto)]
+
+mod axis;
+mod grid;
+mod read;
+mod search;
+
+pub use grid::PreparedGrid;
