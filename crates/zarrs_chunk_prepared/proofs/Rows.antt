@@ -1,8 +1,13 @@
 -- The numbers of a dimension, one list of them behind another.
-use Rattle.std.proofs.Common.{◌≡◌, ◌∙◌, ℕ, List, [], ◌∷◌, ◌++◌, ap, append_assoc, arith, drop, get_or, length, subst, sym, take}
+use Rattle.std.proofs.Common.{◌≡◌, ◌∙◌, ℕ, ◌<◌, List, [], ◌∷◌, ◌++◌, ap, append-nil, append_assoc, arith, drop, get_or, length, map, subst, sym, take}
+use Rattle.std.proofs.lemmas.List.{map-append}
 use Rattle.std.proofs.Math.Seq.{drop-append_seam, take-append_seam}
 use Rattle.std.specs.List.{IsSplitAt}
-use Rattle.zarrs_chunk_prepared.specs.Prepared.{HasAsMany, Table, row}
+use Rattle.std.specs.List.{AllByRecursion, AllZip, flat_map}
+use Rattle.zarrs_chunk_base.specs.Dimension.{Dimension}
+use Rattle.zarrs_chunk_prepared.specs.Prepared.{HasAsMany, IsTableOf, Table, row}
+use Rattle.zarrs_chunk_prepared.specs.declared.axis.PreparedAxis.{PreparedAxis}
+use Rattle.zarrs_chunk_prepared.specs.seen.Axis.{table_of}
 
 -- what is split where one list ends and the other begins
 pub split_front : (xs ys all front back : List ℕ) (n : ℕ) → all ≡ xs ++ ys → n ≡ length xs → IsSplitAt all n front back → (front ≡ xs) × (back ≡ ys)
@@ -45,3 +50,48 @@ is_read t behind numbers head after_head starts after_starts chunks after_chunks
       is_edges = is_edges;
       is_rest = after;
     }
+
+-- those that are read so far, and those that are left
+abbrev pub AreReadSoFar : List PreparedAxis → List ℕ → List Table → Type 0
+AreReadSoFar axes rest tables =
+    (left : List Table) × (map table_of axes ++ left ≡ tables) × AllByRecursion HasAsMany left × (rest ≡ flat_map row left)
+
+-- one dimension more
+pub one_more : (axes : List PreparedAxis) (axis : PreparedAxis) (rest behind : List ℕ) (tables : List Table) → AreReadSoFar axes rest tables
+    → length behind < length rest → ((t : Table) (more : List ℕ) → HasAsMany t → rest ≡ row t ++ more → (table_of axis ≡ t) × (behind ≡ more))
+    → AreReadSoFar (axes ++ axis ∷ []) behind tables
+one_more axes axis rest behind tables ([], so_far, long, is) shorter next =
+    absurd (let none : length rest ≡ 0 = ap length is in omega arith)
+one_more axes axis rest behind tables (t ∷ left, so_far, long, is) shorter next =
+    let (is_t, is_behind) = next t (flat_map row left) long.0 is in
+    let all : map table_of (axes ++ axis ∷ []) ++ left ≡ map table_of axes ++ (t ∷ left) =
+    ap (λ ts. ts ++ left) (map-append table_of axes (axis ∷ [])) ∙ append_assoc (map table_of axes) (table_of axis ∷ []) left
+    ∙ ap (λ first. map table_of axes ++ (first ∷ left)) is_t in
+    (left, all ∙ so_far, long.1, is_behind)
+
+-- where no number is left, all are read
+pub all_read : (axes : List PreparedAxis) (rest : List ℕ) (tables : List Table) → length rest ≡ 0 → AreReadSoFar axes rest tables
+    → map table_of axes ≡ tables
+all_read axes rest tables none ([], so_far, long, is) = sym (append-nil (map table_of axes)) ∙ so_far
+all_read axes rest tables none (t ∷ left, so_far, long, is) =
+    absurd (let some : length rest ≡ length (flat_map row (t ∷ left)) = ap length is in omega arith)
+
+-- where some is left, it is a dimension's
+pub none_left : (axes : List PreparedAxis) (rest : List ℕ) (tables : List Table) → 0 < length rest → AreReadSoFar axes rest tables
+    → ((t : Table) (more : List ℕ) → HasAsMany t → rest ≡ row t ++ more → ⊥) → ⊥
+none_left axes rest tables some ([], so_far, long, is) next = let none : length rest ≡ 0 = ap length is in omega arith
+none_left axes rest tables some (t ∷ left, so_far, long, is) next = next t (flat_map row left) long.0 is
+
+-- the numbers of dimensions have as many of each kind
+pub all_long : (ds : List Dimension) (tables : List Table) → AllZip IsTableOf ds tables → AllByRecursion HasAsMany tables
+all_long [] [] are = tt
+all_long (d ∷ ds) (t ∷ tables) (is, are) = (is.long, all_long ds tables are)
+all_long [] (_ ∷ _) are = absurd are
+all_long (_ ∷ _) [] are = absurd are
+
+-- the first numbers of a grid, and those behind them
+pub read_head : (mark : ℕ) (tables : List Table) (numbers head rest : List ℕ) → numbers ≡ mark ∷ length tables ∷ flat_map row tables
+    → IsSplitAt numbers 2 head rest → (get_or head 1 0 ≡ length tables) × (rest ≡ flat_map row tables)
+read_head mark tables numbers head rest is split =
+    let (is_head, is_rest) = split_front (mark ∷ length tables ∷ []) (flat_map row tables) numbers head rest 2 is (omega arith) split in
+    (ap (λ h. get_or h 1 0) is_head, is_rest)

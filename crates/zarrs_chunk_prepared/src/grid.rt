@@ -6,7 +6,7 @@ ghost use Rattle.zarrs_chunk_prepared.specs.Prepared.{IsPreparedGrid};
 ghost use Rattle.zarrs_chunks.specs.Subsets.{HasNoHome};
 
 use crate::axis::PreparedAxis;
-use crate::read::next_axis;
+use crate::read::read_axes;
 use std::alloc::{AllocError, Global};
 use zarrs_chunk_base::IncompatibleDimensionalityError;
 
@@ -35,19 +35,19 @@ impl<'a> PreparedGrid<'a> {
         ensures { IfOk result (λ found. (grid : Grid) → IsPreparedGrid numbers.now grid
             → MatchOption found ⊥ (IsReadOf grid)) }
     {
-        let Some((head, mut rest)) = numbers.split_at_checked(2) else {
+        let Some((head, rest)) = numbers.split_at_checked(2) else {
             return Ok(None);
         };
-        let mut axes = Vec::new(alloc);
-        while let Some((axis, behind)) = next_axis(rest, look_ups) {
-            axes.push(axis)?;
-            rest = behind;
+        if head[0] != GRID_MARK {
+            return Ok(None);
         }
-        if head[0] == GRID_MARK && head[1] == axes.len() as u64 && rest.is_empty() {
-            Ok(Some(PreparedGrid { axes }))
-        } else {
-            Ok(None)
+        let Some(axes) = read_axes(alloc, rest, look_ups)? else {
+            return Ok(None);
+        };
+        if axes.len() as u64 != head[1] {
+            return Ok(None);
         }
+        Ok(Some(PreparedGrid { axes }))
     }
 
     /// The number of dimensions.

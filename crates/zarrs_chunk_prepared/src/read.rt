@@ -1,19 +1,47 @@
 //! Reading what the numbers of a prepared grid tell of each dimension.
 ghost use Rattle.std.specs.Option.{ForSome};
-ghost use Rattle.std.specs.Prelude.{◌≡◌, ◌++◌, ◌<◌, ℕ, List, IfSome, MatchOption, length, slice_index_or};
+ghost use Rattle.std.specs.Prelude.{◌≡◌, ◌++◌, ◌<◌, ℕ, List, IfOk, IfSome, MatchOption, length, map, slice_index_or};
+ghost use Rattle.std.specs.List.{AllByRecursion, flat_map};
 ghost use Rattle.zarrs_chunk_division.specs.seen.Divisor.{divisor_of};
 ghost use Rattle.zarrs_chunk_prepared.specs.Prepared.{HasAsMany, Table, row};
 ghost use Rattle.zarrs_chunk_prepared.specs.seen.Axis.{table_of};
 
 use crate::axis::PreparedAxis;
+use std::alloc::{AllocError, Global};
 use std::num::NonZeroU64;
 use zarrs_chunk_division::Divisor;
 
 /// From how many look-ups on it pays to make what divides by an edge.
 const MANY: usize = 16;
 
+/// The dimensions whose numbers these are, for so many look-ups. `None` where some numbers are left that are too few for one more.
+///
+/// # Errors
+/// Out of memory.
+pub(crate) fn read_axes(
+    alloc: Global,
+    numbers: &[u64],
+    look_ups: usize,
+) -> Result<Option<Vec<PreparedAxis<'_>>>, AllocError>
+    ensures { IfOk result (λ found. (tables : List Table) → AllByRecursion HasAsMany tables
+        → numbers.now ≡ flat_map row tables
+        → MatchOption found ⊥ (λ axes. map table_of axes.items ≡ tables)) }
+{
+    let mut axes = Vec::new(alloc);
+    let mut rest = numbers;
+    while let Some((axis, behind)) = next_axis(rest, look_ups) {
+        axes.push(axis)?;
+        rest = behind;
+    }
+    if rest.is_empty() {
+        Ok(Some(axes))
+    } else {
+        Ok(None)
+    }
+}
+
 /// The dimension whose numbers come next, for so many look-ups, and the numbers behind them. `None` where there are fewer than it has.
-pub(crate) fn next_axis(numbers: &[u64], look_ups: usize) -> Option<(PreparedAxis<'_>, &[u64])>
+fn next_axis(numbers: &[u64], look_ups: usize) -> Option<(PreparedAxis<'_>, &[u64])>
     ensures next { (t : Table) (behind : List ℕ) → HasAsMany t → numbers.now ≡ row t ++ behind
         → MatchOption result ⊥ (λ next. (table_of next.0 ≡ t) × (next.1.now ≡ behind)) }
     ensures shorter { IfSome result (λ next. length next.1.now < length numbers.now) }
