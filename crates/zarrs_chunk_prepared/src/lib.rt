@@ -3,6 +3,7 @@
 
 mod axis;
 mod grid;
+mod homes;
 mod read;
 mod search;
 
