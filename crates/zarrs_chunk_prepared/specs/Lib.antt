@@ -1,2 +1,3 @@
+pub mod LookedUp
 pub mod Prepared
 pub mod seen

@@ -1,11 +1,13 @@
 //! A prepared grid, and what it answers of lists of numbers.
-ghost use Rattle.std.specs.Prelude.{◌≡◌, ◌≤◌, ◌<◌, ◌⊎◌, ℕ, IfOk, MatchOption, MatchResult, cond, false, length, map};
-ghost use Rattle.zarrs_chunk_base.specs.Dimension.{InBox, IsPlace, grid_sizes};
+ghost use Rattle.std.specs.Prelude.{◌≡◌, ◌≢◌, IfOk, MatchOption, MatchResult, OnErr, cond, false, length};
 ghost use Rattle.zarrs_chunk_base.specs.Grid.{Grid};
+ghost use Rattle.zarrs_chunk_base.specs.Refusal.{TellsLengths};
+ghost use Rattle.zarrs_chunk_prepared.specs.LookedUp.{AreRoomForHome, IsHomeIn};
 ghost use Rattle.zarrs_chunk_prepared.specs.Prepared.{IsPreparedGrid};
 ghost use Rattle.zarrs_chunks.specs.Subsets.{HasNoHome};
 
 use crate::axis::PreparedAxis;
+use crate::homes::{reach, write_home};
 use crate::read::read_axes;
 use std::alloc::{AllocError, Global};
 use zarrs_chunk_base::IncompatibleDimensionalityError;
@@ -55,5 +57,57 @@ impl<'a> PreparedGrid<'a> {
         ensures { result ≡ width_of self.now }
     {
         self.axes.len()
+    }
+
+    /// Writes the chunk that holds an element, and the element's place there, and answers whether there is one: a number each for each dimension.
+    /// `place` may be empty where the place isn't wanted. Where there is no chunk, nothing is written.
+    ///
+    /// # Errors
+    /// A list has another length than there are dimensions. Nothing is written.
+    pub fn find_home(
+        &self,
+        index: &[u64],
+        chunk: &mut [u64],
+        place: &mut [u64],
+    ) -> Result<bool, IncompatibleDimensionalityError>
+        ensures lengths { MatchResult result
+            (λ _. AreRoomForHome (width_of self.now) index.now chunk.old place.old)
+            (λ _. ¬ AreRoomForHome (width_of self.now) index.now chunk.old place.old) }
+        ensures home { (grid : Grid) → IsReadOf grid self.now → IfOk result (λ found. cond found
+            (IsHomeIn grid.dimensions index.now chunk.new place.new)
+            (HasNoHome grid.dimensions index.now)) }
+        ensures kept { IfOk result (λ found. found ≡ false
+            → (chunk.new ≡ chunk.old) × (place.new ≡ place.old)) }
+        ensures untouched { OnErr result ((chunk.new ≡ chunk.old) × (place.new ≡ place.old)) }
+    {
+        self.check(index.len())?;
+        self.check(chunk.len())?;
+        if !place.is_empty() {
+            self.check(place.len())?;
+        }
+        if !reach(&self.axes, index) {
+            return Ok(false);
+        }
+        write_home(&self.axes, index, chunk, place);
+        Ok(true)
+    }
+
+    /// Sees that a list has a number for each dimension.
+    ///
+    /// # Errors
+    /// It has more or fewer.
+    fn check(&self, length: usize) -> Result<(), IncompatibleDimensionalityError>
+        ensures { MatchResult result (λ _. length ≡ width_of self.now)
+            (λ error. (length ≢ width_of self.now)
+            × TellsLengths length (width_of self.now) error) }
+    {
+        if length == self.axes.len() {
+            Ok(())
+        } else {
+            Err(IncompatibleDimensionalityError::new(
+                length,
+                self.axes.len(),
+            ))
+        }
     }
 }
