@@ -1,3 +1,4 @@
+pub mod CountedCovers
 pub mod EachDimension
 pub mod Rows
 pub mod Tables

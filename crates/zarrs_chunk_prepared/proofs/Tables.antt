@@ -1,5 +1,7 @@
 -- What the numbers of a dimension tell of its chunks.
-use Rattle.std.proofs.Common.{◌≡◌, ℕ, ◌+◌, ◌-◌, ◌*◌, ◌<◌, ◌≤◌, List, get_or, length, min, MatchOption, None, Option, Some, ⊎_elim, arith, subst}
+use Rattle.std.proofs.Common.{true, false, sym, ◌≡◌, ℕ, ◌+◌, ◌-◌, ◌*◌, ◌<◌, ◌≤◌, List, get_or, length, min, MatchOption, None, Option, Some, ⊎_elim, arith, subst}
+use Rattle.std.proofs.lemmas.Bool.{false≢true}
+use Rattle.std.specs.Option.{is_some, unwrap_or}
 use Rattle.zarrs_chunk_axes.specs.LookUp.{HasRange}
 use Rattle.zarrs_chunk_base.specs.Dimension.{Dimension}
 use Rattle.zarrs_chunk_base.specs.Greatest.{greatest}
@@ -7,6 +9,22 @@ use Rattle.zarrs_chunk_division.specs.Division.{IsDivision}
 use Rattle.zarrs_chunk_prepared.specs.Prepared.{IsLastUpTo, IsOfRun, IsTableOf, LiesInRun, Table}
 use Rattle.zarrs_chunk_prepared.specs.seen.Ranges.{EndsNowhere, IsRange, end_in_run}
 use Rattle.zarrs_chunks.proofs.Chains.{at_most_start}
+
+-- what is found is there, and where nothing is, there is none
+pub none_found : {X : Type 0} (found : Option X) (None_is : Type 0) (Is : X → Type 0) → MatchOption found None_is Is → is_some found ≡ false → None_is
+none_found None None_is Is h none = h
+none_found (Some x) None_is Is h none = absurd (false≢true (sym none))
+
+pub some_found : {X : Type 0} (found : Option X) (None_is : Type 0) (Is : X → Type 0) → MatchOption found None_is Is → is_some found ≡ true
+    → (x : X) × Is x
+some_found None None_is Is h some = absurd (false≢true some)
+some_found (Some x) None_is Is h some = (x, h)
+
+-- where there is one, it is what is taken
+pub is_taken : {X : Type 0} (found : Option X) (d taken : X) (None_is : Type 0) (Is : X → Type 0) → MatchOption found None_is Is → (¬ None_is)
+    → taken ≡ unwrap_or found d → Is taken
+is_taken None d taken None_is Is h some is = absurd (some h)
+is_taken (Some x) d taken None_is Is h some is = rw is h
 
 -- the only number, which is 0, is the last one up to any
 pub only_one : (numbers : List ℕ) (n : ℕ) → length numbers ≡ 1 → get_or numbers 0 0 ≡ 0 → IsLastUpTo numbers n 0

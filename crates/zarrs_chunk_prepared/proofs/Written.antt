@@ -1,7 +1,7 @@
 -- Numbers that are written one dimension after another.
-use Rattle.std.proofs.Common.{◌≡◌, ◌≢◌, ◌∙◌, ℕ, ◌+◌, ◌<◌, ◌≤◌, List, ap, arith, get_or, length, map, set, slice_set, subst, sym, ⊎_elim}
+use Rattle.std.proofs.Common.{◌≡◌, ◌≢◌, ◌∙◌, ℕ, ◌+◌, ◌<◌, ◌≤◌, List, ap, arith, get_or, length, slice_set, subst, sym, ⊎_elim}
 use Rattle.std.proofs.lemmas.Bool.{cases_lt}
-use Rattle.std.proofs.lemmas.List.{get_or-map, get_or-set_other, get_or-set_same, length-set}
+use Rattle.std.proofs.lemmas.List.{get_or-map, get_or-set_other, get_or-set_same}
 use Rattle.zarrs_chunk_prepared.specs.declared.axis.PreparedAxis.{PreparedAxis}
 use Rattle.zarrs_chunk_prepared.specs.seen.Axis.{table_of}
 use Rattle.zarrs_chunk_prepared.specs.seen.PreparedGrid.{no_table, table_at}
@@ -21,7 +21,22 @@ one_more P n x numbers room so_far here k less =
     subst (λ j. P j (get_or (slice_set numbers n x) j 0)) at (rw (get_or-set_same numbers n x 0 room) here))
     (cases_lt k n)
 
--- the same of two kinds of numbers, the second as far as there is room
+-- the same of two kinds of numbers that have room
+pub two_more : (P : ℕ → ℕ → ℕ → Type 0) (n x y : ℕ) (numbers others : List ℕ) → n < length numbers → n < length others
+    → ((k : ℕ) → k < n → P k (get_or numbers k 0) (get_or others k 0)) → P n x y
+    → (k : ℕ) → k < n + 1 → P k (get_or (slice_set numbers n x) k 0) (get_or (slice_set others n y) k 0)
+two_more P n x y numbers others room others_room so_far here k less =
+    ⊎_elim
+    (λ (before : k < n).
+    let other : k ≢ n = λ same. absurd (omega arith) in
+    rw (get_or-set_other numbers n k x 0 other, get_or-set_other others n k y 0 other) (so_far k before))
+    (λ (from : n ≤ k).
+    let at : n ≡ k = omega arith in
+    subst (λ j. P j (get_or (slice_set numbers n x) j 0) (get_or (slice_set others n y) j 0)) at
+    (rw (get_or-set_same numbers n x 0 room, get_or-set_same others n y 0 others_room) here))
+    (cases_lt k n)
+
+-- the same where the second kind has room for some only
 pub both_more : (P : ℕ → ℕ → ℕ → Type 0) (n x y : ℕ) (numbers others after : List ℕ) → n < length numbers
     → (n < length others → after ≡ slice_set others n y) → (length others ≤ n → after ≡ others)
     → ((k : ℕ) → k < n → k < length others → P k (get_or numbers k 0) (get_or others k 0)) → P n x y
@@ -29,21 +44,8 @@ pub both_more : (P : ℕ → ℕ → ℕ → Type 0) (n x y : ℕ) (numbers othe
 both_more P n x y numbers others after room written kept so_far here k less within =
     ⊎_elim
     (λ (has : n < length others).
-    let long : k < length others = omega (arith, ap length (written has), length-set others n y) in
-    rw (written has) (one_more_of_two has k less long))
+    rw (written has) (two_more P n x y numbers others room has (λ j before. so_far j before (omega arith)) here k less))
     (λ (none : length others ≤ n).
     let long : k < length others = omega (arith, ap length (kept none)) in
     rw (kept none, get_or-set_other numbers n k x 0 (λ same. absurd (omega arith))) (so_far k (omega arith) long))
-    (cases_lt n (length others)) where
-      one_more_of_two : n < length others → (k : ℕ) → k < n + 1 → k < length others
-          → P k (get_or (slice_set numbers n x) k 0) (get_or (slice_set others n y) k 0)
-      one_more_of_two has k less long =
-          ⊎_elim
-          (λ (before : k < n).
-          let other : k ≢ n = λ same. absurd (omega arith) in
-          rw (get_or-set_other numbers n k x 0 other, get_or-set_other others n k y 0 other) (so_far k before long))
-          (λ (from : n ≤ k).
-          let at : n ≡ k = omega arith in
-          subst (λ j. P j (get_or (slice_set numbers n x) j 0) (get_or (slice_set others n y) j 0)) at
-          (rw (get_or-set_same numbers n x 0 room, get_or-set_same others n y 0 has) here))
-          (cases_lt k n)
+    (cases_lt n (length others))

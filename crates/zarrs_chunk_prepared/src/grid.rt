@@ -1,16 +1,19 @@
 //! A prepared grid, and what it answers of lists of numbers.
-ghost use Rattle.std.specs.Prelude.{◌≡◌, ◌≢◌, IfOk, MatchOption, MatchResult, OnErr, cond, false, length};
+ghost use Rattle.std.specs.Prelude.{◌≡◌, ◌≢◌, IfErr, IfOk, MatchOption, MatchResult, OnErr, OnOk, cond, false, length};
 ghost use Rattle.zarrs_chunk_base.specs.Grid.{Grid};
-ghost use Rattle.zarrs_chunk_base.specs.Refusal.{TellsLengths};
-ghost use Rattle.zarrs_chunk_prepared.specs.LookedUp.{AreRoomForHome, IsHomeIn};
+ghost use Rattle.zarrs_chunk_base.specs.Dimension.{grid_sizes};
+ghost use Rattle.zarrs_chunk_base.specs.Refusal.{OrMemory, TellsLengths};
+ghost use Rattle.zarrs_chunk_prepared.specs.LookedUp.{AreAsLong, AreRoomForHome, HasNoCover, IsCoverOf, IsHomeIn};
 ghost use Rattle.zarrs_chunk_prepared.specs.Prepared.{IsPreparedGrid};
-ghost use Rattle.zarrs_chunks.specs.Subsets.{HasNoHome};
+ghost use Rattle.zarrs_chunks.specs.Subsets.{HasNoBox, HasNoHome, Spans};
 
 use crate::axis::PreparedAxis;
+use crate::boxes::{have_ranges, write_box};
+use crate::covers::{count_from, find_chunks, write_sizes};
 use crate::homes::{reach, write_home};
 use crate::read::read_axes;
 use std::alloc::{AllocError, Global};
-use zarrs_chunk_base::IncompatibleDimensionalityError;
+use zarrs_chunk_base::{ArraySubset, IncompatibleDimensionalityError, Refusal};
 
 /// The number by which those of a grid are told from others: `zarrgrid` in ASCII.
 pub(crate) const GRID_MARK: u64 = 0x7a61_7272_6772_6964;
@@ -92,6 +95,111 @@ impl<'a> PreparedGrid<'a> {
         Ok(true)
     }
 
+    /// Writes where a chunk starts and how long it is, and answers whether it is a chunk that ends at 18446744073709551615 or before: a number each
+    /// for each dimension. Where it isn't, nothing is written.
+    ///
+    /// # Errors
+    /// A list has another length than there are dimensions. Nothing is written.
+    pub fn find_box(
+        &self,
+        chunk: &[u64],
+        origin: &mut [u64],
+        shape: &mut [u64],
+    ) -> Result<bool, IncompatibleDimensionalityError>
+        ensures lengths { MatchResult result
+            (λ _. AreAsLong (width_of self.now) chunk.now origin.old shape.old)
+            (λ _. ¬ AreAsLong (width_of self.now) chunk.now origin.old shape.old) }
+        ensures spans { (grid : Grid) → IsReadOf grid self.now → IfOk result (λ found. cond found
+            (Spans grid.dimensions chunk.now chunk.now
+            (record { start = origin.new; shape = shape.new }))
+            (HasNoBox grid.dimensions chunk.now)) }
+        ensures kept { IfOk result (λ found. found ≡ false
+            → (origin.new ≡ origin.old) × (shape.new ≡ shape.old)) }
+        ensures untouched { OnErr result ((origin.new ≡ origin.old) × (shape.new ≡ shape.old)) }
+    {
+        self.check_three(chunk.len(), origin.len(), shape.len())?;
+        if !have_ranges(&self.axes, chunk) {
+            return Ok(false);
+        }
+        write_box(&self.axes, chunk, origin, shape);
+        Ok(true)
+    }
+
+    /// Writes the cover of a box of elements: the first of the chunks that hold some of them, and how many such chunks there are along each dimension.
+    /// Answers whether the first and the last element lie in chunks; where one doesn't, nothing is written. The cover of an empty box is empty and
+    /// begins at 0.
+    ///
+    /// # Errors
+    /// The box or a list has another number of dimensions. Or out of memory. Nothing is written.
+    pub fn find_cover(
+        &self,
+        alloc: Global,
+        elements: &ArraySubset,
+        first: &mut [u64],
+        counts: &mut [u64],
+    ) -> Result<bool, Refusal<IncompatibleDimensionalityError>>
+        ensures lengths { IfOk result (λ _.
+            AreAsLong (width_of self.now) elements.now.start first.old counts.old) }
+        ensures refused { IfErr result (OrMemory (λ _.
+            ¬ AreAsLong (width_of self.now) elements.now.start first.old counts.old)) }
+        ensures cover { (grid : Grid) → IsReadOf grid self.now → IfOk result (λ found. cond found
+            (IsCoverOf grid.dimensions elements.now
+            (record { start = first.new; shape = counts.new }))
+            (HasNoCover grid.dimensions elements.now)) }
+        ensures kept { IfOk result (λ found. found ≡ false
+            → (first.new ≡ first.old) × (counts.new ≡ counts.old)) }
+        ensures untouched { OnErr result ((first.new ≡ first.old) × (counts.new ≡ counts.old)) }
+    {
+        self.check_three(elements.dimensionality(), first.len(), counts.len())
+            .map_err(Refusal::Refused)?;
+        let Some(last) = elements.end_inc(alloc)? else {
+            first.fill(0);
+            counts.fill(0);
+            return Ok(true);
+        };
+        if !find_chunks(&self.axes, elements.start(), &last, first, counts) {
+            return Ok(false);
+        }
+        count_from(first, counts);
+        Ok(true)
+    }
+
+    /// Writes how many chunks are counted along each dimension.
+    ///
+    /// # Errors
+    /// The list has another length than there are dimensions. Nothing is written.
+    pub fn write_grid_shape(&self, sizes: &mut [u64]) -> Result<(), IncompatibleDimensionalityError>
+        ensures lengths { MatchResult result (λ _. length sizes.old ≡ width_of self.now)
+            (λ _. length sizes.old ≢ width_of self.now) }
+        ensures sizes { (grid : Grid) → IsReadOf grid self.now
+            → OnOk result (sizes.new ≡ grid_sizes grid.dimensions) }
+        ensures untouched { OnErr result (sizes.new ≡ sizes.old) }
+    {
+        self.check(sizes.len())?;
+        write_sizes(&self.axes, sizes);
+        Ok(())
+    }
+
+    /// Sees that three lists have a number for each dimension.
+    ///
+    /// # Errors
+    /// One has more or fewer.
+    fn check_three(
+        &self,
+        one: usize,
+        other: usize,
+        third: usize,
+    ) -> Result<(), IncompatibleDimensionalityError>
+        ensures { MatchResult result
+            (λ _. (one ≡ width_of self.now) × (other ≡ width_of self.now) × (third ≡ width_of self.now))
+            (λ _. ¬ ((one ≡ width_of self.now) × (other ≡ width_of self.now)
+            × (third ≡ width_of self.now))) }
+    {
+        self.check(one)?;
+        self.check(other)?;
+        self.check(third)
+    }
+
     /// Sees that a list has a number for each dimension.
     ///
     /// # Errors
@@ -104,10 +212,7 @@ impl<'a> PreparedGrid<'a> {
         if length == self.axes.len() {
             Ok(())
         } else {
-            Err(IncompatibleDimensionalityError::new(
-                length,
-                self.axes.len(),
-            ))
+            Err(IncompatibleDimensionalityError::new(length, self.axes.len()))
         }
     }
 }

@@ -2,6 +2,8 @@
 #![tactic(auto)]
 
 mod axis;
+mod boxes;
+mod covers;
 mod grid;
 mod homes;
 mod read;

@@ -1,6 +1,7 @@
 -- How a prepared grid is seen that was read.
 use Rattle.std.specs.Prelude.{◌≡◌, ◌⊎◌, ℕ, ◌+◌, ◌<◌, ◌≤◌, List, [], length, map, slice_index_or}
 use Rattle.std.specs.List.{AllZip}
+use Rattle.zarrs_chunk_axes.specs.LookUp.{HasRange}
 use Rattle.zarrs_chunk_base.specs.Dimension.{Dimension, Holds}
 use Rattle.zarrs_chunk_base.specs.Grid.{Grid}
 use Rattle.zarrs_chunk_prepared.specs.Prepared.{IsTableOf, Table}
@@ -43,3 +44,13 @@ IsChunkIn t index chunk = (d : Dimension) → IsTableOf d t → Holds d chunk in
 
 abbrev pub IsPlaceIn : Table → (index chunk place : ℕ) → Type 0
 IsPlaceIn t index chunk place = (d : Dimension) → IsTableOf d t → d.start chunk + place ≡ index
+
+-- of that dimension, the chunk starts and is as long as a range tells; there is one; there is none
+abbrev pub IsRangeIn : Table → (chunk start size : ℕ) → Type 0
+IsRangeIn t chunk start size = (d : Dimension) → IsTableOf d t → HasRange d chunk (start, size)
+
+abbrev pub HasSomeRangeIn : Table → (chunk : ℕ) → Type 0
+HasSomeRangeIn t chunk = (d : Dimension) → IsTableOf d t → (range : ℕ × ℕ) × HasRange d chunk range
+
+abbrev pub HasNoRangeIn : Table → (chunk : ℕ) → Type 0
+HasNoRangeIn t chunk = (d : Dimension) → IsTableOf d t → (range : ℕ × ℕ) → ¬ HasRange d chunk range

@@ -1,4 +1,4 @@
-use Rattle.std.proofs.Common.{◌≡◌, below_more, get_or, subst, sym}
+use Rattle.std.proofs.Common.{below_more, get_or, subst, sym}
 use Rattle.zarrs_chunk_prepared.specs.seen.PreparedGrid.{Reaches, table_at}
 use Rattle.zarrs_chunk_prepared.proofs.Written.{table_is}
 use Rattle.zarrs_chunk_prepared.proofs.homes.reach.Goals as goal

@@ -1,4 +1,4 @@
-use Rattle.std.proofs.Common.{◌≡◌, refl}
+use Rattle.std.proofs.Common.{refl}
 use Rattle.zarrs_chunk_prepared.proofs.Rows.{is_read}
 use Rattle.zarrs_chunk_prepared.proofs.read.next_axis.Goals as goal
 

@@ -1,4 +1,4 @@
-use Rattle.std.proofs.Common.{◌≡◌, ◌∙◌, arith, length, refl}
+use Rattle.std.proofs.Common.{◌∙◌, arith, refl}
 use Rattle.zarrs_chunk_base.specs.Dimension.{Holds}
 use Rattle.zarrs_chunk_prepared.proofs.EachDimension.{as_many, in_each, is_place, no_home}
 use Rattle.zarrs_chunk_prepared.proofs.grid.PreparedGrid.find_home.Goals as goal
