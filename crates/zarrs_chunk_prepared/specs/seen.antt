@@ -1,3 +1,4 @@
 pub mod Axis
 pub mod PreparedGrid
 pub mod Ranges
+pub mod RunTable

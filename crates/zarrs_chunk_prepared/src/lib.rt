@@ -7,6 +7,7 @@ mod covers;
 mod grid;
 mod homes;
 mod read;
+mod run_table;
 mod search;
 
 pub use grid::PreparedGrid;
