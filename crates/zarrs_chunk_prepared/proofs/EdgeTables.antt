@@ -1,5 +1,5 @@
 -- The numbers of one edge for all chunks are those of their dimension.
-use Rattle.std.proofs.Common.{◌≡◌, ◌⊎◌, ℕ, zero, suc, ◌+◌, ◌-◌, ◌*◌, ◌<◌, ◌≤◌, [], ◌∷◌, arith, get_or, length, min, refl, subst, sym, IsTrue, ⊎_elim}
+use Rattle.std.proofs.Common.{◌≡◌, ◌∙◌, ◌++◌, Bool, true, false, List, ap, ℕ, zero, suc, ◌+◌, ◌-◌, ◌*◌, ◌<◌, ◌≤◌, [], ◌∷◌, arith, get_or, min, refl, subst, sym, IsTrue, ⊎_elim}
 use Rattle.std.proofs.Math.Nat.{mul-le-mul_right}
 use Rattle.std.proofs.lemmas.Bool.{cases_lt}
 use Rattle.std.proofs.lemmas.List.Sorted.{IsNonDecreasingBy-short}
@@ -7,8 +7,10 @@ use Rattle.zarrs_chunk_axes.specs.Bounded.{IsBounded}
 use Rattle.zarrs_chunk_axes.specs.EqualEdges.{IsEqualEdges}
 use Rattle.zarrs_chunk_axes.specs.LookUp.{HasRange}
 use Rattle.zarrs_chunk_base.specs.Dimension.{Dimension, Holds, IsChain}
+use Rattle.zarrs_chunk_base.specs.DimensionEdges.{equal}
 use Rattle.zarrs_chunk_base.specs.Greatest.{greatest}
-use Rattle.zarrs_chunk_prepared.specs.Prepared.{IsLastUpTo, IsOfRun, IsTableOf, LiesInRun, Table}
+use Rattle.zarrs_chunk_prepared.specs.Prepared.{IsLastUpTo, IsOfRun, IsTableOf, LiesInRun, Table, row}
+use Rattle.zarrs_chunk_prepared.specs.seen.RunTable.{IsCut}
 
 -- one run, up to the last index and the last chunk
 abbrev pub one_run : (grid_size last_index last_chunk edge : ℕ) → Table
@@ -131,3 +133,31 @@ empty_table d edge chain is = record {
   ranges = λ chunk run up_to found. absurd (let within = found.within in omega arith);
   no_range = λ chunk fit past range ranges. let none = (is.chunks chunk).0 ranges.start.chunk in omega arith;
 }
+
+-- the numbers that were appended are those of the dimension
+abbrev pub Appended : Dimension → (before after : List ℕ) → Type 0
+Appended d before after = (t : Table) × IsTableOf d t × (after ≡ before ++ row t)
+
+module _ (before after : List ℕ) (d : Dimension) (size count edge : ℕ) (bounded : Bool) (chain : IsChain d) (counts : count ≡ d.grid_size)
+    (positive : 0 < edge) (cut : IsCut bounded d size (equal edge)) where
+  pub appended_equal : bounded ≡ false → after ≡ before ++ (count ∷ greatest ∷ greatest ∷ 1 ∷ 0 ∷ 0 ∷ edge ∷ []) → Appended d before after
+  appended_equal unbounded is = (
+    one_run d.grid_size greatest greatest edge,
+    equal_table d size edge chain positive (rw unbounded at cut),
+    is ∙ ap (λ n. before ++ (n ∷ greatest ∷ greatest ∷ 1 ∷ 0 ∷ 0 ∷ edge ∷ [])) counts,
+  )
+
+  pub appended_empty : bounded ≡ true → size ≡ 0 → after ≡ before ++ (count ∷ 0 ∷ 0 ∷ 0 ∷ []) → Appended d before after
+  appended_empty ends none is = (
+    no_run d.grid_size,
+    empty_table d edge chain (rw (ends, none) at cut),
+    is ∙ ap (λ n. before ++ (n ∷ 0 ∷ 0 ∷ 0 ∷ [])) counts,
+  )
+
+  pub appended_bounded : bounded ≡ true → 0 < size → size ≤ greatest
+      → after ≡ before ++ (count ∷ (size - 1) ∷ (count - 1) ∷ 1 ∷ 0 ∷ 0 ∷ edge ∷ []) → Appended d before after
+  appended_bounded ends some fits is = (
+    one_run d.grid_size (size - 1) (d.grid_size - 1) edge,
+    bounded_table d size edge chain positive some fits (rw ends at cut),
+    is ∙ ap (λ n. before ++ (n ∷ (size - 1) ∷ (n - 1) ∷ 1 ∷ 0 ∷ 0 ∷ edge ∷ [])) counts,
+  )

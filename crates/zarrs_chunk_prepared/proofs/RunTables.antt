@@ -1,5 +1,5 @@
 -- The numbers of listed edges are those of their dimension.
-use Rattle.std.proofs.Common.{◌≡◌, ◌≢◌, ◌∙◌, ◌⊎◌, ◌++◌, ℕ, zero, suc, ◌+◌, ◌-◌, ◌*◌, ◌/◌, ◌%◌, ◌<◌, ◌≤◌, List, [], ◌∷◌, ap, arith, get_or, length, map, min, subst, sym, take, ⊎_elim}
+use Rattle.std.proofs.Common.{◌≡◌, ◌≢◌, ◌∙◌, ◌++◌, ℕ, zero, suc, ◌+◌, ◌-◌, ◌*◌, ◌/◌, ◌%◌, ◌<◌, ◌≤◌, List, [], ◌∷◌, ap, arith, get_or, length, map, refl, subst, sym, take, ⊎_elim}
 use Rattle.std.proofs.Math.Seq.{take-length}
 use Rattle.std.proofs.lemmas.Bool.{cases_lt}
 use Rattle.std.proofs.lemmas.List.{get_or_append_left, get_or_default, length-append, take_all, take-map}
@@ -15,10 +15,12 @@ use Rattle.zarrs_chunk_axes.proofs.ListedAxes.{sums_rise as edge_sums_rise}
 use Rattle.zarrs_chunk_base.specs.Dimension.{Dimension, Holds, IsChain}
 use Rattle.zarrs_chunk_base.specs.Greatest.{greatest}
 use Rattle.zarrs_chunk_runs.specs.Runs.{IsChunkOf, IsRunOf, edges_of_runs, run_of}
+use Rattle.zarrs_chunk_runs.specs.declared.run_edges.RunEdges.{RunEdges}
+use Rattle.zarrs_chunk_runs.specs.seen.RunEdges.{expanded, runs_of}
 use Rattle.zarrs_chunk_runs.specs.lemmas.Running.{IsFirstAbove, count_of_run, ends_of, size_of}
 use Rattle.zarrs_chunk_runs.proofs.Places.{chunk_end_of_run, chunks_fit, edge_found, end_of_run, home_found, length_ends, start_found}
 use Rattle.zarrs_chunk_runs.proofs.RunSums.{chunk_end_at, count_of_edges, end_at, sum_of_edges, sums_rise}
-use Rattle.zarrs_chunk_prepared.specs.Prepared.{IsLastUpTo, IsOfRun, IsTableOf, LiesInRun, Table}
+use Rattle.zarrs_chunk_prepared.specs.Prepared.{IsLastUpTo, IsOfRun, IsTableOf, LiesInRun, Table, row}
 use Rattle.zarrs_chunk_prepared.specs.seen.RunTable.{IsRunTable}
 
 -- more runs have no smaller sum, and no fewer chunks
@@ -250,3 +252,23 @@ module _ (runs : List (ℕ × ℕ)) (starts chunks edges : List ℕ) (are : IsRu
           let inside = (is.chunks chunk).0 has.start.chunk in
           ⊎_elim (λ (behind : length (edges_of_runs runs) - 1 < chunk). omega arith) (λ (none : length starts ≡ 0). none_starts none) past;
     }
+
+-- some edges have some
+some_length : (edges : List ℕ) → edges ≢ [] → 0 < length edges
+some_length [] some = absurd (some refl)
+some_length (_ ∷ _) some = omega arith
+
+-- the numbers that were appended are those of the dimension
+pub appended_runs : (kept : RunEdges) (starts chunks edges before after : List ℕ) (d : Dimension) (size count : ℕ) → IsChain d
+    → count ≡ d.grid_size → IsListed d size (expanded kept) → expanded kept ≢ [] → sum (expanded kept) ≤ greatest
+    → IsRunTable (runs_of kept) (length (runs_of kept)) starts chunks edges
+    → after ≡ before ++ (count ∷ (sum (expanded kept) - 1) ∷ (length (expanded kept) - 1) ∷ length (runs_of kept) ∷ (starts ++ (chunks ++ edges)))
+    → (t : Table) × IsTableOf d t × (after ≡ before ++ row t)
+appended_runs kept starts chunks edges before after d size count chain counts is some fits are appended =
+    let long = some_length (expanded kept) some in
+    let more = chunks_at_most kept.runs.items in (
+      table (runs_of kept) starts chunks edges are (positive_edge kept.runs.items) (omega arith) fits d size count chain counts is,
+      is_table (runs_of kept) starts chunks edges are (positive_edge kept.runs.items) (omega arith) fits d size count chain counts is,
+      appended
+          ∙ ap (λ n. before ++ (count ∷ (sum (expanded kept) - 1) ∷ (length (expanded kept) - 1) ∷ n ∷ (starts ++ (chunks ++ edges)))) (sym are.starts_long),
+    )

@@ -9,5 +9,7 @@ mod homes;
 mod read;
 mod run_table;
 mod search;
+mod write;
 
 pub use grid::PreparedGrid;
+pub use write::prepare;

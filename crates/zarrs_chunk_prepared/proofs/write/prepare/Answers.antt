@@ -1,0 +1,32 @@
+use Rattle.std.proofs.Common.{◌≡◌, ◌<◌, ◌^◌, arith, get_or, length, rules}
+use Rattle.zarrs_chunk_prepared.specs.Prepared.{grid_mark}
+use Rattle.zarrs_chunks.specs.seen.Grids.{grid_in}
+use Rattle.zarrs_chunk_prepared.proofs.GridTables.{all_tables, as_many_edges, one_table_more, told_at}
+use Rattle.zarrs_chunk_prepared.proofs.write.prepare.Goals as goal
+
+pub append_dimension-requires : goal.append_dimension-requires
+append_dimension-requires c =
+    let k = c.loop-dimension.dimension in
+    let edges = rw c.deref-edges-items.ensures.value at c.edges-item.is in
+    let within = rw c.deref-edges-items.ensures.value at c.loop-dimension-test.true in
+    let at = told_at c.args.grid.now c.in_ok-lengths.lengths.items k c.edges-item.result c.in_ok-lengths.ensures within edges in
+    let fits : get_or c.array_shape.result.now k 0 < 2 ^ 64 = search rules in
+    at.sum_fits (rw (← c.array_shape.ensures) (omega arith))
+
+pub loop-dimension-preserved : goal.loop-dimension-preserved
+loop-dimension-preserved c =
+    let k = c.loop-dimension.dimension in
+    let edges = rw c.deref-edges-items.ensures.value at c.edges-item.is in
+    let within = rw c.deref-edges-items.ensures.value at c.loop-dimension-test.true in
+    let at = told_at c.args.grid.now c.in_ok-lengths.lengths.items k c.edges-item.result c.in_ok-lengths.ensures within edges in
+    let appends = rw (c.array_shape.ensures, c.grid_shape.ensures, c.is_bounded-bounded.ensures) at c.in_ok-append_dimension.ensures in
+    one_table_more grid_mark (length c.deref-edges-items.result.now) (grid_in c.args.grid.now).dimensions k c.loop-dimension.numbers.items
+    c.append_dimension.new.numbers.items at.dimension c.loop-dimension.invariant at.next (appends at.dimension at.chain at.counts at.cut)
+
+pub returns : goal.returns
+returns c =
+    let ds = (grid_in c.args.grid.now).dimensions in
+    let many : length c.deref-edges-items.result.now ≡ length ds =
+    rw c.deref-edges-items.ensures.value (as_many_edges c.args.grid.now c.in_ok-lengths.lengths.items c.in_ok-lengths.ensures) in
+    all_tables grid_mark (length c.deref-edges-items.result.now) ds c.loop-dimension.dimension c.loop-dimension.numbers.items
+    c.loop-dimension.invariant (omega (arith, many, c.loop-dimension-test.false)) many
