@@ -1,11 +1,7 @@
-pub mod Answered
 pub mod Batches
-pub mod Covers
 pub mod EachList
 pub mod Ends
 pub mod Keys
 pub mod LongParts
 pub mod NotMade
 pub mod Planned
-pub mod RegularHomes
-pub mod Strides

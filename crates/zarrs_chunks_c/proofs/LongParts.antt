@@ -12,9 +12,9 @@ use Rattle.zarrs_chunk_plan.proofs.Plans.{covered_meet}
 use Rattle.zarrs_chunk_plan.specs.Plan.{IsPart, Meets}
 use Rattle.zarrs_chunk_plan.specs.declared.part.Part.{Part}
 use Rattle.zarrs_chunk_plan.specs.declared.numbered_parts.SomeParts.{SomeParts}
-use Rattle.zarrs_chunks_c.proofs.Covers.{none_is_not_empty}
+use Rattle.zarrs_chunks.proofs.Covers.{none_is_not_empty}
 use Rattle.zarrs_chunks_c.proofs.Planned.{count_is}
-use Rattle.zarrs_chunks_c.specs.Asked.{HasNoCover}
+use Rattle.zarrs_chunk_prepared.specs.LookedUp.{HasNoCover}
 use Rattle.zarrs_chunks_c.specs.seen.Parts.{AreFoundParts, IsLongPart}
 
 -- ---- lists

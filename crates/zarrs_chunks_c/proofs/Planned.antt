@@ -14,12 +14,12 @@ use Rattle.zarrs_chunk_plan.specs.declared.part.Part.{Part}
 use Rattle.zarrs_chunk_plan.specs.declared.numbered_parts.SomeParts.{SomeParts}
 use Rattle.zarrs_chunk_plan.proofs.Plans.{empty_or_some, none_in_zeros}
 use Rattle.zarrs_chunk_plan.proofs.Taken.{none_taken}
-use Rattle.zarrs_chunks_c.specs.Asked.{HasNoCover, IsCoverOf}
+use Rattle.zarrs_chunk_prepared.specs.LookedUp.{HasNoCover, IsCoverOf}
 use Rattle.zarrs_chunks_c.specs.Batch.{AreTexts}
 use Rattle.zarrs_chunks_c.specs.Parts.{AreListsKept, IsPartAt, IsPlanWith}
 use Rattle.zarrs_chunks_c.specs.declared.structs.PartBuffers.{PartBuffers}
 use Rattle.zarrs_chunks_c.specs.seen.Parts.{AreFoundParts, AreWrittenBelow, IsKeyOf, IsWritten}
-use Rattle.zarrs_chunks_c.proofs.Covers.{none_is_not_empty}
+use Rattle.zarrs_chunks.proofs.Covers.{none_is_not_empty}
 
 -- ---- what was found
 

@@ -17,6 +17,32 @@ pub record Call (X : Type 0) : Type 1 where
   -- what is asked is right, there is room for the answer, and it was written
   pub Answers : X → Type 0
 
+-- What is asked of an X, whoever says it: whether each buffer is as long as the others demand, what refuses it then, and what answers it.
+pub record Request (X : Type 0) : Type 1 where
+  pub Fits : X → Type 0
+  pub Refuses : X → Fault → Type 0
+  pub Answers : X → Type 0
+
+-- the call that asks it of what metadata say
+abbrev pub asks : {X : Type 0} (Misses : Fault → Type 0) (Says : X → Type 0) → Request X → Call X
+asks Misses Says request = record {
+  Misses = Misses;
+  Says = Says;
+  Fits = request.Fits;
+  Refuses = request.Refuses;
+  Answers = request.Answers;
+}
+
+-- How a request of a given X ends: with its answer, or with its first fault, or out of memory.
+abbrev pub IsEndFor : {X : Type 0} → Request X → X → End → Type 0
+IsEndFor request x end =
+    MatchResult end (λ _. request.Fits x × request.Answers x)
+    (λ fault. (fault ≡ Memory) ⊎ (((fault ≡ Length) × ¬ request.Fits x) ⊎ (request.Fits x × request.Refuses x fault)))
+
+-- the same of each X of which P holds
+abbrev pub EndsForEach : {X : Type 0} → (X → Type 0) → Request X → End → Type 0
+EndsForEach {X} P request end = (x : X) → P x → IsEndFor request x end
+
 -- The first fault of metadata and lengths: the metadata doesn't say what it should; or it does, and some buffer is longer or shorter.
 pub data IsEarlyFault {X : Type 0} (Misses : Fault → Type 0) (Says Fits : X → Type 0) (fault : Fault) : Type 0 where
   no_metadata : Misses fault → IsEarlyFault Misses Says Fits fault

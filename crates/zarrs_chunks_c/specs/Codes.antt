@@ -2,7 +2,7 @@
 use Rattle.std.specs.Prelude.{◌≡◌, ℕ, ◌==◌, if◌then◌else◌, ℤ, pos, negsuc, List, [], ◌∷◌, Result, Ok, Err, codes, slice_index_or}
 use Rattle.zarrs_chunk_base.specs.declared.extension_error.ExtensionError.TheVariants.{Create, Metadata}
 use Rattle.zarrs_chunks_c.specs.declared.codes.Fault.{Fault}
-use Rattle.zarrs_chunks_c.specs.declared.codes.Fault.TheVariants.{Memory, Length, NotJson, Extension, NotBox, Offsets, Short}
+use Rattle.zarrs_chunks_c.specs.declared.codes.Fault.TheVariants.{Memory, Length, NotJson, Extension, NotBox, NotPrepared, Offsets, Short}
 
 -- the version of the interface
 abbrev pub abi_version : ℤ
@@ -18,6 +18,7 @@ fault_code (Extension (Create _)) = negsuc 4
 fault_code NotBox = negsuc 5
 fault_code Offsets = negsuc 6
 fault_code Short = negsuc 7
+fault_code NotPrepared = negsuc 8
 
 -- the words of -1, -2 and so on, the codes of faults
 abbrev pub fault_words : List (List ℕ)
@@ -30,6 +31,7 @@ fault_words =
     ∷ codes "a box ends past 18446744073709551615"
     ∷ codes "offsets descend, or lie past the text"
     ∷ codes "the text of the answer is longer than its buffer"
+    ∷ codes "the numbers are not those of a prepared grid or encoding"
     ∷ []
 
 -- of what is no code

@@ -5,18 +5,18 @@ use Rattle.zarrs_chunk_keys.specs.ChunkKey.{Encoding}
 use Rattle.zarrs_chunks_c.specs.Batch.{IsTooLong, IsWhole}
 use Rattle.zarrs_chunks_c.specs.Calls.{Call}
 use Rattle.zarrs_chunks_c.specs.Codes.{code_words, fault_code}
-use Rattle.zarrs_chunks_c.specs.GridCalls.{RefusesNone, grid_call}
-use Rattle.zarrs_chunks_c.specs.KeyCalls.{encoding_call}
+use Rattle.zarrs_chunks_c.specs.GridCalls.{RefusesNone, grid_call, grid_request}
+use Rattle.zarrs_chunks_c.specs.KeyCalls.{encoding_call, encoding_request}
 use Rattle.zarrs_chunks_c.specs.declared.codes.Fault.{Fault}
 use Rattle.zarrs_chunks_c.specs.declared.codes.Fault.TheVariants.{Extension, Short}
 
 -- Why metadata says no grid: it ends as each call of a grid does. Of metadata that says one there are no words.
 abbrev pub grid_fault_call : (shape metadata : List ℕ) (needed : ℕ) → Call Grid
-grid_fault_call shape metadata needed = grid_call shape metadata [] 0 RefusesNone (λ _. needed ≡ 0)
+grid_fault_call shape metadata needed = grid_call shape metadata (grid_request [] 0 RefusesNone (λ _. needed ≡ 0))
 
 -- the same of an encoding
 abbrev pub encoding_fault_call : (metadata : List ℕ) (needed : ℕ) → Call Encoding
-encoding_fault_call metadata needed = encoding_call metadata (Unit {0}) RefusesNone (λ _. needed ≡ 0)
+encoding_fault_call metadata needed = encoding_call metadata (encoding_request (Unit {0}) RefusesNone (λ _. needed ≡ 0))
 
 -- What a code says. It is refused where that is longer than its buffer.
 abbrev pub words_call : (code : ℤ) (words : List ℕ) (needed : ℕ) → Call (Unit {0})

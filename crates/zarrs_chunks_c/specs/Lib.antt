@@ -7,5 +7,6 @@ pub mod GridCalls
 pub mod KeyCalls
 pub mod Parts
 pub mod PlanCall
+pub mod PreparedCalls
 pub mod Said
 pub mod seen

@@ -7,7 +7,7 @@ use Rattle.zarrs_chunk_base.specs.Dimension.{Dimension}
 use Rattle.zarrs_chunk_base.specs.Greatest.{greatest}
 use Rattle.zarrs_chunks.specs.Walks.{chunks_in}
 use Rattle.zarrs_chunk_plan.specs.Plan.{AreShared}
-use Rattle.zarrs_chunks_c.specs.Asked.{HasNoCover, IsCoverOf}
+use Rattle.zarrs_chunk_prepared.specs.LookedUp.{HasNoCover, IsCoverOf}
 use Rattle.zarrs_chunks_c.specs.Batch.{AreKeys, IsMarked, IsTooLong, IsWhole, list_at}
 use Rattle.zarrs_chunks_c.specs.KeyCalls.{AreTextLengths}
 use Rattle.zarrs_chunks_c.specs.declared.structs.PartBuffers.{PartBuffers}

@@ -5,7 +5,7 @@ ghost use Rattle.zarrs_chunks_c.specs.Codes.{Ends};
 ghost use Rattle.zarrs_chunks_c.specs.PlanCall.{answer_call};
 
 use crate::codes::{Fault, code_of};
-use crate::texts::write_text;
+use crate::buffers::write_front;
 use std::alloc::Global;
 use zarrs_chunk_questions::answer_within;
 
@@ -43,5 +43,5 @@ fn answer_line(
         *needed = usize::MAX;
         return Err(Fault::Short);
     };
-    write_text(&answer, line, needed)
+    write_front(&answer, line, needed)
 }

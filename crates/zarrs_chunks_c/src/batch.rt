@@ -4,18 +4,10 @@ ghost use Rattle.zarrs_chunks_c.specs.Batch.{AreAnswered, AreKept, list_at};
 ghost use Rattle.zarrs_chunks_c.specs.Calls.{AreQuestions, IsFirstWrong};
 ghost use Rattle.zarrs_chunks_c.specs.declared.codes.Fault.{Fault as AnyFault};
 ghost use Rattle.zarrs_chunks_c.specs.declared.codes.Fault.TheVariants.{Memory};
-ghost use Rattle.zarrs_chunks_c.specs.seen.Lists.{AreLong, HasList};
+ghost use Rattle.zarrs_chunks_c.specs.seen.Lists.{HasList};
 
 use crate::codes::Fault;
-use crate::lists::write_list;
 use std::alloc::Global;
-
-/// The two lists that answer a question.
-#[derive(Drop)]
-pub(crate) struct Answer {
-    pub(crate) first: Vec<u64>,
-    pub(crate) second: Vec<u64>,
-}
 
 /// Questions, numbered from 0, of a grid or of an encoding.
 pub(crate) trait Questions {
@@ -41,18 +33,25 @@ pub(crate) trait Questions {
     fn widths(&self) -> (usize, usize)
         ensures { result ≡ widths self.now };
 
-    /// Whether the question with this number has an answer, which is left in `answer`, whose memory is used again.
+    /// Writes the two lists that answer the question with this number, and answers whether there are any. Where there are none, nothing is written.
     ///
     /// # Errors
     /// What is asked is no question; or out of memory.
-    fn answer(&self, alloc: Global, number: usize, answer: &mut Answer) -> Result<bool, Fault>
-        requires { given self.now number }
+    fn answer(
+        &self,
+        alloc: Global,
+        number: usize,
+        first: &mut [u64],
+        second: &mut [u64],
+    ) -> Result<bool, Fault>
+        requires given { given self.now number }
+        requires first_long { length first.old ≡ (widths self.now).0 }
+        requires second_long { length second.old ≡ (widths self.now).1 }
         ensures answers { IfOk result (λ found. cond found
-            (answered self.now number answer.new.first.items answer.new.second.items)
+            (answered self.now number first.new second.new)
             (unanswered self.now number)) }
-        ensures long { IfOk result (λ found. cond found
-            (AreLong (widths self.now) answer.new.first.items answer.new.second.items)
-            (Unit {0})) }
+        ensures kept { IfOk result (λ found. found ≡ false
+            → (first.new ≡ first.old) × (second.new ≡ second.old)) }
         ensures asked { OnOk result (is_question self.now number) }
         ensures refused { IfErr result (λ told. (told ≡ Memory)
             ⊎ ((told ≡ fault self.now) × ¬ is_question self.now number)) };
@@ -85,13 +84,9 @@ pub(crate) fn answer_all<Q: Questions>(
         × IsFirstWrong (length found.new) (Q.is_question questions.now) wrong.new)) }
 {
     let widths = questions.widths();
-    let mut answer = Answer {
-        first: Vec::new(alloc),
-        second: Vec::new(alloc),
-    };
     for number in 0..found.len() {
         *wrong = number;
-        let is_found = answer_one(alloc, questions, widths, number, &mut answer, first, second)?;
+        let is_found = answer_one(alloc, questions, widths, number, first, second)?;
         found[number] = mark_of(is_found);
     }
     Ok(())
@@ -106,7 +101,6 @@ fn answer_one<Q: Questions>(
     questions: &Q,
     widths: (usize, usize),
     number: usize,
-    answer: &mut Answer,
     first: &mut [u64],
     second: &mut [u64],
 ) -> Result<bool, Fault>
@@ -127,12 +121,13 @@ fn answer_one<Q: Questions>(
     ensures other_second { (k : ℕ) → k ≢ number
         → list_at widths.1 second.new k ≡ list_at widths.1 second.old k }
 {
-    let found = questions.answer(alloc, number, answer)?;
-    if found {
-        write_list(first, widths.0, number, &answer.first);
-        write_list(second, widths.1, number, &answer.second);
-    }
-    Ok(found)
+    let (first_start, second_start) = (number * widths.0, number * widths.1);
+    questions.answer(
+        alloc,
+        number,
+        &mut first[first_start..first_start + widths.0],
+        &mut second[second_start..second_start + widths.1],
+    )
 }
 
 /// The mark of a question: 1 where it has an answer, and else 0.

@@ -24,6 +24,8 @@ pub(crate) enum Fault {
     Offsets,
     /// The answer is longer than its buffer. How long it is, is told.
     Short,
+    /// Numbers aren't those of a prepared grid, or of a prepared encoding.
+    NotPrepared,
 }
 
 impl Fault {
@@ -40,6 +42,7 @@ impl Fault {
             Fault::NotBox => -6,
             Fault::Offsets => -7,
             Fault::Short => -8,
+            Fault::NotPrepared => -9,
         }
     }
 }
@@ -68,6 +71,7 @@ pub(crate) fn words_of(code: i32) -> &'static str
         -6 => "a box ends past 18446744073709551615",
         -7 => "offsets descend, or lie past the text",
         -8 => "the text of the answer is longer than its buffer",
+        -9 => "the numbers are not those of a prepared grid or encoding",
         _ => "no call ends with this code",
     }
 }
@@ -100,6 +104,15 @@ impl From<Refusal<ExtensionError>> for Fault {
 }
 
 /// A look-up is refused for the length of its list alone.
+impl From<IncompatibleDimensionalityError> for Fault {
+    ghost from_gives = { λ _ fault. fault ≡ Length };
+
+    fn from(_error: IncompatibleDimensionalityError) -> Fault {
+        Fault::Length
+    }
+}
+
+/// The same, or out of memory.
 impl From<Refusal<IncompatibleDimensionalityError>> for Fault {
     ghost from_gives = { λ refusal fault. MatchRefusal refusal (λ _. fault ≡ Length) (λ _. fault ≡ Memory) };
 

@@ -7,7 +7,7 @@ ghost use Rattle.zarrs_chunks_c.specs.declared.codes.Fault.TheVariants.{Memory};
 
 use crate::codes::{Fault, code_of, words_of};
 use crate::metadata::{encoding_of, grid_of};
-use crate::texts::write_text;
+use crate::buffers::write_front;
 use std::alloc::{AllocError, Global};
 
 /// Why metadata says no grid of an array of this shape: the code that each call ends with, and words. Where it says one, there are none.
@@ -101,7 +101,7 @@ fn code_words(code: i32, words: &mut [u8], needed: &mut usize) -> Result<(), Fau
     ensures kept_if_short { IsKeptIfShort words.old words.new result }
     ensures kept_behind { drop needed.new words.new ≡ drop needed.new words.old }
 {
-    write_text(words_of(code).as_bytes(), words, needed)
+    write_front(words_of(code).as_bytes(), words, needed)
 }
 
 /// Ends as the making of something did, and writes in words why it failed; where it didn't, that there are none. Words that are longer than their
@@ -129,7 +129,7 @@ fn tell<T: Drop>(
         }
         Err(fault) => {
             let text = words_of_fault(alloc, &fault)?;
-            let _ = write_text(text.as_bytes(), words, needed);
+            let _ = write_front(text.as_bytes(), words, needed);
             Err(fault)
         }
     }

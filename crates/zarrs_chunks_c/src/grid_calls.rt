@@ -1,17 +1,34 @@
 //! The calls of a chunk grid.
-ghost use Rattle.std.specs.Prelude.{OnOk, length};
+ghost use Rattle.std.specs.Prelude.{◌≡◌, OnOk, drop, length};
 ghost use Rattle.zarrs_chunks_c.specs.Batch.{AreKept};
-ghost use Rattle.zarrs_chunks_c.specs.Calls.{IsEndOf};
+ghost use Rattle.zarrs_chunks_c.specs.Calls.{IfWritten, IsEndOf, IsKeptIfShort};
 ghost use Rattle.zarrs_chunks_c.specs.Codes.{Ends};
 ghost use Rattle.zarrs_chunks_c.specs.GridCalls.{chunk_boxes_call, chunk_indices_call, covers_call, grid_shape_call, homes_call};
+ghost use Rattle.zarrs_chunks_c.specs.PreparedCalls.{prepare_grid_call};
 
-use crate::batch::answer_all;
+use crate::buffers::write_front;
 use crate::codes::{Fault, code_of};
-use crate::metadata::grid_of_batch;
-use crate::questions::{ChunkBoxes, Covers, FirstAlone, Homes};
-use crate::regular::{answer_chunks, answer_homes};
+use crate::metadata::numbers_of_grid;
+use crate::prepared_grid::{chunk_boxes_in, chunk_indices_in, covers_in, grid_shape_in, homes_in};
 use std::alloc::Global;
-use zarrs_chunks::{ChunkGrid, ChunkGridTraits};
+
+/// The numbers of the grid, by which the calls of a prepared grid answer as it does.
+#[unsafe(no_mangle)]
+pub extern "C" fn zarrs_prepare_grid(
+    alloc: Global,
+    shape: &[u64],
+    chunk_grid: &[u8],
+    numbers: &mut [u64],
+    needed: &mut usize,
+) -> i32
+    ensures ends { Ends (IsEndOf (prepare_grid_call
+        shape.now chunk_grid.now numbers.new needed.new)) result }
+    ensures kept_if_short { Ends (IsKeptIfShort numbers.old numbers.new) result }
+    ensures kept_behind { Ends (λ end. IfWritten
+        (drop needed.new numbers.new ≡ drop needed.new numbers.old) end) result }
+{
+    code_of(prepare_grid(alloc, shape, chunk_grid, numbers, needed))
+}
 
 /// How many chunks are counted along each dimension.
 #[unsafe(no_mangle)]
@@ -121,6 +138,27 @@ pub extern "C" fn zarrs_covers_of(
     ))
 }
 
+/// Writes the numbers of the grid, and how many they are, even where the buffer is shorter.
+///
+/// # Errors
+/// The first that applies: the grid can't be made; the numbers are more than their buffer holds. Or out of memory.
+fn prepare_grid(
+    alloc: Global,
+    shape: &[u64],
+    chunk_grid: &[u8],
+    numbers: &mut [u64],
+    needed: &mut usize,
+) -> Result<(), Fault>
+    ensures ends { IsEndOf (prepare_grid_call
+        shape.now chunk_grid.now numbers.new needed.new) result }
+    ensures kept_if_short { IsKeptIfShort numbers.old numbers.new result }
+    ensures kept_behind { IfWritten
+        (drop needed.new numbers.new ≡ drop needed.new numbers.old) result }
+{
+    let prepared = numbers_of_grid(alloc, shape, chunk_grid)?;
+    write_front(&prepared, numbers, needed)
+}
+
 /// Writes the grid shape.
 ///
 /// # Errors
@@ -134,9 +172,8 @@ fn grid_shape_of(
     ensures { IsEndOf (grid_shape_call
         shape.now chunk_grid.now grid_shape.new) result }
 {
-    let grid = grid_of_batch(alloc, shape, chunk_grid, 1, &[grid_shape.len()])?;
-    grid_shape.copy_from_slice(grid.grid_shape());
-    Ok(())
+    let numbers = numbers_of_grid(alloc, shape, chunk_grid)?;
+    grid_shape_in(alloc, &numbers, grid_shape)
 }
 
 /// Writes the chunk of each element.
@@ -156,17 +193,8 @@ fn chunk_indices_of(
     ensures chunks_kept { OnOk result
         (AreKept (length shape.now) chunks.old chunks.new found.new) }
 {
-    let totals = [indices.len(), chunks.len()];
-    let grid = grid_of_batch(alloc, shape, chunk_grid, found.len(), &totals)?;
-    if let ChunkGrid::Regular(regular) = &grid {
-        answer_chunks(regular, indices, chunks, found);
-        return Ok(());
-    }
-    let homes = Homes {
-        grid: &grid,
-        indices,
-    };
-    answer_all(alloc, &FirstAlone(homes), chunks, &mut [], found, &mut 0)
+    let numbers = numbers_of_grid(alloc, shape, chunk_grid)?;
+    chunk_indices_in(alloc, &numbers, indices, chunks, found)
 }
 
 /// Writes the chunk of each element, and the element's place there.
@@ -189,17 +217,8 @@ fn homes_of(
     ensures places_kept { OnOk result
         (AreKept (length shape.now) places.old places.new found.new) }
 {
-    let totals = [indices.len(), chunks.len(), places.len()];
-    let grid = grid_of_batch(alloc, shape, chunk_grid, found.len(), &totals)?;
-    if let ChunkGrid::Regular(regular) = &grid {
-        answer_homes(regular, indices, chunks, places, found);
-        return Ok(());
-    }
-    let homes = Homes {
-        grid: &grid,
-        indices,
-    };
-    answer_all(alloc, &homes, chunks, places, found, &mut 0)
+    let numbers = numbers_of_grid(alloc, shape, chunk_grid)?;
+    homes_in(alloc, &numbers, indices, chunks, places, found)
 }
 
 /// Writes the box of each chunk.
@@ -222,13 +241,8 @@ fn chunk_boxes_of(
     ensures shapes_kept { OnOk result
         (AreKept (length shape.now) shapes.old shapes.new found.new) }
 {
-    let totals = [chunks.len(), origins.len(), shapes.len()];
-    let grid = grid_of_batch(alloc, shape, chunk_grid, found.len(), &totals)?;
-    let boxes = ChunkBoxes {
-        grid: &grid,
-        chunks,
-    };
-    answer_all(alloc, &boxes, origins, shapes, found, &mut 0)
+    let numbers = numbers_of_grid(alloc, shape, chunk_grid)?;
+    chunk_boxes_in(alloc, &numbers, chunks, origins, shapes, found)
 }
 
 /// Writes the cover of each box of elements.
@@ -255,17 +269,15 @@ fn covers_of(
     ensures chunk_counts_kept { OnOk result
         (AreKept (length shape.now) chunk_counts.old chunk_counts.new found.new) }
 {
-    let totals = [
-        starts.len(),
-        shapes.len(),
-        first_chunks.len(),
-        chunk_counts.len(),
-    ];
-    let grid = grid_of_batch(alloc, shape, chunk_grid, found.len(), &totals)?;
-    let covers = Covers {
-        grid: &grid,
+    let numbers = numbers_of_grid(alloc, shape, chunk_grid)?;
+    covers_in(
+        alloc,
+        &numbers,
         starts,
         shapes,
-    };
-    answer_all(alloc, &covers, first_chunks, chunk_counts, found, wrong)
+        first_chunks,
+        chunk_counts,
+        found,
+        wrong,
+    )
 }

@@ -10,7 +10,7 @@ use crate::codes::{Fault, code_of};
 use crate::key_questions::ChunksOfKeys;
 use crate::lists::{count_of_texts, list_of};
 use crate::metadata::encoding_of;
-use crate::texts::write_text;
+use crate::buffers::write_front;
 use std::alloc::{AllocError, Global};
 use zarrs_chunk_keys::ChunkKeyEncodingTraits;
 
@@ -91,7 +91,7 @@ fn keys_of(
     let encoding = encoding_of(alloc, chunk_key_encoding)?;
     let count = count_of_texts(offsets.len(), &[chunks.len()], dimensionality)?;
     let keys = append_keys(alloc, &encoding, dimensionality, count, chunks, offsets)?;
-    write_text(keys.as_bytes(), text, needed)
+    write_front(keys.as_bytes(), text, needed)
 }
 
 /// The keys of so many chunks, one after another. Where each begins, and at last where the last one ends, is written as offsets in bytes.

@@ -4,7 +4,7 @@ ghost use Rattle.zarrs_chunks_c.specs.Asked.{IsChunkOf};
 ghost use Rattle.zarrs_chunks_c.specs.Batch.{HasText, text_at};
 ghost use Rattle.zarrs_chunks_c.specs.declared.codes.Fault.TheVariants.{Offsets};
 
-use crate::batch::{Answer, Questions};
+use crate::batch::Questions;
 use crate::codes::Fault;
 use crate::texts::text_of;
 use std::alloc::{AllocError, Global};
@@ -41,13 +41,18 @@ impl<E: ChunkKeyEncodingTraits> Questions for ChunksOfKeys<'_, E> {
         (self.dimensionality, 0)
     }
 
-    fn answer(&self, alloc: Global, number: usize, answer: &mut Answer) -> Result<bool, Fault> {
+    fn answer(
+        &self,
+        alloc: Global,
+        number: usize,
+        first: &mut [u64],
+        _second: &mut [u64],
+    ) -> Result<bool, Fault> {
         let key = text_of(self.text, self.offsets, number)?;
         let Some(chunk) = chunk_of_key(alloc, self.encoding, self.dimensionality, key)? else {
             return Ok(false);
         };
-        answer.first = chunk;
-        answer.second.clear();
+        first.copy_from_slice(&chunk);
         Ok(true)
     }
 }

@@ -18,9 +18,10 @@
 //! | `batch` | the loop over the questions of a batch |
 //! | `lists` | lists of one length, one after another |
 //! | `parts` | parts of a plan, one after another |
-//! | `texts` | texts that are written to a buffer, and texts one after another |
-//! | `regular` | the chunks and places of a `regular` grid: a loop for each dimension |
-//! | `questions` | what is asked of a grid, list by list |
+//! | `texts` | texts one after another |
+//! | `buffers` | what is written to the front of a buffer |
+//! | `prepared_grid` | what is asked of a prepared grid |
+//! | `questions` | what is asked of a prepared grid, list by list |
 //! | `key_questions` | what is asked of an encoding, key by key |
 //! | `metadata` | the grid and the encoding that metadata says |
 //! | `codes` | why a call is refused, the code of it, and what the code says |
@@ -28,6 +29,7 @@
 
 mod answer_call;
 mod batch;
+mod buffers;
 mod codes;
 mod fault_calls;
 mod grid_calls;
@@ -37,8 +39,8 @@ mod lists;
 mod metadata;
 mod parts;
 mod plan_call;
+mod prepared_grid;
 mod questions;
-mod regular;
 mod structs;
 mod texts;
 mod version;

@@ -3,46 +3,37 @@ ghost use Rattle.serde_json.specs.Data.{Data, depth};
 ghost use Rattle.serde_json.specs.Read.{max_depth};
 ghost use Rattle.serde_json.specs.View.{view};
 ghost use Rattle.std.specs.Prelude.{◌≡◌, ◌⊎◌, ◌≤◌, IfErr, IfOk, MatchResult, length};
+ghost use Rattle.zarrs_chunk_base.specs.Grid.{Grid};
 ghost use Rattle.zarrs_chunk_base.specs.Json.{IsJsonOf};
 ghost use Rattle.zarrs_chunk_keys.specs.seen.Encodings.{encoding_in};
+ghost use Rattle.zarrs_chunk_prepared.specs.Prepared.{IsPreparedGrid};
 ghost use Rattle.zarrs_chunks.specs.seen.Grids.{grid_in};
-ghost use Rattle.zarrs_chunks_c.specs.Batch.{AreLengths};
-ghost use Rattle.zarrs_chunks_c.specs.Calls.{IsEarlyFault};
 ghost use Rattle.zarrs_chunks_c.specs.Said.{IsNoEncoding, IsNoGrid, SaysEncoding, SaysGrid};
 ghost use Rattle.zarrs_chunks_c.specs.declared.codes.Fault.TheVariants.{Memory, NotJson};
 
 use crate::codes::Fault;
-use crate::lists::check_lengths;
 use serde_json::Value;
 use std::alloc::Global;
 use zarrs_chunk_base::read_json;
 use zarrs_chunk_keys::ChunkKeyEncoding;
-use zarrs_chunks::{ChunkGrid, ChunkGridTraits};
+use zarrs_chunks::ChunkGrid;
 
-/// The grid that metadata says, of an array of this shape, where arrays with so many numbers each have this many lists of a number for each
-/// dimension.
+/// The numbers of the grid that metadata says, of an array of this shape.
 ///
 /// # Errors
-/// The first that applies: the text isn't JSON, or no extension's metadata, or the grid can't be made; an array is longer or shorter. Or out of
-/// memory.
-pub(crate) fn grid_of_batch(
+/// The text isn't JSON, or no extension's metadata, or the grid can't be made; or out of memory.
+pub(crate) fn numbers_of_grid(
     alloc: Global,
     shape: &[u64],
     chunk_grid: &[u8],
-    count: usize,
-    totals: &[usize],
-) -> Result<ChunkGrid, Fault>
-    ensures says { IfOk result (λ grid. SaysGrid chunk_grid.now shape.now (grid_in grid)) }
-    ensures fits { IfOk result (λ grid. AreLengths (length (grid_in grid).dimensions) count
-        totals.now) }
-    ensures width { IfOk result (λ grid. length (grid_in grid).dimensions ≡ length shape.now) }
-    ensures refused { IfErr result (λ fault. (fault ≡ Memory) ⊎
-        IsEarlyFault (IsNoGrid chunk_grid.now shape.now) (SaysGrid chunk_grid.now shape.now)
-        (λ grid. AreLengths (length grid.dimensions) count totals.now) fault) }
+) -> Result<Vec<u64>, Fault>
+    ensures { MatchResult result
+        (λ numbers. (grid : Grid) × SaysGrid chunk_grid.now shape.now grid
+        × IsPreparedGrid numbers.items grid × (length grid.dimensions ≡ length shape.now))
+        (λ fault. (fault ≡ Memory) ⊎ IsNoGrid chunk_grid.now shape.now fault) }
 {
     let grid = grid_of(alloc, shape, chunk_grid)?;
-    check_lengths(totals, grid.dimensionality(), count)?;
-    Ok(grid)
+    Ok(zarrs_chunk_prepared::prepare(alloc, &grid)?)
 }
 
 /// The grid that metadata says, of an array of this shape.

@@ -2,7 +2,7 @@
 ghost use Rattle.std.specs.Prelude.{◌≡◌, ℕ, ◌+◌, ◌<◌, ◌≤◌, IfErr, IfOk, MatchOption, drop, length, string_bytes};
 ghost use Rattle.std.specs.List.{AllByRecursion};
 ghost use Rattle.zarrs_chunk_plan.specs.declared.part.Part.{Part};
-ghost use Rattle.zarrs_chunks_c.specs.Asked.{HasNoCover};
+ghost use Rattle.zarrs_chunk_prepared.specs.LookedUp.{HasNoCover};
 ghost use Rattle.zarrs_chunks_c.specs.Batch.{AreTexts};
 ghost use Rattle.zarrs_chunks_c.specs.Parts.{AreListsKept, AreSameBuffers};
 ghost use Rattle.zarrs_chunks_c.specs.declared.codes.Fault.TheVariants.{Memory};

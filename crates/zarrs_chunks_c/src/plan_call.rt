@@ -12,7 +12,7 @@ use crate::metadata::{encoding_of, grid_of};
 use crate::parts::{find_parts, join_keys, write_parts};
 use crate::questions::box_of;
 use crate::structs::{ElementBox, PartBuffers, StoredArray};
-use crate::texts::write_text;
+use crate::buffers::write_front;
 use std::alloc::Global;
 use zarrs_chunk_base::ArraySubset;
 use zarrs_chunk_keys::ChunkKeyEncodingTraits;
@@ -123,5 +123,5 @@ fn write_plan<G: ChunkGridTraits, E: ChunkKeyEncodingTraits>(
     write_parts(&some.parts, grid.dimensionality(), buffers);
     let keys = join_keys(alloc, &some.parts, buffers.offsets)?;
     (buffers.count, buffers.in_all, buffers.found) = (some.parts.len(), some.in_all, 1);
-    write_text(keys.as_bytes(), buffers.text, &mut buffers.needed)
+    write_front(keys.as_bytes(), buffers.text, &mut buffers.needed)
 }

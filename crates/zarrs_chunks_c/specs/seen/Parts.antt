@@ -6,7 +6,7 @@ use Rattle.zarrs_chunk_base.specs.Dimension.{Dimension}
 use Rattle.zarrs_chunk_plan.specs.declared.part.Part.{Part}
 use Rattle.zarrs_chunk_plan.specs.SomeParts.{AreSomeParts}
 use Rattle.zarrs_chunk_plan.specs.declared.numbered_parts.SomeParts.{SomeParts}
-use Rattle.zarrs_chunks_c.specs.Asked.{IsCoverOf}
+use Rattle.zarrs_chunk_prepared.specs.LookedUp.{IsCoverOf}
 use Rattle.zarrs_chunks_c.specs.Batch.{list_at}
 use Rattle.zarrs_chunks_c.specs.declared.structs.PartBuffers.{PartBuffers}
 use Rattle.zarrs_chunks_c.specs.seen.Lists.{HasList}

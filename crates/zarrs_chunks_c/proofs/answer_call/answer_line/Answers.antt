@@ -13,11 +13,11 @@ pub returns-clause-ends : goal.returns-clause-ends
 returns-clause-ends c =
     let question = c.args.question.now in
     let line = c.deref.result.now in
-    let wrote = c.write_text.new in
-    let told = c.write_text.ensures in
+    let wrote = c.write_front.new in
+    let told = c.write_front.ensures in
     let found = c.in_ok-answer.ensures in
     let is_answer = subst (IsAnswerTo question) (sym c.deref.ensures.value) (rw c.in-Some.is at found.one, rw c.in-Some.is at found.says) in
-    ends_late (answer_call question wrote.buffer wrote.needed) tt c.write_text.result tt tt
-    (is_whole (IsAnswerTo question) line wrote.buffer wrote.needed told.told is_answer c.write_text.result told.fits told.written)
-    (IfErr-weaker c.write_text.result _ _ (λ fault is. ⊎_elim (λ memory. inl memory) (λ short. inr (short.0, inl short.1)) is)
-    (is_too_long (IsAnswerTo question) line wrote.buffer wrote.needed told.told is_answer c.write_text.result told.short))
+    ends_late (answer_call question wrote.buffer wrote.needed) tt c.write_front.result tt tt
+    (is_whole (IsAnswerTo question) line wrote.buffer wrote.needed told.told is_answer c.write_front.result told.fits told.written)
+    (IfErr-weaker c.write_front.result _ _ (λ fault is. ⊎_elim (λ memory. inl memory) (λ short. inr (short.0, inl short.1)) is)
+    (is_too_long (IsAnswerTo question) line wrote.buffer wrote.needed told.told is_answer c.write_front.result told.short))

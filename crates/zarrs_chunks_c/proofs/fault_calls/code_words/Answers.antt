@@ -10,8 +10,8 @@ returns-clause-ends c =
     let text = c.as_bytes.result.now in
     let says : text ≡ code_words c.args.code =
     c.as_bytes.ensures.value ∙ c.words_of.ensures ∙ ap code_words (to_z-of_z w32 c.args.code c.ranges.code) in
-    let wrote = c.write_text.new in
-    let told = c.write_text.ensures in
-    ends_late (words_call c.args.code wrote.buffer wrote.needed) tt c.write_text.result tt tt
-    (is_whole (λ t. t ≡ code_words c.args.code) text wrote.buffer wrote.needed told.told says c.write_text.result told.fits told.written)
-    (is_too_long (λ t. t ≡ code_words c.args.code) text wrote.buffer wrote.needed told.told says c.write_text.result told.short)
+    let wrote = c.write_front.new in
+    let told = c.write_front.ensures in
+    ends_late (words_call c.args.code wrote.buffer wrote.needed) tt c.write_front.result tt tt
+    (is_whole (λ t. t ≡ code_words c.args.code) text wrote.buffer wrote.needed told.told says c.write_front.result told.fits told.written)
+    (is_too_long (λ t. t ≡ code_words c.args.code) text wrote.buffer wrote.needed told.told says c.write_front.result told.short)

@@ -1,9 +1,8 @@
-use Rattle.std.proofs.Common.{inl, inr, ⊎_elim}
-use Rattle.std.proofs.lemmas.Result.{err_from_is_err_and}
-use Rattle.zarrs_chunks_c.specs.Calls.{early}
+use Rattle.std.proofs.Common.{inl, inr}
 use Rattle.zarrs_chunks_c.proofs.grid_calls.grid_shape_of.Goals as goal
 
-pub returns-in_err-grid : goal.returns-in_err-grid
-returns-in_err-grid c =
-    let p = err_from_is_err_and c.from_residual.result c.from_residual.ensures.1 in
-    rw (p.1, p.2) (⊎_elim (λ memory. inl memory) (λ is. inr (early is)) c.in_err-grid.ensures.refused)
+pub returns-in_err-numbers : goal.returns-in_err-numbers
+returns-in_err-numbers c = ?
+
+pub returns : goal.returns
+returns c = ?

@@ -24,11 +24,11 @@ returns-clause-ends c =
     let encoding = encoding_in c.in_ok-encoding.encoding in
     let offsets = c.append_keys.new.offsets in
     let text = c.as_bytes.result.now in
-    let wrote = c.write_text.new in
-    let told = c.write_text.ensures in
+    let wrote = c.write_front.new in
+    let told = c.write_front.ensures in
     let AreTheKeys = λ (keys : List ℕ). AreKeys (IsKey encoding) c.args.dimensionality (length offsets - 1) c.args.chunks.now keys offsets in
     let are_keys = subst AreTheKeys (sym c.as_bytes.ensures.value) c.in_ok-keys.ensures in
     ends_late (keys_call c.args.chunk_key_encoding.now c.args.dimensionality c.args.chunks.now wrote.buffer offsets wrote.needed)
-    encoding c.write_text.result c.in_ok-encoding.ensures (c.in_ok-count.count, rw c.append_keys.auto.offsets c.in_ok-count.ensures)
-    (is_whole AreTheKeys text wrote.buffer wrote.needed told.told are_keys c.write_text.result told.fits told.written)
-    (is_too_long AreTheKeys text wrote.buffer wrote.needed told.told are_keys c.write_text.result told.short)
+    encoding c.write_front.result c.in_ok-encoding.ensures (c.in_ok-count.count, rw c.append_keys.auto.offsets c.in_ok-count.ensures)
+    (is_whole AreTheKeys text wrote.buffer wrote.needed told.told are_keys c.write_front.result told.fits told.written)
+    (is_too_long AreTheKeys text wrote.buffer wrote.needed told.told are_keys c.write_front.result told.short)

@@ -30,8 +30,8 @@ returns-clause-ends g c =
     let lists = c.write_parts.new.buffers in
     let offsets = c.join_keys.new.offsets in
     let keys = c.as_bytes.result.now in
-    let wrote = c.write_text.new in
-    let told = c.write_text.ensures in
+    let wrote = c.write_front.new in
+    let told = c.write_front.ensures in
     let buffers : PartBuffers = record lists {
       text = set_vals wrote.buffer lists.text;
       offsets = set_vals offsets lists.offsets;
@@ -57,8 +57,8 @@ returns-clause-ends g c =
     let texts = subst (λ text. AreTexts (IsKeyOf parts) (length parts) text offsets) (sym c.as_bytes.ensures.value) of_keys in
     let is_plan = all_written ds IsKey c.args.elements.now c.args.first c.args.room some buffers keys found refl counted room are_written texts in
     let IsPlan = IsPlanWith ds IsKey c.args.elements.now c.args.first buffers in
-    MatchResult-from_both c.write_text.result _ _
-    (on_ok_weaker c.write_text.result (λ whole. inl (refl, whole))
-    (is_whole IsPlan keys wrote.buffer wrote.needed told.told is_plan c.write_text.result told.fits told.written))
-    (IfErr-weaker c.write_text.result _ _ (λ fault is. ⊎_elim (λ memory. inl memory) (λ short. inr (short.0, (refl, short.1))) is)
-    (is_too_long IsPlan keys wrote.buffer wrote.needed told.told is_plan c.write_text.result told.short))
+    MatchResult-from_both c.write_front.result _ _
+    (on_ok_weaker c.write_front.result (λ whole. inl (refl, whole))
+    (is_whole IsPlan keys wrote.buffer wrote.needed told.told is_plan c.write_front.result told.fits told.written))
+    (IfErr-weaker c.write_front.result _ _ (λ fault is. ⊎_elim (λ memory. inl memory) (λ short. inr (short.0, (refl, short.1))) is)
+    (is_too_long IsPlan keys wrote.buffer wrote.needed told.told is_plan c.write_front.result told.short))

@@ -1,0 +1,28 @@
+-- The calls that prepare a grid, and those of a prepared one.
+-- Source: Zarr V3 core, chunk grids; the numbers are this library's own.
+use Rattle.std.specs.Prelude.{◌≡◌, ℕ, List, length}
+use Rattle.zarrs_chunk_base.specs.Grid.{Grid}
+use Rattle.zarrs_chunk_prepared.specs.Prepared.{IsPreparedGrid}
+use Rattle.zarrs_chunks_c.specs.Batch.{AreKept, IsTooLong, IsWhole}
+use Rattle.zarrs_chunks_c.specs.Calls.{Call, EndsForEach, Request}
+use Rattle.zarrs_chunks_c.specs.Codes.{End}
+use Rattle.zarrs_chunks_c.specs.GridCalls.{grid_call}
+use Rattle.zarrs_chunks_c.specs.declared.codes.Fault.TheVariants.{Short}
+
+-- The numbers of a grid. They are refused where they are more than their buffer holds.
+abbrev pub prepare_grid_call : (shape metadata numbers : List ℕ) (needed : ℕ) → Call Grid
+prepare_grid_call shape metadata numbers needed =
+    grid_call shape metadata (record {
+      Fits = λ _. Unit {0};
+      Refuses = λ grid fault. (fault ≡ Short) × IsTooLong (λ prepared. IsPreparedGrid prepared grid) numbers needed;
+      Answers = λ grid. IsWhole (λ prepared. IsPreparedGrid prepared grid) numbers needed;
+    })
+
+-- A request of prepared numbers ends as it does of the grid whose they are. Of other numbers nothing is said.
+abbrev pub EndsForPrepared : (numbers : List ℕ) → Request Grid → End → Type 0
+EndsForPrepared numbers = EndsForEach (IsPreparedGrid numbers)
+
+-- of the grid whose they are, the lists without an answer are as they were
+abbrev pub AreKeptForPrepared : (numbers before after marks : List ℕ) → Type 0
+AreKeptForPrepared numbers before after marks =
+    (grid : Grid) → IsPreparedGrid numbers grid → AreKept (length grid.dimensions) before after marks

@@ -1,0 +1,30 @@
+//! Buffers that are longer than what is written to them.
+ghost use Rattle.std.specs.Prelude.{◌≡◌, ◌<◌, ◌≤◌, IfErr, OnErr, OnOk, drop, length, take};
+ghost use Rattle.zarrs_chunks_c.specs.declared.codes.Fault.TheVariants.{Short};
+
+use crate::codes::Fault;
+
+/// Writes items to the front of a buffer, and how many they are, even where the buffer is shorter.
+///
+/// # Errors
+/// The buffer is shorter. Nothing is written to it.
+pub(crate) fn write_front<T: Copy>(
+    items: &[T],
+    buffer: &mut [T],
+    needed: &mut usize,
+) -> Result<(), Fault>
+    ensures told { needed.new ≡ length items.now }
+    ensures fits { OnOk result (length items.now ≤ length buffer.new) }
+    ensures written { OnOk result (take (length items.now) buffer.new ≡ items.now) }
+    ensures short { IfErr result (λ fault. (fault ≡ Short)
+        × (length buffer.new < length items.now)) }
+    ensures untouched { OnErr result (buffer.new ≡ buffer.old) }
+    ensures behind { drop needed.new buffer.new ≡ drop needed.new buffer.old }
+{
+    *needed = items.len();
+    if items.len() > buffer.len() {
+        return Err(Fault::Short);
+    }
+    buffer[..items.len()].copy_from_slice(items);
+    Ok(())
+}

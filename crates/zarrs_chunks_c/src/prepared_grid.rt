@@ -1,0 +1,174 @@
+//! What is asked of a prepared grid.
+ghost use Rattle.std.specs.Prelude.{◌≡◌, ◌⊎◌, MatchResult, OnOk};
+ghost use Rattle.zarrs_chunk_base.specs.Grid.{Grid};
+ghost use Rattle.zarrs_chunk_prepared.specs.Prepared.{IsPreparedGrid};
+ghost use Rattle.zarrs_chunk_prepared.specs.seen.PreparedGrid.{IsReadOf};
+ghost use Rattle.zarrs_chunks_c.specs.GridCalls.{chunk_boxes_request, chunk_indices_request, covers_request, grid_shape_request, homes_request};
+ghost use Rattle.zarrs_chunks_c.specs.PreparedCalls.{AreKeptForPrepared, EndsForPrepared};
+ghost use Rattle.zarrs_chunks_c.specs.declared.codes.Fault.TheVariants.{Memory, NotPrepared};
+
+use crate::batch::answer_all;
+use crate::codes::Fault;
+use crate::lists::check_lengths;
+use crate::questions::{ChunkBoxes, Covers, Homes};
+use std::alloc::Global;
+use zarrs_chunk_prepared::PreparedGrid;
+
+/// The grid that numbers tell, for so many look-ups.
+///
+/// # Errors
+/// The numbers aren't those of a grid; or out of memory.
+fn read_grid<'a>(
+    alloc: Global,
+    numbers: &'a [u64],
+    look_ups: usize,
+) -> Result<PreparedGrid<'a>, Fault>
+    ensures { MatchResult result
+        (λ prepared. (grid : Grid) → IsPreparedGrid numbers.now grid → IsReadOf grid prepared)
+        (λ fault. (fault ≡ Memory) ⊎ ((fault ≡ NotPrepared)
+        × ((grid : Grid) → ¬ IsPreparedGrid numbers.now grid))) }
+{
+    match PreparedGrid::read(alloc, numbers, look_ups)? {
+        Some(grid) => Ok(grid),
+        None => Err(Fault::NotPrepared),
+    }
+}
+
+/// Writes how many chunks are counted along each dimension.
+///
+/// # Errors
+/// The numbers aren't those of a grid; or, where they are, the grid shape has another length. Or out of memory.
+pub(crate) fn grid_shape_in(
+    alloc: Global,
+    numbers: &[u64],
+    grid_shape: &mut [u64],
+) -> Result<(), Fault>
+    ensures { EndsForPrepared numbers.now (grid_shape_request grid_shape.new) result }
+{
+    Ok(read_grid(alloc, numbers, 0)?.write_grid_shape(grid_shape)?)
+}
+
+/// Writes the chunk of each element.
+///
+/// # Errors
+/// The numbers aren't those of a grid; or, where they are, the lengths don't fit. Or out of memory.
+pub(crate) fn chunk_indices_in(
+    alloc: Global,
+    numbers: &[u64],
+    indices: &[u64],
+    chunks: &mut [u64],
+    found: &mut [u8],
+) -> Result<(), Fault>
+    ensures ends { EndsForPrepared numbers.now
+        (chunk_indices_request indices.now chunks.new found.new) result }
+    ensures chunks_kept { OnOk result
+        (AreKeptForPrepared numbers.now chunks.old chunks.new found.new) }
+{
+    let grid = read_grid(alloc, numbers, found.len())?;
+    let totals = [indices.len(), chunks.len()];
+    check_lengths(&totals, grid.dimensionality(), found.len())?;
+    let homes = Homes {
+        grid,
+        indices,
+        with_places: false,
+    };
+    answer_all(alloc, &homes, chunks, &mut [], found, &mut 0)
+}
+
+/// Writes the chunk of each element, and the element's place there.
+///
+/// # Errors
+/// The numbers aren't those of a grid; or, where they are, the lengths don't fit. Or out of memory.
+pub(crate) fn homes_in(
+    alloc: Global,
+    numbers: &[u64],
+    indices: &[u64],
+    chunks: &mut [u64],
+    places: &mut [u64],
+    found: &mut [u8],
+) -> Result<(), Fault>
+    ensures ends { EndsForPrepared numbers.now
+        (homes_request indices.now chunks.new places.new found.new) result }
+    ensures chunks_kept { OnOk result
+        (AreKeptForPrepared numbers.now chunks.old chunks.new found.new) }
+    ensures places_kept { OnOk result
+        (AreKeptForPrepared numbers.now places.old places.new found.new) }
+{
+    let grid = read_grid(alloc, numbers, found.len())?;
+    let totals = [indices.len(), chunks.len(), places.len()];
+    check_lengths(&totals, grid.dimensionality(), found.len())?;
+    let homes = Homes {
+        grid,
+        indices,
+        with_places: true,
+    };
+    answer_all(alloc, &homes, chunks, places, found, &mut 0)
+}
+
+/// Writes the box of each chunk.
+///
+/// # Errors
+/// The numbers aren't those of a grid; or, where they are, the lengths don't fit. Or out of memory.
+pub(crate) fn chunk_boxes_in(
+    alloc: Global,
+    numbers: &[u64],
+    chunks: &[u64],
+    origins: &mut [u64],
+    shapes: &mut [u64],
+    found: &mut [u8],
+) -> Result<(), Fault>
+    ensures ends { EndsForPrepared numbers.now
+        (chunk_boxes_request chunks.now origins.new shapes.new found.new) result }
+    ensures origins_kept { OnOk result
+        (AreKeptForPrepared numbers.now origins.old origins.new found.new) }
+    ensures shapes_kept { OnOk result
+        (AreKeptForPrepared numbers.now shapes.old shapes.new found.new) }
+{
+    let grid = read_grid(alloc, numbers, found.len())?;
+    let totals = [chunks.len(), origins.len(), shapes.len()];
+    check_lengths(&totals, grid.dimensionality(), found.len())?;
+    let boxes = ChunkBoxes {
+        grid,
+        chunks,
+    };
+    answer_all(alloc, &boxes, origins, shapes, found, &mut 0)
+}
+
+/// Writes the cover of each box of elements.
+///
+/// # Errors
+/// The numbers aren't those of a grid; or, where they are, the first that applies: the lengths don't fit; a box ends past 18446744073709551615, and
+/// `wrong` tells which is the first such. Or out of memory.
+pub(crate) fn covers_in(
+    alloc: Global,
+    numbers: &[u64],
+    starts: &[u64],
+    shapes: &[u64],
+    first_chunks: &mut [u64],
+    chunk_counts: &mut [u64],
+    found: &mut [u8],
+    wrong: &mut usize,
+) -> Result<(), Fault>
+    ensures ends { EndsForPrepared numbers.now
+        (covers_request starts.now shapes.now
+        first_chunks.new chunk_counts.new found.new wrong.new) result }
+    ensures first_chunks_kept { OnOk result
+        (AreKeptForPrepared numbers.now first_chunks.old first_chunks.new found.new) }
+    ensures chunk_counts_kept { OnOk result
+        (AreKeptForPrepared numbers.now chunk_counts.old chunk_counts.new found.new) }
+{
+    let grid = read_grid(alloc, numbers, found.len())?;
+    let totals = [
+        starts.len(),
+        shapes.len(),
+        first_chunks.len(),
+        chunk_counts.len(),
+    ];
+    check_lengths(&totals, grid.dimensionality(), found.len())?;
+    let covers = Covers {
+        grid,
+        starts,
+        shapes,
+    };
+    answer_all(alloc, &covers, first_chunks, chunk_counts, found, wrong)
+}
