@@ -1,7 +1,8 @@
 -- Lists of one length, one after another, and the answers of a batch.
 use Rattle.std.proofs.Common.{◌≡◌, ◌≢◌, ◌∙◌, ℕ, ◌+◌, ◌*◌, ◌<◌, ◌≤◌, Bool, true, false, List, drop, length, cond, slice_index_or, slice_set, take}
 use Rattle.std.proofs.Common.{⊎_elim, inl, inr, refl, ap, subst, sym, arith, add-mul}
-use Rattle.std.proofs.lemmas.List.{drop-take, get_or-set_other, get_or-set_same}
+use Rattle.std.proofs.Math.Nat.{mul_comm}
+use Rattle.std.proofs.lemmas.List.{drop-take, get_or-set_other, get_or-set_same, length-drop, length-take-le}
 use Rattle.std.proofs.lemmas.Bool.{cases_lt}
 use Rattle.std.proofs.lemmas.Slice.{drop-put_mid, take-put_mid_below}
 use borrow.Rule.Slice.PartMut.{put_mid}
@@ -88,7 +89,17 @@ module _ (Answer : ℕ → List ℕ → List ℕ → Type 0) (None : ℕ → Typ
       (Answer n (list_at widths.0 first_after n) (list_at widths.1 second_after n)) (None n)) at (rw own is))
       (cases_lt k number)
 
--- answers that say more
-pub answered_weaker : (A B : ℕ → List ℕ → List ℕ → Type 0) (None : ℕ → Type 0) (widths : ℕ × ℕ) (first second marks : List ℕ)
-    → ((k : ℕ) (x y : List ℕ) → A k x y → B k x y) → AreAnswered A None widths first second marks → AreAnswered B None widths first second marks
-answered_weaker A B None widths first second marks weaker are k less = ⊎_elim (λ is. inl (is.0, weaker k _ _ is.1)) (λ is. inr is) (are k less)
+-- answers that say more, and so do those that there is none
+pub answered_for : (A B : ℕ → List ℕ → List ℕ → Type 0) (None Nothing : ℕ → Type 0) (widths : ℕ × ℕ) (first second marks : List ℕ)
+    → ((k : ℕ) → k < length marks → A k (list_at widths.0 first k) (list_at widths.1 second k) → B k (list_at widths.0 first k) (list_at widths.1 second k))
+    → ((k : ℕ) → None k → Nothing k) → AreAnswered A None widths first second marks → AreAnswered B Nothing widths first second marks
+answered_for A B None Nothing widths first second marks more nothing are k less =
+    ⊎_elim (λ is. inl (is.0, more k less is.1)) (λ is. inr (is.0, nothing k is.1)) (are k less)
+
+-- a list of so many has a number for each dimension
+pub long_at : (width count : ℕ) (numbers : List ℕ) (k : ℕ) → length numbers ≡ width * count → k < count → length (list_at width numbers k) ≡ width
+long_at width count numbers k long less =
+    let ends = ends_before width k count less in
+    let turned = mul_comm width count in
+    let rest = length-drop (k * width) numbers in
+    length-take-le width (drop (k * width) numbers) (omega arith)

@@ -3,7 +3,7 @@ use Rattle.std.proofs.Common.{◌≡◌, ◌⊎◌, ℕ, ◌<◌, ◌≤◌, Lis
 use Rattle.std.proofs.Common.{sym, arith}
 use Rattle.std.proofs.lemmas.Result.{MatchResult-from_both}
 use Rattle.zarrs_chunks_c.specs.Batch.{IsTooLong, IsWhole}
-use Rattle.zarrs_chunks_c.specs.Calls.{Call, IsEndOf, early, late, no_metadata}
+use Rattle.zarrs_chunks_c.specs.Calls.{Call, IsEndFor, IsEndOf, Request, asks, early, late, no_metadata, wrong_length}
 use Rattle.zarrs_chunks_c.specs.Codes.{End}
 use Rattle.zarrs_chunks_c.specs.declared.codes.Fault.{Fault}
 use Rattle.zarrs_chunks_c.specs.declared.codes.Fault.TheVariants.{Memory, Short}
@@ -52,3 +52,17 @@ module _ (P : List ℕ → Type 0) (text buffer : List ℕ) (needed : ℕ) (told
 pub both : (end : End) (A B : Type 0) → OnOk end A → OnOk end B → OnOk end (A × B)
 both (Ok _) A B a b = (a, b)
 both (Err _) A B a b = tt
+
+-- after the faults of the lengths, of a given X
+pub ends_for : {X : Type 0} (request : Request X) (x : X) (end : End) → request.Fits x → OnOk end (request.Answers x)
+    → IfErr end (λ fault. (fault ≡ Memory) ⊎ request.Refuses x fault) → IsEndFor request x end
+ends_for request x (Ok _) fits answers refused = (fits, answers)
+ends_for request x (Err fault) fits answers refused = ⊎_elim (λ memory. inl memory) (λ is. inr (inr (fits, is))) refused
+
+-- a request that ends so of what metadata say is a call that ends so
+pub ends_of_metadata : {X : Type 0} (Misses : Fault → Type 0) (Says : X → Type 0) (request : Request X) (x : X) (end : End) → Says x
+    → IsEndFor request x end → IsEndOf (asks Misses Says request) end
+ends_of_metadata Misses Says request x (Ok _) says (fits, answers) = (x, says, fits, answers)
+ends_of_metadata Misses Says request x (Err fault) says refused =
+    ⊎_elim (λ memory. inl memory)
+    (λ told. inr (⊎_elim (λ (is_length, differ). early (wrong_length x says differ is_length)) (λ (fits, is). late x says fits is) told)) refused

@@ -5,3 +5,4 @@ pub mod Keys
 pub mod LongParts
 pub mod NotMade
 pub mod Planned
+pub mod PreparedAnswers

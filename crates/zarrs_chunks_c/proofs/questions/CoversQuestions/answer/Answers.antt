@@ -1,5 +1,16 @@
-use Rattle.std.proofs.Common.{◌≡◌}
+use Rattle.std.proofs.Common.{◌≡◌, ◌∙◌, Bool, true, false, cond, ℕ, List, sym}
+use Rattle.zarrs_chunk_base.specs.ArraySubset.{Box}
+use Rattle.zarrs_chunk_base.specs.Grid.{Grid}
+use Rattle.zarrs_chunk_prepared.specs.LookedUp.{HasNoCover, IsCoverOf}
+use Rattle.zarrs_chunk_prepared.specs.seen.PreparedGrid.{IsReadOf, width_of}
+use Rattle.zarrs_chunks_c.specs.GridCalls.{box_asked}
+use Rattle.zarrs_chunks_c.proofs.PreparedAnswers.{of_each}
 use Rattle.zarrs_chunks_c.proofs.questions.CoversQuestions.answer.Goals as goal
 
 pub returns-clause-answers : goal.returns-clause-answers
-returns-clause-answers c = ?
+returns-clause-answers c =
+    let self = c.args.self.now in
+    let asked = box_asked (width_of self.grid) self.starts.now self.shapes.now c.args.number in
+    let cover = record { start = c.find_cover.new.first; shape = c.find_cover.new.counts } in
+    of_each (λ (grid : Grid). IsReadOf grid self.grid) (λ grid. IsCoverOf grid.dimensions asked cover) (λ grid. HasNoCover grid.dimensions asked)
+    c.in_ok-find_cover.field-0 ?
