@@ -25,7 +25,7 @@ returns-clause-ends c grid prepared =
     let wrote = c.answer_all.new in
     let same = c.answer_all.auto in
     let lengths = rw c.dimensionality.ensures at c.in_ok-check_lengths.ensures in
-    let long : length wrote.second ≡ width_of c.in_ok-grid.grid * length wrote.found = rw (same.second, same.found) lengths.2 in
+    let long : length wrote.second ≡ width_of c.in_ok-grid.grid * length wrote.found = rw (same.second, same.found) lengths.1.1.0 in
     ends_for (homes_request c.args.indices.now wrote.first wrote.second wrote.found) grid c.answer_all.result
     (rw (same.first, same.second, same.found) (fits grid c.in_ok-grid.grid are (length c.args.found.now)
     (length c.args.indices.now ∷ length c.args.chunks.now ∷ length c.args.places.now ∷ []) lengths))
