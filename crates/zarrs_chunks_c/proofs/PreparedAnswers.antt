@@ -1,7 +1,7 @@
 -- What a prepared grid answers in batches is what its grid does.
-use Rattle.std.proofs.Common.{◌≡◌, ◌⊎◌, ◌∙◌, Bool, true, false, cond, IfErr, ℕ, ◌*◌, ◌<◌, List, [], ◌∷◌, length, subst, sym}
+use Rattle.std.proofs.Common.{◌≡◌, ◌⊎◌, ◌∙◌, Bool, true, false, cond, IfErr, ℕ, ◌*◌, List, [], length, subst, sym}
 use Rattle.zarrs_chunk_base.specs.ArraySubset.{IsBox}
-use Rattle.zarrs_chunk_base.specs.Dimension.{Dimension, InBox, IsPlace}
+use Rattle.zarrs_chunk_base.specs.Dimension.{InBox, IsPlace}
 use Rattle.zarrs_chunk_base.specs.Grid.{Grid}
 use Rattle.zarrs_chunk_prepared.specs.LookedUp.{HasNoCover, IsCoverOf, IsHomeIn}
 use Rattle.zarrs_chunk_prepared.specs.declared.grid.PreparedGrid.{PreparedGrid}

@@ -3,11 +3,31 @@ ghost use Rattle.std.specs.Prelude.{◌≡◌, ◌≢◌, ◌⊎◌, ℕ, ◌*�
 ghost use Rattle.zarrs_chunks_c.specs.Batch.{AreAnswered, AreKept, list_at};
 ghost use Rattle.zarrs_chunks_c.specs.Calls.{AreQuestions, IsFirstWrong};
 ghost use Rattle.zarrs_chunks_c.specs.declared.codes.Fault.{Fault as AnyFault};
+ghost use Rattle.zarrs_chunks_c.specs.declared.batch.Unanswered.TheVariants.{Memory as OutOfMemory, NoQuestion};
 ghost use Rattle.zarrs_chunks_c.specs.declared.codes.Fault.TheVariants.{Memory};
 ghost use Rattle.zarrs_chunks_c.specs.seen.Lists.{HasList};
 
 use crate::codes::Fault;
-use std::alloc::Global;
+use std::alloc::{AllocError, Global};
+
+/// Why a question isn't answered.
+#[derive(Drop)]
+pub(crate) enum Unanswered {
+    /// Out of memory.
+    Memory,
+    /// What is asked is no question.
+    NoQuestion,
+}
+
+impl From<AllocError> for Unanswered {
+    ghost use Rattle.zarrs_chunks_c.specs.declared.batch.Unanswered.TheVariants.{Memory as OutOfMemory};
+
+    ghost from_gives = { λ _ why. why ≡ OutOfMemory };
+
+    fn from(_error: AllocError) -> Unanswered {
+        Unanswered::Memory
+    }
+}
 
 /// Questions, numbered from 0, of a grid or of an encoding.
 pub(crate) trait Questions {
@@ -43,7 +63,7 @@ pub(crate) trait Questions {
         number: usize,
         first: &mut [u64],
         second: &mut [u64],
-    ) -> Result<bool, Fault>
+    ) -> Result<bool, Unanswered>
         requires given { given self.now number }
         requires first_long { length first.old ≡ (widths self.now).0 }
         requires second_long { length second.old ≡ (widths self.now).1 }
@@ -53,8 +73,12 @@ pub(crate) trait Questions {
         ensures kept { IfOk result (λ found. found ≡ false
             → (first.new ≡ first.old) × (second.new ≡ second.old)) }
         ensures asked { OnOk result (is_question self.now number) }
-        ensures refused { IfErr result (λ told. (told ≡ Memory)
-            ⊎ ((told ≡ fault self.now) × ¬ is_question self.now number)) };
+        ensures refused { IfErr result (λ why. (why ≡ OutOfMemory)
+            ⊎ ((why ≡ NoQuestion) × ¬ is_question self.now number)) };
+
+    /// The fault of what isn't a question.
+    fn fault(&self) -> Fault
+        ensures { result ≡ fault self.now };
 }
 
 /// Answers the questions that have a mark, in order. The answers go to lists of one length each, one after another, and each question's
@@ -85,9 +109,14 @@ pub(crate) fn answer_all<Q: Questions>(
 {
     let widths = questions.widths();
     for number in 0..found.len() {
-        *wrong = number;
-        let is_found = answer_one(alloc, questions, widths, number, first, second)?;
-        found[number] = mark_of(is_found);
+        match answer_one(alloc, questions, widths, number, first, second) {
+            Ok(is_found) => found[number] = mark_of(is_found),
+            Err(Unanswered::Memory) => return Err(Fault::Memory),
+            Err(Unanswered::NoQuestion) => {
+                *wrong = number;
+                return Err(questions.fault());
+            }
+        }
     }
     Ok(())
 }
@@ -103,7 +132,7 @@ fn answer_one<Q: Questions>(
     number: usize,
     first: &mut [u64],
     second: &mut [u64],
-) -> Result<bool, Fault>
+) -> Result<bool, Unanswered>
     requires given { Q.given questions.now number }
     requires widths { widths ≡ Q.widths questions.now }
     requires first_room { HasList widths.0 first.old number }
@@ -112,8 +141,8 @@ fn answer_one<Q: Questions>(
         (Q.answered questions.now number (list_at widths.0 first.new number)
         (list_at widths.1 second.new number)) (Q.unanswered questions.now number)) }
     ensures asked { OnOk result (Q.is_question questions.now number) }
-    ensures refused { IfErr result (λ told. (told ≡ Memory)
-        ⊎ ((told ≡ Q.fault questions.now) × ¬ Q.is_question questions.now number)) }
+    ensures refused { IfErr result (λ why. (why ≡ OutOfMemory)
+        ⊎ ((why ≡ NoQuestion) × ¬ Q.is_question questions.now number)) }
     ensures first_kept { IfOk result (λ found. found ≡ false → first.new ≡ first.old) }
     ensures second_kept { IfOk result (λ found. found ≡ false → second.new ≡ second.old) }
     ensures other_first { (k : ℕ) → k ≢ number

@@ -4,7 +4,7 @@ ghost use Rattle.zarrs_chunks_c.specs.Asked.{IsChunkOf};
 ghost use Rattle.zarrs_chunks_c.specs.Batch.{HasText, text_at};
 ghost use Rattle.zarrs_chunks_c.specs.declared.codes.Fault.TheVariants.{Offsets};
 
-use crate::batch::Questions;
+use crate::batch::{Questions, Unanswered};
 use crate::codes::Fault;
 use crate::texts::text_of;
 use std::alloc::{AllocError, Global};
@@ -47,13 +47,19 @@ impl<E: ChunkKeyEncodingTraits> Questions for ChunksOfKeys<'_, E> {
         number: usize,
         first: &mut [u64],
         _second: &mut [u64],
-    ) -> Result<bool, Fault> {
-        let key = text_of(self.text, self.offsets, number)?;
+    ) -> Result<bool, Unanswered> {
+        let Ok(key) = text_of(self.text, self.offsets, number) else {
+            return Err(Unanswered::NoQuestion);
+        };
         let Some(chunk) = chunk_of_key(alloc, self.encoding, self.dimensionality, key)? else {
             return Ok(false);
         };
         first.copy_from_slice(&chunk);
         Ok(true)
+    }
+
+    fn fault(&self) -> Fault {
+        Fault::Offsets
     }
 }
 

@@ -1,20 +1,22 @@
 //! What is asked of a prepared grid, list by list.
-ghost use Rattle.std.specs.Prelude.{◌≡◌, ◌⊎◌, cond, IfErr, IfOk, length};
+ghost use Rattle.std.specs.Prelude.{◌≡◌, ◌⊎◌, cond, IfErr, IfOk, MatchOption};
 ghost use Rattle.zarrs_chunk_base.specs.ArraySubset.{IsBox};
 ghost use Rattle.zarrs_chunk_base.specs.Grid.{Grid};
+ghost use Rattle.zarrs_chunk_base.specs.Refusal.{MatchRefusal};
 ghost use Rattle.zarrs_chunk_prepared.specs.LookedUp.{HasNoCover, IsCoverOf, IsHomeIn};
 ghost use Rattle.zarrs_chunk_prepared.specs.seen.PreparedGrid.{IsReadOf, width_of};
 ghost use Rattle.zarrs_chunks.specs.Subsets.{HasNoBox, HasNoHome, Spans};
 ghost use Rattle.zarrs_chunks_c.specs.Batch.{list_at};
 ghost use Rattle.zarrs_chunks_c.specs.GridCalls.{box_asked};
+ghost use Rattle.zarrs_chunks_c.specs.declared.batch.Unanswered.TheVariants.{Memory as OutOfMemory, NoQuestion};
 ghost use Rattle.zarrs_chunks_c.specs.declared.codes.Fault.TheVariants.{Memory, NotBox};
 ghost use Rattle.zarrs_chunks_c.specs.seen.Lists.{HasList};
 
-use crate::batch::Questions;
+use crate::batch::{Questions, Unanswered};
 use crate::codes::Fault;
 use crate::lists::list_of;
-use std::alloc::Global;
-use zarrs_chunk_base::ArraySubset;
+use std::alloc::{AllocError, Global};
+use zarrs_chunk_base::{ArraySubset, IncompatibleDimensionalityError, Refusal};
 use zarrs_chunk_prepared::PreparedGrid;
 
 /// Where elements lie: the chunk of each, and the place there where it is asked for.
@@ -53,9 +55,13 @@ impl Questions for Homes<'_> {
         number: usize,
         first: &mut [u64],
         second: &mut [u64],
-    ) -> Result<bool, Fault> {
+    ) -> Result<bool, Unanswered> {
         let index = list_of(self.indices, self.grid.dimensionality(), number);
         Ok(self.grid.find_home(index, first, second)?)
+    }
+
+    fn fault(&self) -> Fault {
+        Fault::Memory
     }
 }
 
@@ -92,9 +98,13 @@ impl Questions for ChunkBoxes<'_> {
         number: usize,
         first: &mut [u64],
         second: &mut [u64],
-    ) -> Result<bool, Fault> {
+    ) -> Result<bool, Unanswered> {
         let chunk = list_of(self.chunks, self.grid.dimensionality(), number);
         Ok(self.grid.find_box(chunk, first, second)?)
+    }
+
+    fn fault(&self) -> Fault {
+        Fault::Memory
     }
 }
 
@@ -134,11 +144,17 @@ impl Questions for Covers<'_> {
         number: usize,
         first: &mut [u64],
         second: &mut [u64],
-    ) -> Result<bool, Fault> {
+    ) -> Result<bool, Unanswered> {
         let start = list_of(self.starts, self.grid.dimensionality(), number);
         let shape = list_of(self.shapes, self.grid.dimensionality(), number);
-        let elements = box_of(alloc, start, shape)?;
+        let Some(elements) = made_box(alloc, start, shape)? else {
+            return Err(Unanswered::NoQuestion);
+        };
         Ok(self.grid.find_cover(alloc, &elements, first, second)?)
+    }
+
+    fn fault(&self) -> Fault {
+        Fault::NotBox
     }
 }
 
@@ -153,10 +169,47 @@ pub(crate) fn box_of(alloc: Global, start: &[u64], shape: &[u64]) -> Result<Arra
     ensures refused { IfErr result (λ fault. (fault ≡ Memory) ⊎ ((fault ≡ NotBox)
         × ¬ IsBox (record { start = start.now; shape = shape.now }))) }
 {
+    match made_box(alloc, start, shape)? {
+        Some(subset) => Ok(subset),
+        None => Err(Fault::NotBox),
+    }
+}
+
+/// The same, or `None` where there is no such box.
+///
+/// # Errors
+/// Out of memory.
+fn made_box(
+    alloc: Global,
+    start: &[u64],
+    shape: &[u64],
+) -> Result<Option<ArraySubset>, AllocError>
+    ensures { IfOk result (λ made. MatchOption made
+        (¬ IsBox (record { start = start.now; shape = shape.now }))
+        (λ subset. (subset ≡ record { start = start.now; shape = shape.now }) × IsBox subset)) }
+{
     let start = Vec::from_slice(alloc, start)?;
     let shape = Vec::from_slice(alloc, shape)?;
-    match ArraySubset::new_with_start_shape(start, shape) {
-        Ok(subset) => Ok(subset),
-        Err(_) => Err(Fault::NotBox),
+    Ok(ArraySubset::new_with_start_shape(start, shape).ok())
+}
+
+/// A list of another length than there are dimensions is no question.
+impl From<IncompatibleDimensionalityError> for Unanswered {
+    ghost from_gives = { λ _ why. why ≡ NoQuestion };
+
+    fn from(_error: IncompatibleDimensionalityError) -> Unanswered {
+        Unanswered::NoQuestion
+    }
+}
+
+/// The same, or out of memory.
+impl From<Refusal<IncompatibleDimensionalityError>> for Unanswered {
+    ghost from_gives = { λ refusal why. MatchRefusal refusal (λ _. why ≡ NoQuestion) (λ _. why ≡ OutOfMemory) };
+
+    fn from(refusal: Refusal<IncompatibleDimensionalityError>) -> Unanswered {
+        match refusal {
+            Refusal::Refused(_) => Unanswered::NoQuestion,
+            Refusal::Memory(_) => Unanswered::Memory,
+        }
     }
 }

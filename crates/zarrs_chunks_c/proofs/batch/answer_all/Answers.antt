@@ -1,5 +1,4 @@
-use Rattle.std.proofs.Common.{◌<◌, length, below_more, inl, inr, ⊎_elim, subst, arith}
-use Rattle.std.proofs.lemmas.Result.{err_from_is_err_and}
+use Rattle.std.proofs.Common.{◌<◌, length, below_more, subst, arith}
 use Rattle.zarrs_chunks_c.proofs.Batches.{answered_one_more, kept_one_more, marked}
 use Rattle.zarrs_chunks_c.specs.Batch.{AreAnswered, AreKept}
 use Rattle.zarrs_chunks_c.proofs.batch.answer_all.Goals as goal
@@ -7,9 +6,9 @@ use Rattle.zarrs_chunks_c.proofs.batch.answer_all.Goals as goal
 pub loop-number-preserved : goal.loop-number-preserved
 loop-number-preserved g c =
     let questions = c.args.questions.now in
-    let answers = c.in_ok-is_found.ensures in
+    let answers = c.in-Ok.ensures in
     let before = c.loop-number.invariant in
-    let found = c.in_ok-is_found.is_found in
+    let found = c.in-Ok.is_found in
     let same_length = c.loop-number.auto.found in
     let within : c.loop-number.number < length c.loop-number.found = rw same_length c.loop-number-test.true in
     let widths = c.widths-widths.result in
@@ -25,14 +24,6 @@ loop-number-preserved g c =
           answers.second_kept answers.other_second);
       asked = below_more _ _ before.asked answers.asked;
     }
-
-pub returns-in_err-is_found-clause-refused : goal.returns-in_err-is_found-clause-refused
-returns-in_err-is_found-clause-refused g c =
-    let p = err_from_is_err_and c.from_residual.result c.from_residual.ensures.1 in
-    let same_length = c.loop-number.auto.found in
-    let within : c.loop-number.number < length c.loop-number.found = rw same_length c.loop-number-test.true in
-    rw (p.1, p.2)
-    (⊎_elim (λ memory. inl memory) (λ is. inr (is.0, (within, c.loop-number.invariant.asked, is.1))) c.in_err-is_found.ensures.refused)
 
 pub returns-clause-answered : goal.returns-clause-answered
 returns-clause-answered g c =

@@ -1,4 +1,4 @@
-use Rattle.std.proofs.Common.{inl, inr, length, ⊎_elim, subst}
+use Rattle.std.proofs.Common.{inl, inr, ⊎_elim, subst}
 use Rattle.std.proofs.lemmas.Result.{err_from_is_err_and, on_ok_weaker}
 use Rattle.zarrs_chunks_c.specs.Batch.{AreKept}
 use Rattle.zarrs_chunks_c.specs.Calls.{early, no_metadata}

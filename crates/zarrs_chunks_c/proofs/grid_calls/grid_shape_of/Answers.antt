@@ -1,6 +1,5 @@
-use Rattle.std.proofs.Common.{inl, inr, length, ⊎_elim, subst}
-use Rattle.std.proofs.lemmas.Result.{err_from_is_err_and, on_ok_weaker}
-use Rattle.zarrs_chunks_c.specs.Batch.{AreKept}
+use Rattle.std.proofs.Common.{inl, inr, ⊎_elim}
+use Rattle.std.proofs.lemmas.Result.{err_from_is_err_and}
 use Rattle.zarrs_chunks_c.specs.Calls.{early, no_metadata}
 use Rattle.zarrs_chunks_c.specs.GridCalls.{grid_shape_request}
 use Rattle.zarrs_chunks_c.specs.Said.{IsNoGrid, SaysGrid}

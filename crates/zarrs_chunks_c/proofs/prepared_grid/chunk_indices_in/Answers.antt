@@ -1,6 +1,5 @@
-use Rattle.std.proofs.Common.{◌≡◌, ◌∙◌, [], ◌∷◌, inl, inr, length, ⊎_elim}
+use Rattle.std.proofs.Common.{[], ◌∷◌, inl, inr, length, ⊎_elim}
 use Rattle.std.proofs.lemmas.Result.{err_from_is_err_and, on_ok_weaker}
-use Rattle.zarrs_chunk_prepared.specs.seen.PreparedGrid.{width_of}
 use Rattle.zarrs_chunks_c.specs.GridCalls.{RefusesNone, chunk_indices_request}
 use Rattle.zarrs_chunks_c.proofs.Ends.{ends_for, memory_alone}
 use Rattle.zarrs_chunks_c.proofs.PreparedAnswers.{are_chunks, fits, kept, misfits}

@@ -1,6 +1,5 @@
-use Rattle.std.proofs.Common.{◌≡◌, ◌∙◌, [], ◌∷◌, inl, inr, length, ⊎_elim}
+use Rattle.std.proofs.Common.{[], ◌∷◌, inl, inr, length, ⊎_elim}
 use Rattle.std.proofs.lemmas.Result.{err_from_is_err_and, on_ok_weaker}
-use Rattle.zarrs_chunk_prepared.specs.seen.PreparedGrid.{width_of}
 use Rattle.zarrs_chunks_c.specs.GridCalls.{covers_request}
 use Rattle.zarrs_chunks_c.proofs.Ends.{both, ends_for}
 use Rattle.zarrs_chunks_c.proofs.PreparedAnswers.{are_asked, are_covers, fits, kept, misfits, refused_covers}

@@ -1,4 +1,4 @@
-use Rattle.std.proofs.Common.{◌≡◌, ◌∙◌, ◌*◌, [], ◌∷◌, inl, inr, length, ⊎_elim}
+use Rattle.std.proofs.Common.{◌≡◌, ◌*◌, [], ◌∷◌, inl, inr, length, ⊎_elim}
 use Rattle.std.proofs.lemmas.Result.{err_from_is_err_and, on_ok_weaker}
 use Rattle.zarrs_chunk_prepared.specs.seen.PreparedGrid.{width_of}
 use Rattle.zarrs_chunks_c.specs.GridCalls.{RefusesNone, homes_request}
