@@ -2,13 +2,14 @@
 //!
 //! A grid is given as its array's shape and the bytes of its metadata, an encoding as the bytes of its metadata, each as in `zarr.json`.
 //! A batch is many lists of one length, one after another in one array. A call makes its grid and its encoding, answers all questions
-//! and keeps nothing. It answers 0, or a negative code for why it is refused. Lengths are tested, so a call is safe with any valid buffers.
+//! and keeps nothing; a grid may also be prepared once, as numbers, for many calls. A call answers 0, or a negative code for why it is refused. Lengths are tested, so a call is safe with any valid buffers.
 //! `bindings/zarrs_chunks.h` says of each call what it takes and writes. An export has the contract of the function beneath it, over the code in
 //! place of the fault.
 //!
 //! | Module | What it holds |
 //! |---|---|
 //! | `grid_calls` | `zarrs_grid_shape`, `zarrs_chunk_indices_of`, `zarrs_homes_of`, `zarrs_chunk_boxes_of`, `zarrs_covers_of` |
+//! | `prepared_calls` | `zarrs_prepare_grid`, and the calls above of a prepared grid: `zarrs_prepared_grid_shape` and so on |
 //! | `key_calls` | `zarrs_keys_of`, `zarrs_chunks_of_keys` |
 //! | `plan_call` | `zarrs_parts_of` |
 //! | `answer_call` | `zarrs_answer`: any question as text |
@@ -39,6 +40,7 @@ mod lists;
 mod metadata;
 mod parts;
 mod plan_call;
+mod prepared_calls;
 mod prepared_grid;
 mod questions;
 mod structs;

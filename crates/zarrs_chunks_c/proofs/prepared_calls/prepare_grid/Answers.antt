@@ -4,7 +4,7 @@ use Rattle.zarrs_chunk_prepared.specs.Prepared.{IsPreparedGrid}
 use Rattle.zarrs_chunks_c.specs.Calls.{early, no_metadata}
 use Rattle.zarrs_chunks_c.specs.PreparedCalls.{prepare_grid_call}
 use Rattle.zarrs_chunks_c.proofs.Ends.{ends_late, is_too_long, is_whole}
-use Rattle.zarrs_chunks_c.proofs.grid_calls.prepare_grid.Goals as goal
+use Rattle.zarrs_chunks_c.proofs.prepared_calls.prepare_grid.Goals as goal
 
 pub returns-in_err-prepared-clause-ends : goal.returns-in_err-prepared-clause-ends
 returns-in_err-prepared-clause-ends c =
