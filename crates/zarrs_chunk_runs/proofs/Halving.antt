@@ -1,5 +1,6 @@
 -- How a search by halving goes on, and how often it asks.
-use Rattle.std.proofs.Common.{◌≡◌, ◌∙◌, ℕ, zero, suc, ◌+◌, ◌-◌, ◌*◌, ◌<◌, ◌≤◌, ◌^◌, Bool, true, false, IsTrue, cond, min, refl, sym, arith}
+use Rattle.std.proofs.Common.{◌≡◌, ◌∙◌, ℕ, zero, suc, ◌+◌, ◌-◌, ◌*◌, ◌/◌, ◌<◌, ◌≤◌, ◌^◌, Bool, true, false}
+use Rattle.std.proofs.Common.{IsTrue, cond, min, refl, sym, subst, arith}
 use Rattle.std.proofs.lemmas.Bool.{false≢true}
 use Rattle.zarrs_chunk_base.specs.Greatest.{greatest}
 use Rattle.zarrs_chunk_runs.specs.Search.{IsCounted, IsFirstTrue, StaysTrue}
@@ -21,7 +22,7 @@ pub record SoFar (places : ℕ) (truth : ℕ → Bool) (before low high asked : 
   pub none : places ≡ 0 → asked ≡ before
   pub stays : before ≡ greatest → asked ≡ greatest
 
-pub begin : (places : ℕ) (truth : ℕ → Bool) (before : ℕ) → SoFar places truth before 0 places before
+pub begin : (places : ℕ) (truth : ℕ → Bool) (before : ℕ) → SoFar places truth before 0 (0 + places) before
 begin places truth before = record {
   order = omega arith;
   bound = omega arith;
@@ -73,11 +74,18 @@ module _ (places : ℕ) (truth : ℕ → Bool) (before low high asked middle nex
     stays = full;
   }
 
-  -- either of them
-  pub halved : (above : Bool) → truth middle ≡ above → 2 * (middle - low) ≤ high - low → 2 * (high - (middle + 1)) ≤ high - low
-      → SoFar places truth before (cond above low (middle + 1)) (cond above middle high) next
-  halved true is first second = lower first is
-  halved false is first second = upper second (λ holds. false≢true (sym is ∙ holds))
+-- the places that are left: half of them, without the middle one where it is below
+pub shrunk : (places : ℕ) (truth : ℕ → Bool) (before low left asked next : ℕ) → SoFar places truth before low (low + left) asked
+    → StaysTrue places truth → 0 < left → next ≡ min (asked + 1) greatest → (above : Bool) → truth (low + left / 2) ≡ above
+    → SoFar places truth before (cond above low (low + left / 2 + 1))
+    (cond above low (low + left / 2 + 1) + cond above left (left - 1) / 2) next
+shrunk places truth before low left asked next so_far stays_true some counted true is =
+    lower places truth before low (low + left) asked (low + left / 2) next so_far stays_true (omega arith) (omega arith) counted (omega arith) is
+shrunk places truth before low left asked next so_far stays_true some counted false is =
+    let high : low + left ≡ low + left / 2 + 1 + (left - 1) / 2 = omega arith in
+    subst (λ high. SoFar places truth before (low + left / 2 + 1) high next) high
+    (upper places truth before low (low + left) asked (low + left / 2) next so_far stays_true (omega arith) (omega arith) counted (omega arith)
+    (λ holds. false≢true (sym is ∙ holds)))
 
 module _ (places : ℕ) (truth : ℕ → Bool) (before low high asked : ℕ) (so_far : SoFar places truth before low high asked) (ended : high ≤ low) where
   pub found : IsFirstTrue places truth low

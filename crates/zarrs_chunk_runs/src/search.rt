@@ -38,12 +38,13 @@ pub fn first_above<P: Probe>(probe: &mut P) -> usize
     ensures counted { IsCounted (P.extent probe.old) (P.asked probe.old) (P.asked probe.new) }
 {
     let mut low = 0;
-    let mut high = probe.places();
-    while low < high {
-        let middle = low + (high - low) / 2;
+    let mut left = probe.places();
+    while left > 0 {
+        let middle = low + left / 2;
         let above = probe.above(middle);
-        high = either(above, middle, high);
         low = either(above, low, middle + 1);
+        // Those below the middle are left, or those past it.
+        left = either(above, left, left - 1) / 2;
     }
     low
 }
