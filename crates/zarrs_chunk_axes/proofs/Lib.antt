@@ -6,6 +6,7 @@ pub mod EqualAxes
 pub mod Expansions
 pub mod FirstList
 pub mod PairsFound
+pub mod Inverses
 pub mod ListedAxes
 pub mod MadeSoFar
 pub mod Passing

@@ -1,6 +1,7 @@
 //! One dimension of an array that is cut into chunks of one edge.
-ghost use Rattle.std.specs.Prelude.{◌*◌, ◌<◌, ◌^◌, SomeIff};
+ghost use Rattle.std.specs.Prelude.{◌≡◌, ◌*◌, ◌/◌, ◌<◌, ◌^◌, SomeIff};
 ghost use Rattle.std.specs.Int.NonZero.{non_zero_u64_get};
+ghost use Rattle.zarrs_chunk_base.specs.Greatest.{greatest};
 
 use crate::axis::{Axis, AxisFrom};
 use crate::in_bounds::is_in_bounds;
@@ -14,6 +15,23 @@ pub struct EqualAxis {
     array_size: u64,
     /// How many elements a chunk has.
     edge: NonZeroU64,
+    /// How often the edge goes into 18446744073709551615.
+    inverse: u64,
+    ghost is_inverse: { inverse ≡ greatest / non_zero_u64_get edge },
+}
+
+impl EqualAxis {
+    /// How often the edge goes into a number.
+    fn quotient(&self, number: u64) -> u64
+        ensures { result ≡ number / non_zero_u64_get self.now.edge }
+    {
+        // A division takes long. Below 2^32 the product with the inverse is close enough: the quotient is what stands before its last 64 bits.
+        if number < 1 << 32 {
+            ((u128::from(number + 1) * u128::from(self.inverse)) >> 64) as u64
+        } else {
+            number / self.edge.get()
+        }
+    }
 }
 
 impl Axis for EqualAxis {
@@ -36,7 +54,7 @@ impl Axis for EqualAxis {
     }
 
     fn chunk_of(&self, index: u64) -> Option<u64> {
-        Some(index / self.edge.get())
+        Some(self.quotient(index))
     }
 
     fn origin_of(&self, chunk: u64) -> Option<u64> {
@@ -44,8 +62,14 @@ impl Axis for EqualAxis {
     }
 
     fn home_of(&self, index: u64) -> Option<(u64, u64)> {
-        let edge = self.edge.get();
-        Some((index / edge, index % edge))
+        let chunk = self.quotient(index);
+        Some((chunk, index - chunk * self.edge.get()))
+    }
+
+    // As for every axis, but inlined into the loop over all dimensions.
+    #[inline(always)]
+    fn place_of(&self, index: u64) -> Option<u64> {
+        Some(self.home_of(index)?.1)
     }
 
     fn edge_of(&self, _chunk: u64) -> Option<NonZeroU64> {
@@ -60,6 +84,7 @@ impl Axis for EqualAxis {
         Ok(EqualAxis {
             array_size: self.array_size,
             edge: self.edge,
+            inverse: self.inverse,
         })
     }
 }
@@ -85,11 +110,11 @@ impl AxisFrom<NonZeroU64> for EqualAxis {
         true
     }
 
-    #[tactic(auto, using(crate::specs::seen::EqualAxis::equal_edges))]
     fn new(_alloc: Global, array_size: u64, edge: &NonZeroU64) -> Result<EqualAxis, AllocError> {
         Ok(EqualAxis {
             array_size,
             edge: *edge,
+            inverse: u64::MAX / edge.get(),
         })
     }
 
@@ -104,11 +129,5 @@ pub(crate) fn edges_before(chunk: u64, edge: NonZeroU64) -> Option<u64>
         (chunk * non_zero_u64_get edge) }
 {
     // The compiler makes one multiplication of this, and two of `checked_mul`.
-    let edge = edge.get();
-    let start = chunk.wrapping_mul(edge);
-    if start / edge == chunk {
-        Some(start)
-    } else {
-        None
-    }
+    u64::try_from(u128::from(chunk) * u128::from(edge.get())).ok()
 }
