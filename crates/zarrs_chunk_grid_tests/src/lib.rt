@@ -1,4 +1,4 @@
-//! Tests of axes, grids and walks, as a user calls them: that each call answers with ample memory, texts, and a grid whose chunks have no box.
+//! Tests of axes, grids, prepared grids and walks, as a user calls them: that each call answers with ample memory, texts, and a grid whose chunks have no box.
 //!
 //! Tests stand apart from the library, since a crate with tests is proved twice. A grid of one's own is tested in `callers_tests`; vectors of
 //! numbers stand with the program `chunkcalls`.
@@ -7,6 +7,7 @@
 //! |---|---|
 //! | `axes` | lists of axes, and walks through lists of numbers |
 //! | `grids` | the grids |
+//! | `prepared` | prepared grids |
 //! | `walks`, `walks::overlong` | the walks over chunks, and over a grid whose chunks have no box |
 //!
 //! By `compared` they compare what a call answers.
@@ -18,5 +19,7 @@ mod axes;
 mod compared;
 #[cfg(test)]
 mod grids;
+#[cfg(test)]
+mod prepared;
 #[cfg(test)]
 mod walks;

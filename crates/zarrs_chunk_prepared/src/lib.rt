@@ -1,4 +1,20 @@
 //! A chunk grid as numbers in a buffer, which whoever asks keeps: they are written once, and read by each call, without making the grid again.
+//!
+//! [`prepare`] writes the numbers of a grid, and [`PreparedGrid::read`] reads them. What it answers then is proved to be what the grid answers. Any
+//! numbers may be read: others are no grid, or one whose answers mean nothing, and each number is tested where it is used.
+//!
+//! The numbers are a mark, the number of dimensions, and a row for each dimension: how many chunks are counted, the last index that lies in a chunk,
+//! the last number that is a chunk, and how many runs of chunks of one edge there are; then where the first chunk of each run starts, which number it has,
+//! and the edge, each list for all runs. The layout is this library's own, and may be another in another version.
+//!
+//! | Module | What it holds |
+//! |---|---|
+//! | `write`, `run_table` | the numbers of a grid, and of the runs of a dimension |
+//! | `read` | what numbers tell of each dimension |
+//! | `grid` | a prepared grid, and what it answers |
+//! | `axis` | one dimension |
+//! | `search` | the search in runs |
+//! | `homes`, `boxes`, `covers` | in which chunk an element lies, where a chunk lies, and which chunks a box reaches, dimension by dimension |
 #![tactic(auto)]
 
 mod axis;

@@ -4,8 +4,8 @@ ghost use Rattle.zarrs_chunks_c.specs.Calls.{IsEndOf, IsKeptIfShort};
 ghost use Rattle.zarrs_chunks_c.specs.Codes.{Ends};
 ghost use Rattle.zarrs_chunks_c.specs.PlanCall.{answer_call};
 
-use crate::codes::{Fault, code_of};
 use crate::buffers::write_front;
+use crate::codes::{Fault, code_of};
 use std::alloc::Global;
 use zarrs_chunk_questions::answer_within;
 

@@ -5,9 +5,9 @@ ghost use Rattle.zarrs_chunks_c.specs.Codes.{Ends};
 ghost use Rattle.zarrs_chunks_c.specs.FaultCalls.{AreWordsOf, IsTold, encoding_fault_call, grid_fault_call, words_call};
 ghost use Rattle.zarrs_chunks_c.specs.declared.codes.Fault.TheVariants.{Memory};
 
+use crate::buffers::write_front;
 use crate::codes::{Fault, code_of, words_of};
 use crate::metadata::{encoding_of, grid_of};
-use crate::buffers::write_front;
 use std::alloc::{AllocError, Global};
 
 /// Why metadata says no grid of an array of this shape: the code that each call ends with, and words. Where it says one, there are none.

@@ -6,11 +6,11 @@ ghost use Rattle.zarrs_chunks_c.specs.Codes.{Ends};
 ghost use Rattle.zarrs_chunks_c.specs.KeyCalls.{chunks_of_keys_call, keys_call};
 
 use crate::batch::answer_all;
+use crate::buffers::write_front;
 use crate::codes::{Fault, code_of};
 use crate::key_questions::ChunksOfKeys;
 use crate::lists::{count_of_texts, list_of};
 use crate::metadata::encoding_of;
-use crate::buffers::write_front;
 use std::alloc::{AllocError, Global};
 use zarrs_chunk_keys::ChunkKeyEncodingTraits;
 

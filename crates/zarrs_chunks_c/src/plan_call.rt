@@ -6,13 +6,13 @@ ghost use Rattle.zarrs_chunks_c.specs.Parts.{AreKeptBehind, AreSameBuffers, IsPl
 ghost use Rattle.zarrs_chunks_c.specs.PlanCall.{HasRoom, IsUncounted, parts_call};
 ghost use Rattle.zarrs_chunks_c.specs.declared.codes.Fault.TheVariants.{Length, Memory, Short};
 
+use crate::buffers::write_front;
 use crate::codes::{Fault, code_of};
 use crate::lists::{check_lengths, count_of_texts};
 use crate::metadata::{encoding_of, grid_of};
 use crate::parts::{find_parts, join_keys, write_parts};
 use crate::questions::box_of;
 use crate::structs::{ElementBox, PartBuffers, StoredArray};
-use crate::buffers::write_front;
 use std::alloc::Global;
 use zarrs_chunk_base::ArraySubset;
 use zarrs_chunk_keys::ChunkKeyEncodingTraits;

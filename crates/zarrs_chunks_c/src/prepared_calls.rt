@@ -119,7 +119,16 @@ pub extern "C" fn zarrs_prepared_covers_of(
     ensures chunk_counts_kept { Ends (λ end. OnOk end
         (AreKeptForPrepared numbers.now chunk_counts.old chunk_counts.new found.new)) result }
 {
-    code_of(covers_in(alloc, numbers, starts, shapes, first_chunks, chunk_counts, found, wrong))
+    code_of(covers_in(
+        alloc,
+        numbers,
+        starts,
+        shapes,
+        first_chunks,
+        chunk_counts,
+        found,
+        wrong,
+    ))
 }
 
 /// Writes the numbers of the grid, and how many they are, even where the buffer is shorter.

@@ -127,10 +127,7 @@ pub(crate) fn chunk_boxes_in(
     let grid = read_grid(alloc, numbers, found.len())?;
     let totals = [chunks.len(), origins.len(), shapes.len()];
     check_lengths(&totals, grid.dimensionality(), found.len())?;
-    let boxes = ChunkBoxes {
-        grid,
-        chunks,
-    };
+    let boxes = ChunkBoxes { grid, chunks };
     answer_all(alloc, &boxes, origins, shapes, found, &mut 0)
 }
 

@@ -179,11 +179,7 @@ pub(crate) fn box_of(alloc: Global, start: &[u64], shape: &[u64]) -> Result<Arra
 ///
 /// # Errors
 /// Out of memory.
-fn made_box(
-    alloc: Global,
-    start: &[u64],
-    shape: &[u64],
-) -> Result<Option<ArraySubset>, AllocError>
+fn made_box(alloc: Global, start: &[u64], shape: &[u64]) -> Result<Option<ArraySubset>, AllocError>
     ensures { IfOk result (λ made. MatchOption made
         (¬ IsBox (record { start = start.now; shape = shape.now }))
         (λ subset. (subset ≡ record { start = start.now; shape = shape.now }) × IsBox subset)) }

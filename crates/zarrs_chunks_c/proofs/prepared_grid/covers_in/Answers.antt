@@ -15,8 +15,11 @@ returns-in_err-check_lengths-clause-ends c grid prepared =
     let p = err_from_is_err_and c.from_residual-in_err-check_lengths.result c.from_residual-in_err-check_lengths.ensures.1 in
     let are = c.in_ok-grid.ensures grid prepared in
     let (is_length, differ) = rw c.dimensionality.ensures at c.in_err-check_lengths.ensures in
-    rw (p.1, p.2) (inr (inl (is_length, misfits grid c.in_ok-grid.grid are (length c.args.found.now)
-    (length c.args.starts.now ∷ length c.args.shapes.now ∷ length c.args.first_chunks.now ∷ length c.args.chunk_counts.now ∷ []) differ)))
+    rw (p.1, p.2) (inr (inl (
+      is_length,
+      misfits grid c.in_ok-grid.grid are (length c.args.found.now)
+          (length c.args.starts.now ∷ length c.args.shapes.now ∷ length c.args.first_chunks.now ∷ length c.args.chunk_counts.now ∷ []) differ,
+    )))
 
 pub returns-clause-ends : goal.returns-clause-ends
 returns-clause-ends c grid prepared =
