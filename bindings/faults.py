@@ -1,4 +1,5 @@
-"""What the calls answer and refuse, at any number of dimensions, beside plain arithmetic of Python: `test.py` runs it.
+"""What the calls answer and refuse, at any number of dimensions, beside plain arithmetic of Python, and what they do with any numbers of a prepared grid:
+`test.py` runs it.
 
 Each call is taken as the list of its arguments, by the names of the header. So an argument can be made longer or
 shorter, or be exchanged for a wrong one, and what the call ends with is compared with the order of faults that the
@@ -16,10 +17,11 @@ from extensions import GREATEST, grid_metadata
 
 DIMENSIONS = (1, 2, 3, 4, 5, 9, 300)
 LEFT = 7  # what buffers hold before a call
+ROUNDS = 500  # of prepared grids with any numbers
 
 # The order in which faults are told: those of the grid, of the encoding, and then the others.
 METADATA = {"no JSON": (b'{"name":', -3), "no extension": (b"3", -4), "refused": (b'"no"', -5)}
-LENGTH, NOT_A_BOX, OFFSETS, SHORT = -2, -6, -7, -8
+LENGTH, NOT_A_BOX, OFFSETS, SHORT, NOT_PREPARED = -2, -6, -7, -8, -9
 
 
 def filled(count, kind=np.uint64):
@@ -75,6 +77,14 @@ def given_of(grid):
     return {"shape": np.array(grid.shape, np.uint64), "chunk_grid": json.dumps(grid.metadata()).encode()}
 
 
+def numbers_of(grid):
+    """The numbers of a prepared grid of equal chunks that end with the array: a mark, the number of dimensions, and for each dimension how many chunks
+    are counted, the last index and the last chunk, and one run of chunks, which begins at 0 with the chunk 0, with its edge."""
+    rows = zip(grid.grid_shape(), grid.shape, grid.edges)
+    numbers = [part for count, size, edge in rows for part in (count, size - 1, count - 1, 1, 0, 0, edge)]
+    return np.array([int.from_bytes(b"zarrgrid", "big"), len(grid.shape), *numbers], np.uint64)
+
+
 def offsets_of(texts):
     """Where each of some texts begins, one after another, and where the last one ends."""
     return list(itertools.accumulate(map(len, texts), initial=0))
@@ -121,19 +131,23 @@ def grid_calls(rng, dimensions):
     homes, boxes = [grid.home(index) for index in indices], [grid.subset(chunk) for chunk in chunks]
     covers = [grid.chunks_in_array_subset(*box) for box in zip(indices, sizes)]
 
-    yield Asked("zarrs_grid_shape", {**given, "grid_shape": filled(dimensions)}, ["grid_shape"]), {"grid_shape": counts}
-    for name, lists, names, answers in (
-        ("zarrs_chunk_indices_of", {"indices": indices}, ["chunks"], homes),
-        ("zarrs_homes_of", {"indices": indices}, ["chunks", "places"], homes),
-        ("zarrs_chunk_boxes_of", {"chunks": chunks}, ["origins", "shapes"], boxes),
-        ("zarrs_covers_of", {"starts": indices, "shapes": sizes}, ["first_chunks", "chunk_counts"], covers),
-    ):
-        written, marks = batch(answers, len(names), dimensions)
-        asked = {**given, **{name: flat(numbers) for name, numbers in lists.items()}}
-        asked |= {**{name: filled(count * dimensions) for name in names}, "found": filled(count, np.uint8)}
-        if name == "zarrs_covers_of":
-            asked["wrong"] = Count(LEFT)
-        yield Asked(name, asked, [*lists, *names, "found"]), {**dict(zip(names, written)), "found": marks}
+    prepared = numbers_of(grid)
+    asked, expected = {"numbers": filled(prepared.size), "needed": Count(LEFT)}, {"numbers": prepared.tolist(), "needed": prepared.size}
+    yield Asked("zarrs_prepare_grid", {**given, **asked}, []), expected
+    for prefix, given in (("zarrs", given), ("zarrs_prepared", {"numbers": prepared})):
+        yield Asked(f"{prefix}_grid_shape", {**given, "grid_shape": filled(dimensions)}, ["grid_shape"]), {"grid_shape": counts}
+        for name, lists, names, answers in (
+            ("chunk_indices_of", {"indices": indices}, ["chunks"], homes),
+            ("homes_of", {"indices": indices}, ["chunks", "places"], homes),
+            ("chunk_boxes_of", {"chunks": chunks}, ["origins", "shapes"], boxes),
+            ("covers_of", {"starts": indices, "shapes": sizes}, ["first_chunks", "chunk_counts"], covers),
+        ):
+            written, marks = batch(answers, len(names), dimensions)
+            asked = {**given, **{name: flat(numbers) for name, numbers in lists.items()}}
+            asked |= {**{name: filled(count * dimensions) for name in names}, "found": filled(count, np.uint8)}
+            if name == "covers_of":
+                asked["wrong"] = Count(LEFT)
+            yield Asked(f"{prefix}_{name}", asked, [*lists, *names, "found"]), {**dict(zip(names, written)), "found": marks}
 
 
 def key_calls(rng, dimensions):
@@ -200,6 +214,22 @@ def other_lengths(asked):
         yield f"{name} shorter", {name: part[:-1]}
 
 
+def other_numbers(numbers):
+    """Numbers that are those of no grid."""
+    other_mark, more, fewer, runs = (numbers.copy() for _ in range(4))
+    other_mark[0] += np.uint64(1)
+    more[1] += np.uint64(1)
+    fewer[1] -= np.uint64(1)
+    runs[5] = GREATEST
+    yield "another mark", other_mark
+    yield "a dimension more", more
+    yield "a dimension fewer", fewer
+    yield "more runs than numbers", runs
+    yield "a number more", np.concatenate([numbers, numbers[-1:]])
+    yield "a number fewer", numbers[:-1]
+    yield "no numbers", numbers[:0]
+
+
 def wrong_arguments(asked):
     """What can be wrong with a call: of each fault where it stands in the order, its code, and the arguments with it."""
     given = asked.arguments
@@ -211,6 +241,9 @@ def wrong_arguments(asked):
         # The grid is refused that has another number of dimensions.
         yield 0, "shape longer", METADATA["refused"][1], {"shape": np.concatenate([given["shape"], given["shape"][:1]])}
         yield 0, "shape shorter", METADATA["refused"][1], {"shape": given["shape"][:-1]}
+    if asked.name.startswith("zarrs_prepared"):
+        for what, numbers in other_numbers(given["numbers"]):
+            yield 0, what, NOT_PREPARED, {"numbers": numbers}
     for what, exchanged in other_lengths(asked):
         yield 2, what, LENGTH, exchanged
     for start, shape in (("starts", "shapes"), ("start", "box_shape")):
@@ -226,6 +259,8 @@ def wrong_arguments(asked):
         yield 4, "offsets past the text", OFFSETS, {"offsets": past}
     if asked.name in ("zarrs_keys_of", "zarrs_parts_of"):
         yield 5, "a short buffer", SHORT, {"text": given["text"][:-1]}
+    if asked.name == "zarrs_prepare_grid":
+        yield 5, "a short buffer", SHORT, {"numbers": given["numbers"][:-1]}
 
 
 def first_wrong(asked, exchanged):
@@ -234,7 +269,8 @@ def first_wrong(asked, exchanged):
     given = {name: part.tolist() for name, part in arguments.items() if isinstance(part, np.ndarray)}
     if "starts" in given:
         ends = [start + size for start, size in zip(given["starts"], given["shapes"])]
-        return next(k // len(given["shape"]) for k, end in enumerate(ends) if end > GREATEST)
+        width = len(given["starts"]) // len(given["found"])
+        return next(k // width for k, end in enumerate(ends) if end > GREATEST)
     pairs = zip(given["offsets"], given["offsets"][1:])
     return next(k for k, (start, end) in enumerate(pairs) if start > end or end > len(given["text"]))
 
@@ -266,15 +302,49 @@ def ends_of(tally, library, dimensions):
 
 
 def short(tally, library, asked, expected, what):
-    """A buffer that is too short for its text: all else is written, and the text's length is told."""
+    """A buffer that is too short for its text or its numbers: all else is written, and their length is told."""
     if expected.get("needed"):
+        filling = "text" if "text" in expected else "numbers"
         for room in (0, expected["needed"] - 1):
-            code, left = asked.ends(library, text=filled(room, np.uint8))
-            tally.same(f"{what}, room for {room}", (code, left["text"]), (SHORT, [LEFT] * room))
-            rest = {name: part for name, part in expected.items() if name != "text"}
+            code, left = asked.ends(library, **{filling: filled(room, asked.arguments[filling].dtype)})
+            tally.same(f"{what}, room for {room}", (code, left[filling]), (SHORT, [LEFT] * room))
+            rest = {name: part for name, part in expected.items() if name != filling}
             tally.same(f"{what}, room for {room}: the rest", {name: left[name] for name in rest}, rest)
+
+
+def any_numbers(tally, library):
+    """Prepared grids with some of their numbers exchanged for any: each call ends with a code of its own, marks with 0 or 1, and writes nothing beside its
+    buffers."""
+    rng = random.Random(7)
+    odd = lambda: rng.choice([0, 1, 2, 3, 5, 2**32, 2**63, GREATEST - 1, GREATEST, rng.randrange(50)])
+    for number in range(ROUNDS):
+        dimensions, count = rng.randrange(1, 4), rng.choice([1, 20])
+        numbers = numbers_of_runs(rng, dimensions)
+        for _ in range(rng.randrange(4)):
+            numbers[rng.randrange(numbers.size)] = odd()
+        for name, asked, answers in (("chunk_indices", 1, 1), ("homes", 1, 2), ("chunk_boxes", 1, 2), ("covers", 2, 2)):
+            lists = [np.array([odd() for _ in range(count * dimensions)], np.uint64) for _ in range(asked)]
+            kept = [filled(count * dimensions + 1) for _ in range(answers)] + [filled(count + 1, np.uint8)]
+            told = [ctypes.byref(Count())] if name == "covers" else []
+            code = library.call(f"zarrs_prepared_{name}_of", numbers, *lists, *(part[:-1] for part in kept), *told)
+            ends = {0, LENGTH, NOT_A_BOX, NOT_PREPARED} if told else {0, LENGTH, NOT_PREPARED}
+            beside, marks = [int(part[-1]) for part in kept], set(kept[-1][:-1].tolist())
+            found = code in ends, beside, code != 0 or marks <= {0, 1}
+            tally.same(f"{name} by any numbers, round {number}", found, (True, [LEFT] * len(kept), True))
+
+
+def numbers_of_runs(rng, dimensions):
+    """The numbers of a prepared grid of some runs of chunks along each dimension."""
+    numbers = [int.from_bytes(b"zarrgrid", "big"), dimensions]
+    for _ in range(dimensions):
+        runs = [(rng.randrange(1, 9), rng.randrange(1, 5)) for _ in range(rng.randrange(1, 6))]
+        starts = list(itertools.accumulate((edge * count for edge, count in runs), initial=0))
+        chunks = list(itertools.accumulate((count for _edge, count in runs), initial=0))
+        numbers += [chunks[-1], starts[-1] - 1, chunks[-1] - 1, len(runs), *starts[:-1], *chunks[:-1], *(edge for edge, _count in runs)]
+    return np.array(numbers, np.uint64)
 
 
 def faults(tally, library):
     for dimensions in DIMENSIONS:
         ends_of(tally, library, dimensions)
+    any_numbers(tally, library)

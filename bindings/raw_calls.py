@@ -3,9 +3,9 @@ import ctypes
 
 import numpy as np
 from zarrs_chunks import _library, answer
-from zarrs_chunks._library import NOT_JSON, OUT_OF_MEMORY, REFUSED, SHORT_BUFFER, WRONG_LENGTH
+from zarrs_chunks._library import NOT_JSON, NOT_PREPARED, OUT_OF_MEMORY, REFUSED, SHORT_BUFFER, WRONG_LENGTH
 
-__all__ = ["NOT_JSON", "OUT_OF_MEMORY", "REFUSED", "SHORT_BUFFER", "WRONG_LENGTH", "answer", "call", "parts_of"]
+__all__ = ["NOT_JSON", "NOT_PREPARED", "OUT_OF_MEMORY", "REFUSED", "SHORT_BUFFER", "WRONG_LENGTH", "answer", "call", "parts_of"]
 
 # Beside the package's own, so that the types of arguments that it declares don't hold here.
 _LIBRARY = ctypes.CDLL(str(_library.path()))

@@ -213,6 +213,7 @@ def against_numpy(tally):
         within = indices[:, 0] < ends[-1]
         tally.same(f"{count} edges: found", (found == within).all(), True)
         tally.same(f"{count} edges: searchsorted", (chunks[within, 0] == sought[within]).all(), True)
+        tally.same(f"{count} edges: no chunk leaves zeros", chunks[~within].any() or places[~within].any(), False)
         right = (indices[:, 0] - starts[sought])[within]
         tally.same(f"{count} edges: places", (places[within, 0] == right).all(), True)
 

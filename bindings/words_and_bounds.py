@@ -45,7 +45,8 @@ CODES = {
     -6: "a box ends past 18446744073709551615",
     -7: "offsets descend, or lie past the text",
     -8: "the text of the answer is longer than its buffer",
-    -9: "no call ends with this code",
+    -9: "the numbers are not those of a prepared grid or encoding",
+    -10: "no call ends with this code",
     1: "no call ends with this code",
     -(2**31): "no call ends with this code",
 }

@@ -6,20 +6,22 @@
  *
  * A grid is the array's shape (d numbers) and the text of the member `chunk_grid` of its zarr.json; an encoding is the text of the member
  * `chunk_key_encoding`. Texts are UTF-8 and end at their length, not at a zero byte. Each call makes its grid and its encoding anew and keeps
- * nothing, so calls may run in several threads at once.
+ * nothing, so calls may run in several threads at once. Where a grid is asked often, zarrs_prepare_grid writes it once as numbers, which the caller
+ * keeps, and the calls `zarrs_prepared_...` take these in place of the shape and the text.
  *
  * Each call answers ZARRS_OK or one of the codes below. After another code than ZARRS_OK and ZARRS_SHORT_BUFFER the buffers that are written to
  * hold anything, but nothing is written beside them; what a call tells of its refusal all the same is said there. After these two, what lies behind a
- * text and behind the parts that are written is as it was. zarrs_code_words says in words what a code is, zarrs_grid_fault and zarrs_encoding_fault
+ * text, behind numbers of a grid and behind the parts that are written is as it was. zarrs_code_words says in words what a code is, zarrs_grid_fault and zarrs_encoding_fault
  * what metadata lack.
  *
  * Where several things are wrong, the first of them is told, in this order, which is the same for all calls:
  *
- * 1. the metadata of the grid: ZARRS_NOT_JSON, ZARRS_NOT_METADATA, ZARRS_REFUSED; then that of the encoding, by the same three codes
+ * 1. the metadata of the grid: ZARRS_NOT_JSON, ZARRS_NOT_METADATA, ZARRS_REFUSED; then that of the encoding, by the same three codes; or the
+ *    numbers of a prepared grid: ZARRS_NOT_PREPARED
  * 2. the lengths of the arrays: ZARRS_WRONG_LENGTH
  * 3. a start and a shape that are those of no box: ZARRS_NOT_A_BOX; in a batch, those of some list
  * 4. the offsets: ZARRS_WRONG_OFFSETS; those of some text
- * 5. the room for the text of an answer: ZARRS_SHORT_BUFFER
+ * 5. the room for the text of an answer, or for the numbers of a grid: ZARRS_SHORT_BUFFER
  *
  * ZARRS_OUT_OF_MEMORY may come in place of any answer.
  *
@@ -67,8 +69,10 @@ extern "C" {
 #define ZARRS_NOT_A_BOX (-6)
 /* Offsets descend, or lie past the text. */
 #define ZARRS_WRONG_OFFSETS (-7)
-/* The text of the answer is longer than its buffer; `needed` tells how long it is. */
+/* The text of the answer is longer than its buffer, or the numbers of a grid are more; `needed` tells how long it is, or how many they are. */
 #define ZARRS_SHORT_BUFFER (-8)
+/* Numbers aren't those of a prepared grid. */
+#define ZARRS_NOT_PREPARED (-9)
 
 /* The version of the interface of the library that is loaded. */
 int32_t zarrs_abi_version(void);
@@ -114,6 +118,50 @@ int32_t zarrs_chunk_boxes_of(
 int32_t zarrs_covers_of(
     const uint64_t *shape, size_t shape_len,
     const uint8_t *chunk_grid, size_t chunk_grid_len,
+    const uint64_t *starts, size_t starts_len,
+    const uint64_t *shapes, size_t shapes_len,
+    uint64_t *first_chunks, size_t first_chunks_len,
+    uint64_t *chunk_counts, size_t chunk_counts_len,
+    uint8_t *found, size_t found_len,
+    size_t *wrong);
+
+/* The numbers of a grid, for the calls below. *needed gets how many they are: 2, and for each dimension 4, and 3 for each run of equal edges, where one
+ * edge for all chunks is one run. ZARRS_SHORT_BUFFER where they are more than numbers has room for: nothing is written to it. */
+int32_t zarrs_prepare_grid(
+    const uint64_t *shape, size_t shape_len,
+    const uint8_t *chunk_grid, size_t chunk_grid_len,
+    uint64_t *numbers, size_t numbers_len,
+    size_t *needed);
+
+/* The calls above of a grid that is prepared: numbers are those that zarrs_prepare_grid wrote, all of them. They answer as the calls above, and
+ * sooner: nothing is read but the numbers. Those that this version wrote are for this version alone, since their layout may change. Numbers may be
+ * any: others than those of a grid are refused by ZARRS_NOT_PREPARED, or answered as if they were those of one, and such an answer means nothing. */
+int32_t zarrs_prepared_grid_shape(
+    const uint64_t *numbers, size_t numbers_len,
+    uint64_t *grid_shape, size_t grid_shape_len);
+
+int32_t zarrs_prepared_chunk_indices_of(
+    const uint64_t *numbers, size_t numbers_len,
+    const uint64_t *indices, size_t indices_len,
+    uint64_t *chunks, size_t chunks_len,
+    uint8_t *found, size_t found_len);
+
+int32_t zarrs_prepared_homes_of(
+    const uint64_t *numbers, size_t numbers_len,
+    const uint64_t *indices, size_t indices_len,
+    uint64_t *chunks, size_t chunks_len,
+    uint64_t *places, size_t places_len,
+    uint8_t *found, size_t found_len);
+
+int32_t zarrs_prepared_chunk_boxes_of(
+    const uint64_t *numbers, size_t numbers_len,
+    const uint64_t *chunks, size_t chunks_len,
+    uint64_t *origins, size_t origins_len,
+    uint64_t *shapes, size_t shapes_len,
+    uint8_t *found, size_t found_len);
+
+int32_t zarrs_prepared_covers_of(
+    const uint64_t *numbers, size_t numbers_len,
     const uint64_t *starts, size_t starts_len,
     const uint64_t *shapes, size_t shapes_len,
     uint64_t *first_chunks, size_t first_chunks_len,

@@ -5,10 +5,11 @@ from typing import NamedTuple
 import numpy as np
 
 from . import _library
-from ._answer import refuse, text_of
+from ._answer import refuse
 from ._encoding import Encoding, keys_between, usual_length
 from ._metadata import Metadata
 from ._numbers import GREATEST, list_of_numbers, lists_of_numbers, whole_number
+from ._prepared import PreparedGrid
 
 # How much a single answer of `parts` holds at most, which then takes some gigabytes of memory: so many numbers of each kind, where each part
 # counts as four numbers more.
@@ -49,12 +50,8 @@ class Grid:
         self._shape = list_of_numbers("shape", shape)
         self._shape.flags.writeable = False
         self._metadata = Metadata("chunk_grid", chunk_grid)
-        code, words = text_of("zarrs_grid_fault", "words", shape=self._shape, chunk_grid=self._metadata.text)
-        if code != _library.OK:
-            refuse(code, words)
-        sizes = _library.room(self._shape.shape)
-        self._call("zarrs_grid_shape", grid_shape=sizes)
-        self._grid_shape = tuple(sizes.tolist())
+        self._prepared = PreparedGrid(self._shape, self._metadata.text)
+        self._grid_shape = tuple(self._prepared.grid_shape(self._shape.size).tolist())
 
     def __repr__(self):
         return f"Grid({list(self.array_shape)}, {self.metadata!r})"
@@ -133,10 +130,7 @@ class Grid:
         >>> chunks.tolist(), found.tolist()
         ([[2, 2], [0, 0]], [True, False])
         """
-        indices = self._lists("indices", indices)
-        chunks, found = _library.room_like(indices), _marks(indices)
-        self._call("zarrs_chunk_indices_of", indices=indices, chunks=chunks, found=found)
-        return chunks, found.view(np.bool_)
+        return self._prepared.ask("zarrs_prepared_chunk_indices_of", self._lists("indices", indices), 1)
 
     def chunk_element_indices(self, indices):
         """The place of each element in the chunk that holds it, counted from the chunk's first element, and whether a chunk does.
@@ -156,10 +150,7 @@ class Grid:
         >>> chunks.tolist(), places.tolist(), found.tolist()
         ([[2, 1]], [[0, 2]], [True])
         """
-        indices = self._lists("indices", indices)
-        chunks, places, found = _library.room_like(indices), _library.room_like(indices), _marks(indices)
-        self._call("zarrs_homes_of", indices=indices, chunks=chunks, places=places, found=found)
-        return chunks, places, found.view(np.bool_)
+        return self._prepared.ask("zarrs_prepared_homes_of", self._lists("indices", indices), 2)
 
     def subset(self, chunks):
         """The box of each chunk, as its origin and its shape, and whether there is such a chunk that ends at 18446744073709551615 or before.
@@ -169,10 +160,7 @@ class Grid:
         >>> origins.tolist(), shapes.tolist(), found.tolist()
         ([[4, 6]], [[1, 1]], [True])
         """
-        chunks = self._lists("chunks", chunks)
-        origins, shapes, found = _library.room_like(chunks), _library.room_like(chunks), _marks(chunks)
-        self._call("zarrs_chunk_boxes_of", chunks=chunks, origins=origins, shapes=shapes, found=found)
-        return origins, shapes, found.view(np.bool_)
+        return self._prepared.ask("zarrs_prepared_chunk_boxes_of", self._lists("chunks", chunks), 2)
 
     def chunks_in_array_subset(self, starts, shapes):
         """The cover of each box of elements, which is given as its start and its shape: the first of the chunks that hold some of them, how
@@ -186,9 +174,7 @@ class Grid:
         starts, shapes = self._lists("starts", starts), self._lists("shapes", shapes)
         if starts.shape != shapes.shape:
             raise ValueError(f"shapes: there are to be as many as starts, and the arrays' shapes are {shapes.shape} and {starts.shape}")
-        first, counts, found = _library.room_like(starts), _library.room_like(starts), _marks(starts)
-        self._call("zarrs_covers_of", starts=starts, shapes=shapes, first_chunks=first, chunk_counts=counts, found=found)
-        return first, counts, found.view(np.bool_)
+        return self._prepared.covers(starts, shapes)
 
     def parts(self, encoding, start, shape, first=0, most=None):
         """The plan of reading a box of elements, which is given as its start and its shape: the parts of the chunks that hold some of them, in
@@ -238,16 +224,4 @@ class Grid:
         return Parts(*(numbers[: told["count"]] for numbers in lists.values()), keys, told["in_all"])
 
     def _lists(self, argument, values):
-        return lists_of_numbers(argument, values, self.dimensionality)
-
-    def _call(self, name, **arguments):
-        code, told = _library.call(name, shape=self._shape, chunk_grid=self._metadata.text, **arguments)
-        if code == _library.NOT_A_BOX:
-            refuse(code, f"box {told['wrong']} ends past 18446744073709551615")
-        if code != _library.OK:
-            refuse(code)
-
-
-def _marks(lists):
-    """A byte for each list."""
-    return _library.room(lists.shape[:-1], np.uint8)
+        return lists_of_numbers(argument, values, self._shape.size)

@@ -1,7 +1,7 @@
 """The shared library: where it lies, which calls it has, and how each is made.
 
-Every argument of every call passes through `call`. It takes arrays and bytes that are fit for the library, and makes pointers and lengths of
-them. What a caller of the package gives becomes such an array or bytes in `_numbers`, `_texts` and `_metadata`.
+Every argument passes through `call`, but for those of a prepared grid's lists, which `_prepared` passes. It takes arrays and bytes that are fit for
+the library, and makes pointers and lengths of them. What a caller of the package gives becomes such an array or bytes in `_numbers`, `_texts` and `_metadata`.
 """
 
 import ctypes
@@ -15,7 +15,7 @@ from . import _processor
 # The version of zarrs_chunks.h that the calls below are those of.
 VERSION = 2
 
-OK, OUT_OF_MEMORY, WRONG_LENGTH, NOT_JSON, NOT_METADATA, REFUSED, NOT_A_BOX, WRONG_OFFSETS, SHORT_BUFFER = range(0, -9, -1)
+OK, OUT_OF_MEMORY, WRONG_LENGTH, NOT_JSON, NOT_METADATA, REFUSED, NOT_A_BOX, WRONG_OFFSETS, SHORT_BUFFER, NOT_PREPARED = range(0, -10, -1)
 
 
 class _Array:
@@ -25,7 +25,7 @@ class _Array:
         self.kind, self.is_written = np.dtype(kind), is_written
 
     def is_fit(self, array):
-        """Whether the library may read an array, or write to it: then it is one that `room`, `room_like` or `text_room` made, whole."""
+        """Whether the library may read an array, or write to it: then it is one that `room` or `text_room` made, whole."""
         if type(array) is not np.ndarray or array.dtype != self.kind:
             return False
         flags = array.flags
@@ -65,17 +65,24 @@ PartBuffers = _struct(
 STORED_ARRAY, ELEMENT_BOX, PART_BUFFERS = ((ctypes.POINTER(struct),) for struct in (StoredArray, ElementBox, PartBuffers))
 _STRUCTS = {STORED_ARRAY: StoredArray, ELEMENT_BOX: ElementBox, PART_BUFFERS: PartBuffers}
 
+# What is asked of a grid: the calls `zarrs_...` take the grid's metadata before it, and `zarrs_prepared_...` its numbers.
+_ASKED = {
+    "grid_shape": {"grid_shape": WRITTEN_NUMBERS},
+    "chunk_indices_of": {"indices": NUMBERS, "chunks": WRITTEN_NUMBERS, "found": WRITTEN_BYTES},
+    "homes_of": {"indices": NUMBERS, "chunks": WRITTEN_NUMBERS, "places": WRITTEN_NUMBERS, "found": WRITTEN_BYTES},
+    "chunk_boxes_of": {"chunks": NUMBERS, "origins": WRITTEN_NUMBERS, "shapes": WRITTEN_NUMBERS, "found": WRITTEN_BYTES},
+    "covers_of": {
+        "starts": NUMBERS, "shapes": NUMBERS,
+        "first_chunks": WRITTEN_NUMBERS, "chunk_counts": WRITTEN_NUMBERS, "found": WRITTEN_BYTES, "wrong": TOLD_SIZE,
+    },
+}  # fmt: skip
+
 # The calls of zarrs_chunks.h, with the names and the order of their arguments there. Each answers a code, and the first one the version.
 CALLS = {
     "zarrs_abi_version": {},
-    "zarrs_grid_shape": {**_GRID, "grid_shape": WRITTEN_NUMBERS},
-    "zarrs_chunk_indices_of": {**_GRID, "indices": NUMBERS, "chunks": WRITTEN_NUMBERS, "found": WRITTEN_BYTES},
-    "zarrs_homes_of": {**_GRID, "indices": NUMBERS, "chunks": WRITTEN_NUMBERS, "places": WRITTEN_NUMBERS, "found": WRITTEN_BYTES},
-    "zarrs_chunk_boxes_of": {**_GRID, "chunks": NUMBERS, "origins": WRITTEN_NUMBERS, "shapes": WRITTEN_NUMBERS, "found": WRITTEN_BYTES},
-    "zarrs_covers_of": {
-        **_GRID, "starts": NUMBERS, "shapes": NUMBERS,
-        "first_chunks": WRITTEN_NUMBERS, "chunk_counts": WRITTEN_NUMBERS, "found": WRITTEN_BYTES, "wrong": TOLD_SIZE,
-    },
+    **{f"zarrs_{name}": {**_GRID, **asked} for name, asked in _ASKED.items()},
+    "zarrs_prepare_grid": {**_GRID, "numbers": WRITTEN_NUMBERS, "needed": TOLD_SIZE},
+    **{f"zarrs_prepared_{name}": {"numbers": NUMBERS, **asked} for name, asked in _ASKED.items()},
     "zarrs_keys_of": {
         **_ENCODING, "dimensionality": SIZE, "chunks": NUMBERS,
         "text": WRITTEN_BYTES, "offsets": WRITTEN_NUMBERS, "needed": TOLD_SIZE,
@@ -104,7 +111,7 @@ def path():
 
 
 def _load():
-    """The functions of the library, by name, each with the types of its arguments."""
+    """The library, and its functions by name, each with the types of its arguments."""
     _processor.check()
     place = path()
     if not place.exists():
@@ -121,10 +128,17 @@ def _load():
     version = functions["zarrs_abi_version"]()
     if version != VERSION:
         raise ImportError(f"{place} has the version {version} of the calls, and this package is for the version {VERSION}")
-    return functions
+    return library, functions
 
 
-_FUNCTIONS = _load()
+_LIBRARY, _FUNCTIONS = _load()
+
+
+def function(name, kinds):
+    """A call of the library with arguments of other types of C than those that `call` passes. What it is given isn't tested."""
+    found = _LIBRARY[name]
+    found.argtypes, found.restype = kinds, ctypes.c_int32
+    return found
 
 
 def room(shape, kind=np.uint64):
@@ -132,12 +146,9 @@ def room(shape, kind=np.uint64):
     return _new(np.zeros, shape, kind)
 
 
-def room_like(lists):
-    """The same in the shape of lists of numbers, which the caller has in memory. The library fills it sooner than one of `room`."""
-    try:
-        return np.zeros_like(lists)
-    except MemoryError as error:
-        raise MemoryError(f"out of memory: there is no room for an array of the shape {lists.shape}") from error
+def room_for_all(shape):
+    """A new array of numbers that hold anything, for answers that are written or set to 0 one and all. A call fills it sooner than one of `room`."""
+    return _new(np.empty, shape, np.uint64)
 
 
 def text_room(length):

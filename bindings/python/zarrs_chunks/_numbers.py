@@ -8,6 +8,7 @@ import numpy as np
 from ._reading import reading
 
 GREATEST = 2**64 - 1
+_UINT64 = np.dtype(np.uint64)
 
 
 def whole_number(argument, value):
@@ -35,8 +36,12 @@ def numbers(argument, values):
     Traceback (most recent call last):
     TypeError: indices: whole numbers are wanted, and the array is of float64
     """
+    # A view of its own: what another thread does to the caller's, as to set its type or its shape, doesn't change it.
+    if type(values) is np.ndarray:
+        array = values.view()
+        if _is_fit(array):
+            return array
     with reading(argument):
-        # A view of its own: what another thread does to the caller's, as to set its type or its shape, doesn't change it.
         array = np.asarray(values).view()
         if array.size == 0:
             return np.zeros(array.shape, np.uint64)
@@ -52,11 +57,18 @@ def numbers(argument, values):
     raise TypeError(f"{argument}: whole numbers are wanted, and the array is of {array.dtype}")
 
 
+def _is_fit(array):
+    """Whether the library may read an array as it is."""
+    flags = array.flags
+    return array.dtype == _UINT64 and flags.c_contiguous and flags.aligned
+
+
 def lists_of_numbers(argument, values, dimensionality):
     """The same of lists with a number for each dimension, which are the last axis."""
     array = numbers(argument, values)
-    if array.ndim == 0 or array.shape[-1] != dimensionality:
-        raise ValueError(f"{argument}: the last axis is to have {dimensionality} numbers, one a dimension, and the array's shape is {array.shape}")
+    shape = array.shape
+    if not shape or shape[-1] != dimensionality:
+        raise ValueError(f"{argument}: the last axis is to have {dimensionality} numbers, one a dimension, and the array's shape is {shape}")
     return array
 
 
