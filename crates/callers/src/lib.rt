@@ -10,6 +10,7 @@
 //! | `grids` | a grid of each kind |
 //! | `known_kind` | what is known of a grid whose kind is known |
 //! | `elements` | where an element lies, and under which key its chunk is stored |
+//! | `prepared` | the chunk of an element, by the numbers of a grid that was prepared once |
 //! | `subsets` | the keys of all chunks of a grid, and of those that a box of elements meets |
 //! | `reading` | the elements of a box, read from a store |
 //! | `rechunking` | how many chunks of the source a chunk of the target is made of, at most |
@@ -23,6 +24,7 @@ mod grids;
 mod keys;
 mod known_kind;
 mod metadata;
+mod prepared;
 mod reading;
 mod rechunking;
 mod runs;
@@ -36,6 +38,7 @@ pub use grids::{bounded, by_name, rectangular, rectilinear, regular};
 pub use keys::{append_keys, key_by_name};
 pub use known_kind::{is_in_bounds, metadata_of_regular};
 pub use metadata::{metadata_of, regular_metadata};
+pub use prepared::find_chunk;
 pub use reading::{ChunkStore, Piece, read_box};
 pub use rechunking::most_sources;
 pub use runs::chunk_of_index;

@@ -1,9 +1,10 @@
 //! Each caller with its answer, which was computed by hand.
 use crate::compared::{check_numbers, check_same, check_that};
 use callers::{
-    Stairs, Versioned, append_keys, are_one_element, bounded, by_name, chunk_of_index, grid_sizes,
-    is_in_bounds, key_by_name, key_of_element, keys_of_grid, keys_of_subset, metadata_of,
-    metadata_of_regular, rectangular, rectilinear, regular, regular_metadata, share_a_chunk,
+    Stairs, Versioned, append_keys, are_one_element, bounded, by_name, chunk_of_index, find_chunk,
+    grid_sizes, is_in_bounds, key_by_name, key_of_element, keys_of_grid, keys_of_subset,
+    metadata_of, metadata_of_regular, rectangular, rectilinear, regular, regular_metadata,
+    share_a_chunk,
 };
 use serde_json::Value;
 use std::alloc::Global;
@@ -122,6 +123,20 @@ fn a_grid_by_its_name(rt: HostRuntime) -> Result<(), Fail> {
     let text = r#"{"name":"rectangular","configuration":{"chunk_shape":[[5,20],10]}}"#;
     let grid = by_name(rt.alloc(), &metadata(rt.alloc(), text)?, &[25, 30])?;
     check_grid(&rt, &grid, &[2, 3], &[1, 2], &[20, 10])
+}
+
+#[test]
+fn a_prepared_grid(rt: HostRuntime) -> Result<(), Fail> {
+    let alloc = rt.alloc();
+    // A regular grid of two chunks of three elements, counted from `zarrgrid` in ASCII on.
+    let numbers = [8818455381055531364, 1, 2, u64::MAX, u64::MAX, 1, 0, 0, 3];
+    let mut chunk = [9];
+    let found = find_chunk(alloc, &numbers, &[4], &mut chunk)?;
+    check_that(&rt, found == Some(true), "a chunk holds the element");
+    check_numbers(&rt, &chunk, &[1]);
+    let found = find_chunk(alloc, &[], &[4], &mut chunk)?;
+    check_that(&rt, found.is_none(), "no numbers are no grid");
+    Ok(())
 }
 
 #[test]
