@@ -155,16 +155,23 @@ def key_calls(rng, dimensions):
     chunks = [[rng.choice([*ends, rng.randrange(2**64), GREATEST]) for _ in range(dimensions)] for _ in range(count)]
     keys = [DEFAULT.key(chunk).encode() for chunk in chunks]
     text, offsets = b"".join(keys), offsets_of(keys)
-    given = {"chunk_key_encoding": b'"default"', "dimensionality": dimensions}
-    asked = {**given, "chunks": flat(chunks), "text": filled(len(text), np.uint8), "offsets": filled(count + 1)}
-    expected = {"text": list(text), "offsets": offsets, "needed": len(text)}
-    yield Asked("zarrs_keys_of", {**asked, "needed": Count(LEFT)}, ["chunks", "offsets"]), expected
+    # The mark, the kind of keys, and the separator's byte.
+    numbers = np.array([int.from_bytes(b"zarrkeys", "big"), 0, ord("/")], np.uint64)
+    asked, expected = {"numbers": filled(3), "needed": Count(LEFT)}, {"numbers": numbers.tolist(), "needed": 3}
+    yield Asked("zarrs_prepare_encoding", {"chunk_key_encoding": b'"default"', **asked}, []), expected
+    forms = (("zarrs", {"chunk_key_encoding": b'"default"'}), ("zarrs_prepared", {"numbers": numbers}))
+    for prefix, given in forms:
+        asked = {**given, "dimensionality": dimensions, "chunks": flat(chunks)}
+        asked |= {"text": filled(len(text), np.uint8), "offsets": filled(count + 1), "needed": Count(LEFT)}
+        expected = {"text": list(text), "offsets": offsets, "needed": len(text)}
+        yield Asked(f"{prefix}_keys_of", asked, ["chunks", "offsets"]), expected
     keys[1] = b"c/01"
     text, offsets = np.frombuffer(b"".join(keys), np.uint8), np.array(offsets_of(keys), np.uint64)
     written, marks = batch([None if k == 1 else (chunk,) for k, chunk in enumerate(chunks)], 1, dimensions)
-    asked = {**given, "text": text, "offsets": offsets, "chunks": filled(count * dimensions)}
-    asked |= {"found": filled(count, np.uint8), "wrong": Count(LEFT)}
-    yield Asked("zarrs_chunks_of_keys", asked, ["offsets", "chunks", "found"]), {"chunks": written[0], "found": marks}
+    for prefix, given in forms:
+        asked = {**given, "dimensionality": dimensions, "text": text, "offsets": offsets, "chunks": filled(count * dimensions)}
+        asked |= {"found": filled(count, np.uint8), "wrong": Count(LEFT)}
+        yield Asked(f"{prefix}_chunks_of_keys", asked, ["offsets", "chunks", "found"]), {"chunks": written[0], "found": marks}
 
 
 def plan_call(rng, dimensions):
@@ -230,6 +237,19 @@ def other_numbers(numbers):
     yield "no numbers", numbers[:0]
 
 
+def other_encodings(numbers):
+    """Numbers that are those of no encoding."""
+    mark, _kind, separator = numbers.tolist()
+    suffixed = [mark, 2, separator]
+    for what, others in {
+        "another mark": [mark + 1, 0, separator], "another kind": [mark, 3, separator], "another separator": [mark, 0, ord("-")], "a number fewer": [mark, 0],
+        "a number more": [mark, 0, separator, separator],
+        "no numbers": [], "a suffix that ends in a slash": [*suffixed, ord("/")], "a suffix that is no UTF-8": [*suffixed, 0xC3],
+        "a suffix of no bytes": [*suffixed, 256],
+    }.items():  # fmt: skip
+        yield what, np.array(others, np.uint64)
+
+
 def wrong_arguments(asked):
     """What can be wrong with a call: of each fault where it stands in the order, its code, and the arguments with it."""
     given = asked.arguments
@@ -242,7 +262,8 @@ def wrong_arguments(asked):
         yield 0, "shape longer", METADATA["refused"][1], {"shape": np.concatenate([given["shape"], given["shape"][:1]])}
         yield 0, "shape shorter", METADATA["refused"][1], {"shape": given["shape"][:-1]}
     if asked.name.startswith("zarrs_prepared"):
-        for what, numbers in other_numbers(given["numbers"]):
+        others = other_encodings if "dimensionality" in given else other_numbers
+        for what, numbers in others(given["numbers"]):
             yield 0, what, NOT_PREPARED, {"numbers": numbers}
     for what, exchanged in other_lengths(asked):
         yield 2, what, LENGTH, exchanged
@@ -251,15 +272,15 @@ def wrong_arguments(asked):
             far, long = given[start].copy(), given[shape].copy()
             far[-1], long[-1] = GREATEST, 1
             yield 3, "no box", NOT_A_BOX, {start: far, shape: long}
-    if asked.name == "zarrs_chunks_of_keys":
+    if asked.name in ("zarrs_chunks_of_keys", "zarrs_prepared_chunks_of_keys"):
         descending, past = given["offsets"].copy(), given["offsets"].copy()
         descending[-2] = descending[-1] + np.uint64(1)
         past[-1] = given["text"].size + 1
         yield 4, "descending offsets", OFFSETS, {"offsets": descending}
         yield 4, "offsets past the text", OFFSETS, {"offsets": past}
-    if asked.name in ("zarrs_keys_of", "zarrs_parts_of"):
+    if asked.name in ("zarrs_keys_of", "zarrs_prepared_keys_of", "zarrs_parts_of"):
         yield 5, "a short buffer", SHORT, {"text": given["text"][:-1]}
-    if asked.name == "zarrs_prepare_grid":
+    if asked.name in ("zarrs_prepare_grid", "zarrs_prepare_encoding"):
         yield 5, "a short buffer", SHORT, {"numbers": given["numbers"][:-1]}
 
 

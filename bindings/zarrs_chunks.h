@@ -6,22 +6,22 @@
  *
  * A grid is the array's shape (d numbers) and the text of the member `chunk_grid` of its zarr.json; an encoding is the text of the member
  * `chunk_key_encoding`. Texts are UTF-8 and end at their length, not at a zero byte. Each call makes its grid and its encoding anew and keeps
- * nothing, so calls may run in several threads at once. Where a grid is asked often, zarrs_prepare_grid writes it once as numbers, which the caller
- * keeps, and the calls `zarrs_prepared_...` take these in place of the shape and the text.
+ * nothing, so calls may run in several threads at once. Where a grid or an encoding is asked often, zarrs_prepare_grid and zarrs_prepare_encoding write it
+ * once as numbers, which the caller keeps, and the calls `zarrs_prepared_...` take these in place of the shape and the text.
  *
  * Each call answers ZARRS_OK or one of the codes below. After another code than ZARRS_OK and ZARRS_SHORT_BUFFER the buffers that are written to
  * hold anything, but nothing is written beside them; what a call tells of its refusal all the same is said there. After these two, what lies behind a
- * text, behind numbers of a grid and behind the parts that are written is as it was. zarrs_code_words says in words what a code is, zarrs_grid_fault and zarrs_encoding_fault
+ * text, behind the numbers of a grid or an encoding and behind the parts that are written is as it was. zarrs_code_words says in words what a code is, zarrs_grid_fault and zarrs_encoding_fault
  * what metadata lack.
  *
  * Where several things are wrong, the first of them is told, in this order, which is the same for all calls:
  *
  * 1. the metadata of the grid: ZARRS_NOT_JSON, ZARRS_NOT_METADATA, ZARRS_REFUSED; then that of the encoding, by the same three codes; or the
- *    numbers of a prepared grid: ZARRS_NOT_PREPARED
+ *    numbers of a prepared grid or encoding: ZARRS_NOT_PREPARED
  * 2. the lengths of the arrays: ZARRS_WRONG_LENGTH
  * 3. a start and a shape that are those of no box: ZARRS_NOT_A_BOX; in a batch, those of some list
  * 4. the offsets: ZARRS_WRONG_OFFSETS; those of some text
- * 5. the room for the text of an answer, or for the numbers of a grid: ZARRS_SHORT_BUFFER
+ * 5. the room for the text of an answer, or for the numbers of a grid or an encoding: ZARRS_SHORT_BUFFER
  *
  * ZARRS_OUT_OF_MEMORY may come in place of any answer.
  *
@@ -69,9 +69,10 @@ extern "C" {
 #define ZARRS_NOT_A_BOX (-6)
 /* Offsets descend, or lie past the text. */
 #define ZARRS_WRONG_OFFSETS (-7)
-/* The text of the answer is longer than its buffer, or the numbers of a grid are more; `needed` tells how long it is, or how many they are. */
+/* The text of the answer is longer than its buffer, or the numbers of a grid or an encoding are more; `needed` tells how long it is, or how
+ * many they are. */
 #define ZARRS_SHORT_BUFFER (-8)
-/* Numbers aren't those of a prepared grid. */
+/* Numbers aren't those of a prepared grid, or of a prepared encoding. */
 #define ZARRS_NOT_PREPARED (-9)
 
 /* The version of the interface of the library that is loaded. */
@@ -185,6 +186,32 @@ int32_t zarrs_keys_of(
  * descend or lie past the text, and *wrong gets the number of the first key of which they do, counted from 0. */
 int32_t zarrs_chunks_of_keys(
     const uint8_t *chunk_key_encoding, size_t chunk_key_encoding_len,
+    size_t dimensionality,
+    const uint8_t *text, size_t text_len,
+    const uint64_t *offsets, size_t offsets_len,
+    uint64_t *chunks, size_t chunks_len,
+    uint8_t *found, size_t found_len,
+    size_t *wrong);
+
+/* The numbers of an encoding, for the two calls below. *needed gets how many they are: 3, and one for each byte of the suffix. ZARRS_SHORT_BUFFER where
+ * they are more than numbers has room for: nothing is written to it. */
+int32_t zarrs_prepare_encoding(
+    const uint8_t *chunk_key_encoding, size_t chunk_key_encoding_len,
+    uint64_t *numbers, size_t numbers_len,
+    size_t *needed);
+
+/* The two calls above under an encoding that is prepared: numbers are those that zarrs_prepare_encoding wrote, all of them. What is said of the numbers
+ * of a grid holds of these too. */
+int32_t zarrs_prepared_keys_of(
+    const uint64_t *numbers, size_t numbers_len,
+    size_t dimensionality,
+    const uint64_t *chunks, size_t chunks_len,
+    uint8_t *text, size_t text_len,
+    uint64_t *offsets, size_t offsets_len,
+    size_t *needed);
+
+int32_t zarrs_prepared_chunks_of_keys(
+    const uint64_t *numbers, size_t numbers_len,
     size_t dimensionality,
     const uint8_t *text, size_t text_len,
     const uint64_t *offsets, size_t offsets_len,

@@ -6,9 +6,10 @@ import math
 import numpy as np
 
 from . import _library
-from ._answer import refuse, text_of
+from ._answer import refuse
 from ._metadata import Metadata
 from ._numbers import list_of_numbers, longest_level, numbers, whole_number
+from ._prepared import prepared
 from ._texts import MOST_KEYS, as_bytes, keys_as_bytes
 
 
@@ -26,9 +27,8 @@ class Encoding:
 
     def __init__(self, chunk_key_encoding):
         self._metadata = Metadata("chunk_key_encoding", chunk_key_encoding)
-        code, words = text_of("zarrs_encoding_fault", "words", chunk_key_encoding=self._metadata.text)
-        if code != _library.OK:
-            refuse(code, words)
+        # A suffix has a number for each byte besides.
+        self._numbers = prepared("encoding", 3, chunk_key_encoding=self._metadata.text)
 
     def __repr__(self):
         return f"Encoding({self.metadata!r})"
@@ -127,7 +127,7 @@ class Encoding:
         offsets, length, code = _library.room(count + 1), usual_length(count, dimensionality), _library.SHORT_BUFFER
         while code == _library.SHORT_BUFFER:
             text = _library.text_room(length)
-            code, told = self._call("zarrs_keys_of", dimensionality=dimensionality, chunks=chunks, text=text, offsets=offsets)
+            code, told = self._call("zarrs_prepared_keys_of", dimensionality=dimensionality, chunks=chunks, text=text, offsets=offsets)
             if code == _library.SHORT_BUFFER:
                 # Another thread may change the caller's array until the next call; its copy has one length.
                 length, chunks = told["needed"], chunks.copy()
@@ -138,7 +138,7 @@ class Encoding:
     def _chunks_of_keys(self, text, offsets, dimensionality):
         """The chunks of keys of which nobody changes the text or the offsets meanwhile: the library reads them twice."""
         chunks, found = _library.room((offsets.size - 1, dimensionality)), _library.room(offsets.size - 1, np.uint8)
-        code, told = self._call("zarrs_chunks_of_keys", dimensionality=dimensionality, text=text, offsets=offsets, chunks=chunks, found=found)
+        code, told = self._call("zarrs_prepared_chunks_of_keys", dimensionality=dimensionality, text=text, offsets=offsets, chunks=chunks, found=found)
         if code == _library.WRONG_OFFSETS:
             refuse(code, f"the offsets of key {told['wrong']} descend, or lie past the text")
         if code != _library.OK:
@@ -146,7 +146,7 @@ class Encoding:
         return chunks, found.view(np.bool_)
 
     def _call(self, name, **arguments):
-        return _library.call(name, chunk_key_encoding=self._metadata.text, **arguments)
+        return _library.call(name, numbers=self._numbers, **arguments)
 
 
 def _chunks(chunks):

@@ -65,8 +65,8 @@ PartBuffers = _struct(
 STORED_ARRAY, ELEMENT_BOX, PART_BUFFERS = ((ctypes.POINTER(struct),) for struct in (StoredArray, ElementBox, PartBuffers))
 _STRUCTS = {STORED_ARRAY: StoredArray, ELEMENT_BOX: ElementBox, PART_BUFFERS: PartBuffers}
 
-# What is asked of a grid: the calls `zarrs_...` take the grid's metadata before it, and `zarrs_prepared_...` its numbers.
-_ASKED = {
+# What is asked of a grid and of an encoding: the calls `zarrs_...` take their metadata before it, and `zarrs_prepared_...` their numbers.
+_ASKED_OF_GRID = {
     "grid_shape": {"grid_shape": WRITTEN_NUMBERS},
     "chunk_indices_of": {"indices": NUMBERS, "chunks": WRITTEN_NUMBERS, "found": WRITTEN_BYTES},
     "homes_of": {"indices": NUMBERS, "chunks": WRITTEN_NUMBERS, "places": WRITTEN_NUMBERS, "found": WRITTEN_BYTES},
@@ -76,21 +76,23 @@ _ASKED = {
         "first_chunks": WRITTEN_NUMBERS, "chunk_counts": WRITTEN_NUMBERS, "found": WRITTEN_BYTES, "wrong": TOLD_SIZE,
     },
 }  # fmt: skip
+_ASKED_OF_ENCODING = {
+    "keys_of": {"dimensionality": SIZE, "chunks": NUMBERS, "text": WRITTEN_BYTES, "offsets": WRITTEN_NUMBERS, "needed": TOLD_SIZE},
+    "chunks_of_keys": {
+        "dimensionality": SIZE, "text": BYTES, "offsets": NUMBERS,
+        "chunks": WRITTEN_NUMBERS, "found": WRITTEN_BYTES, "wrong": TOLD_SIZE,
+    },
+}  # fmt: skip
 
 # The calls of zarrs_chunks.h, with the names and the order of their arguments there. Each answers a code, and the first one the version.
 CALLS = {
     "zarrs_abi_version": {},
-    **{f"zarrs_{name}": {**_GRID, **asked} for name, asked in _ASKED.items()},
+    **{f"zarrs_{name}": {**_GRID, **asked} for name, asked in _ASKED_OF_GRID.items()},
     "zarrs_prepare_grid": {**_GRID, "numbers": WRITTEN_NUMBERS, "needed": TOLD_SIZE},
-    **{f"zarrs_prepared_{name}": {"numbers": NUMBERS, **asked} for name, asked in _ASKED.items()},
-    "zarrs_keys_of": {
-        **_ENCODING, "dimensionality": SIZE, "chunks": NUMBERS,
-        "text": WRITTEN_BYTES, "offsets": WRITTEN_NUMBERS, "needed": TOLD_SIZE,
-    },
-    "zarrs_chunks_of_keys": {
-        **_ENCODING, "dimensionality": SIZE, "text": BYTES, "offsets": NUMBERS,
-        "chunks": WRITTEN_NUMBERS, "found": WRITTEN_BYTES, "wrong": TOLD_SIZE,
-    },
+    **{f"zarrs_prepared_{name}": {"numbers": NUMBERS, **asked} for name, asked in _ASKED_OF_GRID.items()},
+    **{f"zarrs_{name}": {**_ENCODING, **asked} for name, asked in _ASKED_OF_ENCODING.items()},
+    "zarrs_prepare_encoding": {**_ENCODING, "numbers": WRITTEN_NUMBERS, "needed": TOLD_SIZE},
+    **{f"zarrs_prepared_{name}": {"numbers": NUMBERS, **asked} for name, asked in _ASKED_OF_ENCODING.items()},
     "zarrs_parts_of": {"array": STORED_ARRAY, "elements": ELEMENT_BOX, "first": NUMBER, "buffers": PART_BUFFERS},
     "zarrs_answer": {"question": BYTES, "line": WRITTEN_BYTES, "needed": TOLD_SIZE},
     "zarrs_grid_fault": {**_GRID, "words": WRITTEN_BYTES, "needed": TOLD_SIZE},

@@ -1,6 +1,6 @@
-"""A grid as numbers, which the library answers by without reading the grid's metadata again.
+"""Grids and encodings as numbers, by which the library answers without reading their metadata again.
 
-The calls here are made in as few steps as Python takes for them: most of the time of a call with one list is spent on passing its arguments.
+The calls of a grid are made in as few steps as Python takes for them: most of the time of a call with one list is spent on passing its arguments.
 """
 
 import ctypes
@@ -20,13 +20,26 @@ _TYPES = {
 
 # The calls of a prepared grid, each of which takes pointers as `_pointer` makes them.
 _FUNCTIONS = {
-    name: _library.function(name, [kind for kinds in arguments.values() for kind in _TYPES.get(kinds, kinds)])
-    for name, arguments in _library.CALLS.items()
-    if name.startswith("zarrs_prepared_")
+    name: _library.function(name, [kind for kinds in _library.CALLS[name].values() for kind in _TYPES.get(kinds, kinds)])
+    for name in (f"zarrs_prepared_{asked}_of" for asked in ("chunk_indices", "homes", "chunk_boxes", "covers"))
 }
 
 # From how many numbers on an answer is left as it was allocated, until it is known which lists have none.
 _MANY = 2**12
+
+
+def prepared(kind, length, **metadata):
+    """The numbers of a grid or an encoding, which seldom are more than so many. Raises what the library refuses."""
+    code = _library.SHORT_BUFFER
+    while code == _library.SHORT_BUFFER:
+        numbers = _library.room(length)
+        code, told = _library.call(f"zarrs_prepare_{kind}", numbers=numbers, **metadata)
+        length = told["needed"]
+    if code != _library.OK:
+        refuse(code, text_of(f"zarrs_{kind}_fault", "words", **metadata)[1])
+    numbers = numbers[:length].copy()
+    numbers.flags.writeable = False
+    return numbers
 
 
 class PreparedGrid:
@@ -35,18 +48,9 @@ class PreparedGrid:
     __slots__ = ("_numbers", "_pointer", "_size")
 
     def __init__(self, shape, chunk_grid):
-        # One edge for all chunks takes seven numbers a dimension, and the library tells where there are more.
-        length, code = 2 + 7 * shape.size, _library.SHORT_BUFFER
-        while code == _library.SHORT_BUFFER:
-            numbers = _library.room(length)
-            code, told = _library.call("zarrs_prepare_grid", shape=shape, chunk_grid=chunk_grid, numbers=numbers)
-            length = told["needed"]
-        if code != _library.OK:
-            refuse(code, text_of("zarrs_grid_fault", "words", shape=shape, chunk_grid=chunk_grid)[1])
-        self._numbers = numbers[:length].copy()
-        self._numbers.flags.writeable = False
-        self._size = length
-        self._pointer = _pointer(self._numbers)
+        # One edge for all chunks takes seven numbers a dimension.
+        self._numbers = prepared("grid", 2 + 7 * shape.size, shape=shape, chunk_grid=chunk_grid)
+        self._size, self._pointer = self._numbers.size, _pointer(self._numbers)
 
     def grid_shape(self, dimensionality):
         """How many chunks are counted along each dimension."""

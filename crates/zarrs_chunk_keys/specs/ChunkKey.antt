@@ -29,6 +29,18 @@ pub data Encoding : Type 0 where
   v2_keys : ChunkKeySeparator → Encoding
   suffixed_keys : ChunkKeySeparator → List ℕ → Encoding
 
+-- what stands between the numbers of a key
+abbrev pub separator_of : Encoding → ChunkKeySeparator
+separator_of (default_keys separator) = separator
+separator_of (v2_keys separator) = separator
+separator_of (suffixed_keys separator _) = separator
+
+-- what ends each key: nothing, but for keys with a suffix
+abbrev pub suffix_of : Encoding → List ℕ
+suffix_of (default_keys _) = []
+suffix_of (v2_keys _) = []
+suffix_of (suffixed_keys _ suffix) = suffix
+
 -- the key of a chunk, under an encoding
 unfoldable pub IsKey : Encoding → List ℕ → List ℕ → Type 0
 IsKey (default_keys separator) = IsDefaultKey separator

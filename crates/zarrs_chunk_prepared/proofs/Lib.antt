@@ -2,6 +2,7 @@ pub mod CountedCovers
 pub mod EachDimension
 pub mod EdgeTables
 pub mod GridTables
+pub mod PreparedEncodings
 pub mod Rows
 pub mod RunTables
 pub mod Tables

@@ -1,3 +1,4 @@
 pub mod LookedUp
 pub mod Prepared
+pub mod PreparedEncoding
 pub mod seen

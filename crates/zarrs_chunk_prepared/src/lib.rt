@@ -20,6 +20,7 @@
 mod axis;
 mod boxes;
 mod covers;
+mod encoding;
 mod grid;
 mod homes;
 mod read;
@@ -27,5 +28,6 @@ mod run_table;
 mod search;
 mod write;
 
+pub use encoding::{prepare_encoding, read_encoding};
 pub use grid::PreparedGrid;
 pub use write::prepare;

@@ -1,12 +1,15 @@
--- The calls that prepare a grid, and those of a prepared one.
--- Source: Zarr V3 core, chunk grids; the numbers are this library's own.
+-- The calls that prepare a grid and an encoding, and those of prepared ones.
+-- Sources: Zarr V3 core, chunk grids, chunk key encodings; the numbers are this library's own.
 use Rattle.std.specs.Prelude.{◌≡◌, ℕ, List, length}
 use Rattle.zarrs_chunk_base.specs.Grid.{Grid}
+use Rattle.zarrs_chunk_keys.specs.ChunkKey.{Encoding}
 use Rattle.zarrs_chunk_prepared.specs.Prepared.{IsPreparedGrid}
+use Rattle.zarrs_chunk_prepared.specs.PreparedEncoding.{IsPreparedEncoding}
 use Rattle.zarrs_chunks_c.specs.Batch.{AreKept, IsTooLong, IsWhole}
 use Rattle.zarrs_chunks_c.specs.Calls.{Call, EndsForEach, Request}
 use Rattle.zarrs_chunks_c.specs.Codes.{End}
 use Rattle.zarrs_chunks_c.specs.GridCalls.{grid_call}
+use Rattle.zarrs_chunks_c.specs.KeyCalls.{encoding_call, encoding_request}
 use Rattle.zarrs_chunks_c.specs.declared.codes.Fault.TheVariants.{Short}
 
 -- The numbers of a grid. They are refused where they are more than their buffer holds.
@@ -26,3 +29,14 @@ EndsForPrepared numbers = EndsForEach (IsPreparedGrid numbers)
 abbrev pub AreKeptForPrepared : (numbers before after marks : List ℕ) → Type 0
 AreKeptForPrepared numbers before after marks =
     (grid : Grid) → IsPreparedGrid numbers grid → AreKept (length grid.dimensions) before after marks
+
+-- The numbers of an encoding. They are refused where they are more than their buffer holds.
+abbrev pub prepare_encoding_call : (metadata numbers : List ℕ) (needed : ℕ) → Call Encoding
+prepare_encoding_call metadata numbers needed =
+    encoding_call metadata (encoding_request (Unit {0})
+    (λ encoding fault. (fault ≡ Short) × IsTooLong (λ prepared. IsPreparedEncoding prepared encoding) numbers needed)
+    (λ encoding. IsWhole (λ prepared. IsPreparedEncoding prepared encoding) numbers needed))
+
+-- A request of prepared numbers ends as it does of the encoding whose they are. Of other numbers nothing is said.
+abbrev pub EndsForPreparedKeys : (numbers : List ℕ) → Request Encoding → End → Type 0
+EndsForPreparedKeys numbers = EndsForEach (IsPreparedEncoding numbers)

@@ -1,18 +1,14 @@
-//! The calls of a chunk key encoding.
-ghost use Rattle.std.specs.Prelude.{◌≡◌, ◌+◌, ◌-◌, ◌*◌, IfOk, OnOk, drop, length, string_bytes};
-ghost use Rattle.zarrs_chunks_c.specs.Batch.{AreKept, AreKeys};
+//! The calls of a chunk key encoding that metadata says.
+ghost use Rattle.std.specs.Prelude.{◌≡◌, OnOk, drop};
+ghost use Rattle.zarrs_chunks_c.specs.Batch.{AreKept};
 ghost use Rattle.zarrs_chunks_c.specs.Calls.{IsEndOf, IsKeptIfShort};
 ghost use Rattle.zarrs_chunks_c.specs.Codes.{Ends};
 ghost use Rattle.zarrs_chunks_c.specs.KeyCalls.{chunks_of_keys_call, keys_call};
 
-use crate::batch::answer_all;
-use crate::buffers::write_front;
 use crate::codes::{Fault, code_of};
-use crate::key_questions::ChunksOfKeys;
-use crate::lists::{count_of_texts, list_of};
+use crate::keys::{chunks_by, keys_by};
 use crate::metadata::encoding_of;
-use std::alloc::{AllocError, Global};
-use zarrs_chunk_keys::ChunkKeyEncodingTraits;
+use std::alloc::Global;
 
 /// The key of each chunk, one after another.
 #[unsafe(no_mangle)]
@@ -89,42 +85,15 @@ fn keys_of(
     ensures kept_behind { drop needed.new text.new ≡ drop needed.new text.old }
 {
     let encoding = encoding_of(alloc, chunk_key_encoding)?;
-    let count = count_of_texts(offsets.len(), &[chunks.len()], dimensionality)?;
-    let keys = append_keys(alloc, &encoding, dimensionality, count, chunks, offsets)?;
-    write_front(keys.as_bytes(), text, needed)
-}
-
-/// The keys of so many chunks, one after another. Where each begins, and at last where the last one ends, is written as offsets in bytes.
-///
-/// # Errors
-/// Out of memory.
-fn append_keys<E: ChunkKeyEncodingTraits>(
-    alloc: Global,
-    encoding: &E,
-    dimensionality: usize,
-    count: usize,
-    chunks: &[u64],
-    offsets: &mut [u64],
-) -> Result<String, AllocError>
-    requires chunks { length chunks.now ≡ dimensionality * count }
-    requires offsets { length offsets.old ≡ count + 1 }
-    ensures { IfOk result (λ keys. AreKeys (E.is_key encoding.now) dimensionality
-        (length offsets.new - 1) chunks.now (string_bytes keys) offsets.new) }
-{
-    let mut keys = String::new(alloc);
-    offsets[0] = 0;
-    for number in 0..count {
-        encoding.append_key(&mut keys, list_of(chunks, dimensionality, number))?;
-        offsets[number + 1] = byte_length(keys.as_str());
-    }
-    Ok(keys)
-}
-
-/// How many bytes a text has.
-pub(crate) fn byte_length(text: &str) -> u64
-    ensures { result ≡ length text.now }
-{
-    text.len() as u64
+    keys_by(
+        alloc,
+        &encoding,
+        dimensionality,
+        chunks,
+        text,
+        offsets,
+        needed,
+    )
 }
 
 /// Writes the chunk of each key.
@@ -148,15 +117,14 @@ fn chunks_of_keys(
         (AreKept dimensionality chunks.old chunks.new found.new) }
 {
     let encoding = encoding_of(alloc, chunk_key_encoding)?;
-    let count = count_of_texts(offsets.len(), &[chunks.len()], dimensionality)?;
-    if count != found.len() {
-        return Err(Fault::Length);
-    }
-    let keys = ChunksOfKeys {
-        encoding: &encoding,
+    chunks_by(
+        alloc,
+        &encoding,
         dimensionality,
         text,
         offsets,
-    };
-    answer_all(alloc, &keys, chunks, &mut [], found, wrong)
+        chunks,
+        found,
+        wrong,
+    )
 }

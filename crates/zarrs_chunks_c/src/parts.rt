@@ -9,7 +9,7 @@ ghost use Rattle.zarrs_chunks_c.specs.declared.codes.Fault.TheVariants.{Memory};
 ghost use Rattle.zarrs_chunks_c.specs.seen.Parts.{AreFoundParts, AreWrittenBelow, HasLists, IsKeyOf, IsLongPart, IsWritten};
 
 use crate::codes::Fault;
-use crate::key_calls::byte_length;
+use crate::keys::byte_length;
 use crate::lists::write_list;
 use crate::structs::PartBuffers;
 use std::alloc::{AllocError, Global};

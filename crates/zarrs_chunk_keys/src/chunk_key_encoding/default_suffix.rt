@@ -13,7 +13,7 @@
 //! | Differs from zarrs | a suffix that ends in a slash is refused, since a store key doesn't end in one |
 ghost use Rattle.std.specs.Prelude.{◌≡◌, IfOk, MatchResult, string_bytes};
 ghost use Rattle.zarrs_chunk_base.specs.StoreKey.{EndsInSlash};
-ghost use Rattle.zarrs_chunk_keys.specs.ChunkKey.{suffixed_keys};
+ghost use Rattle.zarrs_chunk_keys.specs.ChunkKey.{separator_of, suffix_of, suffixed_keys};
 ghost use Rattle.zarrs_chunk_keys.specs.KeyKinds as kinds;
 ghost use Rattle.zarrs_chunk_keys.specs.seen.Encodings.{suffixed_of};
 
@@ -72,6 +72,21 @@ impl DefaultSuffixChunkKeyEncoding {
             keys: self.keys,
             suffix: self.suffix.clone()?,
         })
+    }
+
+    /// What stands before each number.
+    pub(crate) fn separator(&self) -> ChunkKeySeparator
+        ensures { result ≡ separator_of (suffixed_of self.now) }
+    {
+        self.keys.separator()
+    }
+
+    /// What ends each key.
+    pub(crate) fn suffix(&self) -> &str
+        ensures value { result.now ≡ suffix_of (suffixed_of self.now) }
+        ensures no_slash { ¬ EndsInSlash result.now }
+    {
+        self.suffix.as_str()
     }
 }
 

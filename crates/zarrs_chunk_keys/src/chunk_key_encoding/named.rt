@@ -13,7 +13,8 @@ ghost use Rattle.serde_json.specs.View.{members_view, view};
 ghost use Rattle.zarrs_chunk_base.specs.Kinds.{IsConfigurationOf, IsMetadata, names};
 ghost use Rattle.zarrs_chunk_base.specs.Metadata.{extension_of};
 ghost use Rattle.zarrs_chunk_base.specs.Refusal.{OrMemory};
-ghost use Rattle.zarrs_chunk_keys.specs.ChunkKey.{IsKey};
+ghost use Rattle.zarrs_chunk_base.specs.StoreKey.{EndsInSlash};
+ghost use Rattle.zarrs_chunk_keys.specs.ChunkKey.{IsKey, separator_of, suffix_of};
 ghost use Rattle.zarrs_chunk_keys.specs.KeyKinds.{IsEncoding, IsEncodingFault, IsEncodingIn, IsNoEncodingIn, key_kind, key_kinds, kind_of};
 ghost use Rattle.zarrs_chunk_keys.specs.declared.chunk_key_encoding.named.ChunkKeyEncoding.TheVariants.{Default, DefaultSuffix, V2};
 ghost use Rattle.zarrs_chunk_keys.specs.lemmas.ExactKeys.{exact};
@@ -27,7 +28,7 @@ use crate::chunk_key_encoding::v2::V2ChunkKeyEncoding;
 use serde_json::Value;
 use std::alloc::{AllocError, Global};
 use zarrs_chunk_base::{
-    ArrayIndices, Configuration, ExtensionError, MetadataV3, PluginCreateError, Refusal, StoreKey,
+    ArrayIndices, ChunkKeySeparator, Configuration, ExtensionError, MetadataV3, PluginCreateError, Refusal, StoreKey,
 };
 
 const DEFAULT: &str = "default";
@@ -127,6 +128,24 @@ impl ChunkKeyEncoding {
                 ChunkKeyEncoding::DefaultSuffix(encoding.clone()?)
             }
         })
+    }
+
+    /// What stands between the numbers of a key.
+    pub fn separator(&self) -> ChunkKeySeparator
+        ensures { result ≡ separator_of (encoding_in self.now) }
+    {
+        inside!(self, encoding => encoding.separator())
+    }
+
+    /// What ends each key. It is empty but for `zarrs.default_suffix`.
+    pub fn suffix(&self) -> &str
+        ensures value { result.now ≡ suffix_of (encoding_in self.now) }
+        ensures no_slash { ¬ EndsInSlash result.now }
+    {
+        match self {
+            ChunkKeyEncoding::Default(_) | ChunkKeyEncoding::V2(_) => "",
+            ChunkKeyEncoding::DefaultSuffix(encoding) => encoding.suffix(),
+        }
     }
 
     /// The extension's name.

@@ -62,6 +62,13 @@ impl V2ChunkKeyEncoding {
     {
         Ok(*self)
     }
+
+    /// What stands between two numbers.
+    pub(crate) fn separator(&self) -> ChunkKeySeparator
+        ensures { v2_of self.now ≡ v2_keys result }
+    {
+        self.separator
+    }
 }
 
 impl EncodingOfKind for V2ChunkKeyEncoding {

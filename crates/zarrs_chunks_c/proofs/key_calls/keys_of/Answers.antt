@@ -1,11 +1,10 @@
-use Rattle.std.proofs.Common.{◌-◌, ℕ, List, inl, inr, length, ⊎_elim, subst, sym}
+use Rattle.std.proofs.Common.{inl, inr, ⊎_elim}
 use Rattle.std.proofs.lemmas.Result.{err_from_is_err_and}
-use Rattle.zarrs_chunk_keys.specs.ChunkKey.{IsKey}
 use Rattle.zarrs_chunk_keys.specs.seen.Encodings.{encoding_in}
-use Rattle.zarrs_chunks_c.specs.Batch.{AreKeys}
-use Rattle.zarrs_chunks_c.specs.Calls.{early, no_metadata, wrong_length}
-use Rattle.zarrs_chunks_c.specs.KeyCalls.{keys_call}
-use Rattle.zarrs_chunks_c.proofs.Ends.{ends_late, is_too_long, is_whole}
+use Rattle.zarrs_chunks_c.specs.Calls.{early, no_metadata}
+use Rattle.zarrs_chunks_c.specs.KeyCalls.{keys_request}
+use Rattle.zarrs_chunks_c.specs.Said.{IsNoEncoding, SaysEncoding}
+use Rattle.zarrs_chunks_c.proofs.Ends.{ends_of_metadata}
 use Rattle.zarrs_chunks_c.proofs.key_calls.keys_of.Goals as goal
 
 pub returns-in_err-encoding-clause-ends : goal.returns-in_err-encoding-clause-ends
@@ -13,22 +12,8 @@ returns-in_err-encoding-clause-ends c =
     let p = err_from_is_err_and c.from_residual.result c.from_residual.ensures.1 in
     rw (p.1, p.2) (⊎_elim (λ memory. inl memory) (λ is. inr (early (no_metadata is))) c.in_err-encoding.ensures)
 
-pub returns-in_err-count-clause-ends : goal.returns-in_err-count-clause-ends
-returns-in_err-count-clause-ends c =
-    let p = err_from_is_err_and c.from_residual-in_err-count.result c.from_residual-in_err-count.ensures.1 in
-    let (is_length, differ) = c.in_err-count.ensures in
-    rw (p.1, p.2) (inr (early (wrong_length (encoding_in c.in_ok-encoding.encoding) c.in_ok-encoding.ensures differ is_length)))
-
 pub returns-clause-ends : goal.returns-clause-ends
 returns-clause-ends c =
-    let encoding = encoding_in c.in_ok-encoding.encoding in
-    let offsets = c.append_keys.new.offsets in
-    let text = c.as_bytes.result.now in
-    let wrote = c.write_front.new in
-    let told = c.write_front.ensures in
-    let AreTheKeys = λ (keys : List ℕ). AreKeys (IsKey encoding) c.args.dimensionality (length offsets - 1) c.args.chunks.now keys offsets in
-    let are_keys = subst AreTheKeys (sym c.as_bytes.ensures.value) c.in_ok-keys.ensures in
-    ends_late (keys_call c.args.chunk_key_encoding.now c.args.dimensionality c.args.chunks.now wrote.buffer offsets wrote.needed)
-    encoding c.write_front.result c.in_ok-encoding.ensures (c.in_ok-count.count, rw c.append_keys.auto.offsets c.in_ok-count.ensures)
-    (is_whole AreTheKeys text wrote.buffer wrote.needed told.told are_keys c.write_front.result told.fits told.written)
-    (is_too_long AreTheKeys text wrote.buffer wrote.needed told.told are_keys c.write_front.result told.short)
+    let wrote = c.keys_by.new in
+    ends_of_metadata (IsNoEncoding c.args.chunk_key_encoding.now) (SaysEncoding c.args.chunk_key_encoding.now)
+    (keys_request c.args.dimensionality c.args.chunks.now wrote.text wrote.offsets wrote.needed) (encoding_in c.in_ok-encoding.encoding) c.keys_by.result c.in_ok-encoding.ensures c.keys_by.ensures.ends

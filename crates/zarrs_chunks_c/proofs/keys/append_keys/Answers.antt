@@ -2,7 +2,7 @@ use Rattle.std.proofs.Common.{◌≡◌, ◌+◌, ◌-◌, ◌<◌, ◌++◌, le
 use Rattle.std.proofs.lemmas.List.{length-set}
 use Rattle.zarrs_chunks_c.proofs.Keys.{no_texts, one_text_more}
 use Rattle.zarrs_chunks_c.specs.Batch.{list_at}
-use Rattle.zarrs_chunks_c.proofs.key_calls.append_keys.Goals as goal
+use Rattle.zarrs_chunks_c.proofs.keys.append_keys.Goals as goal
 
 pub loop-number-init : goal.loop-number-init
 loop-number-init g c =

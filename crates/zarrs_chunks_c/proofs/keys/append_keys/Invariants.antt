@@ -1,6 +1,6 @@
 use Rattle.std.proofs.Common.{string_bytes}
 use Rattle.zarrs_chunks_c.specs.Batch.{AreKeys}
-use Rattle.zarrs_chunks_c.proofs.key_calls.append_keys.Given as goal
+use Rattle.zarrs_chunks_c.proofs.keys.append_keys.Given as goal
 
 -- the keys of the chunks so far
 abbrev pub invariant-loop-number : goal.invariant-loop-number
