@@ -7,7 +7,7 @@
 //! |---|---|
 //! | `axes` | lists of axes, and walks through lists of numbers |
 //! | `grids` | the grids |
-//! | `prepared` | prepared grids |
+//! | `prepared` | prepared grids and encodings |
 //! | `walks`, `walks::overlong` | the walks over chunks, and over a grid whose chunks have no box |
 //!
 //! By `compared` they compare what a call answers.

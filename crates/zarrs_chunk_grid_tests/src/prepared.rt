@@ -1,17 +1,21 @@
-//! Prepared grids: their numbers, what they answer with ample memory, and numbers that are those of no grid.
-use crate::compared::{check_numbers, check_that};
+//! Prepared grids and encodings: their numbers, what they answer with ample memory, and numbers that are those of none.
+use crate::compared::{check_numbers, check_same, check_that};
 use crate::grids::metadata;
 use std::alloc::Global;
 use std::process::Abort;
 use std::test::Fail;
 use zarrs_chunk_base::ArraySubset;
-use zarrs_chunk_prepared::{PreparedGrid, prepare};
+use zarrs_chunk_keys::{ChunkKeyEncoding, ChunkKeyEncodingTraits};
+use zarrs_chunk_prepared::{PreparedGrid, prepare, prepare_encoding, read_encoding};
 use zarrs_chunks::ChunkGrid;
 
 const MAX: u64 = u64::MAX;
 
 /// `zarrgrid` in ASCII.
 const MARK: u64 = 8818455381055531364;
+
+/// `zarrkeys` in ASCII.
+const KEYS_MARK: u64 = 8818455381121792371;
 
 /// The numbers of the grid that metadata says.
 fn numbers(alloc: Global, shape: &[u64], text: &str) -> Result<Vec<u64>, Fail> {
@@ -154,4 +158,60 @@ fn other_numbers_are_those_of_no_grid(rt: HostRuntime) -> Result<(), Fail> {
     check_none(&rt, alloc, &numbers)?;
     numbers.truncate(18);
     check_none(&rt, alloc, &numbers)
+}
+
+/// The numbers of the encoding that metadata says.
+fn check_encoding(rt: &impl Abort, alloc: Global, text: &str, numbers: &[u64]) -> Result<(), Fail> {
+    let encoding = ChunkKeyEncoding::from_metadata(alloc, &metadata(alloc, text)?)?;
+    let prepared = prepare_encoding(alloc, &encoding)?;
+    check_numbers(rt, &prepared, numbers);
+    Ok(())
+}
+
+/// The key of the chunk `[3, 2]` under the encoding that numbers tell.
+fn check_key(rt: &impl Abort, alloc: Global, numbers: &[u64], key: &str) -> Result<(), Fail> {
+    let encoding = read_encoding(alloc, numbers)?.ok_or("no prepared encoding")?;
+    let found = encoding.encode(alloc, &[3, 2])?;
+    check_same(rt, found.as_str(), key);
+    Ok(())
+}
+
+/// The numbers are those of no encoding.
+fn check_no_encoding(rt: &impl Abort, alloc: Global, numbers: &[u64]) -> Result<(), Fail> {
+    let read = read_encoding(alloc, numbers)?;
+    assert!(rt; read.is_none(), "an encoding of {numbers:?}");
+    Ok(())
+}
+
+#[test]
+fn the_numbers_of_encodings_are_written(rt: HostRuntime) -> Result<(), Fail> {
+    let alloc = rt.alloc();
+    check_encoding(&rt, alloc, r#""default""#, &[KEYS_MARK, 0, 47])?;
+    check_encoding(&rt, alloc, r#""v2""#, &[KEYS_MARK, 1, 46])?;
+    let suffixed =
+        r#"{"name":"zarrs.default_suffix","configuration":{"separator":".","suffix":".é"}}"#;
+    check_encoding(&rt, alloc, suffixed, &[KEYS_MARK, 2, 46, 46, 195, 169])
+}
+
+#[test]
+fn encodings_are_made_of_their_numbers(rt: HostRuntime) -> Result<(), Fail> {
+    let alloc = rt.alloc();
+    check_key(&rt, alloc, &[KEYS_MARK, 0, 46], "c.3.2")?;
+    check_key(&rt, alloc, &[KEYS_MARK, 1, 47], "3/2")?;
+    check_key(&rt, alloc, &[KEYS_MARK, 2, 47, 46, 195, 169], "c/3/2.é")?;
+    check_key(&rt, alloc, &[KEYS_MARK, 2, 47], "c/3/2")
+}
+
+#[test]
+fn other_numbers_are_those_of_no_encoding(rt: HostRuntime) -> Result<(), Fail> {
+    let alloc = rt.alloc();
+    check_no_encoding(&rt, alloc, &[])?;
+    check_no_encoding(&rt, alloc, &[KEYS_MARK, 0])?;
+    check_no_encoding(&rt, alloc, &[MARK, 0, 47])?;
+    check_no_encoding(&rt, alloc, &[KEYS_MARK, 3, 47])?;
+    check_no_encoding(&rt, alloc, &[KEYS_MARK, 0, 45])?;
+    check_no_encoding(&rt, alloc, &[KEYS_MARK, 1, 46, 46])?;
+    check_no_encoding(&rt, alloc, &[KEYS_MARK, 2, 47, 256])?;
+    check_no_encoding(&rt, alloc, &[KEYS_MARK, 2, 47, 195])?;
+    check_no_encoding(&rt, alloc, &[KEYS_MARK, 2, 47, 47])
 }

@@ -36,10 +36,7 @@ pub fn prepare_encoding(alloc: Global, encoding: &ChunkKeyEncoding) -> Result<Ve
 ///
 /// # Errors
 /// Out of memory.
-pub fn read_encoding(
-    alloc: Global,
-    numbers: &[u64],
-) -> Result<Option<ChunkKeyEncoding>, AllocError>
+pub fn read_encoding(alloc: Global, numbers: &[u64]) -> Result<Option<ChunkKeyEncoding>, AllocError>
     ensures { IfOk result (λ found. (encoding : Encoding) → IsPreparedEncoding numbers.now encoding
         → MatchOption found ⊥ (λ read. encoding_in read ≡ encoding)) }
 {
@@ -56,7 +53,9 @@ pub fn read_encoding(
         0 if suffix.is_empty() => {
             Ok(Some(ChunkKeyEncoding::Default(DefaultChunkKeyEncoding::new(separator))))
         }
-        1 if suffix.is_empty() => Ok(Some(ChunkKeyEncoding::V2(V2ChunkKeyEncoding::new(separator)))),
+        1 if suffix.is_empty() => Ok(Some(ChunkKeyEncoding::V2(V2ChunkKeyEncoding::new(
+            separator,
+        )))),
         2 => read_suffixed(alloc, separator, suffix),
         _ => Ok(None),
     }

@@ -1,7 +1,7 @@
 pub mod Batches
 pub mod EachList
 pub mod Ends
-pub mod Keys
+pub mod JoinedKeys
 pub mod LongParts
 pub mod NotMade
 pub mod Planned

@@ -28,7 +28,8 @@ use crate::chunk_key_encoding::v2::V2ChunkKeyEncoding;
 use serde_json::Value;
 use std::alloc::{AllocError, Global};
 use zarrs_chunk_base::{
-    ArrayIndices, ChunkKeySeparator, Configuration, ExtensionError, MetadataV3, PluginCreateError, Refusal, StoreKey,
+    ArrayIndices, ChunkKeySeparator, Configuration, ExtensionError, MetadataV3, PluginCreateError,
+    Refusal, StoreKey,
 };
 
 const DEFAULT: &str = "default";

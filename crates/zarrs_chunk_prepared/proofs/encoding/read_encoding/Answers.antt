@@ -13,7 +13,7 @@ returns-in-2 c =
     IfOk-weaker c.read_suffixed.result _ _
     (λ found reads encoding prepared.
     let (suffix, is) = suffixed_told encoding c.in-Some-separator_with_byte.separator c.args.numbers.now c.in-Some.head.now c.in-Some.suffix.now
-      prepared.are is_head is_suffix c.in-2.is c.in-Some-separator_with_byte.ensures in
+    prepared.are is_head is_suffix c.in-2.is c.in-Some-separator_with_byte.ensures in
     subst (λ (e : Encoding). MatchOption found ⊥ (λ read. encoding_in read ≡ e)) is
     (reads (subst AreBytes (sym suffix) prepared.bytes) (subst IsUtf8 (sym suffix) prepared.utf8)
     (λ ends. prepared.no_slash (subst EndsInSlash suffix ends))))

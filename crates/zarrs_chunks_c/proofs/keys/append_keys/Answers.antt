@@ -1,6 +1,6 @@
 use Rattle.std.proofs.Common.{◌≡◌, ◌+◌, ◌-◌, ◌<◌, ◌++◌, length, string_bytes, arith}
 use Rattle.std.proofs.lemmas.List.{length-set}
-use Rattle.zarrs_chunks_c.proofs.Keys.{no_texts, one_text_more}
+use Rattle.zarrs_chunks_c.proofs.JoinedKeys.{no_texts, one_text_more}
 use Rattle.zarrs_chunks_c.specs.Batch.{list_at}
 use Rattle.zarrs_chunks_c.proofs.keys.append_keys.Goals as goal
 

@@ -3,7 +3,7 @@ use Rattle.std.proofs.lemmas.List.{drop-set-lt, length-set}
 use Rattle.std.proofs.lemmas.Option.{get_or_from_slice_get}
 use Rattle.zarrs_chunks_c.specs.Batch.{AreTexts}
 use Rattle.zarrs_chunks_c.specs.seen.Parts.{IsKeyOf}
-use Rattle.zarrs_chunks_c.proofs.Keys.{no_texts, one_text_more}
+use Rattle.zarrs_chunks_c.proofs.JoinedKeys.{no_texts, one_text_more}
 use Rattle.zarrs_chunks_c.proofs.Planned.{kept_further}
 use Rattle.zarrs_chunks_c.proofs.parts.join_keys.Goals as goal
 
