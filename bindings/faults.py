@@ -1,5 +1,5 @@
-"""What the calls answer and refuse, at any number of dimensions, beside plain arithmetic of Python, and what they do with any numbers of a prepared grid:
-`test.py` runs it.
+"""What the calls answer and refuse, at any number of dimensions, beside plain arithmetic of Python, and what they do with
+any numbers in place of those of a prepared grid: `test.py` runs it.
 
 Each call is taken as the list of its arguments, by the names of the header. So an argument can be made longer or
 shorter, or be exchanged for a wrong one, and what the call ends with is compared with the order of faults that the
@@ -78,8 +78,9 @@ def given_of(grid):
 
 
 def numbers_of(grid):
-    """The numbers of a prepared grid of equal chunks that end with the array: a mark, the number of dimensions, and for each dimension how many chunks
-    are counted, the last index and the last chunk, and one run of chunks, which begins at 0 with the chunk 0, with its edge."""
+    """The numbers of a prepared grid of equal chunks that end with the array: a mark, the number of dimensions, and for
+    each dimension how many chunks are counted, the last index and the last chunk, and one run of chunks, which begins at
+    0 with the chunk 0, with its edge."""
     rows = zip(grid.grid_shape(), grid.shape, grid.edges)
     numbers = [part for count, size, edge in rows for part in (count, size - 1, count - 1, 1, 0, 0, edge)]
     return np.array([int.from_bytes(b"zarrgrid", "big"), len(grid.shape), *numbers], np.uint64)
@@ -242,7 +243,8 @@ def other_encodings(numbers):
     mark, _kind, separator = numbers.tolist()
     suffixed = [mark, 2, separator]
     for what, others in {
-        "another mark": [mark + 1, 0, separator], "another kind": [mark, 3, separator], "another separator": [mark, 0, ord("-")], "a number fewer": [mark, 0],
+        "another mark": [mark + 1, 0, separator], "another kind": [mark, 3, separator],
+        "another separator": [mark, 0, ord("-")], "a number fewer": [mark, 0],
         "a number more": [mark, 0, separator, separator],
         "no numbers": [], "a suffix that ends in a slash": [*suffixed, ord("/")], "a suffix that is no UTF-8": [*suffixed, 0xC3],
         "a suffix of no bytes": [*suffixed, 256],
@@ -334,8 +336,8 @@ def short(tally, library, asked, expected, what):
 
 
 def any_numbers(tally, library):
-    """Prepared grids with some of their numbers exchanged for any: each call ends with a code of its own, marks with 0 or 1, and writes nothing beside its
-    buffers."""
+    """Prepared grids with some of their numbers exchanged for any: each call ends with a code of its own, marks with 0 or
+    1, and writes nothing beside its buffers."""
     rng = random.Random(7)
     odd = lambda: rng.choice([0, 1, 2, 3, 5, 2**32, 2**63, GREATEST - 1, GREATEST, rng.randrange(50)])
     for number in range(ROUNDS):

@@ -6,13 +6,13 @@
  *
  * A grid is the array's shape (d numbers) and the text of the member `chunk_grid` of its zarr.json; an encoding is the text of the member
  * `chunk_key_encoding`. Texts are UTF-8 and end at their length, not at a zero byte. Each call makes its grid and its encoding anew and keeps
- * nothing, so calls may run in several threads at once. Where a grid or an encoding is asked often, zarrs_prepare_grid and zarrs_prepare_encoding write it
- * once as numbers, which the caller keeps, and the calls `zarrs_prepared_...` take these in place of the shape and the text.
+ * nothing, so calls may run in several threads at once. Where a grid or an encoding is asked often, zarrs_prepare_grid and zarrs_prepare_encoding
+ * write it once as numbers, which the caller keeps, and the calls `zarrs_prepared_...` take these in place of the shape and the text.
  *
  * Each call answers ZARRS_OK or one of the codes below. After another code than ZARRS_OK and ZARRS_SHORT_BUFFER the buffers that are written to
  * hold anything, but nothing is written beside them; what a call tells of its refusal all the same is said there. After these two, what lies behind a
- * text, behind the numbers of a grid or an encoding and behind the parts that are written is as it was. zarrs_code_words says in words what a code is, zarrs_grid_fault and zarrs_encoding_fault
- * what metadata lack.
+ * text, behind the numbers of a grid or an encoding and behind the parts that are written is as it was. zarrs_code_words says in words what a code
+ * is, zarrs_grid_fault and zarrs_encoding_fault what metadata lack.
  *
  * Where several things are wrong, the first of them is told, in this order, which is the same for all calls:
  *
@@ -126,8 +126,8 @@ int32_t zarrs_covers_of(
     uint8_t *found, size_t found_len,
     size_t *wrong);
 
-/* The numbers of a grid, for the calls below. *needed gets how many they are: 2, and for each dimension 4, and 3 for each run of equal edges, where one
- * edge for all chunks is one run. ZARRS_SHORT_BUFFER where they are more than numbers has room for: nothing is written to it. */
+/* The numbers of a grid, for the calls below. *needed gets how many they are: 2, and for each dimension 4, and 3 for each run of equal edges, where
+ * one edge for all chunks is one run. ZARRS_SHORT_BUFFER where they are more than numbers has room for: nothing is written to it. */
 int32_t zarrs_prepare_grid(
     const uint64_t *shape, size_t shape_len,
     const uint8_t *chunk_grid, size_t chunk_grid_len,
@@ -193,15 +193,15 @@ int32_t zarrs_chunks_of_keys(
     uint8_t *found, size_t found_len,
     size_t *wrong);
 
-/* The numbers of an encoding, for the two calls below. *needed gets how many they are: 3, and one for each byte of the suffix. ZARRS_SHORT_BUFFER where
- * they are more than numbers has room for: nothing is written to it. */
+/* The numbers of an encoding, for the two calls below. *needed gets how many they are: 3, and one for each byte of the suffix. ZARRS_SHORT_BUFFER
+ * where they are more than numbers has room for: nothing is written to it. */
 int32_t zarrs_prepare_encoding(
     const uint8_t *chunk_key_encoding, size_t chunk_key_encoding_len,
     uint64_t *numbers, size_t numbers_len,
     size_t *needed);
 
-/* The two calls above under an encoding that is prepared: numbers are those that zarrs_prepare_encoding wrote, all of them. What is said of the numbers
- * of a grid holds of these too. */
+/* The two calls above under an encoding that is prepared: numbers are those that zarrs_prepare_encoding wrote, all of them. What is said of the
+ * numbers of a grid holds of these too. */
 int32_t zarrs_prepared_keys_of(
     const uint64_t *numbers, size_t numbers_len,
     size_t dimensionality,

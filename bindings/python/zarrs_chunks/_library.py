@@ -1,7 +1,8 @@
 """The shared library: where it lies, which calls it has, and how each is made.
 
-Every argument passes through `call`, but for those of a prepared grid's lists, which `_prepared` passes. It takes arrays and bytes that are fit for
-the library, and makes pointers and lengths of them. What a caller of the package gives becomes such an array or bytes in `_numbers`, `_texts` and `_metadata`.
+Every argument passes through `call`, but for those of the lists of a prepared grid, which `_prepared` passes. It takes arrays and bytes that are fit
+for the library, and makes pointers and lengths of them. What a caller of the package gives becomes such an array or bytes in `_numbers`, `_texts` and
+`_metadata`.
 """
 
 import ctypes

@@ -8,7 +8,7 @@ import numpy as np
 from ._reading import reading
 
 GREATEST = 2**64 - 1
-_UINT64 = np.dtype(np.uint64)
+_ARRAY, _UINT64 = np.ndarray, np.dtype(np.uint64)
 
 
 def whole_number(argument, value):
@@ -37,9 +37,10 @@ def numbers(argument, values):
     TypeError: indices: whole numbers are wanted, and the array is of float64
     """
     # A view of its own: what another thread does to the caller's, as to set its type or its shape, doesn't change it.
-    if type(values) is np.ndarray:
+    if type(values) is _ARRAY:
         array = values.view()
-        if _is_fit(array):
+        flags = array.flags
+        if array.dtype == _UINT64 and flags.c_contiguous and flags.aligned:
             return array
     with reading(argument):
         array = np.asarray(values).view()
@@ -55,12 +56,6 @@ def numbers(argument, values):
     if kind == "O" or (kind == "f" and not isinstance(values, np.ndarray)):
         return _from_objects(argument, values, array.dtype)
     raise TypeError(f"{argument}: whole numbers are wanted, and the array is of {array.dtype}")
-
-
-def _is_fit(array):
-    """Whether the library may read an array as it is."""
-    flags = array.flags
-    return array.dtype == _UINT64 and flags.c_contiguous and flags.aligned
 
 
 def lists_of_numbers(argument, values, dimensionality):

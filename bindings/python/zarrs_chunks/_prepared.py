@@ -13,6 +13,7 @@ from ._answer import refuse, text_of
 _NUMBER, _MARK = ctypes.c_uint64, ctypes.c_uint8
 # The first item of an array, which is passed as a pointer to it.
 _of, _mark_of = _NUMBER.from_buffer, _MARK.from_buffer
+_zeros, _UINT64, _BOOL = np.zeros, np.dtype(np.uint64), np.dtype(np.bool_)
 _TYPES = {
     _library.NUMBERS: (ctypes.POINTER(_NUMBER), ctypes.c_size_t), _library.WRITTEN_NUMBERS: (ctypes.POINTER(_NUMBER), ctypes.c_size_t),
     _library.WRITTEN_BYTES: (ctypes.POINTER(_MARK), ctypes.c_size_t),
@@ -66,16 +67,21 @@ class PreparedGrid:
         if not 0 < size < _MANY:
             return self.ask_many(name, [asked], count)
         # The same as there, for few lists: no step but those that each call takes.
+        shape, function = asked.shape, _FUNCTIONS[name]
         try:
-            first, found = np.zeros(asked.shape, np.uint64), np.zeros(asked.shape[:-1], np.bool_)
-            second = np.zeros(asked.shape, np.uint64) if count == 2 else None
+            first, found = _zeros(shape, _UINT64), _zeros(shape[:-1], _BOOL)
+            if count == 1:
+                code = function(self._pointer, self._size, _pointer(asked), size, _of(first), size, _mark_of(found), found.size)
+                answers = first, found
+            else:
+                second = _zeros(shape, _UINT64)
+                code = function(self._pointer, self._size, _pointer(asked), size, _of(first), size, _of(second), size, _mark_of(found), found.size)
+                answers = first, second, found
         except MemoryError as error:
             raise MemoryError("out of memory: there is no room for the answer") from error
-        answers = (_of(first), size) if count == 1 else (_of(first), size, _of(second), size)
-        code = _FUNCTIONS[name](self._pointer, self._size, _pointer(asked), size, *answers, _mark_of(found), found.size)
         if code != _library.OK:
             refuse(code)
-        return (first, found) if count == 1 else (first, second, found)
+        return answers
 
     def ask_many(self, name, asked, count, *told):
         """The same of any number of lists, and with what else the call tells."""
