@@ -44,7 +44,10 @@ from random_arrays import Generator  # noqa: E402
 BACKENDS = ("llvm", "rattle")
 REGULAR = regular(2, 3)
 RUST_EXAMPLE = b'Ok([("c/0/0", [1, 1]), ("c/0/1", [1, 2]), ("c/1/0", [2, 1]), ("c/1/1", [2, 2])])\n'
-EXAMPLE = b"c/3/2/16 0 1 2\nc/0/0/0 0 0 0\nc/3/2/16 has 1 x 1 x 3 elements of the box\nc/3/2/17 has 1 x 1 x 1 elements of the box\n"
+EXAMPLE = b"".join([
+    b"c/3/2/16 0 1 2\nc/0/0/0 0 0 0\nc/3/2/16 has 1 x 1 x 3 elements of the box\nc/3/2/17 has 1 x 1 x 1 elements of the box\n",
+    b"c/3/2/16 by numbers\nc/0/0/0 by numbers\n",
+])
 
 
 class Tally:

@@ -1,11 +1,12 @@
-/* The chunk and the key of some elements of an array of 5 x 7 x 52 elements, in chunks of 1 x 2 x 3; and the plan of reading a box of it. */
+/* The chunk and the key of some elements of an array of 5 x 7 x 52 elements, in chunks of 1 x 2 x 3; the plan of reading a box of it; and the keys again,
+ * an element a call, by the grid and the encoding as numbers. */
 #include "zarrs_chunks.h"
 
 #include <inttypes.h>
 #include <stdio.h>
 #include <string.h>
 
-enum { ELEMENTS = 2, DIMENSIONS = 3, MOST_PARTS = 4, LONGEST_TEXT = 64 };
+enum { ELEMENTS = 2, DIMENSIONS = 3, MOST_PARTS = 4, LONGEST_TEXT = 64, MOST_NUMBERS = 2 + 7 * DIMENSIONS };
 
 #define GRID "{\"name\":\"regular\",\"configuration\":{\"chunk_shape\":[1,2,3]}}"
 #define ENCODING "{\"name\":\"default\",\"configuration\":{\"separator\":\"/\"}}"
@@ -27,7 +28,9 @@ int main(void) {
         .chunks = lists[0], .chunks_len = MOST_PARTS * DIMENSIONS, .in_chunk = lists[1], .in_chunk_len = MOST_PARTS * DIMENSIONS,
         .in_subset = lists[2], .in_subset_len = MOST_PARTS * DIMENSIONS, .shapes = lists[3], .shapes_len = MOST_PARTS * DIMENSIONS,
         .text = part_text, .text_len = LONGEST_TEXT, .offsets = part_offsets, .offsets_len = MOST_PARTS + 1};
-    size_t needed;
+    uint64_t grid[MOST_NUMBERS], encoding[MOST_NUMBERS], chunk[DIMENSIONS], key_offsets[ELEMENTS][2];
+    uint8_t keys[ELEMENTS][LONGEST_TEXT], is_found;
+    size_t needed, grid_len, encoding_len;
     int32_t code = zarrs_homes_of(
         shape, DIMENSIONS, BYTES(GRID), indices, ELEMENTS * DIMENSIONS, chunks, ELEMENTS * DIMENSIONS, places, ELEMENTS * DIMENSIONS, found, ELEMENTS);
 
@@ -36,6 +39,21 @@ int main(void) {
     }
     if (code == ZARRS_OK) {
         code = zarrs_parts_of(&array, &box, 0, &parts);
+    }
+    if (code == ZARRS_OK) {
+        code = zarrs_prepare_grid(shape, DIMENSIONS, BYTES(GRID), grid, MOST_NUMBERS, &grid_len);
+    }
+    if (code == ZARRS_OK) {
+        code = zarrs_prepare_encoding(BYTES(ENCODING), encoding, MOST_NUMBERS, &encoding_len);
+    }
+    for (size_t element = 0; code == ZARRS_OK && element < ELEMENTS; element++) {
+        const uint64_t *index = indices + element * DIMENSIONS;
+
+        code = zarrs_prepared_chunk_indices_of(grid, grid_len, index, DIMENSIONS, chunk, DIMENSIONS, &is_found, 1);
+        if (code == ZARRS_OK) {
+            code = zarrs_prepared_keys_of(
+                encoding, encoding_len, DIMENSIONS, chunk, DIMENSIONS, keys[element], LONGEST_TEXT, key_offsets[element], 2, &needed);
+        }
     }
     if (code != ZARRS_OK) {
         fprintf(stderr, "code %" PRId32 "\n", code);
@@ -52,6 +70,10 @@ int main(void) {
 
         print_key(part_text, part_offsets + part);
         printf(" has %" PRIu64 " x %" PRIu64 " x %" PRIu64 " elements of the box\n", sizes[0], sizes[1], sizes[2]);
+    }
+    for (size_t element = 0; element < ELEMENTS; element++) {
+        print_key(keys[element], key_offsets[element]);
+        printf(" by numbers\n");
     }
     return 0;
 }
