@@ -28,6 +28,25 @@ static void nested(char *text, const char *beginning, int depth, int is_list) {
     sprintf(text, "}");
 }
 
+/* Makes every call of a prepared grid and a prepared encoding. Answers how many ended otherwise than they should. */
+static int make_prepared_calls(const uint64_t *grid, size_t grid_len, const uint64_t *encoding, size_t encoding_len, int code) {
+    const uint64_t index[2] = {4, 6}, box_shape[2] = {1, 1}, key_offsets[2] = {0, 5};
+    uint64_t first[2], second[2], offsets[2];
+    uint8_t found, text[64];
+    size_t needed, wrong;
+    int other = 0;
+
+    other += zarrs_prepared_grid_shape(grid, grid_len, first, 2) != code;
+    other += zarrs_prepared_chunk_indices_of(grid, grid_len, index, 2, first, 2, &found, 1) != code;
+    other += zarrs_prepared_homes_of(grid, grid_len, index, 2, first, 2, second, 2, &found, 1) != code;
+    other += zarrs_prepared_chunk_boxes_of(grid, grid_len, box_shape, 2, first, 2, second, 2, &found, 1) != code;
+    other += zarrs_prepared_covers_of(grid, grid_len, index, 2, box_shape, 2, first, 2, second, 2, &found, 1, &wrong) != code;
+    other += zarrs_prepared_keys_of(encoding, encoding_len, 2, index, 2, text, sizeof text, offsets, 2, &needed) != code;
+    other += zarrs_prepared_chunks_of_keys(
+        encoding, encoding_len, 2, (const uint8_t *)"c/4/6", 5, key_offsets, 2, first, 2, &found, 1, &wrong) != code;
+    return other;
+}
+
 /* Makes every call. Answers how many ended otherwise than they should. */
 static int make_calls(const char *grid, const char *encoding, const char *question, int code) {
     const uint64_t shape[2] = {5, 7}, index[2] = {4, 6}, box_shape[2] = {1, 1}, key_offsets[2] = {0, 5};
@@ -35,8 +54,9 @@ static int make_calls(const char *grid, const char *encoding, const char *questi
     const struct zarrs_element_box box = {index, 2, box_shape, 2};
     uint64_t first[2], second[2], third[2], fourth[2], offsets[2];
     uint8_t found, text[64];
+    uint64_t numbers[16] = {0}, key_numbers[16] = {0};
     struct zarrs_part_buffers parts = {first, 2, second, 2, third, 2, fourth, 2, text, sizeof text, offsets, 2, 0, 0, 0, 0};
-    size_t needed, wrong;
+    size_t needed, wrong, count, key_count;
     int other = 0;
 
     other += zarrs_grid_shape(shape, 2, BYTES(grid), first, 2) != code;
@@ -47,6 +67,12 @@ static int make_calls(const char *grid, const char *encoding, const char *questi
     other += zarrs_keys_of(BYTES(encoding), 2, index, 2, text, sizeof text, offsets, 2, &needed) != code;
     other += zarrs_chunks_of_keys(BYTES(encoding), 2, (const uint8_t *)"c/4/6", 5, key_offsets, 2, first, 2, &found, 1, &wrong) != code;
     other += zarrs_parts_of(&array, &box, 0, &parts) != code;
+    other += zarrs_prepare_grid(shape, 2, BYTES(grid), numbers, 16, &count) != code;
+    other += zarrs_prepare_encoding(BYTES(encoding), key_numbers, 16, &key_count) != code;
+    if (code == ZARRS_OK) {
+        other += make_prepared_calls(numbers, count, key_numbers, key_count, ZARRS_OK);
+    }
+    other += make_prepared_calls(shape, 2, shape, 2, ZARRS_NOT_PREPARED);
     other += zarrs_grid_fault(shape, 2, BYTES(grid), text, sizeof text, &needed) != code;
     other += zarrs_encoding_fault(BYTES(encoding), text, sizeof text, &needed) != code;
     other += zarrs_answer(BYTES(question), text, sizeof text, &needed) != ZARRS_OK;
