@@ -108,8 +108,8 @@ class PreparedGrid:
 
 def _pointer(numbers):
     """A pointer to the items of an array of `uint64`, which is contiguous and aligned and stays as long as the pointer does."""
-    if numbers.size == 0:
-        return None
-    if numbers.flags.writeable:
+    try:
         return _of(numbers)
-    return ctypes.cast(numbers.ctypes.data, ctypes.POINTER(_NUMBER))
+    except (TypeError, ValueError):
+        # It is read-only, or has no item.
+        return ctypes.cast(numbers.ctypes.data, ctypes.POINTER(_NUMBER)) if numbers.size else None
