@@ -1,12 +1,11 @@
 //! A chunk key encoding as numbers.
-ghost use Rattle.std.specs.Prelude.{◌≡◌, ◌≢◌, ◌++◌, ◌<◌, ℕ, IfOk, MatchOption, OnOk, length, slice_index_or, string_bytes};
+ghost use Rattle.std.specs.Prelude.{◌≡◌, ◌≢◌, ◌++◌, ◌<◌, ℕ, IfOk, IsUtf8, MatchOption, OnOk, length, slice_index_or};
 ghost use Rattle.zarrs_chunk_base.specs.ChunkKeySeparator.{separator_byte};
 ghost use Rattle.zarrs_chunk_base.specs.StoreKey.{EndsInSlash};
 ghost use Rattle.zarrs_chunk_base.specs.declared.chunk_key_separator.ChunkKeySeparator.{ChunkKeySeparator as AnySeparator};
 ghost use Rattle.zarrs_chunk_keys.specs.ChunkKey.{Encoding, suffixed_keys};
 ghost use Rattle.zarrs_chunk_keys.specs.seen.Encodings.{encoding_in};
 ghost use Rattle.zarrs_chunk_prepared.specs.PreparedEncoding.{IsPreparedEncoding, kind_number};
-ghost use Rattle.std.specs.Prelude.{IsUtf8};
 
 use std::alloc::{AllocError, Global};
 use zarrs_chunk_base::ChunkKeySeparator;
