@@ -31,7 +31,8 @@ pub(crate) struct PreparedAxis<'a> {
     pub(crate) divisor: Option<Divisor>,
     ghost chunks_long: { length chunks.now ≡ length starts.now },
     ghost edges_long: { length edges.now ≡ length starts.now },
-    ghost divides: { ForSome divisor (λ d. (length starts.now ≡ 1) × (divisor_of d ≡ slice_index_or edges.now 0 0)) },
+    ghost divides: { ForSome divisor (λ d. (length starts.now ≡ 1)
+        × (divisor_of d ≡ slice_index_or edges.now 0 0)) },
 }
 
 impl PreparedAxis<'_> {

@@ -191,7 +191,8 @@ impl<'a> PreparedGrid<'a> {
         third: usize,
     ) -> Result<(), IncompatibleDimensionalityError>
         ensures { MatchResult result
-            (λ _. (one ≡ width_of self.now) × (other ≡ width_of self.now) × (third ≡ width_of self.now))
+            (λ _. (one ≡ width_of self.now) × (other ≡ width_of self.now)
+            × (third ≡ width_of self.now))
             (λ _. ¬ ((one ≡ width_of self.now) × (other ≡ width_of self.now)
             × (third ≡ width_of self.now))) }
     {

@@ -46,7 +46,8 @@ pub(crate) fn write_home(
 
 /// Writes a number where there is room for it.
 fn put(numbers: &mut [u64], place: usize, number: u64)
-    ensures written { place < length numbers.old → numbers.new ≡ slice_set numbers.old place number }
+    ensures written { place < length numbers.old
+        → numbers.new ≡ slice_set numbers.old place number }
     ensures kept { length numbers.old ≤ place → numbers.new ≡ numbers.old }
 {
     if place < numbers.len() {

@@ -30,7 +30,10 @@ pub(crate) struct Homes<'a> {
 }
 
 impl Questions for Homes<'_> {
-    ghost widths = { λ homes. (width_of homes.grid, cond homes.with_places (width_of homes.grid) 0) };
+    ghost widths = { λ homes. (
+      width_of homes.grid,
+      cond homes.with_places (width_of homes.grid) 0,
+    ) };
 
     ghost given = { λ homes number. HasList (width_of homes.grid) homes.indices.now number };
 
@@ -39,7 +42,8 @@ impl Questions for Homes<'_> {
     ghost fault = { λ _. Memory };
 
     ghost answered = { λ homes number chunk place. (grid : Grid) → IsReadOf grid homes.grid
-        → IsHomeIn grid.dimensions (list_at (width_of homes.grid) homes.indices.now number) chunk place };
+        → IsHomeIn grid.dimensions
+        (list_at (width_of homes.grid) homes.indices.now number) chunk place };
 
     ghost unanswered = { λ homes number. (grid : Grid) → IsReadOf grid homes.grid
         → HasNoHome grid.dimensions (list_at (width_of homes.grid) homes.indices.now number) };
@@ -128,11 +132,13 @@ impl Questions for Covers<'_> {
     ghost fault = { λ _. NotBox };
 
     ghost answered = { λ covers number start shape. (grid : Grid) → IsReadOf grid covers.grid
-        → IsCoverOf grid.dimensions (box_asked (width_of covers.grid) covers.starts.now covers.shapes.now number)
+        → IsCoverOf grid.dimensions
+        (box_asked (width_of covers.grid) covers.starts.now covers.shapes.now number)
         (record { start = start; shape = shape }) };
 
     ghost unanswered = { λ covers number. (grid : Grid) → IsReadOf grid covers.grid
-        → HasNoCover grid.dimensions (box_asked (width_of covers.grid) covers.starts.now covers.shapes.now number) };
+        → HasNoCover grid.dimensions
+        (box_asked (width_of covers.grid) covers.starts.now covers.shapes.now number) };
 
     fn widths(&self) -> (usize, usize) {
         (self.grid.dimensionality(), self.grid.dimensionality())
@@ -200,7 +206,8 @@ impl From<IncompatibleDimensionalityError> for Unanswered {
 
 /// The same, or out of memory.
 impl From<Refusal<IncompatibleDimensionalityError>> for Unanswered {
-    ghost from_gives = { λ refusal why. MatchRefusal refusal (λ _. why ≡ NoQuestion) (λ _. why ≡ OutOfMemory) };
+    ghost from_gives = { λ refusal why. MatchRefusal refusal
+        (λ _. why ≡ NoQuestion) (λ _. why ≡ OutOfMemory) };
 
     fn from(refusal: Refusal<IncompatibleDimensionalityError>) -> Unanswered {
         match refusal {
