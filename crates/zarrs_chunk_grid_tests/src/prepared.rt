@@ -6,7 +6,7 @@ use std::process::Abort;
 use std::test::Fail;
 use zarrs_chunk_base::ArraySubset;
 use zarrs_chunk_keys::{ChunkKeyEncoding, ChunkKeyEncodingTraits};
-use zarrs_chunk_prepared::{PreparedGrid, prepare, prepare_encoding, read_encoding};
+use zarrs_chunk_prepared::{PreparedGrid, prepare_encoding, prepare_grid, read_encoding};
 use zarrs_chunks::ChunkGrid;
 
 const MAX: u64 = u64::MAX;
@@ -20,7 +20,7 @@ const KEYS_MARK: u64 = 8818455381121792371;
 /// The numbers of the grid that metadata says.
 fn numbers(alloc: Global, shape: &[u64], text: &str) -> Result<Vec<u64>, Fail> {
     let grid = ChunkGrid::from_metadata(alloc, &metadata(alloc, text)?, shape)?;
-    Ok(prepare(alloc, &grid)?)
+    Ok(prepare_grid(alloc, &grid)?)
 }
 
 /// Five by six, in chunks of three along the first dimension, and of one, one and four along the second.

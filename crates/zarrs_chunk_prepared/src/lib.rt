@@ -1,7 +1,7 @@
 //! Chunk grids and chunk key encodings as numbers in a buffer, which whoever asks keeps: they are written once, and read by each call, without reading
 //! metadata again.
 //!
-//! [`prepare`] writes the numbers of a grid, and [`PreparedGrid::read`] reads them. What it answers then is proved to be what the grid answers. Any
+//! [`prepare_grid`] writes the numbers of a grid, and [`PreparedGrid::read`] reads them. What it answers then is proved to be what the grid answers. Any
 //! numbers may be read: others are no grid, or one whose answers mean nothing, and each number is tested where it is used.
 //!
 //! The numbers are a mark, the number of dimensions, and a row for each dimension: how many chunks are counted, the last index that lies in a chunk,
@@ -35,4 +35,4 @@ mod write;
 
 pub use encoding::{prepare_encoding, read_encoding};
 pub use grid::PreparedGrid;
-pub use write::prepare;
+pub use write::prepare_grid;

@@ -23,7 +23,7 @@ use zarrs_chunks::{ChunkGrid, ChunkGridTraits};
 ///
 /// # Errors
 /// Out of memory.
-pub fn prepare(alloc: Global, grid: &ChunkGrid) -> Result<Vec<u64>, AllocError>
+pub fn prepare_grid(alloc: Global, grid: &ChunkGrid) -> Result<Vec<u64>, AllocError>
     ensures { IfOk result (λ numbers. IsPreparedGrid numbers.items (grid_in grid.now)) }
 {
     let lengths = grid.edge_lengths(alloc)?;

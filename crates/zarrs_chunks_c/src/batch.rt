@@ -1,5 +1,6 @@
 //! A batch: many questions, each answered by two lists of numbers, or by none.
 ghost use Rattle.std.specs.Prelude.{◌≡◌, ◌≢◌, ◌⊎◌, ℕ, ◌*◌, ◌<◌, List, IfErr, IfOk, OnOk, cond, false, length};
+ghost use Rattle.zarrs_chunk_base.specs.Refusal.{MatchRefusal};
 ghost use Rattle.zarrs_chunks_c.specs.Batch.{AreAnswered, AreKept, list_at};
 ghost use Rattle.zarrs_chunks_c.specs.Calls.{AreQuestions, IsFirstWrong};
 ghost use Rattle.zarrs_chunks_c.specs.declared.codes.Fault.{Fault as AnyFault};
@@ -9,6 +10,7 @@ ghost use Rattle.zarrs_chunks_c.specs.seen.Lists.{HasList};
 
 use crate::codes::Fault;
 use std::alloc::{AllocError, Global};
+use zarrs_chunk_base::{IncompatibleDimensionalityError, Refusal};
 
 /// Why a question isn't answered.
 #[derive(Drop)]
@@ -26,6 +28,28 @@ impl From<AllocError> for Unanswered {
 
     fn from(_error: AllocError) -> Unanswered {
         Unanswered::Memory
+    }
+}
+
+/// A list of another length than there are dimensions is no question.
+impl From<IncompatibleDimensionalityError> for Unanswered {
+    ghost from_gives = { λ _ why. why ≡ NoQuestion };
+
+    fn from(_error: IncompatibleDimensionalityError) -> Unanswered {
+        Unanswered::NoQuestion
+    }
+}
+
+/// The same, or out of memory.
+impl From<Refusal<IncompatibleDimensionalityError>> for Unanswered {
+    ghost from_gives = { λ refusal why. MatchRefusal refusal
+        (λ _. why ≡ NoQuestion) (λ _. why ≡ OutOfMemory) };
+
+    fn from(refusal: Refusal<IncompatibleDimensionalityError>) -> Unanswered {
+        match refusal {
+            Refusal::Refused(_) => Unanswered::NoQuestion,
+            Refusal::Memory(_) => Unanswered::Memory,
+        }
     }
 }
 

@@ -33,7 +33,7 @@ pub(crate) fn numbers_of_grid(
         (λ fault. (fault ≡ Memory) ⊎ IsNoGrid chunk_grid.now shape.now fault) }
 {
     let grid = grid_of(alloc, shape, chunk_grid)?;
-    Ok(zarrs_chunk_prepared::prepare(alloc, &grid)?)
+    Ok(zarrs_chunk_prepared::prepare_grid(alloc, &grid)?)
 }
 
 /// The grid that metadata says, of an array of this shape.

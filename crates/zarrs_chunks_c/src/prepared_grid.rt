@@ -1,11 +1,12 @@
 //! What is asked of a prepared grid.
-ghost use Rattle.std.specs.Prelude.{◌≡◌, ◌⊎◌, MatchResult, OnOk};
+ghost use Rattle.std.specs.Prelude.{◌≡◌, ◌⊎◌, IfOk, MatchResult, OnOk, length};
 ghost use Rattle.zarrs_chunk_base.specs.Grid.{Grid};
 ghost use Rattle.zarrs_chunk_prepared.specs.Prepared.{IsPreparedGrid};
-ghost use Rattle.zarrs_chunk_prepared.specs.seen.PreparedGrid.{IsReadOf};
+ghost use Rattle.zarrs_chunk_prepared.specs.seen.PreparedGrid.{IsReadOf, width_of};
+ghost use Rattle.zarrs_chunks_c.specs.Batch.{AreLengths};
 ghost use Rattle.zarrs_chunks_c.specs.GridCalls.{chunk_boxes_request, chunk_indices_request, covers_request, grid_shape_request, homes_request};
 ghost use Rattle.zarrs_chunks_c.specs.PreparedCalls.{AreKeptForPrepared, EndsForPrepared};
-ghost use Rattle.zarrs_chunks_c.specs.declared.codes.Fault.TheVariants.{Memory, NotPrepared};
+ghost use Rattle.zarrs_chunks_c.specs.declared.codes.Fault.TheVariants.{Length, Memory, NotPrepared};
 
 use crate::batch::answer_all;
 use crate::codes::Fault;
@@ -32,6 +33,27 @@ fn read_grid<'a>(
         Some(grid) => Ok(grid),
         None => Err(Fault::NotPrepared),
     }
+}
+
+/// The same, where each of some arrays has exactly as many numbers as so many lists have, with a number for each dimension.
+///
+/// # Errors
+/// The numbers aren't those of a grid; or, where they are, an array has more numbers or fewer. Or out of memory.
+fn read_fitting<'a>(
+    alloc: Global,
+    numbers: &'a [u64],
+    totals: &[usize],
+    count: usize,
+) -> Result<PreparedGrid<'a>, Fault>
+    ensures fits { IfOk result (λ prepared. AreLengths (width_of prepared) count totals.now) }
+    ensures read { (grid : Grid) → IsPreparedGrid numbers.now grid → MatchResult result
+        (λ prepared. IsReadOf grid prepared × AreLengths (length grid.dimensions) count totals.now)
+        (λ fault. (fault ≡ Memory) ⊎ ((fault ≡ Length)
+        × ¬ AreLengths (length grid.dimensions) count totals.now)) }
+{
+    let grid = read_grid(alloc, numbers, count)?;
+    check_lengths(totals, grid.dimensionality(), count)?;
+    Ok(grid)
 }
 
 /// Writes how many chunks are counted along each dimension.
@@ -64,9 +86,8 @@ pub(crate) fn chunk_indices_in(
     ensures chunks_kept { OnOk result
         (AreKeptForPrepared numbers.now chunks.old chunks.new found.new) }
 {
-    let grid = read_grid(alloc, numbers, found.len())?;
     let totals = [indices.len(), chunks.len()];
-    check_lengths(&totals, grid.dimensionality(), found.len())?;
+    let grid = read_fitting(alloc, numbers, &totals, found.len())?;
     let homes = Homes {
         grid,
         indices,
@@ -94,9 +115,8 @@ pub(crate) fn homes_in(
     ensures places_kept { OnOk result
         (AreKeptForPrepared numbers.now places.old places.new found.new) }
 {
-    let grid = read_grid(alloc, numbers, found.len())?;
     let totals = [indices.len(), chunks.len(), places.len()];
-    check_lengths(&totals, grid.dimensionality(), found.len())?;
+    let grid = read_fitting(alloc, numbers, &totals, found.len())?;
     let homes = Homes {
         grid,
         indices,
@@ -124,9 +144,8 @@ pub(crate) fn chunk_boxes_in(
     ensures shapes_kept { OnOk result
         (AreKeptForPrepared numbers.now shapes.old shapes.new found.new) }
 {
-    let grid = read_grid(alloc, numbers, found.len())?;
     let totals = [chunks.len(), origins.len(), shapes.len()];
-    check_lengths(&totals, grid.dimensionality(), found.len())?;
+    let grid = read_fitting(alloc, numbers, &totals, found.len())?;
     let boxes = ChunkBoxes { grid, chunks };
     answer_all(alloc, &boxes, origins, shapes, found, &mut 0)
 }
@@ -154,14 +173,13 @@ pub(crate) fn covers_in(
     ensures chunk_counts_kept { OnOk result
         (AreKeptForPrepared numbers.now chunk_counts.old chunk_counts.new found.new) }
 {
-    let grid = read_grid(alloc, numbers, found.len())?;
     let totals = [
         starts.len(),
         shapes.len(),
         first_chunks.len(),
         chunk_counts.len(),
     ];
-    check_lengths(&totals, grid.dimensionality(), found.len())?;
+    let grid = read_fitting(alloc, numbers, &totals, found.len())?;
     let covers = Covers {
         grid,
         starts,

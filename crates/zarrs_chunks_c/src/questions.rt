@@ -2,13 +2,11 @@
 ghost use Rattle.std.specs.Prelude.{◌≡◌, ◌⊎◌, cond, IfErr, IfOk, MatchOption};
 ghost use Rattle.zarrs_chunk_base.specs.ArraySubset.{IsBox};
 ghost use Rattle.zarrs_chunk_base.specs.Grid.{Grid};
-ghost use Rattle.zarrs_chunk_base.specs.Refusal.{MatchRefusal};
 ghost use Rattle.zarrs_chunk_prepared.specs.LookedUp.{HasNoCover, IsCoverOf, IsHomeIn};
 ghost use Rattle.zarrs_chunk_prepared.specs.seen.PreparedGrid.{IsReadOf, width_of};
 ghost use Rattle.zarrs_chunks.specs.Subsets.{HasNoBox, HasNoHome, Spans};
 ghost use Rattle.zarrs_chunks_c.specs.Batch.{list_at};
 ghost use Rattle.zarrs_chunks_c.specs.GridCalls.{box_asked};
-ghost use Rattle.zarrs_chunks_c.specs.declared.batch.Unanswered.TheVariants.{Memory as OutOfMemory, NoQuestion};
 ghost use Rattle.zarrs_chunks_c.specs.declared.codes.Fault.TheVariants.{Memory, NotBox};
 ghost use Rattle.zarrs_chunks_c.specs.seen.Lists.{HasList};
 
@@ -16,7 +14,7 @@ use crate::batch::{Questions, Unanswered};
 use crate::codes::Fault;
 use crate::lists::list_of;
 use std::alloc::{AllocError, Global};
-use zarrs_chunk_base::{ArraySubset, IncompatibleDimensionalityError, Refusal};
+use zarrs_chunk_base::ArraySubset;
 use zarrs_chunk_prepared::PreparedGrid;
 
 /// Where elements lie: the chunk of each, and the place there where it is asked for.
@@ -193,26 +191,4 @@ fn made_box(alloc: Global, start: &[u64], shape: &[u64]) -> Result<Option<ArrayS
     let start = Vec::from_slice(alloc, start)?;
     let shape = Vec::from_slice(alloc, shape)?;
     Ok(ArraySubset::new_with_start_shape(start, shape).ok())
-}
-
-/// A list of another length than there are dimensions is no question.
-impl From<IncompatibleDimensionalityError> for Unanswered {
-    ghost from_gives = { λ _ why. why ≡ NoQuestion };
-
-    fn from(_error: IncompatibleDimensionalityError) -> Unanswered {
-        Unanswered::NoQuestion
-    }
-}
-
-/// The same, or out of memory.
-impl From<Refusal<IncompatibleDimensionalityError>> for Unanswered {
-    ghost from_gives = { λ refusal why. MatchRefusal refusal
-        (λ _. why ≡ NoQuestion) (λ _. why ≡ OutOfMemory) };
-
-    fn from(refusal: Refusal<IncompatibleDimensionalityError>) -> Unanswered {
-        match refusal {
-            Refusal::Refused(_) => Unanswered::NoQuestion,
-            Refusal::Memory(_) => Unanswered::Memory,
-        }
-    }
 }

@@ -1,35 +1,23 @@
-use Rattle.std.proofs.Common.{[], ◌∷◌, inl, inr, length, ⊎_elim}
+use Rattle.std.proofs.Common.{inl, inr, ⊎_elim}
 use Rattle.std.proofs.lemmas.Result.{err_from_is_err_and, on_ok_weaker}
 use Rattle.zarrs_chunks_c.specs.GridCalls.{RefusesNone, chunk_boxes_request}
 use Rattle.zarrs_chunks_c.proofs.Ends.{ends_for, memory_alone}
-use Rattle.zarrs_chunks_c.proofs.PreparedAnswers.{are_boxes, fits, kept, misfits}
+use Rattle.zarrs_chunks_c.proofs.PreparedAnswers.{are_boxes, kept}
 use Rattle.zarrs_chunks_c.proofs.prepared_grid.chunk_boxes_in.Goals as goal
 
 pub returns-in_err-grid-clause-ends : goal.returns-in_err-grid-clause-ends
 returns-in_err-grid-clause-ends c grid prepared =
     let p = err_from_is_err_and c.from_residual.result c.from_residual.ensures.1 in
-    rw (p.1, p.2) (⊎_elim (λ memory. inl memory) (λ unread. absurd (unread.1 grid prepared)) c.in_err-grid.ensures)
-
-pub returns-in_err-check_lengths-clause-ends : goal.returns-in_err-check_lengths-clause-ends
-returns-in_err-check_lengths-clause-ends c grid prepared =
-    let p = err_from_is_err_and c.from_residual-in_err-check_lengths.result c.from_residual-in_err-check_lengths.ensures.1 in
-    let are = c.in_ok-grid.ensures grid prepared in
-    let (is_length, differ) = rw c.dimensionality.ensures at c.in_err-check_lengths.ensures in
-    rw (p.1, p.2) (inr (inl (
-      is_length,
-      misfits grid c.in_ok-grid.grid are (length c.args.found.now)
-          (length c.args.chunks.now ∷ length c.args.origins.now ∷ length c.args.shapes.now ∷ []) differ,
-    )))
+    rw (p.1, p.2) (⊎_elim (λ memory. inl memory) (λ misfits. inr (inl misfits)) (c.in_err-grid.ensures.read grid prepared))
 
 pub returns-clause-ends : goal.returns-clause-ends
 returns-clause-ends c grid prepared =
-    let are = c.in_ok-grid.ensures grid prepared in
+    let (are, fits) = c.in_ok-grid.ensures.read grid prepared in
     let wrote = c.answer_all.new in
     let same = c.answer_all.auto in
-    let lengths = rw c.dimensionality.ensures at c.in_ok-check_lengths.ensures in
+    let lengths = c.in_ok-grid.ensures.fits in
     ends_for (chunk_boxes_request c.args.chunks.now wrote.first wrote.second wrote.found) grid c.answer_all.result
-    (rw (same.first, same.second, same.found) (fits grid c.in_ok-grid.grid are (length c.args.found.now)
-    (length c.args.chunks.now ∷ length c.args.origins.now ∷ length c.args.shapes.now ∷ []) lengths))
+    (rw (same.first, same.second, same.found) fits)
     (on_ok_weaker c.answer_all.result (are_boxes grid c.in_ok-grid.grid are c.args.chunks.now wrote.first wrote.second wrote.found)
     c.answer_all.ensures.answered)
     (memory_alone c.answer_all.result (RefusesNone grid) _ c.answer_all.ensures.refused)
@@ -38,12 +26,12 @@ pub returns-clause-origins_kept : goal.returns-clause-origins_kept
 returns-clause-origins_kept c =
     on_ok_weaker c.answer_all.result
     (λ keeps grid prepared.
-    kept grid c.in_ok-grid.grid (c.in_ok-grid.ensures grid prepared) c.args.origins.now c.answer_all.new.first c.answer_all.new.found keeps)
+    kept grid c.in_ok-grid.grid (c.in_ok-grid.ensures.read grid prepared).0 c.args.origins.now c.answer_all.new.first c.answer_all.new.found keeps)
     c.answer_all.ensures.first_kept
 
 pub returns-clause-shapes_kept : goal.returns-clause-shapes_kept
 returns-clause-shapes_kept c =
     on_ok_weaker c.answer_all.result
     (λ keeps grid prepared.
-    kept grid c.in_ok-grid.grid (c.in_ok-grid.ensures grid prepared) c.args.shapes.now c.answer_all.new.second c.answer_all.new.found keeps)
+    kept grid c.in_ok-grid.grid (c.in_ok-grid.ensures.read grid prepared).0 c.args.shapes.now c.answer_all.new.second c.answer_all.new.found keeps)
     c.answer_all.ensures.second_kept

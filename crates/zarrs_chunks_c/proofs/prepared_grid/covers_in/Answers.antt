@@ -1,37 +1,24 @@
-use Rattle.std.proofs.Common.{[], ◌∷◌, inl, inr, length, ⊎_elim}
+use Rattle.std.proofs.Common.{inl, inr, length, ⊎_elim}
 use Rattle.std.proofs.lemmas.Result.{err_from_is_err_and, on_ok_weaker}
 use Rattle.zarrs_chunks_c.specs.GridCalls.{covers_request}
 use Rattle.zarrs_chunks_c.proofs.Ends.{both, ends_for}
-use Rattle.zarrs_chunks_c.proofs.PreparedAnswers.{are_asked, are_covers, fits, kept, misfits, refused_covers}
+use Rattle.zarrs_chunks_c.proofs.PreparedAnswers.{are_asked, are_covers, kept, refused_covers}
 use Rattle.zarrs_chunks_c.proofs.prepared_grid.covers_in.Goals as goal
 
 pub returns-in_err-grid-clause-ends : goal.returns-in_err-grid-clause-ends
 returns-in_err-grid-clause-ends c grid prepared =
     let p = err_from_is_err_and c.from_residual.result c.from_residual.ensures.1 in
-    rw (p.1, p.2) (⊎_elim (λ memory. inl memory) (λ unread. absurd (unread.1 grid prepared)) c.in_err-grid.ensures)
-
-pub returns-in_err-check_lengths-clause-ends : goal.returns-in_err-check_lengths-clause-ends
-returns-in_err-check_lengths-clause-ends c grid prepared =
-    let p = err_from_is_err_and c.from_residual-in_err-check_lengths.result c.from_residual-in_err-check_lengths.ensures.1 in
-    let are = c.in_ok-grid.ensures grid prepared in
-    let (is_length, differ) = rw c.dimensionality.ensures at c.in_err-check_lengths.ensures in
-    rw (p.1, p.2) (inr (inl (
-      is_length,
-      misfits grid c.in_ok-grid.grid are (length c.args.found.now)
-          (length c.args.starts.now ∷ length c.args.shapes.now ∷ length c.args.first_chunks.now ∷ length c.args.chunk_counts.now ∷ []) differ,
-    )))
+    rw (p.1, p.2) (⊎_elim (λ memory. inl memory) (λ misfits. inr (inl misfits)) (c.in_err-grid.ensures.read grid prepared))
 
 pub returns-clause-ends : goal.returns-clause-ends
 returns-clause-ends c grid prepared =
-    let are = c.in_ok-grid.ensures grid prepared in
+    let (are, fits) = c.in_ok-grid.ensures.read grid prepared in
     let wrote = c.answer_all.new in
     let same = c.answer_all.auto in
-    let lengths = rw c.dimensionality.ensures at c.in_ok-check_lengths.ensures in
     let starts = c.args.starts.now in
     let shapes = c.args.shapes.now in
     ends_for (covers_request starts shapes wrote.first wrote.second wrote.found wrote.wrong) grid c.answer_all.result
-    (rw (same.first, same.second, same.found) (fits grid c.in_ok-grid.grid are (length c.args.found.now)
-    (length c.args.starts.now ∷ length c.args.shapes.now ∷ length c.args.first_chunks.now ∷ length c.args.chunk_counts.now ∷ []) lengths))
+    (rw (same.first, same.second, same.found) fits)
     (both c.answer_all.result _ _
     (on_ok_weaker c.answer_all.result (are_asked grid c.in_ok-grid.grid are starts shapes (length wrote.found)) c.answer_all.ensures.asked)
     (on_ok_weaker c.answer_all.result (are_covers grid c.in_ok-grid.grid are starts shapes wrote.first wrote.second wrote.found)
@@ -42,12 +29,12 @@ pub returns-clause-first_chunks_kept : goal.returns-clause-first_chunks_kept
 returns-clause-first_chunks_kept c =
     on_ok_weaker c.answer_all.result
     (λ keeps grid prepared.
-    kept grid c.in_ok-grid.grid (c.in_ok-grid.ensures grid prepared) c.args.first_chunks.now c.answer_all.new.first c.answer_all.new.found keeps)
+    kept grid c.in_ok-grid.grid (c.in_ok-grid.ensures.read grid prepared).0 c.args.first_chunks.now c.answer_all.new.first c.answer_all.new.found keeps)
     c.answer_all.ensures.first_kept
 
 pub returns-clause-chunk_counts_kept : goal.returns-clause-chunk_counts_kept
 returns-clause-chunk_counts_kept c =
     on_ok_weaker c.answer_all.result
     (λ keeps grid prepared.
-    kept grid c.in_ok-grid.grid (c.in_ok-grid.ensures grid prepared) c.args.chunk_counts.now c.answer_all.new.second c.answer_all.new.found keeps)
+    kept grid c.in_ok-grid.grid (c.in_ok-grid.ensures.read grid prepared).0 c.args.chunk_counts.now c.answer_all.new.second c.answer_all.new.found keeps)
     c.answer_all.ensures.second_kept

@@ -2,7 +2,7 @@ use Rattle.std.proofs.Common.{◌≡◌, ◌<◌, ◌^◌, arith, get_or, length
 use Rattle.zarrs_chunk_prepared.specs.Prepared.{grid_mark}
 use Rattle.zarrs_chunks.specs.seen.Grids.{grid_in}
 use Rattle.zarrs_chunk_prepared.proofs.GridTables.{all_tables, as_many_edges, one_table_more, told_at}
-use Rattle.zarrs_chunk_prepared.proofs.write.prepare.Goals as goal
+use Rattle.zarrs_chunk_prepared.proofs.write.prepare_grid.Goals as goal
 
 pub append_dimension-requires : goal.append_dimension-requires
 append_dimension-requires c =

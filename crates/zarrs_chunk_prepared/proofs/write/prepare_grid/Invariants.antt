@@ -2,7 +2,7 @@ use Rattle.zarrs_chunk_prepared.specs.Prepared.{grid_mark}
 use Rattle.zarrs_chunk_prepared.proofs.GridTables.{AreSoFar}
 use Rattle.std.proofs.Common.{length}
 use Rattle.zarrs_chunks.specs.seen.Grids.{grid_in}
-use Rattle.zarrs_chunk_prepared.proofs.write.prepare.Given as goal
+use Rattle.zarrs_chunk_prepared.proofs.write.prepare_grid.Given as goal
 
 -- the numbers of the dimensions so far
 abbrev pub invariant-loop-dimension : goal.invariant-loop-dimension
