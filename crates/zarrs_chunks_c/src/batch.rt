@@ -64,7 +64,7 @@ pub(crate) trait Questions {
     /// It is a question, which has an answer or none.
     ghost is_question: { Self → ℕ → Type 0 };
 
-    /// The fault of what isn't one.
+    /// The fault of what isn't one. Where all that can be asked is a question, it is never told.
     ghost fault: { Self → AnyFault };
 
     /// The two lists answer the question with this number.
@@ -100,7 +100,7 @@ pub(crate) trait Questions {
         ensures refused { IfErr result (λ why. (why ≡ OutOfMemory)
             ⊎ ((why ≡ NoQuestion) × ¬ is_question self.now number)) };
 
-    /// The fault of what isn't a question.
+    /// The fault of what isn't a question. Where all that can be asked is one, it is never told.
     fn fault(&self) -> Fault
         ensures { result ≡ fault self.now };
 }
