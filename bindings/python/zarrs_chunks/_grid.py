@@ -48,7 +48,7 @@ class Grid:
 
     def __init__(self, shape, chunk_grid):
         self._shape = list_of_numbers("shape", shape)
-        self._shape.flags.writeable = False
+        self._shape.flags.writeable, self._dimensionality = False, self._shape.size
         self._metadata = Metadata("chunk_grid", chunk_grid)
         self._prepared = PreparedGrid(self._shape, self._metadata.text)
         self._grid_shape = tuple(self._prepared.grid_shape(self._shape.size).tolist())
@@ -102,7 +102,7 @@ class Grid:
         >>> Grid([5, 7], {"name": "regular", "configuration": {"chunk_shape": [2, 3]}}).dimensionality
         2
         """
-        return self._shape.size
+        return self._dimensionality
 
     @property
     def array_shape(self):
@@ -130,7 +130,7 @@ class Grid:
         >>> chunks.tolist(), found.tolist()
         ([[2, 2], [0, 0]], [True, False])
         """
-        return self._prepared.ask("zarrs_prepared_chunk_indices_of", self._lists("indices", indices), 1)
+        return self._prepared.ask("zarrs_prepared_chunk_indices_of", 1, lists_of_numbers("indices", indices, self._dimensionality))
 
     def chunk_element_indices(self, indices):
         """The place of each element in the chunk that holds it, counted from the chunk's first element, and whether a chunk does.
@@ -150,7 +150,7 @@ class Grid:
         >>> chunks.tolist(), places.tolist(), found.tolist()
         ([[2, 1]], [[0, 2]], [True])
         """
-        return self._prepared.ask("zarrs_prepared_homes_of", self._lists("indices", indices), 2)
+        return self._prepared.ask("zarrs_prepared_homes_of", 2, lists_of_numbers("indices", indices, self._dimensionality))
 
     def subset(self, chunks):
         """The box of each chunk, as its origin and its shape, and whether there is such a chunk that ends at 18446744073709551615 or before.
@@ -160,7 +160,7 @@ class Grid:
         >>> origins.tolist(), shapes.tolist(), found.tolist()
         ([[4, 6]], [[1, 1]], [True])
         """
-        return self._prepared.ask("zarrs_prepared_chunk_boxes_of", self._lists("chunks", chunks), 2)
+        return self._prepared.ask("zarrs_prepared_chunk_boxes_of", 2, lists_of_numbers("chunks", chunks, self._dimensionality))
 
     def chunks_in_array_subset(self, starts, shapes):
         """The cover of each box of elements, which is given as its start and its shape: the first of the chunks that hold some of them, how
@@ -171,10 +171,10 @@ class Grid:
         >>> first.tolist(), counts.tolist(), bool(found)
         ([0, 0], [2, 2], True)
         """
-        starts, shapes = self._lists("starts", starts), self._lists("shapes", shapes)
+        starts, shapes = lists_of_numbers("starts", starts, self._dimensionality), lists_of_numbers("shapes", shapes, self._dimensionality)
         if starts.shape != shapes.shape:
             raise ValueError(f"shapes: there are to be as many as starts, and the arrays' shapes are {shapes.shape} and {starts.shape}")
-        return self._prepared.covers(starts, shapes)
+        return self._prepared.ask("zarrs_prepared_covers_of", 2, starts, shapes)
 
     def parts(self, encoding, start, shape, first=0, most=None):
         """The plan of reading a box of elements, which is given as its start and its shape: the parts of the chunks that hold some of them, in
@@ -222,6 +222,3 @@ class Grid:
             return None
         keys = keys_between(text[:length].tobytes(), offsets[: told["count"] + 1])
         return Parts(*(numbers[: told["count"]] for numbers in lists.values()), keys, told["in_all"])
-
-    def _lists(self, argument, values):
-        return lists_of_numbers(argument, values, self._shape.size)

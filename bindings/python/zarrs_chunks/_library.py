@@ -137,8 +137,8 @@ def _load():
 _LIBRARY, _FUNCTIONS = _load()
 
 
-def function(name, kinds):
-    """A call of the library with arguments of other types of C than those that `call` passes. What it is given isn't tested."""
+def function(name, kinds=None):
+    """A call of the library that takes other types of C than those that `call` passes, or with no types any. What it is given isn't tested."""
     found = _LIBRARY[name]
     found.argtypes, found.restype = kinds, ctypes.c_int32
     return found

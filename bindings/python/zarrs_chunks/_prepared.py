@@ -4,26 +4,25 @@ The calls of a grid are made in as few steps as Python takes for them: most of t
 """
 
 import ctypes
+import functools
+import math
 
 import numpy as np
 
 from . import _library
 from ._answer import refuse, text_of
 
-_NUMBER, _MARK = ctypes.c_uint64, ctypes.c_uint8
-# The first item of an array, which is passed as a pointer to it.
-_of, _mark_of = _NUMBER.from_buffer, _MARK.from_buffer
-_zeros, _UINT64, _BOOL = np.zeros, np.dtype(np.uint64), np.dtype(np.bool_)
+_NUMBER, _MARK, _SIZE = ctypes.c_uint64, ctypes.c_uint8, ctypes.c_size_t
+_array, _UINT64, _BOOL = np.ndarray, np.dtype(np.uint64), np.dtype(np.bool_)
 _TYPES = {
-    _library.NUMBERS: (ctypes.POINTER(_NUMBER), ctypes.c_size_t), _library.WRITTEN_NUMBERS: (ctypes.POINTER(_NUMBER), ctypes.c_size_t),
-    _library.WRITTEN_BYTES: (ctypes.POINTER(_MARK), ctypes.c_size_t),
+    _library.NUMBERS: (ctypes.POINTER(_NUMBER), _SIZE), _library.WRITTEN_NUMBERS: (ctypes.POINTER(_NUMBER), _SIZE),
+    _library.WRITTEN_BYTES: (ctypes.POINTER(_MARK), _SIZE),
 }  # fmt: skip
 
-# The calls of a prepared grid, each of which takes pointers as `_pointer` makes them.
-_FUNCTIONS = {
-    name: _library.function(name, [kind for kinds in _library.CALLS[name].values() for kind in _TYPES.get(kinds, kinds)])
-    for name in (f"zarrs_prepared_{asked}_of" for asked in ("chunk_indices", "homes", "chunk_boxes", "covers"))
-}
+# The calls of a prepared grid: for few lists without the types of their arguments, which have these types already, and for many with them.
+_NAMES = [f"zarrs_prepared_{asked}_of" for asked in ("chunk_indices", "homes", "chunk_boxes", "covers")]
+_FOR_FEW = {name: _library.function(name) for name in _NAMES}
+_FOR_MANY = {name: _library.function(name, [kind for kinds in _library.CALLS[name].values() for kind in _TYPES.get(kinds, kinds)]) for name in _NAMES}
 
 # From how many numbers on an answer is left as it was allocated, until it is known which lists have none.
 _MANY = 2**12
@@ -51,7 +50,7 @@ class PreparedGrid:
     def __init__(self, shape, chunk_grid):
         # One edge for all chunks takes seven numbers a dimension.
         self._numbers = prepared("grid", 2 + 7 * shape.size, shape=shape, chunk_grid=chunk_grid)
-        self._size, self._pointer = self._numbers.size, _pointer(self._numbers)
+        self._pointer, self._size = self._numbers.ctypes.data_as(ctypes.POINTER(_NUMBER)), _SIZE(self._numbers.size)
 
     def grid_shape(self, dimensionality):
         """How many chunks are counted along each dimension."""
@@ -61,55 +60,70 @@ class PreparedGrid:
             refuse(code)
         return sizes
 
-    def ask(self, name, asked, count):
-        """What a call answers of lists of numbers, which `lists_of_numbers` made: so many arrays in their shape, one or two, and the marks."""
-        size = asked.size
-        if not 0 < size < _MANY:
-            return self.ask_many(name, [asked], count)
+    def ask(self, name, count, lists, shapes=None):
+        """What a call answers of lists of numbers, which `lists_of_numbers` made, and of boxes their shapes beside: so many arrays in the form of the
+        lists, one or two, and the marks."""
+        few = _few_lists(lists.shape)
+        if few is None:
+            return self._ask_many(name, count, [lists] if shapes is None else [lists, shapes])
         # The same as there, for few lists: no step but those that each call takes.
-        shape, function = asked.shape, _FUNCTIONS[name]
+        numbers, size, marks, marks_size, marks_shape = few
+        grid, grid_size, function, wrong = self._pointer, self._size, _FOR_FEW[name], None
         try:
-            first, found = _zeros(shape, _UINT64), _zeros(shape[:-1], _BOOL)
+            asked, first, found = lists.tobytes(), numbers(), marks()
             if count == 1:
-                code = function(self._pointer, self._size, _pointer(asked), size, _of(first), size, _mark_of(found), found.size)
-                answers = first, found
+                code = function(grid, grid_size, asked, size, first, size, found, marks_size)
+                answers = _array(lists.shape, _UINT64, first), _array(marks_shape, _BOOL, found)
             else:
-                second = _zeros(shape, _UINT64)
-                code = function(self._pointer, self._size, _pointer(asked), size, _of(first), size, _of(second), size, _mark_of(found), found.size)
-                answers = first, second, found
+                second = numbers()
+                if shapes is None:
+                    code = function(grid, grid_size, asked, size, first, size, second, size, found, marks_size)
+                else:
+                    asked_shapes, wrong = shapes.tobytes(), _SIZE()
+                    told = ctypes.byref(wrong)
+                    code = function(grid, grid_size, asked, size, asked_shapes, size, first, size, second, size, found, marks_size, told)
+                answers = _array(lists.shape, _UINT64, first), _array(lists.shape, _UINT64, second), _array(marks_shape, _BOOL, found)
         except MemoryError as error:
             raise MemoryError("out of memory: there is no room for the answer") from error
         if code != _library.OK:
-            refuse(code)
+            _refuse(code, wrong)
         return answers
 
-    def ask_many(self, name, asked, count, *told):
-        """The same of any number of lists, and with what else the call tells."""
+    def _ask_many(self, name, count, asked):
+        """The same of any number of lists."""
         shape, size = asked[0].shape, asked[0].size
         is_long = size >= _MANY
         found = _library.room(shape[:-1], np.bool_)
         answers = [_library.room_for_all(shape) if is_long else _library.room(shape) for _ in range(count)]
         lists = (part for numbers in (*asked, *answers) for part in (_pointer(numbers), size))
-        marks = (_mark_of(found) if found.size else None, found.size)
-        code = _FUNCTIONS[name](self._pointer, self._size, *lists, *marks, *told)
-        if code == _library.NOT_A_BOX:
-            refuse(code, f"box {told[0].value} ends past 18446744073709551615")
+        marks = (_MARK.from_buffer(found) if found.size else None, found.size)
+        wrong = _SIZE()
+        told = [wrong] if len(asked) == 2 else []
+        code = _FOR_MANY[name](self._pointer, self._size, *lists, *marks, *told)
         if code != _library.OK:
-            refuse(code)
+            _refuse(code, wrong)
         if is_long and not found.all():
             for numbers in answers:
                 numbers[~found] = 0
         return (*answers, found)
 
-    def covers(self, starts, shapes):
-        """The first chunk of the cover of each box and how many chunks it has, and the marks."""
-        return self.ask_many("zarrs_prepared_covers_of", [starts, shapes], 2, ctypes.c_size_t())
+
+@functools.lru_cache(maxsize=256)
+def _few_lists(shape):
+    """What a call takes for lists in an array of this shape: the types of a list's room and of the marks', how many numbers they are, and the form of
+    the marks. None where there are many lists, or none."""
+    size, count = math.prod(shape), math.prod(shape[:-1])
+    return (_NUMBER * size, _SIZE(size), _MARK * count, _SIZE(count), shape[:-1]) if 0 < size < _MANY else None
+
+
+def _refuse(code, wrong):
+    refuse(code, f"box {wrong.value} ends past 18446744073709551615" if code == _library.NOT_A_BOX else None)
 
 
 def _pointer(numbers):
     """A pointer to the items of an array of `uint64`, which is contiguous and aligned and stays as long as the pointer does."""
     try:
-        return _of(numbers)
+        return _NUMBER.from_buffer(numbers)
     except (TypeError, ValueError):
         # It is read-only, or has no item.
         return ctypes.cast(numbers.ctypes.data, ctypes.POINTER(_NUMBER)) if numbers.size else None
