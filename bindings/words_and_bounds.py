@@ -7,12 +7,14 @@ call of its own.
 import ctypes
 import itertools
 import json
+import pathlib
 
 import numpy as np
 from call_names import WALKS
 from extensions import GREATEST, regular
 from memory import at_most, used
 
+VERSION = (pathlib.Path(__file__).resolve().parent.parent / "VERSION").read_text().strip()
 SHAPE = np.array([4, 7], np.uint64)
 REGULAR = regular(2, 3)
 # Metadata of a grid of this array, the code that they end with, and the words.
@@ -76,7 +78,8 @@ def words(tally, call):
     tally.same("an encoding that isn't JSON", text_of(call, "zarrs_encoding_fault", b"\xff"), (-3, CODES[-3], -3, True))
     for code, said in CODES.items():
         tally.same(f"the code {code}", text_of(call, "zarrs_code_words", ctypes.c_int32(code)), (0, said, -8, True))
-    tally.same("the version", call("zarrs_abi_version"), 2)
+    tally.same("the version of the interface", call("zarrs_abi_version"), 2)
+    tally.same("the version", text_of(call, "zarrs_version"), (0, VERSION, -8, True))
 
 
 def answered(call, question, room):

@@ -50,6 +50,9 @@ extern "C" {
 /* The version of this interface. That of the library that is loaded is told by zarrs_abi_version; the two are to be equal. */
 #define ZARRS_ABI_VERSION 2
 
+/* The version of the library that this header is of. That of the library that is loaded is told by zarrs_version. */
+#define ZARRS_VERSION "0.1.0"
+
 /* How many bytes of stack a call needs at most. */
 #define ZARRS_STACK 163840
 
@@ -77,6 +80,12 @@ extern "C" {
 
 /* The version of the interface of the library that is loaded. */
 int32_t zarrs_abi_version(void);
+
+/* The version of the library that is loaded, as text. *needed gets how many bytes it has. ZARRS_SHORT_BUFFER where version is shorter: nothing is
+ * written to it. */
+int32_t zarrs_version(
+    uint8_t *version, size_t version_len,
+    size_t *needed);
 
 /* How many chunks are counted along each dimension: grid_shape gets d numbers. */
 int32_t zarrs_grid_shape(
@@ -281,7 +290,8 @@ int32_t zarrs_encoding_fault(
     uint8_t *words, size_t words_len,
     size_t *needed);
 
-/* What a code says, in words; of a number that is none, that it is none. *needed gets how many bytes they have. ZARRS_SHORT_BUFFER where words is shorter: nothing is written to it. */
+/* What a code says, in words; of a number that is none, that it is none. *needed gets how many bytes they have. ZARRS_SHORT_BUFFER where words is
+ * shorter: nothing is written to it. */
 int32_t zarrs_code_words(
     int32_t code,
     uint8_t *words, size_t words_len,

@@ -78,6 +78,7 @@ static int make_calls(const char *grid, const char *encoding, const char *questi
     other += zarrs_answer(BYTES(question), text, sizeof text, &needed) != ZARRS_OK;
     other += zarrs_code_words(code, text, sizeof text, &needed) != ZARRS_OK;
     other += zarrs_abi_version() != ZARRS_ABI_VERSION;
+    other += zarrs_version(text, sizeof text, &needed) != ZARRS_OK || needed != sizeof ZARRS_VERSION - 1 || memcmp(text, ZARRS_VERSION, needed) != 0;
     return other;
 }
 

@@ -88,6 +88,7 @@ _ASKED_OF_ENCODING = {
 # The calls of zarrs_chunks.h, with the names and the order of their arguments there. Each answers a code, and the first one the version.
 CALLS = {
     "zarrs_abi_version": {},
+    "zarrs_version": {"version": WRITTEN_BYTES, "needed": TOLD_SIZE},
     **{f"zarrs_{name}": {**_GRID, **asked} for name, asked in _ASKED_OF_GRID.items()},
     "zarrs_prepare_grid": {**_GRID, "numbers": WRITTEN_NUMBERS, "needed": TOLD_SIZE},
     **{f"zarrs_prepared_{name}": {"numbers": NUMBERS, **asked} for name, asked in _ASKED_OF_GRID.items()},

@@ -1,4 +1,4 @@
--- The codes that calls end with, and the version of the interface, as the header `zarrs_chunks.h` has them.
+-- The codes that calls end with, and the versions of the interface and of the library, as the header `zarrs_chunks.h` has them.
 use Rattle.std.specs.Prelude.{◌≡◌, ℕ, ◌==◌, if◌then◌else◌, ℤ, pos, negsuc, List, [], ◌∷◌, Result, Ok, Err, codes, slice_index_or}
 use Rattle.zarrs_chunk_base.specs.declared.extension_error.ExtensionError.TheVariants.{Create, Metadata}
 use Rattle.zarrs_chunks_c.specs.declared.codes.Fault.{Fault}
@@ -7,6 +7,10 @@ use Rattle.zarrs_chunks_c.specs.declared.codes.Fault.TheVariants.{Memory, Length
 -- the version of the interface
 abbrev pub abi_version : ℤ
 abi_version = pos 2
+
+-- the version of the library
+abbrev pub library_version : List ℕ
+library_version = codes "0.1.0"
 
 -- the code of each fault
 abbrev pub fault_code : Fault → ℤ

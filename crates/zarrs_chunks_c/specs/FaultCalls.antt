@@ -18,15 +18,19 @@ grid_fault_call shape metadata needed = grid_call shape metadata (grid_request [
 abbrev pub encoding_fault_call : (metadata : List ℕ) (needed : ℕ) → Call Encoding
 encoding_fault_call metadata needed = encoding_call metadata (encoding_request (Unit {0}) RefusesNone (λ _. needed ≡ 0))
 
--- What a code says. It is refused where that is longer than its buffer.
-abbrev pub words_call : (code : ℤ) (words : List ℕ) (needed : ℕ) → Call (Unit {0})
-words_call code words needed = record {
+-- a text, which is refused where it is longer than its buffer
+abbrev pub text_call : (told buffer : List ℕ) (needed : ℕ) → Call (Unit {0})
+text_call told buffer needed = record {
   Misses = λ _. ⊥;
   Says = λ _. Unit {0};
   Fits = λ _. Unit {0};
-  Refuses = λ _ fault. (fault ≡ Short) × IsTooLong (λ text. text ≡ code_words code) words needed;
-  Answers = λ _. IsWhole (λ text. text ≡ code_words code) words needed;
+  Refuses = λ _ fault. (fault ≡ Short) × IsTooLong (λ text. text ≡ told) buffer needed;
+  Answers = λ _. IsWhole (λ text. text ≡ told) buffer needed;
 }
+
+-- what a code says
+abbrev pub words_call : (code : ℤ) (words : List ℕ) (needed : ℕ) → Call (Unit {0})
+words_call code = text_call (code_words code)
 
 -- The words of a fault: those of its code. Nothing is said here of those that tell why an extension isn't made.
 abbrev pub AreWordsOf : Fault → List ℕ → Type 0

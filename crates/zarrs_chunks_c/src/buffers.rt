@@ -1,5 +1,7 @@
 //! Buffers that are longer than what is written to them.
 ghost use Rattle.std.specs.Prelude.{◌≡◌, ◌<◌, ◌≤◌, IfErr, OnErr, OnOk, drop, length, take};
+ghost use Rattle.zarrs_chunks_c.specs.Calls.{IsEndOf, IsKeptIfShort};
+ghost use Rattle.zarrs_chunks_c.specs.FaultCalls.{text_call};
 ghost use Rattle.zarrs_chunks_c.specs.declared.codes.Fault.TheVariants.{Short};
 
 use crate::codes::Fault;
@@ -27,4 +29,16 @@ pub(crate) fn write_front<T: Copy>(
     }
     buffer[..items.len()].copy_from_slice(items);
     Ok(())
+}
+
+/// Writes a text to the front of a buffer, and how long it is.
+///
+/// # Errors
+/// The buffer is shorter. Nothing is written to it.
+pub(crate) fn write_text(text: &str, buffer: &mut [u8], needed: &mut usize) -> Result<(), Fault>
+    ensures ends { IsEndOf (text_call text.now buffer.new needed.new) result }
+    ensures kept_if_short { IsKeptIfShort buffer.old buffer.new result }
+    ensures kept_behind { drop needed.new buffer.new ≡ drop needed.new buffer.old }
+{
+    write_front(text.as_bytes(), buffer, needed)
 }

@@ -5,7 +5,7 @@ ghost use Rattle.zarrs_chunks_c.specs.Codes.{Ends};
 ghost use Rattle.zarrs_chunks_c.specs.FaultCalls.{AreWordsOf, IsTold, encoding_fault_call, grid_fault_call, words_call};
 ghost use Rattle.zarrs_chunks_c.specs.declared.codes.Fault.TheVariants.{Memory};
 
-use crate::buffers::write_front;
+use crate::buffers::{write_front, write_text};
 use crate::codes::{Fault, code_of, words_of};
 use crate::metadata::{encoding_of, grid_of};
 use std::alloc::{AllocError, Global};
@@ -101,7 +101,7 @@ fn code_words(code: i32, words: &mut [u8], needed: &mut usize) -> Result<(), Fau
     ensures kept_if_short { IsKeptIfShort words.old words.new result }
     ensures kept_behind { drop needed.new words.new ≡ drop needed.new words.old }
 {
-    write_front(words_of(code).as_bytes(), words, needed)
+    write_text(words_of(code), words, needed)
 }
 
 /// Ends as the making of something did, and writes in words why it failed; where it didn't, that there are none. Words that are longer than their

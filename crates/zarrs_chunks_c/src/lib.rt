@@ -15,7 +15,7 @@
 //! | `plan_call` | `zarrs_parts_of` |
 //! | `answer_call` | `zarrs_answer`: any question as text |
 //! | `fault_calls` | `zarrs_grid_fault`, `zarrs_encoding_fault`, `zarrs_code_words`: why a call is refused, in words |
-//! | `version` | `zarrs_abi_version` |
+//! | `version` | `zarrs_abi_version`, `zarrs_version` |
 //! | `structs` | the structs of the header: an array as it is stored, a box, and the buffers for parts |
 //! | `batch` | the loop over the questions of a batch |
 //! | `lists` | lists of one length, one after another |
