@@ -10,12 +10,14 @@ what an earlier check had kept, they are checked again. It ends with the status 
 """
 import pathlib
 import re
-import shutil
 import subprocess
 import sys
 import tempfile
 
 HERE = pathlib.Path(__file__).resolve().parent
+sys.path.insert(0, str(HERE.parent / "tools"))
+from binaries import Binary, kit  # noqa: E402
+
 CRATES = HERE.parent / "crates"
 CRATE = CRATES / "zarrs_chunks_c"
 ARCHIVE = CRATE / "out" / "libzarrs_chunks_c.a"
@@ -23,11 +25,6 @@ BACKENDS = ("llvm", "rattle")
 NAME = "libzarrs_chunks"
 # What the library asks of the C library. It opens no file and starts nothing.
 WANTED = {"malloc", "realloc", "free", "memcpy", "memmove", "memset", "memcmp", "bcmp"}
-
-
-def kit():
-    page = subprocess.run(["rt", "doc"], stdout=subprocess.PIPE, check=True).stdout.decode()
-    return pathlib.Path(page.split()[-1]).resolve().parent
 
 
 def run(*command):
@@ -70,19 +67,20 @@ def archives(kit_folder, after_ci):
 
 
 def link(backend, kit_folder):
-    """The shared library of the static one, and what a caller needs of both, in a folder of their compiler."""
+    """The static library with what it needs of the kit, and the shared library of it, in a folder of their compiler."""
     out = HERE / "out" / backend
     out.mkdir(parents=True, exist_ok=True)
-    shared, runtime = out / f"{NAME}.so.{version()}", kit_folder / "c" / "liblibc_c.a"
+    static, shared = out / f"{NAME}.a", out / f"{NAME}.so.{version()}"
+    toolchain = kit_folder / "toolchain"
+    static.unlink(missing_ok=True)
+    joined = f"CREATE {static}\nADDLIB {ARCHIVE}\nADDLIB {kit_folder / 'c' / 'liblibc_c.a'}\nSAVE\nEND\n"
+    subprocess.run([toolchain / "bin" / "llvm-ar", "-M"], input=joined.encode(), check=True)
     exported = out / "exported.map"
     exported.write_text("{ global: zarrs_*; local: *; };\n")
-    shutil.copy(ARCHIVE, out / f"{NAME}.a")
-    shutil.copy(runtime, out / "liblibc_c.a")
-    toolchain = kit_folder / "toolchain"
     subprocess.run(
         [
             toolchain / "bin" / "ld.lld", "-shared", "-soname", shared.name, "-z", "defs", "-z", "text", "-z", "noexecstack", "-z", "relro", "-z", "now",
-            "-z", "separate-code", "--build-id=sha1", "--gc-sections", "--version-script", exported, "--whole-archive", out / f"{NAME}.a", "--no-whole-archive", runtime,
+            "-z", "separate-code", "--build-id=sha1", "--gc-sections", "--version-script", exported, "--whole-archive", static, "--no-whole-archive",
             # a compiler's own runtime: LLVM calls it to divide numbers of 128 bits
             toolchain / "lib" / "libgcc.a", toolchain / "lib" / "libc.so.6", "-o", shared,
         ],
@@ -153,67 +151,19 @@ def in_rattle():
     return found
 
 
-def symbols(shared):
-    """The names that a shared library exports, and those that it wants of others, read from its table of dynamic symbols."""
-    data = shared.read_bytes()
-
-    def number(at, size):
-        return int.from_bytes(data[at : at + size], "little")
-
-    sections = [number(40, 8) + position * number(58, 2) for position in range(number(60, 2))]
-    # A section's type, place, size and the section that it links to; 11 is the table of dynamic symbols.
-    for section in sections:
-        if number(section + 4, 4) == 11:
-            start, size = number(section + 24, 8), number(section + 32, 8)
-            texts = number(sections[number(section + 40, 4)] + 24, 8)
-            for entry in range(start + 24, start + size, 24):
-                begin = texts + number(entry, 4)
-                yield data[begin : data.index(b"\0", begin)].decode(), number(entry + 6, 2) != 0
-
-
-def soft_spots(shared):
-    """What a shared library lacks of what distributions ask for: memory that is written to is never run, the stack neither; tables of addresses are
-    bound at the start and written to no more; and a build has a number of its own."""
-    data = shared.read_bytes()
-
-    def number(at, size):
-        return int.from_bytes(data[at : at + size], "little")
-
-    headers = [number(32, 8) + position * number(54, 2) for position in range(number(56, 2))]
-    segments = [(number(header, 4), number(header + 4, 4), number(header + 8, 8), number(header + 32, 8)) for header in headers]
-    load, dynamic, note, stack, relro = 1, 2, 4, 0x6474E551, 0x6474E552
-    runs, writes = 1, 2
-    entries = {}
-    for kind, _, start, size in segments:
-        if kind == dynamic:
-            entries = {number(at, 8): number(at + 8, 8) for at in range(start, start + size, 16)}
-    text_relocations, flags, bind_now = 22, 30, 8
-    if any(kind == load and mode & runs and mode & writes for kind, mode, *_ in segments):
-        yield "memory that is written to may be run"
-    if any(kind == stack and mode & runs for kind, mode, *_ in segments) or all(kind != stack for kind, *_ in segments):
-        yield "the stack may be run"
-    if all(kind != relro for kind, *_ in segments) or not entries.get(flags, 0) & bind_now:
-        yield "tables of addresses may be written to"
-    if text_relocations in entries:
-        yield "code is written to when it is loaded"
-    if all(kind != note or b"GNU\0" not in data[start : start + size] for kind, _, start, size in segments):
-        yield "there is no build id"
-
-
 def main():
     kit_folder = kit()
     header, crate = in_c(), in_rattle()
     faults = [f"{name}: the header has {header.get(name)}, and the crate {crate.get(name)}" for name in sorted(header | crate) if header.get(name) != crate.get(name)]
     for backend in archives(kit_folder, "--after-ci" in sys.argv[1:]):
         shared = link(backend, kit_folder)
-        exported = {name for name, here in symbols(shared) if here}
-        wanted = {name for name, here in symbols(shared) if not here}
-        if exported != declared():
-            faults.append(f"{shared}: exported and not in the header, or the other way round: {sorted(exported ^ declared())}")
-        if not wanted <= WANTED:
-            faults.append(f"{shared}: wants more of the C library: {sorted(wanted - WANTED)}")
-        faults += [f"{shared}: {spot}" for spot in soft_spots(shared)]
-        print(f"{shared.relative_to(HERE.parent)}: {shared.stat().st_size} bytes, {len(exported)} calls")
+        binary = Binary(shared)
+        if binary.exported() != declared():
+            faults.append(f"{shared}: exported and not in the header, or the other way round: {sorted(binary.exported() ^ declared())}")
+        if not binary.wanted() <= WANTED:
+            faults.append(f"{shared}: wants more of the C library: {sorted(binary.wanted() - WANTED)}")
+        faults += [f"{shared}: {spot}" for spot in binary.soft_spots()]
+        print(f"{shared.relative_to(HERE.parent)}: {shared.stat().st_size} bytes, {len(declared())} calls")
     print("\n".join(faults), end="\n" if faults else "")
     sys.exit(1 if faults else 0)
 

@@ -108,10 +108,14 @@ _GIVEN_TO |= {struct: {field for field, kind in struct.KINDS.items() if len(kind
 
 
 def path():
-    """Where the library lies: what ZARRS_CHUNKS_LIBRARY names, or what `bindings/build.py` made."""
+    """Where the library lies: what ZARRS_CHUNKS_LIBRARY names; or what is beside this file, where the package is installed; or what `bindings/build.py`
+    made."""
     named = os.environ.get("ZARRS_CHUNKS_LIBRARY")
-    made = pathlib.Path(__file__).resolve().parents[2] / "out" / "llvm" / "libzarrs_chunks.so"
-    return pathlib.Path(named).absolute() if named else made
+    if named:
+        return pathlib.Path(named).absolute()
+    here = pathlib.Path(__file__).resolve()
+    installed = here.with_name(f"libzarrs_chunks.so.{VERSION}")
+    return installed if installed.exists() else here.parents[2] / "out" / "llvm" / "libzarrs_chunks.so"
 
 
 def _load():
