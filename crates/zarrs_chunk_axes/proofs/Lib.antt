@@ -5,6 +5,7 @@ pub mod EachSoFar
 pub mod EqualAxes
 pub mod Expansions
 pub mod FirstList
+pub mod OverBox
 pub mod PairsFound
 pub mod Inverses
 pub mod ListedAxes

@@ -1,13 +1,14 @@
 -- What the look-ups of a chunk grid answer, over its dimensions.
 -- Sources: Zarr V3 core, chunk grids and the regular grid; ZEP 3, variable chunks.
-use Rattle.std.specs.Prelude.{◌≡◌, ◌≢◌, ℕ, ◌+◌, ◌≤◌, Bool, true, false, List, length, map, Option, Result, Ok, Err, Vec}
+use Rattle.std.specs.Prelude.{◌≡◌, ◌≢◌, ◌⊎◌, ℕ, ◌+◌, ◌-◌, ◌<◌, ◌≤◌, Bool, true, false, List, [], ◌∷◌, length, map, Option, Result, Ok, Err, Vec}
+use Rattle.std.specs.List.{AllByRecursion}
 use Rattle.std.specs.Int.NonZero.{non_zero_u64_get}
 use Rattle.std.specs.declared.alloc.Global.{Global}
 use Rattle.std.specs.declared.num.NonZeroU64.{NonZeroU64}
 use Rattle.zarrs_chunk_base.specs.declared.incompatible_dimensionality_error.IncompatibleDimensionalityError.{IncompatibleDimensionalityError}
 use Rattle.zarrs_chunk_base.specs.declared.refusal.Refusal.{Refusal}
 use Rattle.zarrs_chunk_base.specs.declared.refusal.Refusal.TheVariants.{Refused, Memory}
-use Rattle.zarrs_chunk_base.specs.ArraySubset.{ends}
+use Rattle.zarrs_chunk_base.specs.ArraySubset.{Box, ends, lasts}
 use Rattle.zarrs_chunk_base.specs.Dimension.{Dimension, HasEdge, Holds, InBox, IsChunk, IsOrigin, IsPlace, IsShape, StartsAt}
 use Rattle.zarrs_chunk_base.specs.Greatest.{AllFit, greatest}
 use Rattle.zarrs_chunk_base.specs.Refusal.{Answers, TellsLengths}
@@ -63,6 +64,24 @@ abbrev pub AnswersRanges : List Dimension → List ℕ → Result (Option (Vec �
 AnswersRanges ds chunk =
     Answers (length chunk) (length ds) (λ ranges. AreRanges ds chunk ranges.0.items ranges.1.items)
     ((starts sizes : List ℕ) → ¬ AreRanges ds chunk starts sizes)
+
+-- in each dimension how many chunks there are from a first one to a last one
+abbrev pub counts_between : (firsts lasts : List ℕ) → List ℕ
+counts_between (f ∷ firsts) (l ∷ lasts) = (l - f + 1) ∷ counts_between firsts lasts
+counts_between _ _ = []
+
+-- the chunks over a box: that of its first element, and how many there are in each dimension up to that of its last
+pub record AreOverBox (ds : List Dimension) (b : Box) (firsts counts : List ℕ) : Type 0 where
+  pub last_chunk : List ℕ
+  pub first : InBox ds firsts b.start
+  pub last : InBox ds last_chunk (lasts b.start b.shape)
+  pub counted : AllByRecursion (λ n. n < greatest) last_chunk → counts ≡ counts_between firsts last_chunk
+
+-- the two lists; none where the first or the last element lies in no chunk
+abbrev pub AnswersOverBox : List Dimension → Box → Result (Option (Vec ℕ Global × Vec ℕ Global)) (Refusal IncompatibleDimensionalityError) → Type 0
+AnswersOverBox ds b =
+    Answers (length b.start) (length ds) (λ found. AreOverBox ds b found.0.items found.1.items)
+    (((chunk : List ℕ) → ¬ InBox ds chunk b.start) ⊎ ((chunk : List ℕ) → ¬ InBox ds chunk (lasts b.start b.shape)))
 
 -- The chunk whose box holds the index and the index's place in it, as two lists hold them after the call; `false` where no box does.
 abbrev pub AnswersHome : List Dimension → List ℕ → Result Bool (Refusal IncompatibleDimensionalityError) → (chunk place : List ℕ) → Type 0

@@ -2,21 +2,23 @@
 mod counted;
 mod look_up;
 
-ghost use Rattle.std.specs.Prelude.{◌≡◌, ◌↔◌, ◌≤◌, ℕ, [], IfErr, IfOk, IsOk, IsTrue, List, MatchOption, OnErr, cond, length, map};
+ghost use Rattle.std.specs.Prelude.{◌≡◌, ◌⊎◌, ◌↔◌, ◌≤◌, ℕ, [], IfErr, IfOk, IsOk, IsTrue, List, MatchOption, OnErr, cond, length, map};
 ghost use Rattle.std.specs.List.{AllByRecursion, AllZip};
 ghost use Rattle.std.specs.Vec.{vec_capacity};
+ghost use Rattle.zarrs_chunk_base.specs.ArraySubset.{ends, lasts};
+ghost use Rattle.zarrs_chunk_base.specs.Greatest.{AllFit};
 ghost use Rattle.zarrs_chunk_base.specs.Dimension.{InBox, InEach, IsPlace, array_sizes, grid_sizes};
 ghost use Rattle.zarrs_chunk_base.specs.Refusal.{Answers, HasMemory, IsRefusedAnd, OrMemory, TellsLengths};
 ghost use Rattle.zarrs_chunk_axes.specs.InBounds.{AreBelow, AreInBounds, AreIndicesInBounds, IsIndexInBounds};
-ghost use Rattle.zarrs_chunk_axes.specs.LookUp.{AnswersShape, AnswersOrigin, AnswersChunk, AnswersHome, AnswersPlace, AnswersRanges};
-ghost use Rattle.zarrs_chunk_axes.specs.lemmas.LookUpEach.{AreFound, SomeMisses};
+ghost use Rattle.zarrs_chunk_axes.specs.LookUp.{AnswersShape, AnswersOrigin, AnswersChunk, AnswersHome, AnswersOverBox, AnswersPlace, AnswersRanges, AreOverBox};
+ghost use Rattle.zarrs_chunk_axes.specs.lemmas.LookUpEach.{AreFound, LiesInNone, SomeMisses};
 
 use crate::axis::{Axis, AxisFrom};
 use look_up::{ChunkOf, EdgeOf, HomeOf, LookUp, OriginOf, PlaceOf, RangeOf};
 use std::alloc::{AllocError, Global};
 use std::num::NonZeroU64;
 use zarrs_chunk_base::{
-    ArrayIndices, ArrayShape, ChunkShape, IncompatibleDimensionalityError, Refusal,
+    ArrayIndices, ArrayShape, ArraySubset, ChunkShape, IncompatibleDimensionalityError, Refusal,
 };
 
 /// A list of dimensions of one kind.
@@ -202,6 +204,30 @@ impl<A: Axis + Drop> AxisGrid<A> {
         }
     }
 
+    /// For each dimension the chunk that holds a box's first index, and how many chunks there are from it to the one that holds the box's last index.
+    ///
+    /// # Errors
+    /// The box has another number of dimensions; or out of memory.
+    pub fn chunks_over(
+        &self,
+        alloc: Global,
+        elements: &ArraySubset,
+    ) -> Result<Option<(ArrayIndices, ArrayShape)>, Refusal<IncompatibleDimensionalityError>>
+        ensures { AnswersOverBox (dimensions_of self.now) elements.now result }
+    {
+        let start = elements.start();
+        if start.len() != self.axes.len() {
+            return Err(self.other_length(start));
+        }
+        let mut firsts = Vec::with_capacity(alloc, self.axes.len())?;
+        let mut counts = Vec::with_capacity(alloc, self.axes.len())?;
+        if find_over(&self.axes, start, elements.shape(), &mut firsts, &mut counts) {
+            Ok(Some((firsts, counts)))
+        } else {
+            Ok(None)
+        }
+    }
+
     /// Whether there is an index for each dimension, and each is in bounds there.
     pub fn are_in_bounds(&self, indices: &[u64]) -> bool
         ensures within { AreBelow (array_sizes (dimensions_of self.now)) indices.now
@@ -333,6 +359,42 @@ fn find_each<A: Axis, L: LookUp<Found = (u64, u64)>>(
         };
         firsts.push_reserved(first);
         seconds.push_reserved(second);
+    }
+    true
+}
+
+/// Finds in each dimension the chunk of a range's first number, and how many chunks there are up to that of its last, and puts these into two empty
+/// lists that have room for them; `false` where one of these numbers lies in no chunk.
+fn find_over<A: Axis>(
+    axes: &[A],
+    starts: &[u64],
+    sizes: &[u64],
+    firsts: &mut Vec<u64>,
+    counts: &mut Vec<u64>,
+) -> bool
+    requires lengths { length axes.now ≡ length starts.now }
+    requires sizes { length sizes.now ≡ length starts.now }
+    requires fits { AllFit (ends starts.now sizes.now) }
+    requires empty { firsts.old.items ≡ [] }
+    requires also_empty { counts.old.items ≡ [] }
+    requires room { length axes.now ≤ vec_capacity firsts.old }
+    requires also_room { length axes.now ≤ vec_capacity counts.old }
+    ensures { cond result
+        (AreOverBox (map A.dimension axes.now)
+        (record { start = starts.now; shape = sizes.now }) firsts.new.items counts.new.items)
+        (SomeMisses LiesInNone (map A.dimension axes.now) starts.now
+        ⊎ SomeMisses LiesInNone (map A.dimension axes.now) (lasts starts.now sizes.now)) }
+{
+    for (axis, (start, size)) in axes.iter().zip(starts.iter().zip(sizes)) {
+        let Some(first) = axis.chunk_of(*start) else {
+            return false;
+        };
+        // No sum is cut off, since no range ends past u64::MAX.
+        let Some(last) = axis.chunk_of(start.saturating_add(size.saturating_sub(1))) else {
+            return false;
+        };
+        firsts.push_reserved(first);
+        counts.push_reserved(last.saturating_sub(first).saturating_add(1));
     }
     true
 }

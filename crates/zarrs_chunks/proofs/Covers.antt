@@ -1,18 +1,22 @@
 -- The box of the chunks from that of a box's first element to that of its last.
 use Rattle.std.proofs.Common.{◌≡◌, ℕ, zero, suc, ◌+◌, ◌-◌, ◌<◌, ◌≤◌, List, [], ◌∷◌, length, map, replicate, Option, Some, None, MatchOption, Ok, Err}
-use Rattle.std.proofs.Common.{refl, ap, ◌∙◌, ⊎_elim, arith}
+use Rattle.std.proofs.Common.{refl, ap, ap₂, ◌∙◌, ⊎_elim, arith, Result}
+use Rattle.std.specs.Prelude.{MatchResult}
+use Rattle.std.specs.Result.{result_ok}
 use Rattle.std.proofs.lemmas.Bool.{cases_lt}
 use Rattle.std.specs.List.{AllByRecursion, AllZip, Contains}
 use Rattle.zarrs_chunk_base.specs.declared.incompatible_dimensionality_error.IncompatibleDimensionalityError.{IncompatibleDimensionalityError}
 use Rattle.zarrs_chunk_base.specs.declared.refusal.Refusal.{Refusal}
 use Rattle.zarrs_chunk_base.specs.declared.refusal.Refusal.TheVariants.{Refused, Memory}
-use Rattle.zarrs_chunk_axes.specs.LookUp.{AnswersChunk}
+use Rattle.zarrs_chunk_axes.specs.LookUp.{AnswersChunk, AreOverBox, counts_between}
 use Rattle.zarrs_chunk_base.specs.ArraySubset.{Box, IsBox, IsEmptyBox, ends, lasts}
+use Rattle.zarrs_chunk_base.specs.ArraySubsetError.{IsBoxFault}
+use Rattle.zarrs_chunk_base.specs.declared.array_subset_error.ArraySubsetError.{ArraySubsetError}
 use Rattle.zarrs_chunk_base.specs.Dimension.{Dimension, Holds, IsChain, InBox, IsOrigin, StartsAt}
 use Rattle.zarrs_chunk_base.proofs.InEach.{along, by_dimension, by_dimension_twice, turned}
 use Rattle.zarrs_chunk_base.specs.Greatest.{greatest, AllFit}
 use Rattle.zarrs_chunks.specs.Subsets.{AnswersCover, IsCover}
-use Rattle.zarrs_chunks.proofs.UpTo.{after_ones, ones_fit}
+use Rattle.zarrs_chunks.proofs.UpTo.{after_ones, made_up_to, ones_fit}
 use Rattle.zarrs_chunks.proofs.Chains.{at_most_start, in_chain, no_later}
 
 -- no range ends before it starts
@@ -121,3 +125,29 @@ pub cover_refused : (ds : List Dimension) (end : List ℕ) (b : Box) (refusal : 
     → length end ≡ length ds → length b.start ≡ length ds → AnswersChunk ds end (Err refusal) → AnswersCover ds b (Err refusal)
 cover_refused ds end b (Refused e) same agree refused = absurd (refused.0 same)
 cover_refused ds end b (Memory e) same agree refused = (agree, tt)
+
+-- counted from the first chunks, the counts end with the last chunks
+between_reaches : (firsts last : List ℕ) → AllZip ◌≤◌ firsts last
+    → (length (counts_between firsts last) ≡ length firsts) × (ends firsts (counts_between firsts last) ≡ ends last (replicate (length last) 1))
+between_reaches [] [] order = (refl, refl)
+between_reaches (f ∷ firsts) (l ∷ last) order =
+    let (same, rest) = between_reaches firsts last order.1 in
+    let le : f ≤ l = order.0 in
+    let here : f + (l - f + 1) ≡ l + 1 = omega arith in
+    (ap suc same, ap₂ (λ n ns. n ∷ ns) here rest)
+between_reaches [] (_ ∷ _) order = absurd order
+between_reaches (_ ∷ _) [] order = absurd order
+
+-- the chunks over a box are its cover
+pub over_box_covers : (ds : List Dimension) (b : Box) (firsts counts : List ℕ) (made : Result Box ArraySubsetError) → AllByRecursion IsChain ds → IsBox b
+    → (¬ IsEmptyBox b) → length b.start ≡ length ds → AreOverBox ds b firsts counts
+    → MatchResult made (λ cover. (cover ≡ record { start = firsts; shape = counts }) × IsBox cover) (IsBoxFault firsts counts)
+    → AnswersCover ds b (Ok (result_ok made))
+over_box_covers ds b firsts counts made chains is_box some agree over h =
+    let order = in_order ds firsts over.last_chunk b.start (lasts b.start b.shape) chains (firsts_before_lasts b.start b.shape is_box.lengths) over.first over.last in
+    let small = chunks_small (λ n. n < greatest) (λ m n low below. omega arith) ds over.last_chunk (lasts b.start b.shape) chains over.last
+        (lasts_small b.start b.shape is_box.lengths is_box.fits some) in
+    let counted : counts ≡ counts_between firsts over.last_chunk = over.counted small in
+    let (same, reach) = between_reaches firsts over.last_chunk order in
+    covers ds b firsts over.last_chunk (replicate (length over.last_chunk) 1) (result_ok made) agree order small refl over.first over.last
+    (made_up_to firsts counts over.last_chunk (replicate (length over.last_chunk) 1) made (rw counted same) (rw counted reach) h)

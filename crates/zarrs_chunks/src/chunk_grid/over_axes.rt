@@ -168,6 +168,21 @@ impl<G: OverAxes> ChunkGridTraits for G {
         Ok(ArraySubset::new_with_start_shape(start, shape).ok())
     }
 
+    fn chunks_in_array_subset(
+        &self,
+        alloc: Global,
+        array_subset: &ArraySubset,
+    ) -> Result<Option<ArraySubset>, Refusal<IncompatibleDimensionalityError>> {
+        array_subset.is_a_box();
+        if array_subset.is_empty() && self.dimensionality() > 0 {
+            return Ok(Some(ArraySubset::new_empty(alloc, self.dimensionality())?));
+        }
+        let Some((first, counts)) = self.axes().chunks_over(alloc, array_subset)? else {
+            return Ok(None);
+        };
+        Ok(ArraySubset::new_with_start_shape(first, counts).ok())
+    }
+
     fn array_indices_inbounds(&self, array_indices: &[u64]) -> bool
         ensures within { AreBelow (array_sizes (G.grid self.now).dimensions) array_indices.now
             → IsTrue result }
