@@ -1,0 +1,601 @@
+//! Chunk grids.
+
+use std::fmt;
+
+use crate::calls;
+use crate::encoding::Encoding;
+use crate::error::{Error, Result};
+use crate::ffi;
+use crate::library;
+use crate::memory::{copy_of, text_of, zeros};
+use crate::parts::Parts;
+use crate::subset::ArraySubset;
+use crate::walks::{ChunkIndices, ChunkIndicesAndSubsets, ChunkSubsets};
+
+/// A chunk grid: the chunks into which an array of a shape is cut.
+///
+/// Sizes, indices, origins, shapes and places count elements. Chunks are numbered from 0 along each
+/// dimension. All numbers go from 0 to 18446744073709551615, and no sum or product wraps.
+///
+/// A grid prepares itself once, as numbers: so no call reads JSON, but for each page of a plan or
+/// of a walk. It never changes, and any number of threads may ask it at once. Two are equal that
+/// were made of the same shape and the same text.
+///
+/// # Batches
+///
+/// A batch asks many lists at once. They stand one after another in one slice, without anything
+/// between two. How many lists there are is told by the length of `found`; each other slice has
+/// as many numbers for each list as the grid has dimensions. In `found` a list has `true` where
+/// there is an answer to it. Where there is none, its numbers in the answer's slices stay as they
+/// were. After an error these slices hold anything.
+///
+/// # Example
+///
+/// ```
+/// use zarrs_chunks::Grid;
+///
+/// let chunk_grid = r#"{"name":"zarrs.regular_bounded","configuration":{"chunk_shape":[2,3]}}"#;
+/// let grid = Grid::new(&[5, 7], chunk_grid)?;
+/// assert_eq!(grid.grid_shape(), [3, 3]);
+/// assert_eq!(grid.chunk_indices(&[4, 6])?, Some(vec![2, 2]));
+/// assert_eq!(grid.chunk_indices(&[4, 7])?, None);
+/// # Ok::<(), zarrs_chunks::Error>(())
+/// ```
+#[derive(Clone, PartialEq, Eq, Hash)]
+pub struct Grid {
+    shape: Vec<u64>,
+    chunk_grid: String,
+    /// Those that `zarrs_prepare_grid` wrote, all of them.
+    numbers: Vec<u64>,
+    grid_shape: Vec<u64>,
+}
+
+/// Where an element lies: in which chunk, and where in it. Both lists have a number for each
+/// dimension. [`Grid::find_home`] makes it.
+///
+/// # Example
+///
+/// ```
+/// use zarrs_chunks::Grid;
+///
+/// let chunk_grid = r#"{"name":"regular","configuration":{"chunk_shape":[2,3]}}"#;
+/// let home = Grid::new(&[5, 7], chunk_grid)?.find_home(&[4, 5])?.unwrap();
+/// assert_eq!((home.chunk, home.place), (vec![2, 1], vec![0, 2]));
+/// # Ok::<(), zarrs_chunks::Error>(())
+/// ```
+#[derive(Debug, Clone, PartialEq, Eq, Hash)]
+#[non_exhaustive]
+pub struct Home {
+    /// The chunk that holds the element.
+    pub chunk: Vec<u64>,
+    /// The element's place there, counted from the chunk's first element.
+    pub place: Vec<u64>,
+}
+
+impl Grid {
+    /// The grid of an array of this shape, in elements. `chunk_grid` is the JSON text of the member
+    /// `chunk_grid` of the array's `zarr.json`: an object, or a name alone, with its quotes.
+    ///
+    /// # Errors
+    ///
+    /// [`Error::NotJson`], [`Error::NotMetadata`] and [`Error::Refused`] with the library's words;
+    /// [`Error::OutOfMemory`]; [`Error::WrongVersion`] and [`Error::WrongProcessor`] where the
+    /// library can't be called.
+    ///
+    /// # Example
+    ///
+    /// ```
+    /// use zarrs_chunks::Grid;
+    ///
+    /// let chunk_grid = r#"{"name":"rectilinear",
+    ///     "configuration":{"kind":"inline","chunk_shapes":[[[25,4]]]}}"#;
+    /// assert_eq!(Grid::new(&[100], chunk_grid)?.grid_shape(), [4]);
+    /// let refused = Grid::new(&[100], r#""hexagonal""#).unwrap_err();
+    /// assert_eq!(refused.to_string(), "name `hexagonal` is not supported");
+    /// # Ok::<(), zarrs_chunks::Error>(())
+    /// ```
+    pub fn new(shape: &[u64], chunk_grid: &str) -> Result<Grid> {
+        library::check()?;
+        // One edge for all chunks takes seven numbers a dimension.
+        let mut numbers = zeros(shape.len().saturating_mul(7).saturating_add(2))?;
+        let (mut code, mut needed) = calls::prepare_grid(shape, chunk_grid, &mut numbers);
+        if code == ffi::SHORT_BUFFER {
+            numbers = zeros(needed)?;
+            (code, needed) = calls::prepare_grid(shape, chunk_grid, &mut numbers);
+        }
+        if code != ffi::OK {
+            let fault = |words: &mut [u8]| calls::grid_fault(shape, chunk_grid, words);
+            return Err(Error::of_metadata(code, fault));
+        }
+        numbers.truncate(needed);
+        let mut grid_shape = zeros(shape.len())?;
+        answered(calls::grid_shape(&numbers, &mut grid_shape))?;
+        let (shape, chunk_grid) = (copy_of(shape)?, text_of(chunk_grid)?);
+        Ok(Grid { shape, chunk_grid, numbers, grid_shape })
+    }
+
+    /// The number of dimensions.
+    ///
+    /// # Example
+    ///
+    /// ```
+    /// use zarrs_chunks::Grid;
+    ///
+    /// let chunk_grid = r#"{"name":"regular","configuration":{"chunk_shape":[2,3]}}"#;
+    /// let grid = Grid::new(&[5, 7], chunk_grid)?;
+    /// assert_eq!(grid.dimensionality(), 2);
+    /// # Ok::<(), zarrs_chunks::Error>(())
+    /// ```
+    #[must_use]
+    pub fn dimensionality(&self) -> usize {
+        self.shape.len()
+    }
+
+    /// The sizes of the array, in elements.
+    ///
+    /// # Example
+    ///
+    /// ```
+    /// use zarrs_chunks::Grid;
+    ///
+    /// let chunk_grid = r#"{"name":"regular","configuration":{"chunk_shape":[2,3]}}"#;
+    /// let grid = Grid::new(&[5, 7], chunk_grid)?;
+    /// assert_eq!(grid.array_shape(), [5, 7]);
+    /// # Ok::<(), zarrs_chunks::Error>(())
+    /// ```
+    #[must_use]
+    pub fn array_shape(&self) -> &[u64] {
+        &self.shape
+    }
+
+    /// How many chunks are counted along each dimension.
+    ///
+    /// # Example
+    ///
+    /// ```
+    /// use zarrs_chunks::Grid;
+    ///
+    /// let chunk_grid = r#"{"name":"regular","configuration":{"chunk_shape":[2,3]}}"#;
+    /// let grid = Grid::new(&[5, 7], chunk_grid)?;
+    /// assert_eq!(grid.grid_shape(), [3, 3]);
+    /// # Ok::<(), zarrs_chunks::Error>(())
+    /// ```
+    #[must_use]
+    pub fn grid_shape(&self) -> &[u64] {
+        &self.grid_shape
+    }
+
+    /// The text that the grid was made of.
+    ///
+    /// # Example
+    ///
+    /// ```
+    /// use zarrs_chunks::Grid;
+    ///
+    /// let chunk_grid = r#"{"name":"regular","configuration":{"chunk_shape":[2,3]}}"#;
+    /// assert_eq!(Grid::new(&[5, 7], chunk_grid)?.chunk_grid(), chunk_grid);
+    /// # Ok::<(), zarrs_chunks::Error>(())
+    /// ```
+    #[must_use]
+    pub fn chunk_grid(&self) -> &str {
+        &self.chunk_grid
+    }
+
+    /// The chunk that holds an element; `None` where no chunk does.
+    ///
+    /// # Errors
+    ///
+    /// [`Error::WrongLength`] where the index has not one number for each dimension;
+    /// [`Error::OutOfMemory`].
+    ///
+    /// # Example
+    ///
+    /// ```
+    /// use zarrs_chunks::Grid;
+    ///
+    /// let chunk_grid = r#"{"name":"regular","configuration":{"chunk_shape":[1,2,3]}}"#;
+    /// let grid = Grid::new(&[5, 7, 52], chunk_grid)?;
+    /// assert_eq!(grid.chunk_indices(&[3, 5, 50])?, Some(vec![3, 2, 16]));
+    /// # Ok::<(), zarrs_chunks::Error>(())
+    /// ```
+    pub fn chunk_indices(&self, indices: &[u64]) -> Result<Option<Vec<u64>>> {
+        self.check_one("indices", indices.len())?;
+        let (mut chunk, mut found) = (zeros(self.dimensionality())?, [0]);
+        answered(calls::chunk_indices_of(&self.numbers, indices, &mut chunk, &mut found))?;
+        Ok(is_found(found).then_some(chunk))
+    }
+
+    /// The place of an element in the chunk that holds it, counted from the chunk's first element;
+    /// `None` where no chunk does.
+    ///
+    /// # Errors
+    ///
+    /// Those of [`chunk_indices`](Grid::chunk_indices).
+    ///
+    /// # Example
+    ///
+    /// ```
+    /// use zarrs_chunks::Grid;
+    ///
+    /// let chunk_grid = r#"{"name":"regular","configuration":{"chunk_shape":[2,3]}}"#;
+    /// let grid = Grid::new(&[5, 7], chunk_grid)?;
+    /// assert_eq!(grid.chunk_element_indices(&[4, 5])?, Some(vec![0, 2]));
+    /// # Ok::<(), zarrs_chunks::Error>(())
+    /// ```
+    pub fn chunk_element_indices(&self, indices: &[u64]) -> Result<Option<Vec<u64>>> {
+        Ok(self.find_home(indices)?.map(|home| home.place))
+    }
+
+    /// The chunk that holds an element, and the element's place there; `None` where no chunk does.
+    ///
+    /// # Errors
+    ///
+    /// Those of [`chunk_indices`](Grid::chunk_indices).
+    ///
+    /// # Example
+    ///
+    /// ```
+    /// use zarrs_chunks::Grid;
+    ///
+    /// let chunk_grid = r#"{"name":"regular","configuration":{"chunk_shape":[2,3]}}"#;
+    /// let home = Grid::new(&[5, 7], chunk_grid)?.find_home(&[4, 5])?.unwrap();
+    /// assert_eq!((home.chunk, home.place), (vec![2, 1], vec![0, 2]));
+    /// # Ok::<(), zarrs_chunks::Error>(())
+    /// ```
+    pub fn find_home(&self, indices: &[u64]) -> Result<Option<Home>> {
+        self.check_one("indices", indices.len())?;
+        let (mut chunk, mut place) = (zeros(self.dimensionality())?, zeros(self.dimensionality())?);
+        let mut found = [0];
+        answered(calls::homes_of(&self.numbers, indices, &mut chunk, &mut place, &mut found))?;
+        Ok(is_found(found).then_some(Home { chunk, place }))
+    }
+
+    /// The box of a chunk, in elements; `None` where there is no such chunk, or it ends past
+    /// 18446744073709551615.
+    ///
+    /// # Errors
+    ///
+    /// [`Error::WrongLength`] where the chunk has not one number for each dimension;
+    /// [`Error::OutOfMemory`].
+    ///
+    /// # Example
+    ///
+    /// ```
+    /// use zarrs_chunks::{ArraySubset, Grid};
+    ///
+    /// let bounded = r#"{"name":"zarrs.regular_bounded","configuration":{"chunk_shape":[2,3]}}"#;
+    /// let grid = Grid::new(&[5, 7], bounded)?;
+    /// assert_eq!(grid.subset(&[2, 2])?, Some(ArraySubset::new_with_ranges(&[4..5, 6..7])?));
+    /// # Ok::<(), zarrs_chunks::Error>(())
+    /// ```
+    pub fn subset(&self, chunk: &[u64]) -> Result<Option<ArraySubset>> {
+        self.check_one("chunk", chunk.len())?;
+        let (mut start, mut shape) = (zeros(self.dimensionality())?, zeros(self.dimensionality())?);
+        let mut found = [0];
+        answered(calls::chunk_boxes_of(&self.numbers, chunk, &mut start, &mut shape, &mut found))?;
+        is_found(found).then(|| ArraySubset::of_answer(start, shape)).transpose()
+    }
+
+    /// The cover of a box of elements: the box of the chunks that hold some of them. That of an
+    /// empty box is empty. `None` where the first or the last element of the box lies in no chunk.
+    ///
+    /// # Errors
+    ///
+    /// [`Error::WrongLength`] where the box has another number of dimensions than the grid;
+    /// [`Error::OutOfMemory`].
+    ///
+    /// # Example
+    ///
+    /// ```
+    /// use zarrs_chunks::{ArraySubset, Grid};
+    ///
+    /// let chunk_grid = r#"{"name":"regular","configuration":{"chunk_shape":[4,3]}}"#;
+    /// let grid = Grid::new(&[6, 6], chunk_grid)?;
+    /// let cover = grid.chunks_in_array_subset(&ArraySubset::new_with_ranges(&[3..6, 2..4])?)?;
+    /// assert_eq!(cover, Some(ArraySubset::new_with_ranges(&[0..2, 0..2])?));
+    /// # Ok::<(), zarrs_chunks::Error>(())
+    /// ```
+    pub fn chunks_in_array_subset(&self, subset: &ArraySubset) -> Result<Option<ArraySubset>> {
+        self.check_one("subset", subset.dimensionality())?;
+        let (mut first, mut count) = (zeros(self.dimensionality())?, zeros(self.dimensionality())?);
+        let (mut found, asked) = ([0], [subset.start(), subset.shape()]);
+        let (code, _) = calls::covers_of(&self.numbers, asked, &mut first, &mut count, &mut found);
+        answered(code)?;
+        is_found(found).then(|| ArraySubset::of_answer(first, count)).transpose()
+    }
+
+    /// The chunk that holds each element: [a batch](Grid#batches).
+    ///
+    /// # Errors
+    ///
+    /// [`Error::WrongLength`] where `indices` or `chunks` haven't one number for each dimension and
+    /// each item of `found`; [`Error::OutOfMemory`].
+    ///
+    /// # Example
+    ///
+    /// ```
+    /// use zarrs_chunks::Grid;
+    ///
+    /// let bounded = r#"{"name":"zarrs.regular_bounded","configuration":{"chunk_shape":[2,3]}}"#;
+    /// let grid = Grid::new(&[5, 7], bounded)?;
+    /// let (mut chunks, mut found) = ([0; 4], [false; 2]);
+    /// grid.chunk_indices_of(&[4, 6, 4, 7], &mut chunks, &mut found)?;
+    /// assert_eq!((chunks, found), ([2, 2, 0, 0], [true, false]));
+    /// # Ok::<(), zarrs_chunks::Error>(())
+    /// ```
+    pub fn chunk_indices_of(
+        &self,
+        indices: &[u64],
+        chunks: &mut [u64],
+        found: &mut [bool],
+    ) -> Result<()> {
+        self.check_batch(found, [("indices", indices.len()), ("chunks", chunks.len())])?;
+        let mut marks = zeros(found.len())?;
+        answered(calls::chunk_indices_of(&self.numbers, indices, chunks, &mut marks))?;
+        tell(&marks, found);
+        Ok(())
+    }
+
+    /// The chunk that holds each element, and the element's place there: [a batch](Grid#batches).
+    ///
+    /// # Errors
+    ///
+    /// [`Error::WrongLength`] where `indices`, `chunks` or `places` haven't one number for each
+    /// dimension and each item of `found`; [`Error::OutOfMemory`].
+    ///
+    /// # Example
+    ///
+    /// ```
+    /// use zarrs_chunks::Grid;
+    ///
+    /// let chunk_grid = r#"{"name":"regular","configuration":{"chunk_shape":[2,3]}}"#;
+    /// let grid = Grid::new(&[5, 7], chunk_grid)?;
+    /// let (mut chunks, mut places, mut found) = ([0; 4], [0; 4], [false; 2]);
+    /// grid.homes_of(&[4, 5, 1, 1], &mut chunks, &mut places, &mut found)?;
+    /// assert_eq!((chunks, places, found), ([2, 1, 0, 0], [0, 2, 1, 1], [true, true]));
+    /// # Ok::<(), zarrs_chunks::Error>(())
+    /// ```
+    pub fn homes_of(
+        &self,
+        indices: &[u64],
+        chunks: &mut [u64],
+        places: &mut [u64],
+        found: &mut [bool],
+    ) -> Result<()> {
+        let lengths =
+            [("indices", indices.len()), ("chunks", chunks.len()), ("places", places.len())];
+        self.check_batch(found, lengths)?;
+        let mut marks = zeros(found.len())?;
+        answered(calls::homes_of(&self.numbers, indices, chunks, places, &mut marks))?;
+        tell(&marks, found);
+        Ok(())
+    }
+
+    /// The box of each chunk, as its first element and its shape: [a batch](Grid#batches). There is
+    /// none where there is no such chunk, or it ends past 18446744073709551615.
+    ///
+    /// # Errors
+    ///
+    /// [`Error::WrongLength`] where `chunks`, `origins` or `shapes` haven't one number for each
+    /// dimension and each item of `found`; [`Error::OutOfMemory`].
+    ///
+    /// # Example
+    ///
+    /// ```
+    /// use zarrs_chunks::Grid;
+    ///
+    /// let bounded = r#"{"name":"zarrs.regular_bounded","configuration":{"chunk_shape":[2,3]}}"#;
+    /// let grid = Grid::new(&[5, 7], bounded)?;
+    /// let (mut origins, mut shapes, mut found) = ([0; 4], [0; 4], [false; 2]);
+    /// grid.chunk_boxes_of(&[2, 2, 2, 3], &mut origins, &mut shapes, &mut found)?;
+    /// assert_eq!((origins, shapes, found), ([4, 6, 0, 0], [1, 1, 0, 0], [true, false]));
+    /// # Ok::<(), zarrs_chunks::Error>(())
+    /// ```
+    pub fn chunk_boxes_of(
+        &self,
+        chunks: &[u64],
+        origins: &mut [u64],
+        shapes: &mut [u64],
+        found: &mut [bool],
+    ) -> Result<()> {
+        let lengths =
+            [("chunks", chunks.len()), ("origins", origins.len()), ("shapes", shapes.len())];
+        self.check_batch(found, lengths)?;
+        let mut marks = zeros(found.len())?;
+        answered(calls::chunk_boxes_of(&self.numbers, chunks, origins, shapes, &mut marks))?;
+        tell(&marks, found);
+        Ok(())
+    }
+
+    /// The cover of each box of elements, which is given as its first index and its shape:
+    /// [a batch](Grid#batches). A cover is its first chunk, and how many chunks it has along each
+    /// dimension. There is none where the first or the last element of the box lies in no chunk.
+    ///
+    /// # Errors
+    ///
+    /// [`Error::NotABox`] where a box ends past 18446744073709551615; [`Error::WrongLength`] where
+    /// a list hasn't one number for each dimension and each item of `found`;
+    /// [`Error::OutOfMemory`].
+    ///
+    /// # Example
+    ///
+    /// ```
+    /// use zarrs_chunks::Grid;
+    ///
+    /// let chunk_grid = r#"{"name":"regular","configuration":{"chunk_shape":[4,3]}}"#;
+    /// let grid = Grid::new(&[6, 6], chunk_grid)?;
+    /// let (mut first_chunks, mut chunk_counts, mut found) = ([0; 2], [0; 2], [false; 1]);
+    /// grid.covers_of(&[3, 2], &[3, 2], &mut first_chunks, &mut chunk_counts, &mut found)?;
+    /// assert_eq!((first_chunks, chunk_counts, found), ([0, 0], [2, 2], [true]));
+    /// # Ok::<(), zarrs_chunks::Error>(())
+    /// ```
+    pub fn covers_of(
+        &self,
+        starts: &[u64],
+        shapes: &[u64],
+        first_chunks: &mut [u64],
+        chunk_counts: &mut [u64],
+        found: &mut [bool],
+    ) -> Result<()> {
+        let lengths = [
+            ("starts", starts.len()),
+            ("shapes", shapes.len()),
+            ("first_chunks", first_chunks.len()),
+            ("chunk_counts", chunk_counts.len()),
+        ];
+        self.check_batch(found, lengths)?;
+        let (mut marks, asked) = (zeros(found.len())?, [starts, shapes]);
+        match calls::covers_of(&self.numbers, asked, first_chunks, chunk_counts, &mut marks) {
+            (ffi::NOT_A_BOX, which) => return Err(Error::NotABox { which }),
+            (code, _) => answered(code)?,
+        }
+        tell(&marks, found);
+        Ok(())
+    }
+
+    /// The plan of reading a box of elements: a part for each chunk that holds some of them, in
+    /// row-major order of the chunks. `None` where the first or the last element of the box lies in
+    /// no chunk. An empty box has a plan without parts.
+    ///
+    /// The plan is read page by page, so it takes little memory, however many parts it has.
+    ///
+    /// # Errors
+    ///
+    /// [`Error::WrongLength`] where the box has another number of dimensions than the grid;
+    /// [`Error::OutOfMemory`].
+    ///
+    /// # Example
+    ///
+    /// ```
+    /// use zarrs_chunks::{ArraySubset, Encoding, Grid};
+    ///
+    /// let chunk_grid = r#"{"name":"regular","configuration":{"chunk_shape":[4,3]}}"#;
+    /// let (grid, encoding) = (Grid::new(&[6, 6], chunk_grid)?, Encoding::new(r#""default""#)?);
+    /// let subset = ArraySubset::new_with_start_shape(vec![3, 2], vec![3, 2])?;
+    /// let mut keys = Vec::new();
+    /// for part in grid.parts(&encoding, &subset)?.unwrap() {
+    ///     let part = part?;
+    ///     // Its elements begin at `part.in_chunk` of the chunk that is stored under `part.key`,
+    ///     // and at `part.in_subset` of the box.
+    ///     keys.push((part.key, part.shape));
+    /// }
+    /// assert_eq!(keys[0], ("c/0/0".to_owned(), vec![1, 1]));
+    /// assert_eq!(keys[2], ("c/1/0".to_owned(), vec![2, 1]));
+    /// assert_eq!(keys.len(), 4);
+    /// # Ok::<(), zarrs_chunks::Error>(())
+    /// ```
+    pub fn parts<'a>(
+        &'a self,
+        encoding: &'a Encoding,
+        subset: &'a ArraySubset,
+    ) -> Result<Option<Parts<'a>>> {
+        self.check_one("subset", subset.dimensionality())?;
+        Parts::new(self, encoding, subset)
+    }
+
+    /// All chunks that are counted, in row-major order.
+    ///
+    /// # Example
+    ///
+    /// ```
+    /// use zarrs_chunks::Grid;
+    ///
+    /// let chunk_grid = r#"{"name":"regular","configuration":{"chunk_shape":[2,3]}}"#;
+    /// let grid = Grid::new(&[4, 6], chunk_grid)?;
+    /// let chunks = grid.iter_chunk_indices().collect::<Result<Vec<_>, _>>()?;
+    /// assert_eq!(chunks, [[0, 0], [0, 1], [1, 0], [1, 1]]);
+    /// # Ok::<(), zarrs_chunks::Error>(())
+    /// ```
+    #[must_use]
+    pub fn iter_chunk_indices(&self) -> ChunkIndices<'_> {
+        ChunkIndices::new(self)
+    }
+
+    /// The boxes of all chunks that are counted, in row-major order. A chunk that ends past
+    /// 18446744073709551615 has no box, and is passed over.
+    ///
+    /// # Example
+    ///
+    /// ```
+    /// use zarrs_chunks::{ArraySubset, Grid};
+    ///
+    /// let bounded = r#"{"name":"zarrs.regular_bounded","configuration":{"chunk_shape":[3]}}"#;
+    /// let grid = Grid::new(&[5], bounded)?;
+    /// let subsets = grid.iter_chunk_subsets().collect::<Result<Vec<_>, _>>()?;
+    /// assert_eq!(subsets[1], ArraySubset::new_with_ranges(&[3..5])?);
+    /// # Ok::<(), zarrs_chunks::Error>(())
+    /// ```
+    #[must_use]
+    pub fn iter_chunk_subsets(&self) -> ChunkSubsets<'_> {
+        ChunkSubsets::new(self)
+    }
+
+    /// The same, each box with its chunk.
+    ///
+    /// # Example
+    ///
+    /// ```
+    /// use zarrs_chunks::{ArraySubset, Grid};
+    ///
+    /// let bounded = r#"{"name":"zarrs.regular_bounded","configuration":{"chunk_shape":[3]}}"#;
+    /// let grid = Grid::new(&[5], bounded)?;
+    /// let last = grid.iter_chunk_indices_and_subsets().last().unwrap()?;
+    /// assert_eq!(last, (vec![1], ArraySubset::new_with_ranges(&[3..5])?));
+    /// # Ok::<(), zarrs_chunks::Error>(())
+    /// ```
+    #[must_use]
+    pub fn iter_chunk_indices_and_subsets(&self) -> ChunkIndicesAndSubsets<'_> {
+        ChunkIndicesAndSubsets::new(self)
+    }
+
+    /// Whether a list has a number for each dimension.
+    fn check_one(&self, argument: &'static str, given: usize) -> Result<()> {
+        let wanted = self.dimensionality();
+        if given == wanted {
+            return Ok(());
+        }
+        Err(Error::WrongLength { argument, given, wanted })
+    }
+
+    /// Whether each of these lists has a number for each dimension and each mark.
+    fn check_batch<const COUNT: usize>(
+        &self,
+        found: &[bool],
+        lengths: [(&'static str, usize); COUNT],
+    ) -> Result<()> {
+        // No slice of numbers is as long as the greatest number.
+        let wanted = found.len().saturating_mul(self.dimensionality());
+        for (argument, given) in lengths {
+            if given != wanted {
+                return Err(Error::WrongLength { argument, given, wanted });
+            }
+        }
+        Ok(())
+    }
+}
+
+impl fmt::Debug for Grid {
+    fn fmt(&self, formatter: &mut fmt::Formatter<'_>) -> fmt::Result {
+        let mut shown = formatter.debug_struct("Grid");
+        shown.field("shape", &self.shape).field("chunk_grid", &self.chunk_grid).finish()
+    }
+}
+
+/// What the code of a call says.
+pub(crate) fn answered(code: i32) -> Result<()> {
+    match code {
+        ffi::OK => Ok(()),
+        _ => Err(Error::of_code(code)),
+    }
+}
+
+fn is_found([mark]: [u8; 1]) -> bool {
+    mark != 0
+}
+
+/// Marks as truth values. The library writes bytes, so that no `bool` hangs on what it writes.
+pub(crate) fn tell(marks: &[u8], found: &mut [bool]) {
+    for (is_found, mark) in found.iter_mut().zip(marks) {
+        *is_found = *mark != 0;
+    }
+}

@@ -1,0 +1,94 @@
+//! Zarr chunk grids and chunk keys: in which chunk of an array an element lies, and under which key
+//! that chunk is stored.
+//!
+//! The calls are those of a proved library, which this crate links as one static archive and makes
+//! safe.
+//!
+//! ```
+//! use zarrs_chunks::{ArraySubset, Encoding, Grid};
+//!
+//! fn main() -> Result<(), zarrs_chunks::Error> {
+//!     // The members `shape`, `chunk_grid` and `chunk_key_encoding` of an array's zarr.json.
+//!     let chunk_grid = r#"{"name":"regular","configuration":{"chunk_shape":[1,2,3]}}"#;
+//!     let grid = Grid::new(&[5, 7, 52], chunk_grid)?;
+//!     let encoding = Encoding::new(r#"{"name":"default","configuration":{"separator":"/"}}"#)?;
+//!
+//!     // The chunk of an element, and its key.
+//!     let chunk = grid.chunk_indices(&[3, 5, 50])?.unwrap();
+//!     assert_eq!(encoding.encode(&chunk)?, "c/3/2/16");
+//!
+//!     // The same of many elements at once, here two.
+//!     let (mut chunks, mut found) = (vec![0; 6], vec![false; 2]);
+//!     grid.chunk_indices_of(&[3, 5, 50, 0, 0, 0], &mut chunks, &mut found)?;
+//!     let keys = encoding.encode_all(found.len(), &chunks)?;
+//!     assert_eq!(keys.iter().collect::<Vec<_>>(), ["c/3/2/16", "c/0/0/0"]);
+//!
+//!     // What to read for a box of elements.
+//!     let subset = ArraySubset::new_with_ranges(&[3..4, 5..6, 48..52])?;
+//!     for part in grid.parts(&encoding, &subset)?.unwrap() {
+//!         let part = part?;
+//!         println!("{}: from {:?}, {:?} elements", part.key, part.in_chunk, part.shape);
+//!     }
+//!     Ok(())
+//! }
+//! ```
+//!
+//! # What is asked
+//!
+//! [`Grid`] answers for elements, chunks and boxes of them, and [`Encoding`] for keys: of one list
+//! by methods with the names that zarrs has, of many lists at once in batches, which write into
+//! slices of the caller's. [`Grid::parts`] is the plan of reading a box, and the three `iter_`
+//! methods walk over all chunks; they read page by page. [`answer`] takes any question of the
+//! library as text.
+//!
+//! Sizes, indices, origins, shapes and places count elements. Chunks are numbered from 0 along each
+//! dimension. Numbers are `u64`; no sum or product wraps. An array may have any number of
+//! dimensions, also none.
+//!
+//! # Errors
+//!
+//! What the library refuses is told in its own words by an [`Error`]. Too little memory is one too,
+//! and nothing panics; `clone` alone takes memory as all of `std` does. After an error everything
+//! can be used as before.
+//!
+//! # Threads
+//!
+//! Grids and encodings never change: any number of threads may ask them at once. A thread that
+//! calls needs [`STACK`] bytes of stack, which is far less than threads have unless they are given
+//! less.
+//!
+//! # Linking
+//!
+//! The library is `libzarrs_chunks.a`, for 64-bit Linux on x86-64-v2 processors. The build looks
+//! for it in the folder that the environment variable `ZARRS_CHUNKS_LIB_DIR` names; where that
+//! isn't set, in `../../lib` beside the crate, as in a release, and then in `../../out/llvm`, where
+//! `bindings/build.py` puts it.
+
+#![deny(unsafe_op_in_unsafe_fn, missing_docs)]
+#![deny(unsafe_code)]
+#![warn(missing_debug_implementations)]
+
+mod answers;
+#[allow(unsafe_code)]
+mod calls;
+mod encoding;
+mod error;
+mod ffi;
+mod grid;
+mod keys;
+mod library;
+mod memory;
+mod pages;
+mod parts;
+mod subset;
+mod walks;
+
+pub use answers::answer;
+pub use encoding::Encoding;
+pub use error::{Error, Result};
+pub use grid::{Grid, Home};
+pub use keys::Keys;
+pub use library::{abi_version, ABI_VERSION, STACK};
+pub use parts::{Part, Parts};
+pub use subset::ArraySubset;
+pub use walks::{ChunkIndices, ChunkIndicesAndSubsets, ChunkSubsets};

@@ -1,0 +1,68 @@
+//! The library that is linked.
+
+use crate::calls;
+use crate::error::{Error, Result};
+use crate::ffi;
+
+/// The version of the library's calls that this crate is for, as [`abi_version`] tells that of the
+/// library.
+///
+/// # Example
+///
+/// ```
+/// assert_eq!(zarrs_chunks::ABI_VERSION, 2);
+/// ```
+pub const ABI_VERSION: i32 = ffi::ABI_VERSION;
+
+/// How many bytes of stack a call needs at most.
+///
+/// Threads of `std` have 2 MiB, and may be given less by
+/// [`Builder::stack_size`](std::thread::Builder::stack_size). Most of this is for metadata that
+/// nest deep; what holds nothing but a grid or an encoding needs a quarter of it.
+///
+/// # Example
+///
+/// ```
+/// use zarrs_chunks::{Encoding, Error, STACK};
+///
+/// let asked = || Encoding::new(r#""default""#)?.encode(&[10, 2]);
+/// // What a call needs, and as much again for what else the thread does.
+/// let thread = std::thread::Builder::new().stack_size(2 * STACK).spawn(asked)?;
+/// assert_eq!(thread.join().unwrap()?, "c/10/2");
+/// # Ok::<(), Box<dyn std::error::Error>>(())
+/// ```
+pub const STACK: usize = ffi::STACK;
+
+/// The version of the calls that the linked library has. It is to be [`ABI_VERSION`]: with another
+/// one, nothing is made, and the error is [`Error::WrongVersion`].
+///
+/// # Example
+///
+/// ```
+/// assert_eq!(zarrs_chunks::abi_version(), zarrs_chunks::ABI_VERSION);
+/// ```
+#[must_use]
+pub fn abi_version() -> i32 {
+    calls::abi_version()
+}
+
+/// Whether the library can be called: whatever makes a grid, an encoding or an answer asks first.
+pub(crate) fn check() -> Result<()> {
+    // What x86-64-v2 has beyond every x86-64 processor, by the names of Linux's /proc/cpuinfo.
+    let wanted = [
+        ("cx16", is_x86_feature_detected!("cmpxchg16b")),
+        ("popcnt", is_x86_feature_detected!("popcnt")),
+        ("sse4_1", is_x86_feature_detected!("sse4.1")),
+        ("sse4_2", is_x86_feature_detected!("sse4.2")),
+        ("ssse3", is_x86_feature_detected!("ssse3")),
+    ];
+    for (missing, is_there) in wanted {
+        if !is_there {
+            return Err(Error::WrongProcessor { missing });
+        }
+    }
+    match abi_version() {
+        ffi::ABI_VERSION => Ok(()),
+        found => Err(Error::WrongVersion { found }),
+    }
+}

@@ -1,0 +1,69 @@
+//! Memory that is asked for so that its lack is an error.
+
+use std::fmt;
+
+use crate::error::{Error, Result};
+
+/// A list of so many zeros.
+pub(crate) fn zeros<T: Copy + Default>(count: usize) -> Result<Vec<T>> {
+    let mut items = Vec::new();
+    items.try_reserve_exact(count).map_err(|_| Error::OutOfMemory)?;
+    items.resize(count, T::default());
+    Ok(items)
+}
+
+/// A copy of a list.
+pub(crate) fn copy_of<T: Copy>(items: &[T]) -> Result<Vec<T>> {
+    let mut copy = Vec::new();
+    append(&mut copy, items)?;
+    Ok(copy)
+}
+
+/// Puts items behind those of a list.
+pub(crate) fn append<T: Copy>(list: &mut Vec<T>, items: &[T]) -> Result<()> {
+    list.try_reserve(items.len()).map_err(|_| Error::OutOfMemory)?;
+    list.extend_from_slice(items);
+    Ok(())
+}
+
+/// A copy of a text.
+pub(crate) fn text_of(text: &str) -> Result<String> {
+    let mut copy = String::new();
+    copy.try_reserve_exact(text.len()).map_err(|_| Error::OutOfMemory)?;
+    copy.push_str(text);
+    Ok(copy)
+}
+
+/// A text that is written piece by piece.
+#[derive(Default)]
+pub(crate) struct Text(String);
+
+impl Text {
+    /// Puts a piece behind the text.
+    pub(crate) fn add(&mut self, piece: fmt::Arguments<'_>) -> Result<()> {
+        // What is written here fails for no other reason.
+        fmt::write(self, piece).map_err(|_| Error::OutOfMemory)
+    }
+
+    /// Puts a list of numbers behind the text, as JSON.
+    pub(crate) fn add_list(&mut self, numbers: &[u64]) -> Result<()> {
+        self.add(format_args!("["))?;
+        for (position, number) in numbers.iter().enumerate() {
+            let separator = if position == 0 { "" } else { "," };
+            self.add(format_args!("{separator}{number}"))?;
+        }
+        self.add(format_args!("]"))
+    }
+
+    pub(crate) fn as_str(&self) -> &str {
+        &self.0
+    }
+}
+
+impl fmt::Write for Text {
+    fn write_str(&mut self, piece: &str) -> fmt::Result {
+        self.0.try_reserve(piece.len()).map_err(|_| fmt::Error)?;
+        self.0.push_str(piece);
+        Ok(())
+    }
+}

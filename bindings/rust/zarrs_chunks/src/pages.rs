@@ -1,0 +1,84 @@
+//! Where an iterator is that reads its items page by page.
+
+/// So many numbers, or texts, a page holds at most, and so many items.
+const MOST_NUMBERS: usize = 1 << 16;
+const MOST_ITEMS: usize = 1 << 12;
+/// How many items the first page has, and the first one behind items that are left out. Each
+/// further page has twice as many as the one before it.
+const FIRST_ITEMS: usize = 16;
+
+/// Which items an iterator has given, which its page holds, and which are to come.
+#[derive(Debug, Clone)]
+pub(crate) struct Pages {
+    /// How many items there are in all.
+    in_all: u64,
+    /// The number of the first item behind the page.
+    behind: u64,
+    /// How many items the page holds, and how many of these were given.
+    held: usize,
+    given: usize,
+    /// How many items the next page is to have, and how many a page has at most.
+    room: usize,
+    most: usize,
+}
+
+impl Pages {
+    /// The beginning of so many items, each of so many numbers.
+    pub(crate) fn new(in_all: u64, numbers: usize) -> Pages {
+        let most = (MOST_NUMBERS / numbers.max(1)).clamp(1, MOST_ITEMS);
+        Pages { in_all, behind: 0, held: 0, given: 0, room: FIRST_ITEMS.min(most), most }
+    }
+
+    /// How many items are left to give.
+    pub(crate) fn left(&self) -> u64 {
+        (self.in_all - self.behind).saturating_add((self.held - self.given) as u64)
+    }
+
+    /// Which item of the page is given next; `None` where the page holds no further one.
+    pub(crate) fn take(&mut self) -> Option<usize> {
+        if self.given == self.held {
+            return None;
+        }
+        self.given += 1;
+        Some(self.given - 1)
+    }
+
+    /// The next page: the number of its first item, and how many items it is to have. `None` where
+    /// there is no further item.
+    pub(crate) fn wanted(&self) -> Option<(u64, usize)> {
+        let left = self.in_all - self.behind;
+        let count = usize::try_from(left).map_or(self.room, |left| left.min(self.room));
+        (count > 0).then_some((self.behind, count))
+    }
+
+    /// Goes to the page that was wanted, with so many items: fewer than were wanted where some
+    /// numbers have no item.
+    pub(crate) fn turn(&mut self, wanted: usize, held: usize) {
+        self.behind = self.behind.saturating_add(wanted as u64).min(self.in_all);
+        (self.held, self.given) = (held, 0);
+        self.room = self.room.saturating_mul(2).min(self.most);
+    }
+
+    /// Leaves so many items out.
+    pub(crate) fn skip(&mut self, count: usize) {
+        let held = self.held - self.given;
+        if count <= held {
+            self.given += count;
+            return;
+        }
+        self.behind = self.behind.saturating_add((count - held) as u64).min(self.in_all);
+        (self.held, self.given) = (0, 0);
+        self.room = FIRST_ITEMS.min(self.most);
+    }
+
+    /// Goes to the end, behind all items.
+    pub(crate) fn end(&mut self) {
+        self.behind = self.in_all;
+        (self.held, self.given) = (0, 0);
+    }
+}
+
+/// How many items an iterator gives, where it may end with an error before its end.
+pub(crate) fn size_hint(left: u64) -> (usize, Option<usize>) {
+    (usize::from(left > 0), usize::try_from(left).ok())
+}
