@@ -151,10 +151,34 @@ def in_rattle():
     return found
 
 
+# What a parameter or a field of a Rust declaration is in C, but for pointers to structs.
+IN_RUST = {
+    "*const u64": "constuint64_t*", "*mut u64": "uint64_t*", "*const u8": "constuint8_t*", "*mut u8": "uint8_t*", "*mut usize": "size_t*",
+    "usize": "size_t", "u64": "uint64_t", "u8": "uint8_t", "i32": "int32_t",
+}  # fmt: skip
+
+
+def in_rust():
+    """What the crate for Rust declares of the header, as it is in C."""
+    text = (HERE / "rust" / "zarrs_chunks" / "src" / "ffi.rs").read_text().replace("pub(crate) ", "")
+
+    def rows(parts):
+        for part in parts:
+            name, kind = part.split(": ")
+            to_struct = re.fullmatch(r"\*(const|mut) ([A-Z]\w+)", kind)
+            yield name, f"{'const' if to_struct[1] == 'const' else ''}struct{c_name(to_struct[2])}*" if to_struct else IN_RUST[kind]
+
+    calls = declarations(text, r"fn (\w+)\((.*?)\) -> i32;", ",")
+    structs = declarations(text, r"struct (\w+) \{(.*?)\n\}", ",")
+    found = {name: [kind for _, kind in rows(parts)] for name, parts in calls.items()}
+    return found | {c_name(name): list(rows(parts)) for name, parts in structs.items()}
+
+
 def main():
     kit_folder = kit()
     header, crate = in_c(), in_rattle()
     faults = [f"{name}: the header has {header.get(name)}, and the crate {crate.get(name)}" for name in sorted(header | crate) if header.get(name) != crate.get(name)]
+    faults += [f"{name}: the header has {header.get(name)}, and the crate for Rust {parts}" for name, parts in in_rust().items() if header.get(name) != parts]
     for backend in archives(kit_folder, "--after-ci" in sys.argv[1:]):
         shared = link(backend, kit_folder)
         binary = Binary(shared)

@@ -52,6 +52,15 @@ pub(crate) fn abi_version() -> i32 {
     unsafe { ffi::zarrs_abi_version() }
 }
 
+/// The code, and how many bytes the version has.
+pub(crate) fn version(version: &mut [u8]) -> (i32, usize) {
+    let mut needed = 0;
+    // SAFETY: items and alignment: the pointer is that of a slice, with its length, or null with 0
+    // items; `needed` is a variable of this function. Apart: both are borrowed mutably.
+    let code = unsafe { ffi::zarrs_version(written(version), version.len(), &mut needed) };
+    (code, needed)
+}
+
 /// The code, and how many numbers the grid has.
 pub(crate) fn prepare_grid(shape: &[u64], chunk_grid: &str, numbers: &mut [u64]) -> (i32, usize) {
     let mut needed = 0;

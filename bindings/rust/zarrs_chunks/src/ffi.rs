@@ -56,6 +56,8 @@ pub(crate) struct PartBuffers {
 extern "C" {
     pub(crate) fn zarrs_abi_version() -> i32;
 
+    pub(crate) fn zarrs_version(version: *mut u8, version_len: usize, needed: *mut usize) -> i32;
+
     pub(crate) fn zarrs_prepare_grid(
         shape: *const u64,
         shape_len: usize,

@@ -88,7 +88,7 @@ pub use encoding::Encoding;
 pub use error::{Error, Result};
 pub use grid::{Grid, Home};
 pub use keys::Keys;
-pub use library::{abi_version, ABI_VERSION, STACK};
+pub use library::{abi_version, version, ABI_VERSION, STACK};
 pub use parts::{Part, Parts};
 pub use subset::ArraySubset;
 pub use walks::{ChunkIndices, ChunkIndicesAndSubsets, ChunkSubsets};

@@ -1,5 +1,6 @@
 //! The library that is linked.
 
+use crate::answers::words_of;
 use crate::calls;
 use crate::error::{Error, Result};
 use crate::ffi;
@@ -44,6 +45,25 @@ pub const STACK: usize = ffi::STACK;
 #[must_use]
 pub fn abi_version() -> i32 {
     calls::abi_version()
+}
+
+/// The version of the linked library, as text: that of this crate, where both are of one release.
+///
+/// # Errors
+///
+/// [`Error::OutOfMemory`].
+///
+/// # Example
+///
+/// ```
+/// assert_eq!(zarrs_chunks::version()?, "0.1.0");
+/// # Ok::<(), zarrs_chunks::Error>(())
+/// ```
+pub fn version() -> Result<String> {
+    match words_of(calls::version)? {
+        (ffi::OK, version) => Ok(version),
+        (code, _) => Err(Error::of_code(code)),
+    }
 }
 
 /// Whether the library can be called: whatever makes a grid, an encoding or an answer asks first.
