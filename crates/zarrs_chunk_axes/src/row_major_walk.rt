@@ -13,11 +13,8 @@ use std::alloc::{AllocError, Global};
 use std::borrow::CowSlice;
 use turn::Turn;
 
-/// How many numbers need no memory.
-const INLINE: usize = 4;
-
 /// Chunk numbers, of which up to four need no memory.
-pub type ArrayIndicesTinyVec = SmallVec<u64, INLINE>;
+pub type ArrayIndicesTinyVec = SmallVec<u64, 4>;
 
 /// A walk through the lists of numbers below a shape, each of them once, in row-major order.
 #[derive(Debug, Drop)]
@@ -78,14 +75,7 @@ impl<'a> RowMajorWalk<'a> {
         ensures ends { OnErr result (lists_left self.new ≡ []) }
         ensures shape { shape_of self.new ≡ shape_of self.old }
     {
-        let numbers = self.numbers.as_slice();
-        // A few numbers are copied without asking whether there is room for them.
-        if numbers.len() <= INLINE {
-            let mut copy = [0; INLINE];
-            copy[..numbers.len()].copy_from_slice(numbers);
-            return Ok(SmallVec::from_buf_and_len(self.alloc, copy, numbers.len()));
-        }
-        let indices = SmallVec::from_slice(self.alloc, numbers);
+        let indices = SmallVec::from_slice(self.alloc, self.numbers.as_slice());
         if indices.is_err() {
             self.turn = Turn::Over;
         }
