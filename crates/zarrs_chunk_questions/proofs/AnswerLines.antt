@@ -14,7 +14,7 @@ use Rattle.zarrs_chunk_questions.specs.declared.unreadable.Unreadable.{Unreadabl
 use Rattle.zarrs_chunk_questions.specs.Question.{IsReading, Question}
 use Rattle.zarrs_chunk_questions.specs.seen.Read.{fault_of}
 use Rattle.zarrs_chunk_questions.proofs.NoFloats.{no_float}
-use Rattle.zarrs_chunk_questions.specs.seen.Lines.{IsAnswerText, IsLineAnswer, IsLineFault, IsTreeFault, IsUnreadableAs}
+use Rattle.zarrs_chunk_questions.specs.seen.Lines.{IsAnswerText, IsLineAnswer, IsLineFault, IsQuestionFault, IsUnreadableAs}
 
 -- the text of a fault that says why a line can't be read
 told_as : (fault : LineFault) (why : Fault) (text : List ℕ) → IsUnreadableAs fault why → Tells fault text → text ≡ unreadable why
@@ -37,5 +37,5 @@ is_answer_line line answer text (Err (Memory _)) is says same = absurd says
 
 -- the fault that a tree's reading tells
 pub is_tree_fault : (d : Data) (fault : Unreadable) (reading : Reading Question) → IsReading d reading → reading ≡ Err (fault_of fault)
-    → IsTreeFault d (UnreadableFault fault)
+    → IsQuestionFault d (UnreadableFault fault)
 is_tree_fault d fault reading is_reading same = inl (fault_of fault, rw same at is_reading, (fault, refl, refl))

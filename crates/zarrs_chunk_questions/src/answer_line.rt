@@ -4,7 +4,7 @@ ghost use Rattle.serde_json.specs.View.{view};
 ghost use Rattle.zarrs_chunk_base.specs.Refusal.{OrMemory};
 ghost use Rattle.zarrs_chunk_questions.specs.AnswerLine.{IsAnswerLine, Tells, line_of, unbroken as unbroken_of};
 ghost use Rattle.zarrs_chunk_questions.specs.Line.{IsOneLine};
-ghost use Rattle.zarrs_chunk_questions.specs.seen.Lines.{IsAnswerText, IsLineAnswer, IsLineFault, IsTreeAnswer, IsTreeFault};
+ghost use Rattle.zarrs_chunk_questions.specs.seen.Lines.{IsAnswerText, IsLineAnswer, IsLineFault, IsTreeAnswer, IsQuestionFault};
 
 use crate::answering::answer_question;
 use crate::line_fault::LineFault;
@@ -117,7 +117,7 @@ fn answer_tree(
 ) -> Result<Option<Value>, Refusal<LineFault>>
     ensures { MatchResult result (λ found. IfSome found (λ answer.
         IsTreeAnswer (view tree.now) (view answer)))
-        (OrMemory (IsTreeFault (view tree.now))) }
+        (OrMemory (IsQuestionFault (view tree.now))) }
 {
     match Question::from_tree(alloc, tree) {
         Ok(question) => answer_question(alloc, question, room),

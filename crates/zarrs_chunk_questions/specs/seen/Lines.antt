@@ -26,8 +26,8 @@ abbrev pub IsTreeAnswer : Data → Data → Type 0
 IsTreeAnswer d tree = (question : Question) × IsReading d (Ok question) × IsAnswer question tree
 
 -- why a tree has no answer
-abbrev pub IsTreeFault : Data → LineFault → Type 0
-IsTreeFault d fault =
+abbrev pub IsQuestionFault : Data → LineFault → Type 0
+IsQuestionFault d fault =
     ((why : Fault) × IsReading d (Err why) × IsUnreadableAs fault why)
     ⊎ ((question : Question) × IsReading d (Ok question) × IsRefusal question fault)
 
@@ -38,7 +38,7 @@ IsLineAnswer line tree = (d : Data) × IsJsonOf line d × IsTreeAnswer d tree
 -- why a line has no answer
 abbrev pub IsLineFault : List ℕ → LineFault → Type 0
 IsLineFault line fault =
-    (((d : Data) → ¬ IsJsonOf line d) × IsUnreadableAs fault not_json) ⊎ ((d : Data) × IsJsonOf line d × IsTreeFault d fault)
+    (((d : Data) → ¬ IsJsonOf line d) × IsUnreadableAs fault not_json) ⊎ ((d : Data) × IsJsonOf line d × IsQuestionFault d fault)
 
 -- the text of an answer, or of why there is none
 abbrev pub IsAnswerText : Result Value (Refusal LineFault) → List ℕ → Type 0
