@@ -1,5 +1,5 @@
 -- The chunks over a box, in the dimensions so far.
-use Rattle.std.proofs.Common.{◌≡◌, ℕ, suc, ◌+◌, ◌-◌, ◌<◌, ◌≤◌, List, [], ◌∷◌, ◌++◌, ◌∙◌, length, refl, sym, ap, arith}
+use Rattle.std.proofs.Common.{◌≡◌, ℕ, suc, ◌+◌, ◌-◌, ◌<◌, List, [], ◌∷◌, ◌++◌, ◌∙◌, length, refl, sym, ap, arith}
 use Rattle.std.proofs.lemmas.List.{length-append}
 use Rattle.std.specs.List.{AllByRecursion}
 use Rattle.zarrs_chunk_base.specs.ArraySubset.{ends, lasts}
@@ -41,18 +41,18 @@ pub record OverSoFar (ds : List Dimension) (starts sizes : List ℕ) (ds_left : 
   pub lengths : length sizes_left ≡ length starts_left
   pub fits : AllFit (ends starts_left sizes_left)
 
-length_lasts : (start shape : List ℕ) → length shape ≡ length start → length (lasts start shape) ≡ length start
+-- there are as many last numbers as ranges
+pub length_lasts : (start shape : List ℕ) → length start ≡ length shape → length (lasts start shape) ≡ length start
 length_lasts [] [] same = refl
 length_lasts (s ∷ start) (n ∷ shape) same = ap suc (length_lasts start shape (omega arith))
-length_lasts [] (_ ∷ _) same = absurd (omega arith)
-length_lasts (_ ∷ _) [] same = absurd (omega arith)
+length_lasts _ _ same = absurd (omega arith)
 
 module _ (ds : List Dimension) (starts sizes : List ℕ) where
   pub none_yet : length ds ≡ length starts → length sizes ≡ length starts → AllFit (ends starts sizes) → OverSoFar ds starts sizes ds starts sizes [] []
   none_yet lengths same fits = record {
     last_chunk = [];
     first = record { lengths = lengths; all = λ more h. h; none = λ h. h };
-    last = record { lengths = lengths ∙ sym (length_lasts starts sizes same); all = λ more h. h; none = λ h. h };
+    last = record { lengths = lengths ∙ sym (length_lasts starts sizes (sym same)); all = λ more h. h; none = λ h. h };
     counted = λ below. refl;
     as_long = refl;
     lengths = same;

@@ -221,7 +221,13 @@ impl<A: Axis + Drop> AxisGrid<A> {
         }
         let mut firsts = Vec::with_capacity(alloc, self.axes.len())?;
         let mut counts = Vec::with_capacity(alloc, self.axes.len())?;
-        if find_over(&self.axes, start, elements.shape(), &mut firsts, &mut counts) {
+        if find_over(
+            &self.axes,
+            start,
+            elements.shape(),
+            &mut firsts,
+            &mut counts,
+        ) {
             Ok(Some((firsts, counts)))
         } else {
             Ok(None)

@@ -47,11 +47,6 @@ in_order ds first last low high chains order f l =
     (λ d j a b ds indices first last (i, order, low) high rest chains. (no_later d chains.0 a b i j order low high, rest chains.1))
     ds high first last (along (λ d i c. Holds d c i) ◌≤◌ ds low first (turned Holds ds first low f) high order) (turned Holds ds last high l) chains
 
-pub length_lasts : (start shape : List ℕ) → length start ≡ length shape → length (lasts start shape) ≡ length start
-length_lasts [] [] same = refl
-length_lasts (s ∷ start) (n ∷ shape) same = ap suc (length_lasts start shape (omega arith))
-length_lasts _ _ same = absurd (omega arith)
-
 -- a list without a 0 begins with none
 pub head_some : (n : ℕ) (shape : List ℕ) → (¬ Contains (n ∷ shape) 0) → 0 < n
 head_some n shape some =
@@ -146,7 +141,7 @@ pub over_box_covers : (ds : List Dimension) (b : Box) (firsts counts : List ℕ)
 over_box_covers ds b firsts counts made chains is_box some agree over h =
     let order = in_order ds firsts over.last_chunk b.start (lasts b.start b.shape) chains (firsts_before_lasts b.start b.shape is_box.lengths) over.first over.last in
     let small = chunks_small (λ n. n < greatest) (λ m n low below. omega arith) ds over.last_chunk (lasts b.start b.shape) chains over.last
-        (lasts_small b.start b.shape is_box.lengths is_box.fits some) in
+    (lasts_small b.start b.shape is_box.lengths is_box.fits some) in
     let counted : counts ≡ counts_between firsts over.last_chunk = over.counted small in
     let (same, reach) = between_reaches firsts over.last_chunk order in
     covers ds b firsts over.last_chunk (replicate (length over.last_chunk) 1) (result_ok made) agree order small refl over.first over.last

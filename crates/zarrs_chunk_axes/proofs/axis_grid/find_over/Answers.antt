@@ -1,4 +1,4 @@
-use Rattle.std.proofs.Common.{◌≡◌, ◌+◌, ◌-◌, ◌<◌, ◌≤◌, [], ◌∷◌, ◌∙◌, length, map, arith}
+use Rattle.std.proofs.Common.{◌≡◌, ◌+◌, ◌-◌, ◌≤◌, [], ◌∷◌, ◌∙◌, length, map, arith}
 use Rattle.std.proofs.lemmas.List.{length-append, length-map}
 use Rattle.zarrs_chunk_base.specs.Dimension.{Holds}
 use Rattle.zarrs_chunk_base.specs.Greatest.{greatest}

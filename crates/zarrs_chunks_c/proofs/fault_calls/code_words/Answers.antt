@@ -1,4 +1,4 @@
-use Rattle.std.proofs.Common.{◌≡◌, ◌∙◌, ap, w32, subst}
+use Rattle.std.proofs.Common.{◌∙◌, ap, w32, subst}
 use Rattle.std.proofs.lemmas.Int.{to_z-of_z}
 use Rattle.zarrs_chunks_c.specs.Calls.{IsEndOf}
 use Rattle.zarrs_chunks_c.specs.Codes.{code_words}

@@ -3,7 +3,7 @@ use Rattle.zarrs_chunk_base.specs.ArraySubset.{Box}
 use Rattle.zarrs_chunk_prepared.proofs.CountedCovers.{is_counted_cover}
 use Rattle.zarrs_chunk_prepared.proofs.EachDimension.{as_many, chains}
 use Rattle.zarrs_chunk_prepared.specs.seen.PreparedGrid.{width_of}
-use Rattle.zarrs_chunks.proofs.Covers.{length_lasts}
+use Rattle.zarrs_chunk_axes.proofs.OverBox.{length_lasts}
 use Rattle.zarrs_chunk_prepared.proofs.grid.PreparedGrid.find_cover.Goals as goal
 
 pub returns-in_default-clause-cover : goal.returns-in_default-clause-cover

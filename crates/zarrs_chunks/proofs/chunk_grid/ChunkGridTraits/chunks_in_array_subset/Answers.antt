@@ -5,7 +5,8 @@ use Rattle.zarrs_chunk_base.specs.Dimension.{Holds}
 use Rattle.zarrs_chunk_base.specs.Greatest.{greatest}
 use Rattle.zarrs_chunk_base.proofs.InEach.{length_numbers, length_values}
 use Rattle.zarrs_chunk_axes.specs.LookUp.{AnswersChunk}
-use Rattle.zarrs_chunks.proofs.Covers.{chunks_small, cover_refused, covers, firsts_before_lasts, in_order, lasts_small, length_lasts}
+use Rattle.zarrs_chunk_axes.proofs.OverBox.{length_lasts}
+use Rattle.zarrs_chunks.proofs.Covers.{chunks_small, cover_refused, covers, firsts_before_lasts, in_order, lasts_small}
 use Rattle.zarrs_chunks.proofs.Covers.{none_is_not_empty}
 use Rattle.zarrs_chunks.proofs.chunk_grid.ChunkGridTraits.chunks_in_array_subset.Goals as goal
 

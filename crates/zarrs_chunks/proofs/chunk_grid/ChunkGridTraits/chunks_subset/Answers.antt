@@ -3,7 +3,8 @@ use Rattle.std.proofs.lemmas.Result.{err_from_is_err_and}
 use Rattle.zarrs_chunk_base.specs.Dimension.{HasEdge, StartsAt}
 use Rattle.zarrs_chunk_base.proofs.InEach.{length_values}
 use Rattle.zarrs_chunk_axes.specs.LookUp.{AnswersOrigin}
-use Rattle.zarrs_chunks.proofs.Covers.{firsts_before_lasts, length_lasts, starts_in_order}
+use Rattle.zarrs_chunk_axes.proofs.OverBox.{length_lasts}
+use Rattle.zarrs_chunks.proofs.Covers.{firsts_before_lasts, starts_in_order}
 use Rattle.zarrs_chunks.proofs.Subsets.{last_refused, no_chunk, no_origin, spans_or_none}
 use Rattle.zarrs_chunks.proofs.chunk_grid.ChunkGridTraits.chunks_subset.Goals as goal
 

@@ -1,4 +1,4 @@
-use Rattle.std.proofs.Common.{◌≡◌, ◌∙◌, length, ⊎_elim}
+use Rattle.std.proofs.Common.{◌∙◌, ⊎_elim}
 use Rattle.zarrs_chunks.proofs.Covers.{none_is_not_empty, over_box_covers}
 use Rattle.zarrs_chunks.proofs.chunk_grid.over_axes.AnyChunkGridTraits.chunks_in_array_subset.Goals as goal
 
