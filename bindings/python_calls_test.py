@@ -15,6 +15,7 @@ import re
 import subprocess
 import sys
 import tempfile
+import threading
 import tracemalloc
 import typing
 
@@ -525,6 +526,7 @@ def stored(tally):
             for path in (folder, str(folder), os.path.relpath(folder)):
                 tally.same(f"{name} as {type(path).__name__}", (Grid.of(path), Encoding.of(path)), right)
         refused_folders(tally, room, of_2, of_3)
+        like_arrays(tally)
         arrays_of_zarr(tally, room)
 
 
@@ -587,6 +589,30 @@ def refused_folders(tally, room, of_2, of_3):
     tally.same("a path with half a pair", outcome(lambda: Grid.of("a\ud800b"))[0], ValueError)
 
 
+class LikeZarr:
+    """What is read of an array of zarr-python 2."""
+
+    def __init__(self, shape, chunks, separator, version=2):
+        self.shape, self.chunks, self._dimension_separator, self._version = shape, chunks, separator, version
+
+
+def like_arrays(tally):
+    """Arrays are known by their attributes, so that zarr-python needn't be there."""
+    right = Grid([5, 7], REGULAR), v2("/")
+    for array in (LikeZarr((5, 7), (2, 3), "/"), LikeZarr([np.int64(5), np.uint8(7)], np.array([2, 3]), "/")):
+        tally.same(f"an array like {array.shape}", (Grid.of(array), Encoding.of(array)), right)
+    draft = "array: it is of a draft of format 3, whose keys are others"
+    for kind in (Grid, Encoding):
+        tally.raises("an array of the draft", ValueError, draft, lambda: kind.of(LikeZarr((5, 7), (2, 3), "/", version=3)))
+    for shape in ("57", (5.0, 7), (True, 7), None):
+        words = "array: LikeZarr: the member `shape` is no list of whole numbers"
+        tally.raises(f"an array of the shape {shape}", ValueError, words, lambda: Grid.of(LikeZarr(shape, (2, 3), "/")))
+    below = "shape: numbers are those from 0 to 18446744073709551615, and one is below"
+    tally.raises("a shape below 0", ValueError, below, lambda: Grid.of(LikeZarr((5, -7), (2, 3), "/")))
+    failing = type("Failing", (), {"shape": property(lambda self: 1 // 0)})()
+    tally.raises("an array that fails", TypeError, "array: integer division or modulo by zero", lambda: Grid.of(failing))
+
+
 def arrays_of_zarr(tally, room):
     """Arrays of zarr-python 2, where it is there: their chunks lie under the keys that are told."""
     try:
@@ -628,6 +654,7 @@ def arrays_of_zarr(tally, room):
 def program(tally):
     """`python -m zarrs_chunks`: each vector, one after another and in turn, words, and outputs that fail."""
     command, environment = [sys.executable, "-m", "zarrs_chunks"], {**os.environ, "PYTHONPATH": str(PACKAGE.parent)}
+    environment.pop("PYTHONUNBUFFERED", None)
 
     def ended(*words, text=b"", **streams):
         streams = {"input": text, "stdout": subprocess.PIPE, **streams}
@@ -640,12 +667,20 @@ def program(tally):
     tally.same("no lines", ended(), (0, b"", ""))
     unreadable = b"unreadable: not JSON\n"
     tally.same("lines that are no JSON", ended(text=b"\n\xff\n{\r\n\0"), (0, 4 * unreadable, ""))
+    (question, answer), *_others = vectors()
+    ends = {b"\r": f"{answer}\n".encode(), b" \t": f"{answer}\n".encode(), b"\v": unreadable, b"\0": unreadable}
+    text = b"".join(question.encode() + end + b"\n" for end in ends)
+    tally.same("what stands behind a question", ended(text=text), (0, b"".join(ends.values()), ""))
     running = subprocess.Popen(command, stdin=subprocess.PIPE, stdout=subprocess.PIPE, env=environment)
+    # An answer that is held back never comes.
+    too_late = threading.Timer(60, running.kill)
+    too_late.start()
     for question, answer in vectors()[:100]:
         running.stdin.write(question.encode() + b"\n")
         running.stdin.flush()
         tally.same(f"{question}, in turn", running.stdout.readline().decode(), f"{answer}\n")
     running.stdin.close()
+    too_late.cancel()
     tally.same("the end of it", (running.stdout.read(), running.wait()), (b"", 0))
     tally.same("--version", ended("--version"), (0, f"{zarrs_chunks.__version__}\n".encode(), ""))
     status, told, errors = ended("--help")
@@ -749,6 +784,9 @@ def values(tally):
             tally.raises(f"{name} above", ValueError, f"{name}: {bounds}above", lambda: call(2**64))
             tally.raises(f"{name} as a float", TypeError, f"{name}: 'float' object cannot be interpreted as an integer", lambda: call(1.0))
             tally.same(f"{name} as another", [outcome(lambda: call(value))[0] for value in ("1", [1], np.zeros(2))], [TypeError] * 3)
+    lengths = "incompatible dimensionality 1, expected 2"
+    for chunks, words in ((([0], [1]), f"the box of chunks: {lengths}"), (([0, 0], [1]), lengths)):
+        tally.raises(f"the chunks {chunks}, at once", ValueError, words, lambda: copied(chunks))
     for chunks in (3, [], [[0, 0]], [[0, 0], [1, 1], [2, 2]], "ab", {1, 2}, Raising(ValueError("own"))):
         found = outcome(lambda: copied(chunks))
         tally.same(f"{chunks!r} as a box of chunks", (found[0] in (TypeError, ValueError), found[1].startswith("chunks: ")), (True, True))

@@ -287,7 +287,7 @@ class Grid:
 
     def chunk_shape(self, chunk: npt.ArrayLike) -> tuple[int, ...] | None:
         """How many elements one chunk has along each dimension; None where there is no such chunk. `subset` tells it of many chunks at once, where
-        they end at 18446744073709551615 or before.
+        they end at 18446744073709551615 or before. The questions `chunk_shape` and `chunk_shape_u64` have this one answer.
 
         >>> grid = Grid([5, 7], {"name": "zarrs.regular_bounded", "configuration": {"chunk_shape": [2, 3]}})
         >>> grid.chunk_shape([2, 2]), grid.chunk_shape([3, 0])
@@ -385,7 +385,7 @@ class Grid:
 
     def written_metadata(self) -> dict[str, Any]:
         """The `chunk_grid` as the library writes it, for a `zarr.json`: with a name and a configuration and nothing else, and listed edges of a
-        `rectilinear` grid in runs. `metadata` is what was given.
+        `rectilinear` grid in runs. Its configuration is the answer to the question `configuration`. `metadata` is what was given.
 
         >>> given = {"name": "rectilinear", "configuration": {"kind": "inline", "chunk_shapes": [[5, 5, [7, 1]]]}}
         >>> Grid([17], given).written_metadata()
