@@ -6,14 +6,16 @@
 
 It needs numpy and the shared library, as the package does. The calls are made in processes of their own, each with a
 seed, and each call draws its values from the seed and its number alone; so the second form makes one call again. A call
-may answer, or raise TypeError or ValueError with words, or MemoryError. Where the values are whole numbers in any dress,
-it has to answer, and the answer is compared with plain arithmetic; where one of them is no such number, it has to be
-refused. It is a fault besides where a process is ended by a signal, as it is by a call that takes longer than a minute.
-The status is then 1.
+may answer, or raise TypeError or ValueError with words, or MemoryError; a selection may also be out of bounds, and a
+folder missing. Where the values are whole numbers in any dress, it has to answer, and the answer is compared with plain
+arithmetic, that of a selection with numpy's; where one of them is no such number, it has to be refused. It is a fault
+besides where a process is ended by a signal, as it is by a call that takes longer than a minute. The status is then 1.
 """
 import argparse
 import array
+import itertools
 import json
+import math
 import os
 import pathlib
 import pickle
@@ -27,8 +29,9 @@ import time
 HERE = pathlib.Path(__file__).resolve().parent
 sys.path[:0] = [str(HERE / "python"), str(HERE), str(HERE.parent / "tools")]
 sys.dont_write_bytecode = True
-from call_names import CALLS, OF_RECTILINEAR  # noqa: E402
-from extensions import GREATEST, regular  # noqa: E402
+from call_names import CALLS, OF_RECTILINEAR, WALKS  # noqa: E402
+from chunk_plans import share as share_of_lines  # noqa: E402
+from extensions import GREATEST, Refused, grid_metadata, regular  # noqa: E402
 from memory import set_most, used  # noqa: E402
 
 CALLS_OF_A_SEED = 3000
@@ -205,10 +208,12 @@ def number_near(rng, size):
 # ---- calls, and what they may answer
 
 
-def attempt(call):
-    """The answer of a call, and whether there is one; what it raises has to be an allowed error with words."""
+def attempt(call, *others):
+    """The answer of a call, and whether there is one; what it raises has to be an allowed error with words, or one of the others."""
     try:
         return call(), True
+    except others as error:
+        return error, False
     except ALLOWED as error:
         if not isinstance(error, MemoryError) and (type(error) not in ALLOWED or not str(error) or "ctypes" in str(error)):
             raise Wrong(f"raised {error!r}") from error
@@ -250,9 +255,46 @@ def check_batch(answer, is_answered, numbers, expected):
         demand(index, parts if mark else None, None if right is None else list(right))
 
 
+def draw_list(rng, numbers):
+    """One list of numbers in some dress, and what it stands for. That is None where any value is taken instead, and REFUSED where one of them is no
+    such number."""
+    how, numbers = rng.random(), np.array(numbers, np.uint64)
+    if how < 0.2:
+        return any_value(rng), None
+    if how < 0.3 and numbers.size:
+        return spoiled(rng, numbers), REFUSED
+    return dressed(rng, numbers), numbers.tolist()
+
+
+def check_one(answer, is_answered, drawn, expected):
+    """The answer to lists that were drawn, beside plain arithmetic, which may refuse it."""
+    if REFUSED in drawn:
+        demand("whether what is no such number is refused", is_answered, False)
+    if REFUSED in drawn or None in drawn:
+        return
+    try:
+        right = expected(*drawn)
+    except Refused as refused:
+        demand(f"{drawn} is refused", (type(answer), str(answer)), (ValueError, refused.text))
+    else:
+        demand(drawn, as_lists(answer) if is_answered else repr(answer), right)
+
+
+def as_lists(answer):
+    """An answer with lists in the place of its tuples."""
+    return [as_lists(part) for part in answer] if isinstance(answer, (tuple, list)) else answer
+
+
 def model_of(rng, most_dimensions=3):
     """A grid as the model has it, and as the package has it."""
     model = bounded(rng, rng.randrange(most_dimensions + 1))
+    return model, Grid(model.shape, model.metadata())
+
+
+def rectilinear_model_of(rng):
+    """The same of a grid of listed edges, along one dimension or two."""
+    edges = [[rng.randrange(1, 6) for _ in range(rng.randrange(1, 8))] for _ in range(rng.choice([1, 2]))]
+    model = Model(grid_metadata("rectilinear", edges), [max(1, sum(listed) - rng.randrange(3)) for listed in edges])
     return model, Grid(model.shape, model.metadata())
 
 
@@ -366,6 +408,139 @@ def as_array(text):
     return np.frombuffer(text, np.uint8)
 
 
+def ask_of_one(rng):
+    """The calls of one chunk, of one element and of one box."""
+    model, grid = rng.choice([model_of, rectilinear_model_of])(rng)
+    near = lambda sizes: [number_near(rng, size) for size in sizes]
+    chunk, index, encoding = near(model.grid_shape()), near(model.shape), draw(rng, Encoding("default"))
+    room = [rng.choice([0, 1, 2, 9, GREATEST - start]) for start in chunk]
+    calls = {
+        "chunk_shape": [chunk], "chunk_origin": [chunk], "chunk_indices_inbounds": [chunk], "array_indices_inbounds": [index],
+        "chunks_subset": [chunk, room], "chunk_indices_counted": [index], "locate": [index],
+    }  # fmt: skip
+    name = rng.choice(list(calls))
+    given, drawn = zip(*(draw_list(rng, numbers) for numbers in calls[name]))
+    if name == "locate":
+        answer, is_answered = attempt(lambda: grid.locate(encoding[0], *given))
+        drawn = (*drawn, None) if not encoding[1] else drawn
+        check_one(answer, is_answered, drawn, lambda index: (found := model.locate(index, DEFAULT)) and list(found.values()))
+    elif name == "chunk_indices_counted":
+        answer, is_answered = attempt(lambda: grid.chunk_indices_counted(*given).chunk)
+        check_one(answer, is_answered, drawn, lambda index: has_runs(model, name) and model.chunk_indices(index))
+    else:
+        answer, is_answered = attempt(lambda: getattr(grid, name)(*given))
+        check_one(answer, is_answered, drawn, getattr(model, name))
+
+
+def has_runs(model, name):
+    if model.name != "rectilinear":
+        raise Refused(f"there is no call `{name}`")
+    return True
+
+
+def ask_runs(rng):
+    model, grid = rng.choice([model_of, rectilinear_model_of])(rng)
+    dimension, is_good = draw(rng, rng.choice([0, 1, 2, GREATEST]))
+    answer, is_answered = attempt(lambda: grid.runs(dimension))
+    check_one(answer, is_answered, [dimension if is_good else None], lambda dimension: has_runs(model, "runs") and model.runs(dimension))
+    demand("metadata", grid.written_metadata(), model.metadata())
+
+
+def ask_walks(rng):
+    model, grid = model_of(rng)
+    in_all = math.prod(model.grid_shape())
+    first, is_good = draw(rng, rng.choice([0, rng.randrange(in_all), in_all, GREATEST]))
+    name = rng.choice(WALKS)
+    answer, is_answered = attempt(lambda: [*itertools.islice(getattr(grid, name)(first), 20)])
+    if is_good:
+        right = [*itertools.islice(getattr(model, name)(), min(first, in_all), min(first, in_all) + 20)]
+        demand(f"{name} from {first}", as_lists(answer) if is_answered else repr(answer), right)
+
+
+def ask_copies(rng):
+    model, grid = model_of(rng, 2)
+    target = Model(grid_metadata("zarrs.regular_bounded", [rng.randrange(3, 20) for _ in model.shape]), model.shape)
+    counts = target.grid_shape()
+    start = [rng.randrange(count + 1) for count in counts]
+    box = rng.choice([None, [start, [rng.randrange(5) for _ in counts]]])
+    given = [draw(rng, value) for value in (Encoding("default"), Grid(target.shape, target.metadata()), Encoding("v2"), box)]
+    right = [*model.copies(DEFAULT, target, ModelKeys("v2"), box)]
+    if rng.random() < 0.5:
+        first, most = rng.choice([0, 1, 7, GREATEST]), rng.choice([None, 0, 1, 5, GREATEST])
+        given += [draw(rng, first), draw(rng, most)]
+        right = right[first:][:most]
+        call = lambda: [*itertools.islice(grid.copies(*(value for value, _good in given)), 10**4)]
+    else:
+        tasks = rng.choice([1, 2, 3, 50, GREATEST])
+        task = rng.randrange(tasks)
+        given += [draw(rng, rng.choice([tuple, list, np.array])([np.uint64(task), np.uint64(tasks)]))]
+        right = [right[line] for line in share_of_lines(len(right), task, tasks)]
+        call = lambda: [*itertools.islice(grid.copies(*(value for value, _good in given[:-1]), share=given[-1][0]), 10**4)]
+    answer, is_answered = attempt(call)
+    if all(good for _value, good in given):
+        demand("copies", [copies_of_model(copies) for copies in answer] if is_answered else repr(answer), right)
+
+
+def copies_of_model(copies):
+    """What the package answers of a chunk of a target, as the model has it."""
+    sources = [{name: as_lists(part) for name, part in source._asdict().items()} for source in copies.sources]
+    return {"from": sources, "to": {"chunk": list(copies.chunk), "key": copies.key}}
+
+
+def ask_box(rng):
+    """A selection, of which numpy selects the same elements, where it is none of those that are refused."""
+    model, grid = model_of(rng)
+    number = lambda: rng.choice([int, int, np.int64, np.int8, Index])(rng.randrange(-45, 45))
+    bound = lambda: rng.choice([None, number(), number(), 2**70, -(2**70)])
+    one = lambda: rng.choice([slice(bound(), bound()), slice(bound(), bound(), rng.choice([1, np.int8(1)])), ..., number(), number(), 2**70])
+    drawn = [draw(rng, one()) for _ in range(rng.choice([0, 1, 1, len(model.shape), len(model.shape) + 1]))]
+    selection = tuple(item for item, _good in drawn)
+    selection, is_good = (selection[0], drawn[0][1]) if len(drawn) == 1 and rng.random() < 0.5 else (selection, all(good for _item, good in drawn))
+    if rng.random() < 0.1:
+        selection, is_good = slice(any_value(rng), any_value(rng), any_value(rng)), False
+    answer, is_answered = attempt(lambda: grid.box(selection), IndexError)
+    if not is_answered and (not is_good or isinstance(answer, MemoryError)):
+        return
+    elements = np.arange(math.prod(model.shape)).reshape(model.shape)
+    try:
+        right = np.ravel(elements[selection]).tolist()
+    except IndexError:
+        demand(f"{selection} is out of bounds", type(answer), IndexError)
+        return
+    box = tuple(slice(start, start + size) for start, size in zip(*answer)) if is_answered else repr(answer)
+    demand(f"{selection} of {model.shape}", elements[box].ravel().tolist() if is_answered else box, right)
+
+
+def ask_stored(rng):
+    """Any values as a stored array, and folders with any metadata."""
+    grid, encoding = Grid([5, 7], regular(2, 3)), Encoding({"name": "v2", "configuration": {"separator": "."}})
+    attempt(lambda: rng.choice([Grid, Encoding]).of(any_value(rng)), OSError)
+    members = {"zarr_format": 2, "shape": [5, 7], "chunks": [2, 3]}
+    if rng.random() < 0.5:
+        members = {"zarr_format": 3, "node_type": "array", "shape": [5, 7], "chunk_grid": grid.metadata, "chunk_key_encoding": encoding.metadata}
+    name = "zarr.json" if "node_type" in members else ".zarray"
+    drawn = {member: (value, True) if rng.random() < 0.9 else (any_json(rng), False) for member, value in members.items() if rng.random() < 0.98}
+    is_good = len(drawn) == len(members) and all(good for _value, good in drawn.values())
+    text = json.dumps({member: value for member, (value, _good) in drawn.items()}).encode()
+    if rng.random() < 0.1:
+        text, is_good = rng.choice([text[:-1], any_bytes(rng), json.dumps(any_json(rng)).encode()]), False
+    with tempfile.TemporaryDirectory() as folder:
+        pathlib.Path(folder, name).write_bytes(text)
+        found = [attempt(lambda: kind.of(folder), OSError) for kind in (Grid, Encoding)]
+    if is_good:
+        demand("what is stored", found, [(grid, True), (encoding, True)])
+
+
+def any_json(rng):
+    """Any value that JSON has a form for."""
+    how = rng.randrange(6)
+    if how == 0:
+        return [any_json(rng) for _ in range(rng.randrange(3))]
+    if how == 1:
+        return {rng.choice(["name", "configuration", "chunk_shape", "é"]): any_json(rng) for _ in range(rng.randrange(3))}
+    return rng.choice([None, True, 0, 1, -1, 2, 3, 2**64, 1.5, float("nan"), "", "array", "group", "regular", "v2", "\ud800", "/"])
+
+
 def make_things(rng):
     """Grids and encodings of any values, and what each made one is asked for."""
     edges = [rng.randrange(1, 5) for _ in range(rng.randrange(3))]
@@ -398,7 +573,10 @@ def ask_any_question(rng):
         json.loads(told)
 
 
-KINDS = (ask_of_grid, ask_of_grid, ask_covers, ask_parts, ask_keys, ask_chunks_of_keys, make_things, ask_any_question)
+KINDS = (
+    ask_of_grid, ask_of_grid, ask_covers, ask_parts, ask_keys, ask_chunks_of_keys, make_things, ask_any_question,
+    ask_of_one, ask_of_one, ask_runs, ask_walks, ask_copies, ask_box, ask_stored,
+)  # fmt: skip
 
 
 # ---- processes
@@ -464,6 +642,8 @@ if __name__ == "__main__":
     import numpy as np
 
     if "--at" in sys.argv:
+        from chunk_grids import Grid as Model
+        from chunk_keys import Encoding as ModelKeys
         from faults import DEFAULT, bounded, offsets_of, seen_parts
         from odd_values import Index, Lying, Raising, misaligned
         from zarrs_chunks import Encoding, Grid, answer

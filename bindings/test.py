@@ -14,6 +14,8 @@ compiler is used where there is one. What is compared:
 - no lists, null, strided, misaligned and negative numbers, other types, buffers of other lengths, offsets that descend;
 - what the Python package takes, refuses and keeps, also while another thread changes it (`python_test.py`), and any
   values for all its arguments (`fuzz.py`);
+- its methods with all vectors, with models in plain arithmetic, with numpy and with zarr-python, and the package as a
+  program (`python_calls_test.py`);
 - what a call tells of a refusal, walks that are longer than their buffer, and pages (`words_and_bounds.py`);
 - the stack that a call needs, and traps for floats;
 - memory that is refused: under an address space that gets smaller, and allocation by allocation;
@@ -421,6 +423,7 @@ def docstrings(tally):
 def in_this_process(backend):
     """All that is asked of one build."""
     import raw_calls as library
+    from python_calls_test import python_calls
     from python_test import python_package
     from words_and_bounds import words_and_bounds
 
@@ -432,6 +435,7 @@ def in_this_process(backend):
     against_numpy(tally)
     buffers(tally, library)
     python_package(tally)
+    python_calls(tally)
     words_and_bounds(tally, library)
     limits(tally, HERE / "out" / backend)
     faults(tally, library)

@@ -1,16 +1,22 @@
 """Chunk key encodings."""
 
+from __future__ import annotations
+
 import itertools
 import math
+from collections.abc import Iterable, Mapping
+from typing import Any, SupportsIndex
 
 import numpy as np
+import numpy.typing as npt
 
 from . import _library
 from ._answer import refuse
 from ._metadata import Metadata
-from ._numbers import list_of_numbers, longest_level, numbers, whole_number
+from ._numbers import Marks, Numbers, list_of_numbers, longest_level, numbers, whole_number
 from ._prepared import prepared
-from ._texts import MOST_KEYS, as_bytes, keys_as_bytes
+from ._stored import Description, Stored
+from ._texts import MOST_KEYS, Key, Text, as_bytes, keys_as_bytes
 
 
 class Encoding:
@@ -25,37 +31,52 @@ class Encoding:
     ValueError: name `v3` is not supported
     """
 
-    def __init__(self, chunk_key_encoding):
+    def __init__(self, chunk_key_encoding: str | Mapping[str, Any]) -> None:
         self._metadata = Metadata("chunk_key_encoding", chunk_key_encoding)
         # A suffix has a number for each byte besides.
         self._numbers = prepared("encoding", 3, chunk_key_encoding=self._metadata.text)
 
-    def __repr__(self):
+    @classmethod
+    def of(cls, array: Stored) -> Encoding:
+        """The encoding of a stored array, as `Grid.of` takes it. One of format 2 has the encoding `v2`.
+
+        >>> import pathlib, tempfile
+        >>> with tempfile.TemporaryDirectory() as folder:
+        ...     _ = pathlib.Path(folder, ".zarray").write_text('{"zarr_format": 2, "shape": [5, 7], "chunks": [2, 3]}')
+        ...     Encoding.of(folder)
+        Encoding({'name': 'v2', 'configuration': {'separator': '.'}})
+        """
+        return cls(Description(array).chunk_key_encoding())
+
+    def __repr__(self) -> str:
         return f"Encoding({self.metadata!r})"
 
-    def __eq__(self, other):
-        return self._identity() == other._identity() if isinstance(other, Encoding) else NotImplemented
+    def __eq__(self, other: object) -> bool:
+        if not isinstance(other, Encoding):
+            return NotImplemented
+        return self._identity() == other._identity()
 
-    def __hash__(self):
+    def __hash__(self) -> int:
         return hash(self._identity())
 
-    def __reduce__(self):
+    def __reduce__(self) -> tuple[Any, ...]:
         return type(self), (self.metadata,)
 
-    def _identity(self):
+    def _identity(self) -> str:
         return self._metadata.canonical()
 
     @property
-    def metadata(self):
+    def metadata(self) -> str | dict[str, Any]:
         """What the encoding was made of, as a new `dict` or the name alone.
 
         >>> Encoding({"name": "v2", "configuration": {"separator": "/"}}).metadata
         {'name': 'v2', 'configuration': {'separator': '/'}}
         """
-        return self._metadata.value()
+        value: str | dict[str, Any] = self._metadata.value()
+        return value
 
     @property
-    def name(self):
+    def name(self) -> str:
         """The name of the encoding, as it was given.
 
         >>> Encoding("default").name
@@ -64,7 +85,7 @@ class Encoding:
         return self._metadata.name()
 
     @property
-    def configuration(self):
+    def configuration(self) -> dict[str, Any] | None:
         """The configuration, as it was given, as a new `dict`; None where there was none.
 
         >>> Encoding({"name": "v2", "configuration": {"separator": "/"}}).configuration
@@ -72,7 +93,7 @@ class Encoding:
         """
         return self._metadata.configuration()
 
-    def encode(self, chunks):
+    def encode(self, chunks: npt.ArrayLike) -> Any:
         """The key of each chunk, in lists that nest as the chunks do. Raises MemoryError where there are more than 16777216.
 
         >>> Encoding("default").encode([[0, 0], [10, 2]])
@@ -80,16 +101,16 @@ class Encoding:
         >>> Encoding("default").encode([10, 2])
         'c/10/2'
         """
-        chunks = _chunks(chunks)
+        lists = _chunks(chunks)
         # An array without items takes no memory, and may yet be very many lists.
-        if longest_level(chunks.shape[:-1]) > MOST_KEYS:
+        if longest_level(lists.shape[:-1]) > MOST_KEYS:
             raise MemoryError(f"chunks: out of memory: more than {MOST_KEYS} keys or lists of them are wanted at once; `encode_text` gives more")
-        text, offsets = self._keys(chunks)
+        text, offsets = self._keys(lists)
         keys = np.empty(offsets.size - 1, object)
         keys[:] = keys_between(text, offsets)
-        return keys.reshape(chunks.shape[:-1]).tolist()
+        return keys.reshape(lists.shape[:-1]).tolist()
 
-    def encode_text(self, chunks):
+    def encode_text(self, chunks: npt.ArrayLike) -> tuple[bytes, Numbers]:
         """The keys of chunks as one text of bytes, and where each begins there, with the end of the last one: for very many keys.
 
         >>> text, offsets = Encoding("default").encode_text([[0, 0], [10, 2]])
@@ -98,7 +119,7 @@ class Encoding:
         """
         return self._keys(_chunks(chunks))
 
-    def decode(self, keys, dimensionality):
+    def decode(self, keys: Iterable[Key], dimensionality: SupportsIndex) -> tuple[Numbers, Marks]:
         """The chunk with this many numbers whose key each text is, and whether there is one. The chunk may lie outside of the grid. Each key is
         a `str` or bytes. Raises MemoryError where there are more than 16777216.
 
@@ -106,22 +127,22 @@ class Encoding:
         >>> chunks.tolist(), found.tolist()
         ([[10, 2], [0, 0]], [True, False])
         """
-        dimensionality, texts = whole_number("dimensionality", dimensionality), keys_as_bytes(keys)
+        width, texts = whole_number("dimensionality", dimensionality), keys_as_bytes(keys)
         offsets = np.array([0, *itertools.accumulate(map(len, texts))], np.uint64)
-        return self._chunks_of_keys(b"".join(texts), offsets, dimensionality)
+        return self._chunks_of_keys(b"".join(texts), offsets, width)
 
-    def decode_text(self, text, offsets, dimensionality):
+    def decode_text(self, text: Text, offsets: npt.ArrayLike, dimensionality: SupportsIndex) -> tuple[Numbers, Marks]:
         """The same of keys as `encode_text` gives them. The text is bytes, a bytearray, a memoryview or an array of `uint8`.
 
         >>> Encoding("default").decode_text(b"c/0/0c/10/2", [0, 5, 11], 2)[0].tolist()
         [[0, 0], [10, 2]]
         """
-        text, offsets = as_bytes("text", text), list_of_numbers("offsets", offsets)
-        if offsets.size == 0:
+        own_text, ends = as_bytes("text", text), list_of_numbers("offsets", offsets)
+        if ends.size == 0:
             raise ValueError("offsets: there is one more than there are keys, and none was given")
-        return self._chunks_of_keys(text, offsets, whole_number("dimensionality", dimensionality))
+        return self._chunks_of_keys(own_text, ends, whole_number("dimensionality", dimensionality))
 
-    def _keys(self, chunks):
+    def _keys(self, chunks: Numbers) -> tuple[bytes, Numbers]:
         """The keys of chunks as one text, and their offsets."""
         count, dimensionality = math.prod(chunks.shape[:-1]), chunks.shape[-1]
         offsets, length, code = _library.room(count + 1), usual_length(count, dimensionality), _library.SHORT_BUFFER
@@ -135,7 +156,7 @@ class Encoding:
             refuse(code)
         return text[: told["needed"]].tobytes(), offsets
 
-    def _chunks_of_keys(self, text, offsets, dimensionality):
+    def _chunks_of_keys(self, text: bytes, offsets: Numbers, dimensionality: int) -> tuple[Numbers, Marks]:
         """The chunks of keys of which nobody changes the text or the offsets meanwhile: the library reads them twice."""
         chunks, found = _library.room((offsets.size - 1, dimensionality)), _library.room(offsets.size - 1, np.uint8)
         code, told = self._call("zarrs_prepared_chunks_of_keys", dimensionality=dimensionality, text=text, offsets=offsets, chunks=chunks, found=found)
@@ -145,23 +166,23 @@ class Encoding:
             refuse(code)
         return chunks, found.view(np.bool_)
 
-    def _call(self, name, **arguments):
+    def _call(self, name: str, **arguments: Any) -> tuple[int, dict[str, int]]:
         return _library.call(name, numbers=self._numbers, **arguments)
 
 
-def _chunks(chunks):
-    chunks = numbers("chunks", chunks)
-    if chunks.ndim == 0:
+def _chunks(chunks: npt.ArrayLike) -> Numbers:
+    lists = numbers("chunks", chunks)
+    if lists.ndim == 0:
         raise ValueError("chunks: a chunk is a list of numbers, one a dimension")
-    return chunks
+    return lists
 
 
-def usual_length(count, dimensionality):
+def usual_length(count: int, dimensionality: int) -> int:
     """How many bytes so many keys seldom exceed."""
     return count * (2 + 6 * dimensionality)
 
 
-def keys_between(text, offsets):
+def keys_between(text: bytes, offsets: Numbers) -> list[str]:
     """The keys of a text, each from an offset up to the next one."""
     ends = offsets.tolist()
     return [text[start:end].decode() for start, end in zip(ends, ends[1:])]

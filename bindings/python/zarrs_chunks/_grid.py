@@ -1,15 +1,24 @@
 """Chunk grids."""
 
-from typing import NamedTuple
+from __future__ import annotations
+
+import itertools
+import math
+from collections.abc import Iterator, Mapping
+from typing import Any, NamedTuple, SupportsIndex
 
 import numpy as np
+import numpy.typing as npt
 
-from . import _library
+from . import _library, _questions
 from ._answer import refuse
+from ._boxes import Box, as_box, common, given_box, selected_box, slabs
+from ._copies import Copies, copies_of, share_of
 from ._encoding import Encoding, keys_between, usual_length
 from ._metadata import Metadata
-from ._numbers import GREATEST, list_of_numbers, lists_of_numbers, whole_number
+from ._numbers import GREATEST, Marks, Numbers, list_of_numbers, lists_of_numbers, whole_number
 from ._prepared import PreparedGrid
+from ._stored import Description, Stored
 
 # How much a single answer of `parts` holds at most, which then takes some gigabytes of memory: so many numbers of each kind, where each part
 # counts as four numbers more.
@@ -19,18 +28,38 @@ _MOST_NUMBERS = 2**25
 class Parts(NamedTuple):
     """Parts of the plan of reading a box of elements, each in a row of its own."""
 
-    chunks: np.ndarray
+    chunks: Numbers
     """The chunk of each part."""
-    in_chunk: np.ndarray
+    in_chunk: Numbers
     """The part's first element, counted from the chunk's."""
-    in_subset: np.ndarray
+    in_subset: Numbers
     """The same, counted from the first element of the box."""
-    shapes: np.ndarray
+    shapes: Numbers
     """How many elements the part has along each dimension."""
-    keys: list
+    keys: list[str]
     """The key of each chunk."""
     in_all: int
     """How many parts the plan has in all, and 18446744073709551615 where it has more."""
+
+
+class Located(NamedTuple):
+    """Where an element is stored."""
+
+    chunk: tuple[int, ...]
+    """The chunk that holds it."""
+    element: tuple[int, ...]
+    """Its place there, counted from the chunk's first element."""
+    key: str
+    """The chunk's key."""
+
+
+class Counted(NamedTuple):
+    """What a look-up finds, and what it takes."""
+
+    chunk: tuple[int, ...] | None
+    """The chunk, or None where there is none."""
+    comparisons: int
+    """How many comparisons the look-up makes."""
 
 
 class Grid:
@@ -46,39 +75,56 @@ class Grid:
     ValueError: rectangular chunk grid configuration: [[1, 1], 3] not compatible with array shape [3, 3]
     """
 
-    def __init__(self, shape, chunk_grid):
+    def __init__(self, shape: npt.ArrayLike, chunk_grid: str | Mapping[str, Any]) -> None:
         self._shape = list_of_numbers("shape", shape)
         self._shape.flags.writeable, self._dimensionality = False, self._shape.size
         self._metadata = Metadata("chunk_grid", chunk_grid)
         self._prepared = PreparedGrid(self._shape, self._metadata.text)
         self._grid_shape = tuple(self._prepared.grid_shape(self._shape.size).tolist())
 
-    def __repr__(self):
+    @classmethod
+    def of(cls, array: Stored) -> Grid:
+        """The grid of a stored array: of the path of its folder, where a `zarr.json` lies (format 3) or a `.zarray` (format 2), or of an array of
+        zarr-python 2. Raises FileNotFoundError where the folder has neither, and ValueError where its metadata are those of no array.
+
+        >>> import pathlib, tempfile
+        >>> with tempfile.TemporaryDirectory() as folder:
+        ...     _ = pathlib.Path(folder, ".zarray").write_text('{"zarr_format": 2, "shape": [5, 7], "chunks": [2, 3]}')
+        ...     Grid.of(folder)
+        Grid([5, 7], {'name': 'regular', 'configuration': {'chunk_shape': [2, 3]}})
+        """
+        described = Description(array)
+        return cls(described.shape(), described.chunk_grid())
+
+    def __repr__(self) -> str:
         return f"Grid({list(self.array_shape)}, {self.metadata!r})"
 
-    def __eq__(self, other):
-        return self._identity() == other._identity() if isinstance(other, Grid) else NotImplemented
+    def __eq__(self, other: object) -> bool:
+        if not isinstance(other, Grid):
+            return NotImplemented
+        return self._identity() == other._identity()
 
-    def __hash__(self):
+    def __hash__(self) -> int:
         return hash(self._identity())
 
-    def __reduce__(self):
+    def __reduce__(self) -> tuple[Any, ...]:
         return type(self), (self.array_shape, self.metadata)
 
-    def _identity(self):
+    def _identity(self) -> tuple[tuple[int, ...], str]:
         return self.array_shape, self._metadata.canonical()
 
     @property
-    def metadata(self):
+    def metadata(self) -> str | dict[str, Any]:
         """The `chunk_grid` that the grid was made of, as a new `dict` or the name alone.
 
         >>> Grid([5, 7], {"name": "regular", "configuration": {"chunk_shape": (2, 3)}}).metadata
         {'name': 'regular', 'configuration': {'chunk_shape': [2, 3]}}
         """
-        return self._metadata.value()
+        value: str | dict[str, Any] = self._metadata.value()
+        return value
 
     @property
-    def name(self):
+    def name(self) -> str:
         """The name of the grid, as it was given.
 
         >>> Grid([5, 7], {"name": "regular", "configuration": {"chunk_shape": [2, 3]}}).name
@@ -87,7 +133,7 @@ class Grid:
         return self._metadata.name()
 
     @property
-    def configuration(self):
+    def configuration(self) -> dict[str, Any] | None:
         """The configuration, as it was given, as a new `dict`; None where there was none.
 
         >>> Grid([5, 7], {"name": "regular", "configuration": {"chunk_shape": [2, 3]}}).configuration
@@ -96,7 +142,7 @@ class Grid:
         return self._metadata.configuration()
 
     @property
-    def dimensionality(self):
+    def dimensionality(self) -> int:
         """The number of dimensions.
 
         >>> Grid([5, 7], {"name": "regular", "configuration": {"chunk_shape": [2, 3]}}).dimensionality
@@ -105,7 +151,7 @@ class Grid:
         return self._dimensionality
 
     @property
-    def array_shape(self):
+    def array_shape(self) -> tuple[int, ...]:
         """The sizes of the array, in elements.
 
         >>> Grid([5, 7], {"name": "regular", "configuration": {"chunk_shape": [2, 3]}}).array_shape
@@ -114,7 +160,7 @@ class Grid:
         return tuple(self._shape.tolist())
 
     @property
-    def grid_shape(self):
+    def grid_shape(self) -> tuple[int, ...]:
         """How many chunks are counted along each dimension.
 
         >>> Grid([5, 7], {"name": "regular", "configuration": {"chunk_shape": [2, 3]}}).grid_shape
@@ -122,7 +168,7 @@ class Grid:
         """
         return self._grid_shape
 
-    def chunk_indices(self, indices):
+    def chunk_indices(self, indices: npt.ArrayLike) -> tuple[Numbers, Marks]:
         """The chunk that holds each element, and whether a chunk does.
 
         >>> grid = Grid([5, 7], {"name": "zarrs.regular_bounded", "configuration": {"chunk_shape": [2, 3]}})
@@ -132,7 +178,7 @@ class Grid:
         """
         return self._prepared.ask("zarrs_prepared_chunk_indices_of", 1, lists_of_numbers("indices", indices, self._dimensionality))
 
-    def chunk_element_indices(self, indices):
+    def chunk_element_indices(self, indices: npt.ArrayLike) -> tuple[Numbers, Marks]:
         """The place of each element in the chunk that holds it, counted from the chunk's first element, and whether a chunk does.
 
         >>> grid = Grid([5, 7], {"name": "regular", "configuration": {"chunk_shape": [2, 3]}})
@@ -142,7 +188,7 @@ class Grid:
         _chunks, places, found = self.find_home(indices)
         return places, found
 
-    def find_home(self, indices):
+    def find_home(self, indices: npt.ArrayLike) -> tuple[Numbers, Numbers, Marks]:
         """The chunk that holds each element, the element's place there, and whether a chunk does.
 
         >>> grid = Grid([5, 7], {"name": "regular", "configuration": {"chunk_shape": [2, 3]}})
@@ -152,7 +198,7 @@ class Grid:
         """
         return self._prepared.ask("zarrs_prepared_homes_of", 2, lists_of_numbers("indices", indices, self._dimensionality))
 
-    def subset(self, chunks):
+    def subset(self, chunks: npt.ArrayLike) -> tuple[Numbers, Numbers, Marks]:
         """The box of each chunk, as its origin and its shape, and whether there is such a chunk that ends at 18446744073709551615 or before.
 
         >>> grid = Grid([5, 7], {"name": "zarrs.regular_bounded", "configuration": {"chunk_shape": [2, 3]}})
@@ -162,7 +208,7 @@ class Grid:
         """
         return self._prepared.ask("zarrs_prepared_chunk_boxes_of", 2, lists_of_numbers("chunks", chunks, self._dimensionality))
 
-    def chunks_in_array_subset(self, starts, shapes):
+    def chunks_in_array_subset(self, starts: npt.ArrayLike, shapes: npt.ArrayLike) -> tuple[Numbers, Numbers, Marks]:
         """The cover of each box of elements, which is given as its start and its shape: the first of the chunks that hold some of them, how
         many such chunks there are along each dimension, and whether the first and the last element lie in chunks.
 
@@ -171,12 +217,14 @@ class Grid:
         >>> first.tolist(), counts.tolist(), bool(found)
         ([0, 0], [2, 2], True)
         """
-        starts, shapes = lists_of_numbers("starts", starts, self._dimensionality), lists_of_numbers("shapes", shapes, self._dimensionality)
-        if starts.shape != shapes.shape:
-            raise ValueError(f"shapes: there are to be as many as starts, and the arrays' shapes are {shapes.shape} and {starts.shape}")
-        return self._prepared.ask("zarrs_prepared_covers_of", 2, starts, shapes)
+        lists, counts = lists_of_numbers("starts", starts, self._dimensionality), lists_of_numbers("shapes", shapes, self._dimensionality)
+        if lists.shape != counts.shape:
+            raise ValueError(f"shapes: there are to be as many as starts, and the arrays' shapes are {counts.shape} and {lists.shape}")
+        return self._prepared.ask("zarrs_prepared_covers_of", 2, lists, counts)
 
-    def parts(self, encoding, start, shape, first=0, most=None):
+    def parts(
+        self, encoding: Encoding, start: npt.ArrayLike, shape: npt.ArrayLike, first: SupportsIndex = 0, most: SupportsIndex | None = None
+    ) -> Parts | None:
         """The plan of reading a box of elements, which is given as its start and its shape: the parts of the chunks that hold some of them, in
         row-major order of the chunks. Of the plan the part with the number `first` and those after it, at most `most` of them. `None` where the
         first or the last element of the box lies in no chunk. Raises MemoryError where more parts are asked for than one answer holds, some
@@ -191,22 +239,21 @@ class Grid:
         >>> parts.chunks.tolist(), parts.in_all
         ([[1, 1]], 4)
         """
-        if not isinstance(encoding, Encoding):
-            raise TypeError(f"encoding: an Encoding is wanted, and not a {type(encoding).__name__}")
+        _check_encoding("encoding", encoding)
         box = {"start": list_of_numbers("start", start), "shape": list_of_numbers("shape", shape)}
         if [numbers.size for numbers in box.values()] != [self.dimensionality] * 2:
             raise ValueError(f"start and shape: one box is asked for, with {self.dimensionality} numbers each")
-        first, most = whole_number("first", first), GREATEST if most is None else whole_number("most", most)
-        counted = self._some_parts(encoding, box, first, 0)
+        number, limit = whole_number("first", first), GREATEST if most is None else whole_number("most", most)
+        counted = self._some_parts(encoding, box, number, 0)
         if counted is None:
             return None
-        room = min(max(0, counted.in_all - first), most)
+        room = min(max(0, counted.in_all - number), limit)
         most_at_once = _MOST_NUMBERS // (self.dimensionality + 4)
         if room > most_at_once:
             raise MemoryError(f"out of memory: {room} parts are asked for, and at most {most_at_once} fit into one answer: give `first` and `most`")
-        return self._some_parts(encoding, box, first, room)
+        return self._some_parts(encoding, box, number, room)
 
-    def _some_parts(self, encoding, box, first, room):
+    def _some_parts(self, encoding: Encoding, box: dict[str, Numbers], first: int, room: int) -> Parts | None:
         """So many parts of the plan of a box, or as many as it has; None where there is no plan. Nobody else has the box's arrays."""
         lists = {name: _library.room((room, self.dimensionality)) for name in ("chunks", "in_chunk", "in_subset", "shapes")}
         offsets, length, code = _library.room(room + 1), usual_length(room, self.dimensionality), _library.SHORT_BUFFER
@@ -221,4 +268,231 @@ class Grid:
         if not told["found"]:
             return None
         keys = keys_between(text[:length].tobytes(), offsets[: told["count"] + 1])
-        return Parts(*(numbers[: told["count"]] for numbers in lists.values()), keys, told["in_all"])
+        return Parts(**{name: numbers[: told["count"]] for name, numbers in lists.items()}, keys=keys, in_all=told["in_all"])
+
+    def box(self, selection: Any) -> Box:
+        """The box of elements that a basic selection of numpy's stands for, as the calls of a box take it: ints and slices, a tuple of them, and an
+        ellipsis. Negative numbers count from the end, and a slice ends with the array. A box has the dimensions of the array, so an int selects one
+        element and keeps its dimension, with the size 1. Raises IndexError where an int lies outside of the array, or where there are more items
+        than dimensions; and refuses what selects no box: other steps than 1, `newaxis`, lists, arrays and truth values.
+
+        >>> grid = Grid([5, 7], {"name": "regular", "configuration": {"chunk_shape": [2, 3]}})
+        >>> grid.box(np.s_[1:, -2])
+        Box(start=(1, 5), shape=(4, 1))
+        >>> first, counts, found = grid.chunks_in_array_subset(*grid.box(np.s_[3:6, -2:]))
+        >>> first.tolist(), counts.tolist()
+        ([1, 1], [2, 2])
+        """
+        return selected_box(selection, self.array_shape)
+
+    def chunk_shape(self, chunk: npt.ArrayLike) -> tuple[int, ...] | None:
+        """How many elements one chunk has along each dimension; None where there is no such chunk. `subset` tells it of many chunks at once, where
+        they end at 18446744073709551615 or before. The questions `chunk_shape` and `chunk_shape_u64` have this one answer.
+
+        >>> grid = Grid([5, 7], {"name": "zarrs.regular_bounded", "configuration": {"chunk_shape": [2, 3]}})
+        >>> grid.chunk_shape([2, 2]), grid.chunk_shape([3, 0])
+        ((1, 1), None)
+        """
+        return self._side_of_chunk("chunk_shape", chunk, 1)
+
+    def chunk_origin(self, chunk: npt.ArrayLike) -> tuple[int, ...] | None:
+        """The first element of one chunk; None where there is no such chunk, or where it begins past 18446744073709551615. `subset` tells it of many
+        chunks at once, where they end there or before.
+
+        >>> grid = Grid([5, 7], {"name": "regular", "configuration": {"chunk_shape": [2, 3]}})
+        >>> grid.chunk_origin([2, 2]), grid.chunk_origin([2**63, 0])
+        ((4, 6), None)
+        """
+        return self._side_of_chunk("chunk_origin", chunk, 0)
+
+    def _side_of_chunk(self, call: str, chunk: npt.ArrayLike, side: int) -> tuple[int, ...] | None:
+        """What the box of a chunk has on this side, or where it has none, what the question tells, which takes longer."""
+        numbers = list_of_numbers("chunk", chunk)
+        if numbers.size == self._dimensionality:
+            *sides, found = self._prepared.ask("zarrs_prepared_chunk_boxes_of", 2, numbers)
+            if found:
+                return tuple(sides[side].tolist())
+        answer = self._ask(call, of=numbers.tolist())
+        return None if answer is None else tuple(answer)
+
+    def chunks_subset(self, start: npt.ArrayLike, shape: npt.ArrayLike) -> Box | None:
+        """The box of elements that one box of chunks holds, which is given as its start and its shape; None where its first or its last chunk has no
+        box of elements.
+
+        >>> grid = Grid([5, 7], {"name": "zarrs.regular_bounded", "configuration": {"chunk_shape": [2, 3]}})
+        >>> grid.chunks_subset([1, 1], [2, 2])
+        Box(start=(2, 3), shape=(3, 4))
+        """
+        lists = [list_of_numbers(name, numbers).tolist() for name, numbers in (("start", start), ("shape", shape))]
+        answer = self._ask("chunks_subset", of=lists)
+        return None if answer is None else as_box(answer)
+
+    def chunk_indices_inbounds(self, chunk: npt.ArrayLike) -> bool:
+        """Whether one chunk is among those that are counted: below the grid's shape along each dimension. Along a dimension of no chunks all are.
+
+        >>> grid = Grid([5, 7], {"name": "regular", "configuration": {"chunk_shape": [2, 3]}})
+        >>> grid.chunk_indices_inbounds([2, 2]), grid.chunk_indices_inbounds([3, 0]), grid.chunk_indices_inbounds([0])
+        (True, False, False)
+        """
+        return bool(self._ask("chunk_indices_inbounds", of=list_of_numbers("chunk", chunk).tolist()))
+
+    def array_indices_inbounds(self, index: npt.ArrayLike) -> bool:
+        """Whether one element lies in the array: below its shape along each dimension. Along a dimension of size 0 all do that lie in a chunk.
+
+        >>> grid = Grid([5, 7], {"name": "regular", "configuration": {"chunk_shape": [2, 3]}})
+        >>> grid.array_indices_inbounds([4, 6]), grid.array_indices_inbounds([5, 0]), grid.array_indices_inbounds([0])
+        (True, False, False)
+        """
+        return bool(self._ask("array_indices_inbounds", of=list_of_numbers("index", index).tolist()))
+
+    def locate(self, encoding: Encoding, index: npt.ArrayLike) -> Located | None:
+        """Where one element is stored: its chunk, its place there, and the chunk's key; None where no chunk holds it. `find_home` and `encode` tell
+        it of many elements at once.
+
+        >>> grid = Grid([5, 7], {"name": "regular", "configuration": {"chunk_shape": [2, 3]}})
+        >>> grid.locate(Encoding("default"), [4, 5])
+        Located(chunk=(2, 1), element=(0, 2), key='c/2/1')
+        """
+        _check_encoding("encoding", encoding)
+        numbers = list_of_numbers("index", index)
+        if numbers.size != self._dimensionality:
+            # It is refused, in the library's own words.
+            self._ask("locate", of=numbers.tolist(), chunk_key_encoding=encoding._metadata.text)
+        chunk, element, found = self._prepared.ask("zarrs_prepared_homes_of", 2, numbers)
+        return Located(tuple(chunk.tolist()), tuple(element.tolist()), encoding.encode(chunk)) if found else None
+
+    def runs(self, dimension: SupportsIndex) -> int | None:
+        """How many runs of equal edges the chunks of a `rectilinear` grid are along a dimension, counted from 0; None where there is no such
+        dimension, or where all its chunks have one edge. Raises ValueError for a grid of another name.
+
+        >>> grid = Grid([100], {"name": "rectilinear", "configuration": {"kind": "inline", "chunk_shapes": [[[5, 3], [15, 2], 20, 35]]}})
+        >>> grid.runs(0), grid.runs(1)
+        (4, None)
+        """
+        answer: int | None = self._ask("runs", of=whole_number("dimension", dimension))
+        return answer
+
+    def chunk_indices_counted(self, index: npt.ArrayLike) -> Counted:
+        """The chunk that holds one element of a `rectilinear` grid, and how many comparisons it takes to look it up. Raises ValueError for a grid of
+        another name.
+
+        >>> grid = Grid([100], {"name": "rectilinear", "configuration": {"kind": "inline", "chunk_shapes": [[[5, 3], [15, 2], 20, 35]]}})
+        >>> grid.chunk_indices_counted([99])
+        Counted(chunk=(6,), comparisons=2)
+        """
+        answer = self._ask("chunk_indices_counted", of=list_of_numbers("index", index).tolist())
+        return Counted(None if answer["answer"] is None else tuple(answer["answer"]), answer["comparisons"])
+
+    def written_metadata(self) -> dict[str, Any]:
+        """The `chunk_grid` as the library writes it, for a `zarr.json`: with a name and a configuration and nothing else, and listed edges of a
+        `rectilinear` grid in runs. Its configuration is the answer to the question `configuration`. `metadata` is what was given.
+
+        >>> given = {"name": "rectilinear", "configuration": {"kind": "inline", "chunk_shapes": [[5, 5, [7, 1]]]}}
+        >>> Grid([17], given).written_metadata()
+        {'configuration': {'chunk_shapes': [[[5, 2], 7]], 'kind': 'inline'}, 'name': 'rectilinear'}
+        """
+        answer: dict[str, Any] = self._ask("metadata")
+        return answer
+
+    def iter_chunk_indices(self, first: SupportsIndex = 0) -> Iterator[tuple[int, ...]]:
+        """The chunks that are counted, in row-major order, from the one with the number `first` on. They are read page by page, so the memory that
+        is needed doesn't grow with their number.
+
+        >>> grid = Grid([5, 7], {"name": "regular", "configuration": {"chunk_shape": [2, 3]}})
+        >>> list(grid.iter_chunk_indices(first=6))
+        [(2, 0), (2, 1), (2, 2)]
+        """
+        return (tuple(chunk) for chunk in self._walk("iter_chunk_indices", whole_number("first", first)))
+
+    def iter_chunk_subsets(self, first: SupportsIndex = 0) -> Iterator[Box]:
+        """The boxes of these chunks, read likewise. A chunk that ends past 18446744073709551615 has none, and is passed over; `first` counts it.
+
+        >>> grid = Grid([5, 7], {"name": "regular", "configuration": {"chunk_shape": [2, 3]}})
+        >>> next(grid.iter_chunk_subsets(first=7))
+        Box(start=(4, 3), shape=(2, 3))
+        """
+        return (as_box(box) for box in self._walk("iter_chunk_subsets", whole_number("first", first)))
+
+    def iter_chunk_indices_and_subsets(self, first: SupportsIndex = 0) -> Iterator[tuple[tuple[int, ...], Box]]:
+        """These chunks, each with its box.
+
+        >>> grid = Grid([5, 7], {"name": "regular", "configuration": {"chunk_shape": [2, 3]}})
+        >>> next(grid.iter_chunk_indices_and_subsets(first=7))
+        ((2, 1), Box(start=(4, 3), shape=(2, 3)))
+        """
+        walk = self._walk("iter_chunk_indices_and_subsets", whole_number("first", first))
+        return ((tuple(chunk), as_box(box)) for chunk, box in walk)
+
+    def copies(
+        self,
+        encoding: Encoding,
+        target: Grid,
+        target_encoding: Encoding,
+        chunks: tuple[npt.ArrayLike, npt.ArrayLike] | None = None,
+        first: SupportsIndex = 0,
+        most: SupportsIndex | None = None,
+        share: tuple[SupportsIndex, SupportsIndex] | None = None,
+    ) -> Iterator[Copies]:
+        """The rechunking of an array: what is copied into each chunk of the target that holds elements of the array, in row-major order of these
+        chunks. This grid and this encoding are those by which the array is stored, and `target` is a grid of the same array. With `chunks`, a box
+        of the target's chunks, nothing is copied into others. Of all these the one with the number `first` and those after it, at most `most`.
+
+        In place of these two a share may be given, `(task, tasks)`: the shares of all tasks, one behind another, are the whole rechunking, and have
+        as many chunks each as any other, or one more. They are those of `chunkplan`.
+
+        The items are read page by page. An item holds all its sources.
+
+        >>> grid, target = (Grid([4], {"name": "regular", "configuration": {"chunk_shape": [edge]}}) for edge in (3, 2))
+        >>> for copies in grid.copies(Encoding("default"), target, Encoding("v2")):
+        ...     print(copies.key, [(source.key, source.in_chunk, source.in_target) for source in copies.sources])
+        0 [('c/0', Box(start=(0,), shape=(2,)), Box(start=(0,), shape=(2,)))]
+        1 [('c/0', Box(start=(2,), shape=(1,)), Box(start=(0,), shape=(1,))), ('c/1', Box(start=(0,), shape=(1,)), Box(start=(1,), shape=(1,)))]
+        >>> [copies.chunk for copies in grid.copies(Encoding("default"), target, Encoding("v2"), share=(1, 2))]
+        [(1,)]
+        """
+        _check_encoding("encoding", encoding)
+        if not isinstance(target, Grid):
+            raise TypeError(f"target: a Grid is wanted, and not a {type(target).__name__}")
+        _check_encoding("target_encoding", target_encoding)
+        if target.array_shape != self.array_shape:
+            raise ValueError("the source and the target have different array shapes")
+        number, limit = whole_number("first", first), GREATEST if most is None else whole_number("most", most)
+        asked = {"chunk_key_encoding": encoding._metadata.text, "target": target._stored_text(target_encoding)}
+        box = None if chunks is None else given_box("chunks", chunks)
+        if box is not None:
+            # What the library refuses is told at once, and not with the first item.
+            self._ask("copies", items=0, chunks=box, **asked)
+        if share is None:
+            within = {} if box is None else {"chunks": _questions.plain_text(box)}
+            return map(copies_of, self._walk("copies", number, limit, **asked, **within))
+        if number > 0 or most is not None:
+            raise ValueError("share: it is given in place of `first` and `most`, and not beside them")
+        written = target._chunks_with_elements(box)
+        pieces = slabs(written, *share_of(share, math.prod(written.shape)))
+        walks = (self._walk("copies", number, count, chunks=_questions.plain_text(slab), **asked) for slab, number, count in pieces)
+        return map(copies_of, itertools.chain.from_iterable(walks))
+
+    def _chunks_with_elements(self, within: Box | None) -> Box:
+        """The box of the chunks that hold elements of the array, and lie within a box where there is one."""
+        first, counts, _found = self.chunks_in_array_subset([0] * self._dimensionality, self._shape)
+        box = as_box([first.tolist(), counts.tolist()])
+        return box if within is None else common(box, within)
+
+    def _stored_text(self, encoding: Encoding) -> bytes:
+        """How the array is stored by this grid and an encoding, as JSON."""
+        return _questions.object_text(chunk_grid=self._metadata.text, chunk_key_encoding=encoding._metadata.text)
+
+    def _ask(self, call: str, **members: Any) -> Any:
+        """The answer to a question about this grid, whose members are plain numbers and lists, or JSON already."""
+        texts = {name: member if isinstance(member, bytes) else _questions.plain_text(member) for name, member in members.items()}
+        return _questions.ask(call, shape=_questions.plain_text(self._shape.tolist()), chunk_grid=self._metadata.text, **texts)
+
+    def _walk(self, call: str, first: int, most: int = GREATEST, **members: bytes) -> Iterator[Any]:
+        """The items of a walk over this grid."""
+        shape = _questions.plain_text(self._shape.tolist())
+        return _questions.walk(call, first, most, shape=shape, chunk_grid=self._metadata.text, **members)
+
+
+def _check_encoding(argument: str, encoding: object) -> None:
+    if not isinstance(encoding, Encoding):
+        raise TypeError(f"{argument}: an Encoding is wanted, and not a {type(encoding).__name__}")

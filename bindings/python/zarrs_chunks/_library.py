@@ -5,11 +5,15 @@ for the library, and makes pointers and lengths of them. What a caller of the pa
 `_metadata`.
 """
 
+from __future__ import annotations
+
 import ctypes
 import os
 import pathlib
+from typing import Any
 
 import numpy as np
+import numpy.typing as npt
 
 from . import _processor
 
@@ -22,17 +26,17 @@ OK, OUT_OF_MEMORY, WRONG_LENGTH, NOT_JSON, NOT_METADATA, REFUSED, NOT_A_BOX, WRO
 class _Array:
     """The type in C of an array's pointer: ctypes makes it by `from_param`, and of nothing but an array that is fit."""
 
-    def __init__(self, kind, is_written):
+    def __init__(self, kind: npt.DTypeLike, is_written: bool) -> None:
         self.kind, self.is_written = np.dtype(kind), is_written
 
-    def is_fit(self, array):
+    def is_fit(self, array: Any) -> bool:
         """Whether the library may read an array, or write to it: then it is one that `room` or `text_room` made, whole."""
         if type(array) is not np.ndarray or array.dtype != self.kind:
             return False
         flags = array.flags
         return flags.c_contiguous and flags.aligned and (not self.is_written or (flags.writeable and flags.owndata))
 
-    def from_param(self, array):
+    def from_param(self, array: Any) -> ctypes.c_void_p:
         if not self.is_fit(array):
             raise TypeError(f"the library can't be given this {type(array).__name__}")
         return ctypes.c_void_p(array.__array_interface__["data"][0])
@@ -45,13 +49,13 @@ WRITTEN_NUMBERS = (_Array(np.uint64, is_written=True), ctypes.c_size_t)
 WRITTEN_BYTES = (_Array(np.uint8, is_written=True), ctypes.c_size_t)
 NUMBER, SIZE, CODE, TOLD_SIZE = (ctypes.c_uint64,), (ctypes.c_size_t,), (ctypes.c_int32,), (ctypes.POINTER(ctypes.c_size_t),)
 
-_GRID = {"shape": NUMBERS, "chunk_grid": BYTES}
-_ENCODING = {"chunk_key_encoding": BYTES}
+_GRID: dict[str, Any] = {"shape": NUMBERS, "chunk_grid": BYTES}
+_ENCODING: dict[str, Any] = {"chunk_key_encoding": BYTES}
 
 
-def _struct(**kinds):
+def _struct(**kinds: Any) -> Any:
     """A struct of the header: of an array it has the pointer and the length, and else a number, which a call tells."""
-    fields = []
+    fields: list[Any] = []
     for name, kind in kinds.items():
         fields += [(name, ctypes.c_void_p), (f"{name}_len", ctypes.c_size_t)] if len(kind) == 2 else [(name, *kind)]
     return type("Struct", (ctypes.Structure,), {"_fields_": fields, "KINDS": kinds})
@@ -67,7 +71,7 @@ STORED_ARRAY, ELEMENT_BOX, PART_BUFFERS = ((ctypes.POINTER(struct),) for struct 
 _STRUCTS = {STORED_ARRAY: StoredArray, ELEMENT_BOX: ElementBox, PART_BUFFERS: PartBuffers}
 
 # What is asked of a grid and of an encoding: the calls `zarrs_...` take their metadata before it, and `zarrs_prepared_...` their numbers.
-_ASKED_OF_GRID = {
+_ASKED_OF_GRID: dict[str, dict[str, Any]] = {
     "grid_shape": {"grid_shape": WRITTEN_NUMBERS},
     "chunk_indices_of": {"indices": NUMBERS, "chunks": WRITTEN_NUMBERS, "found": WRITTEN_BYTES},
     "homes_of": {"indices": NUMBERS, "chunks": WRITTEN_NUMBERS, "places": WRITTEN_NUMBERS, "found": WRITTEN_BYTES},
@@ -77,7 +81,7 @@ _ASKED_OF_GRID = {
         "first_chunks": WRITTEN_NUMBERS, "chunk_counts": WRITTEN_NUMBERS, "found": WRITTEN_BYTES, "wrong": TOLD_SIZE,
     },
 }  # fmt: skip
-_ASKED_OF_ENCODING = {
+_ASKED_OF_ENCODING: dict[str, dict[str, Any]] = {
     "keys_of": {"dimensionality": SIZE, "chunks": NUMBERS, "text": WRITTEN_BYTES, "offsets": WRITTEN_NUMBERS, "needed": TOLD_SIZE},
     "chunks_of_keys": {
         "dimensionality": SIZE, "text": BYTES, "offsets": NUMBERS,
@@ -86,7 +90,7 @@ _ASKED_OF_ENCODING = {
 }  # fmt: skip
 
 # The calls of zarrs_chunks.h, with the names and the order of their arguments there. Each answers a code, and the first one the version.
-CALLS = {
+CALLS: dict[str, dict[str, Any]] = {
     "zarrs_abi_version": {},
     "zarrs_version": {"version": WRITTEN_BYTES, "needed": TOLD_SIZE},
     **{f"zarrs_{name}": {**_GRID, **asked} for name, asked in _ASKED_OF_GRID.items()},
@@ -103,13 +107,13 @@ CALLS = {
 }  # fmt: skip
 
 # What each call, and each struct, is given, by name: all but the numbers that are told.
-_GIVEN_TO = {name: {argument for argument, kind in kinds.items() if kind is not TOLD_SIZE} for name, kinds in CALLS.items()}
+_GIVEN_TO: dict[Any, set[str]] = {name: {argument for argument, kind in kinds.items() if kind is not TOLD_SIZE} for name, kinds in CALLS.items()}
 _GIVEN_TO |= {struct: {field for field, kind in struct.KINDS.items() if len(kind) == 2} for struct in _STRUCTS.values()}
 
 
-def path():
-    """Where the library lies: what ZARRS_CHUNKS_LIBRARY names; or what is beside this file, where the package is installed; or what `bindings/build.py`
-    made."""
+def path() -> pathlib.Path:
+    """Where the library lies: what ZARRS_CHUNKS_LIBRARY names; or what is beside this file, where the package is installed; or what
+    `bindings/build.py` made."""
     named = os.environ.get("ZARRS_CHUNKS_LIBRARY")
     if named:
         return pathlib.Path(named).absolute()
@@ -118,13 +122,13 @@ def path():
     return installed if installed.exists() else here.parents[2] / "out" / "llvm" / "libzarrs_chunks.so"
 
 
-def _load():
+def _load() -> tuple[ctypes.CDLL, dict[str, Any]]:
     """The library, and its functions by name, each with the types of its arguments."""
     _processor.check()
     place = path()
     if not place.exists():
         raise ImportError(f"{place} is missing: run bindings/build.py, or set ZARRS_CHUNKS_LIBRARY")
-    functions = {}
+    functions: dict[str, Any] = {}
     try:
         library = ctypes.CDLL(str(place))
         for name, arguments in CALLS.items():
@@ -142,40 +146,43 @@ def _load():
 _LIBRARY, _FUNCTIONS = _load()
 
 
-def function(name, kinds=None):
+def function(name: str, kinds: list[Any] | None = None) -> Any:
     """A call of the library that takes other types of C than those that `call` passes, or with no types any. What it is given isn't tested."""
-    found = _LIBRARY[name]
+    found: Any = _LIBRARY[name]
     found.argtypes, found.restype = kinds, ctypes.c_int32
     return found
 
 
-def room(shape, kind=np.uint64):
+def room(shape: int | tuple[int, ...], kind: npt.DTypeLike = np.uint64) -> npt.NDArray[Any]:
     """A new array of zeros, which a call may write to. Raises MemoryError where there is no room for it."""
     return _new(np.zeros, shape, kind)
 
 
-def room_for_all(shape):
+def room_for_all(shape: int | tuple[int, ...]) -> npt.NDArray[Any]:
     """A new array of numbers that hold anything, for answers that are written or set to 0 one and all. A call fills it sooner than one of `room`."""
     return _new(np.empty, shape, np.uint64)
 
 
-def text_room(length):
+def text_room(length: int) -> npt.NDArray[np.uint8]:
     """A new array of bytes for a text, which hold anything. What a call has written is at its front, and nothing else of it is given out."""
     return _new(np.empty, length, np.uint8)
 
 
-def _new(make, shape, kind):
+def _new(make: Any, shape: int | tuple[int, ...], kind: npt.DTypeLike) -> npt.NDArray[Any]:
     try:
-        return make(shape, kind)
+        made: npt.NDArray[Any] = make(shape, kind)
     except (MemoryError, OverflowError, ValueError) as error:
         raise MemoryError(f"out of memory: there is no room for an array of the shape {shape}") from error
+    return made
 
 
-def call(name, **arguments):
+def call(name: str, **arguments: Any) -> tuple[int, dict[str, int]]:
     """Makes a call, with its arguments by the names of zarrs_chunks.h, a struct as a dict of its arrays. Those by which it tells a number aren't
     given. Answers the code and, by name, the numbers that it told."""
     _check_names(name, name, arguments)
-    sizes, structs, passed = {}, [], []
+    sizes: dict[str, Any] = {}
+    structs: list[Any] = []
+    passed: list[Any] = []
     for argument, kind in CALLS[name].items():
         if kind is TOLD_SIZE:
             sizes[argument] = ctypes.c_size_t()
@@ -190,7 +197,7 @@ def call(name, **arguments):
     return code, told | {field: getattr(struct, field) for struct in structs for field in struct.KINDS.keys() - _GIVEN_TO[type(struct)]}
 
 
-def _filled(argument, struct, arrays):
+def _filled(argument: str, struct: Any, arrays: dict[str, Any]) -> Any:
     """A struct of these arrays, which the caller keeps."""
     _check_names(argument, struct, arrays)
     made = struct()
@@ -202,12 +209,12 @@ def _filled(argument, struct, arrays):
     return made
 
 
-def _check_names(what, named, arguments):
+def _check_names(what: str, named: Any, arguments: dict[str, Any]) -> None:
     if arguments.keys() != _GIVEN_TO[named]:
         raise TypeError(f"{what} takes {', '.join(sorted(_GIVEN_TO[named]))}, and was given {', '.join(arguments)}")
 
 
-def _passed(argument, kind, value):
+def _passed(argument: str, kind: Any, value: Any) -> list[Any]:
     """An argument as it is passed. Raises TypeError where it isn't fit for the library."""
     if kind is NUMBER or kind is SIZE:
         if type(value) is int and 0 <= value < 2**64:

@@ -1,8 +1,11 @@
 """JSON, and the metadata of an extension, as a grid and an encoding have it."""
 
+from __future__ import annotations
+
 import json
 import math
 from collections.abc import Mapping
+from typing import Any
 
 import numpy as np
 
@@ -18,28 +21,28 @@ class Metadata:
     """The metadata of a grid or of an encoding: a name, or an object with a name and, perhaps, a configuration. Its JSON text is kept, so what
     becomes of the object that was given doesn't matter."""
 
-    def __init__(self, argument, given):
+    def __init__(self, argument: str, given: Any) -> None:
         self.text = json_text(argument, given)
 
-    def value(self):
+    def value(self) -> Any:
         """The metadata as a new `dict`, or the name."""
         return json.loads(self.text.decode())
 
-    def name(self):
+    def name(self) -> str:
         value = self.value()
-        return value if isinstance(value, str) else value["name"]
+        return str(value if isinstance(value, str) else value["name"])
 
-    def configuration(self):
+    def configuration(self) -> dict[str, Any] | None:
         """The configuration as a new `dict`, or None where there is none."""
         value = self.value()
         return None if isinstance(value, str) else value.get("configuration")
 
-    def canonical(self):
+    def canonical(self) -> str:
         """The text with the members of each object in the order of their names."""
         return json.dumps(self.value(), sort_keys=True, separators=(",", ":"))
 
 
-def json_text(argument, given):
+def json_text(argument: str, given: Any) -> bytes:
     """Compact JSON, as bytes, of dicts, lists, tuples, arrays, texts, numbers, truth values and None. Raises TypeError for what JSON has no form
     for, and ValueError for a value that it can't say: a float that is no number, a text with half a surrogate pair, a nesting without end or of
     more items than 4194304.
@@ -58,10 +61,10 @@ class _Plain:
     """Makes of a value one of plain dicts, lists, texts and numbers, which are all new, of at most `_MOST_ITEMS` items in all. A list that is in
     another one many times counts as often, since it is written as often."""
 
-    def __init__(self):
+    def __init__(self) -> None:
         self.left = _MOST_ITEMS
 
-    def value(self, given, depth):
+    def value(self, given: Any, depth: int) -> Any:
         if depth > _DEEPEST:
             raise ValueError(f"it is nested more than {_DEEPEST} deep")
         if isinstance(given, Mapping):
@@ -73,7 +76,7 @@ class _Plain:
             return self.items(list(given), depth)
         return _scalar(given)
 
-    def members(self, given, depth):
+    def members(self, given: Mapping[Any, Any], depth: int) -> dict[str, Any]:
         members = list(given.items())
         self.take(len(members))
         for name, _member in members:
@@ -81,18 +84,18 @@ class _Plain:
                 raise TypeError(f"the name of a member is a str, and not of the type {type(name).__name__}")
         return {name: self.value(member, depth + 1) for name, member in members}
 
-    def items(self, given, depth):
+    def items(self, given: list[Any], depth: int) -> list[Any]:
         self.take(len(given))
         # A list of many edges needn't be gone through one by one.
         return given if set(map(type, given)) <= {int} else [self.value(item, depth + 1) for item in given]
 
-    def take(self, count):
+    def take(self, count: int) -> None:
         self.left -= count
         if self.left < 0:
             raise ValueError(f"it has more than {_MOST_ITEMS} items")
 
 
-def _scalar(value):
+def _scalar(value: Any) -> Any:
     if value is None or isinstance(value, str):
         return value
     if isinstance(value, (bool, np.bool_)):

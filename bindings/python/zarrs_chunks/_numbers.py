@@ -1,17 +1,25 @@
 """Whole numbers, as they are given and as the library takes them."""
 
+from __future__ import annotations
+
 import itertools
 import operator
+from typing import Any
 
 import numpy as np
+import numpy.typing as npt
 
 from ._reading import reading
+
+# What a batch answers: lists of numbers, and marks that tell which of them there are.
+Numbers = npt.NDArray[np.uint64]
+Marks = npt.NDArray[np.bool_]
 
 GREATEST = 2**64 - 1
 _ARRAY, _UINT64 = np.ndarray, np.dtype(np.uint64)
 
 
-def whole_number(argument, value):
+def whole_number(argument: str, value: Any) -> int:
     """A number from 0 to 18446744073709551615: an int, one of numpy's integers, or what has `__index__`.
 
     >>> whole_number("first", np.uint8(3))
@@ -26,7 +34,7 @@ def whole_number(argument, value):
     return number
 
 
-def numbers(argument, values):
+def numbers(argument: str, values: Any) -> Numbers:
     """Whole numbers as an array that the library reads: `uint64`, contiguous and aligned. It shares the memory of `values` where that is such an
     array, and else is a copy. An array without items may be of any type; one of floats or of truth values is refused.
 
@@ -58,7 +66,7 @@ def numbers(argument, values):
     raise TypeError(f"{argument}: whole numbers are wanted, and the array is of {array.dtype}")
 
 
-def lists_of_numbers(argument, values, dimensionality):
+def lists_of_numbers(argument: str, values: Any, dimensionality: int) -> Numbers:
     """The same of lists with a number for each dimension, which are the last axis."""
     array = numbers(argument, values)
     shape = array.shape
@@ -67,7 +75,7 @@ def lists_of_numbers(argument, values, dimensionality):
     return array
 
 
-def list_of_numbers(argument, values):
+def list_of_numbers(argument: str, values: Any) -> Numbers:
     """One list of whole numbers, as an array of its own that nobody else has."""
     array = numbers(argument, values)
     if array.ndim != 1:
@@ -76,7 +84,7 @@ def list_of_numbers(argument, values):
         return np.array(array)
 
 
-def _from_signed(argument, array):
+def _from_signed(argument: str, array: npt.NDArray[Any]) -> Numbers:
     # It is copied first, so that what is tested is what is asked.
     with reading(argument):
         own = array.astype(np.int64, order="C")
@@ -85,7 +93,7 @@ def _from_signed(argument, array):
     return own.view(np.uint64)
 
 
-def _from_objects(argument, values, found_type):
+def _from_objects(argument: str, values: Any, found_type: np.dtype[Any]) -> Numbers:
     with reading(argument):
         objects = np.asarray(values, object)
         whole = [_whole_item(item, found_type) for item in objects.ravel().tolist()]
@@ -94,14 +102,14 @@ def _from_objects(argument, values, found_type):
         return np.array(whole, np.uint64).reshape(objects.shape)
 
 
-def _whole_item(item, found_type):
+def _whole_item(item: Any, found_type: np.dtype[Any]) -> int:
     if not hasattr(type(item), "__index__"):
         told = f"one is of the type {type(item).__name__}" if found_type == object else f"the array is of {found_type}"
         raise TypeError(f"whole numbers are wanted, and {told}")
     return index_of(item)
 
 
-def longest_level(shape):
+def longest_level(shape: tuple[int, ...]) -> int:
     """How many lists an array of this shape becomes along its longest level, which may be many where it has no items.
 
     >>> longest_level((1000, 0, 3))
@@ -110,14 +118,14 @@ def longest_level(shape):
     return max(itertools.accumulate(shape, operator.mul), default=0)
 
 
-def index_of(value):
+def index_of(value: Any) -> int:
     """An int itself, and none of a class that is derived of it and compares otherwise."""
     if isinstance(value, np.bool_):
         raise TypeError("a truth value of numpy's is no whole number")
     return int.__index__(operator.index(value))
 
 
-def _check_range(argument, least, most):
+def _check_range(argument: str, least: int, most: int) -> None:
     if least < 0 or most > GREATEST:
         told = "below" if least < 0 else "above"
         raise ValueError(f"{argument}: numbers are those from 0 to 18446744073709551615, and one is {told}")

@@ -3,18 +3,25 @@
 The calls of a grid are made in as few steps as Python takes for them: most of the time of a call with one list is spent on passing its arguments.
 """
 
+from __future__ import annotations
+
 import ctypes
 import functools
 import math
+from typing import Any, Literal, NoReturn, overload
 
 import numpy as np
 
 from . import _library
 from ._answer import refuse, text_of
+from ._numbers import Marks, Numbers
 
-_NUMBER, _MARK, _SIZE = ctypes.c_uint64, ctypes.c_uint8, ctypes.c_size_t
-_array, _UINT64, _BOOL = np.ndarray, np.dtype(np.uint64), np.dtype(np.bool_)
-_TYPES = {
+_NUMBER: Any = ctypes.c_uint64
+_MARK: Any = ctypes.c_uint8
+_SIZE: Any = ctypes.c_size_t
+_array: Any = np.ndarray
+_UINT64, _BOOL = np.dtype(np.uint64), np.dtype(np.bool_)
+_TYPES: dict[Any, tuple[Any, ...]] = {
     _library.NUMBERS: (ctypes.POINTER(_NUMBER), _SIZE), _library.WRITTEN_NUMBERS: (ctypes.POINTER(_NUMBER), _SIZE),
     _library.WRITTEN_BYTES: (ctypes.POINTER(_MARK), _SIZE),
 }  # fmt: skip
@@ -28,7 +35,7 @@ _FOR_MANY = {name: _library.function(name, [kind for kinds in _library.CALLS[nam
 _MANY = 2**12
 
 
-def prepared(kind, length, **metadata):
+def prepared(kind: str, length: int, **metadata: Any) -> Numbers:
     """The numbers of a grid or an encoding, which seldom are more than so many. Raises what the library refuses."""
     code = _library.SHORT_BUFFER
     while code == _library.SHORT_BUFFER:
@@ -47,12 +54,12 @@ class PreparedGrid:
 
     __slots__ = ("_numbers", "_pointer", "_size")
 
-    def __init__(self, shape, chunk_grid):
+    def __init__(self, shape: Numbers, chunk_grid: bytes) -> None:
         # One edge for all chunks takes seven numbers a dimension.
         self._numbers = prepared("grid", 2 + 7 * shape.size, shape=shape, chunk_grid=chunk_grid)
         self._pointer, self._size = self._numbers.ctypes.data_as(ctypes.POINTER(_NUMBER)), _SIZE(self._numbers.size)
 
-    def grid_shape(self, dimensionality):
+    def grid_shape(self, dimensionality: int) -> Numbers:
         """How many chunks are counted along each dimension."""
         sizes = _library.room(dimensionality)
         code, _told = _library.call("zarrs_prepared_grid_shape", numbers=self._numbers, grid_shape=sizes)
@@ -60,7 +67,13 @@ class PreparedGrid:
             refuse(code)
         return sizes
 
-    def ask(self, name, count, lists, shapes=None):
+    @overload
+    def ask(self, name: str, count: Literal[1], lists: Numbers) -> tuple[Numbers, Marks]: ...
+
+    @overload
+    def ask(self, name: str, count: Literal[2], lists: Numbers, shapes: Numbers | None = None) -> tuple[Numbers, Numbers, Marks]: ...
+
+    def ask(self, name: str, count: int, lists: Numbers, shapes: Numbers | None = None) -> Any:
         """What a call answers of lists of numbers, which `lists_of_numbers` made, and of boxes their shapes beside: so many arrays in the form of the
         lists, one or two, and the marks."""
         few = _few_lists(lists.shape)
@@ -69,6 +82,7 @@ class PreparedGrid:
         # The same as there, for few lists: no step but those that each call takes.
         numbers, size, marks, marks_size, marks_shape = few
         grid, grid_size, function, wrong = self._pointer, self._size, _FOR_FEW[name], None
+        answers: tuple[Any, ...]
         try:
             asked, first, found = lists.tobytes(), numbers(), marks()
             if count == 1:
@@ -89,7 +103,7 @@ class PreparedGrid:
             _refuse(code, wrong)
         return answers
 
-    def _ask_many(self, name, count, asked):
+    def _ask_many(self, name: str, count: int, asked: list[Numbers]) -> Any:
         """The same of any number of lists."""
         shape, size = asked[0].shape, asked[0].size
         is_long = size >= _MANY
@@ -109,18 +123,18 @@ class PreparedGrid:
 
 
 @functools.lru_cache(maxsize=256)
-def _few_lists(shape):
+def _few_lists(shape: tuple[int, ...]) -> Any:
     """What a call takes for lists in an array of this shape: the types of a list's room and of the marks', how many numbers they are, and the form of
     the marks. None where there are many lists, or none."""
     size, count = math.prod(shape), math.prod(shape[:-1])
     return (_NUMBER * size, _SIZE(size), _MARK * count, _SIZE(count), shape[:-1]) if 0 < size < _MANY else None
 
 
-def _refuse(code, wrong):
+def _refuse(code: int, wrong: Any) -> NoReturn:
     refuse(code, f"box {wrong.value} ends past 18446744073709551615" if code == _library.NOT_A_BOX else None)
 
 
-def _pointer(numbers):
+def _pointer(numbers: Numbers) -> Any:
     """A pointer to the items of an array of `uint64`, which is contiguous and aligned and stays as long as the pointer does."""
     try:
         return _NUMBER.from_buffer(numbers)

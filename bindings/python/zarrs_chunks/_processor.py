@@ -1,5 +1,7 @@
 """What the shared library wants of the processor."""
 
+from __future__ import annotations
+
 import pathlib
 import platform
 
@@ -7,7 +9,7 @@ import platform
 _WANTED = {"cx16", "lahf_lm", "popcnt", "sse4_1", "sse4_2", "ssse3"}
 
 
-def fault(machine, cpuinfo):
+def fault(machine: str, cpuinfo: str) -> str | None:
     """Why a processor can't run the library, or None where nothing is known against it. `machine` is its name, and `cpuinfo` the text of
     /proc/cpuinfo; each is empty where it isn't known.
 
@@ -26,7 +28,7 @@ def fault(machine, cpuinfo):
     return None
 
 
-def check():
+def check() -> None:
     """Raises an ImportError where this processor can't run the library."""
     try:
         cpuinfo = pathlib.Path("/proc/cpuinfo").read_text(errors="replace")

@@ -1,0 +1,821 @@
+"""The Python package's calls beside the vectors of `chunkcalls`, the models of `tools/`, numpy and zarr-python: `test.py` runs it.
+
+Each group of comparisons is a function over the tally of `test.py`. What is right comes from the vectors, from a model or from arithmetic. Arrays of
+zarr-python 2 and the program `chunkplan` are compared with where they are there.
+"""
+import inspect
+import io
+import itertools
+import json
+import math
+import os
+import pathlib
+import pickle
+import re
+import subprocess
+import sys
+import tempfile
+import threading
+import tracemalloc
+import typing
+
+import numpy as np
+import zarrs_chunks
+from built import CRATES, vectors
+from call_names import CALLS
+from chunk_grids import Grid as Model
+from chunk_grids import first_of, numbers_in, overlap
+from chunk_keys import Encoding as ModelKeys
+from chunk_plans import share as share_of_lines
+from extensions import GREATEST, Refused, grid_metadata, regular
+from faults import seen_parts
+from memory import at_most, used
+from odd_values import Index, Lying, Raising, Whole, misaligned
+from random_arrays import Generator
+from zarrs_chunks import Box, Copies, Counted, Encoding, Grid, Located, Source, __main__, _boxes, _questions
+
+PACKAGE = pathlib.Path(zarrs_chunks.__file__).parent
+REGULAR = regular(2, 3)
+CHUNKPLAN = CRATES / "chunkplan" / "out" / "chunkplan"
+
+
+def outcome(call):
+    """What a call answers, as JSON has it, or the kind and the words of what it raises."""
+    try:
+        return plain(call())
+    except Exception as error:
+        return type(error), str(error)
+
+
+def plain(value):
+    """An answer as JSON has it: its tuples are lists."""
+    if isinstance(value, Located):
+        return {name: plain(part) for name, part in value._asdict().items()}
+    if isinstance(value, Counted):
+        return {"answer": plain(value.chunk), "comparisons": value.comparisons}
+    if isinstance(value, Source):
+        return {name: plain(part) for name, part in value._asdict().items()}
+    if isinstance(value, Copies):
+        return {"from": plain(value.sources), "to": {"chunk": plain(value.chunk), "key": value.key}}
+    return [plain(part) for part in value] if isinstance(value, (list, tuple)) else value
+
+
+# ---- the vectors
+
+
+def grid_in(asked):
+    return Grid(asked["shape"], asked["chunk_grid"])
+
+
+def encoding_in(asked):
+    return Encoding(asked["chunk_key_encoding"])
+
+
+def of_batch(answer):
+    """The one answer of a batch of one list: the one array or a list of several, or None."""
+    *lists, found = answer
+    numbers = [part.tolist() for part in lists]
+    return (numbers[0] if len(numbers) == 1 else numbers) if found else None
+
+
+def walked(asked):
+    """A page of a walk. With a `first`, items are counted by their chunks, also where a chunk has no box."""
+    grid, most, call = grid_in(asked), min(asked["items"], 10**6), asked["call"]
+    walk = getattr(grid, call)(*([asked["first"]] if "first" in asked else []))
+    if call == "iter_chunk_indices" or "first" not in asked:
+        return first_of((plain(item) for item in walk), most)
+    chunks = [*itertools.islice(grid.iter_chunk_indices(asked["first"]), most + 1)]
+    with_boxes = sum(chunk in chunks[:most] for chunk, _box in itertools.islice(grid.iter_chunk_indices_and_subsets(asked["first"]), most))
+    return {"items": plain([*itertools.islice(walk, with_boxes)]), "more": len(chunks) > most}
+
+
+def planned(asked):
+    first = asked.get("first", 0)
+    parts = grid_in(asked).parts(encoding_in(asked), *asked["of"], first, asked["items"])
+    return parts and {"items": seen_parts(parts), "more": first + len(parts.keys) < parts.in_all}
+
+
+def rechunked(asked):
+    grid, encoding = grid_in(asked), encoding_in(asked)
+    target, more = asked["target"], {name: asked[name] for name in ("chunks", "first") if name in asked}
+    try:
+        written = Grid(asked["shape"], target["chunk_grid"]), encoding_in(target)
+    except ValueError as error:
+        raise ValueError(f"field `target`: {error}") from error
+    whole = grid.copies(encoding, *written, **more)
+    most = min(asked["items"], 10**6)
+    limited = [plain(item) for item in grid.copies(encoding, *written, **more, most=asked["items"])]
+    page = first_of((plain(item) for item in whole), most)
+    return page if limited == page["items"] else f"{limited} with `most`"
+
+
+def decoded(asked):
+    return of_batch([part[0] for part in encoding_in(asked).decode([asked["of"]], asked["dimensionality"])])
+
+
+METHODS = {
+    "dimensionality": lambda asked: grid_in(asked).dimensionality,
+    "array_shape": lambda asked: grid_in(asked).array_shape,
+    "grid_shape": lambda asked: grid_in(asked).grid_shape,
+    "metadata": lambda asked: grid_in(asked).written_metadata(),
+    "configuration": lambda asked: grid_in(asked).written_metadata()["configuration"],
+    "chunk_shape": lambda asked: grid_in(asked).chunk_shape(asked["of"]),
+    "chunk_shape_u64": lambda asked: grid_in(asked).chunk_shape(asked["of"]),
+    "chunk_origin": lambda asked: grid_in(asked).chunk_origin(asked["of"]),
+    "subset": lambda asked: of_batch(grid_in(asked).subset(asked["of"])),
+    "chunk_indices_inbounds": lambda asked: grid_in(asked).chunk_indices_inbounds(asked["of"]),
+    "chunk_indices": lambda asked: of_batch(grid_in(asked).chunk_indices(asked["of"])),
+    "chunk_element_indices": lambda asked: of_batch(grid_in(asked).chunk_element_indices(asked["of"])),
+    "array_indices_inbounds": lambda asked: grid_in(asked).array_indices_inbounds(asked["of"]),
+    "locate": lambda asked: grid_in(asked).locate(encoding_in(asked), asked["of"]),
+    "chunk_indices_counted": lambda asked: grid_in(asked).chunk_indices_counted(asked["of"]),
+    "chunks_subset": lambda asked: grid_in(asked).chunks_subset(*asked["of"]),
+    "chunks_in_array_subset": lambda asked: of_batch(grid_in(asked).chunks_in_array_subset(*asked["of"])),
+    "parts": planned,
+    "copies": rechunked,
+    "iter_chunk_indices": walked,
+    "iter_chunk_subsets": walked,
+    "iter_chunk_indices_and_subsets": walked,
+    "runs": lambda asked: grid_in(asked).runs(asked["of"]),
+    "encode": lambda asked: encoding_in(asked).encode(asked["of"]),
+    "decode": decoded,
+}
+# Those that refuse lists of another length in words of their own, since they take many lists.
+BATCHES = {"subset", "chunk_indices", "chunk_element_indices", "chunks_in_array_subset", "parts"}
+# Where the library refuses a text that is no store key, a batch says that it is the key of no chunk.
+NO_KEY = "refused: invalid store key "
+
+
+def expected_of(asked, answer):
+    """What the method is to answer, or the error, by the line that answers the question."""
+    call, lists = asked["call"], asked.get("of")
+    if call == "decode" and asked["dimensionality"] == GREATEST:
+        return (MemoryError,)
+    if answer.startswith(NO_KEY):
+        return None
+    if call in BATCHES:
+        lengths = {len(numbers) for numbers in (lists if lists and isinstance(lists[0], list) else [lists])}
+        if answer.startswith("refused: box end exceeds ") or (lengths != {len(asked["shape"])} and not re.match("refused: (name|regular) ", answer)):
+            return (ValueError,)
+    for beginning in ("refused: ", "unreadable: "):
+        if answer.startswith(beginning):
+            return ValueError, answer[len(beginning) :]
+    return json.loads(answer)
+
+
+def by_methods(tally):
+    """Each vector that a method can be asked: all but those whose question can't be read."""
+    tally.same("the calls with a method", METHODS.keys(), set(CALLS))
+    asked_of, left = dict.fromkeys(METHODS, 0), 0
+    for question, answer in vectors():
+        if answer.startswith("unreadable: ") and not re.fullmatch("unreadable: there is no call `(runs|chunk_indices_counted)`", answer):
+            left += 1
+            continue
+        asked = json.loads(question)
+        expected, found = expected_of(asked, answer), outcome(lambda: METHODS[asked["call"]](asked))
+        if isinstance(expected, tuple) and isinstance(found, tuple) and len(expected) == 1:
+            found = found[:1]
+        tally.same(question, found, expected)
+        asked_of[asked["call"]] += 1
+    tally.same("calls without a vector", [call for call, count in asked_of.items() if count < 10], [])
+    tally.same("the vectors are asked or left", (sum(asked_of.values()) + left, left < 100), (len(vectors()), True))
+
+
+# ---- the models
+
+
+def beside_models(tally):
+    """The methods at random grids, beside the models, which are plain arithmetic."""
+    generator = Generator(5)
+    for _ in range(400):
+        metadata, shape = generator.grid()
+        model, grid, keys = Model(metadata, shape), Grid(shape, metadata), generator.encoding()
+        encoding, model_keys = Encoding(keys), ModelKeys(keys)
+        chunk, index = generator.chunk(model), generator.index(model)
+        if generator.one_in(12):
+            chunk, index = generator.longer_or_shorter(chunk), generator.longer_or_shorter(index)
+        box, dimension = generator.box(list(chunk)), generator.number(len(shape) + 1)
+        asked = {
+            "chunk_shape": [chunk], "chunk_origin": [chunk], "chunk_indices_inbounds": [chunk], "array_indices_inbounds": [index],
+            "chunks_subset": box,
+        }  # fmt: skip
+        for call, given in asked.items():
+            tally.same(f"{grid} {call} {given}", outcome(lambda: getattr(grid, call)(*given)), of_model(lambda: getattr(model, call)(*given)))
+        tally.same(f"{grid} locate {index}", outcome(lambda: grid.locate(encoding, index)), of_model(lambda: model.locate(index, model_keys)))
+        tally.same(f"{grid} written", grid.written_metadata(), model.metadata())
+        if model.name == "rectilinear":
+            tally.same(f"{grid} runs {dimension}", grid.runs(dimension), model.runs(dimension))
+            found, right = outcome(lambda: grid.chunk_indices_counted(index)), of_model(lambda: model.chunk_indices_counted(index))
+            if isinstance(found, dict) and isinstance(right, dict):
+                fewest, most = right["comparisons"]
+                right["comparisons"] = found["comparisons"] if fewest <= found["comparisons"] <= most else right["comparisons"]
+            tally.same(f"{grid} counted {index}", found, right)
+        else:
+            for call, of in (("runs", 0), ("chunk_indices_counted", index)):
+                tally.raises(f"{grid} {call}", ValueError, f"there is no call `{call}`", lambda: getattr(grid, call)(of))
+        walks_beside_model(tally, generator, model, grid)
+        copies_beside_model(tally, generator, (model, model_keys), (grid, encoding))
+
+
+def of_model(call):
+    try:
+        return call()
+    except Refused as refused:
+        return ValueError, refused.text
+
+
+def walks_beside_model(tally, generator, model, grid):
+    """Thirty items of each walk, from its beginning and from some chunk on, which is counted with those that have no box."""
+    in_all = int(np.prod(model.grid_shape(), dtype=object))
+    for first in (0, min(generator.number(max(in_all - 1, 0)), GREATEST - 40)):
+        rest, chunk = first, []
+        for size in reversed(model.grid_shape()):
+            chunk.insert(0, rest % size if size else 0)
+            rest //= size or 1
+        chunks, right = [], []
+        while in_all and len(chunks) < min(30, in_all - first):
+            chunks.append(list(chunk))
+            for place in reversed(range(len(chunk))):
+                chunk[place] += 1
+                if chunk[place] < model.grid_shape()[place]:
+                    break
+                chunk[place] = 0
+        found = [*itertools.islice(grid.iter_chunk_indices(first), 30)]
+        tally.same(f"{grid} walk from {first}", plain(found), chunks)
+        for chunk in chunks:
+            box = model.subset(chunk)
+            right += [[chunk, box]] if box else []
+        # A walk over boxes goes on past those thirty chunks.
+        pairs = [*itertools.islice(grid.iter_chunk_indices_and_subsets(first), len(right))]
+        boxes = [*itertools.islice(grid.iter_chunk_subsets(first), len(right))]
+        tally.same(f"{grid} boxes from {first}", (plain(pairs), plain(boxes)), (right, [box for _chunk, box in right]))
+
+
+def copies_beside_model(tally, generator, source, by_package):
+    (model, model_keys), (grid, encoding) = source, by_package
+    kind, keys = generator.random.choice(["regular", "zarrs.regular_bounded", "rectilinear"]), generator.encoding()
+    metadata = generator.grid_over(model.shape, kind)
+    target, target_keys = Model(metadata, model.shape), ModelKeys(keys)
+    chunks = generator.random.choice([None, generator.box_within(target.grid_shape())])
+    if chunks is not None and generator.one_in(9):
+        chunks = [generator.longer_or_shorter(part) for part in chunks]
+    elif most_sources(model, target, chunks) > 2000:
+        return
+    asked = lambda: grid.copies(encoding, Grid(model.shape, metadata), Encoding(keys), chunks, most=4)
+    right = of_model(lambda: [*itertools.islice(model.copies(model_keys, target, target_keys, chunks), 4)])
+    tally.same(f"{grid} copies to {metadata} {chunks}", outcome(lambda: [*asked()]), right)
+
+
+def most_sources(model, target, chunks):
+    """How many chunks of the source one of the first chunks of the target is made of, which may be very many."""
+    array = [[0] * len(model.shape), model.shape]
+    written = target.chunks_in_array_subset(*array)
+    box = written if chunks is None else overlap(written, chunks)
+    parts = (target.part(chunk, *array, ModelKeys("v2")) for chunk in itertools.islice(numbers_in(*box), 4))
+    return max((math.prod(model.chunks_in_array_subset(*part["in_subset"])[1]) for part in parts), default=0)
+
+
+# ---- walks
+
+
+def pages(tally):
+    """A walk is the same however long its pages are, and takes the memory of a page."""
+    grid, target = Grid([9, 14], REGULAR), Grid([9, 14], regular(4, 5))
+    encodings = Encoding("default"), Encoding("v2")
+    chunks = [*itertools.product(range(5), range(5))]
+    boxes = [((2 * row, 3 * column), (2, 3)) for row, column in chunks]
+    kept = _questions._PAGE, _questions._FIRST_ITEMS
+    whole = [*grid.copies(encodings[0], target, encodings[1])]
+    tally.same("chunks of a target", [copies.chunk for copies in whole], [*itertools.product(range(3), range(3))])
+    try:
+        for _questions._PAGE, _questions._FIRST_ITEMS in itertools.product((1, 60, 300, 2**18), (1, 2, 7, 64)):
+            page = f"{_questions._PAGE} bytes and {_questions._FIRST_ITEMS} items"
+            for first in range(0, 27, 4):
+                tally.same(f"chunks by {page}", [*grid.iter_chunk_indices(first)], chunks[first:])
+                tally.same(f"boxes by {page}", [*grid.iter_chunk_subsets(first)], boxes[first:])
+                tally.same(f"both by {page}", [*grid.iter_chunk_indices_and_subsets(first)], [*zip(chunks, boxes)][first:])
+            for first, most in itertools.product(range(0, 11, 3), (None, 0, 1, 4, GREATEST)):
+                found = [*grid.copies(encodings[0], target, encodings[1], first=first, most=most)]
+                tally.same(f"copies by {page}", found, whole[first:][:most])
+    finally:
+        _questions._PAGE, _questions._FIRST_ITEMS = kept
+    great = Grid([GREATEST] * 2, regular(1, 1))
+    for first in (0, 10**19, GREATEST - 2, GREATEST - 1, GREATEST):
+        right = [divmod(number, GREATEST) for number in range(first, min(first + 3, GREATEST))]
+        tally.same(f"a walk without end from {first}", [*itertools.islice(great.iter_chunk_indices(first), 3)], right)
+    tracemalloc.start()
+    count = sum(1 for _chunk in itertools.islice(great.iter_chunk_indices(), 10**5))
+    count += sum(1 for _copies in itertools.islice(great.copies(encodings[0], great, encodings[1]), 10**4))
+    peak = tracemalloc.get_traced_memory()[1]
+    tracemalloc.stop()
+    tally.same("the memory of long walks", (count, peak < 2**25), (110000, True))
+    small_and_large(tally)
+
+
+def small_and_large(tally):
+    """Chunks of a target that are made of one chunk stand beside some that are made of very many: a page is cut where it gets too long."""
+    edges = [1] * 3000 + [20000, 20000]
+    target = Grid([43000], grid_metadata("rectangular", [edges]))
+    found = [(copies.chunk[0], len(copies.sources)) for copies in Grid([43000], regular(1)).copies(Encoding("v2"), target, Encoding("v2"))]
+    tally.same("sources of small and of large chunks", found, [*enumerate(edges)])
+
+
+# ---- rechunkings
+
+
+def cut(array, ends, key):
+    """The parts of an array between these ends along each dimension, by key."""
+    pieces = [[*zip([0, *places], places)] for places in ends]
+    chunks = itertools.product(*(range(len(part)) for part in pieces))
+    return {key(chunk): array[tuple(slice(*part[number]) for part, number in zip(pieces, chunk))] for chunk in chunks}
+
+
+def moved(tally):
+    """Rechunkings of arrays that numpy holds."""
+    rng = np.random.default_rng(7)
+    for _ in range(60):
+        shape = rng.integers(1, 12, rng.integers(0, 4)).tolist()
+        array = rng.integers(0, 1000, shape)
+        ends = []
+        for _side in range(2):
+            cuts = [np.unique(np.append(rng.integers(1, size + 1, 3), size)).tolist() for size in shape]
+            ends.append(cuts)
+        grids = [Grid(shape, grid_metadata("rectangular", [np.diff([0, *places]) for places in cuts])) for cuts in ends]
+        source = cut(array, ends[0], lambda chunk: "/".join(["c", *map(str, chunk)]))
+        right = cut(array, ends[1], lambda chunk: ".".join(map(str, chunk)) or "0")
+        written = {}
+        for copies in grids[0].copies(Encoding("default"), grids[1], Encoding("v2")):
+            chunk = np.full(right[copies.key].shape, -1)
+            for part in copies.sources:
+                read, put = (tuple(slice(s, s + n) for s, n in zip(*box)) for box in (part.in_chunk, part.in_target))
+                chunk[put] = source[part.key][read]
+            written[copies.key] = chunk
+        tally.same(f"keys of {grids}", [*written], [*right])
+        tally.same(f"elements of {grids}", all((written[key] == right[key]).all() for key in right), True)
+
+
+def shares(tally):
+    encodings = Encoding("default"), Encoding("v2")
+    grid, target = Grid([9, 14], REGULAR), Grid([9, 14], regular(2, 5))
+    for chunks in (None, ([1, 1], [9, 1]), ([9, 0], [1, 1]), ([0, 0], [0, 3])):
+        rows, columns = (range(5), range(3)) if chunks is None else (range(s, min(s + n, most)) for s, n, most in zip(*chunks, (5, 3)))
+        right = [*itertools.product(rows, columns)]
+        for tasks in (1, 2, 3, 4, 7, 15, 40):
+            for task in range(tasks):
+                found = [copies.chunk for copies in grid.copies(*encodings[:1], target, encodings[1], chunks, share=(task, tasks))]
+                tally.same(f"the share {task} of {tasks} of {chunks}", found, [right[line] for line in share_of_lines(len(right), task, tasks)])
+    none = Grid([], regular())
+    tally.same("shares of one chunk", [len([*none.copies(encodings[0], none, encodings[1], share=(task, 2))]) for task in range(2)], [0, 1])
+    # More chunks than a number counts.
+    great = Grid([GREATEST] * 2, regular(1, 1))
+    asked = lambda **more: great.copies(encodings[0], great, encodings[1], **more)
+    for task in (0, 1, 2**63, GREATEST - 2, GREATEST - 1):
+        right = [divmod(3 * task + number, GREATEST) for number in range(3)]
+        found = [copies.chunk for copies in asked(chunks=([0, 0], [3, GREATEST]), share=(task, GREATEST))]
+        tally.same(f"the share {task} of very many", found, right)
+        beginning = [copies.chunk for copies in itertools.islice(asked(share=[task, np.uint64(GREATEST)]), 3)]
+        tally.same(f"the share {task} of all", beginning, [(task, number) for number in range(3)])
+    wrong = "share: the number of a task, counted from 0, is less than how many tasks there are"
+    for share in ((1, 1), (0, 0), (5, 2)):
+        tally.raises(f"the share {share}", ValueError, wrong, lambda: asked(share=share))
+    beside = "share: it is given in place of `first` and `most`, and not beside them"
+    for more in ({"first": 1}, {"most": 1}, {"first": 2, "most": 0}):
+        tally.raises(f"a share beside {more}", ValueError, beside, lambda: asked(share=(0, 1), **more))
+    for share in (3, None, "ab", [1], (1, 2, 3), (0.0, 1), (0, None), Raising(KeyError("own")), (-1, 2), (0, 2**64), [np.zeros(2), 3]):
+        found = outcome(lambda: type(asked(share=share)))
+        tally.same(f"{share!r} as a share", share is None or found[0] in (TypeError, ValueError) and found[1].startswith("share: "), True)
+    slabs(tally)
+    of_program(tally)
+
+
+def slabs(tally):
+    """Boxes of at most so many numbers, one behind another, are the box."""
+    kept, _boxes.GREATEST = _boxes.GREATEST, 7
+    try:
+        for shape in [(), (3,), (7,), (2, 3), (4, 5), (3, 2, 3), (2, 7, 1), (2, 2, 2, 2)]:
+            start = tuple(range(5, 5 + len(shape)))
+            right = [*itertools.product(*(range(s, s + n) for s, n in zip(start, shape)))]
+            for first, end in itertools.combinations(range(len(right) + 1), 2):
+                found = []
+                for box, number, count in _boxes.slabs(Box(start, shape), first, end - first):
+                    of_slab = [*itertools.product(*(range(s, s + n) for s, n in zip(*box)))]
+                    tally.same(f"the size of {box}", len(of_slab) <= 7, True)
+                    found += of_slab[number : number + count]
+                tally.same(f"slabs of {shape} from {first} to {end}", found, right[first:end])
+    finally:
+        _boxes.GREATEST = kept
+
+
+def of_program(tally):
+    """Shares beside those of `chunkplan`, where the program was built."""
+    if not CHUNKPLAN.exists():
+        print("no share was compared with those of chunkplan: the program isn't built", flush=True)
+        return
+    generator = Generator(8)
+    for _ in range(60):
+        shape = [generator.random.randrange(30) for _ in range(generator.random.randrange(4))]
+        stored = [{"chunk_grid": generator.grid_over(shape, name), "chunk_key_encoding": generator.encoding()} for name in ("regular", "rectilinear")]
+        tasks = generator.random.choice([1, 2, 3, 7, 50])
+        task = generator.random.randrange(tasks)
+        document = {"shape": shape, **stored[0], "target": stored[1], "share": [task, tasks]}
+        ended = subprocess.run([CHUNKPLAN], input=json.dumps(document).encode(), capture_output=True)
+        lines = [json.loads(line) for line in ended.stdout.splitlines()]
+        (grid, encoding), (target, target_encoding) = ((Grid(shape, one["chunk_grid"]), Encoding(one["chunk_key_encoding"])) for one in stored)
+        found = [plain(copies) for copies in grid.copies(encoding, target, target_encoding, share=(task, tasks))]
+        for line in lines:
+            for part in [line, line["to"], *line["from"]]:
+                for name in ("number", "of", "whole", "shape"):
+                    part.pop(name, None)
+        tally.same(f"{document} by chunkplan", (found, ended.returncode), (lines, 0))
+
+
+# ---- selections
+
+
+def selections(tally):
+    """The box of a selection has the elements that numpy selects, and what numpy refuses is refused."""
+    bounds = [None, *range(-5, 6)]
+    ones = [*range(-5, 6), ..., *(slice(start, stop) for start in bounds for stop in bounds), slice(1, 3, 1), slice(None, None, np.int8(1))]
+    for size in range(4):
+        for item in ones:
+            same_elements(tally, (size,), item)
+            same_elements(tally, (size,), (item,))
+    rng = Generator(9).random
+    for _ in range(4000):
+        shape = tuple(rng.randrange(4) for _ in range(rng.randrange(5)))
+        slices = [slice(rng.choice(bounds), rng.choice(bounds)) for _ in range(rng.randrange(len(shape) + 2))]
+        same_elements(tally, shape, tuple(rng.choice(ones) if rng.random() < 0.5 else item for item in slices))
+    great = [2**64, -(2**70), np.s_[2**70 :], np.s_[-(2**70) : 2**70]]
+    for selection in ((), ..., (...,), np.s_[..., ...], 0, np.s_[0, ...], np.s_[:, ..., :, :], *great):
+        for shape in ((), (3,), (2, 3), (2, 3, 4)):
+            same_elements(tally, shape, selection)
+    for number in (np.int64(-1), np.uint8(1), Index(-2), Whole(1), np.array(1), np.array(2, np.uint64)):
+        same_elements(tally, (3, 2), number)
+        same_elements(tally, (4,), slice(number, None))
+    great = Grid([GREATEST, 5], regular(2, 3))
+    tally.same("great sizes", great.box(np.s_[-3:, 1]), ((GREATEST - 3, 1), (3, 1)))
+    tally.same("all of great sizes", great.box(...), ((0, 0), (GREATEST, 5)))
+    tally.same("the last of great sizes", great.box(GREATEST - 1), ((GREATEST - 1, 0), (1, 5)))
+    refused(tally)
+
+
+def same_elements(tally, shape, selection):
+    grid, array = Grid(shape, regular(*[2] * len(shape))), np.arange(np.prod(shape, dtype=int)).reshape(shape)
+    try:
+        right = np.ravel(array[selection]).tolist()
+    except IndexError:
+        right = IndexError
+    found = outcome(lambda: grid.box(selection))
+    if not isinstance(found, tuple):
+        within = all(0 <= s and s + n <= size for s, n, size in zip(*found, shape)) and len(found[0]) == len(found[1]) == len(shape)
+        elements = array[tuple(slice(s, s + n) for s, n in zip(*found))]
+        found = (within and elements.shape == tuple(found[1]), elements.ravel().tolist())
+        right = right if right is IndexError else (True, right)
+    else:
+        found = found[0]
+    tally.same(f"{selection} of {shape}", found, right)
+
+
+def refused(tally):
+    grid = Grid([5, 7], REGULAR)
+    newaxis = "selection: it adds a dimension by None, or `newaxis`, and a box has those of the array"
+    step = "selection: the slice for dimension {} has another step than 1, and so selects no box"
+    for selection, kind, words in [
+        (None, TypeError, newaxis), (np.s_[1, np.newaxis], TypeError, newaxis),
+        (True, TypeError, "selection: a truth value selects no box"), (np.s_[1, np.False_], TypeError, "selection: a truth value selects no box"),
+        ([1, 2], TypeError, "selection: a list selects elements one by one, and no box"),
+        (np.s_[:, np.array([1])], TypeError, "selection: a ndarray selects elements one by one, and no box"),
+        (1.0, TypeError, "selection: ints, slices and an ellipsis are wanted, and not a float"),
+        ("1", TypeError, "selection: ints, slices and an ellipsis are wanted, and not a str"),
+        (np.s_[1.0:], TypeError, "selection: 'float' object cannot be interpreted as an integer"),
+        (np.s_[: np.True_], TypeError, "selection: a truth value of numpy's is no whole number"),
+        (np.s_[::2], ValueError, step.format(0)), (np.s_[1, ::-1], ValueError, step.format(1)), (np.s_[::0], ValueError, step.format(0)),
+        (np.s_[..., 1, ...], IndexError, "selection: it has more than one ellipsis"),
+        (np.s_[1, 2, 3], IndexError, "selection: it has items for 3 dimensions, and the array has 2"),
+        (np.s_[0, 7], IndexError, "selection: the number for dimension 1 lies outside of the array, which has 7 elements there"),
+        (np.s_[-6], IndexError, "selection: the number for dimension 0 lies outside of the array, which has 5 elements there"),
+        (10**5000, IndexError, "selection: the number for dimension 0 lies outside of the array, which has 5 elements there"),
+    ]:  # fmt: skip
+        tally.raises(f"a refused selection, {words}", kind, words, lambda: grid.box(selection))
+    odd = [Raising(IndexError("own")), slice(Raising(KeyError("own"))), {}, {1}, len, Lying(1, [1]), np.zeros(2), np.array(True), np.array(1.0)]
+    for selection in odd:
+        tally.same(f"{selection} as a selection", outcome(lambda: grid.box(selection))[0], TypeError)
+
+
+# ---- stored arrays
+
+
+def stored(tally):
+    with tempfile.TemporaryDirectory() as name:
+        room = pathlib.Path(name)
+        suffixed = {"name": "zarrs.default_suffix", "configuration": {"suffix": ".tiff"}}
+        of_3 = {"zarr_format": 3, "node_type": "array", "shape": [5, 7], "data_type": "int8", "chunk_grid": REGULAR, "chunk_key_encoding": suffixed}
+        of_2 = {"zarr_format": 2, "shape": [5, 7], "chunks": [2, 3], "dtype": "<i4", "fill_value": None, "order": "C"}
+        folders = {
+            "three": ({"zarr.json": of_3}, (Grid([5, 7], REGULAR), Encoding(suffixed))),
+            "two": ({".zarray": of_2}, (Grid([5, 7], REGULAR), v2("."))),
+            "slashes": ({".zarray": {**of_2, "dimension_separator": "/"}}, (Grid([5, 7], REGULAR), v2("/"))),
+            "null": ({".zarray": {**of_2, "dimension_separator": None}}, (Grid([5, 7], REGULAR), v2("."))),
+            "both": ({".zarray": {**of_2, "chunks": [1, 1]}, "zarr.json": of_3}, (Grid([5, 7], REGULAR), Encoding(suffixed))),
+            "scalar": ({".zarray": {**of_2, "shape": [], "chunks": []}}, (Grid([], regular()), v2("."))),
+            "empty": ({".zarray": {**of_2, "shape": [0, 7], "chunks": [2, 3]}}, (Grid([0, 7], REGULAR), v2("."))),
+            "names é漢": ({"zarr.json": {**of_3, "chunk_key_encoding": "v2"}}, (Grid([5, 7], REGULAR), Encoding("v2"))),
+        }  # fmt: skip
+        for name, (files, right) in folders.items():
+            folder = written(room / name, files)
+            for path in (folder, str(folder), os.path.relpath(folder)):
+                tally.same(f"{name} as {type(path).__name__}", (Grid.of(path), Encoding.of(path)), right)
+        refused_folders(tally, room, of_2, of_3)
+        like_arrays(tally)
+        arrays_of_zarr(tally, room)
+
+
+def v2(separator):
+    return Encoding({"name": "v2", "configuration": {"separator": separator}})
+
+
+def written(folder, files):
+    folder.mkdir()
+    for name, metadata in files.items():
+        (folder / name).write_bytes(metadata if isinstance(metadata, bytes) else json.dumps(metadata).encode())
+    return folder
+
+
+def refused_folders(tally, room, of_2, of_3):
+    both = (Grid, Encoding)
+    for what, name, metadata, words in [
+        ("a group", "zarr.json", {"zarr_format": 3, "node_type": "group"}, "it is a group's, and no array's"),
+        ("another node", "zarr.json", {**of_3, "node_type": "tree"}, "its node_type isn't `array`"),
+        ("no node", "zarr.json", {"zarr_format": 3}, "its node_type isn't `array`"),
+        ("another format", "zarr.json", {**of_3, "zarr_format": 4}, "its zarr_format isn't 3"),
+        ("format 3 in .zarray", ".zarray", {**of_2, "zarr_format": 3}, "its zarr_format isn't 2"),
+        ("a list", "zarr.json", [1], "it is not an object"),
+        ("no chunks", ".zarray", {name: member for name, member in of_2.items() if name != "chunks"}, "there is no member `chunks`"),
+    ]:  # fmt: skip
+        folder = written(room / what, {name: metadata})
+        for kind in both:
+            tally.raises(f"{what}, {kind.__name__}", ValueError, f"array: {folder / name}: {words}", lambda: kind.of(folder))
+    for member, kind in (("shape", Grid), ("chunk_grid", Grid), ("chunk_key_encoding", Encoding)):
+        folder = written(room / f"no {member}", {"zarr.json": {name: value for name, value in of_3.items() if name != member}})
+        tally.raises(f"no {member}", ValueError, f"array: {folder / 'zarr.json'}: there is no member `{member}`", lambda: kind.of(folder))
+    for shape in ("57", [5.0, 7], [True, 7], None, {"5": 7}, [[5, 7]], 5):
+        folder = written(room / f"shape {shape}", {".zarray": {**of_2, "shape": shape}})
+        words = f"array: {folder / '.zarray'}: the member `shape` is no list of whole numbers"
+        tally.raises(f"the shape {shape}", ValueError, words, lambda: Grid.of(folder))
+    for text in (b"", b"{", b"\xff{}", b'{"shape":[5,7]}}', b"[" * 10**5):
+        folder = written(room / f"text {len(text)} {text[:1]}", {"zarr.json": text})
+        for kind in both:
+            found = outcome(lambda: kind.of(folder))
+            begins = f"array: {folder / 'zarr.json'}: it is not JSON: "
+            tally.same(f"the text {text[:20]}", (found[0], found[1].startswith(begins)), (ValueError, True))
+    for missing in (room / "none", room / "a group" / "zarr.json", room):
+        for kind in both:
+            words = f"array: {missing} has no zarr.json and no .zarray"
+            tally.raises(f"nothing in {missing}", FileNotFoundError, words, lambda: kind.of(missing))
+    (room / "folders" / "zarr.json").mkdir(parents=True)
+    tally.same("a folder in the file's place", outcome(lambda: Grid.of(room / "folders"))[0], IsADirectoryError)
+    # The library's own words, where it refuses what was read.
+    folder = written(room / "no edge", {".zarray": {**of_2, "chunks": [0, 3]}})
+    words = "configuration is unsupported: wrong value in field `chunk_shape`"
+    tally.raises("chunks of no elements", ValueError, words, lambda: Grid.of(folder))
+    folder = written(room / "separator", {".zarray": {**of_2, "dimension_separator": "-"}})
+    words = "configuration is unsupported: wrong value in field `separator`"
+    tally.raises("another separator", ValueError, words, lambda: Encoding.of(folder))
+    wanted = "array: the path of an array's folder, or an array of zarr-python 2, is wanted, and not a "
+    for value in (None, 3, b"folder", np.zeros((5, 7)), Grid([5, 7], REGULAR), {"shape": [5]}, object):
+        for kind in both:
+            tally.raises(f"{value!r} as an array", TypeError, wanted + type(value).__name__, lambda: kind.of(value))
+    tally.same("a path with a zero", outcome(lambda: Grid.of("a\0b"))[0], ValueError)
+    tally.same("a path with half a pair", outcome(lambda: Grid.of("a\ud800b"))[0], ValueError)
+
+
+class LikeZarr:
+    """What is read of an array of zarr-python 2."""
+
+    def __init__(self, shape, chunks, separator, version=2):
+        self.shape, self.chunks, self._dimension_separator, self._version = shape, chunks, separator, version
+
+
+def like_arrays(tally):
+    """Arrays are known by their attributes, so that zarr-python needn't be there."""
+    right = Grid([5, 7], REGULAR), v2("/")
+    for array in (LikeZarr((5, 7), (2, 3), "/"), LikeZarr([np.int64(5), np.uint8(7)], np.array([2, 3]), "/")):
+        tally.same(f"an array like {array.shape}", (Grid.of(array), Encoding.of(array)), right)
+    draft = "array: it is of a draft of format 3, whose keys are others"
+    for kind in (Grid, Encoding):
+        tally.raises("an array of the draft", ValueError, draft, lambda: kind.of(LikeZarr((5, 7), (2, 3), "/", version=3)))
+    for shape in ("57", (5.0, 7), (True, 7), None):
+        words = "array: LikeZarr: the member `shape` is no list of whole numbers"
+        tally.raises(f"an array of the shape {shape}", ValueError, words, lambda: Grid.of(LikeZarr(shape, (2, 3), "/")))
+    below = "shape: numbers are those from 0 to 18446744073709551615, and one is below"
+    tally.raises("a shape below 0", ValueError, below, lambda: Grid.of(LikeZarr((5, -7), (2, 3), "/")))
+    failing = type("Failing", (), {"shape": property(lambda self: 1 // 0)})()
+    tally.raises("an array that fails", TypeError, "array: integer division or modulo by zero", lambda: Grid.of(failing))
+
+
+def arrays_of_zarr(tally, room):
+    """Arrays of zarr-python 2, where it is there: their chunks lie under the keys that are told."""
+    try:
+        import zarr
+
+        version = zarr.__version__
+    except ImportError:
+        version = "none"
+    if not version.startswith("2."):
+        print(f"no array of zarr-python 2 was read: its version here is {version}", flush=True)
+        return
+    for number, (shape, chunks, separator) in enumerate(
+        [((5, 7), (2, 3), None), ((5, 7), (2, 3), "/"), ((), (), "."), ((0,), (4,), "."), ((6, 1, 4), (6, 2, 1), "/"), ((9,), True, None)]
+    ):
+        folder = room / f"zarr {number}"
+        array = zarr.open_array(str(folder), mode="w", shape=shape, chunks=chunks, dtype="u1", fill_value=0, dimension_separator=separator)
+        array[...] = 1
+        for given in (array, zarr.open_array(str(folder), mode="r"), folder):
+            grid, encoding = Grid.of(given), Encoding.of(given)
+            keys = {encoding.encode(chunk) for chunk in grid.iter_chunk_indices()}
+            files = {path.relative_to(folder).as_posix() for path in folder.rglob("*") if path.is_file() and path.name != ".zarray"}
+            tally.same(f"keys of {shape} in {chunks} by {separator}", (keys, grid.array_shape), (files, shape))
+    nested = zarr.open_array(zarr.NestedDirectoryStore(str(room / "nested")), mode="w", shape=(5, 7), chunks=(2, 3), dtype="u1")
+    tally.same("a nested store", (Grid.of(nested), Encoding.of(nested)), (Grid([5, 7], REGULAR), v2("/")))
+    group = zarr.open_group(str(room / "of groups"), mode="w")
+    tally.same("an array of a group", Grid.of(group.create_dataset("a", shape=(5, 7), chunks=(2, 3))), Grid([5, 7], REGULAR))
+    tally.same("a group", [outcome(lambda: kind.of(group))[0] for kind in (Grid, Encoding)], [TypeError] * 2)
+    tally.same("a group's folder", outcome(lambda: Grid.of(room / "of groups"))[0], FileNotFoundError)
+    # zarr-python itself can't count such chunks.
+    none = zarr.open_array(str(room / "none of it"), mode="w", shape=(0, 5), chunks=False, dtype="u1")
+    words = "configuration is unsupported: wrong value in field `chunk_shape`"
+    for given in (none, room / "none of it"):
+        tally.raises("chunks of no elements", ValueError, words, lambda: Grid.of(given))
+
+
+# ---- the program
+
+
+def program(tally):
+    """`python -m zarrs_chunks`: each vector, one after another and in turn, words, and outputs that fail."""
+    command, environment = [sys.executable, "-m", "zarrs_chunks"], {**os.environ, "PYTHONPATH": str(PACKAGE.parent)}
+    environment.pop("PYTHONUNBUFFERED", None)
+
+    def ended(*words, text=b"", **streams):
+        streams = {"input": text, "stdout": subprocess.PIPE, **streams}
+        run = subprocess.run([*command, *words], stderr=subprocess.PIPE, env=environment, **streams)
+        return run.returncode, run.stdout, run.stderr.decode()
+
+    questions, answers = ("".join(f"{line}\n" for line in lines).encode() for lines in zip(*vectors()))
+    tally.same("all vectors", ended(text=questions), (0, answers, ""))
+    tally.same("a last line without a line feed", ended(text=questions[:-1]), (0, answers, ""))
+    tally.same("no lines", ended(), (0, b"", ""))
+    unreadable = b"unreadable: not JSON\n"
+    tally.same("lines that are no JSON", ended(text=b"\n\xff\n{\r\n\0"), (0, 4 * unreadable, ""))
+    (question, answer), *_others = vectors()
+    ends = {b"\r": f"{answer}\n".encode(), b" \t": f"{answer}\n".encode(), b"\v": unreadable, b"\0": unreadable}
+    text = b"".join(question.encode() + end + b"\n" for end in ends)
+    tally.same("what stands behind a question", ended(text=text), (0, b"".join(ends.values()), ""))
+    running = subprocess.Popen(command, stdin=subprocess.PIPE, stdout=subprocess.PIPE, env=environment)
+    # An answer that is held back never comes.
+    too_late = threading.Timer(60, running.kill)
+    too_late.start()
+    for question, answer in vectors()[:100]:
+        running.stdin.write(question.encode() + b"\n")
+        running.stdin.flush()
+        tally.same(f"{question}, in turn", running.stdout.readline().decode(), f"{answer}\n")
+    running.stdin.close()
+    too_late.cancel()
+    tally.same("the end of it", (running.stdout.read(), running.wait()), (b"", 0))
+    tally.same("--version", ended("--version"), (0, f"{zarrs_chunks.__version__}\n".encode(), ""))
+    status, told, errors = ended("--help")
+    begins, widest = told.startswith(b"Usage: python -m zarrs_chunks "), max(map(len, told.splitlines()))
+    tally.same("--help", (status, begins, widest < 80, errors), (0, True, True, ""))
+    words = "zarrs_chunks: it takes `--help` or `--version`, or no word\n"
+    for given in (["--hel"], ["--help=yes"], ["--help", "--version"], ["-"], ["--help", "--help"], [""], ["-V"]):
+        tally.same(f"the words {given}", ended(*given, text=questions), (1, b"", words))
+    with open("/dev/full", "wb") as full:
+        for given in ((), ("--help",)):
+            found = ended(*given, text=questions, stdout=full)
+            tally.same(f"a full device, {given}", found, (1, None, "zarrs_chunks: output failed\n"))
+    reader, writer = os.pipe()
+    os.close(reader)
+    found = ended(text=questions, stdout=writer)
+    os.close(writer)
+    tally.same("a reader that has gone", found, (1, None, "zarrs_chunks: output failed\n"))
+    failing(tally)
+
+
+def failing(tally):
+    class Failing(io.BytesIO):
+        def readline(self, *_size):
+            raise OSError("own")
+
+    tally.raises("an input that fails", __main__.Fault, "input failed", lambda: __main__.answer_lines(Failing(), io.BytesIO()))
+    for fault in ("input failed", "output failed"):
+        tally.raises(f"no stream, {fault}", __main__.Fault, fault, lambda: __main__._bytes_of(None, fault))
+
+
+# ---- the package
+
+
+def typed(tally):
+    """All that is public is annotated, and its annotations name what there is."""
+    public = [getattr(zarrs_chunks, name) for name in zarrs_chunks.__all__ if name != "__version__"]
+    functions = [part for part in public if inspect.isfunction(part)]
+    for kind in filter(inspect.isclass, public):
+        if issubclass(kind, tuple):
+            tally.same(f"the fields of {kind.__name__}", typing.get_type_hints(kind).keys(), set(kind._fields))
+            continue
+        for name, member in vars(kind).items():
+            member = member.fget if isinstance(member, property) else getattr(member, "__func__", member)
+            functions += [member] if inspect.isfunction(member) and (not name.startswith("_") or name.startswith("__")) else []
+    tally.same("many are public", len(functions) > 40, True)
+    for function in functions:
+        signature = inspect.signature(function)
+        of_arguments = [argument.annotation for name, argument in signature.parameters.items() if name not in ("self", "cls")]
+        tally.same(f"annotations of {function.__qualname__}", inspect.Signature.empty in [*of_arguments, signature.return_annotation], False)
+        # Python 3.9 has no `|` of types, which nothing but this asks for.
+        if sys.version_info >= (3, 10):
+            tally.same(f"what they name, {function.__qualname__}", "return" in typing.get_type_hints(function), True)
+        tally.same(f"the docstring of {function.__qualname__}", bool(function.__doc__) or function.__name__.startswith("__"), True)
+    tally.same("the mark of types", (PACKAGE / "py.typed").read_text(), "")
+    at = [path.name for path in PACKAGE.glob("*.py") if zarrs_chunks.__version__ in path.read_text()]
+    tally.same("where the version stands", (at, re.fullmatch(r"\d+\.\d+\.\d+", zarrs_chunks.__version__) is not None), (["_version.py"], True))
+
+
+def values(tally):
+    """What the calls of one list take and refuse, and what they answer, of which each is of Python's own types."""
+    grid, encoding, target = Grid([5, 7], REGULAR), Encoding("default"), Grid([5, 7], regular(5, 2))
+    rectilinear = Grid([9, 9], grid_metadata("rectilinear", [[[3, 3]], [4, 5]]))
+    right = ((2, 3), (2, 3), True, True, Located((0, 0), (1, 1), "c/0/0"), (0, 0), Box((2, 3), (2, 3)))
+    for what, pair in {
+        "numpy's": [np.uint64(1), np.uint64(1)], "a tuple": (1, 1), "by __index__": [Index(1), Whole(1)],
+        "objects": np.array([1, np.int8(1)], object), "big-endian": np.array([1, 1], ">i2"),
+        "misaligned": misaligned(np.array([1, 1], np.uint64)), "strided": np.ones(4, np.int8)[::2],
+    }.items():  # fmt: skip
+        found = (
+            grid.chunk_shape(pair), grid.chunk_origin(pair), grid.chunk_indices_inbounds(pair), grid.array_indices_inbounds(pair),
+            grid.locate(encoding, pair), rectilinear.chunk_indices_counted(pair).chunk, grid.chunks_subset(pair, pair),
+        )  # fmt: skip
+        tally.same(f"lists as {what}", found, right)
+        kinds = {type(number) for part in (found[0], found[1], found[4].chunk, found[4].element, found[6].start, found[6].shape) for number in part}
+        tally.same(f"the types of answers to {what}", (kinds, type(found[2]), type(found[4].key)), ({int}, bool, str))
+    copied = lambda chunks=None, **more: grid.copies(encoding, target, encoding, chunks, **more)
+    singles = {
+        "chunk": [grid.chunk_shape, grid.chunk_origin, grid.chunk_indices_inbounds],
+        "index": [grid.array_indices_inbounds, lambda value: grid.locate(encoding, value), rectilinear.chunk_indices_counted],
+        "start": [lambda value: grid.chunks_subset(value, [1, 1])], "shape": [lambda value: grid.chunks_subset([1, 1], value)],
+        "chunks": [lambda value: copied((value, [1, 1])), lambda value: copied(([0, 0], value))],
+    }  # fmt: skip
+    numbers = {
+        "dimension": [rectilinear.runs], "first": [grid.iter_chunk_indices, grid.iter_chunk_subsets, grid.iter_chunk_indices_and_subsets],
+        "most": [lambda value: copied(most=value)],
+    }  # fmt: skip
+    numbers["first"].append(lambda value: copied(first=value))
+    bounds = "numbers are those from 0 to 18446744073709551615, and one is "
+    for name, calls in singles.items():
+        for call in calls:
+            tally.raises(f"{name} below", ValueError, f"{name}: {bounds}below", lambda: call([0, -1]))
+            tally.raises(f"{name} above", ValueError, f"{name}: {bounds}above", lambda: call([0, 2**64]))
+            tally.raises(f"{name} of floats", TypeError, f"{name}: whole numbers are wanted, and the array is of float64", lambda: call([0.0, 1]))
+            shaped = f"{name}: one list of numbers is wanted, and the array's shape is (1, 2)"
+            tally.raises(f"{name} of two axes", ValueError, shaped, lambda: call([[0, 1]]))
+            for value in (3, Raising(IndexError("own")), [Raising(KeyError("own"))]):
+                tally.same(f"{name} as {value!r}", outcome(lambda: call(value))[0] in (TypeError, ValueError), True)
+    for name, calls in numbers.items():
+        for call in calls:
+            tally.raises(f"{name} below", ValueError, f"{name}: {bounds}below", lambda: call(-1))
+            tally.raises(f"{name} above", ValueError, f"{name}: {bounds}above", lambda: call(2**64))
+            tally.raises(f"{name} as a float", TypeError, f"{name}: 'float' object cannot be interpreted as an integer", lambda: call(1.0))
+            tally.same(f"{name} as another", [outcome(lambda: call(value))[0] for value in ("1", [1], np.zeros(2))], [TypeError] * 3)
+    lengths = "incompatible dimensionality 1, expected 2"
+    for chunks, words in ((([0], [1]), f"the box of chunks: {lengths}"), (([0, 0], [1]), lengths)):
+        tally.raises(f"the chunks {chunks}, at once", ValueError, words, lambda: copied(chunks))
+    for chunks in (3, [], [[0, 0]], [[0, 0], [1, 1], [2, 2]], "ab", {1, 2}, Raising(ValueError("own"))):
+        found = outcome(lambda: copied(chunks))
+        tally.same(f"{chunks!r} as a box of chunks", (found[0] in (TypeError, ValueError), found[1].startswith("chunks: ")), (True, True))
+    tally.raises("a name for an encoding", TypeError, "encoding: an Encoding is wanted, and not a str", lambda: grid.locate("default", [1, 1]))
+    for name, given in {"encoding": ("v2", target, encoding), "target_encoding": (encoding, target, "v2")}.items():
+        tally.raises(f"a name for {name}", TypeError, f"{name}: an Encoding is wanted, and not a str", lambda: grid.copies(*given))
+    tally.raises("a dict for a target", TypeError, "target: a Grid is wanted, and not a dict", lambda: grid.copies(encoding, REGULAR, encoding))
+    other = "the source and the target have different array shapes"
+    for shape in ([5, 8], [5], [5, 7, 1]):
+        apart = Grid(shape, regular(*shape))
+        tally.raises(f"a target of {shape}", ValueError, other, lambda: grid.copies(encoding, apart, encoding))
+    for walk, count in ((grid.iter_chunk_indices(), 9), (grid.iter_chunk_subsets(), 9), (copied(), 4)):
+        tally.same("a walk is an iterator", (iter(walk) is walk, len([*walk]), [*walk]), (True, count, []))
+    made = [grid.box(...), grid.locate(encoding, [1, 1]), next(copied()), rectilinear.chunk_indices_counted([1, 1])]
+    tally.same("answers are copied", pickle.loads(pickle.dumps(made)), made)
+
+
+def little_memory(tally):
+    """After a call that was out of memory everything answers as before."""
+    source, target, encoding = Grid([10**6], regular(1)), Grid([10**6], regular(10**6)), Encoding("default")
+    listed = Grid([10**6], grid_metadata("rectilinear", [[1] * 10**6]))
+    for call in (lambda: next(source.copies(encoding, target, encoding)), listed.written_metadata, lambda: listed.chunk_origin([10**7])):
+        with at_most(used() + 2**20):
+            found = outcome(call)
+        tally.same("a call under little memory", found[0], MemoryError)
+        tally.same("the next one", (source.chunk_origin([4]), next(source.copies(encoding, source, encoding)).key), ((4,), "c/0"))
+    tally.same("with enough of it", (listed.chunk_origin([10**7]), listed.runs(0)), (None, 1))
+
+
+def python_calls(tally):
+    for group in (by_methods, beside_models, pages, moved, shares, selections, stored, program, typed, values, little_memory):
+        group(tally)
