@@ -4,8 +4,8 @@ than it should.
 
     bindings/test.py
 
-It needs numpy, a C compiler `cc`, and `valgrind`; where one is missing it says so and ends with the status 1. A Rust
-compiler is used where there is one. What is compared:
+It needs numpy, a C compiler `cc`, and `valgrind`; where one is missing it says so and ends with the status 1. Cargo is
+used where it is there. What is compared:
 
 - every vector of `chunkcalls`, through `zarrs_answer`;
 - batches and plans with the same questions one by one, and batches with numpy's own division and `searchsorted`;
@@ -19,7 +19,7 @@ compiler is used where there is one. What is compared:
 - what a call tells of a refusal, walks that are longer than their buffer, and pages (`words_and_bounds.py`);
 - the stack that a call needs, and traps for floats;
 - memory that is refused: under an address space that gets smaller, and allocation by allocation;
-- the examples in C, Python and Rust, the C one under memcheck, and those of the docstrings.
+- the examples in C and Python, the C one under memcheck, those of the docstrings, and the tests of the crate for Rust.
 """
 import argparse
 import ctypes
@@ -45,7 +45,6 @@ from random_arrays import Generator  # noqa: E402
 
 BACKENDS = ("llvm", "rattle")
 REGULAR = regular(2, 3)
-RUST_EXAMPLE = b'Ok([("c/0/0", [1, 1]), ("c/0/1", [1, 2]), ("c/1/0", [2, 1]), ("c/1/1", [2, 2])])\n'
 EXAMPLE = (HERE / "c" / "example.stdout").read_bytes()
 
 
@@ -402,12 +401,10 @@ def examples(tally, backend):
         checked = run(["valgrind", "-q", "--error-exitcode=9", "--leak-check=full", "--show-leak-kinds=all", program])
         tally.same(f"memcheck, {how}", checked, (0, EXAMPLE, ""))
     refused_one_by_one(tally, backend, out / "example_shared")
-    if shutil.which("rustc"):
-        program = out / "example_rust"
-        linked = ["-L", out, "-l", "zarrs_chunks", "-C", f"link-arg=-Wl,-rpath,{out}"]
-        built = run(["rustc", "--edition=2024", HERE / "rust" / "example.rs", *linked, "-o", program])
-        tally.same("rustc", built[0::2], (0, ""))
-        tally.same("the Rust example", run([program]), (0, RUST_EXAMPLE, ""))
+    if shutil.which("cargo"):
+        places = {"ZARRS_CHUNKS_LIB_DIR": str(out), "CARGO_TARGET_DIR": str(out / "cargo")}
+        ended = run(["cargo", "test", "--offline", "--quiet", "--manifest-path", HERE / "rust" / "zarrs_chunks" / "Cargo.toml"], **places)
+        tally.same("the tests of the crate for Rust", (ended[0], ended[2] if ended[0] else ""), (0, ""))
     ended = run([sys.executable, HERE / "python" / "example.py"], PYTHONPATH=str(HERE / "python"))
     tally.same("the Python example", (ended[0], ended[1].endswith(b" 1000000\n"), ended[2]), (0, True, ""))
 

@@ -3,10 +3,10 @@
 
     tools/try_release.py ARCHIVE
 
-The archive is unpacked in a new folder. All that is run there runs without the kit on the path and outside of this repository; where the script is run by root,
-as `nobody`. The sums are compared; each command of the archive's page is run as it stands, and what it prints is compared; the vectors are put to
-`chunkcalls`, to the Python package and to the Rust crate; the documents of the programs, by their examples. Prints how long each step took, and ends with the status 1
-where one fails.
+The archive is unpacked in a new folder. All that is run there runs without the kit on the path and outside of this repository; where the script is run
+by root, as `nobody`. The sums are compared; each command of the archive's page is run as it stands, and what it prints is compared; the vectors are put
+to `chunkcalls`, to the Python package and to the Rust crate, and a document to each other program. Prints how long each step took, and ends with the
+status 1 where one fails.
 """
 import json
 import os
@@ -18,34 +18,12 @@ import tarfile
 import tempfile
 import time
 
-QUESTION = b'{"shape":[4,7],"chunk_grid":{"name":"regular","configuration":{"chunk_shape":[2,3]}},"call":"chunk_indices","of":[3,4]}\n'
 PLAN = b'{"shape":[4],"chunk_grid":{"name":"regular","configuration":{"chunk_shape":[3]}},"chunk_key_encoding":"default","subset":[[1],[3]]}'
 LINES = """\
 {"chunk":[0],"in_chunk":[[1],[2]],"in_subset":[[0],[2]],"key":"c/0","number":0,"of":2,"shape":[3],"whole":false}
 {"chunk":[1],"in_chunk":[[0],[1]],"in_subset":[[2],[1]],"key":"c/1","number":1,"of":2,"shape":[3],"whole":true}
 """
 DOCUMENT = b'{"shape":[6],"chunk_grid":{"name":"regular","configuration":{"chunk_shape":[4]}},"chunk_key_encoding":"v2","indices":[[5]]}'
-# The vectors, put to a call that answers a question: `ask` is one of `zarrs_chunks`.
-ASK_ALL = """
-import json, pathlib
-import zarrs_chunks
-assert "site-packages" in zarrs_chunks.__file__, zarrs_chunks.__file__
-asked = 0
-for path in sorted(pathlib.Path("vectors").glob("*.jsonl")):
-    for line in path.read_text().splitlines():
-        vector = json.loads(line)
-        if "line" in vector:
-            continue
-        question = {name: value for name, value in vector.items() if name not in ("note", "basis", "answer")}
-        answer, wanted = zarrs_chunks.answer(question), vector["answer"]
-        if isinstance(wanted, dict) and len(wanted) == 1 and next(iter(wanted)) in ("refused", "unreadable"):
-            ((kind, words),) = wanted.items()
-            assert answer == f"{kind}: {words}", (line, answer)
-        else:
-            assert json.loads(answer) == wanted, (line, answer)
-        asked += 1
-print(asked)
-"""
 
 
 class Room:
@@ -75,7 +53,7 @@ class Room:
 
 def expect(what, found, wanted):
     if found != wanted:
-        sys.exit(f"tools/try_release.py: {what}: it printed {found[:2000]!r}, and {wanted[:2000]!r} was expected")
+        sys.exit(f"tools/try_release.py: {what}: it printed {str(found)[:2000]!r}, and {str(wanted)[:2000]!r} was expected")
 
 
 def tell(what, seconds):
@@ -93,6 +71,26 @@ def commands_of(page):
     return found
 
 
+def line_of(answer):
+    """The line that tells an answer of the vectors, where that is a refusal; None where it is JSON."""
+    kind = next(iter(answer)) if isinstance(answer, dict) and len(answer) == 1 else None
+    return f"{kind}: {answer[kind]}" if kind in ("refused", "unreadable") else None
+
+
+def all_vectors(room, command):
+    """Puts the vectors to a command that answers a question a line."""
+    vectors = [json.loads(line) for path in sorted((room.folder / "vectors").glob("*.jsonl")) for line in path.read_text().splitlines()]
+    lines = []
+    for vector in vectors:
+        question = {name: value for name, value in vector.items() if name not in ("note", "basis", "answer")}
+        lines.append(vector["line"] if "line" in vector else json.dumps(question))
+    answers, seconds = room.run(command, "".join(f"{line}\n" for line in lines).encode())
+    for vector, answer in zip(vectors, answers.splitlines(), strict=True):
+        told = line_of(vector["answer"])
+        expect(vector["note"], answer if told else json.loads(answer), told or vector["answer"])
+    tell(f"{' '.join(command)}, {len(vectors)} vectors", seconds)
+
+
 def main():
     archive = pathlib.Path(sys.argv[1]).resolve()
     with tempfile.TemporaryDirectory() as made:
@@ -105,25 +103,12 @@ def main():
 def try_all(room):
     folder = room.folder
     version = folder.name.split("-")[2]
-    # The sums.
     room.run(["sh", "-c", "sed -n 's/^\\([0-9a-f]\\{64\\}  .*\\)/\\1/p' PROVED | sha256sum --quiet -c -"])
-    # The programs.
-    begun = time.monotonic()
     for program in ("chunkcalls", "chunkplan"):
         expect(f"{program} --version", room.run([f"bin/{program}", "--version"])[0], f"{version}\n")
     expect("chunkplan, a document", room.run(["bin/chunkplan"], PLAN)[0], LINES)
     expect("chunkwhere, a document", room.run(["bin/chunkwhere"], DOCUMENT)[0], "1 1\n")
-    vectors = [json.loads(line) for path in sorted((folder / "vectors").glob("*.jsonl")) for line in path.read_text().splitlines()]
-    questions = [vector.get("line") or json.dumps({name: vector[name] for name in vector if name not in ("note", "basis", "answer")}) for vector in vectors]
-    answers, _ = room.run(["bin/chunkcalls"], "".join(f"{question}\n" for question in questions).encode())
-    for vector, answer in zip(vectors, answers.splitlines(), strict=True):
-        wanted = vector["answer"]
-        if isinstance(wanted, dict) and len(wanted) == 1 and next(iter(wanted)) in ("refused", "unreadable"):
-            ((kind, words),) = wanted.items()
-            expect(vector["note"], answer, f"{kind}: {words}")
-        else:
-            expect(vector["note"], json.loads(answer), wanted)
-    tell(f"programs, {len(vectors)} vectors", time.monotonic() - begun)
+    all_vectors(room, ["bin/chunkcalls"])
     # The commands of the page, as they stand.
     commands = commands_of((folder / "README.md").read_text())
     found = [heading for heading, _command in commands]
@@ -143,11 +128,11 @@ def try_all(room):
     printed, seconds = room.run(["sh", "-c", python])
     expect("the Python example", printed.endswith(" 1000000\n"), True)
     tell("Python, with its environment", seconds)
-    printed, seconds = room.run(["environment/bin/python", "-c", ASK_ALL])
-    tell(f"Python, {printed.strip()} vectors", seconds)
-    expect("python -m zarrs_chunks", room.run(["environment/bin/python", "-m", "zarrs_chunks"], QUESTION)[0], "[1,1]\n")
+    expect("python -m zarrs_chunks --version", room.run(["environment/bin/python", "-m", "zarrs_chunks", "--version"])[0], f"{version}\n")
+    all_vectors(room, ["environment/bin/python", "-m", "zarrs_chunks"])
+    told = re.search(r"^//! ```text\n(.*?)^//! ```", (folder / "rust/zarrs_chunks/examples/chunks.rs").read_text(), re.MULTILINE | re.DOTALL)
     printed, seconds = room.run(["sh", "-c", rust])
-    expect("the Rust example", bool(printed), True)
+    expect("the Rust example", printed, told[1].replace("//! ", ""))
     tell("Rust, with its build", seconds)
     printed, seconds = room.run(["cargo", "test", "--offline", "--manifest-path", "rust/zarrs_chunks/Cargo.toml"])
     expect("the Rust crate's tests", "test result: ok" in printed and "FAILED" not in printed, True)
