@@ -14,7 +14,7 @@ from . import _library
 from ._answer import refuse
 from ._metadata import Metadata
 from ._numbers import Marks, Numbers, list_of_numbers, longest_level, numbers, whole_number
-from ._prepared import prepared
+from ._prepared import PreparedEncoding
 from ._stored import Description, Stored
 from ._texts import MOST_KEYS, Key, Text, as_bytes, keys_as_bytes
 
@@ -33,8 +33,7 @@ class Encoding:
 
     def __init__(self, chunk_key_encoding: str | Mapping[str, Any]) -> None:
         self._metadata = Metadata("chunk_key_encoding", chunk_key_encoding)
-        # A suffix has a number for each byte besides.
-        self._numbers = prepared("encoding", 3, chunk_key_encoding=self._metadata.text)
+        self._prepared = PreparedEncoding(self._metadata.text)
 
     @classmethod
     def of(cls, array: Stored) -> Encoding:
@@ -102,6 +101,9 @@ class Encoding:
         'c/10/2'
         """
         lists = _chunks(chunks)
+        key = self._prepared.key(lists) if lists.ndim == 1 else None
+        if key is not None:
+            return key
         # An array without items takes no memory, and may yet be very many lists.
         if longest_level(lists.shape[:-1]) > MOST_KEYS:
             raise MemoryError(f"chunks: out of memory: more than {MOST_KEYS} keys or lists of them are wanted at once; `encode_text` gives more")
@@ -167,7 +169,7 @@ class Encoding:
         return chunks, found.view(np.bool_)
 
     def _call(self, name: str, **arguments: Any) -> tuple[int, dict[str, int]]:
-        return _library.call(name, numbers=self._numbers, **arguments)
+        return _library.call(name, numbers=self._prepared.numbers, **arguments)
 
 
 def _chunks(chunks: npt.ArrayLike) -> Numbers:

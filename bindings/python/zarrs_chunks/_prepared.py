@@ -31,6 +31,12 @@ _NAMES = [f"zarrs_prepared_{asked}_of" for asked in ("chunk_indices", "homes", "
 _FOR_FEW = {name: _library.function(name) for name in _NAMES}
 _FOR_MANY = {name: _library.function(name, [kind for kinds in _library.CALLS[name].values() for kind in _TYPES.get(kinds, kinds)]) for name in _NAMES}
 
+# The key of one chunk, with room for those that are usual.
+_KEYS = _library.function("zarrs_prepared_keys_of")
+_USUAL_KEY: Any = ctypes.c_char * 128
+_OFFSETS: Any = _NUMBER * 2
+_USUAL_SIZE, _TWO = _SIZE(128), _SIZE(2)
+
 # From how many numbers on an answer is left as it was allocated, until it is known which lists have none.
 _MANY = 2**12
 
@@ -120,6 +126,26 @@ class PreparedGrid:
             for numbers in answers:
                 numbers[~found] = 0
         return (*answers, found)
+
+
+class PreparedEncoding:
+    """The numbers of an encoding, and the key of one chunk by them. Raises what the library refuses."""
+
+    __slots__ = ("_pointer", "_size", "numbers")
+
+    def __init__(self, chunk_key_encoding: bytes) -> None:
+        # A suffix has a number for each byte besides.
+        self.numbers = prepared("encoding", 3, chunk_key_encoding=chunk_key_encoding)
+        self._pointer, self._size = self.numbers.ctypes.data_as(ctypes.POINTER(_NUMBER)), _SIZE(self.numbers.size)
+
+    def key(self, chunk: Numbers) -> str | None:
+        """The key of a chunk, where it is found at once; None where it has to be asked for as those of many chunks are."""
+        few = _few_lists(chunk.shape)
+        if few is None:
+            return None
+        text, needed = _USUAL_KEY(), _SIZE()
+        code = _KEYS(self._pointer, self._size, few[1], chunk.tobytes(), few[1], text, _USUAL_SIZE, _OFFSETS(), _TWO, ctypes.byref(needed))
+        return text.raw[: needed.value].decode() if code == _library.OK else None
 
 
 @functools.lru_cache(maxsize=256)
