@@ -7,8 +7,8 @@ use crate::library;
 use crate::memory::zeros;
 
 /// The longest text that is asked for, in bytes, and for how long a one there is room at first.
-const LONGEST: usize = 1 << 30;
-const USUAL: usize = 256;
+pub(crate) const LONGEST: usize = 1 << 30;
+pub(crate) const USUAL: usize = 256;
 
 /// The library's answer to any question of `chunkcalls`, as `crates/chunkcalls/CALLING.md` tells
 /// them: what has no method of its own, too.
@@ -33,8 +33,13 @@ const USUAL: usize = 256;
 /// # Ok::<(), zarrs_chunks::Error>(())
 /// ```
 pub fn answer(question: &str) -> Result<String> {
+    line_within(question, (USUAL, LONGEST))
+}
+
+/// The same, where there is room for so many bytes at first, and for so many at most.
+pub(crate) fn line_within(question: &str, room: (usize, usize)) -> Result<String> {
     library::check()?;
-    let (code, mut line) = words_of(|line| calls::answer(question, line))?;
+    let (code, mut line) = text_within(room, |line| calls::answer(question, line))?;
     if code != ffi::OK {
         return Err(Error::of_code(code));
     }
@@ -46,9 +51,15 @@ pub fn answer(question: &str) -> Result<String> {
 
 /// The code of a call that writes a text to a buffer and tells how long it is, and the text. It is
 /// given as much room as it needs.
-pub(crate) fn words_of(mut call: impl FnMut(&mut [u8]) -> (i32, usize)) -> Result<(i32, String)> {
-    let mut length = USUAL;
-    while length <= LONGEST {
+pub(crate) fn words_of(call: impl FnMut(&mut [u8]) -> (i32, usize)) -> Result<(i32, String)> {
+    text_within((USUAL, LONGEST), call)
+}
+
+fn text_within(
+    (mut length, longest): (usize, usize),
+    mut call: impl FnMut(&mut [u8]) -> (i32, usize),
+) -> Result<(i32, String)> {
+    while length <= longest {
         let mut text = zeros(length)?;
         let (code, needed) = call(&mut text);
         if code == ffi::OUT_OF_MEMORY {
@@ -62,5 +73,5 @@ pub(crate) fn words_of(mut call: impl FnMut(&mut [u8]) -> (i32, usize)) -> Resul
         // The greatest number says that the length isn't known: so twice as much is tried.
         length = if needed == usize::MAX { 2 * length } else { needed };
     }
-    Err(Error::TooLong { most: LONGEST })
+    Err(Error::TooLong { most: longest })
 }

@@ -3,12 +3,15 @@
 use std::fmt;
 
 use crate::calls;
+use crate::copies::Copies;
 use crate::encoding::Encoding;
 use crate::error::{Error, Result};
 use crate::ffi;
 use crate::library;
 use crate::memory::{copy_of, text_of, zeros};
 use crate::parts::Parts;
+use crate::questions::{self, Member};
+use crate::reader::Reader;
 use crate::subset::ArraySubset;
 use crate::walks::{ChunkIndices, ChunkIndicesAndSubsets, ChunkSubsets};
 
@@ -17,9 +20,9 @@ use crate::walks::{ChunkIndices, ChunkIndicesAndSubsets, ChunkSubsets};
 /// Sizes, indices, origins, shapes and places count elements. Chunks are numbered from 0 along each
 /// dimension. All numbers go from 0 to 18446744073709551615, and no sum or product wraps.
 ///
-/// A grid prepares itself once, as numbers: so no call reads JSON, but for each page of a plan or
-/// of a walk. It never changes, and any number of threads may ask it at once. Two are equal that
-/// were made of the same shape and the same text.
+/// A grid prepares itself once, as numbers: so no call reads JSON, but for each page of a plan, of
+/// a rechunking or of a walk, and for [questions](Grid#questions). It never changes, and any number
+/// of threads may ask it at once. Two are equal that were made of the same shape and the same text.
 ///
 /// # Batches
 ///
@@ -28,6 +31,13 @@ use crate::walks::{ChunkIndices, ChunkIndicesAndSubsets, ChunkSubsets};
 /// as many numbers for each list as the grid has dimensions. In `found` a list has `true` where
 /// there is an answer to it. Where there is none, its numbers in the answer's slices stay as they
 /// were. After an error these slices hold anything.
+///
+/// # Questions
+///
+/// A few methods ask as [`answer`](crate::answer) does, by a question that has the grid's text.
+/// So they make the grid anew: of a grid with very many listed edges that takes milliseconds. Where
+/// the text nests 127 deep, it is one deeper in a question than JSON is read, and the error is
+/// [`Error::Refused`].
 ///
 /// # Example
 ///
@@ -70,6 +80,54 @@ pub struct Home {
     pub chunk: Vec<u64>,
     /// The element's place there, counted from the chunk's first element.
     pub place: Vec<u64>,
+}
+
+/// Where an element is stored: in which chunk, where in it, and under which key. Both lists have a
+/// number for each dimension. [`Grid::locate`] makes it.
+///
+/// # Example
+///
+/// ```
+/// use zarrs_chunks::{Encoding, Grid};
+///
+/// let chunk_grid = r#"{"name":"regular","configuration":{"chunk_shape":[2,3]}}"#;
+/// let (grid, encoding) = (Grid::new(&[5, 7], chunk_grid)?, Encoding::new(r#""default""#)?);
+/// let located = grid.locate(&encoding, &[4, 5])?.unwrap();
+/// assert_eq!((located.chunk, located.place), (vec![2, 1], vec![0, 2]));
+/// assert_eq!(located.key, "c/2/1");
+/// # Ok::<(), zarrs_chunks::Error>(())
+/// ```
+#[derive(Debug, Clone, PartialEq, Eq, Hash)]
+#[non_exhaustive]
+pub struct Located {
+    /// The chunk that holds the element.
+    pub chunk: Vec<u64>,
+    /// The element's place there, counted from the chunk's first element.
+    pub place: Vec<u64>,
+    /// The key of the chunk.
+    pub key: String,
+}
+
+/// What a look-up finds, and what it takes. [`Grid::chunk_indices_counted`] makes it.
+///
+/// # Example
+///
+/// ```
+/// use zarrs_chunks::Grid;
+///
+/// let chunk_grid = r#"{"name":"rectilinear",
+///     "configuration":{"kind":"inline","chunk_shapes":[[[5,3],[15,2],20,35]]}}"#;
+/// let counted = Grid::new(&[100], chunk_grid)?.chunk_indices_counted(&[99])?;
+/// assert_eq!((counted.chunk, counted.comparisons), (Some(vec![6]), 2));
+/// # Ok::<(), zarrs_chunks::Error>(())
+/// ```
+#[derive(Debug, Clone, PartialEq, Eq, Hash)]
+#[non_exhaustive]
+pub struct Counted {
+    /// The chunk; `None` where no chunk holds the element.
+    pub chunk: Option<Vec<u64>>,
+    /// How many comparisons the look-up makes.
+    pub comparisons: u64,
 }
 
 impl Grid {
@@ -250,6 +308,88 @@ impl Grid {
         Ok(is_found(found).then_some(Home { chunk, place }))
     }
 
+    /// Where an element is stored: its chunk, its place there, and the chunk's key; `None` where no
+    /// chunk holds it.
+    ///
+    /// # Errors
+    ///
+    /// Those of [`chunk_indices`](Grid::chunk_indices).
+    ///
+    /// # Example
+    ///
+    /// ```
+    /// use zarrs_chunks::{Encoding, Grid};
+    ///
+    /// let chunk_grid = r#"{"name":"regular","configuration":{"chunk_shape":[2,3]}}"#;
+    /// let (grid, encoding) = (Grid::new(&[5, 7], chunk_grid)?, Encoding::new(r#""default""#)?);
+    /// assert_eq!(grid.locate(&encoding, &[4, 5])?.unwrap().key, "c/2/1");
+    /// # Ok::<(), zarrs_chunks::Error>(())
+    /// ```
+    pub fn locate(&self, encoding: &Encoding, indices: &[u64]) -> Result<Option<Located>> {
+        let home = self.find_home(indices)?;
+        let located = home.map(|Home { chunk, place }| {
+            let key = encoding.encode(&chunk)?;
+            Ok(Located { chunk, place, key })
+        });
+        located.transpose()
+    }
+
+    /// The chunk that holds an element of a `rectilinear` grid, and how many comparisons it takes
+    /// to look it up. It is [a question](Grid#questions).
+    ///
+    /// # Errors
+    ///
+    /// [`Error::Refused`] where the grid has another name; those of
+    /// [`chunk_indices`](Grid::chunk_indices).
+    ///
+    /// # Example
+    ///
+    /// ```
+    /// use zarrs_chunks::Grid;
+    ///
+    /// let chunk_grid = r#"{"name":"rectilinear",
+    ///     "configuration":{"kind":"inline","chunk_shapes":[[[5,3],[15,2],20,35]]}}"#;
+    /// let counted = Grid::new(&[100], chunk_grid)?.chunk_indices_counted(&[99])?;
+    /// assert_eq!((counted.chunk, counted.comparisons), (Some(vec![6]), 2));
+    /// # Ok::<(), zarrs_chunks::Error>(())
+    /// ```
+    pub fn chunk_indices_counted(&self, indices: &[u64]) -> Result<Counted> {
+        self.check_one("indices", indices.len())?;
+        questions::ask(self, "chunk_indices_counted", &[("of", Member::List(indices))], |reader| {
+            reader.expect("{\"answer\":")?;
+            let chunk = reader.optional(Reader::list)?;
+            reader.expect(",\"comparisons\":")?;
+            let comparisons = reader.number()?;
+            reader.expect("}")?;
+            Ok(Counted { chunk, comparisons })
+        })
+    }
+
+    /// Whether an element lies in the array: below its size along each dimension. Along a dimension
+    /// of size 0 all do, and where edges are listed there, those that lie in a chunk. A list that
+    /// has not one number for each dimension is none of an element. It is
+    /// [a question](Grid#questions).
+    ///
+    /// # Errors
+    ///
+    /// [`Error::OutOfMemory`].
+    ///
+    /// # Example
+    ///
+    /// ```
+    /// use zarrs_chunks::Grid;
+    ///
+    /// let chunk_grid = r#"{"name":"regular","configuration":{"chunk_shape":[2,3]}}"#;
+    /// let grid = Grid::new(&[5, 7], chunk_grid)?;
+    /// assert!(grid.array_indices_inbounds(&[4, 6])?);
+    /// assert!(!grid.array_indices_inbounds(&[5, 0])?);
+    /// # Ok::<(), zarrs_chunks::Error>(())
+    /// ```
+    pub fn array_indices_inbounds(&self, indices: &[u64]) -> Result<bool> {
+        let members = [("of", Member::List(indices))];
+        questions::ask(self, "array_indices_inbounds", &members, |reader| reader.truth())
+    }
+
     /// The box of a chunk, in elements; `None` where there is no such chunk, or it ends past
     /// 18446744073709551615.
     ///
@@ -274,6 +414,113 @@ impl Grid {
         let mut found = [0];
         answered(calls::chunk_boxes_of(&self.numbers, chunk, &mut start, &mut shape, &mut found))?;
         is_found(found).then(|| ArraySubset::of_answer(start, shape)).transpose()
+    }
+
+    /// How many elements a chunk has along each dimension; `None` where there is no such chunk. Of
+    /// a chunk without a box it is [a question](Grid#questions).
+    ///
+    /// # Errors
+    ///
+    /// Those of [`subset`](Grid::subset).
+    ///
+    /// # Example
+    ///
+    /// ```
+    /// use zarrs_chunks::Grid;
+    ///
+    /// let bounded = r#"{"name":"zarrs.regular_bounded","configuration":{"chunk_shape":[2,3]}}"#;
+    /// let grid = Grid::new(&[5, 7], bounded)?;
+    /// assert_eq!(grid.chunk_shape(&[2, 2])?, Some(vec![1, 1]));
+    /// assert_eq!(grid.chunk_shape(&[3, 0])?, None);
+    /// # Ok::<(), zarrs_chunks::Error>(())
+    /// ```
+    pub fn chunk_shape(&self, chunk: &[u64]) -> Result<Option<Vec<u64>>> {
+        match self.subset(chunk)? {
+            Some(subset) => Ok(Some(subset.into_lists().1)),
+            None => self.of_chunk("chunk_shape", chunk),
+        }
+    }
+
+    /// The first element of a chunk; `None` where there is no such chunk, or it begins past
+    /// 18446744073709551615. Of a chunk without a box it is [a question](Grid#questions).
+    ///
+    /// # Errors
+    ///
+    /// Those of [`subset`](Grid::subset).
+    ///
+    /// # Example
+    ///
+    /// ```
+    /// use zarrs_chunks::Grid;
+    ///
+    /// let chunk_grid = r#"{"name":"regular","configuration":{"chunk_shape":[2,3]}}"#;
+    /// let grid = Grid::new(&[5, 7], chunk_grid)?;
+    /// assert_eq!(grid.chunk_origin(&[2, 2])?, Some(vec![4, 6]));
+    /// assert_eq!(grid.chunk_origin(&[1 << 63, 0])?, None);
+    /// # Ok::<(), zarrs_chunks::Error>(())
+    /// ```
+    pub fn chunk_origin(&self, chunk: &[u64]) -> Result<Option<Vec<u64>>> {
+        match self.subset(chunk)? {
+            Some(subset) => Ok(Some(subset.into_lists().0)),
+            None => self.of_chunk("chunk_origin", chunk),
+        }
+    }
+
+    /// A list that a question tells of a chunk.
+    fn of_chunk(&self, call: &str, chunk: &[u64]) -> Result<Option<Vec<u64>>> {
+        questions::ask(self, call, &[("of", Member::List(chunk))], |reader| {
+            reader.optional(Reader::list)
+        })
+    }
+
+    /// Whether a chunk is among those that are counted: below the grid's shape along each
+    /// dimension. Along a dimension without chunks all are. A list that has not one number for each
+    /// dimension is none of a chunk. It is [a question](Grid#questions).
+    ///
+    /// # Errors
+    ///
+    /// [`Error::OutOfMemory`].
+    ///
+    /// # Example
+    ///
+    /// ```
+    /// use zarrs_chunks::Grid;
+    ///
+    /// let chunk_grid = r#"{"name":"regular","configuration":{"chunk_shape":[2,3]}}"#;
+    /// let grid = Grid::new(&[5, 7], chunk_grid)?;
+    /// assert!(grid.chunk_indices_inbounds(&[2, 2])?);
+    /// assert!(!grid.chunk_indices_inbounds(&[3, 0])?);
+    /// # Ok::<(), zarrs_chunks::Error>(())
+    /// ```
+    pub fn chunk_indices_inbounds(&self, chunk: &[u64]) -> Result<bool> {
+        let members = [("of", Member::List(chunk))];
+        questions::ask(self, "chunk_indices_inbounds", &members, |reader| reader.truth())
+    }
+
+    /// The box of elements that a box of chunks holds. That of an empty box is empty. `None` where
+    /// the first or the last chunk of the box has no box. It is [a question](Grid#questions).
+    ///
+    /// # Errors
+    ///
+    /// [`Error::WrongLength`] where the box has another number of dimensions than the grid;
+    /// [`Error::OutOfMemory`].
+    ///
+    /// # Example
+    ///
+    /// ```
+    /// use zarrs_chunks::{ArraySubset, Grid};
+    ///
+    /// let bounded = r#"{"name":"zarrs.regular_bounded","configuration":{"chunk_shape":[2,3]}}"#;
+    /// let grid = Grid::new(&[5, 7], bounded)?;
+    /// let elements = grid.chunks_subset(&ArraySubset::new_with_ranges(&[1..3, 1..3])?)?;
+    /// assert_eq!(elements, Some(ArraySubset::new_with_ranges(&[2..5, 3..7])?));
+    /// # Ok::<(), zarrs_chunks::Error>(())
+    /// ```
+    pub fn chunks_subset(&self, chunks: &ArraySubset) -> Result<Option<ArraySubset>> {
+        self.check_one("chunks", chunks.dimensionality())?;
+        questions::ask(self, "chunks_subset", &[("of", Member::Box(chunks))], |reader| {
+            reader.optional(Reader::subset)
+        })
     }
 
     /// The cover of a box of elements: the box of the chunks that hold some of them. That of an
@@ -491,6 +738,102 @@ impl Grid {
     ) -> Result<Option<Parts<'a>>> {
         self.check_one("subset", subset.dimensionality())?;
         Parts::new(self, encoding, subset)
+    }
+
+    /// The rechunking of an array: what is copied into each chunk of the target that holds elements
+    /// of the array, in row-major order of these chunks. This grid and the first encoding are those
+    /// by which the array is stored, the other two those by which it is to be stored.
+    /// [`within`](Copies::within) leaves those chunks of the target that lie in a box.
+    ///
+    /// The rechunking is read page by page, so it takes little memory, however long it is.
+    ///
+    /// # Errors
+    ///
+    /// [`Error::OtherShape`] where the target is a grid of an array of another shape;
+    /// [`Error::OutOfMemory`]; [`Error::Refused`] where the texts nest too deep for
+    /// [a question](Grid#questions), in which those of the target stand one deeper than the others.
+    ///
+    /// # Example
+    ///
+    /// ```
+    /// use zarrs_chunks::{Encoding, Grid};
+    ///
+    /// let three = r#"{"name":"regular","configuration":{"chunk_shape":[3]}}"#;
+    /// let two = r#"{"name":"regular","configuration":{"chunk_shape":[2]}}"#;
+    /// let (grid, target) = (Grid::new(&[4], three)?, Grid::new(&[4], two)?);
+    /// let encodings = [Encoding::new(r#""default""#)?, Encoding::new(r#""v2""#)?];
+    /// let mut lines = Vec::new();
+    /// for copies in grid.copies(&encodings[0], &target, &encodings[1])? {
+    ///     let copies = copies?;
+    ///     for source in &copies.sources {
+    ///         // The elements `source.in_chunk` of the chunk under `source.key` go to the places
+    ///         // `source.in_target` of the one under `copies.key`.
+    ///         lines.push(format!("{} from {}", copies.key, source.key));
+    ///     }
+    /// }
+    /// assert_eq!(lines, ["0 from c/0", "1 from c/0", "1 from c/1"]);
+    /// # Ok::<(), zarrs_chunks::Error>(())
+    /// ```
+    pub fn copies<'a>(
+        &'a self,
+        encoding: &'a Encoding,
+        target: &'a Grid,
+        target_encoding: &'a Encoding,
+    ) -> Result<Copies<'a>> {
+        Copies::new((self, encoding), (target, target_encoding))
+    }
+
+    /// How many runs of equal edges the chunks of a `rectilinear` grid are along a dimension,
+    /// counted from 0; `None` where there is no such dimension, or where all its chunks have one
+    /// edge. It is [a question](Grid#questions).
+    ///
+    /// # Errors
+    ///
+    /// [`Error::Refused`] where the grid has another name; [`Error::OutOfMemory`].
+    ///
+    /// # Example
+    ///
+    /// ```
+    /// use zarrs_chunks::Grid;
+    ///
+    /// let chunk_grid = r#"{"name":"rectilinear",
+    ///     "configuration":{"kind":"inline","chunk_shapes":[[[5,3],[15,2],20,35]]}}"#;
+    /// let grid = Grid::new(&[100], chunk_grid)?;
+    /// assert_eq!((grid.runs(0)?, grid.runs(1)?), (Some(4), None));
+    /// let chunk_grid = r#"{"name":"regular","configuration":{"chunk_shape":[2]}}"#;
+    /// let refused = Grid::new(&[100], chunk_grid)?.runs(0).unwrap_err();
+    /// assert_eq!(refused.to_string(), "there is no call `runs`");
+    /// # Ok::<(), zarrs_chunks::Error>(())
+    /// ```
+    pub fn runs(&self, dimension: usize) -> Result<Option<u64>> {
+        let members = [("of", Member::Number(dimension as u64))];
+        questions::ask(self, "runs", &members, |reader| reader.optional(Reader::number))
+    }
+
+    /// The `chunk_grid` as the library writes it for a `zarr.json`, as JSON text: with a name and a
+    /// configuration and nothing else, and listed edges of a `rectilinear` grid in runs.
+    /// [`chunk_grid`](Grid::chunk_grid) is the text that was given. It is
+    /// [a question](Grid#questions).
+    ///
+    /// # Errors
+    ///
+    /// [`Error::OutOfMemory`]; [`Error::TooLong`] where the text has more than 1073741823 bytes.
+    ///
+    /// # Example
+    ///
+    /// ```
+    /// use zarrs_chunks::Grid;
+    ///
+    /// let chunk_grid = r#"{"name":"rectilinear",
+    ///     "configuration":{"kind":"inline","chunk_shapes":[[5,5,[7,1]]]}}"#;
+    /// assert_eq!(
+    ///     Grid::new(&[17], chunk_grid)?.written_metadata()?,
+    ///     r#"{"configuration":{"chunk_shapes":[[[5,2],7]],"kind":"inline"},"name":"rectilinear"}"#
+    /// );
+    /// # Ok::<(), zarrs_chunks::Error>(())
+    /// ```
+    pub fn written_metadata(&self) -> Result<String> {
+        questions::line(self, "metadata", &[])
     }
 
     /// All chunks that are counted, in row-major order.

@@ -37,9 +37,10 @@
 //!
 //! [`Grid`] answers for elements, chunks and boxes of them, and [`Encoding`] for keys: of one list
 //! by methods with the names that zarrs has, of many lists at once in batches, which write into
-//! slices of the caller's. [`Grid::parts`] is the plan of reading a box, and the three `iter_`
-//! methods walk over all chunks; they read page by page. [`answer`] takes any question of the
-//! library as text.
+//! slices of the caller's. [`Grid::parts`] is the plan of reading a box, [`Grid::copies`] the
+//! rechunking of an array, and the three `iter_` methods walk over all chunks; they read page by
+//! page. [`answer`] takes any question of the library as text. Some methods ask so themselves, and
+//! [say so](Grid#questions).
 //!
 //! Sizes, indices, origins, shapes and places count elements. Chunks are numbered from 0 along each
 //! dimension. Numbers are `u64`; no sum or product wraps. An array may have any number of
@@ -50,6 +51,10 @@
 //! What the library refuses is told in its own words by an [`Error`]. Too little memory is one too,
 //! and nothing panics; `clone` alone takes memory as all of `std` does. After an error everything
 //! can be used as before.
+//!
+//! An item of an iterator may be an error, and is the last one then. `skip` of some versions of
+//! Rust, as 1.63, drops the item before the first one that it gives, and an error with it:
+//! [`nth`](Iterator::nth) tells it.
 //!
 //! # Threads
 //!
@@ -71,6 +76,7 @@
 mod answers;
 #[allow(unsafe_code)]
 mod calls;
+mod copies;
 mod encoding;
 mod error;
 mod ffi;
@@ -80,13 +86,16 @@ mod library;
 mod memory;
 mod pages;
 mod parts;
+mod questions;
+mod reader;
 mod subset;
 mod walks;
 
 pub use answers::answer;
+pub use copies::{ChunkCopies, Copies, Source};
 pub use encoding::Encoding;
 pub use error::{Error, Result};
-pub use grid::{Grid, Home};
+pub use grid::{Counted, Grid, Home, Located};
 pub use keys::Keys;
 pub use library::{abi_version, version, ABI_VERSION, STACK};
 pub use parts::{Part, Parts};

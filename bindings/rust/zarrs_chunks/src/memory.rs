@@ -26,12 +26,26 @@ pub(crate) fn append<T: Copy>(list: &mut Vec<T>, items: &[T]) -> Result<()> {
     Ok(())
 }
 
+/// Puts an item behind those of a list.
+pub(crate) fn push<T>(list: &mut Vec<T>, item: T) -> Result<()> {
+    list.try_reserve(1).map_err(|_| Error::OutOfMemory)?;
+    list.push(item);
+    Ok(())
+}
+
 /// A copy of a text.
 pub(crate) fn text_of(text: &str) -> Result<String> {
     let mut copy = String::new();
     copy.try_reserve_exact(text.len()).map_err(|_| Error::OutOfMemory)?;
     copy.push_str(text);
     Ok(copy)
+}
+
+/// Puts a piece behind a text.
+pub(crate) fn add(text: &mut String, piece: &str) -> Result<()> {
+    text.try_reserve(piece.len()).map_err(|_| Error::OutOfMemory)?;
+    text.push_str(piece);
+    Ok(())
 }
 
 /// A text that is written piece by piece.
@@ -62,8 +76,6 @@ impl Text {
 
 impl fmt::Write for Text {
     fn write_str(&mut self, piece: &str) -> fmt::Result {
-        self.0.try_reserve(piece.len()).map_err(|_| fmt::Error)?;
-        self.0.push_str(piece);
-        Ok(())
+        add(&mut self.0, piece).map_err(|_| fmt::Error)
     }
 }

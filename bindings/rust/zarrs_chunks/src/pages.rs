@@ -59,6 +59,11 @@ impl Pages {
         self.room = self.room.saturating_mul(2).min(self.most);
     }
 
+    /// Lets the next page have so many items, where that isn't more than a page has at most.
+    pub(crate) fn limit(&mut self, room: usize) {
+        self.room = room.clamp(1, self.most);
+    }
+
     /// Leaves so many items out.
     pub(crate) fn skip(&mut self, count: usize) {
         let held = self.held - self.given;
@@ -81,4 +86,46 @@ impl Pages {
 /// How many items an iterator gives, where it may end with an error before its end.
 pub(crate) fn size_hint(left: u64) -> (usize, Option<usize>) {
     (usize::from(left > 0), usize::try_from(left).ok())
+}
+
+/// How many lists of numbers there are below these sizes, and 18446744073709551615 where there are
+/// more.
+pub(crate) fn count_of(sizes: &[u64]) -> u64 {
+    sizes.iter().fold(1, |count: u64, size| count.saturating_mul(*size))
+}
+
+#[cfg(test)]
+mod tests {
+    use super::{count_of, Pages};
+
+    #[test]
+    fn a_page_has_as_many_items_as_it_may() {
+        let mut pages = Pages::new(u64::MAX, 4);
+        let mut rooms = Vec::new();
+        for _ in 0..10 {
+            let (_, wanted) = pages.wanted().unwrap();
+            pages.turn(wanted, wanted);
+            rooms.push(wanted);
+        }
+        assert_eq!(rooms, [16, 32, 64, 128, 256, 512, 1024, 2048, 4096, 4096]);
+        // The next page alone has fewer.
+        pages.limit(0);
+        assert_eq!(pages.wanted(), Some((12_272, 1)));
+        pages.turn(1, 1);
+        assert_eq!(pages.wanted(), Some((12_273, 2)));
+        pages.limit(usize::MAX);
+        assert_eq!(pages.wanted(), Some((12_273, 4096)));
+        pages.skip(usize::MAX);
+        assert_eq!((pages.wanted(), pages.left()), (None, 0));
+    }
+
+    #[test]
+    fn lists_are_counted_as_far_as_numbers_go() {
+        assert_eq!(count_of(&[]), 1);
+        assert_eq!(count_of(&[3, 4, 5]), 60);
+        assert_eq!(count_of(&[1 << 32, 1 << 31]), 1 << 63);
+        assert_eq!(count_of(&[1 << 32, 1 << 32]), u64::MAX);
+        assert_eq!(count_of(&[u64::MAX, u64::MAX, 0]), 0);
+        assert_eq!(count_of(&[0, u64::MAX, u64::MAX]), 0);
+    }
 }

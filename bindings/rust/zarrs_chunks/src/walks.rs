@@ -3,11 +3,12 @@
 use std::fmt;
 use std::iter::FusedIterator;
 
-use crate::answers::answer;
 use crate::error::{Error, Result};
 use crate::grid::Grid;
-use crate::memory::{append, copy_of, Text};
+use crate::memory::copy_of;
 use crate::pages::{self, Pages};
+use crate::questions::{self, Member};
+use crate::reader::Reader;
 use crate::subset::ArraySubset;
 
 /// What an item of a walk is: by which call the library gives it, and how many lists it has.
@@ -34,6 +35,27 @@ impl Kind {
             Kind::ChunkAndSubset => 3,
         }
     }
+
+    /// Reads an item, and puts its numbers behind others.
+    fn read(self, reader: &mut Reader<'_>, numbers: &mut Vec<u64>) -> Result<()> {
+        match self {
+            Kind::Chunk => reader.list_onto(numbers),
+            Kind::Subset => {
+                reader.expect("[")?;
+                reader.list_onto(numbers)?;
+                reader.expect(",")?;
+                reader.list_onto(numbers)?;
+                reader.expect("]")
+            }
+            Kind::ChunkAndSubset => {
+                reader.expect("[")?;
+                reader.list_onto(numbers)?;
+                reader.expect(",")?;
+                Kind::Subset.read(reader, numbers)?;
+                reader.expect("]")
+            }
+        }
+    }
 }
 
 /// A walk that is read page by page.
@@ -48,8 +70,7 @@ struct Walk<'a> {
 
 impl<'a> Walk<'a> {
     fn new(grid: &'a Grid, kind: Kind) -> Walk<'a> {
-        let sizes = grid.grid_shape().iter();
-        let in_all = sizes.fold(1, |count: u64, size| count.saturating_mul(*size));
+        let in_all = pages::count_of(grid.grid_shape());
         let pages = Pages::new(in_all, grid.dimensionality().saturating_mul(kind.lists()));
         Walk { grid, kind, pages, page: Vec::new() }
     }
@@ -76,20 +97,14 @@ impl<'a> Walk<'a> {
 
     /// Goes to the page of the items of so many chunks from this one on.
     fn turn(&mut self, first: u64, wanted: usize) -> Result<()> {
-        let mut question = Text::default();
-        question.add(format_args!("{{\"call\":\"{}\",\"shape\":", self.kind.call()))?;
-        question.add_list(self.grid.array_shape())?;
-        question.add(format_args!(",\"chunk_grid\":{}", self.grid.chunk_grid()))?;
-        question.add(format_args!(",\"items\":{wanted},\"first\":{first}}}"))?;
-        let line = answer(question.as_str())?;
-        self.page.clear();
-        let mut reader = Reader { rest: &line, dimensionality: self.grid.dimensionality() };
-        let held = match reader.items(self.kind, &mut self.page)? {
-            Some(held) => held,
-            None => return Err(Error::of_answer(&line)),
-        };
+        let (kind, page) = (self.kind, &mut self.page);
+        page.clear();
+        let members = [("items", Member::Number(wanted as u64)), ("first", Member::Number(first))];
+        let (held, _) = questions::ask(self.grid, kind.call(), &members, |reader| {
+            reader.items(|reader| kind.read(reader, page))
+        })?;
         // Chunks without a box are passed over where boxes are asked for.
-        if held > wanted || (self.kind == Kind::Chunk && held < wanted) {
+        if held > wanted || (kind == Kind::Chunk && held < wanted) {
             return Err(Error::of_answer("another number of items than there are"));
         }
         self.pages.turn(wanted, held);
@@ -99,86 +114,6 @@ impl<'a> Walk<'a> {
     fn fmt(&self, name: &str, formatter: &mut fmt::Formatter<'_>) -> fmt::Result {
         let mut shown = formatter.debug_struct(name);
         shown.field("grid", self.grid).field("left", &self.pages.left()).finish()
-    }
-}
-
-/// Reads the numbers of the answer of a walk: `{"items":[[0,0],[0,1]],"more":true}`.
-struct Reader<'a> {
-    rest: &'a str,
-    dimensionality: usize,
-}
-
-impl Reader<'_> {
-    /// Puts the numbers of all items behind the others. Tells how many items there are, or `None`
-    /// where the text is no such answer.
-    fn items(&mut self, kind: Kind, numbers: &mut Vec<u64>) -> Result<Option<usize>> {
-        if !self.reads("{\"items\":[") {
-            return Ok(None);
-        }
-        let mut count = 0;
-        while !self.reads("]") {
-            if (count > 0 && !self.reads(",")) || !self.item(kind, numbers)? {
-                return Ok(None);
-            }
-            count += 1;
-        }
-        let is_end = self.reads(",\"more\":true}") || self.reads(",\"more\":false}");
-        Ok((is_end && self.rest.is_empty()).then_some(count))
-    }
-
-    fn item(&mut self, kind: Kind, numbers: &mut Vec<u64>) -> Result<bool> {
-        match kind {
-            Kind::Chunk => self.list(numbers),
-            Kind::Subset => self.subset(numbers),
-            Kind::ChunkAndSubset => Ok(self.reads("[")
-                && self.list(numbers)?
-                && self.reads(",")
-                && self.subset(numbers)?
-                && self.reads("]")),
-        }
-    }
-
-    fn subset(&mut self, numbers: &mut Vec<u64>) -> Result<bool> {
-        Ok(self.reads("[")
-            && self.list(numbers)?
-            && self.reads(",")
-            && self.list(numbers)?
-            && self.reads("]"))
-    }
-
-    /// A list with a number for each dimension.
-    fn list(&mut self, numbers: &mut Vec<u64>) -> Result<bool> {
-        if !self.reads("[") {
-            return Ok(false);
-        }
-        for position in 0..self.dimensionality {
-            if position > 0 && !self.reads(",") {
-                return Ok(false);
-            }
-            match self.number() {
-                Some(number) => append(numbers, &[number])?,
-                None => return Ok(false),
-            }
-        }
-        Ok(self.reads("]"))
-    }
-
-    fn number(&mut self) -> Option<u64> {
-        let end = self.rest.find(|letter: char| !letter.is_ascii_digit())?;
-        let (digits, rest) = self.rest.split_at(end);
-        self.rest = rest;
-        digits.parse().ok()
-    }
-
-    /// Whether a text follows, and reads it.
-    fn reads(&mut self, text: &str) -> bool {
-        match self.rest.strip_prefix(text) {
-            Some(rest) => {
-                self.rest = rest;
-                true
-            }
-            None => false,
-        }
     }
 }
 

@@ -9,8 +9,9 @@ use std::thread;
 use common::GREATEST;
 use common::{default_key, great_models, json, small_models, wide_model, Axis, Model, Numbers};
 use zarrs_chunks::{
-    abi_version, answer, ArraySubset, ChunkIndices, ChunkIndicesAndSubsets, ChunkSubsets, Encoding,
-    Error, Grid, Home, Keys, Part, Parts, ABI_VERSION, STACK,
+    abi_version, answer, ArraySubset, ChunkCopies, ChunkIndices, ChunkIndicesAndSubsets,
+    ChunkSubsets, Copies, Counted, Encoding, Error, Grid, Home, Keys, Located, Part, Parts, Source,
+    ABI_VERSION, STACK,
 };
 
 const LEFT: u64 = 7; // what slices hold before a call
@@ -108,7 +109,7 @@ fn a_grid_tells_its_shapes() {
 
 #[test]
 fn elements_have_the_chunks_and_places_of_arithmetic() {
-    let mut found_in_all = 0;
+    let (mut found_in_all, encoding) = (0, encoding_of("default"));
     for model in all_models() {
         let (grid, width) = (grid_of(&model), model.dimensionality());
         let indices = lists_of(&model, 60, false);
@@ -120,6 +121,23 @@ fn elements_have_the_chunks_and_places_of_arithmetic() {
             assert_eq!(grid.chunk_element_indices(index).unwrap(), place, "{model:?} {index:?}");
             let found = grid.find_home(index).unwrap();
             assert_eq!(found.map(|Home { chunk, place, .. }| (chunk, place)), *home);
+            let located = grid.locate(&encoding, index).unwrap();
+            let located = located.map(|Located { chunk, place, key, .. }| (chunk, place, key));
+            let expected = home.clone().map(|(chunk, place)| {
+                let key = default_key(&chunk);
+                (chunk, place, key)
+            });
+            assert_eq!(located, expected);
+            let is_in = grid.array_indices_inbounds(index).unwrap();
+            assert_eq!(is_in, model.has_element(index), "{model:?} {index:?}");
+            match grid.chunk_indices_counted(index) {
+                Ok(counted) => assert_eq!((&counted.chunk, model.name), (&chunk, "rectilinear")),
+                Err(error) => {
+                    let words = "there is no call `chunk_indices_counted`".to_owned();
+                    assert_eq!(error, Error::Refused { words });
+                    assert_ne!(model.name, "rectilinear");
+                }
+            }
             let (chunk, place) = (chunk.as_deref().map(json), place.as_deref().map(json));
             assert_eq!(answered(&model, "chunk_indices", &json(index)), or_null(chunk));
             assert_eq!(answered(&model, "chunk_element_indices", &json(index)), or_null(place));
@@ -160,6 +178,11 @@ fn chunks_have_the_boxes_of_arithmetic() {
             assert_eq!(found, *expected, "{model:?} {chunk:?}");
             let expected = expected.as_ref().map(text_of_box);
             assert_eq!(answered(&model, "subset", &json(chunk)), or_null(expected));
+            let (origin, shape) = (model.chunk_origin(chunk), model.chunk_shape(chunk));
+            assert_eq!(grid.chunk_origin(chunk).unwrap(), origin, "{model:?} {chunk:?}");
+            assert_eq!(grid.chunk_shape(chunk).unwrap(), shape, "{model:?} {chunk:?}");
+            let is_in = grid.chunk_indices_inbounds(chunk).unwrap();
+            assert_eq!(is_in, model.has_chunk(chunk), "{model:?} {chunk:?}");
         }
         let starts: Vec<_> = boxes.iter().map(|of| of.clone().map(|(start, _)| start)).collect();
         let sizes: Vec<_> = boxes.iter().map(|of| of.clone().map(|(_, shape)| shape)).collect();
@@ -173,6 +196,90 @@ fn chunks_have_the_boxes_of_arithmetic() {
         found_in_all += found.iter().filter(|is_found| **is_found).count();
     }
     assert!(found_in_all > 300, "{found_in_all} chunks were found");
+}
+
+#[test]
+fn boxes_of_chunks_have_the_elements_of_arithmetic() {
+    let (mut asked, mut found_in_all) = (0, 0);
+    for model in all_models() {
+        let grid = grid_of(&model);
+        for pair in lists_of(&model, 60, true).windows(2) {
+            let ends = pair[0].iter().zip(&pair[1]);
+            let first: Vec<_> = ends.clone().map(|(one, other)| *one.min(other)).collect();
+            let last: Vec<_> = ends.map(|(one, other)| *one.max(other)).collect();
+            let counts =
+                first.iter().zip(&last).map(|(first, last)| (last - first).wrapping_add(1));
+            let counts: Vec<_> = counts.collect();
+            let chunks = match ArraySubset::new_with_start_shape(first.clone(), counts.clone()) {
+                Ok(chunks) => chunks,
+                Err(_) => continue,
+            };
+            let expected = match (model.subset(&first), model.subset(&last)) {
+                _ if counts.contains(&0) => Some((vec![0; first.len()], vec![0; first.len()])),
+                (Some((start, _)), Some((last, sizes))) => {
+                    let ends = last.iter().zip(&sizes).map(|(last, size)| last + size);
+                    let shape = ends.zip(&start).map(|(end, start)| end - start).collect();
+                    Some((start, shape))
+                }
+                _ => None,
+            };
+            let found = grid.chunks_subset(&chunks).unwrap();
+            asked += 1;
+            found_in_all += usize::from(found.is_some());
+            let found = found.map(|found| (found.start().to_vec(), found.shape().to_vec()));
+            assert_eq!(found, expected, "{model:?} {chunks:?}");
+        }
+    }
+    assert!(asked > 900 && found_in_all > 300, "{found_in_all} of {asked} boxes");
+}
+
+#[test]
+fn runs_are_those_of_equal_edges() {
+    for model in all_models() {
+        let grid = grid_of(&model);
+        for dimension in 0..model.dimensionality() + 2 {
+            let runs = match model.axes.get(dimension) {
+                Some(Axis::Listed(edges)) => {
+                    let changes = edges.windows(2).filter(|pair| pair[0] != pair[1]).count();
+                    Some(1 + changes as u64)
+                }
+                _ => None,
+            };
+            let expected = match model.name {
+                "rectilinear" => Ok(runs),
+                _ => Err(Error::Refused { words: "there is no call `runs`".to_owned() }),
+            };
+            assert_eq!(grid.runs(dimension), expected, "{model:?} {dimension}");
+        }
+        if model.name == "rectilinear" {
+            assert_eq!(grid.runs(usize::MAX), Ok(None));
+        }
+    }
+}
+
+#[test]
+fn metadata_are_written_in_one_form() {
+    for model in all_models().into_iter().filter(|model| model.name != "rectilinear") {
+        let written = grid_of(&model).written_metadata().unwrap();
+        let edges: Vec<_> = model.axes.iter().map(Axis::edges).collect();
+        let (edges, name) = (edges.join(","), model.name);
+        let expected =
+            format!(r#"{{"configuration":{{"chunk_shape":[{edges}]}},"name":"{name}"}}"#);
+        assert_eq!(written, expected);
+    }
+    let text = r#" { "must_understand" : true, "configuration" : {"chunk_shapes":
+        [ [5, 5, [7, 1], [7, 2]], 4 ], "kind" : "inline"} , "name" : "rectilinear" } "#;
+    let grid = Grid::new(&[31, 9], text).unwrap();
+    let configuration = r#"{"chunk_shapes":[[[5,2],[7,3]],4],"kind":"inline"}"#;
+    let expected = format!(r#"{{"configuration":{configuration},"name":"rectilinear"}}"#);
+    assert_eq!(grid.written_metadata().unwrap(), expected);
+    // A text of 800 kB; and what was written is written again.
+    let edges: Vec<_> = (0..400_000_u64).map(|number| 1 + number % 2 + number % 3).collect();
+    let size = edges.iter().sum();
+    let model = Model::new("rectangular", &[size], vec![Axis::Listed(edges)]);
+    let written = grid_of(&model).written_metadata().unwrap();
+    assert_eq!(Grid::new(&[size], &written).unwrap().written_metadata().unwrap(), written);
+    assert_eq!(written.len(), model.chunk_grid().len());
 }
 
 #[test]
@@ -359,7 +466,14 @@ fn wrong_lengths_of_one_list_are_told() {
         assert_eq!(grid.chunk_indices(&list), Err(wrong("indices", given, 2)));
         assert_eq!(grid.chunk_element_indices(&list), Err(wrong("indices", given, 2)));
         assert_eq!(grid.find_home(&list), Err(wrong("indices", given, 2)));
+        assert_eq!(grid.locate(&encoding, &list), Err(wrong("indices", given, 2)));
+        assert_eq!(grid.chunk_indices_counted(&list), Err(wrong("indices", given, 2)));
+        assert_eq!(grid.array_indices_inbounds(&list), Ok(false));
+        assert_eq!(grid.chunk_indices_inbounds(&list), Ok(false));
         assert_eq!(grid.subset(&list), Err(wrong("chunk", given, 2)));
+        assert_eq!(grid.chunk_shape(&list), Err(wrong("chunk", given, 2)));
+        assert_eq!(grid.chunk_origin(&list), Err(wrong("chunk", given, 2)));
+        assert_eq!(grid.chunks_subset(&subset), Err(wrong("chunks", given, 2)));
         assert_eq!(grid.chunks_in_array_subset(&subset), Err(wrong("subset", given, 2)));
         let error = grid.parts(&encoding, &subset).unwrap_err();
         assert_eq!(error, wrong("subset", given, 2));
@@ -530,10 +644,15 @@ fn all_types_may_be_sent_and_shared() {
     may::<Encoding>();
     may::<ArraySubset>();
     may::<Home>();
+    may::<Located>();
+    may::<Counted>();
+    may::<ChunkCopies>();
+    may::<Source>();
     may::<Keys>();
     may::<Part>();
     may::<Error>();
     may::<Parts<'_>>();
+    may::<Copies<'_>>();
     may::<ChunkIndices<'_>>();
     may::<ChunkSubsets<'_>>();
     may::<ChunkIndicesAndSubsets<'_>>();
@@ -584,6 +703,6 @@ fn a_thread_with_the_stack_of_a_call_asks() {
     // item says so.
     let mut walk = made.iter_chunk_indices();
     let error = walk.next().unwrap().unwrap_err();
-    assert!(matches!(&error, Error::Unexpected { code: 0, words } if words.contains("not JSON")));
+    assert_eq!(error, Error::Refused { words: "not JSON".to_owned() });
     assert!(walk.next().is_none() && walk.is_empty());
 }

@@ -81,6 +81,7 @@ fn without_each<T>(call: impl Fn() -> Result<T, Error>) -> Result<T, Error> {
 }
 
 const REGULAR: &str = r#"{"name":"regular","configuration":{"chunk_shape":[2,3]}}"#;
+const REGULAR_WRITTEN: &str = r#"{"configuration":{"chunk_shape":[2,3]},"name":"regular"}"#;
 const LISTED: &str = r#"{"name":"rectilinear","configuration":{"kind":"inline",
     "chunk_shapes":[[1,2,3,4,5,6,7,8,9],[3,2,1,4,3,2,1,4]]}}"#;
 
@@ -118,6 +119,31 @@ fn a_grid_answers_or_not() {
         Ok((a, b, found))
     };
     assert_eq!(without_each(batch), Ok(([0, 0], [1, 1], [true])));
+}
+
+#[test]
+fn questions_of_grids_are_answered_or_not() {
+    let grid = Grid::new(&[5, 7], REGULAR).unwrap();
+    assert_eq!(without_each(|| grid.chunk_shape(&[2, 1])), Ok(Some(vec![2, 3])));
+    assert_eq!(without_each(|| grid.chunk_shape(&[1 << 63, 1])), Ok(Some(vec![2, 3])));
+    assert_eq!(without_each(|| grid.chunk_origin(&[2, 1])), Ok(Some(vec![4, 3])));
+    assert_eq!(without_each(|| grid.chunk_origin(&[1 << 63, 1])), Ok(None));
+    let chunks = ArraySubset::new_with_ranges(&[1..3, 0..2]).unwrap();
+    let elements = without_each(|| grid.chunks_subset(&chunks)).unwrap().unwrap();
+    assert_eq!((elements.start(), elements.shape()), (&[2, 0][..], &[4, 6][..]));
+    assert_eq!(without_each(|| grid.chunk_indices_inbounds(&[2, 2])), Ok(true));
+    assert_eq!(without_each(|| grid.array_indices_inbounds(&[5, 2])), Ok(false));
+    let suffix = r#"{"name":"zarrs.default_suffix","configuration":{"suffix":"\n\u0000"}}"#;
+    let encoding = Encoding::new(suffix).unwrap();
+    let located = without_each(|| grid.locate(&encoding, &[4, 5])).unwrap().unwrap();
+    assert_eq!((located.place, &located.key[..]), (vec![0, 2], "c/2/1\n\0"));
+    let refused = Err(Error::Refused { words: "there is no call `runs`".to_owned() });
+    assert_eq!(without_each(|| grid.runs(0)), refused);
+    assert_eq!(without_each(|| grid.written_metadata()).as_deref(), Ok(REGULAR_WRITTEN));
+    let grid = Grid::new(&[45, 20], LISTED).unwrap();
+    assert_eq!(without_each(|| grid.runs(0)), Ok(Some(9)));
+    let counted = without_each(|| grid.chunk_indices_counted(&[44, 19])).unwrap();
+    assert_eq!(counted.chunk, Some(vec![8, 7]));
 }
 
 #[test]
@@ -162,6 +188,18 @@ fn walks_and_plans_are_gone_through_or_not() {
     assert_eq!(without_each(|| count(grid.iter_chunk_indices())), Ok(3 * 30));
     assert_eq!(without_each(|| count(grid.iter_chunk_subsets())), Ok(3 * 30));
     assert_eq!(without_each(|| count(grid.iter_chunk_indices_and_subsets())), Ok(3 * 30));
+    let by_fours = r#"{"name":"regular","configuration":{"chunk_shape":[4,4]}}"#;
+    let (grid, target) = (Grid::new(&[5, 37], REGULAR), Grid::new(&[5, 37], by_fours));
+    let (grid, target) = (grid.unwrap(), target.unwrap());
+    let copies = || grid.copies(&encoding, &target, &encoding);
+    assert_eq!(without_each(|| count(copies()?)), Ok(2 * 10));
+    let chunks = ArraySubset::new_with_ranges(&[1..9, 2..22]).unwrap();
+    let rest = || {
+        let mut copies = copies()?.within(&chunks)?;
+        copies.nth(2).transpose()?;
+        count(copies)
+    };
+    assert_eq!(without_each(rest), Ok(8 - 3));
 }
 
 #[test]

@@ -1,98 +1,229 @@
-//! Puts every question of the folder `vectors` to the library, and compares the line that answers.
-//!
-//! The folder is the one that `ZARRS_CHUNKS_VECTORS` names, or the one of the repository or of a
-//! release that the crate stands in. Its `README.md` says what a line of its files is.
+//! Puts every vector to the library as text, and compares the line that answers; and each that a
+//! method can be asked to the method.
 
-use std::path::{Path, PathBuf};
-use std::{env, fs};
+mod common;
 
-use zarrs_chunks::answer;
+use std::collections::BTreeMap;
 
-const BASES: [&str; 3] = ["standard", "zarrs", "own"];
-
-fn folder() -> PathBuf {
-    if let Some(named) = env::var_os("ZARRS_CHUNKS_VECTORS") {
-        return PathBuf::from(named);
-    }
-    let own = Path::new(env!("CARGO_MANIFEST_DIR"));
-    let beside = ["../../../vectors", "../../vectors"].map(|folder| own.join(folder));
-    let found = beside.iter().find(|folder| folder.is_dir());
-    found.unwrap_or_else(|| panic!("no vectors: set ZARRS_CHUNKS_VECTORS to their folder")).clone()
-}
-
-/// The question of a vector, and the line that is to answer it.
-fn question_and_answer(vector: &str) -> (String, String) {
-    // The answer is the last member, and the basis the one before. No note holds both.
-    let behind = BASES.iter().find_map(|basis| {
-        let before = format!(",\"basis\":\"{basis}\",\"answer\":");
-        vector.rfind(&before).map(|place| &vector[place + before.len()..])
-    });
-    let answer = behind.and_then(|behind| behind.strip_suffix('}'));
-    let answer = answer.unwrap_or_else(|| panic!("no answer in {vector}"));
-    let mut line = answer.to_owned();
-    for reason in ["refused", "unreadable"] {
-        if let Some(text) = answer.strip_prefix(&format!("{{\"{reason}\":")) {
-            line = format!("{reason}: {}", text_at(text));
-        }
-    }
-    // A line that is no question stands as a text. Other vectors are questions as they stand.
-    let question = match vector.split_once("\",\"line\":") {
-        Some((note, text)) if !note.contains("\"call\":") => text_at(text),
-        _ => vector.to_owned(),
-    };
-    (question, line)
-}
-
-/// The JSON text that a text begins with.
-fn text_at(json: &str) -> String {
-    let mut letters = json.strip_prefix('"').expect("a text").chars();
-    let mut text = String::new();
-    loop {
-        match letters.next().expect("the end of a text") {
-            '"' => return text,
-            '\\' => text.push(match letters.next().expect("an escaped letter") {
-                'b' => '\u{8}',
-                'f' => '\u{c}',
-                'n' => '\n',
-                'r' => '\r',
-                't' => '\t',
-                'u' => {
-                    let digits: String = letters.by_ref().take(4).collect();
-                    let number = u32::from_str_radix(&digits, 16).expect("four digits");
-                    char::from_u32(number).expect("a letter of one number")
-                }
-                letter => letter,
-            }),
-            letter => text.push(letter),
-        }
-    }
-}
+use common::json::{
+    written, written_box, written_copies, written_items, written_part, written_text, Json,
+};
+use common::vectors::vectors;
+use common::GREATEST;
+use zarrs_chunks::{answer, ArraySubset, Encoding, Error, Grid};
 
 #[test]
 fn each_vector_is_answered() {
-    let folder = folder();
-    let (mut asked, mut wrong) = (0, Vec::new());
-    let mut files: Vec<_> = fs::read_dir(&folder)
-        .unwrap_or_else(|error| panic!("{}: {error}", folder.display()))
-        .map(|entry| entry.unwrap().path())
-        .filter(|path| path.extension().map_or(false, |extension| extension == "jsonl"))
-        .collect();
-    files.sort();
-    for path in &files {
-        let text = fs::read_to_string(path).unwrap();
-        assert!(!text.is_empty(), "{} is empty", path.display());
-        for vector in text.lines() {
-            let (question, expected) = question_and_answer(vector);
-            let found = answer(&question).unwrap();
-            asked += 1;
-            if found != expected {
-                wrong.push(format!("{question}\n  expected {expected}\n  found    {found}"));
-            }
+    let (vectors, mut wrong) = (vectors(), Vec::new());
+    for vector in &vectors {
+        let (question, expected) = (&vector.question, &vector.line);
+        let found = answer(question).unwrap();
+        if &found != expected {
+            wrong.push(format!("{question}\n  expected {expected}\n  found    {found}"));
         }
     }
-    println!("{asked} vectors of {} files", files.len());
-    assert!(asked >= 1000, "{} has {asked} vectors only", folder.display());
-    assert!(wrong.is_empty(), "{} of {asked} wrong:\n{}", wrong.len(), wrong.join("\n"));
+    assert!(wrong.is_empty(), "{} of {} wrong:\n{}", wrong.len(), vectors.len(), wrong.join("\n"));
+}
+
+/// So many vectors at least are put to methods. The others are those whose question can't be read,
+/// and walks over boxes from a number on, which counts chunks and not boxes.
+const PUT: usize = 1069;
+
+#[test]
+fn each_vector_that_a_method_can_be_asked_is_answered_by_it() {
+    let (mut put, mut left, mut wrong) = (BTreeMap::new(), 0, Vec::new());
+    for vector in vectors() {
+        let is_unread = vector.line.starts_with("unreadable: ")
+            && !vector.line.starts_with("unreadable: there is no call `runs`")
+            && !vector.line.starts_with("unreadable: there is no call `chunk_indices_counted`");
+        let asked = Json(&vector.question);
+        if is_unread || is_box_walk_from_a_number(asked) {
+            left += 1;
+            continue;
+        }
+        let call = asked.member("call").text();
+        let expected = expected(&call, asked, vector.line);
+        let found = by_method(&call, asked).unwrap_or_else(|words| format!("refused: {words}"));
+        *put.entry(call).or_insert(0_usize) += 1;
+        if found != expected {
+            wrong.push(format!("{}\n  expected {expected}\n  found    {found}", vector.question));
+        }
+    }
+    let in_all: usize = put.values().sum();
+    println!("{in_all} vectors put to methods, {left} left: {put:?}");
+    assert!(wrong.is_empty(), "{} of {in_all} wrong:\n{}", wrong.len(), wrong.join("\n"));
+    assert!(in_all >= PUT, "{in_all} put, {left} left");
+    assert!(put.len() == 25 && put.values().all(|count| *count >= 10), "{put:?}");
+}
+
+fn is_box_walk_from_a_number(asked: Json<'_>) -> bool {
+    let walks = ["\"iter_chunk_subsets\"", "\"iter_chunk_indices_and_subsets\""];
+    walks.contains(&asked.member("call").0) && asked.get("first").is_some()
+}
+
+/// The answer of a method, by the line that answers the question.
+fn expected(call: &str, asked: Json<'_>, line: String) -> String {
+    // The library tells the dimension too, and the crate the number of the box.
+    if line.starts_with("refused: box end exceeds ") {
+        return "refused: a box ends past the greatest number".to_owned();
+    }
+    match call {
+        // What is refused as a key is the key of no chunk, and there is no list of so many numbers.
+        "decode" if asked.member("dimensionality").number() == GREATEST => {
+            return "refused: out of memory".to_owned();
+        }
+        "decode" if line.starts_with("refused: invalid store key ") => return "null".to_owned(),
+        // An empty box of another length has an answer, and the methods take none.
+        "chunks_in_array_subset" | "parts" if !line.starts_with("refused: ") => {
+            let dimensionality = asked.member("shape").list().len();
+            let given = asked.member("of").values()[0].list().len();
+            if given != dimensionality {
+                return format!("refused: {}", wrong_length(given, dimensionality));
+            }
+        }
+        _ => {}
+    }
+    match line.strip_prefix("unreadable: ") {
+        Some(words) => format!("refused: {words}"),
+        None => line,
+    }
+}
+
+/// What a method answers, as the vectors have it, or the words of its error.
+fn by_method(call: &str, asked: Json<'_>) -> Result<String, String> {
+    let of = asked.get("of").unwrap_or(Json("[]"));
+    if call == "encode" || call == "decode" {
+        let encoding = encoding_in(asked)?;
+        if call == "encode" {
+            return Ok(written_text(&told(encoding.encode(&of.list()))?));
+        }
+        let dimensionality = asked.member("dimensionality").number() as usize;
+        let chunk = told(encoding.decode(&of.text(), dimensionality))?;
+        return Ok(or_null(chunk, |chunk| written(&chunk)));
+    }
+    let grid = grid_in(asked, asked)?;
+    let list = |found: zarrs_chunks::Result<Option<Vec<u64>>>| {
+        Ok(or_null(told(found)?, |numbers| written(&numbers)))
+    };
+    let subset = |found: zarrs_chunks::Result<Option<ArraySubset>>| {
+        Ok(or_null(told(found)?, |subset| written_box(&subset)))
+    };
+    match call {
+        "dimensionality" => Ok(grid.dimensionality().to_string()),
+        "array_shape" => Ok(written(grid.array_shape())),
+        "grid_shape" => Ok(written(grid.grid_shape())),
+        "metadata" => told(grid.written_metadata()),
+        "configuration" => {
+            let metadata = told(grid.written_metadata())?;
+            Ok(Json(&metadata).member("configuration").0.to_owned())
+        }
+        "chunk_shape" | "chunk_shape_u64" => list(grid.chunk_shape(&of.list())),
+        "chunk_origin" => list(grid.chunk_origin(&of.list())),
+        "chunk_indices" => list(grid.chunk_indices(&of.list())),
+        "chunk_element_indices" => list(grid.chunk_element_indices(&of.list())),
+        "chunk_indices_inbounds" => Ok(told(grid.chunk_indices_inbounds(&of.list()))?.to_string()),
+        "array_indices_inbounds" => Ok(told(grid.array_indices_inbounds(&of.list()))?.to_string()),
+        "subset" => subset(grid.subset(&of.list())),
+        "chunks_subset" => subset(grid.chunks_subset(&box_of(of)?)),
+        "chunks_in_array_subset" => subset(grid.chunks_in_array_subset(&box_of(of)?)),
+        "runs" => {
+            let runs = told(grid.runs(of.number() as usize))?;
+            Ok(or_null(runs, |runs| runs.to_string()))
+        }
+        "chunk_indices_counted" => {
+            let counted = told(grid.chunk_indices_counted(&of.list()))?;
+            let chunk = or_null(counted.chunk, |chunk| written(&chunk));
+            Ok(format!(r#"{{"answer":{chunk},"comparisons":{}}}"#, counted.comparisons))
+        }
+        "locate" => {
+            let located = told(grid.locate(&encoding_in(asked)?, &of.list()))?;
+            Ok(or_null(located, |located| {
+                format!(
+                    r#"{{"chunk":{},"element":{},"key":{}}}"#,
+                    written(&located.chunk),
+                    written(&located.place),
+                    written_text(&located.key)
+                )
+            }))
+        }
+        "parts" => {
+            let (encoding, subset) = (encoding_in(asked)?, box_of(of)?);
+            match told(grid.parts(&encoding, &subset))? {
+                Some(parts) => page(asked, parts, |part| written_part(&part)),
+                None => Ok("null".to_owned()),
+            }
+        }
+        "copies" => {
+            let (encoding, target) = (encoding_in(asked)?, asked.member("target"));
+            let of_target = |words| format!("field `target`: {words}");
+            let target_grid = grid_in(asked, target).map_err(of_target)?;
+            let target_encoding = encoding_in(target).map_err(of_target)?;
+            let mut copies = told(grid.copies(&encoding, &target_grid, &target_encoding))?;
+            if let Some(chunks) = asked.get("chunks") {
+                let within = told(copies.within(&box_of(chunks)?));
+                copies = within.map_err(|words| format!("the box of chunks: {words}"))?;
+            }
+            page(asked, copies, |copies| written_copies(&copies))
+        }
+        "iter_chunk_indices" => page(asked, grid.iter_chunk_indices(), |chunk| written(&chunk)),
+        "iter_chunk_subsets" => page(asked, grid.iter_chunk_subsets(), |it| written_box(&it)),
+        "iter_chunk_indices_and_subsets" => {
+            page(asked, grid.iter_chunk_indices_and_subsets(), |(chunk, subset)| {
+                format!("[{},{}]", written(&chunk), written_box(&subset))
+            })
+        }
+        _ => panic!("no method for the call {call}"),
+    }
+}
+
+fn grid_in(array: Json<'_>, stored: Json<'_>) -> Result<Grid, String> {
+    told(Grid::new(&array.member("shape").list(), stored.member("chunk_grid").0))
+}
+
+fn encoding_in(stored: Json<'_>) -> Result<Encoding, String> {
+    told(Encoding::new(stored.member("chunk_key_encoding").0))
+}
+
+fn box_of(lists: Json<'_>) -> Result<ArraySubset, String> {
+    let lists: Vec<_> = lists.values().into_iter().map(Json::list).collect();
+    told(ArraySubset::new_with_start_shape(lists[0].clone(), lists[1].clone()))
+}
+
+/// As many items as the question asks for.
+fn page<T>(
+    asked: Json<'_>,
+    items: impl Iterator<Item = zarrs_chunks::Result<T>>,
+    write: impl Fn(T) -> String,
+) -> Result<String, String> {
+    let first = asked.get("first").map_or(0, Json::number);
+    let mut items = items.skip(first as usize);
+    let mut page = Vec::new();
+    while (page.len() as u64) < asked.member("items").number() {
+        match items.next() {
+            Some(item) => page.push(write(told(item)?)),
+            None => break,
+        }
+    }
+    let more = told(items.next().transpose())?;
+    Ok(written_items(&page, more.is_some()))
+}
+
+fn or_null<T>(found: Option<T>, write: impl FnOnce(T) -> String) -> String {
+    found.map_or_else(|| "null".to_owned(), write)
+}
+
+/// What a method answers, or its error in words as the library's.
+fn told<T>(answered: zarrs_chunks::Result<T>) -> Result<T, String> {
+    answered.map_err(|error| match error {
+        Error::WrongLength { given, wanted, .. } => wrong_length(given, wanted),
+        Error::NotABox { which: 0 } => "a box ends past the greatest number".to_owned(),
+        Error::Unexpected { .. } => panic!("{error}"),
+        error => error.to_string(),
+    })
+}
+
+fn wrong_length(given: usize, wanted: usize) -> String {
+    format!("incompatible dimensionality {given}, expected {wanted}")
 }
 
 #[test]

@@ -1,7 +1,12 @@
 //! What grids answer, by plain arithmetic with 128 bits, and the texts that tell them.
 #![allow(dead_code)]
 
+pub mod json;
+pub mod vectors;
+
 use std::ops::Range;
+
+pub use json::written as json;
 
 pub const GREATEST: u64 = u64::MAX;
 
@@ -24,8 +29,11 @@ pub struct Model {
     pub axes: Vec<Axis>,
 }
 
+/// Parts of a box, each as the chunk, where the part begins in it and in the box, and its shape.
+pub type Parts = Vec<[Vec<u64>; 4]>;
+
 impl Axis {
-    fn edges(&self) -> String {
+    pub fn edges(&self) -> String {
         match self {
             Axis::Fixed(edge) | Axis::Bounded(edge) => edge.to_string(),
             Axis::Listed(edges) => json(edges),
@@ -132,6 +140,34 @@ impl Model {
         ranges.collect::<Option<Vec<_>>>().map(|ranges| ranges.into_iter().unzip())
     }
 
+    /// The elements of a chunk along each dimension, which may lie past the greatest number.
+    fn elements(&self, chunk: &[u64]) -> Option<Vec<Range<u128>>> {
+        self.sized().zip(chunk).map(|((axis, size), chunk)| axis.elements(size, *chunk)).collect()
+    }
+
+    pub fn chunk_shape(&self, chunk: &[u64]) -> Option<Vec<u64>> {
+        let sizes = self.elements(chunk)?.into_iter().map(|range| range.end - range.start);
+        sizes.map(|size| u64::try_from(size).ok()).collect()
+    }
+
+    pub fn chunk_origin(&self, chunk: &[u64]) -> Option<Vec<u64>> {
+        let starts = self.elements(chunk)?.into_iter().map(|range| u64::try_from(range.start));
+        starts.map(Result::ok).collect()
+    }
+
+    pub fn has_chunk(&self, chunk: &[u64]) -> bool {
+        let is_in = |(count, number): (u64, &u64)| *number < count || count == 0;
+        self.grid_shape().into_iter().zip(chunk).all(is_in)
+    }
+
+    pub fn has_element(&self, index: &[u64]) -> bool {
+        let is_in = |((axis, size), number): ((&Axis, u64), &u64)| match (axis, size) {
+            (Axis::Listed(_), 0) => axis.chunk(0, *number).is_some(),
+            (_, size) => *number < size || size == 0,
+        };
+        self.sized().zip(index).all(is_in)
+    }
+
     /// The first chunk of the cover of a box, and how many chunks it has; of an empty box that it
     /// has none, by an empty list.
     pub fn cover(&self, start: &[u64], shape: &[u64]) -> Option<(Vec<u64>, Vec<u64>)> {
@@ -149,8 +185,8 @@ impl Model {
         row_major(&vec![0; self.dimensionality()], &self.grid_shape())
     }
 
-    /// The parts of a box: the chunk, where the part begins in it and in the box, and its shape.
-    pub fn parts(&self, start: &[u64], shape: &[u64]) -> Option<Vec<[Vec<u64>; 4]>> {
+    /// The parts of a box.
+    pub fn parts(&self, start: &[u64], shape: &[u64]) -> Option<Parts> {
         let (first, counts) = self.cover(start, shape)?;
         if shape.contains(&0) {
             return Some(Vec::new());
@@ -171,6 +207,26 @@ impl Model {
         };
         Some(row_major(&first, &counts).into_iter().map(part).collect())
     }
+
+    /// What is copied into each chunk of a target that holds elements of the array: the chunk, and
+    /// the parts of the box that its elements are in the array.
+    pub fn copies(&self, target: &Model) -> Vec<(Vec<u64>, Parts)> {
+        if self.shape.contains(&0) {
+            return Vec::new();
+        }
+        let (first, counts) = target.cover(&vec![0; self.dimensionality()], &self.shape).unwrap();
+        let copied = |chunk: Vec<u64>| {
+            let (mut start, mut shape) = (Vec::new(), Vec::new());
+            for ((axis, size), chunk) in target.sized().zip(&chunk) {
+                let elements = axis.elements(size, *chunk).unwrap();
+                start.push(elements.start as u64);
+                shape.push((elements.end.min(u128::from(size)) - elements.start) as u64);
+            }
+            let sources = self.parts(&start, &shape).unwrap();
+            (chunk, sources)
+        };
+        row_major(&first, &counts).into_iter().map(copied).collect()
+    }
 }
 
 /// All lists of a box of numbers, in row-major order.
@@ -189,11 +245,6 @@ pub fn row_major(first: &[u64], counts: &[u64]) -> Vec<Vec<u64>> {
 /// A key of the encoding `default`.
 pub fn default_key(chunk: &[u64]) -> String {
     chunk.iter().fold("c".to_owned(), |key, number| format!("{key}/{number}"))
-}
-
-pub fn json(numbers: &[u64]) -> String {
-    let numbers: Vec<_> = numbers.iter().map(u64::to_string).collect();
-    format!("[{}]", numbers.join(","))
 }
 
 /// Numbers that look like any, and are the same each time.
