@@ -337,7 +337,8 @@ class Grid:
         return bool(self._ask("chunk_indices_inbounds", of=list_of_numbers("chunk", chunk).tolist()))
 
     def array_indices_inbounds(self, index: npt.ArrayLike) -> bool:
-        """Whether one element lies in the array: below its shape along each dimension. Along a dimension of size 0 all do that lie in a chunk.
+        """Whether one element lies in the array: below its shape along each dimension. Along a dimension of size 0 all do, or where its edges are
+        listed, those that lie in a chunk.
 
         >>> grid = Grid([5, 7], {"name": "regular", "configuration": {"chunk_shape": [2, 3]}})
         >>> grid.array_indices_inbounds([4, 6]), grid.array_indices_inbounds([5, 0]), grid.array_indices_inbounds([0])
