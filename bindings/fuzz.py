@@ -481,6 +481,22 @@ def ask_copies(rng):
         demand("copies", [copies_of_model(copies) for copies in answer] if is_answered else repr(answer), right)
 
 
+def ask_counts(rng):
+    model, grid = model_of(rng, 2)
+    target = Model(grid_metadata("zarrs.regular_bounded", [rng.randrange(3, 20) for _ in model.shape]), model.shape)
+    counts = target.grid_shape()
+    box = rng.choice([None, [[rng.randrange(count + 1) for count in counts], [rng.randrange(5) for _ in counts]]])
+    given = [draw(rng, value) for value in (Grid(target.shape, target.metadata()), box)]
+    answer, is_answered = attempt(lambda: grid.counts(*(value for value, _good in given)))
+    if all(good for _value, good in given):
+        copies = [*model.copies(DEFAULT, target, ModelKeys("v2"), box)]
+        lengths = [len(item["from"]) for item in copies]
+        read = {tuple(part["chunk"]) for item in copies for part in item["from"]}
+        elements = sum(math.prod(part["in_chunk"][1]) for item in copies for part in item["from"])
+        right = (sum(lengths), elements, max(lengths, default=0), len(copies), len(read))
+        demand("counts", tuple(answer) if is_answered else repr(answer), right)
+
+
 def copies_of_model(copies):
     """What the package answers of a chunk of a target, as the model has it."""
     sources = [{name: as_lists(part) for name, part in source._asdict().items()} for source in copies.sources]
@@ -575,7 +591,7 @@ def ask_any_question(rng):
 
 KINDS = (
     ask_of_grid, ask_of_grid, ask_covers, ask_parts, ask_keys, ask_chunks_of_keys, make_things, ask_any_question,
-    ask_of_one, ask_of_one, ask_runs, ask_walks, ask_copies, ask_box, ask_stored,
+    ask_of_one, ask_of_one, ask_runs, ask_walks, ask_copies, ask_counts, ask_box, ask_stored,
 )  # fmt: skip
 
 

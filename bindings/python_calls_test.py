@@ -32,7 +32,7 @@ from faults import seen_parts
 from memory import at_most, used
 from odd_values import Index, Lying, Raising, Whole, misaligned
 from random_arrays import Generator
-from zarrs_chunks import Box, Copies, Counted, Encoding, Grid, Located, Source, __main__, _boxes, _questions
+from zarrs_chunks import Box, Copies, Counted, Counts, Encoding, Grid, Located, Source, __main__, _boxes, _counts, _questions
 
 PACKAGE = pathlib.Path(zarrs_chunks.__file__).parent
 REGULAR = regular(2, 3)
@@ -386,6 +386,58 @@ def shares(tally):
         tally.same(f"{share!r} as a share", share is None or found[0] in (TypeError, ValueError) and found[1].startswith("share: "), True)
     slabs(tally)
     of_program(tally)
+
+
+def counts(tally):
+    """The counts of rechunkings beside what is counted in their items, and beside arithmetic where there are very many."""
+    generator, encodings = Generator(11), (Encoding("default"), Encoding("v2"))
+    kinds = ["regular", "zarrs.regular_bounded", "rectangular", "rectilinear"]
+    kept, _counts._AT_ONCE = _counts._AT_ONCE, 3
+    try:
+        for round_, (one, other) in itertools.product(range(12), itertools.product(kinds, repeat=2)):
+            shape = [generator.random.randrange(round_ + 3) for _ in range(generator.random.randrange(4))]
+            grid, target = (Grid(shape, generator.grid_over(shape, kind)) for kind in (one, other))
+            chunks = generator.random.choice([None, generator.box_within(target.grid_shape)])
+            items = [*grid.copies(encodings[0], target, encodings[1], chunks)]
+            sources = [source for item in items for source in item.sources]
+            right = Counts(
+                copies=len(sources), elements=sum(math.prod(source.in_chunk.shape) for source in sources),
+                largest_line=max((len(item.sources) for item in items), default=0), lines=len(items), source_chunks=len({source.chunk for source in sources}),
+            )  # fmt: skip
+            tally.same(f"counts of {grid} into {target} {chunks}", grid.counts(target, chunks), right)
+    finally:
+        _counts._AT_ONCE = kept
+    # Chunks of 3 into chunks of 2, along 2^24 + 2^23 of the first: of three of the second two lie within one of the first, and one in two.
+    size = 3 * 2**24
+    grid, target = Grid([size] * 3, regular(3, 3, 3)), Grid([size] * 3, regular(2, 3, size))
+    right = Counts(None, size**3, None, size // 2 * (size // 3), (size // 3) ** 3)
+    tally.same("counts past 2^24 chunks", grid.counts(target), right)
+    row = grid.counts(target, ([0, 0, 0], [2**24, 2**24, 1]))
+    along = 2**24 + 2**24 // 3
+    right = Counts(along * 2**24 * 2**24, 2**25 * size**2, 2 * 2**24, 2**48, ((2**25 - 1) // 3 + 1) * 2**48)
+    tally.same("counts of 2^24 chunks", row, right)
+    great = Grid([GREATEST], regular(2**63))
+    tally.same("counts up to the greatest number", great.counts(Grid([GREATEST], regular(2**62 + 1))), Counts(5, GREATEST, 2, 4, 2))
+    tally.same("counts without dimensions", Grid([], regular()).counts(Grid([], regular())), Counts(1, 1, 1, 1, 1))
+    grid = Grid([5, 7], REGULAR)
+    tally.raises("counts into another array", ValueError, "the source and the target have different array shapes", lambda: grid.counts(Grid([5], regular(2))))
+    tally.raises("counts into no grid", TypeError, "target: a Grid is wanted, and not a int", lambda: grid.counts(3))
+    tally.raises("counts of a shorter box", ValueError, "the box of chunks: incompatible dimensionality 1, expected 2", lambda: grid.counts(grid, ([0], [1])))
+    counts_of_program(tally)
+
+
+def counts_of_program(tally):
+    """Counts beside those of `chunkplan`, where the program was built."""
+    if not CHUNKPLAN.exists():
+        return
+    generator = Generator(9)
+    for _ in range(60):
+        shape = [generator.random.randrange(60) for _ in range(generator.random.randrange(4))]
+        grids = [generator.grid_over(shape, name) for name in generator.random.sample(["regular", "zarrs.regular_bounded", "rectilinear"], 2)]
+        stored = [{"chunk_grid": grid, "chunk_key_encoding": "v2"} for grid in grids]
+        ended = subprocess.run([CHUNKPLAN], input=json.dumps({"shape": shape, **stored[0], "target": stored[1], "counts": True}).encode(), capture_output=True)
+        found = Grid(shape, grids[0]).counts(Grid(shape, grids[1]))._asdict()
+        tally.same(f"counts of {shape} from {grids[0]} into {grids[1]}", found, json.loads(ended.stdout))
 
 
 def slabs(tally):
@@ -817,5 +869,5 @@ def little_memory(tally):
 
 
 def python_calls(tally):
-    for group in (by_methods, beside_models, pages, moved, shares, selections, stored, program, typed, values, little_memory):
+    for group in (by_methods, beside_models, pages, moved, shares, counts, selections, stored, program, typed, values, little_memory):
         group(tally)

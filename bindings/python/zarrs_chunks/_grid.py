@@ -14,6 +14,7 @@ from . import _library, _questions
 from ._answer import refuse
 from ._boxes import Box, as_box, common, given_box, selected_box, slabs
 from ._copies import Copies, copies_of, share_of
+from ._counts import Counts, counts_of
 from ._encoding import Encoding, keys_between, usual_length
 from ._metadata import Metadata
 from ._numbers import GREATEST, Marks, Numbers, list_of_numbers, lists_of_numbers, whole_number
@@ -452,11 +453,9 @@ class Grid:
         [(1,)]
         """
         _check_encoding("encoding", encoding)
-        if not isinstance(target, Grid):
-            raise TypeError(f"target: a Grid is wanted, and not a {type(target).__name__}")
+        _check_grid("target", target)
         _check_encoding("target_encoding", target_encoding)
-        if target.array_shape != self.array_shape:
-            raise ValueError("the source and the target have different array shapes")
+        self._check_array_of(target)
         number, limit = whole_number("first", first), GREATEST if most is None else whole_number("most", most)
         asked = {"chunk_key_encoding": encoding._metadata.text, "target": target._stored_text(target_encoding)}
         box = None if chunks is None else given_box("chunks", chunks)
@@ -472,6 +471,27 @@ class Grid:
         pieces = slabs(written, *share_of(share, math.prod(written.shape)))
         walks = (self._walk("copies", number, count, chunks=_questions.plain_text(slab), **asked) for slab, number, count in pieces)
         return map(copies_of, itertools.chain.from_iterable(walks))
+
+    def counts(self, target: Grid, chunks: tuple[npt.ArrayLike, npt.ArrayLike] | None = None) -> Counts:
+        """How much a rechunking to another grid of the same array copies: of what `copies` answers how many items there are, how many sources they
+        have, and more. It isn't walked over: a rechunking of 10^18 elements takes no longer than its chunks along each dimension by itself.
+
+        >>> grid, target = (Grid([4], {"name": "regular", "configuration": {"chunk_shape": [edge]}}) for edge in (3, 2))
+        >>> grid.counts(target)
+        Counts(copies=3, elements=4, largest_line=2, lines=2, source_chunks=2)
+        """
+        _check_grid("target", target)
+        self._check_array_of(target)
+        box = None if chunks is None else given_box("chunks", chunks)
+        if box is not None:
+            # What the library refuses of `copies` it refuses here.
+            default = Encoding("default")
+            self._ask("copies", items=0, chunks=box, chunk_key_encoding=default._metadata.text, target=target._stored_text(default))
+        return counts_of(self, target, target._chunks_with_elements(box))
+
+    def _check_array_of(self, target: Grid) -> None:
+        if target.array_shape != self.array_shape:
+            raise ValueError("the source and the target have different array shapes")
 
     def _chunks_with_elements(self, within: Box | None) -> Box:
         """The box of the chunks that hold elements of the array, and lie within a box where there is one."""
@@ -492,6 +512,11 @@ class Grid:
         """The items of a walk over this grid."""
         shape = _questions.plain_text(self._shape.tolist())
         return _questions.walk(call, first, most, shape=shape, chunk_grid=self._metadata.text, **members)
+
+
+def _check_grid(argument: str, grid: object) -> None:
+    if not isinstance(grid, Grid):
+        raise TypeError(f"{argument}: a Grid is wanted, and not a {type(grid).__name__}")
 
 
 def _check_encoding(argument: str, encoding: object) -> None:
