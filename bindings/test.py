@@ -401,7 +401,8 @@ def examples(tally, backend):
         checked = run(["valgrind", "-q", "--error-exitcode=9", "--leak-check=full", "--show-leak-kinds=all", program])
         tally.same(f"memcheck, {how}", checked, (0, EXAMPLE, ""))
     refused_one_by_one(tally, backend, out / "example_shared")
-    if shutil.which("cargo"):
+    # One may be there without the other, or without a toolchain.
+    if all(shutil.which(tool) and run([tool, "--version"])[0] == 0 for tool in ("cargo", "rustc")):
         places = {"ZARRS_CHUNKS_LIB_DIR": str(out), "CARGO_TARGET_DIR": str(out / "cargo")}
         ended = run(["cargo", "test", "--offline", "--quiet", "--manifest-path", HERE / "rust" / "zarrs_chunks" / "Cargo.toml"], **places)
         tally.same("the tests of the crate for Rust", (ended[0], ended[2] if ended[0] else ""), (0, ""))
