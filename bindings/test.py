@@ -401,6 +401,10 @@ def examples(tally, backend):
         checked = run(["valgrind", "-q", "--error-exitcode=9", "--leak-check=full", "--show-leak-kinds=all", program])
         tally.same(f"memcheck, {how}", checked, (0, EXAMPLE, ""))
     refused_one_by_one(tally, backend, out / "example_shared")
+    program, lines = out / "answer", [(TOP / "crates" / "chunkcalls" / name).read_bytes() for name in ("stdin", "stdout")]
+    tally.same("cc, answer.c", compiled("answer.c", shared(out), program), (0, b"", ""))
+    ended = subprocess.run([program], input=lines[0], capture_output=True)
+    tally.same("all vectors by a program in C", (ended.returncode, ended.stdout, ended.stderr), (0, lines[1], b""))
     # One may be there without the other, or without a toolchain.
     if all(shutil.which(tool) and run([tool, "--version"])[0] == 0 for tool in ("cargo", "rustc")):
         places = {"ZARRS_CHUNKS_LIB_DIR": str(out), "CARGO_TARGET_DIR": str(out / "cargo")}

@@ -5,7 +5,7 @@
 
 The archive is unpacked in a new folder. All that is run there runs without the kit on the path and outside of this repository; where the script is run
 by root, as `nobody`. The sums are compared; each command of the archive's page is run as it stands, and what it prints is compared; the vectors are put
-to `chunkcalls`, to the Python package and to the Rust crate, and a document to each other program. Prints how long each step took, and ends with the
+to `chunkcalls`, to C, to the Python package and to the Rust crate, and a document to each other program. Prints how long each step took, and ends with the
 status 1 where one fails.
 """
 import json
@@ -125,6 +125,9 @@ def try_all(room):
     expect("the C example by CMake", printed.endswith(example), True)
     expect("the C example by CMake, shared", room.run(["build/example"])[0], example)
     tell("C by CMake", seconds)
+    room.run(["sh", "-c", c.partition(" && ")[0].replace("example.c", "answer.c").replace("-o example", "-o answer")])
+    for program in ("./answer", "build/answer"):
+        all_vectors(room, [program])
     printed, seconds = room.run(["sh", "-c", python])
     expect("the Python example", printed.endswith(" 1000000\n"), True)
     tell("Python, with its environment", seconds)
