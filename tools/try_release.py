@@ -5,8 +5,8 @@
 
 The archive is unpacked in a new folder. All that is run there runs without the kit on the path and outside of this repository; where the script is run
 by root, as `nobody`. The sums are compared; each command of the archive's page is run as it stands, and what it prints is compared; the vectors are put
-to `chunkcalls`, to C, to the Python package and to the Rust crate, and a document to each other program. Prints how long each step took, and ends with the
-status 1 where one fails.
+to `chunkcalls`, to C, to the Python package and to the Rust crate, and a document to each other program. Prints how long each step took, and ends with
+the status 1 where one fails.
 """
 import json
 import os
