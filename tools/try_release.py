@@ -23,6 +23,23 @@ LINES = """\
 {"chunk":[0],"in_chunk":[[1],[2]],"in_subset":[[0],[2]],"key":"c/0","number":0,"of":2,"shape":[3],"whole":false}
 {"chunk":[1],"in_chunk":[[0],[1]],"in_subset":[[2],[1]],"key":"c/1","number":1,"of":2,"shape":[3],"whole":true}
 """
+HAS_ZARR = """
+try:
+    import zarr
+    print(zarr.__version__.startswith("2."))
+except ImportError:
+    print(False)
+"""
+ARRAYS = """
+import numpy, zarr
+source = zarr.open_array("source", mode="w", shape=(90, 70), dtype="<i4", chunks=(20, 30), dimension_separator="/")
+source[:] = numpy.arange(90 * 70).reshape(90, 70)
+zarr.open_array("target", mode="w", shape=(90, 70), dtype="<i4", chunks=(45, 8), dimension_separator="/")
+"""
+EQUAL = """
+import zarr
+print((zarr.open_array("source", mode="r")[:] == zarr.open_array("target", mode="r")[:]).all())
+"""
 DOCUMENT = b'{"shape":[6],"chunk_grid":{"name":"regular","configuration":{"chunk_shape":[4]}},"chunk_key_encoding":"v2","indices":[[5]]}'
 
 
@@ -91,6 +108,19 @@ def all_vectors(room, command):
     tell(f"{' '.join(command)}, {len(vectors)} vectors", seconds)
 
 
+def rechunk(room):
+    """Moves an array by the plan of `chunkplan`, where zarr-python 2 is there."""
+    python = "environment/bin/python"
+    if room.run([python, "-c", HAS_ZARR])[0] != "True\n":
+        print("no array was rechunked: zarr-python 2 is missing")
+        return
+    room.run([python, "-c", ARRAYS])
+    engine = "PATH=$PWD/bin:$PWD/environment/bin:$PATH examples/rechunk/engines/xargs_shares.sh source target room"
+    _printed, seconds = room.run(["sh", "-c", engine])
+    expect("the elements of the target", room.run([python, "-c", EQUAL])[0], "True\n")
+    tell("an array by chunkplan and xargs", seconds)
+
+
 def main():
     archive = pathlib.Path(sys.argv[1]).resolve()
     with tempfile.TemporaryDirectory() as made:
@@ -133,6 +163,7 @@ def try_all(room):
     tell("Python, with its environment", seconds)
     expect("python -m zarrs_chunks --version", room.run(["environment/bin/python", "-m", "zarrs_chunks", "--version"])[0], f"{version}\n")
     all_vectors(room, ["environment/bin/python", "-m", "zarrs_chunks"])
+    rechunk(room)
     told = re.search(r"^//! ```text\n(.*?)^//! ```", (folder / "rust/zarrs_chunks/examples/chunks.rs").read_text(), re.MULTILINE | re.DOTALL)
     printed, seconds = room.run(["sh", "-c", rust])
     expect("the Rust example", printed, told[1].replace("//! ", ""))
