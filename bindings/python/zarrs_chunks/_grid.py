@@ -78,7 +78,8 @@ class Grid:
 
     def __init__(self, shape: npt.ArrayLike, chunk_grid: str | Mapping[str, Any]) -> None:
         self._shape = list_of_numbers("shape", shape)
-        self._shape.flags.writeable, self._dimensionality = False, self._shape.size
+        self._shape.flags.writeable = False
+        self._dimensionality = self._shape.size
         self._metadata = Metadata("chunk_grid", chunk_grid)
         self._prepared = PreparedGrid(self._shape, self._metadata.text)
         self._grid_shape = tuple(self._prepared.grid_shape(self._shape.size).tolist())

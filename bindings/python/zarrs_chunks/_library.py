@@ -1,6 +1,6 @@
 """The shared library: where it lies, which calls it has, and how each is made.
 
-Every argument passes through `call`, but for those of the lists of a prepared grid, which `_prepared` passes. It takes arrays and bytes that are fit
+Every argument passes through `call`, but for those of the lists of a prepared grid or encoding, which `_prepared` passes. It takes arrays and bytes that are fit
 for the library, and makes pointers and lengths of them. What a caller of the package gives becomes such an array or bytes in `_numbers`, `_texts` and
 `_metadata`.
 """

@@ -37,6 +37,9 @@ _USUAL_KEY: Any = ctypes.c_char * 128
 _OFFSETS: Any = _NUMBER * 2
 _USUAL_SIZE, _TWO = _SIZE(128), _SIZE(2)
 
+# Bytes lie so far behind the beginning of their object, which is aligned for every type. In CPython they are aligned for numbers, too.
+_ARE_BYTES_ALIGNED = (bytes.__basicsize__ - 1) % ctypes.alignment(_NUMBER) == 0
+
 # From how many numbers on an answer is left as it was allocated, until it is known which lists have none.
 _MANY = 2**12
 
@@ -151,9 +154,10 @@ class PreparedEncoding:
 @functools.lru_cache(maxsize=256)
 def _few_lists(shape: tuple[int, ...]) -> Any:
     """What a call takes for lists in an array of this shape: the types of a list's room and of the marks', how many numbers they are, and the form of
-    the marks. None where there are many lists, or none."""
+    the marks. None where there are many lists, or none, or where the lists can't be passed as bytes."""
     size, count = math.prod(shape), math.prod(shape[:-1])
-    return (_NUMBER * size, _SIZE(size), _MARK * count, _SIZE(count), shape[:-1]) if 0 < size < _MANY else None
+    is_few = _ARE_BYTES_ALIGNED and 0 < size < _MANY
+    return (_NUMBER * size, _SIZE(size), _MARK * count, _SIZE(count), shape[:-1]) if is_few else None
 
 
 def _refuse(code: int, wrong: Any) -> NoReturn:

@@ -204,7 +204,8 @@ impl<A: Axis + Drop> AxisGrid<A> {
         }
     }
 
-    /// For each dimension the chunk that holds a box's first index, and how many chunks there are from it to the one that holds the box's last index.
+    /// For each dimension the chunk that holds a box's first index, and how many chunks there are from it to the one that holds the box's last index;
+    /// `None` where one of the two lies in no chunk. Where a range of the box is empty, its first number stands for the last.
     ///
     /// # Errors
     /// The box has another number of dimensions; or out of memory.
