@@ -1,5 +1,7 @@
 //! Shares of a plan.
-ghost use Rattle.std.specs.Prelude.{◌≡◌, ◌<◌, ◌≤◌, ◌-◌, ◌^◌, ℕ, MatchOption, min};
+ghost use Rattle.std.specs.Prelude.{◌≡◌, ◌<◌, ◌≤◌, ◌+◌, ◌-◌, ◌^◌, ℕ, MatchOption, min};
+
+use crate::numbered_chunks::{count_of, long_count};
 
 /// One of several shares of a plan. Each is an interval of it; they are equally long, up to one, and together they are the plan.
 #[derive(Debug, Clone, Copy)]
@@ -13,6 +15,7 @@ pub struct Share {
 
 impl Share {
     ghost use Rattle.zarrs_chunk_plan.specs.Counted.{counted};
+    ghost use Rattle.zarrs_chunk_plan.specs.Counts.{product};
     ghost use Rattle.zarrs_chunk_plan.specs.Shares.{before_share};
 
     /// The share with this number, counted from 0, of so many; `None` where there is no such.
@@ -33,6 +36,22 @@ impl Share {
         ensures of { result.of ≡ 1 }
     {
         Share { number: 0, of: 1 }
+    }
+
+    /// The numbers of the share's lines, in a plan that has as many lines as the product of these numbers: from the first one on up to the second,
+    /// which isn't among them. `None` for a number past 18446744073709551615.
+    pub fn line_numbers(&self, lines: &[u64]) -> (Option<u64>, Option<u64>)
+        ensures first { result.0
+            ≡ counted (before_share self.now.number self.now.of (product lines.now)) }
+        ensures end { result.1
+            ≡ counted (before_share (self.now.number + 1) self.now.of (product lines.now)) }
+    {
+        let count = long_count(lines);
+        let end = match Share::new(self.number + 1, self.of) {
+            Some(next) => next.lines_before(count),
+            None => count_of(lines),
+        };
+        (self.lines_before(count), end)
     }
 
     /// How many lines come before the share; `None` past 18446744073709551615. Of a plan of more lines than 128 bits count, `count` is the greatest

@@ -6,5 +6,5 @@ pub mod SomeItems
 pub mod Groups
 pub mod Listed
 pub mod WalkPages
-pub mod CopiesAsked
+pub mod RechunkingsAsked
 pub mod NoFloats

@@ -1,5 +1,5 @@
 -- No answer has a float: its numbers are sizes.
-use Rattle.std.proofs.Common.{◌≡◌, ◌∙◌, ◌||◌, ℕ, zero, suc, Bool, false, List, [], ◌∷◌, Option, Some, None, ap, ap₂, length, map, nat_lt, refl, take}
+use Rattle.std.proofs.Common.{◌≡◌, ◌∙◌, ◌||◌, ℕ, zero, suc, ◌+◌, Bool, false, List, [], ◌∷◌, Option, Some, None, ap, ap₂, length, map, nat_lt, refl, take}
 use Rattle.std.proofs.lemmas.Bool.{or_parts}
 use Rattle.std.specs.Int.NonZero.{non_zero_u64_get}
 use Rattle.serde_json.specs.Data.{Data, Members}
@@ -14,13 +14,18 @@ use Rattle.zarrs_chunks.proofs.NoFloats.{no_float_in_list, no_float_in_numbers, 
 use Rattle.zarrs_chunks.proofs.SeenGrids.{no_float_written}
 use Rattle.zarrs_chunks.specs.Walks.{box_at, boxed, chunks_of}
 use Rattle.zarrs_chunk_base.specs.Dimension.{Dimension, array_sizes, grid_sizes}
+use Rattle.zarrs_chunk_plan.specs.Counted.{counted as counted_up_to}
+use Rattle.zarrs_chunk_plan.specs.Counts.{product}
 use Rattle.zarrs_chunk_plan.specs.Rechunking.{Group}
+use Rattle.zarrs_chunk_plan.specs.Shares.{before_share}
+use Rattle.zarrs_chunk_plan.specs.declared.counts.Counts.{Counts}
 use Rattle.zarrs_chunk_plan.specs.declared.numbered_parts.SomeParts.{SomeParts}
 use Rattle.zarrs_chunk_questions.specs.Answers.{IsAnswer, IsArrayAnswer, IsBoxAnswer, IsGridAnswer, IsNumbersAnswer, edges_tree, items_tree}
 use Rattle.zarrs_chunk_questions.specs.Answers.{located_tree}
+use Rattle.zarrs_chunk_questions.specs.Counts.{count_tree, counts_tree, line_number_tree}
 use Rattle.zarrs_chunk_questions.specs.Pages.{chunks_from, first_of, group_tree, is_more, item_tree, item_trees, count_of, page_tree, part_tree}
 use Rattle.zarrs_chunk_questions.specs.Pages.{parts_tree, source_tree, walk_page}
-use Rattle.zarrs_chunk_questions.specs.Question.{Asked, Question, copies, counted, decode, encode, located, of_array, of_box, of_grid, of_numbers}
+use Rattle.zarrs_chunk_questions.specs.Question.{Asked, Question, ShareAsked, copies, counted, counts, decode, encode, located, of_array, of_box, of_grid, of_numbers}
 use Rattle.zarrs_chunk_questions.specs.Question.{of_walk, parts, runs}
 use Rattle.zarrs_chunk_questions.specs.Trees.{box_of, box_tree, numbers_tree, or_null}
 use Rattle.zarrs_chunk_questions.specs.declared.call.OfBox.{OfBox}
@@ -127,6 +132,21 @@ a_group group =
       no_float_in_numbers group.0.chunk.items,
     ) refl
 
+a_line_number : (number : ℕ) → HasNone (line_number_tree number)
+a_line_number number = or_none size_tree (λ n. refl) (counted_up_to number)
+
+of_counts : (share : ShareAsked) (many : Counts) → HasNone (counts_tree share many)
+of_counts (number, of) many =
+    rw (
+      or_none count_tree (λ v. no_float_in_numbers v.items) many.copies,
+      no_float_in_numbers many.elements.items,
+      or_none count_tree (λ v. no_float_in_numbers v.items) many.largest_line,
+      no_float_in_numbers many.lines.items,
+      a_line_number (before_share number of (product many.lines.items)),
+      a_line_number (before_share (number + 1) of (product many.lines.items)),
+      no_float_in_numbers many.source_chunks.items,
+    ) refl
+
 -- ---- of a question
 
 of_an_array : (shape : List ℕ) (asked : Asked) (kind : GridKind) (grid : Grid) (t : Data) → IsArrayAnswer shape asked kind grid t → HasNone t
@@ -144,6 +164,9 @@ of_an_array shape (parts tree wanted lists) kind grid t (encoding, made, is_box,
 of_an_array shape (copies tree target wanted chunks) kind grid t is =
     let (as_long, in_all, groups, are, same) = is.answers in
     ap has_float same ∙ of_page (map group_tree groups) (is_more (first_of wanted) (length groups) in_all) (no_float_mapped group_tree a_group groups)
+of_an_array shape (counts tree target share chunks) kind grid t is =
+    let (as_long, groups, plan, targets, is_box, are, many, those, same) = is.answers in
+    ap has_float same ∙ of_counts share many
 
 pub no_float : (question : Question) (t : Data) → IsAnswer question t → has_float t ≡ false
 no_float (of_array shape tree asked) t (kind, grid, made, is) = of_an_array shape asked kind grid t is

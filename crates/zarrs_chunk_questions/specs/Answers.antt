@@ -24,8 +24,9 @@ use Rattle.zarrs_chunks.specs.GridKinds.{GridKind, IsGridIn, grid_kind, rectilin
 use Rattle.zarrs_chunks.specs.Located.{IsLocated}
 use Rattle.zarrs_chunks.specs.Subsets.{AnswersChunksSubset, AnswersCover, AnswersEmptyCover, AnswersSubset, HasNoHome, LookedBox}
 use Rattle.zarrs_chunks.specs.declared.location.Located.{Located}
+use Rattle.zarrs_chunk_questions.specs.Counts.{IsSomeCountsAnswer}
 use Rattle.zarrs_chunk_questions.specs.Pages.{IsSomeCopiesAnswer, IsSomePartsAnswer, walk_tree}
-use Rattle.zarrs_chunk_questions.specs.Question.{Asked, Question, copies, counted, decode, encode, located, of_array, of_box, of_grid, of_numbers}
+use Rattle.zarrs_chunk_questions.specs.Question.{Asked, Question, copies, counted, counts, decode, encode, located, of_array, of_box, of_grid, of_numbers}
 use Rattle.zarrs_chunk_questions.specs.Question.{of_walk, parts, runs}
 use Rattle.zarrs_chunk_questions.specs.Trees.{Says, box_of, box_tree, numbers_tree, or_null}
 use Rattle.zarrs_chunk_questions.specs.declared.call.OfBox.{OfBox}
@@ -136,6 +137,7 @@ IsArrayAnswer shape (located tree index) kind grid t =
     (encoding : Encoding) × IsEncodingIn tree encoding × IsLocatedAnswer grid encoding index t
 IsArrayAnswer shape (parts tree items lists) kind grid t = IsSomePartsAnswer tree items lists grid t
 IsArrayAnswer shape (copies tree target items chunks) kind grid t = IsSomeCopiesAnswer shape tree target items chunks grid t
+IsArrayAnswer shape (counts tree target share chunks) kind grid t = IsSomeCountsAnswer shape tree target share chunks grid t
 
 -- The answer of a question.
 abbrev pub IsAnswer : Question → Data → Type 0

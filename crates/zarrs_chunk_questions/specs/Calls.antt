@@ -1,5 +1,5 @@
 -- The calls that a question may name, one row a call.
--- Source: the names are those of zarrs, but for `locate`, `parts`, `copies`, `runs` and `chunk_indices_counted`, which are this library's own.
+-- Source: the names are those of zarrs, but for `locate`, `parts`, `copies`, `counts`, `runs` and `chunk_indices_counted`, which are this library's own.
 use Rattle.std.specs.Prelude.{◌≡◌, ◌≢◌, ℕ, List, Option, Some, None, codes}
 use Rattle.zarrs_chunk_questions.specs.declared.call.Call.{Call}
 use Rattle.zarrs_chunk_questions.specs.declared.call.Call.TheVariants as call
@@ -55,6 +55,7 @@ array_call of_array.ChunkIndicesCounted = codes "chunk_indices_counted"
 array_call of_array.Locate = codes "locate"
 array_call of_array.Parts = codes "parts"
 array_call of_array.Copies = codes "copies"
+array_call of_array.Counts = codes "counts"
 
 -- the name of a call
 abbrev pub name_of : Call → List ℕ

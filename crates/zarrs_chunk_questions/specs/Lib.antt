@@ -1,6 +1,7 @@
 pub mod AnswerLine
 pub mod Answers
 pub mod Calls
+pub mod Counts
 pub mod Line
 pub mod Pages
 pub mod Question

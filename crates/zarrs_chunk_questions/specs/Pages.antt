@@ -137,9 +137,14 @@ abbrev pub target_chunks : Option Lists → List Dimension → Box
 target_chunks (Some lists) ds = box_of lists
 target_chunks None ds = all_chunks_box ds
 
--- The answer `t` to `copies`, of an array of this shape that has this grid: its encoding, and the target's grid and encoding, are made of the trees
--- that the question gives.
-pub record IsSomeCopiesAnswer (shape : List ℕ) (tree : Data) (target : Target) (items : Items) (chunks : Option Lists) (grid : Grid)
+-- what is answered of two grids and the keys of their chunks, and of a box of the target's chunks
+abbrev pub OfTwoGrids : Type 1
+OfTwoGrids = (source : List Dimension) (IsSourceKey : List ℕ → List ℕ → Type 0) (target : List Dimension)
+    (IsTargetKey : List ℕ → List ℕ → Type 0) (chunks : Box) → Data → Type 0
+
+-- The answer `t` to a question about a rechunking of an array of this shape that has this grid: its encoding, and the target's grid and encoding,
+-- are made of the trees that the question gives.
+pub record IsRechunkingAnswer (Answers : OfTwoGrids) (shape : List ℕ) (tree : Data) (target : Target) (chunks : Option Lists) (grid : Grid)
     (t : Data) : Type 0 where
   pub encoding : Encoding
   pub is_encoding : IsEncodingIn tree encoding
@@ -149,5 +154,12 @@ pub record IsSomeCopiesAnswer (shape : List ℕ) (tree : Data) (target : Target)
   pub target_encoding : Encoding
   pub is_target_encoding : IsEncodingIn target.chunk_key_encoding target_encoding
   pub is_box : IfSome chunks (λ lists. IsBox (box_of lists))
-  pub answers : IsCopiesAnswer grid.dimensions (IsKey encoding) target_grid.dimensions (IsKey target_encoding)
-      (target_chunks chunks target_grid.dimensions) (first_of items) items.most t
+  pub answers : Answers grid.dimensions (IsKey encoding) target_grid.dimensions (IsKey target_encoding)
+      (target_chunks chunks target_grid.dimensions) t
+
+-- the answer to `copies`
+abbrev pub IsSomeCopiesAnswer : (shape : List ℕ) → Data → Target → Items → Option Lists → Grid → Data → Type 0
+IsSomeCopiesAnswer shape tree target items chunks grid =
+    IsRechunkingAnswer
+    (λ source IsSourceKey to IsTargetKey b. IsCopiesAnswer source IsSourceKey to IsTargetKey b (first_of items) items.most) shape tree target
+    chunks grid

@@ -1,12 +1,13 @@
 -- What a line's tree asks.
 -- Source: Zarr V3 core, array metadata, for `shape`, `chunk_grid` and `chunk_key_encoding`; the other members are this library's own.
-use Rattle.std.specs.Prelude.{◌≡◌, ℕ, List, codes, Option, Some, None, Ok, Err, option_and_then}
+use Rattle.std.specs.Prelude.{◌≡◌, ℕ, List, codes, cond, nat_lt, Option, Some, None, Ok, Err, option_and_then}
 use Rattle.std.specs.Option.{ok_or}
 use Rattle.serde_json.specs.Data.{Data}
 use Rattle.serde_json.specs.Find.{as_object, as_str, get}
 use Rattle.zarrs_chunk_base.specs.Json.{list_of, pair_of, size_of}
 use Rattle.zarrs_chunk_questions.specs.Calls.{IsNamed}
 use Rattle.zarrs_chunk_questions.specs.Reading.{Reading, in_form, missing, no_call, not_object, optional_in, required, required_in, then}
+use Rattle.zarrs_chunk_questions.specs.Reading.{wrong_value}
 use Rattle.zarrs_chunk_questions.specs.declared.call.Call.{Call}
 use Rattle.zarrs_chunk_questions.specs.declared.call.Call.TheVariants as call
 use Rattle.zarrs_chunk_questions.specs.declared.call.OfArray.{OfArray}
@@ -30,6 +31,10 @@ pub record Target : Type 0 where
   pub chunk_grid : Data
   pub chunk_key_encoding : Data
 
+-- a share of a plan: its number, counted from 0, and how many there are
+abbrev pub ShareAsked : Type 0
+ShareAsked = ℕ × ℕ
+
 -- what an array's grid is asked, by some calls with the tree of an encoding's metadata
 pub data Asked : Type 0 where
   of_grid : OfGrid → Asked
@@ -41,6 +46,7 @@ pub data Asked : Type 0 where
   located : (encoding : Data) (index : List ℕ) → Asked
   parts : (encoding : Data) (items : Items) (b : Lists) → Asked
   copies : (encoding : Data) (target : Target) (items : Items) (chunks : Option Lists) → Asked
+  counts : (encoding : Data) (target : Target) (share : ShareAsked) (chunks : Option Lists) → Asked
 
 -- what is asked: of the grid of an array with this shape, of which the tree is the metadata; the key of a chunk; or the chunk of a key
 pub data Question : Type 0 where
@@ -74,6 +80,14 @@ target_in d =
     then (of_target (codes "chunk_key_encoding") (codes "target.chunk_key_encoding") target) (λ encoding.
     Ok (record { chunk_grid = grid; chunk_key_encoding = encoding })))))
 
+-- the one share that is the whole plan, where none is given; a share's number is below how many there are
+abbrev pub one_of : Option ShareAsked → Reading ShareAsked
+one_of None = Ok (0, 1)
+one_of (Some share) = cond (nat_lt share.0 share.1) (Ok share) (Err (wrong_value (codes "share")))
+
+abbrev pub share_in : Data → Reading ShareAsked
+share_in d = then (optional_in (pair_of size_of) (codes "share") d) one_of
+
 abbrev pub encoding_in : Data → Reading Data
 encoding_in = required (codes "chunk_key_encoding")
 
@@ -97,6 +111,12 @@ asked_in array.Copies d =
     then (items_in d) (λ items.
     then (optional_in (pair_of (list_of size_of)) (codes "chunks") d) (λ chunks.
     Ok (copies encoding target items chunks)))))
+asked_in array.Counts d =
+    then (encoding_in d) (λ encoding.
+    then (target_in d) (λ target.
+    then (share_in d) (λ share.
+    then (optional_in (pair_of (list_of size_of)) (codes "chunks") d) (λ chunks.
+    Ok (counts encoding target share chunks)))))
 
 -- the text of a member, if it has one
 abbrev pub text_in : List ℕ → Data → Option (List ℕ)

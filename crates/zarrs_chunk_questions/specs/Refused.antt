@@ -19,7 +19,7 @@ use Rattle.zarrs_chunks.specs.Subsets.{AnswersChunksSubset}
 use Rattle.zarrs_chunk_plan.specs.seen.Copies.{IsCopiesFault}
 use Rattle.zarrs_chunk_questions.specs.Answers.{AnswersCoverOf}
 use Rattle.zarrs_chunk_questions.specs.Pages.{AnswersPartsOf, target_chunks}
-use Rattle.zarrs_chunk_questions.specs.Question.{Asked, Lists, Question, Target, copies, counted, decode, encode, located}
+use Rattle.zarrs_chunk_questions.specs.Question.{Asked, Lists, Question, Target, copies, counted, counts, decode, encode, located}
 use Rattle.zarrs_chunk_questions.specs.Question.{of_array, of_box, of_grid, of_numbers, of_walk, parts, runs}
 use Rattle.zarrs_chunk_questions.specs.Trees.{box_of}
 use Rattle.zarrs_chunk_questions.specs.declared.call.OfBox.{OfBox}
@@ -145,6 +145,7 @@ IsArrayRefusal shape (counted index) kind grid fault =
 IsArrayRefusal shape (located tree index) kind grid fault = IsLocatedRefusal tree (length index) (length grid.dimensions) fault
 IsArrayRefusal shape (parts tree items lists) kind grid fault = IsSomePartsRefusal tree lists grid fault
 IsArrayRefusal shape (copies tree target items chunks) kind grid fault = IsSomeCopiesRefusal shape tree target chunks grid fault
+IsArrayRefusal shape (counts tree target share chunks) kind grid fault = IsSomeCopiesRefusal shape tree target chunks grid fault
 
 -- Why a question has no answer.
 abbrev pub IsRefusal : Question → LineFault → Type 0

@@ -6,25 +6,27 @@ ghost use Rattle.zarrs_chunk_keys.specs.ChunkKey.{Encoding};
 ghost use Rattle.zarrs_chunk_keys.specs.KeyKinds.{IsEncodingIn};
 ghost use Rattle.zarrs_chunks.specs.seen.Grids.{grid_in, kind_in};
 ghost use Rattle.zarrs_chunk_questions.specs.Answers.{IsArrayAnswer, IsLocatedAnswer};
+ghost use Rattle.zarrs_chunk_questions.specs.Counts.{IsSomeCountsAnswer};
 ghost use Rattle.zarrs_chunk_questions.specs.Pages.{IsSomeCopiesAnswer, IsSomePartsAnswer, walk_tree};
 ghost use Rattle.zarrs_chunk_questions.specs.Refused.{IsArrayRefusal, IsLocatedRefusal, IsSomeCopiesRefusal, IsSomePartsRefusal};
-ghost use Rattle.zarrs_chunk_questions.specs.seen.Read.{asked_of, items_of, lists_of, target_of};
+ghost use Rattle.zarrs_chunk_questions.specs.seen.Read.{asked_of, items_of, lists_of, share_of, target_of};
 
 use crate::asked::{Asked, Items, Lists, Target};
 use crate::call::WalkOf;
+use crate::counting::counts_of_copies;
 use crate::extensions::{box_of, make_encoding};
 use crate::grid_answers::{answer_alone, answer_box, answer_numbers};
 use crate::limits::Limits;
 use crate::line_fault::LineFault;
 use crate::pages::{items_from, parts_from};
-use crate::rechunking::{copies_from, make_target, target_chunks};
+use crate::rechunking::{Rechunking, copies_from};
 use crate::rectilinear_answers::{answer_counted, answer_runs, expect_rectilinear};
 use crate::trees::{found, located_tree};
 use crate::walk_items::items_of_walk;
 use serde_json::Value;
 use std::alloc::{AllocError, Global};
 use zarrs_chunk_base::Refusal;
-use zarrs_chunk_plan::StoredArray;
+use zarrs_chunk_plan::Share;
 use zarrs_chunks::{ChunkGrid, ChunkGridTraits, locate};
 
 /// What the grid of an array with this shape answers; `None` where the items of a walk are longer than there is room for.
@@ -69,6 +71,10 @@ pub(crate) fn answer_asked(
         }
         Asked::Copies(encoding, target, items, chunks) => {
             some_copies(alloc, shape, grid, encoding, target, items, chunks, room)
+        }
+        Asked::Counts(encoding, target, share, chunks) => {
+            let counts = answer_counts(alloc, shape, grid, encoding, target, share, chunks)?;
+            Ok(Some(counts))
         }
     }
 }
@@ -175,10 +181,30 @@ fn some_copies(
         (option_map lists_of chunks) (grid_in grid))) }
 {
     let limits = limits_of(&grid, items, 5, room);
-    let encoding = make_encoding(alloc, encoding_tree)?;
-    let source = StoredArray { grid, encoding };
-    let target = make_target(alloc, target, shape)?;
-    let chunks = target_chunks(alloc, chunks, &target.grid)?;
+    let rechunking = Rechunking::new(alloc, shape, grid, encoding_tree, target, chunks)?;
     let first = items.first.unwrap_or(0);
-    copies_from(alloc, &source, &target, &chunks, first, &limits)
+    copies_from(alloc, &rechunking, first, &limits)
+}
+
+/// How much the plan of a rechunking of the grid's array copies, which has this shape, and which of its lines a share has.
+///
+/// # Errors
+/// As of [`some_copies`].
+fn answer_counts(
+    alloc: Global,
+    shape: &[u64],
+    grid: ChunkGrid,
+    encoding_tree: &Value,
+    target: Target<'_>,
+    share: Share,
+    chunks: Option<Lists>,
+) -> Result<Value, Refusal<LineFault>>
+    ensures { MatchResult result (λ tree. IsSomeCountsAnswer shape.now
+        (view encoding_tree.now) (target_of target.entry) (share_of share)
+        (option_map lists_of chunks) (grid_in grid) (view tree))
+        (OrMemory (IsSomeCopiesRefusal shape.now (view encoding_tree.now) (target_of target.entry)
+        (option_map lists_of chunks) (grid_in grid))) }
+{
+    let rechunking = Rechunking::new(alloc, shape, grid, encoding_tree, target, chunks)?;
+    counts_of_copies(alloc, &rechunking, &share)
 }

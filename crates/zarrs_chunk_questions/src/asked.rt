@@ -1,9 +1,9 @@
 //! What an array's grid is asked.
 ghost use Rattle.std.specs.Prelude.{codes};
 ghost use Rattle.serde_json.specs.View.{view};
-ghost use Rattle.zarrs_chunk_questions.specs.Question.{asked_in, encoding_in, items_in, lists_in, numbers_in, of_target as member_of, target_in};
-ghost use Rattle.zarrs_chunk_questions.specs.seen.Read.{IsRead, asked_of, items_of, lists_of, target_of};
-ghost use Rattle.zarrs_chunk_questions.specs.declared.call.OfArray.TheVariants.{Copies, Locate, Parts};
+ghost use Rattle.zarrs_chunk_questions.specs.Question.{asked_in, encoding_in, items_in, lists_in, numbers_in, of_target as member_of, share_in, target_in};
+ghost use Rattle.zarrs_chunk_questions.specs.seen.Read.{IsRead, asked_of, items_of, lists_of, share_of, target_of};
+ghost use Rattle.zarrs_chunk_questions.specs.declared.call.OfArray.TheVariants.{Copies, Counts, Locate, Parts};
 
 use crate::call::{OfArray, OfBox, OfGrid, OfNumbers, WalkOf};
 use crate::reading::{optional_in, required, required_in};
@@ -11,6 +11,7 @@ use crate::unreadable::Unreadable;
 use serde_json::Value;
 use std::alloc::Global;
 use zarrs_chunk_base::{Refusal, TreeForm};
+use zarrs_chunk_plan::Share;
 
 /// A box, as its start and its shape say it.
 pub(crate) type Lists = (Vec<u64>, Vec<u64>);
@@ -32,6 +33,8 @@ pub(crate) enum Asked<'t> {
     Parts(&'t Value, Items, Lists),
     /// Some of the groups of the plan of a rechunking, into the chunks of a box, where one is given.
     Copies(&'t Value, Target<'t>, Items, Option<Lists>),
+    /// How much that plan copies, and which of its lines a share has.
+    Counts(&'t Value, Target<'t>, Share, Option<Lists>),
 }
 
 /// Which items of a walk are asked for.
@@ -73,6 +76,7 @@ impl<'t> Asked<'t> {
             OfArray::Locate => located(alloc, tree),
             OfArray::Parts => parts(alloc, tree),
             OfArray::Copies => copies(alloc, tree),
+            OfArray::Counts => counts(alloc, tree),
         }
     }
 }
@@ -126,6 +130,34 @@ fn copies<'t>(alloc: Global, tree: &'t Value) -> Result<Asked<'t>, Refusal<Unrea
     let items = Items::from_tree(alloc, tree)?;
     let chunks = optional_in(alloc, "chunks", tree)?;
     Ok(Asked::Copies(encoding, target, items, chunks))
+}
+
+/// What `counts` is asked of.
+fn counts<'t>(alloc: Global, tree: &'t Value) -> Result<Asked<'t>, Refusal<Unreadable>>
+    ensures { IsRead asked_of (asked_in Counts (view tree.now)) result }
+{
+    let encoding = encoding(tree)?;
+    let target = Target::from_tree(tree)?;
+    let share = share(alloc, tree)?;
+    let chunks = optional_in(alloc, "chunks", tree)?;
+    Ok(Asked::Counts(encoding, target, share, chunks))
+}
+
+/// The share that a line asks for: its member `share`, the number of the share and how many there are; where it has none, the whole plan.
+///
+/// # Errors
+/// `share` isn't two sizes, or there is no share with the number. Or out of memory.
+fn share(alloc: Global, tree: &Value) -> Result<Share, Refusal<Unreadable>>
+    ensures { IsRead share_of (share_in (view tree.now)) result }
+{
+    let given: Option<(u64, u64)> = optional_in(alloc, "share", tree)?;
+    let Some((number, of)) = given else {
+        return Ok(Share::whole());
+    };
+    match Share::new(number, of) {
+        Some(share) => Ok(share),
+        None => Err(Refusal::Refused(Unreadable::WrongValue("share"))),
+    }
 }
 
 impl Items {

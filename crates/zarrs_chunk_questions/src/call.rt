@@ -34,6 +34,8 @@ pub(crate) enum OfArray {
     Parts,
     /// Of a target, with an encoding.
     Copies,
+    /// Of the same.
+    Counts,
 }
 
 /// What a grid is asked alone.
@@ -109,6 +111,7 @@ impl Call {
             "locate" => OfArray::Locate,
             "parts" => OfArray::Parts,
             "copies" => OfArray::Copies,
+            "counts" => OfArray::Counts,
             _ => return None,
         };
         Some(Call::OfArray(of_array))

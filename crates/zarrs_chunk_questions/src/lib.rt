@@ -2,7 +2,7 @@
 //!
 //! A question is a JSON object: the `shape` of an array and its `chunk_grid`, as in its `zarr.json`, the name of a `call`, and what it is asked
 //! `of`, where it takes something; for a walk, how many `items` to give, and from which on (`first`); for `locate`, `parts` and `copies`, a
-//! `chunk_key_encoding`; for `copies`, a `target` and perhaps a box of its `chunks`. The calls `encode` and `decode` take a `chunk_key_encoding`
+//! `chunk_key_encoding`; for `copies` and `counts`, a `target` and perhaps a box of its `chunks`, and for `counts` perhaps a `share`. The calls `encode` and `decode` take a `chunk_key_encoding`
 //! and no grid. [`answer`] gives the line that answers it: the answer as compact JSON, why the library refused, or why the question can't be read.
 //! [`answer_within`] ends a walk where its items are longer than there is room for.
 //!
@@ -23,6 +23,7 @@
 //! | `extensions` | the grid, the encoding and the box that a line gives |
 //! | `grid_answers`, `rectilinear_answers`, `key_answers` | what a grid answers, one that is `rectilinear` alone, and an encoding |
 //! | `walk_items`, `pages`, `rechunking` | the items of a walk; those of a walk and of a plan from one of them on; those of a rechunking |
+//! | `counting` | how much a rechunking copies |
 //! | `limits` | how many of them are given |
 //! | `trees`, `plan_trees` | the trees that answers are written as, and the parts of plans |
 //! | `answer_line` | the line that answers a line |
@@ -33,6 +34,7 @@ mod answering;
 mod array_question;
 mod asked;
 mod call;
+mod counting;
 mod extensions;
 mod grid_answers;
 mod key_answers;

@@ -1,4 +1,4 @@
-//! The groups of the plan of a rechunking, from one of them on: those before it take no time.
+//! A rechunking that a question is about; and the groups of its plan, from one of them on: those before it take no time.
 ghost use Rattle.std.specs.Prelude.{◌≡◌, IfOk, IfSome, List, MatchResult, length, map, option_map, replicate};
 ghost use Rattle.std.specs.List.{AllByRecursion, AllZip};
 ghost use Rattle.serde_json.specs.View.{view};
@@ -12,13 +12,13 @@ ghost use Rattle.zarrs_chunk_plan.specs.seen.Copies.{IsPlanned};
 ghost use Rattle.zarrs_chunk_plan.specs.seen.Parts.{ArePartsToCome, MeetSubset};
 ghost use Rattle.zarrs_chunks.specs.seen.Grids.{grid_in};
 ghost use Rattle.zarrs_chunk_questions.specs.Pages.{IsCopiesAnswer, group_tree as tree_of_group, target_chunks as chunks_asked};
-ghost use Rattle.zarrs_chunk_questions.specs.Refused.{IsNoBoxOf, IsNoRechunking};
+ghost use Rattle.zarrs_chunk_questions.specs.Refused.{IsNoBoxOf, IsNoRechunking, IsSomeCopiesRefusal};
 ghost use Rattle.zarrs_chunk_questions.specs.seen.Read.{lists_of, target_of};
 ghost use Rattle.zarrs_chunk_questions.specs.Trees.{box_of as box_said};
-ghost use Rattle.zarrs_chunk_questions.specs.seen.Targets.{IsNoTarget, IsTargetIn};
+ghost use Rattle.zarrs_chunk_questions.specs.seen.Targets.{IsNoTarget, IsRechunkingIn, IsTargetIn};
 
 use crate::asked::{Lists, Target};
-use crate::extensions::box_of;
+use crate::extensions::{box_of, make_encoding};
 use crate::limits::Limits;
 use crate::line_fault::LineFault;
 use crate::pages::page_tree;
@@ -35,11 +35,51 @@ use zarrs_chunks::{ArrayIndicesTinyVec, ChunkGrid, ChunkGridTraits};
 /// An array as it is stored, by metadata.
 pub(crate) type Stored = StoredArray<ChunkGrid, ChunkKeyEncoding>;
 
+/// A rechunking that a question is about.
+#[derive(Drop)]
+pub(crate) struct Rechunking {
+    /// The array as it is stored, and as it is to be stored.
+    pub(crate) source: Stored,
+    pub(crate) target: Stored,
+    /// The chunks of the target that are asked for.
+    pub(crate) chunks: ArraySubset,
+}
+
+impl Rechunking {
+    /// The rechunking of the array with this shape and this grid that is asked about.
+    ///
+    /// # Errors
+    /// The first that applies: the encoding can't be made; the target's grid; its encoding; the start and the shape make no box. Or out of memory.
+    pub(crate) fn new(
+        alloc: Global,
+        shape: &[u64],
+        grid: ChunkGrid,
+        encoding_tree: &Value,
+        target: Target<'_>,
+        chunks: Option<Lists>,
+    ) -> Result<Rechunking, Refusal<LineFault>>
+        ensures { MatchResult result (IsRechunkingIn shape.now grid (view encoding_tree.now)
+            (target_of target.entry) (option_map lists_of chunks))
+            (OrMemory (IsSomeCopiesRefusal shape.now (view encoding_tree.now)
+            (target_of target.entry) (option_map lists_of chunks) (grid_in grid))) }
+    {
+        let encoding = make_encoding(alloc, encoding_tree)?;
+        let target = make_target(alloc, target, shape)?;
+        let chunks = target_chunks(alloc, chunks, &target.grid)?;
+        let source = StoredArray { grid, encoding };
+        Ok(Rechunking {
+            source,
+            target,
+            chunks,
+        })
+    }
+}
+
 /// The grid and the encoding of a target, of an array with this shape.
 ///
 /// # Errors
 /// The first that applies: the grid can't be made; the encoding can't. Or out of memory.
-pub(crate) fn make_target(
+fn make_target(
     alloc: Global,
     target: Target<'_>,
     shape: &[u64],
@@ -61,7 +101,7 @@ pub(crate) fn make_target(
 ///
 /// # Errors
 /// The start and the shape make no box; or out of memory.
-pub(crate) fn target_chunks(
+fn target_chunks(
     alloc: Global,
     chunks: Option<Lists>,
     grid: &ChunkGrid,
@@ -80,26 +120,31 @@ pub(crate) fn target_chunks(
     }
 }
 
-/// The tree of the groups of the plan of a rechunking into the chunks of a box, from the one with this number on; `None` where the parts are longer
-/// than there is room for. A group is made for one chunk of the target at a time, and no more of its parts than there is room for.
+/// The tree of the groups of the plan of a rechunking, from the one with this number on; `None` where the parts are longer than there is room for. A
+/// group is made for one chunk of the target at a time, and no more of its parts than there is room for.
 ///
 /// # Errors
-/// The box has another number of dimensions than the target; or out of memory.
+/// The box of chunks has another number of dimensions than the target; or out of memory.
 pub(crate) fn copies_from(
     alloc: Global,
-    source: &Stored,
-    target: &Stored,
-    chunks: &ArraySubset,
+    rechunking: &Rechunking,
     first: u64,
     limits: &Limits,
 ) -> Result<Option<Value>, Refusal<LineFault>>
     ensures { MatchResult result (λ found. IfSome found (λ tree. IsCopiesAnswer
-        (grid_in source.now.grid).dimensions (IsKey (encoding_in source.now.encoding))
-        (grid_in target.now.grid).dimensions (IsKey (encoding_in target.now.encoding))
-        chunks.now first limits.now.most (view tree)))
-        (OrMemory (IsNoRechunking (grid_in source.now.grid).dimensions
-        (grid_in target.now.grid).dimensions chunks.now)) }
+        (grid_in rechunking.now.source.grid).dimensions
+        (IsKey (encoding_in rechunking.now.source.encoding))
+        (grid_in rechunking.now.target.grid).dimensions
+        (IsKey (encoding_in rechunking.now.target.encoding))
+        rechunking.now.chunks first limits.now.most (view tree)))
+        (OrMemory (IsNoRechunking (grid_in rechunking.now.source.grid).dimensions
+        (grid_in rechunking.now.target.grid).dimensions rechunking.now.chunks)) }
 {
+    let Rechunking {
+        source,
+        target,
+        chunks,
+    } = rechunking;
     let targets = match targets_of(alloc, &source.grid, &target.grid, chunks) {
         Ok(targets) => targets,
         Err(Refusal::Refused(error)) => return Err(Refusal::Refused(LineFault::Copies(error))),

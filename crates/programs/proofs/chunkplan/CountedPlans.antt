@@ -13,7 +13,7 @@ use Rattle.zarrs_chunk_plan.specs.declared.part.Part.{Part}
 use Rattle.zarrs_chunk_plan.specs.seen.Parts.{HasKeys}
 use Rattle.zarrs_chunk_plan.specs.seen.ReadCounts.{AreCountsOf}
 use Rattle.zarrs_chunk_plan.proofs.Plans.{all_of_each, empty_or_some}
-use Rattle.zarrs_chunk_plan.proofs.SomePlan.{have_groups, plan_over}
+use Rattle.zarrs_chunk_plan.proofs.SomePlan.{plan_over}
 use Rattle.programs.specs.chunkplan.Planned.{IsReadPlan}
 
 pub counted_parts : (ds : List Dimension) (IsKey : List ℕ → List ℕ → Type 0) → AllByRecursion IsChain ds → HasKeys IsKey
@@ -35,16 +35,3 @@ counted_parts ds IsKey chains keys subset counts is_box many if_empty if_some = 
       let (_, ((cover, is_cover), are)) = if_some (inl filled) in
       let (parts, plan) = plan_over ds IsKey chains keys subset cover is_box filled is_cover in
       (parts, record { lengths = many; some = λ _. plan; none = λ empty. absurd (filled empty) }, are parts plan)
-
-pub counted_groups : (source : List Dimension) (IsSourceKey : List ℕ → List ℕ → Type 0) (target : List Dimension)
-    (IsTargetKey : List ℕ → List ℕ → Type 0) → AllByRecursion IsChain source → AllByRecursion IsChain target → HasKeys IsSourceKey
-    → HasKeys IsTargetKey → array_sizes source ≡ array_sizes target → IsBox (array_box target) → (chunks targets : Box) → IsBox targets
-    → AreTargets target chunks targets → (groups : List Group) × IsRechunking source IsSourceKey target IsTargetKey chunks groups
-counted_groups source IsSourceKey target IsTargetKey chains also_chains keys also_keys one_array is_array chunks targets is_box are =
-    let meet = all_of_each (Meets target (array_box target)) (chunks_in targets)
-    (λ chunk has. ((are chunk).0 ((are_those_inside targets is_box chunk).0 has)).1)
-    in
-    let (groups, zipped) = have_groups source IsSourceKey target IsTargetKey chains also_chains keys also_keys one_array is_array (chunks_in targets)
-    meet
-    in
-    (groups, record { targets = targets; is_box = is_box; are_targets = are; are_groups = zipped })

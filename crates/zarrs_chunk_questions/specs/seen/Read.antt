@@ -4,6 +4,7 @@ use Rattle.std.specs.declared.alloc.Global.{Global}
 use Rattle.serde_json.specs.View.{view}
 use Rattle.zarrs_chunk_base.specs.Refusal.{OrMemory}
 use Rattle.zarrs_chunk_base.specs.declared.refusal.Refusal.{Refusal}
+use Rattle.zarrs_chunk_plan.specs.declared.share.Share.{Share}
 use Rattle.zarrs_chunk_questions.specs.Question as question
 use Rattle.zarrs_chunk_questions.specs.Reading.{Fault, Reading, missing, no_call, not_json, not_object, wrong_value}
 use Rattle.zarrs_chunk_questions.specs.declared.asked.Asked.{Asked}
@@ -35,6 +36,9 @@ items_of items = record { most = items.most; first = items.first }
 abbrev pub target_of : Target → question.Target
 target_of target = record { chunk_grid = view target.chunk_grid.now; chunk_key_encoding = view target.chunk_key_encoding.now }
 
+abbrev pub share_of : Share → question.ShareAsked
+share_of share = (share.number, share.of)
+
 abbrev pub asked_of : Asked → question.Asked
 asked_of (asked.OfGrid call) = question.of_grid call
 asked_of (asked.OfNumbers call numbers) = question.of_numbers call numbers.items
@@ -46,6 +50,8 @@ asked_of (asked.Located encoding index) = question.located (view encoding.now) i
 asked_of (asked.Parts encoding items lists) = question.parts (view encoding.now) (items_of items) (lists_of lists)
 asked_of (asked.Copies encoding target items chunks) =
     question.copies (view encoding.now) (target_of target) (items_of items) (option_map lists_of chunks)
+asked_of (asked.Counts encoding target share chunks) =
+    question.counts (view encoding.now) (target_of target) (share_of share) (option_map lists_of chunks)
 
 abbrev pub question_of : Question → question.Question
 question_of (asks.OfArray shape chunk_grid asked) = question.of_array shape.items (view chunk_grid.now) (asked_of asked)

@@ -1,40 +1,23 @@
-use Rattle.std.proofs.Common.{inl, inr, ⊎_elim, option_map}
+use Rattle.std.proofs.Common.{option_map}
 use Rattle.serde_json.specs.View.{view}
-use Rattle.zarrs_chunk_keys.specs.seen.Encodings.{encoding_in}
-use Rattle.zarrs_chunks.specs.seen.Grids.{grid_in, kind_in}
+use Rattle.zarrs_chunk_questions.specs.Pages.{IsCopiesAnswer, first_of}
 use Rattle.zarrs_chunk_questions.specs.seen.Read.{items_of, lists_of, target_of}
-use Rattle.zarrs_chunk_questions.proofs.Refusals.{handed_on}
-use Rattle.zarrs_chunk_questions.proofs.CopiesAsked.{copies_asked}
+use Rattle.zarrs_chunk_questions.proofs.Refusals.{if_some, in_other_words}
+use Rattle.zarrs_chunk_questions.proofs.RechunkingsAsked.{answered, refused}
 use Rattle.zarrs_chunk_questions.proofs.array_question.some_copies.Goals as goal
-
-pub returns-in_err-target : goal.returns-in_err-target
-returns-in_err-target c =
-    let encoding = c.in_ok-encoding in
-    handed_on _ _ _ c.from_residual-in_err-target.result c.in_err-target.field-0.0
-    (λ fault.
-    ⊎_elim (λ of_grid. inr (encoding_in encoding.encoding, encoding.ensures, inl of_grid))
-    (λ (made, is, of_encoding). inr (encoding_in encoding.encoding, encoding.ensures, inr (kind_in made, grid_in made, is, inl of_encoding))))
-    c.in_err-target.ensures c.from_residual-in_err-target.ensures.1
-
-pub returns-in_err-chunks : goal.returns-in_err-chunks
-returns-in_err-chunks c =
-    let encoding = c.in_ok-encoding in
-    let target = c.in_ok-target.target in
-    let (is_grid, is_encoding) = c.in_ok-target.ensures in
-    handed_on _ _ _ c.from_residual-in_err-chunks.result c.in_err-chunks.field-0.0
-    (λ fault no_box. inr (
-      encoding_in encoding.encoding,
-      encoding.ensures,
-      inr (kind_in target.grid, grid_in target.grid, is_grid, inr (encoding_in target.encoding, is_encoding, inl no_box)),
-    ))
-    c.in_err-chunks.ensures c.from_residual-in_err-chunks.ensures.1
 
 pub returns : goal.returns
 returns c =
-    let encoding = c.in_ok-encoding in
-    let target = c.in_ok-target in
-    let chunks = c.in_ok-chunks in
-    copies_asked c.args.shape.now (view c.args.encoding_tree.now) (target_of c.args.target) (items_of c.args.items)
-    (option_map lists_of c.args.chunks) (grid_in c.args.grid) (encoding_in encoding.encoding) encoding.ensures target.target target.ensures
-    chunks.chunks chunks.ensures c.unwrap_or-first.result c.limits_of-limits.result.most c.unwrap_or-first.ensures c.limits_of-limits.ensures
-    c.copies_from.result c.copies_from.ensures
+    let shape = c.args.shape.now in
+    let grid = c.args.grid in
+    let tree = view c.args.encoding_tree.now in
+    let target = target_of c.args.target in
+    let chunks = option_map lists_of c.args.chunks in
+    let items = items_of c.args.items in
+    let made = c.in_ok-rechunking.rechunking in
+    let is = c.in_ok-rechunking.ensures in
+    in_other_words _ _ _ _ c.copies_from.result
+    (λ found. if_some _ _ found
+    (λ t. answered shape grid tree target chunks made is
+    (λ source IsSourceKey to IsTargetKey b. IsCopiesAnswer source IsSourceKey to IsTargetKey b (first_of items) items.most) (view t)))
+    (refused shape grid tree target chunks made is) (rw (c.unwrap_or-first.ensures, c.limits_of-limits.ensures) at c.copies_from.ensures)

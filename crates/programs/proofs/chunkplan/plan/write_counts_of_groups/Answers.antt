@@ -1,7 +1,7 @@
 use Rattle.programs.specs.chunkplan.CountsLine.{IsCountsLine}
 use Rattle.programs.specs.chunkplan.PlanFault.{IsChunksFault}
 use Rattle.programs.specs.seen.Sent.{output}
-use Rattle.programs.proofs.chunkplan.CountedPlans.{counted_groups}
+use Rattle.zarrs_chunk_plan.proofs.SomePlan.{have_rechunking}
 use Rattle.programs.proofs.chunkplan.Steps.{step_follows}
 use Rattle.programs.proofs.chunkplan.plan.write_counts_of_groups.Goals as goal
 
@@ -10,7 +10,7 @@ returns-in-Ok g c =
     let said = c.in-Ok.ensures in
     let counts = c.in-Ok.counts in
     let (targets, is_box, are, each) = said.counts in
-    let (groups, plan) = counted_groups (g.G.ChunkGridTraits.dimensions c.args.source.now.grid)
+    let (groups, plan) = have_rechunking (g.G.ChunkGridTraits.dimensions c.args.source.now.grid)
     (g.E.ChunkKeyEncodingTraits.is_key c.args.source.now.encoding)
     (g.H.ChunkGridTraits.dimensions c.args.target.now.grid) (g.F.ChunkKeyEncodingTraits.is_key c.args.target.now.encoding)
     (g.met.G.ChunkGridTraits.chained c.args.source.now.grid) (g.met.H.ChunkGridTraits.chained c.args.target.now.grid) c.requires.keys
