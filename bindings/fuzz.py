@@ -582,6 +582,8 @@ def ask_any_question(rng):
     members = {
         "call": rng.choice(calls), "shape": model.shape, "chunk_grid": grid.metadata, "chunk_key_encoding": "default", "of": of,
         "items": rng.choice([0, 1, 100, GREATEST]), "dimensionality": rng.choice([0, 1, 2, GREATEST]),
+        "target": {"chunk_grid": "regular", "chunk_key_encoding": "v2"} | ({"chunk_grid": grid.metadata} if rng.random() < 0.9 else {}),
+        "share": [rng.randrange(3), rng.choice([1, 2, 3, GREATEST])],
     }  # fmt: skip
     question = {name: value if rng.random() < 0.9 else any_value(rng) for name, value in members.items() if rng.random() < 0.95}
     told, is_answered = attempt(lambda: answer(draw(rng, question)[0]))

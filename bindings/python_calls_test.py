@@ -32,7 +32,7 @@ from faults import seen_parts
 from memory import at_most, used
 from odd_values import Index, Lying, Raising, Whole, misaligned
 from random_arrays import Generator
-from zarrs_chunks import Box, Copies, Counted, Counts, Encoding, Grid, Located, Source, __main__, _boxes, _counts, _questions
+from zarrs_chunks import Box, Copies, Counted, Counts, Encoding, Grid, Located, Source, __main__, _boxes, _questions
 
 PACKAGE = pathlib.Path(zarrs_chunks.__file__).parent
 REGULAR = regular(2, 3)
@@ -57,6 +57,8 @@ def plain(value):
         return {name: plain(part) for name, part in value._asdict().items()}
     if isinstance(value, Copies):
         return {"from": plain(value.sources), "to": {"chunk": plain(value.chunk), "key": value.key}}
+    if isinstance(value, dict):
+        return {name: plain(part) for name, part in value.items()}
     return [plain(part) for part in value] if isinstance(value, (list, tuple)) else value
 
 
@@ -109,6 +111,31 @@ def rechunked(asked):
     return page if limited == page["items"] else f"{limited} with `most`"
 
 
+def counted(asked):
+    """The counts, and the first chunks of the share, where they can be gone through."""
+    grid, encoding, target = grid_in(asked), encoding_in(asked), asked["target"]
+    try:
+        written = Grid(asked["shape"], target["chunk_grid"]), encoding_in(target)
+    except ValueError as error:
+        raise ValueError(f"field `target`: {error}") from error
+    chunks, share = asked.get("chunks"), asked.get("share", [0, 1])
+    counts = grid.counts(written[0], chunks)._asdict()
+    items = itertools.islice(grid.copies(encoding, *written, chunks, share=share), 3) if may_list(asked) else None
+    return {**counts, "share": items and [copies.chunk for copies in items]}
+
+
+def may_list(asked):
+    """Whether what is copied into one chunk isn't too long to be given."""
+    return max(asked["shape"], default=0) <= 100
+
+
+def first_of_share(asked, share):
+    """The first chunks of a share, which are those that are written from one number on up to another."""
+    target = Model(asked["target"]["chunk_grid"], asked["shape"])
+    written = Model(asked["chunk_grid"], asked["shape"]).written(target, asked.get("chunks"))
+    return [*itertools.islice(numbers_in(*written), share[0], min(share[1], share[0] + 3))]
+
+
 def decoded(asked):
     return of_batch([part[0] for part in encoding_in(asked).decode([asked["of"]], asked["dimensionality"])])
 
@@ -133,6 +160,7 @@ METHODS = {
     "chunks_in_array_subset": lambda asked: of_batch(grid_in(asked).chunks_in_array_subset(*asked["of"])),
     "parts": planned,
     "copies": rechunked,
+    "counts": counted,
     "iter_chunk_indices": walked,
     "iter_chunk_subsets": walked,
     "iter_chunk_indices_and_subsets": walked,
@@ -160,6 +188,11 @@ def expected_of(asked, answer):
     for beginning in ("refused: ", "unreadable: "):
         if answer.startswith(beginning):
             return ValueError, answer[len(beginning) :]
+    if call == "counts":
+        counts = json.loads(answer)
+        share = counts.pop("share")
+        products = {name: None if factors is None else math.prod(factors) for name, factors in counts.items()}
+        return {**products, "share": first_of_share(asked, share) if may_list(asked) else None}
     return json.loads(answer)
 
 
@@ -375,6 +408,9 @@ def shares(tally):
         tally.same(f"the share {task} of very many", found, right)
         beginning = [copies.chunk for copies in itertools.islice(asked(share=[task, np.uint64(GREATEST)]), 3)]
         tally.same(f"the share {task} of all", beginning, [(task, number) for number in range(3)])
+    row = Grid([GREATEST], regular(1))
+    found = [copies.chunk for copies in row.copies(encodings[0], row, encodings[1], share=(GREATEST - 1, GREATEST))]
+    tally.same("the last share of as many chunks as there are numbers", found, [(GREATEST - 1,)])
     wrong = "share: the number of a task, counted from 0, is less than how many tasks there are"
     for share in ((1, 1), (0, 0), (5, 2)):
         tally.raises(f"the share {share}", ValueError, wrong, lambda: asked(share=share))
@@ -392,29 +428,25 @@ def counts(tally):
     """The counts of rechunkings beside what is counted in their items, and beside arithmetic where there are very many."""
     generator, encodings = Generator(11), (Encoding("default"), Encoding("v2"))
     kinds = ["regular", "zarrs.regular_bounded", "rectangular", "rectilinear"]
-    kept, _counts._AT_ONCE = _counts._AT_ONCE, 3
-    try:
-        for round_, (one, other) in itertools.product(range(12), itertools.product(kinds, repeat=2)):
-            shape = [generator.random.randrange(round_ + 3) for _ in range(generator.random.randrange(4))]
-            grid, target = (Grid(shape, generator.grid_over(shape, kind)) for kind in (one, other))
-            chunks = generator.random.choice([None, generator.box_within(target.grid_shape)])
-            items = [*grid.copies(encodings[0], target, encodings[1], chunks)]
-            sources = [source for item in items for source in item.sources]
-            right = Counts(
-                copies=len(sources), elements=sum(math.prod(source.in_chunk.shape) for source in sources),
-                largest_line=max((len(item.sources) for item in items), default=0), lines=len(items), source_chunks=len({source.chunk for source in sources}),
-            )  # fmt: skip
-            tally.same(f"counts of {grid} into {target} {chunks}", grid.counts(target, chunks), right)
-    finally:
-        _counts._AT_ONCE = kept
+    for round_, (one, other) in itertools.product(range(12), itertools.product(kinds, repeat=2)):
+        shape = [generator.random.randrange(round_ + 3) for _ in range(generator.random.randrange(4))]
+        grid, target = (Grid(shape, generator.grid_over(shape, kind)) for kind in (one, other))
+        chunks = generator.random.choice([None, generator.box_within(target.grid_shape)])
+        items = [*grid.copies(encodings[0], target, encodings[1], chunks)]
+        sources = [source for item in items for source in item.sources]
+        right = Counts(
+            copies=len(sources), elements=sum(math.prod(source.in_chunk.shape) for source in sources),
+            largest_line=max((len(item.sources) for item in items), default=0), lines=len(items), source_chunks=len({source.chunk for source in sources}),
+        )  # fmt: skip
+        tally.same(f"counts of {grid} into {target} {chunks}", grid.counts(target, chunks), right)
     # Chunks of 3 into chunks of 2, along 2^24 + 2^23 of the first: of three of the second two lie within one of the first, and one in two.
     size = 3 * 2**24
     grid, target = Grid([size] * 3, regular(3, 3, 3)), Grid([size] * 3, regular(2, 3, size))
     right = Counts(None, size**3, None, size // 2 * (size // 3), (size // 3) ** 3)
     tally.same("counts past 2^24 chunks", grid.counts(target), right)
-    row = grid.counts(target, ([0, 0, 0], [2**24, 2**24, 1]))
+    row = grid.counts(target, ([0, 0, 0], [2**24, 7, 1]))
     along = 2**24 + 2**24 // 3
-    right = Counts(along * 2**24 * 2**24, 2**25 * size**2, 2 * 2**24, 2**48, ((2**25 - 1) // 3 + 1) * 2**48)
+    right = Counts(along * 7 * 2**24, 2**25 * 21 * size, 2 * 2**24, 7 * 2**24, ((2**25 - 1) // 3 + 1) * 7 * 2**24)
     tally.same("counts of 2^24 chunks", row, right)
     great = Grid([GREATEST], regular(2**63))
     tally.same("counts up to the greatest number", great.counts(Grid([GREATEST], regular(2**62 + 1))), Counts(5, GREATEST, 2, 4, 2))

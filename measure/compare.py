@@ -20,6 +20,7 @@ import argparse
 import collections
 import itertools
 import json
+import math
 import pathlib
 import sys
 
@@ -27,8 +28,9 @@ for folder in ("measure", "tools"):
     sys.path.insert(0, str(pathlib.Path(__file__).resolve().parent.parent / folder))
 from built import builds  # noqa: E402
 from call_names import CALLS, OF_BOX, OF_CHUNK, OF_INDEX, OF_KEYS, OF_RECTILINEAR, OF_TARGET, WALKS, WITH_ENCODING  # noqa: E402
-from chunk_grids import Grid, first_of  # noqa: E402
+from chunk_grids import MOST_ALONG, Grid, first_of  # noqa: E402
 from chunk_keys import Encoding  # noqa: E402
+from chunk_plans import counts as counts_by_element  # noqa: E402
 from extensions import GREATEST, GRIDS, Refused, regular  # noqa: E402
 from random_arrays import EQUAL, Generator  # noqa: E402
 from runs import run  # noqa: E402
@@ -69,7 +71,7 @@ class Asking(Generator):
             lengths = [len(chunk)] * 4 + [len(chunk) + 1, max(len(chunk) - 1, 0), GREATEST]
             question["dimensionality"] = self.random.choice(lengths)
         if call in OF_TARGET:
-            question |= self.target(shape)
+            question |= self.target(call, shape)
         if call in WALKS or call in ("parts", "copies"):
             question["items"] = self.number(30)
         return self.with_fault(question) if self.one_in(10) else question
@@ -77,17 +79,23 @@ class Asking(Generator):
     def may_ask(self, call, metadata, shape):
         """Whether the grid has the call, and its answer isn't too long: what is copied into one chunk is given whole."""
         is_small = len(shape) <= 2 and max(shape, default=0) <= 40
-        return (call not in OF_RECTILINEAR or metadata["name"] == "rectilinear") and (call not in OF_TARGET or is_small)
+        return (call not in OF_RECTILINEAR or metadata["name"] == "rectilinear") and (call != "copies" or is_small)
 
-    def target(self, shape):
-        """How an array of this shape is to be stored, and perhaps into which chunks, from which number on."""
-        metadata = self.grid_over(shape, self.random.choice(list(GRIDS)))
+    def target(self, call, shape):
+        """How an array of this shape is to be stored, and perhaps into which chunks, from which number on or which share."""
+        metadata = self.grid_over(shape, self.random.choice(list(GRIDS)), max(shape, default=0) > 40)
+        # So many chunks along a dimension would be gone through by the model, which takes long.
+        while any(2**12 < count <= MOST_ALONG for count in Grid(metadata, shape).grid_shape()):
+            metadata = self.grid_over(shape, self.random.choice(list(GRIDS)), True)
         members = {"target": {"chunk_grid": metadata, "chunk_key_encoding": self.encoding()}}
         if self.one_in(2):
             chunk = self.chunk(Grid(metadata, shape))
             members["chunks"] = self.box(self.longer_or_shorter(chunk) if self.one_in(8) else chunk)
-        if self.one_in(2):
+        if self.one_in(2) and call == "copies":
             members["first"] = self.number(30)
+        elif self.one_in(2) and call == "counts":
+            of = self.random.choice([1, 2, 3, 7, self.random.randint(1, GREATEST), GREATEST])
+            members["share"] = [self.number(of - 1), of]
         return members
 
     def with_fault(self, question):
@@ -177,13 +185,38 @@ def model_answer(question):
             raise Refused(f"invalid store key {of}")
         return encoding[0].chunk(of, question["dimensionality"])
     if call in OF_TARGET:
-        target = question["target"]
-        made = Grid(target["chunk_grid"], question["shape"]), Encoding(target["chunk_key_encoding"])
-        groups = grid.copies(*encoding, *made, question.get("chunks"))
+        target, target_encoding = model_target(question)
+        if call == "counts":
+            return model_counts(grid, target, question.get("chunks"), question.get("share", [0, 1]))
+        groups = grid.copies(*encoding, target, target_encoding, question.get("chunks"))
         return first_of(itertools.islice(groups, question.get("first", 0), None), question["items"])
     arguments = of if call in OF_BOX else [of] if "of" in question else []
     found = getattr(grid, call)(*arguments, *encoding)
     return first_of(found, question["items"]) if "items" in question and found is not None else found
+
+
+def model_target(question):
+    target = question["target"]
+    try:
+        return Grid(target["chunk_grid"], question["shape"]), Encoding(target["chunk_key_encoding"])
+    except Refused as refusal:
+        raise Refused(refusal.text and f"field `target`: {refusal.text}") from refusal
+
+
+def model_counts(grid, target, chunks, share):
+    """Counts chunk by chunk, and in small arrays element by element too, which has to be the same."""
+    found = grid.counts(target, chunks, share)
+    if max(grid.shape, default=0) <= 100:
+        by_element = counts_by_element(grid, target, chunks, share)
+        assert as_products(found) == as_products(by_element), f"the models differ: {found} and {by_element}"
+    return found
+
+
+def as_products(counts):
+    """Counts in which the factors say nothing but their product: where nothing is copied, which of them are 0 isn't said."""
+    if 0 not in counts["lines"]:
+        return counts
+    return {name: numbers if name == "share" else math.prod(numbers) for name, numbers in counts.items()}
 
 
 def model_lines(document):
@@ -227,6 +260,9 @@ def agrees(expected, printed):
         found = json.loads(printed)
     except ValueError:
         return False
+    if isinstance(expected, dict) and "source_chunks" in expected:
+        same_members = isinstance(found, dict) and found.keys() == expected.keys()
+        return same_members and as_text(as_products(found)) == as_text(as_products(expected))
     if isinstance(expected, dict) and "comparisons" in expected:
         # The definitions bound the comparisons, and don't count them.
         fewest, most = expected["comparisons"]

@@ -6,9 +6,9 @@ OF_INDEX = ["chunk_indices", "chunk_element_indices", "array_indices_inbounds", 
 OF_BOX = ["chunks_subset", "chunks_in_array_subset", "parts"]
 WALKS = ["iter_chunk_indices", "iter_chunk_subsets", "iter_chunk_indices_and_subsets"]
 # Of a target, and perhaps of a box of its chunks.
-OF_TARGET = ["copies"]
+OF_TARGET = ["copies", "counts"]
 OF_KEYS = ["encode", "decode"]
 CALLS = [*OF_NOTHING, *OF_CHUNK, *OF_INDEX, *OF_BOX, *OF_TARGET, *WALKS, "runs", *OF_KEYS]
 # Those that a rectilinear grid alone has, and those that take an encoding besides a grid.
 OF_RECTILINEAR = ["runs", "chunk_indices_counted"]
-WITH_ENCODING = ["locate", "parts", "copies"]
+WITH_ENCODING = ["locate", "parts", "copies", "counts"]

@@ -5,6 +5,7 @@ written from those pages alone, not from the sources of this repository nor from
 Python's whole numbers have no greatest one, and edges are gone through one after another.
 """
 import itertools
+import math
 
 from extensions import GREATEST, GRIDS, Refused, extension, grid_metadata
 
@@ -222,14 +223,27 @@ class Grid:
     def copies(self, encoding, target, target_encoding, chunks=None):
         """What is copied into the target's chunks in a box, or into all: a group for each that holds elements of the array,
         one after another."""
-        array = [[0] * len(self.shape), self.shape]
-        written = target.chunks_in_array_subset(*array)
-        if chunks is not None:
-            check_box(*chunks)
-            if len(chunks[0]) != len(self.shape):
-                raise Refused(f"the box of chunks: incompatible dimensionality {len(chunks[0])}, expected {len(self.shape)}")
-            written = overlap(written, chunks)
+        array, written = [[0] * len(self.shape), self.shape], self.written(target, chunks)
         return (self.group(target.part(chunk, *array, target_encoding), encoding) for chunk in numbers_in(*written))
+
+    def written(self, target, chunks=None):
+        """The box of the target's chunks that hold elements of the array, and lie in a box of chunks, where there is one."""
+        written = target.chunks_in_array_subset([0] * len(self.shape), self.shape)
+        if chunks is None:
+            return written
+        check_box(*chunks)
+        if len(chunks[0]) != len(self.shape):
+            raise Refused(f"the box of chunks: incompatible dimensionality {len(chunks[0])}, expected {len(self.shape)}")
+        return overlap(written, chunks)
+
+    def counts(self, target, chunks=None, share=(0, 1)):
+        """How much such a rechunking copies, each count by its factors, and where a share of its groups lies. Where there is
+        no group, which factors are 0 isn't said: here all are."""
+        start, shape = self.written(target, chunks)
+        if 0 in shape:
+            return counts_of([dict.fromkeys(COUNTS, 0) for _ in shape], share)
+        few = max(shape, default=0) <= MOST_ALONG
+        return counts_of([counts_along(*row, few) for row in zip(self.dimensions, target.dimensions, start, shape)], share)
 
     def group(self, to, encoding):
         """What is copied into a chunk of the target, which is a part of the array."""
@@ -290,6 +304,38 @@ def check_box(start, shape):
     for place, (s, n) in enumerate(zip(start, shape)):
         if s + n > GREATEST:
             raise Refused(f"box end exceeds {GREATEST} in dimension {place}")
+
+
+# The counts of a rechunking, and along how many chunks that are written those are counted that take a walk over them.
+COUNTS = ["copies", "elements", "largest_line", "lines", "source_chunks"]
+MOST_ALONG = 2**24
+
+
+def counts_along(source, target, first, count, few):
+    """The counts along one dimension, of so many chunks of the target from the first one on: chunk by chunk, if they are
+    few enough."""
+
+    def reads(start, end):
+        """How many chunks of the source hold the indices from one on up to another."""
+        return source.holder(end - 1) - source.holder(start) + 1
+
+    def end(chunk):
+        return min(target.end(chunk), target.size)
+
+    start, stop = target.start(first), end(first + count - 1)
+    each = [reads(target.start(chunk), end(chunk)) for chunk in range(first, first + count)] if few else None
+    walked = {"copies": each and sum(each), "largest_line": each and max(each)}
+    return {**walked, "elements": stop - start, "lines": count, "source_chunks": reads(start, stop)}
+
+
+def counts_of(along, share):
+    """The counts of a rechunking by those along each dimension, and the numbers of the first group of a share and of the one
+    behind its last."""
+    factors = {name: [counts[name] for counts in along] for name in COUNTS}
+    in_all, (number, of) = math.prod(factors["lines"]), share
+    ends = [number * in_all // of, (number + 1) * in_all // of]
+    counts = {name: None if None in numbers else numbers for name, numbers in factors.items()}
+    return {**counts, "share": [end if end <= GREATEST else None for end in ends]}
 
 
 def first_of(walk, most):

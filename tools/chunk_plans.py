@@ -3,6 +3,8 @@ import collections
 import itertools
 import math
 
+from chunk_grids import counts_of
+
 
 def box_of(places):
     """The box of some places, which has to hold each of them once."""
@@ -97,3 +99,22 @@ def rechunk(source, target, chunks=None):
         copied = sum(math.prod(source["in_target"][1]) for source in sources)
         lines.append({"from": sources, "to": to, "whole": copied == held[written]})
     return numbered(lines)
+
+
+def counts(grid, target, chunks=None, share=(0, 1)):
+    """How much a rechunking copies: along each dimension, each index is asked for its chunk here and there."""
+
+    def along(dimension):
+        held = [[d.holder(index) for index in range(d.size)] for d in (target.dimensions[dimension], grid.dimensions[dimension])]
+        moved = [*zip(*held)]
+        if chunks is not None:
+            first, size = (numbers[dimension] for numbers in chunks)
+            moved = [(written, read) for written, read in moved if first <= written < first + size]
+        copies = set(moved)
+        lines = collections.Counter(written for written, _ in copies)
+        return {
+            "copies": len(copies), "elements": len(moved), "largest_line": max(lines.values(), default=0), "lines": len(lines),
+            "source_chunks": len({read for _, read in copies}),
+        }  # fmt: skip
+
+    return counts_of([along(dimension) for dimension in range(len(grid.shape))], share)

@@ -21,7 +21,7 @@ from extensions import GREATEST  # noqa: E402
 # From the weakest on.
 OWN, ZARRS, STANDARD = "own", "zarrs", "standard"
 # Calls that zarrs hasn't, so that nobody else refuses them.
-NOT_IN_ZARRS = {"locate", "parts", "copies", "decode", *OF_RECTILINEAR}
+NOT_IN_ZARRS = {"locate", "parts", "copies", "counts", "decode", *OF_RECTILINEAR}
 # Refusals in the words of zarrs; docs/DIFFERENCES.md says which texts this library has made itself.
 WORDS_OF_ZARRS = re.compile("incompatible dimensionality|(regular|`regular_bounded`) chunk shape and array shape have")
 BOUNDS = {"chunk_indices_inbounds", "array_indices_inbounds"}
@@ -90,6 +90,7 @@ REASONS = [
     (OWN, "`runs` and `chunk_indices_counted`: one way to search", lambda row: row.call in OF_RECTILINEAR),
     (OWN, "`parts`: in which order they come, and their pages", lambda row: row.call == "parts"),
     (OWN, "`copies`: in which groups, in which order they come, and their pages", lambda row: row.call == "copies"),
+    (OWN, "`counts`: which numbers, as factors, and the shares", lambda row: row.call == "counts"),
     (OWN, "`first`: a page of a walk", lambda row: "first" in row.vector),
     (OWN, "a chunk that begins or ends past the greatest number", lambda row: row.grid
      and row.is_past_the_greatest_number()),

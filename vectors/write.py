@@ -30,6 +30,7 @@ SUBJECTS = {
     "bounds": ["chunk_indices_inbounds", "array_indices_inbounds"],
     "walks": ["iter_chunk_indices", "iter_chunk_subsets", "iter_chunk_indices_and_subsets"],
     "plans": ["parts", "copies"],
+    "counts": ["counts"],
     "keys": ["encode", "decode"],
     "metadata": ["configuration", "metadata"],
     "runs": ["runs", "chunk_indices_counted"],

@@ -42,17 +42,6 @@ def given_box(argument: str, value: Any) -> Box:
     return as_box([list_of_numbers(argument, numbers).tolist() for numbers in (start, shape)])
 
 
-def common(box: Box, other: Box) -> Box:
-    """What two boxes with as many dimensions have in common.
-
-    >>> common(Box((0, 0), (4, 4)), Box((1, 7), (9, 9)))
-    Box(start=(1, 7), shape=(3, 0))
-    """
-    starts = [max(pair) for pair in zip(box.start, other.start)]
-    ends = [min(s + n, t + m) for s, n, t, m in zip(*box, *other)]
-    return Box(tuple(starts), tuple(max(0, end - start) for start, end in zip(starts, ends)))
-
-
 def slabs(box: Box, first: int, most: int) -> Iterator[tuple[Box, int, int]]:
     """Of the lists of numbers in a box, in row-major order, the one with the number `first`, counted from 0, and those after it, `most` in all: boxes
     that lie in this one, each with the number that the first of them has there, and how many of them lie there. Each box has at most

@@ -2,6 +2,7 @@
 
 from __future__ import annotations
 
+import math
 from typing import Any, NamedTuple
 
 from ._boxes import Box, as_box
@@ -39,13 +40,12 @@ def copies_of(item: Any) -> Copies:
     return Copies(tuple(item["to"]["chunk"]), item["to"]["key"], sources)
 
 
-def share_of(share: Any, in_all: int) -> tuple[int, int]:
-    """The number of the first of so many items that is in a share, and how many are: the share `(task, tasks)` has those from the number
-    task * in_all / tasks on up to (task + 1) * in_all / tasks, both rounded down.
+def given_share(share: Any) -> tuple[int, int]:
+    """A share as it is given: the number of a task, counted from 0, and how many tasks there are.
 
-    >>> [share_of((task, 3), 10) for task in range(3)]
-    [(0, 3), (3, 3), (6, 4)]
-    >>> share_of((3, 3), 10)
+    >>> given_share([2, 3])
+    (2, 3)
+    >>> given_share((3, 3))
     Traceback (most recent call last):
     ValueError: share: the number of a task, counted from 0, is less than how many tasks there are
     """
@@ -54,5 +54,21 @@ def share_of(share: Any, in_all: int) -> tuple[int, int]:
     task, tasks = whole_number("share", task), whole_number("share", tasks)
     if task >= tasks:
         raise ValueError("share: the number of a task, counted from 0, is less than how many tasks there are")
-    first = task * in_all // tasks
-    return first, (task + 1) * in_all // tasks - first
+    return task, tasks
+
+
+def ends_of_share(answer: Any, share: tuple[int, int]) -> tuple[int, int]:
+    """The numbers of the first item of a share, and of the one behind its last, by the answer to the question `counts`. It tells them up to
+    18446744073709551615; past that they are told by how many items there are in all.
+
+    >>> ends_of_share({"lines": [2, 5], "share": [3, 6]}, (1, 3))
+    (3, 6)
+    >>> ends_of_share({"lines": [2**40, 2**40], "share": [None, None]}, (1, 2)) == (2**79, 2**80)
+    True
+    """
+    first, end = answer["share"]
+    (task, tasks), in_all = share, math.prod(answer["lines"])
+    return (
+        task * in_all // tasks if first is None else first,
+        (task + 1) * in_all // tasks if end is None else end,
+    )

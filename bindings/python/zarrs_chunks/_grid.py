@@ -3,7 +3,6 @@
 from __future__ import annotations
 
 import itertools
-import math
 from collections.abc import Iterator, Mapping
 from typing import Any, NamedTuple, SupportsIndex
 
@@ -12,8 +11,8 @@ import numpy.typing as npt
 
 from . import _library, _questions
 from ._answer import refuse
-from ._boxes import Box, as_box, common, given_box, selected_box, slabs
-from ._copies import Copies, copies_of, share_of
+from ._boxes import Box, as_box, given_box, selected_box, slabs
+from ._copies import Copies, copies_of, ends_of_share, given_share
 from ._counts import Counts, counts_of
 from ._encoding import Encoding, keys_between, usual_length
 from ._metadata import Metadata
@@ -24,6 +23,8 @@ from ._stored import Description, Stored
 # How much a single answer of `parts` holds at most, which then takes some gigabytes of memory: so many numbers of each kind, where each part
 # counts as four numbers more.
 _MOST_NUMBERS = 2**25
+# The encoding of questions that are answered alike whichever it is.
+_ANY_ENCODING = b'"default"'
 
 
 class Parts(NamedTuple):
@@ -458,20 +459,29 @@ class Grid:
         _check_encoding("target_encoding", target_encoding)
         self._check_array_of(target)
         number, limit = whole_number("first", first), GREATEST if most is None else whole_number("most", most)
-        asked = {"chunk_key_encoding": encoding._metadata.text, "target": target._stored_text(target_encoding)}
+        asked = {"chunk_key_encoding": encoding._metadata.text, "target": target._stored_text(target_encoding._metadata.text)}
         box = None if chunks is None else given_box("chunks", chunks)
-        if box is not None:
-            # What the library refuses is told at once, and not with the first item.
-            self._ask("copies", items=0, chunks=box, **asked)
+        within = {} if box is None else {"chunks": _questions.plain_text(box)}
         if share is None:
-            within = {} if box is None else {"chunks": _questions.plain_text(box)}
+            if box is not None:
+                # What the library refuses is told at once, and not with the first item.
+                self._ask("copies", items=0, **asked, **within)
             return map(copies_of, self._walk("copies", number, limit, **asked, **within))
         if number > 0 or most is not None:
             raise ValueError("share: it is given in place of `first` and `most`, and not beside them")
-        written = target._chunks_with_elements(box)
-        pieces = slabs(written, *share_of(share, math.prod(written.shape)))
+        return map(copies_of, self._share(given_share(share), box, asked, within))
+
+    def _share(self, share: tuple[int, int], box: Box | None, asked: dict[str, bytes], within: dict[str, bytes]) -> Iterator[Any]:
+        """The items of a share of a rechunking into the chunks of a box, or into all."""
+        answer = self._ask("counts", share=share, **asked, **within)
+        first, end = ends_of_share(answer, share)
+        if end <= GREATEST:
+            return self._walk("copies", first, end - first, **asked, **within)
+        # A walk has no numbers for all of its items: the box of the chunks that are written is gone through by parts of it, each with a walk.
+        written = Box((0,) * self._dimensionality if box is None else box.start, tuple(answer["lines"]))
+        pieces = slabs(written, first, end - first)
         walks = (self._walk("copies", number, count, chunks=_questions.plain_text(slab), **asked) for slab, number, count in pieces)
-        return map(copies_of, itertools.chain.from_iterable(walks))
+        return itertools.chain.from_iterable(walks)
 
     def counts(self, target: Grid, chunks: tuple[npt.ArrayLike, npt.ArrayLike] | None = None) -> Counts:
         """How much a rechunking to another grid of the same array copies: of what `copies` answers how many items there are, how many sources they
@@ -483,26 +493,16 @@ class Grid:
         """
         _check_grid("target", target)
         self._check_array_of(target)
-        box = None if chunks is None else given_box("chunks", chunks)
-        if box is not None:
-            # What the library refuses of `copies` it refuses here.
-            default = Encoding("default")
-            self._ask("copies", items=0, chunks=box, chunk_key_encoding=default._metadata.text, target=target._stored_text(default))
-        return counts_of(self, target, target._chunks_with_elements(box))
+        within = {} if chunks is None else {"chunks": given_box("chunks", chunks)}
+        return counts_of(self._ask("counts", chunk_key_encoding=_ANY_ENCODING, target=target._stored_text(_ANY_ENCODING), **within))
 
     def _check_array_of(self, target: Grid) -> None:
         if target.array_shape != self.array_shape:
             raise ValueError("the source and the target have different array shapes")
 
-    def _chunks_with_elements(self, within: Box | None) -> Box:
-        """The box of the chunks that hold elements of the array, and lie within a box where there is one."""
-        first, counts, _found = self.chunks_in_array_subset([0] * self._dimensionality, self._shape)
-        box = as_box([first.tolist(), counts.tolist()])
-        return box if within is None else common(box, within)
-
-    def _stored_text(self, encoding: Encoding) -> bytes:
+    def _stored_text(self, encoding: bytes) -> bytes:
         """How the array is stored by this grid and an encoding, as JSON."""
-        return _questions.object_text(chunk_grid=self._metadata.text, chunk_key_encoding=encoding._metadata.text)
+        return _questions.object_text(chunk_grid=self._metadata.text, chunk_key_encoding=encoding)
 
     def _ask(self, call: str, **members: Any) -> Any:
         """The answer to a question about this grid, whose members are plain numbers and lists, or JSON already."""

@@ -4,6 +4,7 @@ use std::fmt;
 
 use crate::calls;
 use crate::copies::Copies;
+use crate::counts::Counts;
 use crate::encoding::Encoding;
 use crate::error::{Error, Result};
 use crate::ffi;
@@ -781,6 +782,49 @@ impl Grid {
         target_encoding: &'a Encoding,
     ) -> Result<Copies<'a>> {
         Copies::new((self, encoding), (target, target_encoding))
+    }
+
+    /// How much the rechunking to another grid of the same array copies, of which [`copies`] is the
+    /// walk, and where a share of it lies. It isn't walked over: at most the chunks of the target
+    /// are gone through, along each dimension by itself, so it takes seconds where they are some
+    /// millions along one. Where there is a box of `chunks`, nothing is copied into other chunks of
+    /// the target; it may reach past the target's grid.
+    ///
+    /// A `share` is its number, counted from 0, and how many shares there are; `(0, 1)` is the
+    /// whole. The shares, one behind another, are the whole rechunking, and have as many chunks
+    /// each as any other, or one more. The counts are those of the whole, whichever share it is. It
+    /// is [a question](Grid#questions).
+    ///
+    /// [`copies`]: Grid::copies
+    ///
+    /// # Errors
+    ///
+    /// [`Error::OtherShape`] where the target is a grid of an array of another shape;
+    /// [`Error::WrongLength`] where the box has another number of dimensions; [`Error::Refused`]
+    /// where the number of the share isn't below how many there are, or where the texts nest too
+    /// deep for a question, in which that of the target stands one deeper than the other;
+    /// [`Error::OutOfMemory`].
+    ///
+    /// # Example
+    ///
+    /// ```
+    /// use zarrs_chunks::Grid;
+    ///
+    /// let three = r#"{"name":"regular","configuration":{"chunk_shape":[3]}}"#;
+    /// let two = r#"{"name":"regular","configuration":{"chunk_shape":[2]}}"#;
+    /// let (grid, target) = (Grid::new(&[4], three)?, Grid::new(&[4], two)?);
+    /// let counts = grid.counts(&target, None, (1, 2))?;
+    /// assert_eq!((counts.copies(), counts.lines()), (Some(3), Some(2)));
+    /// assert_eq!(counts.share(), Some(1..2));
+    /// # Ok::<(), zarrs_chunks::Error>(())
+    /// ```
+    pub fn counts(
+        &self,
+        target: &Grid,
+        chunks: Option<&ArraySubset>,
+        share: (u64, u64),
+    ) -> Result<Counts> {
+        Counts::new(self, target, chunks, share)
     }
 
     /// How many runs of equal edges the chunks of a `rectilinear` grid are along a dimension,

@@ -39,7 +39,8 @@
 //! by methods with the names that zarrs has, of many lists at once in batches, which write into
 //! slices of the caller's. [`Grid::parts`] is the plan of reading a box, [`Grid::copies`] the
 //! rechunking of an array, and the three `iter_` methods walk over all chunks; they read page by
-//! page. [`answer`] takes any question of the library as text. Some methods ask so themselves, and
+//! page. [`Grid::counts`] tells how much a rechunking copies, and where a share of it lies.
+//! [`answer`] takes any question of the library as text. Some methods ask so themselves, and
 //! [say so](Grid#questions).
 //!
 //! Sizes, indices, origins, shapes and places count elements. Chunks are numbered from 0 along each
@@ -77,6 +78,7 @@ mod answers;
 #[allow(unsafe_code)]
 mod calls;
 mod copies;
+mod counts;
 mod encoding;
 mod error;
 mod ffi;
@@ -93,6 +95,7 @@ mod walks;
 
 pub use answers::answer;
 pub use copies::{ChunkCopies, Copies, Source};
+pub use counts::Counts;
 pub use encoding::Encoding;
 pub use error::{Error, Result};
 pub use grid::{Counted, Grid, Home, Located};

@@ -2,9 +2,11 @@
 
 mod common;
 
+use std::collections::BTreeSet;
+
 use common::json::{written_copies, written_items, Json};
 use common::{default_key, json, row_major, small_models, Axis, Model, Numbers, Parts, GREATEST};
-use zarrs_chunks::{answer, ArraySubset, ChunkCopies, Copies, Encoding, Error, Grid};
+use zarrs_chunks::{answer, ArraySubset, ChunkCopies, Copies, Counts, Encoding, Error, Grid};
 
 const REGULAR: &str = r#"{"name":"regular","configuration":{"chunk_shape":[2,3]}}"#;
 
@@ -232,6 +234,103 @@ fn boxes_of_chunks_leave_those_in_them() {
     let copies = copies.within(&boxed(&[0..GREATEST, 1..GREATEST])).unwrap();
     let found: Vec<_> = all(copies).into_iter().map(|copies| copies.chunk).collect();
     assert_eq!(found, [[1, 1], [2, 1]]);
+}
+
+#[test]
+fn counts_are_those_of_the_copies() {
+    let (mut numbers, mut counted) = (Numbers::new(8), 0);
+    for source in small_models() {
+        let grid = grid_of(&source);
+        for target in targets(&source.shape, &mut numbers) {
+            let written = grid_of(&target);
+            let mut copies = expected_of(&source, &target);
+            let chunks = if numbers.below(2) == 0 {
+                let ranges = written.grid_shape().iter().map(|count| {
+                    let start = numbers.below(count + 1);
+                    start..start + numbers.below(5)
+                });
+                let ranges: Vec<_> = ranges.collect();
+                copies.retain(|(chunk, _)| {
+                    chunk.iter().zip(&ranges).all(|(number, range)| range.contains(number))
+                });
+                Some(ArraySubset::new_with_ranges(&ranges).unwrap())
+            } else {
+                None
+            };
+            let of = 1 + numbers.below(9);
+            for number in 0..of {
+                let counts = grid.counts(&written, chunks.as_ref(), (number, of)).unwrap();
+                assert_eq!(counts_in(&copies), products(&counts), "{source:?} {target:?}");
+                let in_all = copies.len() as u64;
+                let share = number * in_all / of..(number + 1) * in_all / of;
+                assert_eq!(counts.share(), Some(share), "{number} of {of}");
+                assert_eq!(counts.lines.len(), source.shape.len());
+                counted += 1;
+            }
+        }
+    }
+    println!("{counted} counts beside arithmetic");
+    assert!(counted > 100, "{counted}");
+}
+
+/// Copies, elements, those of the largest line, lines, and chunks of the source.
+fn counts_in(copies: &[Lists]) -> [Option<u128>; 5] {
+    let sources: Vec<_> = copies.iter().flat_map(|(_, sources)| sources).collect();
+    let elements = sources.iter().map(|(lists, _)| lists[3].iter().product::<u64>()).sum::<u64>();
+    let largest = copies.iter().map(|(_, sources)| sources.len()).max().unwrap_or(0);
+    let chunks: BTreeSet<_> = sources.iter().map(|(lists, _)| &lists[0]).collect();
+    let counts = [sources.len(), elements as usize, largest, copies.len(), chunks.len()];
+    counts.map(|count| Some(count as u128))
+}
+
+fn products(counts: &Counts) -> [Option<u128>; 5] {
+    let (elements, largest_line) = (counts.elements(), counts.largest_line());
+    [counts.copies(), elements, largest_line, counts.lines(), counts.source_chunks()]
+}
+
+#[test]
+fn counts_of_very_many_chunks() {
+    let size = 3_u64 << 40;
+    let (source, target) = (regular(&[size; 2], &[3, 3]), regular(&[size; 2], &[2, size]));
+    let (grid, written) = (grid_of(&source), grid_of(&target));
+    let counts = grid.counts(&written, None, (0, 1)).unwrap();
+    let elements = u128::from(size).pow(2);
+    let expected = [None, Some(elements), None, Some(u128::from(size / 2)), Some(elements / 9)];
+    assert_eq!(products(&counts), expected);
+    assert_eq!((counts.lines, counts.copies), (vec![size / 2, 1], None));
+    // A small box of chunks: of three chunks two lie in one of the source, and one in two.
+    let chunks = ArraySubset::new_with_ranges(&[0..3, 0..1]).unwrap();
+    let counts = grid.counts(&written, Some(&chunks), (0, 1)).unwrap();
+    let rows = u128::from(size / 3);
+    let expected = [4 * rows, 6 * u128::from(size), 2 * rows, 3, 2 * rows].map(Some);
+    assert_eq!(products(&counts), expected);
+    // More chunks than there are numbers, and more than 128 bits.
+    let ones = grid_of(&regular(&[1 << 43; 3], &[1; 3]));
+    let counts = ones.counts(&ones, None, (1, 1 << 63)).unwrap();
+    assert_eq!((counts.lines(), counts.elements()), (None, None));
+    assert_eq!((counts.first, counts.end, counts.share()), (None, None, None));
+    let counts = ones.counts(&ones, None, (0, GREATEST)).unwrap();
+    assert_eq!((counts.first, counts.end, counts.share()), (Some(0), None, None));
+    let row = ArraySubset::new_with_ranges(&[5..6, 7..8, 0..GREATEST]).unwrap();
+    let counts = ones.counts(&ones, Some(&row), (3, 8)).unwrap();
+    assert_eq!((counts.share(), counts.lines()), (Some(3 << 40..4 << 40), Some(1 << 43)));
+}
+
+#[test]
+fn counts_are_refused_at_the_call() {
+    let grid = Grid::new(&[5, 7], REGULAR).unwrap();
+    let other = Grid::new(&[7, 5], REGULAR).unwrap();
+    assert_eq!(grid.counts(&other, None, (0, 1)).unwrap_err(), Error::OtherShape);
+    for given in [0, 1, 3] {
+        let chunks = ArraySubset::new_with_start_shape(vec![0; given], vec![1; given]).unwrap();
+        let error = grid.counts(&grid, Some(&chunks), (0, 1)).unwrap_err();
+        assert_eq!(error, Error::WrongLength { argument: "chunks", given, wanted: 2 });
+    }
+    let words = "wrong value in field `share`".to_owned();
+    for share in [(1, 1), (0, 0), (GREATEST, 5), (GREATEST, GREATEST)] {
+        let refused = Error::Refused { words: words.clone() };
+        assert_eq!(grid.counts(&grid, None, share).unwrap_err(), refused, "{share:?}");
+    }
 }
 
 #[test]

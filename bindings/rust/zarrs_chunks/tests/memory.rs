@@ -194,6 +194,8 @@ fn walks_and_plans_are_gone_through_or_not() {
     let copies = || grid.copies(&encoding, &target, &encoding);
     assert_eq!(without_each(|| count(copies()?)), Ok(2 * 10));
     let chunks = ArraySubset::new_with_ranges(&[1..9, 2..22]).unwrap();
+    let counts = without_each(|| grid.counts(&target, Some(&chunks), (0, 3))).unwrap();
+    assert_eq!((counts.lines(), counts.share()), (Some(8), Some(0..2)));
     let rest = || {
         let mut copies = copies()?.within(&chunks)?;
         copies.nth(2).transpose()?;

@@ -6,7 +6,8 @@ mod common;
 use std::collections::BTreeMap;
 
 use common::json::{
-    written, written_box, written_copies, written_items, written_part, written_text, Json,
+    written, written_box, written_copies, written_counts, written_items, written_part,
+    written_text, Json,
 };
 use common::vectors::vectors;
 use common::GREATEST;
@@ -27,7 +28,7 @@ fn each_vector_is_answered() {
 
 /// So many vectors at least are put to methods. The others are those whose question can't be read,
 /// and walks over boxes from a number on, which counts chunks and not boxes.
-const PUT: usize = 1069;
+const PUT: usize = 1130;
 
 #[test]
 fn each_vector_that_a_method_can_be_asked_is_answered_by_it() {
@@ -53,7 +54,7 @@ fn each_vector_that_a_method_can_be_asked_is_answered_by_it() {
     println!("{in_all} vectors put to methods, {left} left: {put:?}");
     assert!(wrong.is_empty(), "{} of {in_all} wrong:\n{}", wrong.len(), wrong.join("\n"));
     assert!(in_all >= PUT, "{in_all} put, {left} left");
-    assert!(put.len() == 25 && put.values().all(|count| *count >= 10), "{put:?}");
+    assert!(put.len() == 26 && put.values().all(|count| *count >= 10), "{put:?}");
 }
 
 fn is_box_walk_from_a_number(asked: Json<'_>) -> bool {
@@ -164,6 +165,19 @@ fn by_method(call: &str, asked: Json<'_>) -> Result<String, String> {
                 copies = within.map_err(|words| format!("the box of chunks: {words}"))?;
             }
             page(asked, copies, |copies| written_copies(&copies))
+        }
+        "counts" => {
+            // They are alike whichever the encodings are, which are made first all the same.
+            encoding_in(asked)?;
+            let target = asked.member("target");
+            let of_target = |words| format!("field `target`: {words}");
+            let target_grid = grid_in(asked, target).map_err(of_target)?;
+            encoding_in(target).map_err(of_target)?;
+            let chunks = asked.get("chunks").map(box_of).transpose()?;
+            let share = asked.get("share").map_or(vec![0, 1], Json::list);
+            let counts = grid.counts(&target_grid, chunks.as_ref(), (share[0], share[1]));
+            let counts = told(counts).map_err(|words| format!("the box of chunks: {words}"))?;
+            Ok(written_counts(&counts))
         }
         "iter_chunk_indices" => page(asked, grid.iter_chunk_indices(), |chunk| written(&chunk)),
         "iter_chunk_subsets" => page(asked, grid.iter_chunk_subsets(), |it| written_box(&it)),

@@ -1,7 +1,7 @@
 //! A tiny reader of JSON, which is to be well-formed, and what writes answers as the vectors have
 //! them.
 
-use zarrs_chunks::{ArraySubset, ChunkCopies, Part};
+use zarrs_chunks::{ArraySubset, ChunkCopies, Counts, Part};
 
 /// A value, as the text that it is.
 #[derive(Debug, Clone, Copy, PartialEq, Eq)]
@@ -119,6 +119,26 @@ pub fn written_copies(copies: &ChunkCopies) -> String {
         sources.join(","),
         written(&copies.chunk),
         written_text(&copies.key)
+    )
+}
+
+pub fn written_counts(counts: &Counts) -> String {
+    let number = |number: Option<u64>| number.map_or("null".to_owned(), |it| it.to_string());
+    let counted = |factors: &Option<Vec<u64>>| {
+        factors.as_ref().map_or("null".to_owned(), |factors| written(factors))
+    };
+    format!(
+        concat!(
+            r#"{{"copies":{},"elements":{},"largest_line":{},"lines":{},"#,
+            r#""share":[{},{}],"source_chunks":{}}}"#
+        ),
+        counted(&counts.copies),
+        written(&counts.elements),
+        counted(&counts.largest_line),
+        written(&counts.lines),
+        number(counts.first),
+        number(counts.end),
+        written(&counts.source_chunks)
     )
 }
 
