@@ -1,23 +1,43 @@
--- A walk over what a rechunking copies: that it can go on, and what it gives.
-use Rattle.std.proofs.Common.{◌≡◌, ◌∙◌, ℕ, List, [], ◌∷◌, ◌++◌, Option, Some, None, Result, Ok, map, append_assoc, append-nil, ap, refl, subst, sym}
+-- A walk over what a rechunking copies, or over what is copied of a region: that it can go on, and what it gives.
+use Rattle.std.proofs.Common.{◌≡◌, ◌⊎◌, ◌∙◌, ℕ, List, [], ◌∷◌, ◌++◌, Option, Some, None, IfSome, Result, Ok, Err, IfOk, length, map, append_assoc}
+use Rattle.std.proofs.Common.{append-nil, ap, inl, refl, subst, sym}
 use Rattle.std.specs.Iterator.{Drains, Yields}
 use Rattle.std.specs.List.{AllByRecursion, AllZip}
 use Rattle.std.specs.declared.alloc.AllocError.{AllocError}
 use Rattle.zarrs_chunk_base.specs.ArraySubset.{Box, IsBox, IsEmptyBox}
 use Rattle.zarrs_chunk_base.specs.Dimension.{Dimension, array_sizes}
+use Rattle.zarrs_chunk_base.specs.declared.incompatible_dimensionality_error.IncompatibleDimensionalityError.{IncompatibleDimensionalityError}
+use Rattle.zarrs_chunk_base.specs.declared.refusal.Refusal.{Refusal}
+use Rattle.zarrs_chunks.specs.Subsets.{IsCover}
 use Rattle.zarrs_chunks.specs.Walks.{chunks_in}
 use Rattle.zarrs_chunk_plan.specs.Plan.{IsPart, Meets}
 use Rattle.zarrs_chunk_plan.specs.Rechunking.{AreCopiesInto, AreTargets, Group, IsRechunking, array_box}
+use Rattle.zarrs_chunk_plan.specs.Region.{AreMovedInto, IsRegionCopy, behind, moved}
 use Rattle.zarrs_chunk_plan.specs.declared.chunk_copies.ChunkCopies.{ChunkCopies}
 use Rattle.zarrs_chunk_plan.specs.declared.chunk_copies.Copies.{Copies}
 use Rattle.zarrs_chunk_plan.specs.declared.part.Part.{Part}
 use Rattle.zarrs_chunk_plan.specs.declared.stored_array.StoredArray.{StoredArray}
 use Rattle.zarrs_chunk_plan.specs.declared.walk.Parts.{Parts}
-use Rattle.zarrs_chunk_plan.specs.seen.Copies.{AreGroupsToCome, CanCopy, GivesCopies, HasAllParts, IsAboutCopies, IsPlanned}
-use Rattle.zarrs_chunk_plan.specs.seen.Copies.{target_of, targets_to_come}
-use Rattle.zarrs_chunk_plan.specs.seen.Parts.{ArePartsToCome, GivesPart, IsAbout, chunks_to_come}
+use Rattle.zarrs_chunk_plan.specs.seen.Copies.{AreGroupsToCome, AreMovesToCome, CanCopy, CanMove, GivesCopies, HasAllParts, IsAboutCopies, IsPlanned}
+use Rattle.zarrs_chunk_plan.specs.seen.Copies.{first_of, region_of, target_of, targets_to_come}
+use Rattle.zarrs_chunk_plan.specs.seen.Parts.{AnswersParts, ArePartsToCome, GivesPart, IsAbout, MeetSubset, all_chunks, chunks_to_come}
+use Rattle.zarrs_chunk_plan.specs.seen.Shared.{held_back}
+use Rattle.zarrs_chunk_plan.proofs.MovedBoxes.{none_behind, none_held_back}
 use Rattle.zarrs_chunk_plan.proofs.Plans.{not_empty}
 use Rattle.zarrs_chunk_plan.proofs.Walked.{one_came, plan_of}
+
+-- what `parts` answers of a box that isn't empty has to give the plan of reading it
+pub planned_of : {G E : Type 0} (dimensions : G → List Dimension) (grid : G) (encoding : E) (b : Box)
+    (r : Result (Option (Parts G E)) (Refusal IncompatibleDimensionalityError)) → IsBox b → (¬ IsEmptyBox b)
+    → ((¬ IsEmptyBox b) ⊎ (length (dimensions grid) ≡ 0) → AnswersParts (dimensions grid) b r)
+    → IfOk r (λ found. IfSome found (IsAbout grid encoding b)) → IfOk r (λ found. IfSome found (MeetSubset dimensions))
+    → IfOk r (λ found. IfSome found (λ walk. all_chunks walk ≡ chunks_to_come walk))
+    → IfOk r (λ found. IfSome found (λ walk. IsBox walk.array_subset × IsPlanned dimensions grid encoding b walk))
+planned_of dimensions grid encoding b (Ok (Some walk)) is_box some answers about meet all =
+    let (_, (cover, is, left)) = answers (inl some) in
+    (rw about.same_subset is_box, record { about = about; meet = meet; cover = cover; is_cover = is; left = left; all = all ∙ left })
+planned_of dimensions grid encoding b (Ok None) is_box some answers about meet all = tt
+planned_of dimensions grid encoding b (Err e) is_box some answers about meet all = tt
 
 module _ {G E H F : Type 0} (source_dimensions : G → List Dimension) (target_dimensions : H → List Dimension) where
   pub can_copy : (source : StoredArray G E) (target : H) (encoding : F) (walk : Copies G E H F) (targets : Parts H F) (wanted : Box)
@@ -34,21 +54,43 @@ module _ {G E H F : Type 0} (source_dimensions : G → List Dimension) (target_d
   module _ (target_key : F → List ℕ → List ℕ → Type 0) (before : Copies G E H F) (to : Part) (targets : Parts H F)
       (steps : GivesPart target_dimensions target_key before.targets (Some (Ok to)) targets) where
     -- the part of the target's chunk has an element
-    pub has_some : CanCopy source_dimensions target_dimensions before → ¬ IsEmptyBox to.in_subset
-    has_some can =
-        let meets = subst (AllByRecursion (Meets (target_dimensions before.targets.grid.now) before.targets.array_subset)) steps.gives can.meet in
-        not_empty _ _ before.targets.array_subset to.chunk.items to (steps.part can.meet) meets.0
+    has_some : MeetSubset target_dimensions before.targets → ¬ IsEmptyBox to.in_subset
+    has_some meet =
+        let meets = subst (AllByRecursion (Meets (target_dimensions before.targets.grid.now) before.targets.array_subset)) steps.gives meet in
+        not_empty _ _ before.targets.array_subset to.chunk.items to (steps.part meet) meets.0
+
+    -- as far behind the array's first element the elements are read as they lie behind the first of the box
+    abbrev pub read_from : List ℕ
+    read_from = held_back (first_of before) targets.array_subset.shape (array_sizes (source_dimensions before.source.now.grid))
+
+    abbrev PlansFrom : Parts G E → List ℕ → Type 0
+    PlansFrom from first =
+        IsPlanned source_dimensions before.source.now.grid before.source.now.encoding (behind first to.in_subset) from
+
+    -- those of a rechunking are read from where they are in the array
+    where_they_are : CanCopy source_dimensions target_dimensions before → IsBox (behind read_from to.in_subset) → behind read_from to.in_subset ≡ to.in_subset
+    where_they_are can is_box =
+        let shape : targets.array_subset.shape ≡ array_sizes (source_dimensions before.source.now.grid) =
+        ap (λ b. b.shape) (steps.about.same_subset ∙ can.whole_array) ∙ sym can.one_array
+        in
+        let is_read = is_box.lengths in
+        let is_part = (steps.part can.meet).boxes.from_subset.is_box.lengths in
+        ap (λ (start : List ℕ). let b : Box = record { start = start; shape = to.in_subset.shape } in b)
+        (none_behind (first_of before) targets.array_subset.shape (array_sizes (source_dimensions before.source.now.grid)) to.in_subset.start
+        shape (is_read ∙ sym is_part))
 
     pub gives_copies : (from : Parts G E)
-        → (CanCopy source_dimensions target_dimensions before
-        → IsPlanned source_dimensions before.source.now.grid before.source.now.encoding to.in_subset from)
-        → (after : Copies G E H F) → after.targets ≡ targets → after.source.now ≡ before.source.now
+        → ((¬ IsEmptyBox to.in_subset) → IsBox from.array_subset × PlansFrom from read_from)
+        → (after : Copies G E H F) → after.targets ≡ targets → after.source.now ≡ before.source.now → first_of after ≡ first_of before
         → GivesCopies source_dimensions target_dimensions target_key before (Some (Ok (record { to = to; from = from }))) after
-    gives_copies from planned after same_targets same_source =
+    gives_copies from planned after same_targets same_source same_first =
         let about = steps.about in record {
           gives = rw same_targets steps.gives;
           to = λ can. steps.part can.meet;
-          from = planned;
+          from = λ can.
+              let (is_box, plans) = planned (has_some can.meet) in
+              subst (λ b. IsPlanned source_dimensions before.source.now.grid before.source.now.encoding b from)
+              (where_they_are can (subst IsBox plans.about.same_subset is_box)) plans;
           about = record { same_source = same_source; targets = rw same_targets about };
           can = λ can. record {
             one_array = rw (same_source, same_targets, about.same_grid) can.one_array;
@@ -56,35 +98,104 @@ module _ {G E H F : Type 0} (source_dimensions : G → List Dimension) (target_d
             meet = rw same_targets (steps.meet can.meet);
           };
           all = rw same_targets steps.all;
+          first = same_first;
+          moved_to = λ can. steps.part can.meet;
+          moved_from = λ can.
+              let lies = rw (← about.same_subset) at can.in_source in
+              subst (PlansFrom from) (none_held_back (first_of before) targets.array_subset.shape (array_sizes (source_dimensions before.source.now.grid)) lies)
+              (planned (has_some can.meet)).1;
+          can_move = λ can. record {
+            in_source = rw (same_first, same_source, same_targets, about.same_subset) can.in_source;
+            meet = rw same_targets (steps.meet can.meet);
+          };
         }
 
--- ---- the groups that came of a walk, one for each chunk that came; at the end they are a rechunking
+-- ---- the groups that came of a walk, one for each chunk that came
 
 module _ {G E H F : Type 0} (source_dimensions : G → List Dimension) (source_key : E → List ℕ → List ℕ → Type 0)
     (target_dimensions : H → List Dimension) (target_key : F → List ℕ → List ℕ → Type 0) (begin : Copies G E H F) where
+  -- what a call of `next` on the walk gives
+  abbrev pub GivesGroup : Copies G E H F → Option (Result (ChunkCopies G E) AllocError) → Copies G E H F → Type 0
+  GivesGroup = GivesCopies source_dimensions target_dimensions target_key
+
+  -- the walk is over the same as at first
+  abbrev IsOverTheSame : Copies G E H F → Type 0
+  IsOverTheSame = IsAboutCopies begin.source.now (target_of begin) begin.targets.array_subset
+
+  -- what holds of a chunk and its group, and of a walk that gives such groups
+  module _ (IsGroup : List ℕ → Group → Type 0) (Can : Copies G E H F → Type 0) where
+    -- these chunks came, of which these are the groups
+    abbrev pub HaveCome : Copies G E H F → List Group → Type 0
+    HaveCome now groups = (came : List (List ℕ)) × (targets_to_come begin ≡ came ++ targets_to_come now) × AllZip IsGroup came groups
+        × IsAboutCopies begin.source.now (target_of begin) begin.targets.array_subset now
+        × Can now
+
+    pub none_came : (now : Copies G E H F) (groups : List Group) → now ≡ begin → groups ≡ [] → Can begin → HaveCome now groups
+    none_came now groups same none can =
+        let targets : IsAbout begin.targets.grid.now begin.targets.encoding.now begin.targets.array_subset begin.targets =
+        record { same_grid = refl; same_encoding = refl; same_subset = refl }
+        in
+        rw (same, none) ([], refl, tt, record { same_source = refl; targets = targets }, can)
+
+    pub all_came : (before after : Copies G E H F) (groups : List Group) → HaveCome before groups → GivesGroup before None after
+        → AllZip IsGroup (targets_to_come begin) groups
+    all_came before after groups (came, left, are, about, can) gives =
+        subst (λ chunks. AllZip IsGroup chunks groups) (sym (left ∙ ap (λ xs. came ++ xs) gives.gives.0 ∙ append-nil came)) are
+
+    module _ (is_group : (before after : Copies G E H F) (group : ChunkCopies G E) (from : List Part) → IsOverTheSame before → Can before
+        → GivesGroup before (Some (Ok group)) after → ArePartsToCome source_dimensions source_key group.from from
+        → IsGroup group.to.chunk.items (group.to, from))
+        (still : (before after : Copies G E H F) (group : ChunkCopies G E) → Can before → GivesGroup before (Some (Ok group)) after → Can after) where
+      pub one_more_came : (before after : Copies G E H F) (group : ChunkCopies G E) (from : List Part) (groups more : List Group)
+          → HaveCome before groups → GivesGroup before (Some (Ok group)) after
+          → ArePartsToCome source_dimensions source_key group.from from → more ≡ groups ++ (group.to, from) ∷ [] → HaveCome after more
+      one_more_came before after group from groups more (came, left, are, about, can) gives parts is =
+          let targets = about.targets in
+          let (now_came, all, now_are) = one_came IsGroup (targets_to_come begin) came (targets_to_come before) (targets_to_come after)
+          group.to.chunk.items (group.to, from) groups more left gives.gives are (is_group before after group from about can gives parts) is
+          in
+          let same = rw (about.same_source, targets.same_grid, targets.same_encoding, targets.same_subset) at gives.about in
+          (now_came, all, now_are, same, still before after group can gives)
+
+      -- what came and what is given from there up to the end are the groups to come
+      up_to_last : (now last end : Copies G E H F) (came groups : List Group) (given : List (ChunkCopies G E)) → HaveCome now came
+          → Yields GivesGroup now (map Ok given) last → GivesGroup last None end → AllZip (HasAllParts source_dimensions source_key) given groups
+          → AllZip IsGroup (targets_to_come begin) (came ++ groups)
+      up_to_last now last end came [] [] have same stops are =
+          subst (AllZip IsGroup (targets_to_come begin)) (sym (append-nil came))
+          (all_came now end came have (subst (λ walk. GivesGroup walk None end) (sym same) stops))
+      up_to_last now last end came ((to, from) ∷ groups) (group ∷ given) have (after, gives, rest) stops ((same, parts), are) =
+          let more = came ++ (to, from) ∷ [] in
+          let is : more ≡ came ++ (group.to, from) ∷ [] = ap (λ t. came ++ (t, from) ∷ []) (sym same) in
+          subst (AllZip IsGroup (targets_to_come begin)) (append_assoc came ((to, from) ∷ []) groups)
+          (up_to_last after last end more groups given (one_more_came now after group from came more have gives parts is) rest stops are)
+      up_to_last now last end came [] (_ ∷ _) have yields stops are = absurd are
+      up_to_last now last end came (_ ∷ _) [] have yields stops are = absurd are
+
+      -- so what a walk gives up to its end, each group with all of its parts, are the groups to come
+      pub all_given : (given : List (ChunkCopies G E)) (groups : List Group) → Can begin → Drains GivesGroup begin (map Ok given)
+          → AllZip (HasAllParts source_dimensions source_key) given groups → AllZip IsGroup (targets_to_come begin) groups
+      all_given given groups can (end, (last, yields, stops)) are =
+          up_to_last begin last end [] groups given (none_came begin [] refl refl can) yields stops are
+
+  -- ---- of a rechunking
+
   abbrev pub IsGroupOf : List ℕ → Group → Type 0
   IsGroupOf =
       AreCopiesInto (source_dimensions begin.source.now.grid) (source_key begin.source.now.encoding) (target_dimensions begin.targets.grid.now)
       (target_key begin.targets.encoding.now)
 
-  -- these chunks came, of which these are the groups
   abbrev pub GroupsHaveCome : Copies G E H F → List Group → Type 0
-  GroupsHaveCome now groups = (came : List (List ℕ)) × (targets_to_come begin ≡ came ++ targets_to_come now) × AllZip IsGroupOf came groups
-      × IsAboutCopies begin.source.now (target_of begin) begin.targets.array_subset now
-      × CanCopy source_dimensions target_dimensions now
+  GroupsHaveCome = HaveCome IsGroupOf (CanCopy source_dimensions target_dimensions)
 
   pub first_group : (now : Copies G E H F) (groups : List Group) → now ≡ begin → groups ≡ [] → CanCopy source_dimensions target_dimensions begin
       → GroupsHaveCome now groups
-  first_group now groups same none can =
-      let targets : IsAbout begin.targets.grid.now begin.targets.encoding.now begin.targets.array_subset begin.targets =
-      record { same_grid = refl; same_encoding = refl; same_subset = refl }
-      in
-      rw (same, none) ([], refl, tt, record { same_source = refl; targets = targets }, can)
+  first_group = none_came IsGroupOf (CanCopy source_dimensions target_dimensions)
 
-  pub one_more_group : (before after : Copies G E H F) (group : ChunkCopies G E) (from : List Part) (groups more : List Group)
-      → GroupsHaveCome before groups → GivesCopies source_dimensions target_dimensions target_key before (Some (Ok group)) after
-      → ArePartsToCome source_dimensions source_key group.from from → more ≡ groups ++ (group.to, from) ∷ [] → GroupsHaveCome after more
-  one_more_group before after group from groups more (came, left, are, about, can) gives parts is =
+  is_copied : (before after : Copies G E H F) (group : ChunkCopies G E) (from : List Part) → IsOverTheSame before
+      → CanCopy source_dimensions target_dimensions before → GivesGroup before (Some (Ok group)) after
+      → ArePartsToCome source_dimensions source_key group.from from → IsGroupOf group.to.chunk.items (group.to, from)
+  is_copied before after group from about can gives parts =
       let planned = gives.from can in
       let chunk = group.to.chunk.items in
       let source = source_dimensions before.source.now.grid in
@@ -97,45 +208,60 @@ module _ {G E H F : Type 0} (source_dimensions : G → List Dimension) (source_k
             planned.about planned.is_cover planned.left parts;
       }
       in
-      let targets = about.targets in
-      let (now_came, all, now_are) = one_came IsGroupOf (targets_to_come begin) came (targets_to_come before) (targets_to_come after) chunk
-      (group.to, from) groups more left gives.gives are
-      (rw (← about.same_source, ← targets.same_grid, ← targets.same_encoding) into) is
-      in
-      let still = rw (about.same_source, targets.same_grid, targets.same_encoding, targets.same_subset) at gives.about in
-      (now_came, all, now_are, still, gives.can can)
+      rw (← about.same_source, ← about.targets.same_grid, ← about.targets.same_encoding) into
+
+  still_copies : (before after : Copies G E H F) (group : ChunkCopies G E) → CanCopy source_dimensions target_dimensions before
+      → GivesGroup before (Some (Ok group)) after → CanCopy source_dimensions target_dimensions after
+  still_copies before after group can gives = gives.can can
+
+  pub one_more_group : (before after : Copies G E H F) (group : ChunkCopies G E) (from : List Part) (groups more : List Group)
+      → GroupsHaveCome before groups → GivesCopies source_dimensions target_dimensions target_key before (Some (Ok group)) after
+      → ArePartsToCome source_dimensions source_key group.from from → more ≡ groups ++ (group.to, from) ∷ [] → GroupsHaveCome after more
+  one_more_group = one_more_came IsGroupOf (CanCopy source_dimensions target_dimensions) is_copied still_copies
 
   pub last_group : (before after : Copies G E H F) (groups : List Group) → GroupsHaveCome before groups
       → GivesCopies source_dimensions target_dimensions target_key before None after
       → AreGroupsToCome source_dimensions source_key target_dimensions target_key begin groups
-  last_group before after groups (came, left, are, about, can) gives =
-      subst (λ chunks. AllZip IsGroupOf chunks groups) (sym (left ∙ ap (λ xs. came ++ xs) gives.gives.0 ∙ append-nil came)) are
+  last_group = all_came IsGroupOf (CanCopy source_dimensions target_dimensions)
 
-  -- what a call of `next` on the walk gives
-  abbrev pub GivesGroup : Copies G E H F → Option (Result (ChunkCopies G E) AllocError) → Copies G E H F → Type 0
-  GivesGroup = GivesCopies source_dimensions target_dimensions target_key
-
-  -- what came and what is given from there up to the end are the groups to come
-  up_to_last : (now last end : Copies G E H F) (came groups : List Group) (given : List (ChunkCopies G E)) → GroupsHaveCome now came
-      → Yields GivesGroup now (map Ok given) last → GivesGroup last None end → AllZip (HasAllParts source_dimensions source_key) given groups
-      → AreGroupsToCome source_dimensions source_key target_dimensions target_key begin (came ++ groups)
-  up_to_last now last end came [] [] have same stops are =
-      subst (AreGroupsToCome source_dimensions source_key target_dimensions target_key begin) (sym (append-nil came))
-      (last_group now end came have (subst (λ walk. GivesGroup walk None end) (sym same) stops))
-  up_to_last now last end came ((to, from) ∷ groups) (group ∷ given) have (after, gives, rest) stops ((same, parts), are) =
-      let more = came ++ (to, from) ∷ [] in
-      let is : more ≡ came ++ (group.to, from) ∷ [] = ap (λ t. came ++ (t, from) ∷ []) (sym same) in
-      subst (AreGroupsToCome source_dimensions source_key target_dimensions target_key begin) (append_assoc came ((to, from) ∷ []) groups)
-      (up_to_last after last end more groups given (one_more_group now after group from came more have gives parts is) rest stops are)
-  up_to_last now last end came [] (_ ∷ _) have yields stops are = absurd are
-  up_to_last now last end came (_ ∷ _) [] have yields stops are = absurd are
-
-  -- so what a walk gives up to its end, each group with all of its parts, are the groups to come
   pub all_groups_to_come : (given : List (ChunkCopies G E)) (groups : List Group) → CanCopy source_dimensions target_dimensions begin
       → Drains GivesGroup begin (map Ok given) → AllZip (HasAllParts source_dimensions source_key) given groups
       → AreGroupsToCome source_dimensions source_key target_dimensions target_key begin groups
-  all_groups_to_come given groups can (end, (last, yields, stops)) are =
-      up_to_last begin last end [] groups given (first_group begin [] refl refl can) yields stops are
+  all_groups_to_come = all_given IsGroupOf (CanCopy source_dimensions target_dimensions) is_copied still_copies
+
+  -- ---- of the copy of a region
+
+  abbrev IsMoveOf : List ℕ → Group → Type 0
+  IsMoveOf =
+      AreMovedInto (source_dimensions begin.source.now.grid) (source_key begin.source.now.encoding) (target_dimensions begin.targets.grid.now)
+      (target_key begin.targets.encoding.now) (region_of begin) begin.targets.array_subset.start
+
+  -- and it reads from the same element on
+  abbrev MovesOn : Copies G E H F → Type 0
+  MovesOn now = (first_of now ≡ first_of begin) × CanMove source_dimensions target_dimensions now
+
+  is_moved : (before after : Copies G E H F) (group : ChunkCopies G E) (from : List Part) → IsOverTheSame before → MovesOn before
+      → GivesGroup before (Some (Ok group)) after → ArePartsToCome source_dimensions source_key group.from from
+      → IsMoveOf group.to.chunk.items (group.to, from)
+  is_moved before after group from about (same_first, can) gives parts =
+      let planned = gives.moved_from can in
+      let targets = about.targets in
+      let read = behind (first_of before) group.to.in_subset in
+      let plan = plan_of source_dimensions source_key before.source.now.grid before.source.now.encoding read planned.cover group.from from
+      planned.about planned.is_cover planned.left parts
+      in
+      record {
+        to = rw (targets.same_grid, targets.same_encoding, targets.same_subset) at (gives.moved_to can);
+        from = rw (same_first, about.same_source) at plan;
+      }
+
+  still_moves : (before after : Copies G E H F) (group : ChunkCopies G E) → MovesOn before → GivesGroup before (Some (Ok group)) after → MovesOn after
+  still_moves before after group (same_first, can) gives = (gives.first ∙ same_first, gives.can_move can)
+
+  pub all_moves_to_come : (given : List (ChunkCopies G E)) (groups : List Group) → CanMove source_dimensions target_dimensions begin
+      → Drains GivesGroup begin (map Ok given) → AllZip (HasAllParts source_dimensions source_key) given groups
+      → AreMovesToCome source_dimensions source_key target_dimensions target_key begin groups
+  all_moves_to_come given groups can = all_given IsMoveOf MovesOn is_moved still_moves given groups (refl, can)
 
 -- the groups of all chunks that were to come are a rechunking
 pub rechunking_of : {G E H F : Type 0} (source_dimensions : G → List Dimension) (source_key : E → List ℕ → List ℕ → Type 0)
@@ -153,3 +279,18 @@ rechunking_of source_dimensions source_key target_dimensions target_key source t
       are_targets = are;
       are_groups = rw (← left, ← about.same_source, ← about.targets.same_grid, ← about.targets.same_encoding) come;
     }
+
+-- the groups of all chunks that were to come are the copy of a region
+pub region_copy_of : {G E H F : Type 0} (source_dimensions : G → List Dimension) (source_key : E → List ℕ → List ℕ → Type 0)
+    (target_dimensions : H → List Dimension) (target_key : F → List ℕ → List ℕ → Type 0) (source : StoredArray G E)
+    (target : StoredArray H F) (region : Box) (at : List ℕ) (cover : Box) (walk : Copies G E H F) (groups : List Group)
+    → IsAboutCopies source target (moved at region) walk → first_of walk ≡ region.start
+    → IsCover (target_dimensions target.grid) (moved at region) cover → targets_to_come walk ≡ chunks_in cover
+    → AreMovesToCome source_dimensions source_key target_dimensions target_key walk groups
+    → IsRegionCopy (source_dimensions source.grid) (source_key source.encoding) (target_dimensions target.grid) (target_key target.encoding) region at
+    groups
+region_copy_of source_dimensions source_key target_dimensions target_key source target region at cover walk groups about first is left come =
+    let targets = about.targets in
+    let start : walk.targets.array_subset.start ≡ at = ap (λ b. b.start) targets.same_subset in
+    let shape : walk.targets.array_subset.shape ≡ region.shape = ap (λ b. b.shape) targets.same_subset in
+    record { cover = cover; is_cover = is; are_groups = rw (left, about.same_source, targets.same_grid, targets.same_encoding, first, shape, start) at come }

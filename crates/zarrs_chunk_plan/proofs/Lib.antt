@@ -11,6 +11,7 @@ pub mod InPlace
 pub mod Joined
 pub mod MetChunks
 pub mod MetCovers
+pub mod MovedBoxes
 pub mod Overlaps
 pub mod Plans
 pub mod Products

@@ -3,6 +3,7 @@ pub mod Counted
 pub mod Counts
 pub mod Plan
 pub mod Rechunking
+pub mod Region
 pub mod Shares
 pub mod SomeChunks
 pub mod SomeCopies

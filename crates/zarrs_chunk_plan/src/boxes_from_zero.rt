@@ -51,7 +51,7 @@ fn box_from_zero(alloc: Global, shape: &[u64]) -> Result<ArraySubset, AllocError
 ///
 /// # Errors
 /// Out of memory.
-fn zeros(alloc: Global, len: usize) -> Result<Vec<u64>, AllocError>
+pub(crate) fn zeros(alloc: Global, len: usize) -> Result<Vec<u64>, AllocError>
     ensures { IfOk result (λ v. v.items ≡ replicate len 0) }
 {
     let mut numbers = Vec::with_capacity(alloc, len)?;

@@ -1,4 +1,5 @@
-//! The walk over what a rechunking copies.
+//! The walk over what a rechunking copies, and over what is copied of a region.
+use crate::moved::box_behind;
 use crate::part::Part;
 use crate::plan::parts;
 use crate::share::Share;
@@ -6,19 +7,22 @@ use crate::shared::expect_answer;
 use crate::stored_array::StoredArray;
 use crate::walk::Parts;
 use std::alloc::{AllocError, Global};
+use zarrs_chunk_base::{ArrayIndices, ArraySubset, IncompatibleDimensionalityError, Refusal};
 use zarrs_chunk_keys::ChunkKeyEncodingTraits;
 use zarrs_chunks::ChunkGridTraits;
 
 /// What is copied into one chunk of the target.
 #[derive(Debug, Drop)]
 pub struct ChunkCopies<'a, G, E> {
-    /// The chunk of the target, with the elements of the array that it holds: as a box of the chunk, and as a box of the array.
+    /// The chunk of the target, with the elements that it takes: as a box of the chunk, and as a box that is counted from the first element that
+    /// is copied, so for a rechunking as a box of the array.
     pub to: Part,
-    /// The parts of the source's chunks that have these elements. Each goes to the box of the target's chunk that it has as `in_subset`.
+    /// The parts of the source's chunks that have these elements. Each goes to the box that it has as `in_subset`, which is counted from the first
+    /// element of `to.in_chunk`; for a rechunking that is the chunk's first one.
     pub from: Parts<'a, G, E>,
 }
 
-/// What a rechunking copies, a chunk of the target after another, in row-major order of these chunks.
+/// What a rechunking copies, or what is copied of a region, a chunk of the target after another, in row-major order of these chunks.
 ///
 /// A group is made when it is asked for, and so is each of its parts. After an `Err` or the end the walk gives nothing more, until it goes to a
 /// [`share`](Copies::share).
@@ -26,24 +30,30 @@ pub struct ChunkCopies<'a, G, E> {
 pub struct Copies<'a, G, E, H, F> {
     alloc: Global,
     source: &'a StoredArray<G, E>,
+    /// Where in the source's array the first element lies that is copied.
+    first: ArrayIndices,
     targets: Parts<'a, H, F>,
 }
 
 impl<'a, G, E, H, F> Copies<'a, G, E, H, F> {
     ghost use Rattle.std.specs.Prelude.{◌≡◌};
 
-    /// A walk over what is copied into the chunks of the target that a walk over the whole array gives.
+    /// A walk over what is copied into the chunks of the target that a walk gives. The first element of the box that this is over lies at `first` in
+    /// the source's array.
     pub(crate) fn new(
         alloc: Global,
         source: &'a StoredArray<G, E>,
+        first: ArrayIndices,
         targets: Parts<'a, H, F>,
     ) -> Copies<'a, G, E, H, F>
         ensures targets { result.targets ≡ targets.entry }
         ensures same_source { result.source.now ≡ source.now }
+        ensures first { result.first.items ≡ first.items }
     {
         Copies {
             alloc,
             source,
+            first,
             targets,
         }
     }
@@ -53,7 +63,7 @@ impl<'a, G, E, H: ChunkGridTraits, F: ChunkKeyEncodingTraits> Copies<'a, G, E, H
     ghost use Rattle.std.specs.Prelude.{◌≡◌, IfOk, OnErr, OnOk, length};
     ghost use Rattle.zarrs_chunk_plan.specs.Counted.{counted};
     ghost use Rattle.zarrs_chunk_plan.specs.Shares.{before_share, share_of};
-    ghost use Rattle.zarrs_chunk_plan.specs.seen.Copies.{IsAboutCopies, all_targets, target_of, targets_to_come};
+    ghost use Rattle.zarrs_chunk_plan.specs.seen.Copies.{IsAboutCopies, all_targets, first_of, target_of, targets_to_come};
 
     /// How many chunks of the target something is copied into, from the first one on; `None` past 18446744073709551615.
     pub fn in_all(&self) -> Option<u64>
@@ -76,8 +86,44 @@ impl<'a, G, E, H: ChunkGridTraits, F: ChunkKeyEncodingTraits> Copies<'a, G, E, H
         ensures all { all_targets self.new ≡ all_targets self.old }
         ensures about { IsAboutCopies self.old.source.now (target_of self.old)
             self.old.targets.array_subset self.new }
+        ensures first { first_of self.new ≡ first_of self.old }
     {
         self.targets.share(share)
+    }
+}
+
+impl<
+    'a,
+    G: ChunkGridTraits,
+    E: ChunkKeyEncodingTraits,
+    H: ChunkGridTraits,
+    F: ChunkKeyEncodingTraits,
+> Copies<'a, G, E, H, F> {
+    ghost use Rattle.std.specs.Prelude.{IfOk, IfSome};
+    ghost use Rattle.zarrs_chunk_base.specs.ArraySubset.{IsBox, IsEmptyBox};
+    ghost use Rattle.zarrs_chunk_base.specs.Dimension.{array_sizes};
+    ghost use Rattle.zarrs_chunk_plan.specs.Region.{behind};
+    ghost use Rattle.zarrs_chunk_plan.specs.seen.Copies.{IsPlanned, first_of};
+    ghost use Rattle.zarrs_chunk_plan.specs.seen.Shared.{held_back};
+
+    /// The parts of the source's chunks that have a box of the elements that are copied, which is counted from the first of them.
+    ///
+    /// # Errors
+    /// As of [`parts`].
+    fn sources(
+        &self,
+        elements: &ArraySubset,
+    ) -> Result<Option<Parts<'a, G, E>>, Refusal<IncompatibleDimensionalityError>>
+        ensures { (¬ IsEmptyBox elements.now) → IfOk result (λ found. IfSome found
+            (λ walk. IsBox walk.array_subset × IsPlanned G.dimensions self.now.source.now.grid
+            self.now.source.now.encoding (behind (held_back (first_of self.now)
+            self.now.targets.array_subset.shape
+            (array_sizes (G.dimensions self.now.source.now.grid))) elements.now) walk)) }
+    {
+        let StoredArray { grid, encoding } = self.source;
+        let shape = self.targets.elements().shape();
+        let read = box_behind(self.alloc, &self.first, shape, grid.array_shape(), elements)?;
+        parts(self.alloc, grid, encoding, &read)
     }
 }
 
@@ -102,8 +148,7 @@ impl<
             Ok(to) => to,
             Err(error) => return Some(Err(error)),
         };
-        let StoredArray { grid, encoding } = self.source;
-        let from = parts(self.alloc, grid, encoding, &to.in_subset);
+        let from = self.sources(&to.in_subset);
         match expect_answer(from) {
             Ok(from) => Some(Ok(ChunkCopies { to, from })),
             Err(error) => {

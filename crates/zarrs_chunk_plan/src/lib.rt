@@ -22,16 +22,19 @@
 //! | `stored_array` | an array as it is stored: a grid and an encoding |
 //! | `rechunking` | `copies`: the plan of a rechunking; `targets_of`: the chunks that it writes |
 //! | `numbered_copies` | `some_copies`: some of the groups of that plan, from any one on |
-//! | `chunk_copies` | the walk over what a rechunking copies, a chunk of the target after another |
+//! | `region` | `copies_of_region`: the copy of a box of elements to another place, or another array |
+//! | `chunk_copies` | the walk over what a rechunking copies, or what is copied of a region, a chunk of the target after another |
 //! | `counts` | how much a plan copies, without a walk over it |
 //! | `sources` | how many chunks of the source share elements with those of the target, along each dimension |
 //! | `copies_error` | why a rechunking can't be planned |
+//! | `region_error` | why a region can't be copied |
 //! | `boxes_from_zero` | the box of all elements of an array, and that of all chunks of a grid |
 //! | `clipping` | `clip`: a box of elements without those that the array doesn't have |
 //! | `share` | one of several shares of a plan |
 //! | `chunks_between` | the walk over the chunks of a share |
 //! | `shared` | the elements that a chunk and a box share, counted from either |
 //! | `overlap` | what two boxes have in common |
+//! | `moved` | whether a box lies in an array; a box, as far behind another element |
 //! | `laws` | what holds of every plan |
 #![tactic(auto)]
 
@@ -42,6 +45,7 @@ mod clipping;
 mod copies_error;
 mod counts;
 pub mod laws;
+mod moved;
 mod numbered_chunks;
 mod numbered_copies;
 mod numbered_parts;
@@ -49,6 +53,8 @@ mod overlap;
 mod part;
 mod plan;
 mod rechunking;
+mod region;
+mod region_error;
 mod share;
 mod shared;
 mod sources;
@@ -66,6 +72,8 @@ pub use numbered_parts::{SomeParts, some_parts};
 pub use part::{ChunkShapeTinyVec, Part};
 pub use plan::parts;
 pub use rechunking::{copies, targets_of};
+pub use region::copies_of_region;
+pub use region_error::RegionError;
 pub use share::Share;
 pub use stored_array::StoredArray;
 pub use walk::Parts;

@@ -1,14 +1,14 @@
 //! The plan of a rechunking.
-ghost use Rattle.std.specs.Prelude.{◌≡◌, ◌≢◌, ◌↔◌, ℕ, IfErr, IfOk, IsTrue, List, length};
+ghost use Rattle.std.specs.Prelude.{◌≡◌, ◌≢◌, ◌↔◌, ℕ, IfErr, IfOk, IsTrue, List, length, replicate};
 ghost use Rattle.zarrs_chunk_base.specs.ArraySubset.{Box, IsBox, IsInside};
 ghost use Rattle.zarrs_chunk_base.specs.Dimension.{array_sizes};
 ghost use Rattle.zarrs_chunk_base.specs.Refusal.{HasMemory, OrMemory};
 ghost use Rattle.zarrs_chunks.specs.Walks.{chunks_in};
 ghost use Rattle.zarrs_chunk_plan.specs.Plan.{Meets};
 ghost use Rattle.zarrs_chunk_plan.specs.Rechunking.{AreTargets, array_box};
-ghost use Rattle.zarrs_chunk_plan.specs.seen.Copies.{CanCopy, IsAboutCopies, IsCopiesFault, all_targets, targets_to_come};
+ghost use Rattle.zarrs_chunk_plan.specs.seen.Copies.{CanCopy, CanMove, IsAboutCopies, IsCopiesFault, all_targets, first_of, targets_to_come};
 
-use crate::boxes_from_zero::whole_array;
+use crate::boxes_from_zero::{whole_array, zeros};
 use crate::chunk_copies::Copies;
 use crate::copies_error::CopiesError;
 use crate::overlap::overlap;
@@ -47,6 +47,9 @@ pub fn copies<
     ensures about { IfOk result (IsAboutCopies source.now target.now
         (array_box (H.dimensions target.now.grid))) }
     ensures can_copy { IfOk result (CanCopy G.dimensions H.dimensions) }
+    ensures can_move { IfOk result (CanMove G.dimensions H.dimensions) }
+    ensures first { IfOk result (λ walk. first_of walk
+        ≡ replicate (length (H.dimensions target.now.grid)) 0) }
     ensures is_box { IfOk result (λ _. IsBox (array_box (H.dimensions target.now.grid))) }
     ensures all { IfOk result (λ walk. all_targets walk ≡ targets_to_come walk) }
     ensures one_array { IfOk result (λ _. array_sizes (G.dimensions source.now.grid)
@@ -64,7 +67,8 @@ pub fn copies<
     let targets = targets_of(alloc, &source.grid, &target.grid, chunks)?;
     let array = whole_array(alloc, &target.grid)?;
     let walk = Parts::new(alloc, &target.grid, &target.encoding, array, targets)?;
-    Ok(Copies::new(alloc, source, walk))
+    let first = zeros(alloc, target.grid.dimensionality())?;
+    Ok(Copies::new(alloc, source, first, walk))
 }
 
 /// The chunks of the target that a rechunking writes: of a box of chunk numbers those that hold elements of the array, as a box of chunk numbers.

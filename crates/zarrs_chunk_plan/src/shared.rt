@@ -165,8 +165,9 @@ fn reaches_from(first: u64, held: u64, start: u64, count: u64) -> bool
 ///
 /// # Errors
 /// They make none.
-fn made_box(start: ArrayIndices, shape: ArrayShape) -> Result<ArraySubset, AllocError>
-    ensures { IfOk result (λ b. b ≡ record { start = start.items; shape = shape.items }) }
+pub(crate) fn made_box(start: ArrayIndices, shape: ArrayShape) -> Result<ArraySubset, AllocError>
+    ensures value { IfOk result (λ b. b ≡ record { start = start.items; shape = shape.items }) }
+    ensures is_box { IfOk result IsBox }
 {
     ArraySubset::new_with_start_shape(start, shape).map_err(|_| AllocError)
 }

@@ -10,6 +10,7 @@ use Rattle.zarrs_chunks.specs.Subsets.{IsCover}
 use Rattle.zarrs_chunks.specs.Walks.{Gives, chunks_in}
 use Rattle.zarrs_chunk_plan.specs.Plan.{IsPart}
 use Rattle.zarrs_chunk_plan.specs.Rechunking.{AreCopiesInto, Group, array_box}
+use Rattle.zarrs_chunk_plan.specs.Region.{AreMovedInto, LiesIn, behind}
 use Rattle.zarrs_chunk_plan.specs.declared.chunk_copies.ChunkCopies.{ChunkCopies}
 use Rattle.zarrs_chunk_plan.specs.declared.chunk_copies.Copies.{Copies}
 use Rattle.zarrs_chunk_plan.specs.declared.copies_error.CopiesError.{CopiesError}
@@ -35,6 +36,14 @@ module _ {G E H F : Type 0} where
   abbrev pub target_of : Copies G E H F → StoredArray H F
   target_of walk = record { grid = walk.targets.grid.now; encoding = walk.targets.encoding.now }
 
+  -- where in the source's array the first element lies that is copied: the first one of the box that the walk over the target is over
+  abbrev pub first_of : Copies G E H F → List ℕ
+  first_of walk = walk.first.items
+
+  -- the elements that are copied, as a box of the source's array
+  abbrev pub region_of : Copies G E H F → Box
+  region_of walk = record { start = first_of walk; shape = walk.targets.array_subset.shape }
+
   -- the walk is from this array to this one, and over this box of elements
   pub record IsAboutCopies (source : StoredArray G E) (target : StoredArray H F) (array : Box) (walk : Copies G E H F) : Type 0 where
     pub same_source : walk.source.now ≡ source
@@ -44,6 +53,11 @@ module _ {G E H F : Type 0} where
   pub record CanCopy (source_dimensions : G → List Dimension) (target_dimensions : H → List Dimension) (walk : Copies G E H F) : Type 0 where
     pub one_array : array_sizes (source_dimensions walk.source.now.grid) ≡ array_sizes (target_dimensions walk.targets.grid.now)
     pub whole_array : walk.targets.array_subset ≡ array_box (target_dimensions walk.targets.grid.now)
+    pub meet : MeetSubset target_dimensions walk.targets
+
+  -- the elements that are copied lie in the source's array, and each chunk to come takes some of them
+  pub record CanMove (source_dimensions : G → List Dimension) (target_dimensions : H → List Dimension) (walk : Copies G E H F) : Type 0 where
+    pub in_source : LiesIn (region_of walk) (array_sizes (source_dimensions walk.source.now.grid))
     pub meet : MeetSubset target_dimensions walk.targets
 
 module _ {G E : Type 0} where
@@ -63,7 +77,8 @@ IfGroup P (Some (Err _)) = Unit {0}
 IfGroup P None = Unit {0}
 
 -- `next` gives the group of the first chunk to come, and the others are to come then; nothing, at the end; or out of memory. The walk is
--- over the same as before. Of a walk as `copies` makes one, it is what is copied into the chunk.
+-- over the same as before. Of a walk as `copies` makes one, it is what is copied into the chunk; and so it is of one as `copies_of_region` does,
+-- where the elements are read as far behind the first that is copied as they lie behind the first of the box.
 pub record GivesCopies {G E H F : Type 0} (source_dimensions : G → List Dimension) (target_dimensions : H → List Dimension)
     (target_key : F → List ℕ → List ℕ → Type 0)
     (before : Copies G E H F) (given : Option (Result (ChunkCopies G E) AllocError)) (after : Copies G E H F) : Type 0 where
@@ -76,6 +91,14 @@ pub record GivesCopies {G E H F : Type 0} (source_dimensions : G → List Dimens
   pub about : IsAboutCopies before.source.now (target_of before) before.targets.array_subset after
   pub can : CanCopy source_dimensions target_dimensions before → CanCopy source_dimensions target_dimensions after
   pub all : all_targets after ≡ all_targets before
+  pub first : first_of after ≡ first_of before
+  pub moved_to : CanMove source_dimensions target_dimensions before
+      → IfGroup (λ group. IsPart (target_dimensions before.targets.grid.now) (target_key before.targets.encoding.now) before.targets.array_subset
+      group.to.chunk.items group.to) given
+  pub moved_from : CanMove source_dimensions target_dimensions before
+      → IfGroup (λ group. IsPlanned source_dimensions before.source.now.grid before.source.now.encoding
+      (behind (first_of before) group.to.in_subset) group.from) given
+  pub can_move : CanMove source_dimensions target_dimensions before → CanMove source_dimensions target_dimensions after
 
 -- a group that `next` gave, with all parts that its own walk has to give
 abbrev pub HasAllParts : {G E : Type 0} → (G → List Dimension) → (E → List ℕ → List ℕ → Type 0) → ChunkCopies G E → Group → Type 0
@@ -92,6 +115,14 @@ AreGroupsToCome source_dimensions source_key target_dimensions target_key walk =
     AllZip
     (AreCopiesInto (source_dimensions walk.source.now.grid) (source_key walk.source.now.encoding) (target_dimensions walk.targets.grid.now)
     (target_key walk.targets.encoding.now)) (targets_to_come walk)
+
+-- the same of a walk over a region
+abbrev pub AreMovesToCome : {G E H F : Type 0} → (G → List Dimension) → (E → List ℕ → List ℕ → Type 0) → (H → List Dimension)
+    → (F → List ℕ → List ℕ → Type 0) → Copies G E H F → List Group → Type 0
+AreMovesToCome source_dimensions source_key target_dimensions target_key walk =
+    AllZip
+    (AreMovedInto (source_dimensions walk.source.now.grid) (source_key walk.source.now.encoding) (target_dimensions walk.targets.grid.now)
+    (target_key walk.targets.encoding.now) (region_of walk) walk.targets.array_subset.start) (targets_to_come walk)
 
 -- the fault says that the grids have different array shapes, or how many dimensions the box of chunks has and how many the target
 abbrev pub IsCopiesFault : List ℕ → List ℕ → ℕ → ℕ → CopiesError → Type 0

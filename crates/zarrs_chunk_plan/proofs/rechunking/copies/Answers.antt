@@ -1,11 +1,14 @@
-use Rattle.std.proofs.Common.{◌≡◌, ◌∙◌, ap, rules}
+use Rattle.std.proofs.Common.{◌≡◌, ◌∙◌, ap, length, replicate, rules}
+use Rattle.std.proofs.lemmas.List.{length-map}
 use Rattle.zarrs_chunks.proofs.ChunksInBoxes.{are_those_inside}
 use Rattle.zarrs_chunks.specs.Walks.{chunks_in}
 use Rattle.zarrs_chunk_plan.specs.Plan.{Meets}
 use Rattle.zarrs_chunk_plan.specs.Rechunking.{array_box}
+use Rattle.zarrs_chunk_plan.specs.Region.{EndWithin}
 use Rattle.zarrs_chunk_plan.specs.seen.Parts.{chunks_to_come}
 use Rattle.zarrs_chunk_base.specs.Dimension.{array_sizes}
 use Rattle.zarrs_chunk_plan.proofs.Copied.{can_copy}
+use Rattle.zarrs_chunk_plan.proofs.MovedBoxes.{whole_within}
 use Rattle.zarrs_chunk_plan.proofs.Plans.{all_of_each}
 use Rattle.zarrs_chunk_plan.proofs.rechunking.copies.Goals as goal
 
@@ -25,3 +28,17 @@ returns-clause-can_copy g c =
     can_copy g.G.ChunkGridTraits.dimensions g.H.ChunkGridTraits.dimensions c.args.source.now c.args.target.now.grid
     c.args.target.now.encoding c.new-2.result c.in_ok-walk.walk targets c.new-2.ensures.same_source c.new-2.ensures.targets
     (rw c.in_ok-array.ensures.elements at c.in_ok-walk.ensures.about) c.in_ok-walk.ensures.left one meet
+
+pub returns-clause-can_move : goal.returns-clause-can_move
+returns-clause-can_move g c =
+    let ds = g.H.ChunkGridTraits.dimensions c.args.target.now.grid in
+    let can = returns-clause-can_copy g c in
+    let many : length (array_sizes ds) ≡ length ds = length-map ds (λ d. d.array_size) in
+    let first : c.in_ok-first.first.items ≡ replicate (length ds) 0 = search rules in
+    let one : array_sizes (g.G.ChunkGridTraits.dimensions c.args.source.now.grid) ≡ array_sizes ds = search rules in
+    let lies : EndWithin (replicate (length ds) 0) (array_sizes ds) (array_sizes ds) = rw many at (whole_within (array_sizes ds)) in
+    let about = rw c.in_ok-array.ensures.elements at c.in_ok-walk.ensures.about in
+    record {
+      in_source = rw (c.new-2.ensures.first, c.new-2.ensures.same_source, c.new-2.ensures.targets, about.same_subset, first, one) lies;
+      meet = can.meet;
+    }

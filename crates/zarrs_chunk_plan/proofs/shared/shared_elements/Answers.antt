@@ -28,7 +28,7 @@ returns-clause-boxes g c = λ meets.
     let copied = rw c.deref-6.ensures.value at c.in_ok-from_slice-2.ensures.items in
     let also = rw (c.in_ok-from_slice.ensures.items, c.deref-5.ensures.value, c.start-start.ensures.value) at c.steps_to-from_start.ensures in
     let steps = rw c.start-start.ensures.value at c.steps_to.ensures in
-    rw (c.in_ok-in_chunk.ensures, c.in_ok-in_subset.ensures, steps, also, copied, sizes) shared
+    rw (c.in_ok-in_chunk.ensures.value, c.in_ok-in_subset.ensures.value, steps, also, copied, sizes) shared
 
 pub returns-clause-whole : goal.returns-clause-whole
 returns-clause-whole g c = λ meets.

@@ -1,0 +1,77 @@
+-- The copy of a region: a box of elements of one array goes to a box of the same shape in another array, or in the same one. For each chunk of the
+-- target that meets the moved box, the elements that it takes, and the parts of the source's chunks that have them.
+-- Sources: Zarr V3 core, chunk grids and chunk key encodings; the copy of a region is this library's own.
+use Rattle.std.specs.Prelude.{◌≡◌, ◌≢◌, ℕ, ◌+◌, ◌≤◌, List, [], ◌∷◌, length}
+use Rattle.std.specs.List.{AllZip}
+use Rattle.zarrs_chunk_base.specs.ArraySubset.{Box}
+use Rattle.zarrs_chunk_base.specs.Dimension.{Dimension, InBox, IsPlace}
+use Rattle.zarrs_chunk_base.specs.Refusal.{TellsLengths}
+use Rattle.zarrs_chunk_axes.specs.InBounds.{AreBelow}
+use Rattle.zarrs_chunks.specs.Subsets.{IsCover}
+use Rattle.zarrs_chunks.specs.Walks.{chunks_in, counted_from}
+use Rattle.zarrs_chunk_plan.specs.Plan.{IsPart, IsPlan}
+use Rattle.zarrs_chunk_plan.specs.Rechunking.{Group}
+use Rattle.zarrs_chunk_plan.specs.declared.part.Part.{Part}
+use Rattle.zarrs_chunk_plan.specs.declared.region_error.RegionError.{RegionError}
+use Rattle.zarrs_chunk_plan.specs.declared.region_error.RegionError.TheVariants.{Region, Target, At, PastSource, PastTarget}
+
+-- a box, as far behind the numbers of a list as it was behind 0
+abbrev pub behind : List ℕ → Box → Box
+behind first b = record { start = counted_from first b.start; shape = b.shape }
+
+-- the box of the region's shape that begins at `at`
+abbrev pub moved : List ℕ → Box → Box
+moved at region = record { start = at; shape = region.shape }
+
+-- in each dimension the range ends at the size or before it
+abbrev pub EndWithin : (start shape sizes : List ℕ) → Type 0
+EndWithin [] [] [] = Unit {0}
+EndWithin (first ∷ start) (count ∷ shape) (size ∷ sizes) = (first + count ≤ size) × EndWithin start shape sizes
+EndWithin _ _ _ = ⊥
+
+-- The box lies in an array of these sizes. An empty one does where it ends within the array.
+abbrev pub LiesIn : Box → List ℕ → Type 0
+LiesIn b sizes = EndWithin b.start b.shape sizes
+
+-- the region lies in the source's array, and the moved box in the target's, by the sizes of each
+pub record CanBeMoved (source target : List ℕ) (region : Box) (at : List ℕ) : Type 0 where
+  pub in_source : LiesIn region source
+  pub in_target : LiesIn (moved at region) target
+
+-- The first fault: the region has another number of dimensions than the source's array; the target's array has; the index to begin at has;
+-- the region doesn't lie in the source's array; the moved box doesn't lie in the target's.
+abbrev pub IsRegionFault : (source target : List ℕ) → Box → List ℕ → RegionError → Type 0
+IsRegionFault source target region at (Region e) = (length region.start ≢ length source) × TellsLengths (length region.start) (length source) e
+IsRegionFault source target region at (Target e) =
+    (length region.start ≡ length source) × (length target ≢ length source) × TellsLengths (length target) (length source) e
+IsRegionFault source target region at (At e) =
+    (length region.start ≡ length source) × (length target ≡ length source) × (length at ≢ length source)
+    × TellsLengths (length at) (length source) e
+IsRegionFault source target region at PastSource =
+    (length region.start ≡ length source) × (length target ≡ length source) × (length at ≡ length source) × (¬ LiesIn region source)
+IsRegionFault source target region at PastTarget =
+    LiesIn region source × (length target ≡ length source) × (length at ≡ length source) × (¬ LiesIn (moved at region) target)
+
+module _ (source : List Dimension) (IsSourceKey : List ℕ → List ℕ → Type 0) (target : List Dimension) (IsTargetKey : List ℕ → List ℕ → Type 0)
+    (region : Box) (at : List ℕ) where
+  -- what of a region is copied into a chunk of the target: the plan of reading, from where they are in the source, the elements of the moved box
+  -- that the chunk holds
+  pub record AreMovedInto (chunk : List ℕ) (group : Group) : Type 0 where
+    pub to : IsPart target IsTargetKey (moved at region) chunk group.0
+    pub from : IsPlan source IsSourceKey (behind region.start group.0.in_subset) group.1
+
+  -- the copy of a region: a group for each chunk of the target that meets the moved box, in row-major order
+  pub record IsRegionCopy (groups : List Group) : Type 0 where
+    pub cover : Box
+    pub is_cover : IsCover target (moved at region) cover
+    pub are_groups : AllZip AreMovedInto (chunks_in cover) groups
+
+-- A copy moves the element at an index of the source's array to an index of the target's: so many steps behind the first of either box, it has
+-- the one's place in the source's chunk, and the other's in the target's. The box of the part of the source that it has as `in_subset` is counted
+-- from the first element of the box that the part of the target has as `in_chunk`.
+pub record MovesTo (source target : List Dimension) (copy : Part × Part) (steps index to : List ℕ) : Type 0 where
+  pub below : AreBelow copy.0.in_chunk.shape steps
+  pub in_source : InBox source copy.0.chunk.items index
+  pub from : IsPlace source copy.0.chunk.items index (counted_from copy.0.in_chunk.start steps)
+  pub in_target : InBox target copy.1.chunk.items to
+  pub to_place : IsPlace target copy.1.chunk.items to (counted_from copy.1.in_chunk.start (counted_from copy.0.in_subset.start steps))
