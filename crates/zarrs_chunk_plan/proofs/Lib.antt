@@ -5,6 +5,7 @@ pub mod BoxCover
 pub mod ByNumber
 pub mod Clipped
 pub mod Copied
+pub mod CopyLists
 pub mod CountedCopies
 pub mod CountedParts
 pub mod InPlace
@@ -17,6 +18,7 @@ pub mod Plans
 pub mod Products
 pub mod Ranks
 pub mod Rechunkings
+pub mod Regions
 pub mod SameBoxes
 pub mod ShareLists
 pub mod Shares

@@ -97,6 +97,12 @@ place_from_origin [] [] [] (_ ∷ _) is same = absurd (omega arith)
 place_from_origin (_ ∷ _) (_ ∷ _) (_ ∷ _) [] is same = absurd (omega arith)
 place_from_origin _ _ _ _ is same = absurd is
 
+-- a box that has something in it has as many sizes as starts
+pub within_sizes : (start shape index : List ℕ) → AreWithin start shape index → length shape ≡ length start
+within_sizes [] [] [] within = refl
+within_sizes (s ∷ start) (n ∷ shape) (i ∷ index) within = ap suc (within_sizes start shape index within.2)
+within_sizes _ _ _ within = absurd within
+
 -- a list that has something below it in each place has no 0
 pub not_empty_if_inside : (start shape index : List ℕ) → AreWithin start shape index → ¬ Contains shape 0
 not_empty_if_inside [] [] [] within (k, counted, is) = absurd (omega arith)
@@ -235,6 +241,13 @@ module _ (ds : List Dimension) (IsKey : List ℕ → List ℕ → Type 0) (b : B
       differ (same_box ds one other index chains (has_common ds IsKey b one part index place is has).0
       (has_common ds IsKey b other next index also is_other has_other).0))
 
+  -- the parts are of different chunks
+  pub parts_differ : (parts : List Part) → IsPlan ds IsKey b parts → AllPairs (λ part other. part.chunk.items ≢ other.chunk.items) parts
+  parts_differ parts plan =
+      pairs_of (IsPart ds IsKey b) (λ part other. part.chunk.items ≢ other.chunk.items) (chunks_in plan.cover) parts plan.are_parts
+      (chunks_once plan.cover plan.is_cover.is_box)
+      (λ one other part next _ _ differ is is_other same. differ (sym is.numbers ∙ same ∙ is_other.numbers))
+
   -- chunks of a plan that have one key are one
   pub keys_differ :
       ((chunk other key : List ℕ) → AllFit chunk → AllFit other → length chunk ≡ length other → IsKey chunk key → IsKey other key → chunk ≡ other)
@@ -265,6 +278,21 @@ module _ (ds : List Dimension) (IsKey : List ℕ → List ℕ → Type 0) (b : B
         },
       )
 
+  -- and so it lies in the box, counted from its first element
+  pub place_below : (chunk : List ℕ) (part : Part) (place : List ℕ) → IsPart ds IsKey b chunk part → IsInside part.in_subset place
+      → AreBelow b.shape place
+  place_below chunk part place is inside =
+      let index = counted_from b.start place in
+      let (at, has) = has_at chunk part place is inside in
+      let common = has_common ds IsKey b chunk part index at is has in
+      let long = all_long ds IsKey b chunk part index is common in
+      let in_part = within_lengths part.in_subset.start part.in_subset.shape place inside in
+      let sizes = within_sizes b.start b.shape index common.1 in
+      let (steps, below, counts) = offset_of b.start b.shape index common.1 in
+      let steps_many = length_below b.shape steps below ∙ sizes in
+      let same : steps ≡ place = counted_once b.start steps place steps_many (omega arith) counts in
+      subst (AreBelow b.shape) same below
+
   pub tiles_all : AllByRecursion IsChain ds → IsBox b → (parts : List Part) → IsPlan ds IsKey b parts → (place : List ℕ)
       → AreBelow b.shape place ↔ ((part : Part) × Contains parts part × IsInside part.in_subset place)
   tiles_all chains is_box parts plan place = (find, λ (part, among, inside). lies part among inside) where
@@ -287,15 +315,7 @@ module _ (ds : List Dimension) (IsKey : List ℕ → List ℕ → Type 0) (b : B
     lies : (part : Part) → Contains parts part → IsInside part.in_subset place → AreBelow b.shape place
     lies part among inside =
         let (chunk, _, is) = source_of (IsPart ds IsKey b) (chunks_in plan.cover) parts plan.are_parts part among in
-        let index = counted_from b.start place in
-        let (at, has) = has_at chunk part place is inside in
-        let common = has_common ds IsKey b chunk part index at is has in
-        let long = all_long ds IsKey b chunk part index is common in
-        let in_part = within_lengths part.in_subset.start part.in_subset.shape place inside in
-        let (steps, below, counts) = offset_of b.start b.shape index common.1 in
-        let steps_many = length_below b.shape steps below ∙ sym is_box.lengths in
-        let same : steps ≡ place = counted_once b.start steps place steps_many (omega arith) counts in
-        subst (AreBelow b.shape) same below
+        place_below chunk part place is inside
 
   pub tiles_apart : AllByRecursion IsChain ds → (parts : List Part) → IsPlan ds IsKey b parts
       → AllPairs (λ part other. (place : List ℕ) → IsInside part.in_subset place → IsInside other.in_subset place → ⊥) parts

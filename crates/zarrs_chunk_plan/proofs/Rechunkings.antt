@@ -1,5 +1,5 @@
 -- The copies of a rechunking: which elements they move, and that they differ.
-use Rattle.std.proofs.Common.{◌≡◌, ◌≢◌, ◌↔◌, ◌∙◌, ℕ, zero, suc, ◌+◌, List, [], ◌∷◌, Contains, length, map, replicate, refl, ap, ap₂, subst, sym}
+use Rattle.std.proofs.Common.{◌≡◌, ◌↔◌, ◌∙◌, ℕ, zero, suc, ◌+◌, List, [], ◌∷◌, Contains, length, map, replicate, refl, ap, ap₂, subst, sym, ⊎_elim}
 use Rattle.std.proofs.Common.{arith}
 use Rattle.std.specs.List.{AllByRecursion, AllPairs, AllZip, flat_map}
 use Rattle.zarrs_chunk_base.specs.ArraySubset.{AreWithin, Box, IsInside}
@@ -9,14 +9,15 @@ use Rattle.zarrs_chunk_base.proofs.InEach.{by_dimension_twice, length_values}
 use Rattle.zarrs_chunk_axes.specs.InBounds.{AreBelow}
 use Rattle.zarrs_chunks.specs.Walks.{chunks_in, counted_from}
 use Rattle.zarrs_chunks.proofs.Chains.{same_box}
-use Rattle.zarrs_chunks.proofs.ChunksInBoxes.{are_those_inside, chunks_once, length_below, made_of as among_mapped, source_of as is_of}
+use Rattle.zarrs_chunks.proofs.ChunksInBoxes.{are_those_inside, chunks_once, length_below}
 use Rattle.zarrs_chunks.proofs.FittingChunks.{counted_home}
 use Rattle.zarrs_chunk_plan.specs.Plan.{HasElement, IsCommon, IsPart, Meets}
 use Rattle.zarrs_chunk_plan.specs.Rechunking.{AreCopiesInto, Group, IsRechunking, Moves, ShareOut, all_chunks_box, array_box, copies_of}
 use Rattle.zarrs_chunk_plan.specs.declared.part.Part.{Part}
-use Rattle.zarrs_chunk_plan.proofs.Joined.{in_joined, in_some, pairs_joined, pairs_mapped}
-use Rattle.zarrs_chunk_plan.proofs.Plans.{all_long, has_common, has_place, length_counted, pair_of, pairs_by, pairs_of, place_from_origin, some_part}
-use Rattle.zarrs_chunk_plan.proofs.Plans.{source_of}
+use Rattle.zarrs_chunk_plan.proofs.CopyLists.{Differ, copies_differ, copy_in, copy_of, pairs_follow}
+use Rattle.zarrs_chunk_plan.proofs.Joined.{in_joined, pairs_joined}
+use Rattle.zarrs_chunk_plan.proofs.Plans.{all_long, has_common, has_place, length_counted, pair_of, pairs_by, parts_differ, place_from_origin}
+use Rattle.zarrs_chunk_plan.proofs.Plans.{some_part, source_of}
 
 -- ---- the whole array
 
@@ -138,14 +139,12 @@ module _ (source : List Dimension) (IsSourceKey : List ℕ → List ℕ → Type
   pub origin_of : (chunks : Box) (groups : List Group) → IsRechunking source IsSourceKey target IsTargetKey chunks groups → (copy : Part × Part)
       → Contains (copies_of groups) copy → IsOf chunks copy
   origin_of chunks groups plan copy among =
-      let (group, in_groups, in_group) = in_some (λ g. map (λ from. (from, g.0)) g.1) groups copy among in
-      let (from, in_parts, same) = is_of (λ from. (from, group.0)) group.1 copy in_group in
-      let (chunk, counted, into) =
-      source_of (AreCopiesInto source IsSourceKey target IsTargetKey) (chunks_in plan.targets) groups plan.are_groups group in_groups in
+      let (chunk, parts, counted, into, in_parts) =
+      copy_of (AreCopiesInto source IsSourceKey target IsTargetKey) (chunks_in plan.targets) groups plan.are_groups copy among in
       let (inside, meets) = (plan.are_targets chunk).0 ((are_those_inside plan.targets plan.is_box chunk).0 counted) in
       let (s, _, is_from) =
-      source_of (IsPart source IsSourceKey group.0.in_subset) (chunks_in into.from.cover) group.1 into.from.are_parts from in_parts in
-      subst (IsOf chunks) same (record { chunk = chunk; inside = inside; meets = meets; to = into.to; s = s; from = is_from })
+      source_of (IsPart source IsSourceKey copy.1.in_subset) (chunks_in into.from.cover) parts into.from.are_parts copy.0 in_parts in
+      record { chunk = chunk; inside = inside; meets = meets; to = into.to; s = s; from = is_from }
 
   -- each element whose chunk is asked for is moved by some copy
   pub some_copy : AllByRecursion IsChain source → (chunks : Box) (groups : List Group)
@@ -164,8 +163,7 @@ module _ (source : List Dimension) (IsSourceKey : List ℕ → List ℕ → Type
       in
       let (s, _, is_from) = source_of (IsPart source IsSourceKey subset) (chunks_in into.from.cover) group.1 into.from.are_parts from in_parts in (
         (from, group.0),
-        in_joined (λ g. map (λ from. (from, g.0)) g.1) groups group (from, group.0) in_groups
-            (among_mapped (λ from. (from, group.0)) group.1 from in_parts),
+        copy_in groups group from in_groups in_parts,
         (has.steps, moves chunk group.0 into.to meets s from is_from index place has),
       )
 
@@ -174,34 +172,13 @@ module _ (source : List Dimension) (IsSourceKey : List ℕ → List ℕ → Type
       → IsRechunking source IsSourceKey target IsTargetKey chunks groups
       → AllPairs Apart (copies_of groups)
   no_other_copy chains also_chains chunks groups plan =
-      pairs_joined (λ g. map (λ from. (from, g.0)) g.1) Apart groups within
-      (pairs_of (AreCopiesInto source IsSourceKey target IsTargetKey)
-      (λ g h. (copy other : Part × Part) → Contains (map (λ from. (from, g.0)) g.1) copy
-      → Contains (map (λ from. (from, h.0)) h.1) other → Apart copy other)
-      (chunks_in plan.targets) groups plan.are_groups (chunks_once plan.targets plan.is_box) across) where
-        within : (g : Group) → Contains groups g → AllPairs Apart (map (λ from. (from, g.0)) g.1)
-        within g among =
-            let (chunk, _, into) =
-            source_of (AreCopiesInto source IsSourceKey target IsTargetKey) (chunks_in plan.targets) groups plan.are_groups g among in
-            let cover = into.from.cover in
-            pairs_mapped (λ from. (from, g.0)) Apart g.1
-            (pairs_of (IsPart source IsSourceKey g.0.in_subset) (λ from next. Apart (from, g.0) (next, g.0)) (chunks_in cover) g.1 into.from.are_parts
-            (chunks_once cover into.from.is_cover.is_box)
-            (λ one other from next _ _ differ is is_other steps also index moved again.
-            differ (same_box source one other index chains (subst (λ c. InBox source c index) is.numbers moved.in_source)
-            (subst (λ c. InBox source c index) is_other.numbers again.in_source))))
-
-        across : (one other : List ℕ) (g h : Group) → Contains (chunks_in plan.targets) one → Contains (chunks_in plan.targets) other → one ≢ other
-            → AreCopiesInto source IsSourceKey target IsTargetKey one g → AreCopiesInto source IsSourceKey target IsTargetKey other h
-            → (copy next : Part × Part) → Contains (map (λ from. (from, g.0)) g.1) copy
-            → Contains (map (λ from. (from, h.0)) h.1) next → Apart copy next
-        across one other g h _ _ differ into into_other copy next among also_among steps also index moved again =
-            let (from, _, same) = is_of (λ from. (from, g.0)) g.1 copy among in
-            let (from_next, _, same_next) = is_of (λ from. (from, h.0)) h.1 next also_among in
-            let chunk : copy.1.chunk.items ≡ one = ap (λ c. c.1.chunk.items) (sym same) ∙ into.to.numbers in
-            let chunk_next : next.1.chunk.items ≡ other = ap (λ c. c.1.chunk.items) (sym same_next) ∙ into_other.to.numbers in
-            differ (same_box target one other index also_chains (subst (λ c. InBox target c index) chunk moved.in_target)
-            (subst (λ c. InBox target c index) chunk_next again.in_target))
+      pairs_follow Differ Apart (copies_of groups)
+      (copies_differ (AreCopiesInto source IsSourceKey target IsTargetKey) (chunks_in plan.targets) groups plan.are_groups
+      (chunks_once plan.targets plan.is_box) (λ chunk group into. into.to.numbers)
+      (λ chunk group into. parts_differ source IsSourceKey group.0.in_subset group.1 into.from))
+      (λ copy other _ _ differ steps also index moved again.
+      ⊎_elim (λ apart. apart (same_box source copy.0.chunk.items other.0.chunk.items index chains moved.in_source again.in_source))
+      (λ apart. apart (same_box target copy.1.chunk.items other.1.chunk.items index also_chains moved.in_target again.in_target)) differ)
 
   -- each place of a copy is that of an element of the array
   pub moves_elements : (chunks : Box) (groups : List Group) → IsRechunking source IsSourceKey target IsTargetKey chunks groups → (copy : Part × Part)

@@ -11,17 +11,21 @@
 //! | What a walk that `copies` answers gives, one group after another, is a rechunking | [`the_walk_gives_the_rechunking`] |
 //! | Each element whose target chunk is asked for is moved, place to place, by exactly one copy | [`each_element_is_copied_once`] |
 //! | Rechunkings that share the target's chunks out are together the whole one | [`rechunkings_that_share_out_are_the_whole_one`] |
+//! | What a walk that `copies_of_region` answers gives, one group after another, is the copy of the region | [`the_walk_gives_the_region`] |
+//! | Each element of a region is moved, place to place, by exactly one copy | [`each_element_of_a_region_is_copied_once`] |
 ghost use Rattle.std.specs.Prelude.{◌≡◌, ◌≢◌, ◌↔◌, ◌<◌, ℕ, [], List, Ok, Some, map};
 ghost use Rattle.std.specs.Iterator.{Drains};
 ghost use Rattle.std.specs.List.{AllPairs, AllZip, Contains, flat_map, range_with_len};
 ghost use Rattle.zarrs_chunk_axes.specs.InBounds.{AreBelow};
 ghost use Rattle.zarrs_chunk_base.specs.ArraySubset.{Box, IsBox, IsEmptyBox, IsInside};
 ghost use Rattle.zarrs_chunk_base.specs.Dimension.{InBox, IsPlace, array_sizes};
-ghost use Rattle.zarrs_chunks.specs.Walks.{chunks_in};
+ghost use Rattle.zarrs_chunks.specs.Subsets.{IsCover};
+ghost use Rattle.zarrs_chunks.specs.Walks.{chunks_in, counted_from};
 ghost use Rattle.zarrs_chunk_plan.specs.Plan.{HasElement, IsPart, IsPlan};
 ghost use Rattle.zarrs_chunk_plan.specs.Rechunking.{AreTargets, Group, IsRechunking, Moves, ShareOut, array_box, copies_of};
+ghost use Rattle.zarrs_chunk_plan.specs.Region.{IsRegionCopy, MovesTo, moved};
 ghost use Rattle.zarrs_chunk_plan.specs.Shares.{numbered_share};
-ghost use Rattle.zarrs_chunk_plan.specs.seen.Copies.{AreGroupsToCome, CanCopy, GivesCopies, HasAllParts, IsAboutCopies, targets_to_come};
+ghost use Rattle.zarrs_chunk_plan.specs.seen.Copies.{AreGroupsToCome, AreMovesToCome, CanCopy, CanMove, GivesCopies, HasAllParts, IsAboutCopies, first_of, targets_to_come};
 ghost use Rattle.zarrs_chunk_plan.specs.seen.Parts.{AnswersNoParts, AnswersParts, ArePartsToCome, GivesPart, IsAbout, MeetSubset};
 
 use crate::{ChunkCopies, Copies, Part, Parts, StoredArray};
@@ -203,4 +207,81 @@ pub fn rechunkings_that_share_out_are_the_whole_one<
         → Moves (G.dimensions source.now.grid) (H.dimensions target.now.grid) copy steps index
         → Moves (G.dimensions source.now.grid) (H.dimensions target.now.grid) other also index → ⊥)
         (flat_map copies_of plans) }
+{}
+
+/// What a walk over a region gives up to its end, each group with all of its parts, is its groups to come. Of a walk that `copies_of_region` answers
+/// these are the copy of the region; of an empty region there are none.
+pub fn the_walk_gives_the_region<
+    G: ChunkGridTraits,
+    E: ChunkKeyEncodingTraits,
+    H: ChunkGridTraits,
+    F: ChunkKeyEncodingTraits,
+>(source: &StoredArray<G, E>, target: &StoredArray<H, F>)
+    ensures to_come { (walk : Copies G E H F) (given : List (ChunkCopies G E))
+        (groups : List Group) → CanMove G.dimensions H.dimensions walk
+        → Drains (GivesCopies G.dimensions H.dimensions F.is_key) walk (map Ok given)
+        → AllZip (HasAllParts G.dimensions E.is_key) given groups
+        → AreMovesToCome G.dimensions E.is_key H.dimensions F.is_key walk groups }
+    ensures region { (region : Box) (at : List ℕ) (cover : Box) (walk : Copies G E H F)
+        (groups : List Group) → IsCover (H.dimensions target.now.grid) (moved at region) cover
+        → targets_to_come walk ≡ chunks_in cover
+        → IsAboutCopies source.now target.now (moved at region) walk
+        → first_of walk ≡ region.start
+        → AreMovesToCome G.dimensions E.is_key H.dimensions F.is_key walk groups
+        → IsRegionCopy (G.dimensions source.now.grid) (E.is_key source.now.encoding)
+        (H.dimensions target.now.grid) (F.is_key target.now.encoding) region at groups }
+    ensures none { (walk : Copies G E H F) (groups : List Group) → targets_to_come walk ≡ []
+        → AreMovesToCome G.dimensions E.is_key H.dimensions F.is_key walk groups → groups ≡ [] }
+{}
+
+/// Each element of a region is moved by exactly one copy, from its place in the chunk of the source that holds it to its new place in the chunk of
+/// the target that does: as far behind the first element of the moved box as it lay behind that of the region. No two copies write one element of
+/// the target's array, or read one of the source's. Each is under the keys of its two chunks, its two boxes have one shape, and it moves nothing
+/// but elements of the region.
+pub fn each_element_of_a_region_is_copied_once<
+    G: ChunkGridTraits,
+    E: ChunkKeyEncodingTraits,
+    H: ChunkGridTraits,
+    F: ChunkKeyEncodingTraits,
+>(source: &StoredArray<G, E>, target: &StoredArray<H, F>)
+    ensures one { (region : Box) (at : List ℕ) (groups : List Group) → IsBox region
+        → IsBox (moved at region) → IsRegionCopy (G.dimensions source.now.grid)
+        (E.is_key source.now.encoding) (H.dimensions target.now.grid) (F.is_key target.now.encoding)
+        region at groups → (behind : List ℕ) → AreBelow region.shape behind
+        → (copy : Part × Part) × Contains (copies_of groups) copy × ((steps : List ℕ)
+        × MovesTo (G.dimensions source.now.grid) (H.dimensions target.now.grid) copy steps
+        (counted_from region.start behind) (counted_from at behind)) }
+    ensures no_other { (region : Box) (at : List ℕ) (groups : List Group) → IsBox region
+        → IsBox (moved at region) → IsRegionCopy (G.dimensions source.now.grid)
+        (E.is_key source.now.encoding) (H.dimensions target.now.grid) (F.is_key target.now.encoding)
+        region at groups → AllPairs (λ copy other. (steps also index next to : List ℕ)
+        → MovesTo (G.dimensions source.now.grid) (H.dimensions target.now.grid) copy steps index to
+        → MovesTo (G.dimensions source.now.grid) (H.dimensions target.now.grid) other also next to
+        → ⊥) (copies_of groups) }
+    ensures no_other_source { (region : Box) (at : List ℕ) (groups : List Group) → IsBox region
+        → IsBox (moved at region) → IsRegionCopy (G.dimensions source.now.grid)
+        (E.is_key source.now.encoding) (H.dimensions target.now.grid) (F.is_key target.now.encoding)
+        region at groups → AllPairs (λ copy other. (steps also index to next : List ℕ)
+        → MovesTo (G.dimensions source.now.grid) (H.dimensions target.now.grid) copy steps index to
+        → MovesTo (G.dimensions source.now.grid) (H.dimensions target.now.grid) other also index next
+        → ⊥) (copies_of groups) }
+    ensures nothing_else { (region : Box) (at : List ℕ) (groups : List Group)
+        → IsRegionCopy (G.dimensions source.now.grid)
+        (E.is_key source.now.encoding) (H.dimensions target.now.grid) (F.is_key target.now.encoding)
+        region at groups → (copy : Part × Part) → Contains (copies_of groups) copy
+        → (steps : List ℕ) → AreBelow copy.0.in_chunk.shape steps → (behind : List ℕ)
+        × AreBelow region.shape behind
+        × MovesTo (G.dimensions source.now.grid) (H.dimensions target.now.grid) copy steps
+        (counted_from region.start behind) (counted_from at behind) }
+    ensures keys { (region : Box) (at : List ℕ) (groups : List Group)
+        → IsRegionCopy (G.dimensions source.now.grid)
+        (E.is_key source.now.encoding) (H.dimensions target.now.grid) (F.is_key target.now.encoding)
+        region at groups → (copy : Part × Part) → Contains (copies_of groups) copy
+        → E.is_key source.now.encoding copy.0.chunk.items copy.0.key
+        × F.is_key target.now.encoding copy.1.chunk.items copy.1.key }
+    ensures one_shape { (region : Box) (at : List ℕ) (groups : List Group)
+        → IsRegionCopy (G.dimensions source.now.grid)
+        (E.is_key source.now.encoding) (H.dimensions target.now.grid) (F.is_key target.now.encoding)
+        region at groups → (copy : Part × Part) → Contains (copies_of groups) copy
+        → copy.0.in_chunk.shape ≡ copy.0.in_subset.shape }
 {}

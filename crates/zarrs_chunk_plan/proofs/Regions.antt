@@ -1,0 +1,266 @@
+-- The copies of a region: from where to where they move which elements, and that they differ.
+use Rattle.std.proofs.Common.{◌≡◌, ◌⊎◌, ◌∙◌, ℕ, suc, ◌+◌, ◌-◌, ◌<◌, ◌≤◌, List, [], ◌∷◌, Contains, length, refl, ap, ap₂, inl, inr, subst, sym, ⊎_elim}
+use Rattle.std.proofs.Common.{arith}
+use Rattle.std.specs.List.{AllByRecursion, AllPairs}
+use Rattle.zarrs_chunk_base.specs.ArraySubset.{Box, IsBox, lasts}
+use Rattle.zarrs_chunk_base.specs.Dimension.{Dimension, InBox, IsChain, IsPlace}
+use Rattle.zarrs_chunk_base.specs.Greatest.{greatest}
+use Rattle.zarrs_chunk_axes.specs.InBounds.{AreBelow}
+use Rattle.zarrs_chunks.specs.Walks.{chunks_in, counted_from}
+use Rattle.zarrs_chunks.proofs.Chains.{same_box}
+use Rattle.zarrs_chunks.proofs.ChunksInBoxes.{are_those_inside, chunks_once, length_below, lie_within}
+use Rattle.zarrs_chunks.proofs.Covers.{head_some, tail_some}
+use Rattle.zarrs_chunks.proofs.Meeting.{cover_holds}
+use Rattle.zarrs_chunk_plan.specs.Plan.{HasElement, IsPart, Meets}
+use Rattle.zarrs_chunk_plan.specs.Rechunking.{Group, copies_of}
+use Rattle.zarrs_chunk_plan.specs.Region.{AreMovedInto, IsRegionCopy, MovesTo, behind, moved}
+use Rattle.zarrs_chunk_plan.specs.declared.part.Part.{Part}
+use Rattle.zarrs_chunk_plan.proofs.CopyLists.{Differ, copies_differ, copy_in, copy_of, pairs_follow}
+use Rattle.zarrs_chunk_plan.proofs.Plans.{added, all_long, counted_once, has_common, has_place, length_counted, not_empty, pair_of, parts_differ, place_below}
+use Rattle.zarrs_chunk_plan.proofs.Plans.{some_part, source_of, takes}
+use Rattle.zarrs_chunk_plan.proofs.Written.{last_within}
+
+-- ---- lists of numbers
+
+-- a place in a chunk is that of one index
+place_once : (ds : List Dimension) (chunk index other place : List ℕ) → IsPlace ds chunk index place → IsPlace ds chunk other place → index ≡ other
+place_once [] [] [] [] [] is also = refl
+place_once (d ∷ ds) (c ∷ chunk) (i ∷ index) (j ∷ other) (p ∷ place) is also =
+    let here : i ≡ j = sym is.0 ∙ also.0 in
+    ap₂ (λ x xs. x ∷ xs) here (place_once ds chunk index other place is.1 also.1)
+place_once [] [] [] (_ ∷ _) [] is also = absurd also
+place_once (_ ∷ _) (_ ∷ _) (_ ∷ _) [] (_ ∷ _) is also = absurd also
+place_once _ _ _ _ _ is also = absurd is
+
+-- a box that lies in another one, counted from its first element, lies in it as a box of the array
+pub behind_is_box : (first shape start counts : List ℕ) → IsBox (record { start = first; shape = shape }) → length start ≡ length counts
+    → (¬ Contains counts 0) → AreBelow shape (lasts start counts) → IsBox (record { start = counted_from first start; shape = counts })
+behind_is_box [] [] [] [] is_box same some below = record { lengths = refl; fits = tt }
+behind_is_box (f ∷ first) (n ∷ shape) (s ∷ start) (count ∷ counts) is_box same some below =
+    let any : 0 < count = head_some count counts some in
+    let last : s + (count - 1) < n = below.0 in
+    let end : f + n ≤ greatest = is_box.fits.0 in
+    let long = is_box.lengths in
+    let b : Box = record { start = first; shape = shape } in
+    let others : IsBox b = record { lengths = omega arith; fits = is_box.fits.1 } in
+    let rest = behind_is_box first shape start counts others (omega arith) (tail_some count counts some) below.1 in
+    record { lengths = ap suc rest.lengths; fits = (omega arith, rest.fits) }
+behind_is_box [] (_ ∷ _) start counts is_box same some below = let long = is_box.lengths in absurd (omega arith)
+behind_is_box (_ ∷ _) [] start counts is_box same some below = let long = is_box.lengths in absurd (omega arith)
+behind_is_box [] [] (_ ∷ _) (_ ∷ _) is_box same some below = absurd below
+behind_is_box (_ ∷ _) (_ ∷ _) [] [] is_box same some below = absurd below
+behind_is_box _ _ _ _ is_box same some below = absurd (omega arith)
+
+module _ (source : List Dimension) (IsSourceKey : List ℕ → List ℕ → Type 0) (target : List Dimension) (IsTargetKey : List ℕ → List ℕ → Type 0)
+    (region : Box) (at : List ℕ) where
+  -- the copy moves the element that is so far behind the region's first one
+  abbrev MovesBehind : Part × Part → (steps place : List ℕ) → Type 0
+  MovesBehind copy steps place = MovesTo source target copy steps (counted_from region.start place) (counted_from at place)
+
+  -- ---- one copy
+
+  module _ (chunk : List ℕ) (to : Part) (is : IsPart target IsTargetKey (moved at region) chunk to) where
+    -- the elements of the chunk's part, as a box of the source's array
+    abbrev Read : Box
+    Read = behind region.start to.in_subset
+
+    to_long : to.in_subset.shape ≡ to.in_chunk.shape
+    to_long = sym is.boxes.from_subset.shape ∙ is.boxes.from_chunk.shape
+
+    -- a part of them moves each element that it has
+    moves : (s : List ℕ) (from : Part) → IsPart source IsSourceKey Read s from → (steps : List ℕ) → AreBelow from.in_chunk.shape steps
+        → AreBelow region.shape (counted_from to.in_subset.start (counted_from from.in_subset.start steps))
+        × MovesBehind (from, to) steps (counted_from to.in_subset.start (counted_from from.in_subset.start steps))
+    moves s from is_from steps below =
+        let boxes = is_from.boxes in
+        let place : List ℕ = counted_from from.in_subset.start steps in
+        let below_from = subst (λ shape. AreBelow shape steps) (sym boxes.from_chunk.shape ∙ boxes.from_subset.shape) below in
+        let below_to = place_below source IsSourceKey Read s from place is_from
+        (lie_within from.in_subset.start from.in_subset.shape steps boxes.from_subset.is_box.lengths below_from)
+        in
+        let in_region = place_below target IsTargetKey (moved at region) chunk to (counted_from to.in_subset.start place) is
+        (lie_within to.in_subset.start to.in_subset.shape place is.boxes.from_subset.is_box.lengths below_to)
+        in
+        let index : List ℕ = counted_from (counted_from region.start to.in_subset.start) place in
+        let has : HasElement Read from index (counted_from from.in_chunk.start steps) =
+        record { steps = steps; below = below; place_is = refl; index_is = refl }
+        in
+        let has_to : HasElement (moved at region) to (counted_from at (counted_from to.in_subset.start place)) (counted_from to.in_chunk.start place) =
+        record { steps = place; below = subst (λ shape. AreBelow shape place) to_long below_to; place_is = refl; index_is = refl }
+        in
+        let (in_source, at_source) = has_place source IsSourceKey Read s from index (counted_from from.in_chunk.start steps) is_from has in
+        let (in_target, at_target) =
+        has_place target IsTargetKey (moved at region) chunk to (counted_from at (counted_from to.in_subset.start place))
+        (counted_from to.in_chunk.start place) is has_to
+        in
+        let counts = added region.start to.in_subset.start place in (
+          in_region,
+          record {
+            below = below;
+            in_source = rw (is_from.numbers, counts) in_source;
+            from = rw (is_from.numbers, counts) at_source;
+            in_target = rw is.numbers in_target;
+            to_place = rw is.numbers at_target;
+          },
+        )
+
+    -- they are a box, where there are some
+    read_is_box : IsBox region → Meets target (moved at region) chunk → IsBox Read
+    read_is_box is_region meets =
+        let part = is.boxes.from_subset.is_box.lengths in
+        let some = not_empty target IsTargetKey (moved at region) chunk to is meets in
+        let last = last_within to.in_subset.start to.in_subset.shape part some in
+        behind_is_box region.start region.shape to.in_subset.start to.in_subset.shape is_region part some
+        (place_below target IsTargetKey (moved at region) chunk to (lasts to.in_subset.start to.in_subset.shape) is last)
+
+  -- ---- the copies of a region
+
+  abbrev Into : List ℕ → Group → Type 0
+  Into = AreMovedInto source IsSourceKey target IsTargetKey region at
+
+  module _ (groups : List Group) (plan : IsRegionCopy source IsSourceKey target IsTargetKey region at groups) where
+    -- each copy moves nothing but elements of the region
+    pub moves_region : (copy : Part × Part) → Contains (copies_of groups) copy → (steps : List ℕ) → AreBelow copy.0.in_chunk.shape steps
+        → (place : List ℕ) × AreBelow region.shape place × MovesBehind copy steps place
+    moves_region copy among steps below =
+        let (chunk, parts, _, into, in_parts) = copy_of Into (chunks_in plan.cover) groups plan.are_groups copy among in
+        let read = behind region.start copy.1.in_subset in
+        let (s, _, is_from) = source_of (IsPart source IsSourceKey read) (chunks_in into.from.cover) parts into.from.are_parts copy.0 in_parts in
+        let (in_region, moved_so) = moves chunk copy.1 into.to s copy.0 is_from steps below in
+        (counted_from copy.1.in_subset.start (counted_from copy.0.in_subset.start steps), in_region, moved_so)
+
+    -- and those from where it has them to where they go
+    moves_only : (copy : Part × Part) → Contains (copies_of groups) copy → (steps index to : List ℕ) → MovesTo source target copy steps index to
+        → (place : List ℕ) × AreBelow region.shape place × (index ≡ counted_from region.start place) × (to ≡ counted_from at place)
+    moves_only copy among steps index to moved_to =
+        let (place, in_region, also) = moves_region copy among steps moved_to.below in (
+          place,
+          in_region,
+          place_once source copy.0.chunk.items index (counted_from region.start place) (counted_from copy.0.in_chunk.start steps) moved_to.from
+              also.from,
+          place_once target copy.1.chunk.items to (counted_from at place)
+              (counted_from copy.1.in_chunk.start (counted_from copy.0.in_subset.start steps)) moved_to.to_place also.to_place,
+        )
+
+    -- under the keys of its chunks
+    pub has_keys : (copy : Part × Part) → Contains (copies_of groups) copy
+        → IsSourceKey copy.0.chunk.items copy.0.key × IsTargetKey copy.1.chunk.items copy.1.key
+    has_keys copy among =
+        let (chunk, parts, _, into, in_parts) = copy_of Into (chunks_in plan.cover) groups plan.are_groups copy among in
+        let read = behind region.start copy.1.in_subset in
+        let (s, _, is_from) = source_of (IsPart source IsSourceKey read) (chunks_in into.from.cover) parts into.from.are_parts copy.0 in_parts in (
+          subst (λ c. IsSourceKey c copy.0.key) (sym is_from.numbers) is_from.key,
+          subst (λ c. IsTargetKey c copy.1.key) (sym into.to.numbers) into.to.key,
+        )
+
+    -- from a box of the one chunk that has the shape of that of the other
+    pub of_one_shape : (copy : Part × Part) → Contains (copies_of groups) copy → copy.0.in_chunk.shape ≡ copy.0.in_subset.shape
+    of_one_shape copy among =
+        let (chunk, parts, _, into, in_parts) = copy_of Into (chunks_in plan.cover) groups plan.are_groups copy among in
+        let read = behind region.start copy.1.in_subset in
+        let (s, _, is_from) = source_of (IsPart source IsSourceKey read) (chunks_in into.from.cover) parts into.from.are_parts copy.0 in_parts in
+        sym is_from.boxes.from_chunk.shape ∙ is_from.boxes.from_subset.shape
+
+    module _ (chains : AllByRecursion IsChain source) (also_chains : AllByRecursion IsChain target) (is_region : IsBox region)
+        (is_moved : IsBox (moved at region)) where
+      region_long : (place : List ℕ) → AreBelow region.shape place → length place ≡ length region.start
+      region_long place below = length_below region.shape place below ∙ sym is_region.lengths
+
+      moved_long : (place : List ℕ) → AreBelow region.shape place → length place ≡ length at
+      moved_long place below = length_below region.shape place below ∙ sym is_moved.lengths
+
+      -- each element is moved by some copy
+      pub some_copy : (place : List ℕ) → AreBelow region.shape place
+          → (copy : Part × Part) × Contains (copies_of groups) copy × ((steps : List ℕ) × MovesBehind copy steps place)
+      some_copy place below =
+          let index = counted_from at place in
+          let inside = lie_within at region.shape place is_moved.lengths below in
+          let (chunk, within, box) = cover_holds target (moved at region) plan.cover also_chains is_moved plan.is_cover index inside in
+          let (group, in_groups, into) = pair_of Into (chunks_in plan.cover) groups plan.are_groups chunk
+          ((are_those_inside plan.cover plan.is_cover.is_box chunk).1 within)
+          in
+          let to = group.0 in
+          let part = into.to.boxes.from_subset.is_box in
+          let (_, has) = takes target IsTargetKey (moved at region) chunk to index into.to (box, inside) in
+          let below_to = subst (λ shape. AreBelow shape has.steps) (sym (to_long chunk to into.to)) has.below in
+          let steps_many = length_below to.in_subset.shape has.steps below_to ∙ sym part.lengths in
+          let counted : List ℕ = counted_from to.in_subset.start has.steps in
+          let counted_many = length_counted to.in_subset.start has.steps steps_many in
+          let long = all_long target IsTargetKey (moved at region) chunk to index into.to (box, inside) in
+          let place_is : place ≡ counted = counted_once at place counted (moved_long place below) (omega arith) has.index_is in
+          let read = behind region.start to.in_subset in
+          let is_read = read_is_box chunk to into.to is_region (index, box, inside) in
+          let at_source = counted_from read.start has.steps in
+          let (from, in_parts, (at_from, has_from)) = some_part source IsSourceKey read chains is_read group.1 into.from at_source
+          (lie_within read.start read.shape has.steps is_read.lengths below_to)
+          in
+          let (s, _, is_from) = source_of (IsPart source IsSourceKey read) (chunks_in into.from.cover) group.1 into.from.are_parts from in_parts in
+          let from_long = all_long source IsSourceKey read s from at_source is_from
+          (has_common source IsSourceKey read s from at_source at_from is_from has_from)
+          in
+          let from_steps_many = length_below from.in_chunk.shape has_from.steps has_from.below in
+          let from_counted_many = length_counted from.in_subset.start has_from.steps (omega arith) in
+          let steps_are : has.steps ≡ counted_from from.in_subset.start has_from.steps =
+          counted_once read.start has.steps (counted_from from.in_subset.start has_from.steps)
+          (length_below to.in_subset.shape has.steps below_to ∙ sym is_read.lengths) (omega arith) has_from.index_is
+          in
+          let (_, moved_so) = moves chunk to into.to s from is_from has_from.steps has_from.below in (
+            (from, to),
+            copy_in groups group from in_groups in_parts,
+            (
+              has_from.steps,
+              subst (λ x. MovesBehind (from, to) has_from.steps x) (ap (counted_from to.in_subset.start) (sym steps_are) ∙ sym place_is) moved_so,
+            ),
+          )
+
+      -- two copies that differ move no two elements from one index, nor to one
+      apart : (copy other : Part × Part) → Contains (copies_of groups) copy → Contains (copies_of groups) other → Differ copy other
+          → (steps also index next to next_to : List ℕ) → MovesTo source target copy steps index to → MovesTo source target other also next next_to
+          → (index ≡ next) ⊎ (to ≡ next_to) → ⊥
+      apart copy other among also_among differ steps also index next to next_to moved_to again same =
+          let (place, below, is, to_is) = moves_only copy among steps index to moved_to in
+          let (next_place, next_below, next_is, next_to_is) = moves_only other also_among also next next_to again in
+          let one : place ≡ next_place =
+          ⊎_elim
+          (λ same. counted_once region.start place next_place (region_long place below) (region_long next_place next_below) (sym is ∙ same ∙ next_is))
+          (λ same. counted_once at place next_place (moved_long place below) (moved_long next_place next_below) (sym to_is ∙ same ∙ next_to_is))
+          same
+          in
+          let from : index ≡ next = is ∙ ap (counted_from region.start) one ∙ sym next_is in
+          let where_to : to ≡ next_to = to_is ∙ ap (counted_from at) one ∙ sym next_to_is in
+          ⊎_elim
+          (λ differs.
+          differs (same_box source copy.0.chunk.items other.0.chunk.items next chains (subst (InBox source copy.0.chunk.items) from moved_to.in_source)
+          again.in_source))
+          (λ differs.
+          differs (same_box target copy.1.chunk.items other.1.chunk.items next_to also_chains
+          (subst (InBox target copy.1.chunk.items) where_to moved_to.in_target) again.in_target))
+          differ
+
+      differ_all : AllPairs Differ (copies_of groups)
+      differ_all =
+          copies_differ Into (chunks_in plan.cover) groups plan.are_groups (chunks_once plan.cover plan.is_cover.is_box)
+          (λ chunk group into. into.to.numbers)
+          (λ chunk group into. parts_differ source IsSourceKey (behind region.start group.0.in_subset) group.1 into.from)
+
+      -- so no element of the target's array is written by two
+      abbrev WriteApart : Part × Part → Part × Part → Type 0
+      WriteApart copy other = (steps also index next to : List ℕ) → MovesTo source target copy steps index to → MovesTo source target other also next to
+          → ⊥
+
+      pub no_other_to : AllPairs WriteApart (copies_of groups)
+      no_other_to =
+          pairs_follow Differ WriteApart (copies_of groups) differ_all
+          (λ copy other among also_among differ steps also index next to moved_to again.
+          apart copy other among also_among differ steps also index next to to moved_to again (inr refl))
+
+      -- and none of the source's is read by two
+      abbrev ReadApart : Part × Part → Part × Part → Type 0
+      ReadApart copy other = (steps also index to next : List ℕ) → MovesTo source target copy steps index to → MovesTo source target other also index next
+          → ⊥
+
+      pub no_other_from : AllPairs ReadApart (copies_of groups)
+      no_other_from =
+          pairs_follow Differ ReadApart (copies_of groups) differ_all
+          (λ copy other among also_among differ steps also index to next moved_to again.
+          apart copy other among also_among differ steps also index index to next moved_to again (inl refl))
