@@ -68,7 +68,8 @@ module _ {G E H F : Type 0} (source_dimensions : G → List Dimension) (target_d
         IsPlanned source_dimensions before.source.now.grid before.source.now.encoding (behind first to.in_subset) from
 
     -- those of a rechunking are read from where they are in the array
-    where_they_are : CanCopy source_dimensions target_dimensions before → IsBox (behind read_from to.in_subset) → behind read_from to.in_subset ≡ to.in_subset
+    where_they_are : CanCopy source_dimensions target_dimensions before → IsBox (behind read_from to.in_subset)
+        → behind read_from to.in_subset ≡ to.in_subset
     where_they_are can is_box =
         let shape : targets.array_subset.shape ≡ array_sizes (source_dimensions before.source.now.grid) =
         ap (λ b. b.shape) (steps.about.same_subset ∙ can.whole_array) ∙ sym can.one_array
@@ -102,7 +103,8 @@ module _ {G E H F : Type 0} (source_dimensions : G → List Dimension) (target_d
           moved_to = λ can. steps.part can.meet;
           moved_from = λ can.
               let lies = rw (← about.same_subset) at can.in_source in
-              subst (PlansFrom from) (none_held_back (first_of before) targets.array_subset.shape (array_sizes (source_dimensions before.source.now.grid)) lies)
+              subst (PlansFrom from)
+              (none_held_back (first_of before) targets.array_subset.shape (array_sizes (source_dimensions before.source.now.grid)) lies)
               (planned (has_some can.meet)).1;
           can_move = λ can. record {
             in_source = rw (same_first, same_source, same_targets, about.same_subset) can.in_source;
@@ -293,4 +295,5 @@ region_copy_of source_dimensions source_key target_dimensions target_key source 
     let targets = about.targets in
     let start : walk.targets.array_subset.start ≡ at = ap (λ b. b.start) targets.same_subset in
     let shape : walk.targets.array_subset.shape ≡ region.shape = ap (λ b. b.shape) targets.same_subset in
-    record { cover = cover; is_cover = is; are_groups = rw (left, about.same_source, targets.same_grid, targets.same_encoding, first, shape, start) at come }
+    let are = rw (left, about.same_source, targets.same_grid, targets.same_encoding, first, shape, start) at come in
+    record { cover = cover; is_cover = is; are_groups = are }

@@ -95,7 +95,8 @@ pub made_behind : (first shape sizes starts counts : List ℕ) (elements : Box) 
     → IfOk r (λ b. b ≡ record { start = starts; shape = counts }) → IfOk r IsBox → starts ≡ places_behind first shape sizes elements.start
     → counts ≡ elements.shape → (¬ IsEmptyBox elements) → IfOk r (λ b. b ≡ behind (held_back first shape sizes) elements)
 made_behind first shape sizes starts counts elements (Ok b) is is_box start shape_is some =
-    let is_made : IsBox (record { start = places_behind first shape sizes elements.start; shape = elements.shape }) = rw (is, start, shape_is) at is_box in
+    let made : Box = record { start = places_behind first shape sizes elements.start; shape = elements.shape } in
+    let is_made : IsBox made = rw (is, start, shape_is) at is_box in
     is ∙ ap₂ (λ (xs ns : List ℕ). let b : Box = record { start = xs; shape = ns } in b)
     (start ∙ places_are_behind first shape sizes elements.start elements.shape is_made some) shape_is
 made_behind first shape sizes starts counts elements (Err e) is is_box start shape_is some = tt

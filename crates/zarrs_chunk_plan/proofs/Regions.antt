@@ -85,13 +85,13 @@ module _ (source : List Dimension) (IsSourceKey : List ℕ → List ℕ → Type
         let has : HasElement Read from index (counted_from from.in_chunk.start steps) =
         record { steps = steps; below = below; place_is = refl; index_is = refl }
         in
-        let has_to : HasElement (moved at region) to (counted_from at (counted_from to.in_subset.start place)) (counted_from to.in_chunk.start place) =
+        let index_to : List ℕ = counted_from at (counted_from to.in_subset.start place) in
+        let has_to : HasElement (moved at region) to index_to (counted_from to.in_chunk.start place) =
         record { steps = place; below = subst (λ shape. AreBelow shape place) to_long below_to; place_is = refl; index_is = refl }
         in
         let (in_source, at_source) = has_place source IsSourceKey Read s from index (counted_from from.in_chunk.start steps) is_from has in
         let (in_target, at_target) =
-        has_place target IsTargetKey (moved at region) chunk to (counted_from at (counted_from to.in_subset.start place))
-        (counted_from to.in_chunk.start place) is has_to
+        has_place target IsTargetKey (moved at region) chunk to index_to (counted_from to.in_chunk.start place) is has_to
         in
         let counts = added region.start to.in_subset.start place in (
           in_region,
@@ -230,8 +230,8 @@ module _ (source : List Dimension) (IsSourceKey : List ℕ → List ℕ → Type
           let where_to : to ≡ next_to = to_is ∙ ap (counted_from at) one ∙ sym next_to_is in
           ⊎_elim
           (λ differs.
-          differs (same_box source copy.0.chunk.items other.0.chunk.items next chains (subst (InBox source copy.0.chunk.items) from moved_to.in_source)
-          again.in_source))
+          differs (same_box source copy.0.chunk.items other.0.chunk.items next chains
+          (subst (InBox source copy.0.chunk.items) from moved_to.in_source) again.in_source))
           (λ differs.
           differs (same_box target copy.1.chunk.items other.1.chunk.items next_to also_chains
           (subst (InBox target copy.1.chunk.items) where_to moved_to.in_target) again.in_target))
@@ -245,8 +245,8 @@ module _ (source : List Dimension) (IsSourceKey : List ℕ → List ℕ → Type
 
       -- so no element of the target's array is written by two
       abbrev WriteApart : Part × Part → Part × Part → Type 0
-      WriteApart copy other = (steps also index next to : List ℕ) → MovesTo source target copy steps index to → MovesTo source target other also next to
-          → ⊥
+      WriteApart copy other =
+          (steps also index next to : List ℕ) → MovesTo source target copy steps index to → MovesTo source target other also next to → ⊥
 
       pub no_other_to : AllPairs WriteApart (copies_of groups)
       no_other_to =
@@ -256,8 +256,8 @@ module _ (source : List Dimension) (IsSourceKey : List ℕ → List ℕ → Type
 
       -- and none of the source's is read by two
       abbrev ReadApart : Part × Part → Part × Part → Type 0
-      ReadApart copy other = (steps also index to next : List ℕ) → MovesTo source target copy steps index to → MovesTo source target other also index next
-          → ⊥
+      ReadApart copy other =
+          (steps also index to next : List ℕ) → MovesTo source target copy steps index to → MovesTo source target other also index next → ⊥
 
       pub no_other_from : AllPairs ReadApart (copies_of groups)
       no_other_from =

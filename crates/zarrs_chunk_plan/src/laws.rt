@@ -263,8 +263,8 @@ pub fn each_element_of_a_region_is_copied_once<
         (E.is_key source.now.encoding) (H.dimensions target.now.grid) (F.is_key target.now.encoding)
         region at groups → AllPairs (λ copy other. (steps also index to next : List ℕ)
         → MovesTo (G.dimensions source.now.grid) (H.dimensions target.now.grid) copy steps index to
-        → MovesTo (G.dimensions source.now.grid) (H.dimensions target.now.grid) other also index next
-        → ⊥) (copies_of groups) }
+        → MovesTo (G.dimensions source.now.grid) (H.dimensions target.now.grid) other also index
+        next → ⊥) (copies_of groups) }
     ensures nothing_else { (region : Box) (at : List ℕ) (groups : List Group)
         → IsRegionCopy (G.dimensions source.now.grid)
         (E.is_key source.now.encoding) (H.dimensions target.now.grid) (F.is_key target.now.encoding)

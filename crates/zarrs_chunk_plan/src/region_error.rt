@@ -15,9 +15,9 @@ pub enum RegionError {
     #[error("the index to begin at: {0}")]
     At(IncompatibleDimensionalityError),
     /// The region doesn't lie in the source's array.
-    #[error("the region ends past the source's array: its start plus its shape is to be at most the array shape")]
+    #[error("the region has to end within the source's array")]
     PastSource,
     /// The region, moved to where it begins in the target's array, doesn't lie in that.
-    #[error("the region ends past the target's array: the index to begin at plus its shape is to be at most the array shape")]
+    #[error("the region, moved to the index to begin at, has to end within the target's array")]
     PastTarget,
 }

@@ -29,6 +29,9 @@ returns-clause-empty g c = λ empty.
     let lies : LiesIn (moved at region) (array_sizes ds) = search rules in
     let dimensions = subst (λ n. n ≢ 0) many (some_dimension at region.shape (array_sizes ds) lies empty) in
     let shape = ap (λ b. b.shape) c.box_of-moved.ensures ∙ c.in_ok-from_slice-2.ensures.items ∙ c.shape.ensures.value in
-    let answered = subst (λ (shape : List ℕ). IsEmptyBox (moved at (record region { shape = shape })) → length ds ≢ 0 → AnswersNoParts c.parts-found.result) shape c.parts-found.ensures.empty in
+    let answered =
+    subst (λ (shape : List ℕ). IsEmptyBox (moved at (record region { shape = shape })) → length ds ≢ 0 → AnswersNoParts c.parts-found.result) shape
+    c.parts-found.ensures.empty
+    in
     let none = (rw c.in_ok-targets.ensures at answered) empty dimensions in
     ap chunks_to_come c.new.ensures.targets ∙ none

@@ -10,9 +10,11 @@ returns g c = λ some.
     let source = c.args.self.now.source.now in
     let dimensions = g.G.ChunkGridTraits.dimensions in
     let read = c.in_ok-read.read in
-    let is = (rw (c.deref.ensures.value, c.shape-shape.ensures.value, c.elements.ensures, c.array_shape.ensures) at c.in_ok-read.ensures.behind) some in
-    let any = subst (λ shape. ¬ Contains shape 0) (sym (ap (λ b. b.shape) is)) some in
     let found = c.parts.ensures in
+    let first = c.deref.ensures.value in
+    let is = (rw (first, c.shape-shape.ensures.value, c.elements.ensures, c.array_shape.ensures) at c.in_ok-read.ensures.behind) some in
+    let any = subst (λ shape. ¬ Contains shape 0) (sym (ap (λ b. b.shape) is)) some in
     subst (λ b. IfOk c.parts.result (λ found. IfSome found (λ walk. IsBox walk.array_subset
     × IsPlanned dimensions source.grid source.encoding b walk))) is
-    (planned_of dimensions source.grid source.encoding read c.parts.result c.in_ok-read.ensures.is_box any found.answers found.about found.meet found.all)
+    (planned_of dimensions source.grid source.encoding read c.parts.result c.in_ok-read.ensures.is_box any found.answers found.about found.meet
+    found.all)
