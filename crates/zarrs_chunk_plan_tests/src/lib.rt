@@ -6,9 +6,12 @@
 //! |---|---|
 //! | `plans` | the parts of a box of elements, and the laws |
 //! | `rechunkings` | what a rechunking copies, what refuses it, the counts of it and of a read, and the laws |
+//! | `regions` | what is copied of a region, what refuses it, and the laws |
 #![tactic(auto)]
 
 #[cfg(test)]
 mod plans;
 #[cfg(test)]
 mod rechunkings;
+#[cfg(test)]
+mod regions;

@@ -1,4 +1,4 @@
--- What is left of a walk over what a rechunking copies.
+-- What is left of a walk over what a rechunking copies, or over what is copied of a region.
 use Rattle.std.specs.Prelude.{◌≡◌, ◌≢◌, ℕ, List, [], Option, Some, None, Result, Ok, Err, Vec, map}
 use Rattle.std.specs.List.{AllZip}
 use Rattle.std.specs.declared.alloc.Global.{Global}

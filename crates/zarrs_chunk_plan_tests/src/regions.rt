@@ -1,0 +1,264 @@
+//! What is copied of a region: between arrays of one dimension and of two, from listed edges, of an empty region and of a whole array; what refuses
+//! one, and the laws.
+use std::alloc::Global;
+use std::num::NonZeroU64;
+use std::process::Abort;
+use std::test::Fail;
+use zarrs_chunk_base::{ArraySubset, ChunkEdgeLengths, ChunkShape, Refusal, RunLengthElement};
+use zarrs_chunk_keys::DefaultChunkKeyEncoding;
+use zarrs_chunk_plan::laws::{each_element_of_a_region_is_copied_once, the_walk_gives_the_region};
+use zarrs_chunk_plan::{
+    ChunkCopies, Copies, Part, RegionError, StoredArray, all_chunks, copies, copies_of_region,
+    whole_array,
+};
+use zarrs_chunks::{ChunkGrid, RectilinearChunkGrid, RegularBoundedChunkGrid, RegularChunkGrid};
+
+/// The elements 1 to 6 of seven, in chunks of three, go to the places 4 to 9 of twelve, in chunks of five.
+const SHIFTED: &str = "\
+c/0 [4] false c/0 [1] [0] [1]
+c/1 [0] true c/0 [2] [0] [1]
+c/1 [0] true c/1 [0] [1] [3]
+c/1 [0] true c/2 [0] [4] [1]
+";
+
+/// Of 4 x 5 elements in chunks of 2 x 3, those from [1, 2] to [2, 4] go to [3, 0] of 6 x 4 in chunks of 4 x 2.
+const IN_TWO_DIMENSIONS: &str = "\
+c/0/0 [3, 0] false c/0/0 [1, 2] [0, 0] [1, 1]
+c/0/0 [3, 0] false c/0/1 [1, 0] [0, 1] [1, 1]
+c/0/1 [3, 0] false c/0/1 [1, 1] [0, 0] [1, 1]
+c/1/0 [0, 0] false c/1/0 [0, 2] [0, 0] [1, 1]
+c/1/0 [0, 0] false c/1/1 [0, 0] [0, 1] [1, 1]
+c/1/1 [0, 0] false c/1/1 [0, 1] [0, 0] [1, 1]
+";
+
+/// Of seven elements in chunks of 2, 4 and 1 those from 1 to 5 go to the places 2 to 6 of ten, in chunks of four.
+const OF_LISTED_EDGES: &str = "\
+c/0 [2] false c/0 [1] [0] [1]
+c/0 [2] false c/1 [0] [1] [1]
+c/1 [0] false c/1 [1] [0] [3]
+";
+
+const REGION: &str = "the region: incompatible dimensionality 2, expected 1";
+
+const TARGET: &str = "the target's array: incompatible dimensionality 2, expected 1";
+
+const AT: &str = "the index to begin at: incompatible dimensionality 2, expected 1";
+
+const PAST_SOURCE: &str = "the region has to end within the source's array";
+
+const PAST_TARGET: &str =
+    "the region, moved to the index to begin at, has to end within the target's array";
+
+/// An array in any grid, under default keys with slashes.
+type Stored = StoredArray<ChunkGrid, DefaultChunkKeyEncoding>;
+
+/// The array that is stored in a grid.
+fn stored_in(grid: ChunkGrid) -> Stored {
+    StoredArray {
+        grid,
+        encoding: DefaultChunkKeyEncoding::new_slash(),
+    }
+}
+
+/// A number that isn't 0.
+fn non_zero(number: u64) -> Result<NonZeroU64, Fail> {
+    Ok(NonZeroU64::new(number).ok_or("an edge of 0")?)
+}
+
+/// These edges.
+fn edges_of(alloc: Global, edges: &[u64]) -> Result<ChunkShape, Fail> {
+    let mut shape = Vec::new(alloc);
+    for edge in edges {
+        shape.push(non_zero(*edge)?)?;
+    }
+    Ok(shape)
+}
+
+/// An array of these sizes, in chunks of these edges.
+fn regular(alloc: Global, sizes: &[u64], edges: &[u64]) -> Result<Stored, Fail> {
+    let edges = edges_of(alloc, edges)?;
+    let grid = RegularChunkGrid::new(alloc, sizes.to_vec(alloc)?, edges)?;
+    Ok(stored_in(grid.into()))
+}
+
+/// The same, and the last chunks end where the array does.
+fn bounded(alloc: Global, sizes: &[u64], edges: &[u64]) -> Result<Stored, Fail> {
+    let edges = edges_of(alloc, edges)?;
+    let grid = RegularBoundedChunkGrid::new(alloc, sizes.to_vec(alloc)?, edges)?;
+    Ok(stored_in(grid.into()))
+}
+
+/// Seven elements in chunks of 2, 4 and 1.
+fn listed(alloc: Global) -> Result<Stored, Fail> {
+    let mut edges = Vec::new(alloc);
+    for edge in [2, 4, 1] {
+        edges.push(RunLengthElement::Single(non_zero(edge)?))?;
+    }
+    let lengths = vec![in alloc; ChunkEdgeLengths::Varying(edges)]?;
+    let grid = RectilinearChunkGrid::new(alloc, [7].to_vec(alloc)?, &lengths)?;
+    Ok(stored_in(grid.into()))
+}
+
+/// The box that begins at a start and has a shape.
+fn box_at(alloc: Global, start: &[u64], shape: &[u64]) -> Result<ArraySubset, Fail> {
+    Ok(ArraySubset::new_with_start_shape(start.to_vec(alloc)?, shape.to_vec(alloc)?)?)
+}
+
+/// Appends the line of a copy: the key of the target's chunk, where in it what is copied begins, and whether that is all of it; the key of the
+/// source's chunk, where in that the part begins, where behind the first element in the target's chunk, and its shape.
+fn append_copy(alloc: Global, lines: &mut String, to: &Part, from: &Part) -> Result<(), Fail> {
+    let (read, written) = (from.in_chunk.start(), from.in_subset.start());
+    let line = format!(in alloc;
+        "{} {:?} {} {} {read:?} {written:?} {:?}\n",
+        to.key.as_str(),
+        to.in_chunk.start(),
+        to.whole,
+        from.key.as_str(),
+        from.in_chunk.shape()
+    )?;
+    lines.push_str(line.as_str())?;
+    Ok(())
+}
+
+/// Appends the lines of all that is copied into a chunk of the target.
+fn append_group(
+    alloc: Global,
+    lines: &mut String,
+    group: ChunkCopies<'_, ChunkGrid, DefaultChunkKeyEncoding>,
+) -> Result<(), Fail> {
+    let ChunkCopies { to, from } = group;
+    for part in from {
+        append_copy(alloc, lines, &to, &part?)?;
+    }
+    Ok(())
+}
+
+/// The lines of all copies that a walk gives.
+fn lines_of(
+    alloc: Global,
+    walk: Copies<'_, ChunkGrid, DefaultChunkKeyEncoding, ChunkGrid, DefaultChunkKeyEncoding>,
+) -> Result<String, Fail> {
+    let mut lines = String::new(alloc);
+    for group in walk {
+        append_group(alloc, &mut lines, group?)?;
+    }
+    Ok(lines)
+}
+
+/// What is copied of a region has these lines.
+fn check_copies(
+    rt: &(impl Abort + AllocGlobal),
+    (source, target): (&Stored, &Stored),
+    (start, shape): (&[u64], &[u64]),
+    at: &[u64],
+    expected: &str,
+) -> Result<(), Fail> {
+    let alloc = rt.alloc();
+    let region = box_at(alloc, start, shape)?;
+    let lines = lines_of(alloc, copies_of_region(alloc, source, target, &region, at)?)?;
+    assert!(rt;
+        lines.as_str() == expected,
+        "other copies than:\n{expected}"
+    );
+    Ok(())
+}
+
+/// An empty region lies where its end does, even behind the last element.
+#[test]
+fn a_region_goes_to_another_array(rt: HostRuntime) -> Result<(), Fail> {
+    let alloc = rt.alloc();
+    let arrays = (&regular(alloc, &[7], &[3])?, &bounded(alloc, &[12], &[5])?);
+    check_copies(&rt, arrays, (&[1], &[6]), &[4], SHIFTED)?;
+    check_copies(&rt, arrays, (&[7], &[0]), &[12], "")
+}
+
+#[test]
+fn a_region_of_two_dimensions_goes_to_another_corner(rt: HostRuntime) -> Result<(), Fail> {
+    let alloc = rt.alloc();
+    let arrays = (
+        &regular(alloc, &[4, 5], &[2, 3])?,
+        &regular(alloc, &[6, 4], &[4, 2])?,
+    );
+    check_copies(&rt, arrays, (&[1, 2], &[2, 3]), &[3, 0], IN_TWO_DIMENSIONS)
+}
+
+#[test]
+fn a_region_is_read_from_listed_edges(rt: HostRuntime) -> Result<(), Fail> {
+    let alloc = rt.alloc();
+    let arrays = (&listed(alloc)?, &regular(alloc, &[10], &[4])?);
+    check_copies(&rt, arrays, (&[1], &[5]), &[2], OF_LISTED_EDGES)
+}
+
+/// Its copy to where it is in an array of its shape is its rechunking.
+#[test]
+fn the_whole_array_is_a_region(rt: HostRuntime) -> Result<(), Fail> {
+    let alloc = rt.alloc();
+    let (source, target) = (listed(alloc)?, regular(alloc, &[7], &[3])?);
+    let chunks = all_chunks(alloc, &target.grid)?;
+    let rechunked = lines_of(alloc, copies(alloc, &source, &target, &chunks)?)?;
+    check_copies(
+        &rt,
+        (&source, &target),
+        (&[0], &[7]),
+        &[0],
+        rechunked.as_str(),
+    )
+}
+
+#[test]
+fn the_groups_are_the_copy_of_a_region(rt: HostRuntime) -> Result<(), Fail> {
+    let (source, target) = (listed(rt.alloc())?, regular(rt.alloc(), &[7], &[3])?);
+    the_walk_gives_the_region(&source, &target);
+    each_element_of_a_region_is_copied_once(&source, &target);
+    Ok(())
+}
+
+/// Why a region isn't copied.
+fn refusal_of(
+    alloc: Global,
+    (source, target): (&Stored, &Stored),
+    (start, shape): (&[u64], &[u64]),
+    at: &[u64],
+) -> Result<RegionError, Fail> {
+    let region = box_at(alloc, start, shape)?;
+    match copies_of_region(alloc, source, target, &region, at) {
+        Err(Refusal::Refused(error)) => Ok(error),
+        Err(Refusal::Memory(error)) => Err(error.into()),
+        Ok(_) => Err("it is accepted".into()),
+    }
+}
+
+/// A region isn't copied, and this text says why.
+fn check_refusal(
+    rt: &(impl Abort + AllocGlobal),
+    arrays: (&Stored, &Stored),
+    region: (&[u64], &[u64]),
+    at: &[u64],
+    text: &str,
+) -> Result<(), Fail> {
+    let error = refusal_of(rt.alloc(), arrays, region, at)?;
+    let told = format!(in rt.alloc(); "{error}")?;
+    assert!(rt; told.as_str() == text, "another refusal than: {text}");
+    Ok(())
+}
+
+#[test]
+fn another_number_of_dimensions_is_refused(rt: HostRuntime) -> Result<(), Fail> {
+    let alloc = rt.alloc();
+    let row = regular(alloc, &[7], &[3])?;
+    let square = regular(alloc, &[9, 9], &[5, 5])?;
+    let (one, two): ((&[u64], &[u64]), (&[u64], &[u64])) = ((&[1], &[9]), (&[1, 1], &[9, 9]));
+    check_refusal(&rt, (&row, &square), two, &[1, 1], REGION)?;
+    check_refusal(&rt, (&row, &square), one, &[1, 1], TARGET)?;
+    check_refusal(&rt, (&row, &row), one, &[1, 1], AT)
+}
+
+/// The last end isn't a number of 64 bits.
+#[test]
+fn a_region_that_ends_past_an_array_is_refused(rt: HostRuntime) -> Result<(), Fail> {
+    let alloc = rt.alloc();
+    let arrays = (&regular(alloc, &[7], &[3])?, &regular(alloc, &[12], &[5])?);
+    check_refusal(&rt, arrays, (&[1], &[7]), &[12], PAST_SOURCE)?;
+    check_refusal(&rt, arrays, (&[1], &[6]), &[7], PAST_TARGET)?;
+    check_refusal(&rt, arrays, (&[1], &[1]), &[u64::MAX], PAST_TARGET)
+}
