@@ -47,11 +47,11 @@ abbrev pub IsMissingFault : Data → (field name : List ℕ) → DocumentFault �
 IsMissingFault d field name (Missing told) = (told.now ≡ name) × (get field d ≡ None)
 IsMissingFault _ _ _ _ = ⊥
 
--- the fault says that `shape` is missing, or isn't of its form
-abbrev pub IsShapeFault : Data → DocumentFault → Type 0
-IsShapeFault d (Missing told) = (told.now ≡ codes "shape") × (get (codes "shape") d ≡ None)
-IsShapeFault d (WrongValue told) = (told.now ≡ codes "shape") × (shape_in d ≡ None)
-IsShapeFault _ _ = ⊥
+-- the fault says that `shape` is missing, or isn't of its form, and calls it by the name
+abbrev pub IsShapeFault : Data → (name : List ℕ) → DocumentFault → Type 0
+IsShapeFault d name (Missing told) = (told.now ≡ name) × (get (codes "shape") d ≡ None)
+IsShapeFault d name (WrongValue told) = (told.now ≡ name) × (shape_in d ≡ None)
+IsShapeFault _ _ _ = ⊥
 
 -- the fault says why the value of the member of this name is no extension's metadata
 abbrev pub IsExtensionFault : Data → List ℕ → DocumentFault → Type 0

@@ -44,18 +44,22 @@ pub(crate) fn required_member<'t>(
     tree.get(field).ok_or(DocumentFault::Missing(name))
 }
 
-/// The shape of a document's array.
+/// The shape of a tree's array, its member `shape`. A fault calls it by the name that is given.
 ///
 /// # Errors
 /// `shape` is missing, or no list of sizes; or out of memory.
-pub(crate) fn read_shape(alloc: Global, tree: &Value) -> Result<Vec<u64>, DocumentFault>
+pub(crate) fn read_shape(
+    alloc: Global,
+    tree: &Value,
+    name: &'static str,
+) -> Result<Vec<u64>, DocumentFault>
     ensures { MatchResult result (λ shape. shape_in (view tree.now) ≡ Some shape.items)
-        (λ fault. (fault ≡ Memory) ⊎ IsShapeFault (view tree.now) fault) }
+        (λ fault. (fault ≡ Memory) ⊎ IsShapeFault (view tree.now) name.now fault) }
 {
-    let shape = required_member(tree, "shape", "shape")?;
+    let shape = required_member(tree, "shape", name)?;
     match Vec::from_tree(alloc, shape)? {
         Some(shape) => Ok(shape),
-        None => Err(DocumentFault::WrongValue("shape")),
+        None => Err(DocumentFault::WrongValue(name)),
     }
 }
 

@@ -233,14 +233,21 @@ module _ {G E H F : Type 0} (source_dimensions : G → List Dimension) (source_k
 
   -- ---- of the copy of a region
 
-  abbrev IsMoveOf : List ℕ → Group → Type 0
+  abbrev pub IsMoveOf : List ℕ → Group → Type 0
   IsMoveOf =
       AreMovedInto (source_dimensions begin.source.now.grid) (source_key begin.source.now.encoding) (target_dimensions begin.targets.grid.now)
       (target_key begin.targets.encoding.now) (region_of begin) begin.targets.array_subset.start
 
   -- and it reads from the same element on
-  abbrev MovesOn : Copies G E H F → Type 0
+  abbrev pub MovesOn : Copies G E H F → Type 0
   MovesOn now = (first_of now ≡ first_of begin) × CanMove source_dimensions target_dimensions now
+
+  abbrev pub MovesHaveCome : Copies G E H F → List Group → Type 0
+  MovesHaveCome = HaveCome IsMoveOf MovesOn
+
+  pub first_move : (now : Copies G E H F) (groups : List Group) → now ≡ begin → groups ≡ [] → CanMove source_dimensions target_dimensions begin
+      → MovesHaveCome now groups
+  first_move now groups same none can = none_came IsMoveOf MovesOn now groups same none (refl, can)
 
   is_moved : (before after : Copies G E H F) (group : ChunkCopies G E) (from : List Part) → IsOverTheSame before → MovesOn before
       → GivesGroup before (Some (Ok group)) after → ArePartsToCome source_dimensions source_key group.from from
@@ -259,6 +266,16 @@ module _ {G E H F : Type 0} (source_dimensions : G → List Dimension) (source_k
 
   still_moves : (before after : Copies G E H F) (group : ChunkCopies G E) → MovesOn before → GivesGroup before (Some (Ok group)) after → MovesOn after
   still_moves before after group (same_first, can) gives = (gives.first ∙ same_first, gives.can_move can)
+
+  pub one_more_move : (before after : Copies G E H F) (group : ChunkCopies G E) (from : List Part) (groups more : List Group)
+      → MovesHaveCome before groups → GivesCopies source_dimensions target_dimensions target_key before (Some (Ok group)) after
+      → ArePartsToCome source_dimensions source_key group.from from → more ≡ groups ++ (group.to, from) ∷ [] → MovesHaveCome after more
+  one_more_move = one_more_came IsMoveOf MovesOn is_moved still_moves
+
+  pub last_move : (before after : Copies G E H F) (groups : List Group) → MovesHaveCome before groups
+      → GivesCopies source_dimensions target_dimensions target_key before None after
+      → AreMovesToCome source_dimensions source_key target_dimensions target_key begin groups
+  last_move = all_came IsMoveOf MovesOn
 
   pub all_moves_to_come : (given : List (ChunkCopies G E)) (groups : List Group) → CanMove source_dimensions target_dimensions begin
       → Drains GivesGroup begin (map Ok given) → AllZip (HasAllParts source_dimensions source_key) given groups

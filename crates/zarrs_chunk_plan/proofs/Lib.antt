@@ -19,6 +19,7 @@ pub mod Products
 pub mod Ranks
 pub mod Rechunkings
 pub mod Regions
+pub mod SomeRegions
 pub mod SameBoxes
 pub mod ShareLists
 pub mod Shares

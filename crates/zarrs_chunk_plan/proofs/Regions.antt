@@ -105,7 +105,7 @@ module _ (source : List Dimension) (IsSourceKey : List ℕ → List ℕ → Type
         )
 
     -- they are a box, where there are some
-    read_is_box : IsBox region → Meets target (moved at region) chunk → IsBox Read
+    pub read_is_box : IsBox region → Meets target (moved at region) chunk → IsBox Read
     read_is_box is_region meets =
         let part = is.boxes.from_subset.is_box.lengths in
         let some = not_empty target IsTargetKey (moved at region) chunk to is meets in

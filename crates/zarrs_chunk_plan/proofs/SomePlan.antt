@@ -78,7 +78,7 @@ has_cover ds chains b is_box some within =
 -- ---- the parts
 
 module _ (ds : List Dimension) (IsKey : List ℕ → List ℕ → Type 0) (chains : AllByRecursion IsChain ds) (keys : HasKeys IsKey) where
-  has_part : (b : Box) → IsBox b → (chunk : List ℕ) → Meets ds b chunk → (part : Part) × IsPart ds IsKey b chunk part
+  pub has_part : (b : Box) → IsBox b → (chunk : List ℕ) → Meets ds b chunk → (part : Part) × IsPart ds IsKey b chunk part
   has_part b is_box chunk meets =
       let (index, box, inside) = meets in
       let fit = inside_fits b.start b.shape index is_box.fits inside in
@@ -122,7 +122,7 @@ module _ (ds : List Dimension) (IsKey : List ℕ → List ℕ → Type 0) (chain
       let (parts, are) = have_parts b is_box (chunks_in cover) meet in
       (parts, record { cover = cover; is_cover = is; are_parts = are })
 
-  has_plan : (b : Box) → IsBox b → (¬ IsEmptyBox b) → ((index : List ℕ) → IsInside b index → AreBelow (array_sizes ds) index)
+  pub has_plan : (b : Box) → IsBox b → (¬ IsEmptyBox b) → ((index : List ℕ) → IsInside b index → AreBelow (array_sizes ds) index)
       → (parts : List Part) × IsPlan ds IsKey b parts
   has_plan b is_box some within = let (cover, is) = has_cover ds chains b is_box some within in plan_over b cover is_box some is
 

@@ -73,7 +73,7 @@ pub use numbered_parts::{SomeParts, some_parts};
 pub use part::{ChunkShapeTinyVec, Part};
 pub use plan::parts;
 pub use rechunking::{copies, targets_of};
-pub use region::copies_of_region;
+pub use region::{copies_of_region, place_in_target};
 pub use region_error::RegionError;
 pub use share::Share;
 pub use stored_array::StoredArray;

@@ -4,17 +4,19 @@ use Rattle.std.specs.List.{AllByRecursion}
 use Rattle.zarrs_chunk_base.specs.ArraySubset.{IsBox}
 use Rattle.zarrs_chunk_base.specs.Dimension.{Dimension, IsChain}
 use Rattle.zarrs_chunk_plan.specs.Plan.{IsPart, Meets}
-use Rattle.zarrs_chunk_plan.specs.Rechunking.{AreCopiesInto, Group, array_box}
+use Rattle.zarrs_chunk_plan.specs.Rechunking.{Group}
+use Rattle.zarrs_chunk_plan.specs.Region.{AreMovedInto}
 use Rattle.zarrs_chunk_plan.specs.declared.chunk_copies.Copies.{Copies}
 use Rattle.zarrs_chunk_plan.specs.declared.part.Part.{Part}
 use Rattle.zarrs_chunk_plan.specs.Shares.{share_of}
 use Rattle.zarrs_chunk_plan.specs.declared.share.Share.{Share}
 use Rattle.zarrs_chunk_plan.specs.declared.walk.Parts.{Parts}
-use Rattle.zarrs_chunk_plan.specs.seen.Copies.{AreGroupsToCome, CanCopy, IsAboutCopies, target_of, targets_to_come}
+use Rattle.zarrs_chunk_plan.specs.seen.Copies.{AreMovesToCome, CanMove, IsAboutCopies, first_of, region_of, target_of, targets_to_come}
 use Rattle.zarrs_chunk_plan.specs.seen.Parts.{ArePartsToCome, HasKeys, IsAbout, MeetSubset, chunks_to_come}
-use Rattle.zarrs_chunk_plan.proofs.Copied.{GroupsHaveCome}
+use Rattle.zarrs_chunk_plan.proofs.Copied.{MovesHaveCome}
 use Rattle.zarrs_chunk_plan.proofs.ShareLists.{all_of_share, both_zipped, of_all}
-use Rattle.zarrs_chunk_plan.proofs.SomePlan.{have_groups, have_parts}
+use Rattle.zarrs_chunk_plan.proofs.SomePlan.{have_parts}
+use Rattle.zarrs_chunk_plan.proofs.SomeRegions.{have_moves}
 use Rattle.zarrs_chunk_plan.proofs.Walked.{HaveCome}
 
 pub parts_ahead : {G E : Type 0} (dimensions : G → List Dimension) (is_key : E → List ℕ → List ℕ → Type 0) (begin : Parts G E)
@@ -29,21 +31,21 @@ parts_ahead dimensions is_key begin chains keys is_box now came (chunks, left, a
     in
     (others, rw left (both_zipped IsOne chunks (chunks_to_come now) came others are also))
 
-pub groups_ahead : {G E H F : Type 0} (source_dimensions : G → List Dimension) (source_key : E → List ℕ → List ℕ → Type 0)
+pub moves_ahead : {G E H F : Type 0} (source_dimensions : G → List Dimension) (source_key : E → List ℕ → List ℕ → Type 0)
     (target_dimensions : H → List Dimension) (target_key : F → List ℕ → List ℕ → Type 0) (begin : Copies G E H F)
     → AllByRecursion IsChain (source_dimensions begin.source.now.grid) → AllByRecursion IsChain (target_dimensions begin.targets.grid.now)
     → HasKeys (source_key begin.source.now.encoding) → HasKeys (target_key begin.targets.encoding.now) → IsBox begin.targets.array_subset
-    → (now : Copies G E H F) (came : List Group) → GroupsHaveCome source_dimensions source_key target_dimensions target_key begin now came
-    → (others : List Group) × AreGroupsToCome source_dimensions source_key target_dimensions target_key begin (came ++ others)
-groups_ahead source_dimensions source_key target_dimensions target_key begin chains also_chains keys also_keys is_box now came
-    (chunks, left, are, about, can) =
+    → IsBox (region_of begin) → CanMove source_dimensions target_dimensions begin
+    → (now : Copies G E H F) (came : List Group) → MovesHaveCome source_dimensions source_key target_dimensions target_key begin now came
+    → (others : List Group) × AreMovesToCome source_dimensions source_key target_dimensions target_key begin (came ++ others)
+moves_ahead source_dimensions source_key target_dimensions target_key begin chains also_chains keys also_keys is_box is_region begins now came
+    (chunks, left, are, about, (same_first, can)) =
     let source = source_dimensions begin.source.now.grid in
     let target = target_dimensions begin.targets.grid.now in
-    let same_grid = about.targets.same_grid in
-    let whole = rw (about.targets.same_subset, same_grid) at can.whole_array in
-    let IsOne = AreCopiesInto source (source_key begin.source.now.encoding) target (target_key begin.targets.encoding.now) in
-    let (others, also) = have_groups source _ target _ chains also_chains keys also_keys (rw (about.same_source, same_grid) at can.one_array)
-    (rw whole at is_box) (targets_to_come now) (rw (can.whole_array, same_grid) at can.meet)
+    let at = begin.targets.array_subset.start in
+    let IsOne = AreMovedInto source (source_key begin.source.now.encoding) target (target_key begin.targets.encoding.now) (region_of begin) at in
+    let (others, also) = have_moves source _ target _ chains also_chains keys also_keys (region_of begin) at begins.in_source is_region is_box
+    (targets_to_come now) (rw (about.targets.same_grid, about.targets.same_subset) at can.meet)
     in
     (others, rw left (both_zipped IsOne chunks (targets_to_come now) came others are also))
 
@@ -68,25 +70,26 @@ module _ {G E : Type 0} (dimensions : G → List Dimension) (is_key : E → List
 
 module _ {G E H F : Type 0} (source_dimensions : G → List Dimension) (source_key : E → List ℕ → List ℕ → Type 0)
     (target_dimensions : H → List Dimension) (target_key : F → List ℕ → List ℕ → Type 0) (walk shared : Copies G E H F) (share : Share)
-    (about : IsAboutCopies walk.source.now (target_of walk) walk.targets.array_subset shared)
-    (left : targets_to_come shared ≡ share_of share (targets_to_come walk)) (can : CanCopy source_dimensions target_dimensions walk) where
-  pub share_can_copy : CanCopy source_dimensions target_dimensions shared
-  share_can_copy = record {
-    one_array = rw (about.same_source, about.targets.same_grid) can.one_array;
-    whole_array = rw (about.targets.same_subset, about.targets.same_grid) can.whole_array;
+    (about : IsAboutCopies walk.source.now (target_of walk) walk.targets.array_subset shared) (first : first_of shared ≡ first_of walk)
+    (left : targets_to_come shared ≡ share_of share (targets_to_come walk)) (can : CanMove source_dimensions target_dimensions walk) where
+  pub share_can_move : CanMove source_dimensions target_dimensions shared
+  share_can_move = record {
+    in_source = rw (first, about.same_source, about.targets.same_subset) can.in_source;
     meet = share_meets target_dimensions target_key walk.targets shared.targets share about.targets left can.meet;
   }
 
-  pub groups_of_share : AllByRecursion IsChain (source_dimensions walk.source.now.grid)
+  pub moves_of_share : AllByRecursion IsChain (source_dimensions walk.source.now.grid)
       → AllByRecursion IsChain (target_dimensions walk.targets.grid.now)
       → HasKeys (source_key walk.source.now.encoding) → HasKeys (target_key walk.targets.encoding.now) → IsBox walk.targets.array_subset
-      → (groups : List Group) → AreGroupsToCome source_dimensions source_key target_dimensions target_key shared groups
-      → (all : List Group) × AreGroupsToCome source_dimensions source_key target_dimensions target_key walk all × (share_of share all ≡ groups)
+      → IsBox (region_of walk) → (groups : List Group) → AreMovesToCome source_dimensions source_key target_dimensions target_key shared groups
+      → (all : List Group) × AreMovesToCome source_dimensions source_key target_dimensions target_key walk all × (share_of share all ≡ groups)
       × (length all ≡ length (targets_to_come walk))
-  groups_of_share chains also_chains keys also_keys is_box groups are =
+  moves_of_share chains also_chains keys also_keys is_box is_region groups are =
       let source = source_dimensions walk.source.now.grid in
       let target = target_dimensions walk.targets.grid.now in
-      of_all (Meets target (array_box target))
-      (AreCopiesInto source (source_key walk.source.now.encoding) target (target_key walk.targets.encoding.now))
-      (have_groups source _ target _ chains also_chains keys also_keys can.one_array (rw can.whole_array at is_box)) share (targets_to_come walk)
-      groups (rw can.whole_array at can.meet) (rw (about.same_source, about.targets.same_grid, about.targets.same_encoding, left) at are)
+      let at = walk.targets.array_subset.start in
+      of_all (Meets target walk.targets.array_subset)
+      (AreMovedInto source (source_key walk.source.now.encoding) target (target_key walk.targets.encoding.now) (region_of walk) at)
+      (have_moves source _ target _ chains also_chains keys also_keys (region_of walk) at can.in_source is_region is_box) share
+      (targets_to_come walk) groups can.meet
+      (rw (first, about.same_source, about.targets.same_grid, about.targets.same_encoding, about.targets.same_subset, left) at are)

@@ -31,7 +31,7 @@ has_members d s g k shape grid keys =
 
 -- the shape is there, and is none
 pub no_shape : (d m : Data) (told : DocumentFault) → HasOnly known_members d → HasMembers d → Fit d → get (codes "shape") d ≡ Some m
-    → IsShapeFault d told → IsFormFault d (of_document told)
+    → IsShapeFault d (codes "shape") told → IsFormFault d (of_document told)
 no_shape d m (Missing field) known members fit there is = absurd (is_there d m (codes "shape") there is.1)
 no_shape d m (WrongValue field) known members fit there is = misformed_shape known members fit is.1 is.0
 no_shape d m _ known members fit there is = absurd is

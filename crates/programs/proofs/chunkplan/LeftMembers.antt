@@ -1,14 +1,17 @@
 -- What was taken out of a document leaves the other members.
-use Rattle.std.proofs.Common.{◌≡◌, ◌≢◌, ◌⊎◌, ℕ, ◌<◌, Bool, false, List, Option, Some, None, MatchOption, ◌∙◌, ap, sym, subst, codes, length}
+use Rattle.std.proofs.Common.{◌≡◌, ◌≢◌, ◌⊎◌, ℕ, ◌<◌, Bool, false, List, Option, Some, None, IsSome, MatchOption, ◌∙◌, ap, sym, subst, codes, length}
 use Rattle.std.proofs.Common.{arith, get_or}
 use Rattle.serde_json.specs.Data.{Data}
 use Rattle.serde_json.specs.Find.{as_bool, get}
 use Rattle.zarrs_chunk_base.specs.ArraySubset.{Box}
+use Rattle.zarrs_chunk_base.specs.Json.{list_of, size_of}
 use Rattle.programs.specs.declared.chunkplan.run_fault.RunFault.{RunFault}
 use Rattle.programs.specs.declared.chunkplan.run_fault.RunFault.TheVariants.{OtherDataType, OtherShape, UnknownOfTarget}
-use Rattle.programs.specs.chunkplan.Document.{HasBox, HasFlag, IsBoxIn, IsOfArray, IsTask, Task, read_of, rechunk_to}
-use Rattle.programs.specs.chunkplan.DocumentFault.{HasBoxFault, HasFlagFault, IsTargetMisfit, IsTaskFault, of_chunks, of_clip, of_misfit}
-use Rattle.programs.specs.chunkplan.DocumentFault.{of_subset, of_target, of_target_stored}
+use Rattle.programs.specs.chunkplan.Document.{HasBox, HasFlag, HasNumbers, IsBoxIn, IsOfArray, IsOfType, IsTask, IsTaskTo, Task, copy_to, read_of}
+use Rattle.programs.specs.chunkplan.Document.{rechunk_to}
+use Rattle.programs.specs.chunkplan.DocumentFault.{HasBoxFault, HasFlagFault, HasNumbersFault, IsTargetMisfit, IsTaskFault, IsTaskToFault}
+use Rattle.programs.specs.chunkplan.DocumentFault.{IsTypeMisfit, of_at, of_chunks, of_clip, of_misfit, of_region, of_region_stored, of_shape}
+use Rattle.programs.specs.chunkplan.DocumentFault.{of_subset, of_target, of_target_stored, of_task, of_type}
 use Rattle.programs.specs.chunkplan.Known.{Agree, Differ}
 
 -- ---- one member
@@ -27,6 +30,15 @@ has_flag d left field flag same =
 pub has_flag_fault : (d left : Data) (field : List ℕ) (fault : RunFault) → get field left ≡ get field d → HasFlagFault left field fault
     → HasFlagFault d field fault
 has_flag_fault d left field fault same (m, there, none, tells) = (m, sym same ∙ there, none, tells)
+
+pub has_numbers : (d left : Data) (field : List ℕ) (numbers : Option (List ℕ)) → get field left ≡ get field d → HasNumbers left field numbers
+    → HasNumbers d field numbers
+has_numbers d left field numbers same =
+    subst (λ found. MatchOption numbers (found ≡ None) (λ ns. (m : Data) × (found ≡ Some m) × (list_of size_of m ≡ Some ns))) same
+
+pub has_numbers_fault : (d left : Data) (field : List ℕ) (fault : RunFault) → get field left ≡ get field d → HasNumbersFault left field fault
+    → HasNumbersFault d field fault
+has_numbers_fault d left field fault same (m, there, none, tells) = (m, sym same ∙ there, none, tells)
 
 -- ---- a target of the array
 
@@ -52,6 +64,70 @@ module _ (d left m : Data) (shape : get (codes "shape") left ≡ get (codes "sha
       (known, agree d left m (codes "shape") shape agrees, differ d left m (codes "data_type") data_type differs)
   is_target_misfit _ is = absurd is
 
+module _ (d left m : Data) (data_type : get (codes "data_type") left ≡ get (codes "data_type") d) where
+  is_of_type : IsOfType left m → IsOfType d m
+  is_of_type is = record { known = is.known; same_data_type = agree d left m (codes "data_type") data_type is.same_data_type }
+
+  is_type_misfit : (fault : RunFault) → IsTypeMisfit left m fault → IsTypeMisfit d m fault
+  is_type_misfit (UnknownOfTarget told) is = is
+  is_type_misfit OtherDataType (known, differs) = (known, differ d left m (codes "data_type") data_type differs)
+  is_type_misfit _ is = absurd is
+
+-- ---- what is asked for with a target
+
+-- the members by which it is asked are the same
+pub record AskAlike (d left : Data) : Type 0 where
+  pub shape : get (codes "shape") left ≡ get (codes "shape") d
+  pub data_type : get (codes "data_type") left ≡ get (codes "data_type") d
+  pub subset : get (codes "subset") left ≡ get (codes "subset") d
+  pub chunks : get (codes "chunks") left ≡ get (codes "chunks") d
+  pub at : get (codes "at") left ≡ get (codes "at") d
+
+module _ (d left m : Data) (same : AskAlike d left) where
+  pub is_task_to : (task : Task) → IsTaskTo left m task → IsTaskTo d m task
+  is_task_to (read_of b clip) is = absurd is
+  is_task_to (rechunk_to stored b) (none, of_array, has, box) = (
+    sym same.subset ∙ none,
+    is_of_array d left m same.shape same.data_type of_array,
+    has,
+    has_box d left (codes "chunks") b same.chunks box,
+  )
+  is_task_to (copy_to shape stored region at) (typed, sizes, has, box, numbers) = (
+    is_of_type d left m same.data_type typed,
+    sizes,
+    has,
+    has_box d left (codes "subset") (Some region) same.subset box,
+    has_numbers d left (codes "at") at same.at numbers,
+  )
+
+  some_subset : IsSome (get (codes "subset") left) → IsSome (get (codes "subset") d)
+  some_subset = subst IsSome same.subset
+
+  pub is_task_to_fault : (fault : RunFault) → IsTaskToFault left m fault → IsTaskToFault d m fault
+  is_task_to_fault fault (of_misfit none is) =
+      of_misfit (sym same.subset ∙ none) (is_target_misfit d left m same.shape same.data_type fault is)
+  is_task_to_fault fault (of_target_stored told none of_array is told_so) =
+      of_target_stored told (sym same.subset ∙ none) (is_of_array d left m same.shape same.data_type of_array) is told_so
+  is_task_to_fault fault (of_chunks stored none of_array has is) =
+      of_chunks stored (sym same.subset ∙ none) (is_of_array d left m same.shape same.data_type of_array) has
+      (has_box_fault d left (codes "chunks") fault same.chunks is)
+  is_task_to_fault fault (of_type some is) = of_type (some_subset some) (is_type_misfit d left m same.data_type fault is)
+  is_task_to_fault fault (of_shape told some type is told_so) =
+      of_shape told (some_subset some) (is_of_type d left m same.data_type type) is told_so
+  is_task_to_fault fault (of_region_stored told some type sizes is told_so) =
+      of_region_stored told (some_subset some) (is_of_type d left m same.data_type type) sizes is told_so
+  is_task_to_fault fault (of_region stored type sizes has is) =
+      of_region stored (is_of_type d left m same.data_type type) sizes has (has_box_fault d left (codes "subset") fault same.subset is)
+  is_task_to_fault fault (of_at stored region type sizes has box is) =
+      of_at stored region (is_of_type d left m same.data_type type) sizes has (has_box d left (codes "subset") (Some region) same.subset box)
+      (has_numbers_fault d left (codes "at") fault same.at is)
+
+-- what is asked for with the target that there is
+pub with_target : (d m : Data) (task : Task) → get (codes "target") d ≡ Some m → IsTaskTo d m task → IsTask d task
+with_target d m (read_of b clip) there is = absurd is
+with_target d m (rechunk_to stored b) there is = (m, there, is)
+with_target d m (copy_to shape stored region at) there is = (m, there, is)
+
 -- ---- the task, which is read where the array's own metadata were taken out
 
 -- the members of other names than these two are those of d
@@ -62,8 +138,14 @@ module _ (d left : Data) (are_left : AreLeft d left) where
   short : (name : List ℕ) → length name < 10 → get name left ≡ get name d
   short name less = are_left name (λ same. absurd (omega (arith, less, ap length same))) (λ same. absurd (omega (arith, less, ap length same)))
 
-  of_same : (m : Data) → IsOfArray left m → IsOfArray d m
-  of_same m = is_of_array d left m (short (codes "shape") (omega arith)) (short (codes "data_type") (omega arith))
+  ask_alike : AskAlike d left
+  ask_alike = record {
+    shape = short (codes "shape") (omega arith);
+    data_type = short (codes "data_type") (omega arith);
+    subset = short (codes "subset") (omega arith);
+    chunks = short (codes "chunks") (omega arith);
+    at = short (codes "at") (omega arith);
+  }
 
   pub is_task : (task : Task) → IsTask left task → IsTask d task
   is_task (read_of b clip) (none, box, has) = (
@@ -71,13 +153,10 @@ module _ (d left : Data) (are_left : AreLeft d left) where
     has_box d left (codes "subset") b (short (codes "subset") (omega arith)) box,
     has_flag d left (codes "clip") clip (short (codes "clip") (omega arith)) has,
   )
-  is_task (rechunk_to stored b) (m, there, of_array, has, box) = (
-    m,
-    sym (short (codes "target") (omega arith)) ∙ there,
-    of_same m of_array,
-    has,
-    has_box d left (codes "chunks") b (short (codes "chunks") (omega arith)) box,
-  )
+  is_task (rechunk_to stored b) (m, there, is) =
+      (m, sym (short (codes "target") (omega arith)) ∙ there, is_task_to d left m ask_alike (rechunk_to stored b) is)
+  is_task (copy_to shape stored region at) (m, there, is) =
+      (m, sym (short (codes "target") (omega arith)) ∙ there, is_task_to d left m ask_alike (copy_to shape stored region at) is)
 
   pub is_task_fault : (fault : RunFault) → IsTaskFault left fault → IsTaskFault d fault
   is_task_fault fault (of_subset none is) =
@@ -88,15 +167,8 @@ module _ (d left : Data) (are_left : AreLeft d left) where
       (has_box d left (codes "subset") b (short (codes "subset") (omega arith)) box)
       (has_flag_fault d left (codes "clip") fault (short (codes "clip") (omega arith)) is)
   is_task_fault fault (of_target m there none tells) = of_target m (sym (short (codes "target") (omega arith)) ∙ there) none tells
-  is_task_fault fault (of_misfit m there object is) =
-      of_misfit m (sym (short (codes "target") (omega arith)) ∙ there) object
-      (is_target_misfit d left m (short (codes "shape") (omega arith)) (short (codes "data_type") (omega arith)) fault is)
-  is_task_fault fault (of_target_stored m told there object of_array is same) =
-      of_target_stored m told (sym (short (codes "target") (omega arith)) ∙ there) object (of_same m of_array) is same
-  is_task_fault fault (of_chunks m stored there of_array has is) =
-      let same = short (codes "target") (omega arith) in
-      of_chunks m stored (sym same ∙ there) (of_same m of_array) has
-      (has_box_fault d left (codes "chunks") fault (short (codes "chunks") (omega arith)) is)
+  is_task_fault fault (of_task m there object is) =
+      of_task m (sym (short (codes "target") (omega arith)) ∙ there) object (is_task_to_fault d left m ask_alike fault is)
 
 -- ---- names of another letter
 
@@ -114,3 +186,6 @@ chunks_is_no_target same = let first : 99 ≡ 116 = ap (λ name. get_or name 0 0
 
 pub clip_is_no_target : codes "clip" ≢ codes "target"
 clip_is_no_target same = let first : 99 ≡ 116 = ap (λ name. get_or name 0 0) same in absurd (omega (arith, first))
+
+pub at_is_no_target : codes "at" ≢ codes "target"
+at_is_no_target same = let first : 97 ≡ 116 = ap (λ name. get_or name 0 0) same in absurd (omega (arith, first))

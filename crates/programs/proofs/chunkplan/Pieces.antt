@@ -13,8 +13,7 @@ use Rattle.zarrs_chunk_base.specs.Greatest.{greatest}
 use Rattle.zarrs_chunk_plan.specs.Counted.{counted}
 use Rattle.zarrs_chunk_plan.specs.declared.part.Part.{Part}
 use Rattle.programs.specs.chunkplan.Line.{end_members, group_line, lines_from, source_json, sources_items}
-use Rattle.programs.specs.chunkplan.seen.Pieces.{comma_before, end_of_line, text_as}
-use Rattle.programs.specs.declared.chunkplan.line.Form.TheVariants.{Source}
+use Rattle.programs.specs.chunkplan.seen.Pieces.{comma_before, end_of_line, source_text}
 
 -- whether a value has just ended behind these tokens
 abbrev ended : Bool → List Token → Bool
@@ -49,34 +48,36 @@ comma_behind n =
     ⊎_elim (λ (past : greatest < suc n). rw (lt-leb (suc n) greatest past) refl)
     (λ (fits : suc n ≤ greatest). rw (le-leb (suc n) greatest fits) refl) (cases_lt greatest (suc n))
 
-source_text : (n : ℕ) (from : Part)
-    → print_from (some_came n) (json_tokens (source_json from)) ≡ text_as Source (counted n) from
-unfolding print_from counted
-source_text zero from = refl
-source_text (suc n) from = ap (λ comma. comma ++ print (json_tokens (source_json from))) (sym (comma_behind n))
+module _ (to : Part) where
+  source_printed : (n : ℕ) (from : Part)
+      → print_from (some_came n) (json_tokens (source_json to.in_chunk.start from)) ≡ source_text to (counted n) from
+  unfolding print_from counted
+  source_printed zero from = refl
+  source_printed (suc n) from =
+      ap (λ comma. comma ++ print (json_tokens (source_json to.in_chunk.start from))) (sym (comma_behind n))
 
-sources_texts : (n : ℕ) (from : List Part) (ts : List Token)
-    → print_from (some_came n) (items_tokens (sources_items from) ++ ts)
-    ≡ lines_from (λ n. text_as Source (counted n)) n from ++ print_from false (end_array ∷ ts)
-unfolding print_from
-sources_texts zero [] ts = refl
-sources_texts (suc n) [] ts = refl
-sources_texts n (from ∷ others) ts =
-    let js = json_tokens (source_json from) in
-    let rest = items_tokens (sources_items others) in
-    ap (print_from (some_came n)) (append_assoc js rest ts)
-    ∙ print_from-append (some_came n) js (rest ++ ts)
-    ∙ rw (json_ends (some_came n) (source_json from), source_text n from)
-    (ap (λ text. text_as Source (counted n) from ++ text) (sources_texts (suc n) others ts))
-    ∙ sym (append_assoc (text_as Source (counted n) from) _ _)
+  sources_texts : (n : ℕ) (from : List Part) (ts : List Token)
+      → print_from (some_came n) (items_tokens (sources_items to.in_chunk.start from) ++ ts)
+      ≡ lines_from (λ n. source_text to (counted n)) n from ++ print_from false (end_array ∷ ts)
+  unfolding print_from
+  sources_texts zero [] ts = refl
+  sources_texts (suc n) [] ts = refl
+  sources_texts n (from ∷ others) ts =
+      let js = json_tokens (source_json to.in_chunk.start from) in
+      let rest = items_tokens (sources_items to.in_chunk.start others) in
+      ap (print_from (some_came n)) (append_assoc js rest ts)
+      ∙ print_from-append (some_came n) js (rest ++ ts)
+      ∙ rw (json_ends (some_came n) (source_json to.in_chunk.start from), source_printed n from)
+      (ap (λ text. source_text to (counted n) from ++ text) (sources_texts (suc n) others ts))
+      ∙ sym (append_assoc (source_text to (counted n) from) _ _)
 
-pub in_pieces : (at of : Option ℕ) (to : Part) (from : List Part)
-    → group_line at of (to, from)
-    ≡ (codes "{\"from\":[" ++ lines_from (λ n. text_as Source (counted n)) 0 from) ++ end_of_line at of to
-unfolding print_from escape_byte
-in_pieces at of to from =
-    let texts = lines_from (λ n. text_as Source (counted n)) 0 from in
-    let last = print (end_array ∷ members_tokens (end_members at of to)) in
-    ap (λ text. (codes "{\"from\":[" ++ text) ++ codes "\n") (sources_texts 0 from (members_tokens (end_members at of to)))
-    ∙ ap (λ text. text ++ codes "\n") (sym (append_assoc (codes "{\"from\":[") texts last))
-    ∙ append_assoc (codes "{\"from\":[" ++ texts) last (codes "\n")
+  pub in_pieces : (at of : Option ℕ) (from : List Part)
+      → group_line at of (to, from)
+      ≡ (codes "{\"from\":[" ++ lines_from (λ n. source_text to (counted n)) 0 from) ++ end_of_line at of to
+  unfolding print_from escape_byte
+  in_pieces at of from =
+      let texts = lines_from (λ n. source_text to (counted n)) 0 from in
+      let last = print (end_array ∷ members_tokens (end_members at of to)) in
+      ap (λ text. (codes "{\"from\":[" ++ text) ++ codes "\n") (sources_texts 0 from (members_tokens (end_members at of to)))
+      ∙ ap (λ text. text ++ codes "\n") (sym (append_assoc (codes "{\"from\":[") texts last))
+      ∙ append_assoc (codes "{\"from\":[" ++ texts) last (codes "\n")

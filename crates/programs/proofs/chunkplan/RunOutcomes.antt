@@ -2,20 +2,26 @@
 use Rattle.std.proofs.Common.{◌≡◌, ◌∙◌, ℕ, Bool, true, false, List, [], ◌++◌, Some, Ok, Err, append_assoc, ap, codes, inl, inr, refl, sym, true≢false}
 use Rattle.std.proofs.Common.{unwrap_or, ⊎_elim}
 use Rattle.serde_json.specs.Data.{Data}
+use Rattle.zarrs_chunk_base.specs.ArraySubset.{Box}
+use Rattle.zarrs_chunk_base.specs.Dimension.{Dimension}
 use Rattle.zarrs_chunk_plan.specs.Rechunking.{all_chunks_box, array_box}
+use Rattle.zarrs_chunk_plan.specs.declared.region_error.RegionError.{RegionError}
+use Rattle.zarrs_chunk_plan.specs.declared.region_error.RegionError.TheVariants.{At, PastSource, PastTarget, Region, Target}
 use Rattle.programs.specs.Streams.{IsReadToEnd, IsWritten, Streams}
 use Rattle.programs.specs.Watched.{IsReadFailure}
-use Rattle.programs.specs.chunkplan.Document.{Document}
+use Rattle.programs.specs.chunkplan.Document.{Document, Wanted}
 use Rattle.programs.specs.chunkplan.DocumentFault.{HasBoxFault, HasWantedFault, IsBoxFormFault, IsFormFault, IsMisfit, IsTargetMisfit, IsTaskFault}
 use Rattle.programs.specs.chunkplan.DocumentFault.{misfit, misformed_shape, misformed_stored, misformed_task, misformed_wanted, missing}
 use Rattle.programs.specs.chunkplan.DocumentFault.{no_object, not_of_form}
-use Rattle.programs.specs.chunkplan.DocumentFault.{IsUnknownFault, TellsMissing, TellsWrongValue, of_clip, of_misfit, of_target_stored, unknown}
-use Rattle.programs.specs.chunkplan.DocumentFault.{of_chunks as of_chunks_box, of_subset as of_subset_box, of_target as of_target_tree}
-use Rattle.programs.specs.chunkplan.PlanFault.{IsChunksFault, IsFirstFault, IsPlanFault, IsReadFault, IsTargetFault, no_document, no_plan, of_chunks}
-use Rattle.programs.specs.chunkplan.PlanFault.{of_source, of_subset, of_target}
-use Rattle.programs.specs.chunkplan.Planned.{IsPlanOf}
+use Rattle.programs.specs.chunkplan.DocumentFault.{IsTaskToFault, IsTypeMisfit, IsUnknownFault, TellsMissing, TellsWrongValue, of_at, of_clip, of_misfit}
+use Rattle.programs.specs.chunkplan.DocumentFault.{of_region_stored, of_shape, of_target_stored, of_task, of_type, unknown}
+use Rattle.programs.specs.chunkplan.DocumentFault.{of_chunks as of_chunks_box, of_region as of_region_box, of_subset as of_subset_box}
+use Rattle.programs.specs.chunkplan.DocumentFault.{of_target as of_target_tree}
+use Rattle.programs.specs.chunkplan.PlanFault.{IsChunksFault, IsCopyFault, IsFirstFault, IsPlanFault, IsReadFault, IsTargetFault, no_document, no_plan}
+use Rattle.programs.specs.chunkplan.PlanFault.{of_chunks, of_region, of_region_target, of_source, of_subset, of_target}
+use Rattle.programs.specs.chunkplan.Planned.{IsPlanOf, begins_at}
 use Rattle.programs.specs.chunkplan.Run.{HasBegunPlan, RunLeaves}
-use Rattle.programs.specs.chunkplan.RunFault.{of_create, of_document, of_stream}
+use Rattle.programs.specs.chunkplan.RunFault.{of_create, of_document, of_region as of_region_error, of_stream}
 use Rattle.programs.specs.chunkplan.seen.Steps.{HasBegun, StepLeaves}
 use Rattle.programs.specs.seen.Sent.{Output}
 use Rattle.programs.specs.declared.chunkplan.run_fault.RunFault.{RunFault}
@@ -53,16 +59,31 @@ of_create_still (Grid _) = refl
 of_create_still (Encoding _) = refl
 of_create_still NoRoom = refl
 
+of_region_still : (told : RegionError) → moves (of_region_error told) ≡ false
+of_region_still (Region _) = refl
+of_region_still (Target _) = refl
+of_region_still (At _) = refl
+of_region_still PastSource = refl
+of_region_still PastTarget = refl
+
 box_still : (d : Data) (field : List ℕ) (fault : RunFault) → HasBoxFault d field fault → moves fault ≡ false
 box_still d field fault (m, _, is) = still (IsBoxFormFault m field) (λ h. h) (λ h. h) fault is
+
+target_still : (d target : Data) (fault : RunFault) → IsTaskToFault d target fault → moves fault ≡ false
+target_still d target fault (of_misfit _ is) = still (IsTargetMisfit d target) (λ h. h) (λ h. h) fault is
+target_still d target fault (of_target_stored told _ _ _ same) = ap moves same ∙ of_document_still told
+target_still d target fault (of_chunks_box _ _ _ _ is) = box_still d (codes "chunks") fault is
+target_still d target fault (of_type _ is) = still (IsTypeMisfit d target) (λ h. h) (λ h. h) fault is
+target_still d target fault (of_shape told _ _ _ same) = ap moves same ∙ of_document_still told
+target_still d target fault (of_region_stored told _ _ _ _ same) = ap moves same ∙ of_document_still told
+target_still d target fault (of_region_box _ _ _ _ is) = box_still d (codes "subset") fault is
+target_still d target fault (of_at _ _ _ _ _ _ (_, _, _, is)) = still (TellsWrongValue (codes "at")) (λ h. h) (λ h. h) fault is
 
 task_still : (d : Data) (fault : RunFault) → IsTaskFault d fault → moves fault ≡ false
 task_still d fault (of_subset_box _ is) = box_still d (codes "subset") fault is
 task_still d fault (of_clip _ _ _ (_, _, _, is)) = still (TellsWrongValue (codes "clip")) (λ h. h) (λ h. h) fault is
 task_still d fault (of_target_tree _ _ _ is) = still (TellsWrongValue (codes "target")) (λ h. h) (λ h. h) fault is
-task_still d fault (of_misfit target _ _ is) = still (IsTargetMisfit d target) (λ h. h) (λ h. h) fault is
-task_still d fault (of_target_stored _ told _ _ _ _ same) = ap moves same ∙ of_document_still told
-task_still d fault (of_chunks_box _ _ _ _ _ is) = box_still d (codes "chunks") fault is
+task_still d fault (of_task target _ _ is) = target_still d target fault is
 
 -- a fault of what is wanted is a wrong value
 wanted_still : (d : Data) (fault : RunFault) → HasWantedFault d fault → moves fault ≡ false
@@ -78,6 +99,11 @@ form_still d fault (misformed_wanted _ _ _ _ is) = wanted_still d fault is
 form_still d fault (misformed_stored told _ _ _ _ _ _ _ same) = ap moves same ∙ of_document_still told
 form_still d fault (misformed_task _ _ _ _ _ _ _ _ is) = task_still d fault is
 
+copy_still : (wanted : Wanted) (source target : List Dimension) (region : Box) (at : List ℕ) (fault : RunFault)
+    → IsCopyFault wanted source target region at fault → moves fault ≡ false
+copy_still wanted source target region at fault (inl (told, _, same)) = ap moves same ∙ of_region_still told
+copy_still wanted source target region at fault (inr (_, _, same)) = ap moves same
+
 plan_still : (document : Document) (fault : RunFault) → IsPlanFault document fault → moves fault ≡ false
 plan_still document fault (of_source told _ same) = ap moves same ∙ of_create_still told
 plan_still document fault (of_subset subset clip grid _ _ _ is) =
@@ -85,6 +111,9 @@ plan_still document fault (of_subset subset clip grid _ _ _ is) =
 plan_still document fault (of_target stored _ _ _ _ _ is) = still (IsTargetFault stored document.shape) (λ h. h) (λ h. h) fault is
 plan_still document fault (of_chunks _ chunks _ target _ _ _ _ _ is) =
     still (IsChunksFault target.dimensions (unwrap_or chunks (all_chunks_box target.dimensions))) (λ h. h) (λ h. h) fault is
+plan_still document fault (of_region_target shape stored _ _ _ _ _ _ is) = still (IsTargetFault stored shape) (λ h. h) (λ h. h) fault is
+plan_still document fault (of_region _ _ region at source target _ _ _ _ _ is) =
+    copy_still document.wanted source.dimensions target.dimensions region (begins_at region at) fault is
 
 first_still : (input : List ℕ) (fault : RunFault) → IsFirstFault input fault → moves fault ≡ false
 first_still input fault (no_document (no_object told _ same)) = ap moves same ∙ of_document_still told
@@ -93,6 +122,9 @@ first_still input fault (no_plan _ document _ _ is) = plan_still document fault 
 
 pub no_failed_write : (document : Document) → ¬ IsPlanFault document Write
 no_failed_write document is = true≢false (plan_still document Write is)
+
+pub no_failed_copy : (wanted : Wanted) (source target : List Dimension) (region : Box) (at : List ℕ) → ¬ IsCopyFault wanted source target region at Write
+no_failed_copy wanted source target region at is = true≢false (copy_still wanted source target region at Write is)
 
 pub no_write : (input : List ℕ) → ¬ IsFirstFault input Write
 no_write input is = true≢false (first_still input Write is)

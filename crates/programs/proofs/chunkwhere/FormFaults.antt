@@ -27,7 +27,7 @@ has_members d s g k i shape grid keys indices =
     (has_more d k (codes "chunk_key_encoding") (codes "indices" ∷ []) keys (has_more d i (codes "indices") [] indices (no_more d))))
 
 -- the shape is there, and is none
-pub no_shape : (d m : Data) (told : DocumentFault) → HasMembers d → get (codes "shape") d ≡ Some m → IsShapeFault d told
+pub no_shape : (d m : Data) (told : DocumentFault) → HasMembers d → get (codes "shape") d ≡ Some m → IsShapeFault d (codes "shape") told
     → IsFormFault d (of_document told)
 no_shape d m (Missing field) members there is = absurd (is_there d m (codes "shape") there is.1)
 no_shape d m (WrongValue field) members there is = misformed_shape members is.1 is.0

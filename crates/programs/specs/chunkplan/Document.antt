@@ -1,7 +1,7 @@
--- The program's document: a JSON object with the members `shape`, `chunk_grid` and `chunk_key_encoding`, and either `subset` and `clip`, which
--- may be absent, or `target` and `chunks`, which may be absent; and one of `share` and `counts`, which may be absent too. What else an array's
--- `zarr.json` has may stand in it and in the target.
-use Rattle.std.specs.Prelude.{◌≡◌, ◌⊎◌, ℕ, Bool, true, false, List, Option, Some, None, IsSome, codes, MatchOption}
+-- The program's document: a JSON object with the members `shape`, `chunk_grid` and `chunk_key_encoding`; `subset` and `clip`, which may be absent;
+-- or `target` and `chunks`, which may be absent; or `target`, `subset` and `at`, which may be absent; and one of `share` and `counts`, which may be
+-- absent too. What else an array's `zarr.json` has may stand in it and in the target.
+use Rattle.std.specs.Prelude.{◌≡◌, ◌⊎◌, ℕ, Bool, true, false, List, Option, Some, None, IsSome, codes, MatchOption, option_map}
 use Rattle.serde_json.specs.Data.{Data}
 use Rattle.serde_json.specs.Find.{as_bool, get}
 use Rattle.zarrs_chunk_base.specs.ArraySubset.{Box, IsBox}
@@ -12,14 +12,16 @@ use Rattle.programs.specs.Stored.{Stored, stored_of}
 use Rattle.programs.specs.chunkplan.Known.{Agree, HasOnly, known_members, zarr_json_members}
 use Rattle.programs.specs.declared.chunkplan.document.Document.{Document as DocumentValue}
 use Rattle.programs.specs.declared.chunkplan.document.Task.{Task as TaskValue}
-use Rattle.programs.specs.declared.chunkplan.document.Task.TheVariants.{Read as ReadValue, Rechunk as RechunkValue}
+use Rattle.programs.specs.declared.chunkplan.document.Task.TheVariants.{Copy as CopyValue, Read as ReadValue, Rechunk as RechunkValue}
 use Rattle.programs.specs.declared.chunkplan.document.Wanted.{Wanted as WantedValue}
 use Rattle.programs.specs.declared.chunkplan.document.Wanted.TheVariants.{Counts as CountsValue, Lines as LinesValue}
 
--- what is asked for: a read of a box of elements, or of all, as it is or clipped to the array; or a rechunking into chunks of a box, or into all
+-- What is asked for: a read of a box of elements, or of all, as it is or clipped to the array; a rechunking into chunks of a box, or into all; or
+-- the copy of a region, a box of elements, to an array of a shape that is stored in some way, to begin there at an index, where one is given.
 pub data Task : Type 0 where
   read_of : Option Box → (clip : Bool) → Task
   rechunk_to : Stored → Option Box → Task
+  copy_to : (shape : List ℕ) → Stored → (region : Box) → (at : Option (List ℕ)) → Task
 
 -- what is wanted of the plan: the lines of a share, or its counts
 pub data Wanted : Type 0 where
@@ -37,6 +39,7 @@ pub record Document : Type 0 where
 abbrev pub task_of : TaskValue → Task
 task_of (ReadValue subset clip) = read_of subset clip
 task_of (RechunkValue target chunks) = rechunk_to (stored_of target) chunks
+task_of (CopyValue shape target region at) = copy_to shape.items (stored_of target) region (option_map (λ v. v.items) at)
 
 abbrev pub wanted_of : WantedValue → Wanted
 wanted_of (LinesValue share) = lines_wanted share
@@ -53,6 +56,10 @@ pub record IsBoxIn (d : Data) (b : Box) : Type 0 where
 -- the member is a box, or absent
 abbrev pub HasBox : Data → List ℕ → Option Box → Type 0
 HasBox d field subset = MatchOption subset (get field d ≡ None) (λ b. (m : Data) × (get field d ≡ Some m) × IsBoxIn m b)
+
+-- the member is a list of sizes, or absent
+abbrev pub HasNumbers : Data → List ℕ → Option (List ℕ) → Type 0
+HasNumbers d field numbers = MatchOption numbers (get field d ≡ None) (λ ns. (m : Data) × (get field d ≡ Some m) × (list_of size_of m ≡ Some ns))
 
 -- the member is true or false; where it is absent, as where it is false
 abbrev pub HasFlag : Data → List ℕ → Bool → Type 0
@@ -71,22 +78,37 @@ abbrev pub HasWanted : Data → Wanted → Type 0
 HasWanted d (lines_wanted share) = HasFlag d (codes "counts") false × HasShare d share
 HasWanted d counts_wanted = HasFlag d (codes "counts") true
 
+-- The target, which has no unknown member, is of the array's data type, where it says one.
+pub record IsOfType (d target : Data) : Type 0 where
+  pub known : HasOnly zarr_json_members target
+  pub same_data_type : Agree (codes "data_type") d target
+
 -- The target, which has no unknown member, is of the same array: of its shape and data type, where it says them.
 pub record IsOfArray (d target : Data) : Type 0 where
   pub known : HasOnly zarr_json_members target
   pub same_shape : Agree (codes "shape") d target
   pub same_data_type : Agree (codes "data_type") d target
 
--- `subset` and `clip`, where there is no target, or `target` with its own two members, and `chunks`
+-- What is asked for with this target: where there is no `subset`, a rechunking, with the target's own two members, and `chunks`; and else the copy of
+-- a region, with the target's `shape` too, and `at`.
+abbrev pub IsTaskTo : (d target : Data) → Task → Type 0
+IsTaskTo d target (read_of subset clip) = ⊥
+IsTaskTo d target (rechunk_to stored chunks) =
+    (get (codes "subset") d ≡ None) × IsOfArray d target × HasStored target stored × HasBox d (codes "chunks") chunks
+IsTaskTo d target (copy_to shape stored region at) = IsOfType d target × (shape_in target ≡ Some shape) × HasStored target stored
+    × HasBox d (codes "subset") (Some region) × HasNumbers d (codes "at") at
+
+-- `subset` and `clip`, where there is no target, or what is asked for with it
 abbrev pub IsTask : Data → Task → Type 0
 IsTask d (read_of subset clip) = (get (codes "target") d ≡ None) × HasBox d (codes "subset") subset × HasFlag d (codes "clip") clip
-IsTask d (rechunk_to stored chunks) = (m : Data) × (get (codes "target") d ≡ Some m) × IsOfArray d m × HasStored m stored
-    × HasBox d (codes "chunks") chunks
+IsTask d task = (m : Data) × (get (codes "target") d ≡ Some m) × IsTaskTo d m task
 
--- `subset` and `clip` stand beside no target, and `chunks` beside one
+-- `clip` stands beside no target, `chunks` beside one without a `subset`, and `at` beside both
 pub record FitTask (d : Data) : Type 0 where
-  pub of_read : get (codes "target") d ≡ None → get (codes "chunks") d ≡ None
-  pub of_rechunking : IsSome (get (codes "target") d) → (get (codes "subset") d ≡ None) × (get (codes "clip") d ≡ None)
+  pub of_read : get (codes "target") d ≡ None → (get (codes "chunks") d ≡ None) × (get (codes "at") d ≡ None)
+  pub of_target : IsSome (get (codes "target") d) → get (codes "clip") d ≡ None
+  pub of_rechunking : IsSome (get (codes "target") d) → get (codes "subset") d ≡ None → get (codes "at") d ≡ None
+  pub of_region : IsSome (get (codes "target") d) → IsSome (get (codes "subset") d) → get (codes "chunks") d ≡ None
 
 -- and `share` beside no `counts`
 pub record Fit (d : Data) : Type 0 where

@@ -6,14 +6,14 @@ use Rattle.zarrs_chunk_base.specs.ArraySubset.{Box as ElementBox}
 use Rattle.zarrs_chunk_base.specs.ArraySubsetError.{IsBoxFault}
 use Rattle.zarrs_chunk_base.specs.First.{IsFirst}
 use Rattle.zarrs_chunk_base.specs.Json.{size_of, list_of, pair_of}
-use Rattle.programs.specs.Document.{HasAll, HasStored, IsObjectOf, IsStoredFault, IsTextFault, shape_in}
+use Rattle.programs.specs.Document.{HasAll, HasStored, IsObjectOf, IsShapeFault, IsStoredFault, IsTextFault, shape_in}
 use Rattle.programs.specs.Stored.{Stored}
-use Rattle.programs.specs.chunkplan.Document.{Fit, FitTask, HasBox, HasFlag, HasWanted, IsOfArray, Wanted}
+use Rattle.programs.specs.chunkplan.Document.{Fit, FitTask, HasBox, HasFlag, HasWanted, IsOfArray, IsOfType, Wanted}
 use Rattle.programs.specs.chunkplan.Known.{Agree, Differ, HasOnly, IsFirstUnknown, known_members, zarr_json_members}
 use Rattle.programs.specs.chunkplan.RunFault.{of_document}
 use Rattle.programs.specs.declared.chunkplan.run_fault.RunFault.{RunFault}
-use Rattle.programs.specs.declared.chunkplan.run_fault.RunFault.TheVariants.{Box, ChunksOfNoTarget, ClipOfTarget, Missing, OtherDataType}
-use Rattle.programs.specs.declared.chunkplan.run_fault.RunFault.TheVariants.{OtherShape, ShareOfCounts, SubsetOfTarget, Unknown, UnknownOfTarget}
+use Rattle.programs.specs.declared.chunkplan.run_fault.RunFault.TheVariants.{AtOfNoRegion, Box, ChunksOfNoTarget, ChunksOfRegion, ClipOfTarget, Missing}
+use Rattle.programs.specs.declared.chunkplan.run_fault.RunFault.TheVariants.{OtherDataType, OtherShape, ShareOfCounts, Unknown, UnknownOfTarget}
 use Rattle.programs.specs.declared.chunkplan.run_fault.RunFault.TheVariants.{WrongValue}
 use Rattle.programs.specs.declared.document_fault.DocumentFault.{DocumentFault}
 
@@ -39,6 +39,12 @@ IsTargetMisfit d target OtherDataType =
     HasOnly zarr_json_members target × Agree (codes "shape") d target × Differ (codes "data_type") d target
 IsTargetMisfit _ _ _ = ⊥
 
+-- the fault says which member of the target isn't known, or that its data type isn't the array's; the first of these
+abbrev pub IsTypeMisfit : (d target : Data) → RunFault → Type 0
+IsTypeMisfit d target (UnknownOfTarget told) = IsFirstUnknown zarr_json_members target told
+IsTypeMisfit d target OtherDataType = HasOnly zarr_json_members target × Differ (codes "data_type") d target
+IsTypeMisfit _ _ _ = ⊥
+
 -- the members that have to be there, in the order in which a missing one is reported
 abbrev pub document_members : List (List ℕ)
 document_members = codes "shape" ∷ codes "chunk_grid" ∷ codes "chunk_key_encoding" ∷ []
@@ -47,11 +53,18 @@ document_members = codes "shape" ∷ codes "chunk_grid" ∷ codes "chunk_key_enc
 abbrev pub HasMembers : Data → Type 0
 HasMembers = HasAll document_members
 
--- the fault says which member doesn't go with what is asked for, the first of `subset` and `clip`
+-- there is a target and no `clip`
+abbrev pub HasTarget : Data → Type 0
+HasTarget d = IsSome (get (codes "target") d) × (get (codes "clip") d ≡ None)
+
+-- the fault says which member doesn't go with what is asked for, the first of `clip`, `chunks` and `at`
 abbrev pub IsTaskMisfit : Data → RunFault → Type 0
-IsTaskMisfit d SubsetOfTarget = IsSome (get (codes "target") d) × IsSome (get (codes "subset") d)
-IsTaskMisfit d ClipOfTarget = IsSome (get (codes "target") d) × (get (codes "subset") d ≡ None) × IsSome (get (codes "clip") d)
+IsTaskMisfit d ClipOfTarget = IsSome (get (codes "target") d) × IsSome (get (codes "clip") d)
 IsTaskMisfit d ChunksOfNoTarget = (get (codes "target") d ≡ None) × IsSome (get (codes "chunks") d)
+IsTaskMisfit d ChunksOfRegion = HasTarget d × IsSome (get (codes "subset") d) × IsSome (get (codes "chunks") d)
+IsTaskMisfit d AtOfNoRegion =
+    (((get (codes "target") d ≡ None) × (get (codes "chunks") d ≡ None)) ⊎ (HasTarget d × (get (codes "subset") d ≡ None)))
+    × IsSome (get (codes "at") d)
 IsTaskMisfit d _ = ⊥
 
 -- and then, that a share doesn't go with counts
@@ -84,20 +97,40 @@ HasShareFault d fault = (m : Data) × (get (codes "share") d ≡ Some m) × Tell
 abbrev pub HasWantedFault : Data → RunFault → Type 0
 HasWantedFault d fault = HasFlagFault d (codes "counts") fault ⊎ (HasFlag d (codes "counts") false × HasShareFault d fault)
 
--- The first fault of what a tree asks for: its `subset` and its `clip`, where there is no target; and else the target, that it isn't of the array,
--- its own two members, or `chunks`.
+-- the member is there and no list of sizes
+abbrev pub HasNumbersFault : Data → List ℕ → RunFault → Type 0
+HasNumbersFault d field fault = (m : Data) × (get field d ≡ Some m) × (list_of size_of m ≡ None) × TellsWrongValue field fault
+
+-- how the target says that it is stored, by the names that a fault calls its members
+abbrev pub IsTargetStoredFault : Data → DocumentFault → Type 0
+IsTargetStoredFault target = IsStoredFault target (codes "target.chunk_grid") (codes "target.chunk_key_encoding")
+
+-- The first fault of what is asked for with this target. Of a rechunking: the target isn't of the array; its own two members; `chunks`. Of the copy
+-- of a region: the target isn't of the array's type; its shape; its own two members; `subset`; `at`.
+pub data IsTaskToFault (d target : Data) (fault : RunFault) : Type 0 where
+  of_misfit : get (codes "subset") d ≡ None → IsTargetMisfit d target fault → IsTaskToFault d target fault
+  of_target_stored : (told : DocumentFault) → get (codes "subset") d ≡ None → IsOfArray d target → IsTargetStoredFault target told
+      → fault ≡ of_document told → IsTaskToFault d target fault
+  of_chunks : (stored : Stored) → get (codes "subset") d ≡ None → IsOfArray d target → HasStored target stored
+      → HasBoxFault d (codes "chunks") fault → IsTaskToFault d target fault
+  of_type : IsSome (get (codes "subset") d) → IsTypeMisfit d target fault → IsTaskToFault d target fault
+  of_shape : (told : DocumentFault) → IsSome (get (codes "subset") d) → IsOfType d target → IsShapeFault target (codes "target.shape") told
+      → fault ≡ of_document told → IsTaskToFault d target fault
+  of_region_stored : (told : DocumentFault) → IsSome (get (codes "subset") d) → IsOfType d target → IsSome (shape_in target)
+      → IsTargetStoredFault target told → fault ≡ of_document told → IsTaskToFault d target fault
+  of_region : (stored : Stored) → IsOfType d target → IsSome (shape_in target) → HasStored target stored → HasBoxFault d (codes "subset") fault
+      → IsTaskToFault d target fault
+  of_at : (stored : Stored) (region : ElementBox) → IsOfType d target → IsSome (shape_in target) → HasStored target stored
+      → HasBox d (codes "subset") (Some region) → HasNumbersFault d (codes "at") fault → IsTaskToFault d target fault
+
+-- The first fault of what a tree asks for: its `subset` and its `clip`, where there is no target; and else the target, and what is asked for with it.
 pub data IsTaskFault (d : Data) (fault : RunFault) : Type 0 where
   of_subset : get (codes "target") d ≡ None → HasBoxFault d (codes "subset") fault → IsTaskFault d fault
   of_clip : (subset : Option ElementBox) → get (codes "target") d ≡ None → HasBox d (codes "subset") subset → HasFlagFault d (codes "clip") fault
       → IsTaskFault d fault
   of_target : (target : Data) → get (codes "target") d ≡ Some target → as_object target ≡ None → TellsWrongValue (codes "target") fault
       → IsTaskFault d fault
-  of_misfit : (target : Data) → get (codes "target") d ≡ Some target → IsSome (as_object target) → IsTargetMisfit d target fault → IsTaskFault d fault
-  of_target_stored : (target : Data) (told : DocumentFault) → get (codes "target") d ≡ Some target → IsSome (as_object target) → IsOfArray d target
-      → IsStoredFault target (codes "target.chunk_grid") (codes "target.chunk_key_encoding") told → fault ≡ of_document told
-      → IsTaskFault d fault
-  of_chunks : (target : Data) (stored : Stored) → get (codes "target") d ≡ Some target → IsOfArray d target → HasStored target stored
-      → HasBoxFault d (codes "chunks") fault → IsTaskFault d fault
+  of_task : (target : Data) → get (codes "target") d ≡ Some target → IsSome (as_object target) → IsTaskToFault d target fault → IsTaskFault d fault
 
 -- The first fault of an object that is no document: a member isn't known; one is missing; one doesn't go with the others; and then, of the
 -- shape, of what is wanted of the plan, of how the array is stored and of what is asked for, the first that isn't of its form.

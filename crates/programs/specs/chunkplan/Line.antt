@@ -7,6 +7,7 @@ use Rattle.json.specs.Tree.{json_tokens}
 use Rattle.zarrs_chunk_base.specs.ArraySubset.{Box}
 use Rattle.zarrs_chunk_plan.specs.Counted.{counted}
 use Rattle.zarrs_chunk_plan.specs.Rechunking.{Group}
+use Rattle.zarrs_chunk_plan.specs.Region.{behind}
 use Rattle.zarrs_chunk_plan.specs.Shares.{before_share, share_of}
 use Rattle.zarrs_chunk_plan.specs.declared.part.Part.{Part}
 use Rattle.zarrs_chunk_plan.specs.declared.share.Share.{Share}
@@ -58,20 +59,21 @@ read_lines share parts =
     lines_from (λ n part. line_of (part_json (counted n) (counted (length parts)) part)) (before_share share.number share.of (length parts))
     (share_of share parts)
 
--- ---- a rechunking
+-- ---- a rechunking, and the copy of a region
 
--- what a chunk of the target gets of one of the source: the chunk, a box of it, the box of the target's chunk that it goes to, the key and the shape
-abbrev pub source_json : Part → Json
-source_json from =
+-- What a chunk of the target gets of one of the source: the chunk, a box of it, the box of the target's chunk that it goes to, the key and the shape.
+-- What the chunk gets in all begins at `first` in it.
+abbrev pub source_json : (first : List ℕ) → Part → Json
+source_json first from =
     object (member (codes "chunk") (numbers_json from.chunk.items)
     (member (codes "in_chunk") (box_json from.in_chunk)
-    (member (codes "in_target") (box_json from.in_subset)
+    (member (codes "in_target") (box_json (behind first from.in_subset))
     (member (codes "key") (string from.key)
     (member (codes "shape") (numbers_json from.shape.items) no_members)))))
 
-abbrev pub sources_items : List Part → Items
-sources_items [] = no_items
-sources_items (from ∷ parts) = item (source_json from) (sources_items parts)
+abbrev pub sources_items : (first : List ℕ) → List Part → Items
+sources_items first [] = no_items
+sources_items first (from ∷ parts) = item (source_json first from) (sources_items first parts)
 
 -- a chunk of the target: its numbers, its key and its shape
 abbrev pub target_json : Part → Json
@@ -80,7 +82,7 @@ target_json to =
     (member (codes "key") (string to.key)
     (member (codes "shape") (numbers_json to.shape.items) no_members)))
 
--- behind the sources of a chunk of the target: which line of how many it is, the chunk, and whether the boxes are all that it has of the array
+-- behind the sources of a chunk of the target: which line of how many it is, the chunk, and whether the boxes are all that it has of its array
 abbrev pub end_members : (at of : Option ℕ) → Part → Members
 end_members at of to =
     member (codes "number") (count_json at)
@@ -90,12 +92,13 @@ end_members at of to =
 
 -- all that is copied into a chunk of the target
 abbrev pub group_json : (at of : Option ℕ) → Group → Json
-group_json at of group = object (member (codes "from") (array (sources_items group.1)) (end_members at of group.0))
+group_json at of group =
+    object (member (codes "from") (array (sources_items group.0.in_chunk.start group.1)) (end_members at of group.0))
 
 abbrev pub group_line : (at of : Option ℕ) → Group → List ℕ
 group_line at of group = line_of (group_json at of group)
 
--- the lines of a share of a rechunking
+-- the lines of a share of a rechunking, or of the copy of a region
 abbrev pub rechunking_lines : Share → List Group → List ℕ
 rechunking_lines share groups =
     lines_from (λ n. group_line (counted n) (counted (length groups))) (before_share share.number share.of (length groups)) (share_of share groups)

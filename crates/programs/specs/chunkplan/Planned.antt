@@ -1,8 +1,8 @@
 -- What the program writes for a document.
-use Rattle.std.specs.Prelude.{◌≡◌, ℕ, Bool, true, false, List, [], length, Option, unwrap_or}
+use Rattle.std.specs.Prelude.{◌≡◌, ℕ, Bool, true, false, List, [], length, Option, replicate, unwrap_or}
 use Rattle.serde_json.specs.Data.{Data}
 use Rattle.zarrs_chunk_base.specs.ArraySubset.{Box, IsBox, IsEmptyBox}
-use Rattle.zarrs_chunk_base.specs.Dimension.{Dimension}
+use Rattle.zarrs_chunk_base.specs.Dimension.{Dimension, array_sizes}
 use Rattle.zarrs_chunk_base.specs.Grid.{Grid}
 use Rattle.zarrs_chunk_base.specs.Json.{IsJsonOf}
 use Rattle.zarrs_chunk_keys.specs.ChunkKey.{Encoding, IsKey}
@@ -10,11 +10,12 @@ use Rattle.zarrs_chunk_plan.specs.Clip.{IsClipped}
 use Rattle.zarrs_chunk_plan.specs.Counts.{AreReadCounts, AreRechunkingCounts}
 use Rattle.zarrs_chunk_plan.specs.Plan.{IsPlan}
 use Rattle.zarrs_chunk_plan.specs.Rechunking.{AreTargets, Group, IsRechunking, all_chunks_box, array_box}
+use Rattle.zarrs_chunk_plan.specs.Region.{CanBeMoved, IsRegionCopy}
 use Rattle.zarrs_chunk_plan.specs.declared.counts.Counts.{Counts}
 use Rattle.zarrs_chunk_plan.specs.declared.part.Part.{Part}
 use Rattle.programs.specs.Stored.{IsStored, Stored}
 use Rattle.programs.specs.chunkplan.CountsLine.{IsCountsLine}
-use Rattle.programs.specs.chunkplan.Document.{Document, IsDocument, Wanted, counts_wanted, lines_wanted, read_of, rechunk_to}
+use Rattle.programs.specs.chunkplan.Document.{Document, IsDocument, Wanted, copy_to, counts_wanted, lines_wanted, read_of, rechunk_to}
 use Rattle.programs.specs.chunkplan.Line.{read_lines, rechunking_lines}
 
 -- the plan of reading a box of elements, which has as many dimensions as the grid; an empty box has no parts
@@ -39,7 +40,24 @@ IsRechunkingText (lines_wanted share) source target chunks groups text = text �
 IsRechunkingText counts_wanted source target chunks groups text = (targets : Box) × IsBox targets × AreTargets target chunks targets
     × ((counts : Counts) × AreRechunkingCounts source target targets groups counts × IsCountsLine counts text)
 
--- What a document wants of its plan, as text: of a read of a box of elements, or of all, or of a rechunking into the chunks of a box, or into all.
+-- the index in the target's array at which a region begins: 0 in each dimension, where none is given
+abbrev pub begins_at : Box → Option (List ℕ) → List ℕ
+begins_at region at = unwrap_or at (replicate (length region.start) 0)
+
+-- The copy of a region: the region lies in the source's array, and in the target's where it goes. An empty one has nothing to copy.
+pub record IsRegionPlan (source : List Dimension) (IsSourceKey : List ℕ → List ℕ → Type 0) (target : List Dimension)
+    (IsTargetKey : List ℕ → List ℕ → Type 0) (region : Box) (at : List ℕ) (groups : List Group) : Type 0 where
+  pub can : CanBeMoved (array_sizes source) (array_sizes target) region at
+  pub some : (¬ IsEmptyBox region) → IsRegionCopy source IsSourceKey target IsTargetKey region at groups
+  pub none : IsEmptyBox region → groups ≡ []
+
+-- what is written of it: the lines of a share; there are no counts
+abbrev pub IsRegionText : Wanted → List Group → List ℕ → Type 0
+IsRegionText (lines_wanted share) groups text = text ≡ rechunking_lines share groups
+IsRegionText counts_wanted groups text = ⊥
+
+-- What a document wants of its plan, as text: of a read of a box of elements, or of all, or of a rechunking into the chunks of a box, or into all, or
+-- of the copy of a region.
 pub data IsPlanned (document : Document) (text : List ℕ) : Type 0 where
   of_read : (subset : Option Box) (clip : Bool) (asked : Box) (grid : Grid) (encoding : Encoding) (parts : List Part)
       → document.task ≡ read_of subset clip → IsStored document.stored document.shape grid encoding
@@ -53,6 +71,11 @@ pub data IsPlanned (document : Document) (text : List ℕ) : Type 0 where
       (unwrap_or chunks (all_chunks_box target.dimensions)) groups
       → IsRechunkingText document.wanted source.dimensions target.dimensions (unwrap_or chunks (all_chunks_box target.dimensions)) groups text
       → IsPlanned document text
+  of_region : (shape : List ℕ) (stored : Stored) (region : Box) (at : Option (List ℕ)) (source target : Grid)
+      (source_encoding target_encoding : Encoding) (groups : List Group) → document.task ≡ copy_to shape stored region at
+      → IsStored document.stored document.shape source source_encoding → IsStored stored shape target target_encoding
+      → IsRegionPlan source.dimensions (IsKey source_encoding) target.dimensions (IsKey target_encoding) region (begins_at region at) groups
+      → IsRegionText document.wanted groups text → IsPlanned document text
 
 -- the text that the program writes for an input
 pub record IsPlanOf (input text : List ℕ) : Type 0 where

@@ -1,4 +1,6 @@
 -- The faults of what the programs share, as a run of this program tells them.
+use Rattle.zarrs_chunk_plan.specs.declared.region_error.RegionError.{RegionError}
+use Rattle.zarrs_chunk_plan.specs.declared.region_error.RegionError.TheVariants as region
 use Rattle.programs.specs.declared.document_fault.DocumentFault.{DocumentFault}
 use Rattle.programs.specs.declared.document_fault.DocumentFault.TheVariants as document
 use Rattle.programs.specs.declared.stored.CreateFault.{CreateFault}
@@ -6,8 +8,9 @@ use Rattle.programs.specs.declared.stored.CreateFault.TheVariants as create
 use Rattle.programs.specs.declared.stream_fault.StreamFault.{StreamFault}
 use Rattle.programs.specs.declared.stream_fault.StreamFault.TheVariants as stream
 use Rattle.programs.specs.declared.chunkplan.run_fault.RunFault.{RunFault}
-use Rattle.programs.specs.declared.chunkplan.run_fault.RunFault.TheVariants.{Encoding, Grid, Memory, Metadata, Missing, NotJson, NotObject, Read}
-use Rattle.programs.specs.declared.chunkplan.run_fault.RunFault.TheVariants.{Write, WrongValue}
+use Rattle.programs.specs.declared.chunkplan.run_fault.RunFault.TheVariants.{AtDimensionality, Encoding, Grid, Memory, Metadata, Missing, NotJson}
+use Rattle.programs.specs.declared.chunkplan.run_fault.RunFault.TheVariants.{NotObject, PastArray, PastTarget, Read, SubsetDimensionality}
+use Rattle.programs.specs.declared.chunkplan.run_fault.RunFault.TheVariants.{TargetDimensionality, Write, WrongValue}
 
 abbrev pub of_stream : StreamFault → RunFault
 of_stream stream.Read = Read
@@ -26,3 +29,11 @@ abbrev pub of_create : CreateFault → RunFault
 of_create (create.Grid error) = Grid error
 of_create (create.Encoding error) = Encoding error
 of_create create.Memory = Memory
+
+-- why a region can't be copied
+abbrev pub of_region : RegionError → RunFault
+of_region (region.Region error) = SubsetDimensionality error
+of_region (region.Target error) = TargetDimensionality error
+of_region (region.At error) = AtDimensionality error
+of_region region.PastSource = PastArray
+of_region region.PastTarget = PastTarget

@@ -4,7 +4,7 @@ ghost use Rattle.zarrs_chunk_base.specs.ArraySubset.{IsBox};
 ghost use Rattle.zarrs_chunk_plan.specs.Counted.{counted};
 ghost use Rattle.zarrs_chunk_plan.specs.Rechunking.{Group};
 ghost use Rattle.zarrs_chunk_plan.specs.declared.part.Part.{Part as PartValue};
-ghost use Rattle.zarrs_chunk_plan.specs.seen.Copies.{AreGroupsToCome, CanCopy, all_targets};
+ghost use Rattle.zarrs_chunk_plan.specs.seen.Copies.{AreMovesToCome, CanMove, all_targets, region_of};
 ghost use Rattle.zarrs_chunk_plan.specs.seen.Parts.{ArePartsToCome, HasKeys, MeetSubset};
 ghost use Rattle.programs.specs.chunkplan.Line.{group_line, lines_from};
 ghost use Rattle.programs.specs.chunkplan.seen.Pieces.{text_as};
@@ -28,7 +28,7 @@ use zarrs_chunks::ChunkGridTraits;
 pub(crate) fn write_parts<G: ChunkGridTraits, E: ChunkKeyEncodingTraits, W: Write>(
     alloc: Global,
     walk: Parts<'_, G, E>,
-    form: Form,
+    form: Form<'_>,
     first: Option<u64>,
     held_back: &mut Vec<u8>,
     writer: &mut Watched<W>,
@@ -38,7 +38,7 @@ pub(crate) fn write_parts<G: ChunkGridTraits, E: ChunkKeyEncodingTraits, W: Writ
     requires keys { HasKeys (E.is_key walk.encoding.now) }
     ensures { (begin : ℕ) → first ≡ counted begin → StepLeaves
         (λ text. (parts : List PartValue) × ArePartsToCome G.dimensions E.is_key walk.entry parts
-        × (text ≡ lines_from (λ number. text_as form (counted number)) begin parts))
+        × (text ≡ lines_from (λ number. text_as form.entry (counted number)) begin parts))
         (λ _. ⊥) result
         (output W.contents held_back.old.items writer.old)
         (output W.contents held_back.new.items writer.new) }
@@ -69,14 +69,15 @@ pub(crate) fn write_copies<
     held_back: &mut Vec<u8>,
     writer: &mut Watched<W>,
 ) -> Result<(), RunFault>
-    requires can { CanCopy G.dimensions H.dimensions walk }
+    requires can { CanMove G.dimensions H.dimensions walk }
     requires is_box { IsBox walk.targets.array_subset }
+    requires region { IsBox (region_of walk) }
     requires keys { HasKeys (E.is_key walk.source.now.encoding) }
     requires target_keys { HasKeys (F.is_key walk.targets.encoding.now) }
     requires numbered { (begin : ℕ) × (first ≡ counted begin) }
     ensures { (begin : ℕ) → first ≡ counted begin → StepLeaves
         (λ text. (groups : List Group)
-        × AreGroupsToCome G.dimensions E.is_key H.dimensions F.is_key walk.entry groups
+        × AreMovesToCome G.dimensions E.is_key H.dimensions F.is_key walk.entry groups
         × (text ≡ lines_from (λ number. group_line (counted number)
         (counted (length (all_targets walk.entry)))) begin groups))
         (λ _. ⊥) result
@@ -114,7 +115,7 @@ fn write_group<G: ChunkGridTraits, E: ChunkKeyEncodingTraits, W: Write>(
 {
     let ChunkCopies { to, from } = group;
     send_text(LINE_BEGIN, held_back, writer)?;
-    write_parts(alloc, from, Form::Source, Some(0), held_back, writer)?;
+    write_parts(alloc, from, Form::Source(&to), Some(0), held_back, writer)?;
     let end = line_end(alloc, &to, number, of)?;
     send_text(&end, held_back, writer)
 }

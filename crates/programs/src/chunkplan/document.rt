@@ -1,20 +1,25 @@
 //! The program's document.
-ghost use Rattle.std.specs.Prelude.{◌≡◌, ◌⊎◌, MatchResult};
+ghost use Rattle.std.specs.Prelude.{◌≡◌, ◌⊎◌, IsSome, MatchResult, None, Some, codes};
 ghost use Rattle.serde_json.specs.Data.{Data};
+ghost use Rattle.serde_json.specs.Find.{get};
 ghost use Rattle.serde_json.specs.View.{view};
 ghost use Rattle.zarrs_chunk_base.specs.Json.{IsJsonOf};
-ghost use Rattle.programs.specs.chunkplan.Document.{Fit, FitTask, HasWanted, IsDocument, IsOfArray, IsTask, document_of, task_of, wanted_of};
-ghost use Rattle.programs.specs.chunkplan.DocumentFault.{HasWantedFault, IsFormFault, IsInputFault, IsMisfit, IsTargetMisfit, IsTaskFault};
-ghost use Rattle.programs.specs.chunkplan.DocumentFault.{IsTaskMisfit, IsUnknownFault};
-ghost use Rattle.programs.specs.chunkplan.Known.{HasOnly, known_members};
-ghost use Rattle.programs.specs.declared.chunkplan.run_fault.RunFault.TheVariants.{Memory};
+ghost use Rattle.programs.specs.Document.{HasStored};
+ghost use Rattle.programs.specs.Stored.{stored_of};
+ghost use Rattle.programs.specs.chunkplan.Document.{Fit, FitTask, HasWanted, IsDocument, IsOfArray, IsOfType, IsTask, IsTaskTo, document_of, task_of, wanted_of};
+ghost use Rattle.programs.specs.chunkplan.DocumentFault.{HasWantedFault, IsFormFault, IsInputFault, IsMisfit, IsTargetMisfit, IsTargetStoredFault};
+ghost use Rattle.programs.specs.chunkplan.DocumentFault.{IsTaskFault, IsTaskMisfit, IsTaskToFault, IsTypeMisfit, IsUnknownFault};
+ghost use Rattle.programs.specs.chunkplan.Known.{HasOnly, IsFirstUnknown, known_members, zarr_json_members};
+ghost use Rattle.programs.specs.declared.chunkplan.run_fault.RunFault.TheVariants.{Memory, UnknownOfTarget};
+ghost use Rattle.programs.specs.declared.document_fault.DocumentFault.TheVariants.{Memory as DocumentMemory};
 
 use crate::chunkplan::RunFault;
-use crate::chunkplan::boxes::member_box;
+use crate::chunkplan::boxes::{member_box, member_numbers, read_box};
 use crate::chunkplan::flag::member_flag;
-use crate::chunkplan::known_members::{DOCUMENT, ZARR_JSON, agree, check_known};
+use crate::chunkplan::known_members::{DOCUMENT, UnknownMember, ZARR_JSON, agree, check_known};
 use crate::chunkplan::share::member_share;
 use crate::document::{read_object, read_shape, required_member, take_stored};
+use crate::document_fault::DocumentFault;
 use crate::stored::Stored;
 use serde_json::Value;
 use std::alloc::Global;
@@ -31,6 +36,13 @@ pub(crate) enum Task {
     },
     /// A rechunking into the chunks of a box of chunk numbers, or into all.
     Rechunk(Stored, Option<ArraySubset>),
+    /// The copy of a region, a box of elements, to an array of this shape, to begin there at an index, or at 0.
+    Copy {
+        shape: Vec<u64>,
+        target: Stored,
+        region: ArraySubset,
+        at: Option<Vec<u64>>,
+    },
 }
 
 /// What is wanted of a plan.
@@ -55,8 +67,8 @@ pub(crate) struct Document {
 ///
 /// # Errors
 /// The first that applies: the input is no JSON, or no object; a member isn't known; one is missing; one doesn't go with the others; one isn't of its
-/// form, of `shape`, `counts`, `share`, `chunk_grid`, `chunk_key_encoding`, and of `subset` and `clip`, or of `target` and `chunks`; before its own
-/// members, the target has one that isn't known, or is of another array. Or out of memory.
+/// form, of `shape`, `counts`, `share`, `chunk_grid`, `chunk_key_encoding`, and of `subset` and `clip`, of `target` and `chunks`, or of `target`, `subset`
+/// and `at`; before its own members, the target has one that isn't known, or is of another array. Or out of memory.
 pub(crate) fn parse(alloc: Global, input: &[u8]) -> Result<Document, RunFault>
     ensures { MatchResult result
         (λ document. (tree : Data) × IsJsonOf input.now tree
@@ -77,7 +89,7 @@ fn document_from(alloc: Global, mut tree: Value) -> Result<Document, RunFault>
     required_member(&tree, "chunk_grid", "chunk_grid")?;
     required_member(&tree, "chunk_key_encoding", "chunk_key_encoding")?;
     check_fitting(&tree)?;
-    let shape = read_shape(alloc, &tree)?;
+    let shape = read_shape(alloc, &tree, "shape")?;
     let wanted = wanted_from(alloc, &tree)?;
     let stored = take_stored(alloc, &mut tree, "chunk_grid", "chunk_key_encoding")?;
     let task = task_from(alloc, tree)?;
@@ -129,11 +141,26 @@ fn check_fitting_task(tree: &Value) -> Result<(), RunFault>
     ensures { MatchResult result (λ _. FitTask (view tree.now))
         (IsTaskMisfit (view tree.now)) }
 {
-    match tree.get("target") {
-        Some(_) if tree.get("subset").is_some() => { Err(RunFault::SubsetOfTarget) }
-        Some(_) if tree.get("clip").is_some() => { Err(RunFault::ClipOfTarget) }
-        None if tree.get("chunks").is_some() => { Err(RunFault::ChunksOfNoTarget) }
-        _ => Ok(()),
+    if tree.get("target").is_none() {
+        refuse(tree, "chunks", RunFault::ChunksOfNoTarget)?;
+        return refuse(tree, "at", RunFault::AtOfNoRegion);
+    }
+    refuse(tree, "clip", RunFault::ClipOfTarget)?;
+    if tree.get("subset").is_none() {
+        refuse(tree, "at", RunFault::AtOfNoRegion)
+    } else {
+        refuse(tree, "chunks", RunFault::ChunksOfRegion)
+    }
+}
+
+/// Refuses a member of this name, by this fault.
+fn refuse(tree: &Value, field: &str, fault: RunFault) -> Result<(), RunFault>
+    ensures { MatchResult result (λ _. get field.now (view tree.now) ≡ None)
+        (λ told. (told ≡ fault) × IsSome (get field.now (view tree.now))) }
+{
+    match tree.get(field) {
+        Some(_) => Err(fault),
+        None => Ok(()),
     }
 }
 
@@ -142,11 +169,7 @@ fn check_target(alloc: Global, tree: &Value, target: &Value) -> Result<(), RunFa
     ensures { MatchResult result (λ _. IsOfArray (view tree.now) (view target.now))
         (λ fault. (fault ≡ Memory) ⊎ IsTargetMisfit (view tree.now) (view target.now) fault) }
 {
-    match check_known(alloc, target, &ZARR_JSON) {
-        Ok(()) => {}
-        Err(Refusal::Refused(member)) => return Err(RunFault::UnknownOfTarget(member)),
-        Err(Refusal::Memory(_)) => return Err(RunFault::Memory),
-    }
+    check_known_target(alloc, target)?;
     if !agree(alloc, tree, target, "shape")? {
         return Err(RunFault::OtherShape);
     }
@@ -156,12 +179,37 @@ fn check_target(alloc: Global, tree: &Value, target: &Value) -> Result<(), RunFa
     Ok(())
 }
 
+/// Refuses a target that has a member that isn't known, or another data type than the array.
+fn check_type(alloc: Global, tree: &Value, target: &Value) -> Result<(), RunFault>
+    ensures { MatchResult result (λ _. IsOfType (view tree.now) (view target.now))
+        (λ fault. (fault ≡ Memory) ⊎ IsTypeMisfit (view tree.now) (view target.now) fault) }
+{
+    check_known_target(alloc, target)?;
+    if !agree(alloc, tree, target, "data_type")? {
+        return Err(RunFault::OtherDataType);
+    }
+    Ok(())
+}
+
+/// Refuses a target that has a member that isn't known.
+fn check_known_target(alloc: Global, target: &Value) -> Result<(), RunFault>
+    ensures { MatchResult result (λ _. HasOnly zarr_json_members (view target.now))
+        (λ fault. (fault ≡ Memory) ⊎ ((told : UnknownMember) × (fault ≡ UnknownOfTarget told)
+        × IsFirstUnknown zarr_json_members (view target.now) told)) }
+{
+    match check_known(alloc, target, &ZARR_JSON) {
+        Ok(()) => Ok(()),
+        Err(Refusal::Refused(member)) => Err(RunFault::UnknownOfTarget(member)),
+        Err(Refusal::Memory(_)) => Err(RunFault::Memory),
+    }
+}
+
 /// What a tree asks for.
 fn task_from(alloc: Global, mut tree: Value) -> Result<Task, RunFault>
     ensures { MatchResult result (λ task. IsTask (view tree) (task_of task))
         (λ fault. (fault ≡ Memory) ⊎ IsTaskFault (view tree) fault) }
 {
-    let Some(mut target) = take_member(&mut tree, "target") else {
+    let Some(target) = take_member(&mut tree, "target") else {
         let subset = member_box(alloc, &tree, "subset")?;
         let clip = member_flag(&tree, "clip")?;
         return Ok(Task::Read { subset, clip });
@@ -169,12 +217,67 @@ fn task_from(alloc: Global, mut tree: Value) -> Result<Task, RunFault>
     if !target.is_object() {
         return Err(RunFault::WrongValue("target"));
     }
-    check_target(alloc, &tree, &target)?;
-    let stored = take_stored(
+    task_to(alloc, &tree, target)
+}
+
+/// What a tree asks for with this target.
+fn task_to(alloc: Global, tree: &Value, target: Value) -> Result<Task, RunFault>
+    ensures { MatchResult result
+        (λ task. IsTaskTo (view tree.now) (view target) (task_of task))
+        (λ fault. (fault ≡ Memory) ⊎ IsTaskToFault (view tree.now) (view target) fault) }
+{
+    match tree.get("subset") {
+        Some(subset) => region_to(alloc, tree, target, subset),
+        None => rechunking_to(alloc, tree, target),
+    }
+}
+
+/// The rechunking that a tree asks for with this target.
+fn rechunking_to(alloc: Global, tree: &Value, mut target: Value) -> Result<Task, RunFault>
+    requires { get (codes "subset") (view tree.now) ≡ None }
+    ensures { MatchResult result
+        (λ task. IsTaskTo (view tree.now) (view target) (task_of task))
+        (λ fault. (fault ≡ Memory) ⊎ IsTaskToFault (view tree.now) (view target) fault) }
+{
+    check_target(alloc, tree, &target)?;
+    let stored = take_target(alloc, &mut target)?;
+    Ok(Task::Rechunk(stored, member_box(alloc, tree, "chunks")?))
+}
+
+/// The copy of a region that a tree asks for with this target, of which this is the `subset`.
+fn region_to(
+    alloc: Global,
+    tree: &Value,
+    mut target: Value,
+    subset: &Value,
+) -> Result<Task, RunFault>
+    requires { get (codes "subset") (view tree.now) ≡ Some (view subset.now) }
+    ensures { MatchResult result
+        (λ task. IsTaskTo (view tree.now) (view target) (task_of task))
+        (λ fault. (fault ≡ Memory) ⊎ IsTaskToFault (view tree.now) (view target) fault) }
+{
+    check_type(alloc, tree, &target)?;
+    let shape = read_shape(alloc, &target, "target.shape")?;
+    let target = take_target(alloc, &mut target)?;
+    let region = read_box(alloc, subset, "subset")?;
+    let at = member_numbers(alloc, tree, "at")?;
+    Ok(Task::Copy {
+        shape,
+        target,
+        region,
+        at,
+    })
+}
+
+/// How a target says that it is stored, which is taken out of it.
+fn take_target(alloc: Global, target: &mut Value) -> Result<Stored, DocumentFault>
+    ensures { MatchResult result (λ stored. HasStored (view target.old) (stored_of stored))
+        (λ fault. (fault ≡ DocumentMemory) ⊎ IsTargetStoredFault (view target.old) fault) }
+{
+    take_stored(
         alloc,
-        &mut target,
+        target,
         "target.chunk_grid",
         "target.chunk_key_encoding",
-    )?;
-    Ok(Task::Rechunk(stored, member_box(alloc, &tree, "chunks")?))
+    )
 }

@@ -26,7 +26,7 @@ pub(crate) const ZARR_JSON: [&str; 11] = [
 ];
 
 /// What a document may have.
-pub(crate) const DOCUMENT: [&str; 17] = [
+pub(crate) const DOCUMENT: [&str; 18] = [
     "attributes",
     "chunk_grid",
     "chunk_key_encoding",
@@ -38,6 +38,7 @@ pub(crate) const DOCUMENT: [&str; 17] = [
     "shape",
     "storage_transformers",
     "zarr_format",
+    "at",
     "chunks",
     "clip",
     "counts",
@@ -91,7 +92,7 @@ pub(crate) fn check_known(
     }
 }
 
-/// How many letters at most are put in, left out or exchanged between a name and one that is near.
+/// How many letters at most are put in, left out or exchanged between a name and one that is near, and no more than half of that one's.
 const MOST_EDITS: usize = 2;
 
 /// How long a name is at most for which a near one is sought, in bytes.
@@ -113,7 +114,7 @@ fn nearest(
     }
     for other in known {
         let edits = levenshtein(alloc, name, other)?;
-        if edits < fewest {
+        if edits < fewest && 2 * edits <= other.len() {
             fewest = edits;
             near = Some(*other);
         }

@@ -10,18 +10,18 @@ ghost use Rattle.programs.specs.chunkplan.seen.Pieces.{comma_before, end_of_line
 use json::{Token, Writer};
 use std::alloc::{AllocError, Global};
 use zarrs_chunk_base::{ArraySubset, StoreKey};
-use zarrs_chunk_plan::Part;
+use zarrs_chunk_plan::{Part, place_in_target};
 
 /// How many bytes a line is given room for at first.
 const LINE_LEN: usize = 192;
 
 /// How a part is written.
 #[derive(Clone, Copy)]
-pub(crate) enum Form {
+pub(crate) enum Form<'a> {
     /// As a line of a read, of so many lines.
     Line(Option<u64>),
-    /// As one of the sources of a chunk of the target.
-    Source,
+    /// As one of the sources of this part of a chunk of the target.
+    Source(&'a Part),
 }
 
 /// How the line of a chunk of the target begins.
@@ -35,13 +35,13 @@ pub(crate) fn part_text(
     alloc: Global,
     part: &Part,
     number: Option<u64>,
-    form: Form,
+    form: Form<'_>,
 ) -> Result<Vec<u8>, AllocError>
-    ensures { IfOk result (λ text. text.items ≡ text_as form number part.now) }
+    ensures { IfOk result (λ text. text.items ≡ text_as form.entry number part.now) }
 {
     match form {
         Form::Line(of) => part_line(alloc, part, number, of),
-        Form::Source => source_text(alloc, part, number),
+        Form::Source(to) => source_text(alloc, part, number, to),
     }
 }
 
@@ -68,16 +68,22 @@ fn part_line(
     ended(json)
 }
 
-/// What a chunk of the target gets of one of the source, with a comma before it where it isn't the first.
-fn source_text(alloc: Global, part: &Part, number: Option<u64>) -> Result<Vec<u8>, AllocError>
-    ensures { IfOk result (λ text. text.items
-        ≡ comma_before number ++ print (json_tokens (source_json part.now))) }
+/// What a chunk of the target, of which this is the part that is written, gets of one of the source, with a comma before it where it isn't the first.
+fn source_text(
+    alloc: Global,
+    part: &Part,
+    number: Option<u64>,
+    to: &Part,
+) -> Result<Vec<u8>, AllocError>
+    ensures { IfOk result (λ text. text.items ≡ comma_before number
+        ++ print (json_tokens (source_json to.now.in_chunk.start part.now))) }
 {
+    let place = place_in_target(alloc, to, part)?;
     let mut json = Writer::new(begin_source(alloc, number)?);
     json.begin_object()?;
     write_numbers(&mut json, "chunk", part.chunk.as_slice())?;
     write_box(&mut json, "in_chunk", &part.in_chunk)?;
-    write_box(&mut json, "in_target", &part.in_subset)?;
+    write_box(&mut json, "in_target", &place)?;
     write_key(&mut json, &part.key)?;
     write_numbers(&mut json, "shape", part.shape.as_slice())?;
     json.end_object()?;

@@ -1,18 +1,19 @@
 //! The plan that a document asks for.
-ghost use Rattle.std.specs.Prelude.{◌≡◌, ◌⊎◌, false, IfErr, IfOk, List, length, unwrap_or};
-ghost use Rattle.zarrs_chunk_base.specs.ArraySubset.{Box};
+ghost use Rattle.std.specs.Prelude.{◌≡◌, ◌⊎◌, false, IfErr, IfOk, List, length, option_map, replicate, unwrap_or};
+ghost use Rattle.zarrs_chunk_base.specs.ArraySubset.{Box, IsBox};
 ghost use Rattle.zarrs_chunk_base.specs.Dimension.{array_sizes};
 ghost use Rattle.zarrs_chunk_keys.specs.seen.Encodings.{encoding_in};
 ghost use Rattle.zarrs_chunks.specs.seen.Grids.{grid_in};
 ghost use Rattle.zarrs_chunk_plan.specs.Rechunking.{Group, IsRechunking, all_chunks_box, array_box};
 ghost use Rattle.zarrs_chunk_plan.specs.declared.part.Part.{Part as PartValue};
+ghost use Rattle.zarrs_chunk_plan.specs.seen.Copies.{AreMovesToCome, CanMove, all_targets, region_of, targets_to_come};
 ghost use Rattle.zarrs_chunk_plan.specs.seen.Parts.{HasKeys};
 ghost use Rattle.programs.specs.Stored.{IsStored, stored_of};
 ghost use Rattle.programs.specs.chunkplan.CountsLine.{IsCountsLine};
 ghost use Rattle.programs.specs.chunkplan.Document.{counts_wanted, document_of, wanted_of};
 ghost use Rattle.programs.specs.chunkplan.Line.{read_lines, rechunking_lines};
-ghost use Rattle.programs.specs.chunkplan.PlanFault.{IsChunksFault, IsPlanFault, IsReadFault, IsTargetFault};
-ghost use Rattle.programs.specs.chunkplan.Planned.{IsAsked, IsPlanned, IsReadPlan, IsReadText, IsRechunkingText};
+ghost use Rattle.programs.specs.chunkplan.PlanFault.{IsChunksFault, IsCopyFault, IsPlanFault, IsReadFault, IsTargetFault};
+ghost use Rattle.programs.specs.chunkplan.Planned.{IsAsked, IsPlanned, IsReadPlan, IsReadText, IsRechunkingText, IsRegionPlan, IsRegionText};
 ghost use Rattle.programs.specs.chunkplan.seen.Steps.{StepLeaves};
 ghost use Rattle.programs.specs.declared.chunkplan.run_fault.RunFault.TheVariants.{Memory};
 ghost use Rattle.programs.specs.seen.Sent.{output};
@@ -29,16 +30,16 @@ use std::io::Write;
 use zarrs_chunk_base::{ArraySubset, IncompatibleDimensionalityError, Refusal};
 use zarrs_chunk_keys::{ChunkKeyEncoding, ChunkKeyEncodingTraits};
 use zarrs_chunk_plan::{
-    Counts, Share, StoredArray, all_chunks, copies, counts_of_read, counts_of_rechunking, parts,
-    whole_array,
+    Copies, Counts, Share, StoredArray, all_chunks, copies, copies_of_region, counts_of_read,
+    counts_of_rechunking, parts, whole_array,
 };
 use zarrs_chunks::{ChunkGrid, ChunkGridTraits};
 
 /// Sends the plan that a document asks for, line by line.
 ///
 /// # Errors
-/// The grid or the encoding can't be made, or those of the target; the box has another number of dimensions, or no cover, where it isn't clipped; a
-/// write failed; or out of memory. Nothing has been written where it is none of the last two.
+/// The grid or the encoding can't be made, or those of the target; the box has another number of dimensions, or no cover, where it isn't clipped; the
+/// region doesn't fit the two arrays; a write failed; or out of memory. Nothing has been written where it is none of the last two.
 pub(crate) fn write_plan<W: Write>(
     alloc: Global,
     document: Document,
@@ -67,6 +68,18 @@ pub(crate) fn write_plan<W: Write>(
             let chunks = or_all_chunks(alloc, chunks, &target.grid)?;
             write_rechunking(alloc, &array, &target, &chunks, &wanted, held_back, writer)
         }
+        Task::Copy {
+            shape,
+            target,
+            region,
+            at,
+        } => {
+            let target = open_target(alloc, target, &shape)?;
+            let at = or_zeros(alloc, at, region.dimensionality())?;
+            write_region(
+                alloc, &array, &target, &region, &at, &wanted, held_back, writer,
+            )
+        }
     }
 }
 
@@ -88,6 +101,25 @@ fn open_target(
         Err(CreateFault::Grid(error)) => Err(RunFault::TargetGrid(error)),
         Err(CreateFault::Encoding(error)) => Err(RunFault::TargetEncoding(error)),
         Err(CreateFault::Memory) => Err(RunFault::Memory),
+    }
+}
+
+/// The numbers, or so many zeros.
+fn or_zeros(
+    alloc: Global,
+    numbers: Option<Vec<u64>>,
+    len: usize,
+) -> Result<Vec<u64>, AllocError>
+    ensures { IfOk result (λ v. v.items
+        ≡ unwrap_or (option_map (λ ns. ns.items) numbers) (replicate len 0)) }
+{
+    match numbers {
+        Some(numbers) => Ok(numbers),
+        None => {
+            let mut zeros = Vec::with_capacity(alloc, len)?;
+            zeros.resize(len, 0)?;
+            Ok(zeros)
+        }
     }
 }
 
@@ -377,11 +409,81 @@ fn write_groups<
         (output W.contents held_back.new.items writer.new) }
 {
     match copies(alloc, source, target, chunks) {
-        Ok(mut walk) => {
-            let first = walk.share(share)?;
-            write_copies(alloc, walk, first, held_back, writer)
-        }
+        Ok(walk) => write_share(alloc, walk, share, held_back, writer),
         Err(Refusal::Refused(error)) => Err(RunFault::Copies(error)),
         Err(Refusal::Memory(_)) => Err(RunFault::Memory),
+    }
+}
+
+/// Sends the lines of a share of all that a walk gives which is at its beginning.
+fn write_share<
+    G: ChunkGridTraits,
+    E: ChunkKeyEncodingTraits,
+    H: ChunkGridTraits,
+    F: ChunkKeyEncodingTraits,
+    W: Write,
+>(
+    alloc: Global,
+    mut walk: Copies<'_, G, E, H, F>,
+    share: &Share,
+    held_back: &mut Vec<u8>,
+    writer: &mut Watched<W>,
+) -> Result<(), RunFault>
+    requires can { CanMove G.dimensions H.dimensions walk }
+    requires is_box { IsBox walk.targets.array_subset }
+    requires region { IsBox (region_of walk) }
+    requires all { all_targets walk ≡ targets_to_come walk }
+    requires keys { HasKeys (E.is_key walk.source.now.encoding) }
+    requires target_keys { HasKeys (F.is_key walk.targets.encoding.now) }
+    ensures { StepLeaves
+        (λ text. (groups : List Group)
+        × AreMovesToCome G.dimensions E.is_key H.dimensions F.is_key walk.entry groups
+        × (text ≡ rechunking_lines share.now groups))
+        (λ _. ⊥) result
+        (output W.contents held_back.old.items writer.old)
+        (output W.contents held_back.new.items writer.new) }
+{
+    let first = walk.share(share)?;
+    write_copies(alloc, walk, first, held_back, writer)
+}
+
+/// Sends what is wanted of the plan of the copy of a region.
+fn write_region<
+    G: ChunkGridTraits,
+    E: ChunkKeyEncodingTraits,
+    H: ChunkGridTraits,
+    F: ChunkKeyEncodingTraits,
+    W: Write,
+>(
+    alloc: Global,
+    source: &StoredArray<G, E>,
+    target: &StoredArray<H, F>,
+    region: &ArraySubset,
+    at: &[u64],
+    wanted: &Wanted,
+    held_back: &mut Vec<u8>,
+    writer: &mut Watched<W>,
+) -> Result<(), RunFault>
+    requires keys { HasKeys (E.is_key source.now.encoding) }
+    requires target_keys { HasKeys (F.is_key target.now.encoding) }
+    ensures { StepLeaves
+        (λ text. (groups : List Group)
+        × IsRegionPlan (G.dimensions source.now.grid) (E.is_key source.now.encoding)
+        (H.dimensions target.now.grid) (F.is_key target.now.encoding) region.now at.now groups
+        × IsRegionText (wanted_of wanted.now) groups text)
+        (IsCopyFault (wanted_of wanted.now) (G.dimensions source.now.grid)
+        (H.dimensions target.now.grid) region.now at.now) result
+        (output W.contents held_back.old.items writer.old)
+        (output W.contents held_back.new.items writer.new) }
+{
+    region.is_a_box();
+    let walk = match copies_of_region(alloc, source, target, region, at) {
+        Ok(walk) => walk,
+        Err(Refusal::Refused(error)) => return Err(RunFault::from(error)),
+        Err(Refusal::Memory(_)) => return Err(RunFault::Memory),
+    };
+    match wanted {
+        Wanted::Lines(share) => write_share(alloc, walk, share, held_back, writer),
+        Wanted::Counts => Err(RunFault::CountsOfRegion),
     }
 }

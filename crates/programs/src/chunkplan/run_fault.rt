@@ -1,6 +1,6 @@
 //! Why a run of the program stops.
 ghost use Rattle.std.specs.Prelude.{◌≡◌};
-ghost use Rattle.programs.specs.chunkplan.RunFault.{of_create, of_document, of_stream};
+ghost use Rattle.programs.specs.chunkplan.RunFault.{of_create, of_document, of_region, of_stream};
 ghost use Rattle.programs.specs.declared.chunkplan.run_fault.RunFault.TheVariants.{Memory};
 
 use crate::chunkplan::known_members::UnknownMember;
@@ -12,7 +12,7 @@ use thiserror::Error;
 use zarrs_chunk_base::{
     ArraySubsetError, IncompatibleDimensionalityError, MetadataError, PluginCreateError,
 };
-use zarrs_chunk_plan::CopiesError;
+use zarrs_chunk_plan::{CopiesError, RegionError};
 
 /// Why a run stops. Nothing has been written, except on `Write`, and on `Memory`, where a beginning of the plan may have been.
 #[derive(Debug, Drop, Error)]
@@ -44,9 +44,12 @@ pub enum RunFault {
     /// The document has a box of the target's chunks, and no target.
     #[error("field `chunks` is for a rechunking: give a `target` too, or leave it out")]
     ChunksOfNoTarget,
-    /// The document has a box of elements, and a target.
-    #[error("field `subset` is for a read: leave out `target`, or leave it out")]
-    SubsetOfTarget,
+    /// The document has a box of the target's chunks, and a region.
+    #[error("field `chunks` is for a rechunking of a whole array: leave out `subset`, or leave it out")]
+    ChunksOfRegion,
+    /// The document says where a region begins in the target's array, and has no region, or no target.
+    #[error("field `at` is for the copy of a region: give `subset` and `target` too, or leave it out")]
+    AtOfNoRegion,
     /// The document says whether the box that it reads is clipped, and has a target.
     #[error("field `clip` is for a read: leave out `target`, or leave it out")]
     ClipOfTarget,
@@ -60,7 +63,7 @@ pub enum RunFault {
     #[error("field `target.shape`: it isn't the array's: a rechunking keeps the shape")]
     OtherShape,
     /// The target has another data type than the array.
-    #[error("field `target.data_type`: it isn't the array's: a rechunking keeps the data type")]
+    #[error("field `target.data_type`: it isn't the array's: a copy keeps the data type")]
     OtherDataType,
     /// The document's chunk grid can't be made.
     #[error(transparent)]
@@ -80,6 +83,21 @@ pub enum RunFault {
     /// The first or the last element of the box lies in no chunk.
     #[error("field `subset`: it reaches past the chunks of the grid")]
     Uncovered,
+    /// The target's array has another number of dimensions than the array.
+    #[error("field `target`: {0}")]
+    TargetDimensionality(IncompatibleDimensionalityError),
+    /// The index at which the region begins in the target's array has another number of dimensions than the array.
+    #[error("field `at`: {0}")]
+    AtDimensionality(IncompatibleDimensionalityError),
+    /// The region doesn't lie in the array.
+    #[error("field `subset`: it ends past the array: start plus shape is to be at most the array shape")]
+    PastArray,
+    /// The region doesn't lie in the target's array where it goes.
+    #[error("field `at`: the box ends past the target's array: `at` plus the box's shape is to be at most that array's shape")]
+    PastTarget,
+    /// The document asks for the counts of the copy of a region.
+    #[error("field `counts` is for a read or a rechunking: leave out `subset`, or leave it out")]
+    CountsOfRegion,
     /// The box of the target's chunks has another number of dimensions than the target.
     #[error(transparent)]
     Copies(CopiesError),
@@ -134,6 +152,20 @@ impl From<CreateFault> for RunFault {
             CreateFault::Grid(error) => RunFault::Grid(error),
             CreateFault::Encoding(error) => RunFault::Encoding(error),
             CreateFault::Memory => RunFault::Memory,
+        }
+    }
+}
+
+impl From<RegionError> for RunFault {
+    ghost from_gives = { λ told fault. fault ≡ of_region told };
+
+    fn from(told: RegionError) -> RunFault {
+        match told {
+            RegionError::Region(error) => RunFault::SubsetDimensionality(error),
+            RegionError::Target(error) => RunFault::TargetDimensionality(error),
+            RegionError::At(error) => RunFault::AtDimensionality(error),
+            RegionError::PastSource => RunFault::PastArray,
+            RegionError::PastTarget => RunFault::PastTarget,
         }
     }
 }

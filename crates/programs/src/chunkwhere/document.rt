@@ -44,7 +44,7 @@ fn document_from(alloc: Global, mut tree: Value) -> Result<Document, RunFault>
     required_member(&tree, "chunk_grid", "chunk_grid")?;
     required_member(&tree, "chunk_key_encoding", "chunk_key_encoding")?;
     required_member(&tree, "indices", "indices")?;
-    let shape = read_shape(alloc, &tree)?;
+    let shape = read_shape(alloc, &tree, "shape")?;
     let stored = take_stored(alloc, &mut tree, "chunk_grid", "chunk_key_encoding")?;
     let keys = read_keys(alloc, &tree)?;
     let Some(indices) = take_indices(alloc, tree)? else {

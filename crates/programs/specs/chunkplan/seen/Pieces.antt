@@ -13,10 +13,14 @@ abbrev pub comma_before : Option ℕ → List ℕ
 comma_before (Some zero) = []
 comma_before _ = codes ","
 
--- the text of a part in one form, by its number: as a line of a read, or as a source in a line of a rechunking
+-- the text of a source, by its number, of this part of a chunk of the target
+abbrev pub source_text : (to : Part) → Option ℕ → Part → List ℕ
+source_text to at from = comma_before at ++ print (json_tokens (source_json to.in_chunk.start from))
+
+-- the text of a part in one form, by its number: as a line of a read, or as a source in the line of a chunk of the target
 abbrev pub text_as : Form → Option ℕ → Part → List ℕ
 text_as (Line of) at part = line_of (part_json at of part)
-text_as Source at part = comma_before at ++ print (json_tokens (source_json part))
+text_as (Source to) at part = source_text to.now at part
 
 -- the end of the line of a chunk of the target
 abbrev pub end_of_line : (at of : Option ℕ) → Part → List ℕ

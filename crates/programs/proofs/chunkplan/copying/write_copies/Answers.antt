@@ -3,13 +3,13 @@ use Rattle.std.proofs.lemmas.Result.{err_from_is_err_and}
 use Rattle.zarrs_chunk_plan.specs.Counted.{counted}
 use Rattle.zarrs_chunk_plan.specs.Rechunking.{Group}
 use Rattle.zarrs_chunk_plan.specs.declared.part.Part.{Part}
-use Rattle.zarrs_chunk_plan.specs.seen.Copies.{AreGroupsToCome, all_targets}
+use Rattle.zarrs_chunk_plan.specs.seen.Copies.{AreMovesToCome, all_targets}
 use Rattle.zarrs_chunk_plan.specs.seen.Parts.{ArePartsToCome}
-use Rattle.zarrs_chunk_plan.proofs.Copied.{GroupsHaveCome, first_group, last_group, one_more_group}
+use Rattle.zarrs_chunk_plan.proofs.Copied.{MovesHaveCome, first_move, last_move, one_more_move}
 use Rattle.programs.specs.chunkplan.Line.{group_line}
 use Rattle.programs.specs.seen.Sent.{Output, output}
 use Rattle.programs.proofs.Sent.{sends_nothing}
-use Rattle.programs.proofs.chunkplan.Begun.{groups_ahead}
+use Rattle.programs.proofs.chunkplan.Begun.{moves_ahead}
 use Rattle.programs.proofs.chunkplan.Numbered.{IsLineOf, way_ends, way_goes_on, way_memory, way_stops}
 use Rattle.programs.proofs.chunkplan.Steps.{step_follows}
 use Rattle.programs.proofs.chunkplan.copying.write_copies.Goals as goal
@@ -22,7 +22,7 @@ loop-group-init g c = λ begin is_first. (
     [],
     (
       [],
-      first_group g.G.ChunkGridTraits.dimensions g.E.ChunkKeyEncodingTraits.is_key g.H.ChunkGridTraits.dimensions g.F.ChunkKeyEncodingTraits.is_key
+      first_move g.G.ChunkGridTraits.dimensions g.E.ChunkKeyEncodingTraits.is_key g.H.ChunkGridTraits.dimensions g.F.ChunkKeyEncodingTraits.is_key
           c.args.walk c.into_iter-group-iterator.result [] c.into_iter-group-iterator.ensures.into_iter_gives refl c.requires.can,
       omega arith,
       refl,
@@ -45,14 +45,14 @@ loop-group-preserved g c = λ begin is_first.
       suc n,
       c.following-number.ensures n number_is,
       way_goes_on (λ n. group_line (counted n) (counted (length (all_targets c.args.walk)))) begin
-          (GroupsHaveCome dimensions is_key also also_key c.args.walk c.loop-group.group-iterator)
-          (GroupsHaveCome dimensions is_key also also_key c.args.walk c.next.new.self) (λ _. ⊥)
+          (MovesHaveCome dimensions is_key also also_key c.args.walk c.loop-group.group-iterator)
+          (MovesHaveCome dimensions is_key also also_key c.args.walk c.next.new.self) (λ _. ⊥)
           (λ y. (from : List Part) × ArePartsToCome dimensions is_key group.from from × (y ≡ (group.to, from))) n
           (output g.W.Write.contents c.args.held_back.now.items c.args.writer.now)
           (output g.W.Write.contents c.loop-group.held_back.items c.loop-group.writer)
           (output g.W.Write.contents c.write_group.new.held_back.items c.write_group.new.writer) sent
           (λ came y have (from, are, same).
-          one_more_group dimensions is_key also also_key c.args.walk c.loop-group.group-iterator c.next.new.self group
+          one_more_move dimensions is_key also also_key c.args.walk c.loop-group.group-iterator c.next.new.self group
           from came (came ++ y ∷ []) have gives are (rw same refl)) (
             text,
             (
@@ -67,19 +67,19 @@ loop-group-preserved g c = λ begin is_first.
 
 pub write_group-requires-clause-meet : goal.write_group-requires-clause-meet
 write_group-requires-clause-meet g c =
-    let (n, number_is, (text, (came, (chunks, left, are, about, can), many, lines), sends, same)) =
+    let (n, number_is, (text, (came, (chunks, left, are, about, (same_first, can)), many, lines), sends, same)) =
     c.loop-group.invariant c.requires.numbered.0 c.requires.numbered.1
     in
     let gives = rw c.in_ok-group.was at c.in-Some.ensures.steps in
-    (gives.from can).meet
+    (gives.moved_from can).meet
 
 pub write_group-requires-clause-keys : goal.write_group-requires-clause-keys
 write_group-requires-clause-keys g c =
-    let (n, number_is, (text, (came, (chunks, left, are, about, can), many, lines), sends, same)) =
+    let (n, number_is, (text, (came, (chunks, left, are, about, (same_first, can)), many, lines), sends, same)) =
     c.loop-group.invariant c.requires.numbered.0 c.requires.numbered.1
     in
     let gives = rw c.in_ok-group.was at c.in-Some.ensures.steps in
-    rw ((gives.from can).about.same_encoding, about.same_source) c.requires.keys
+    rw ((gives.moved_from can).about.same_encoding, about.same_source) c.requires.keys
 
 -- ---- where it stops
 
@@ -89,9 +89,9 @@ returns-in_err-group g c = λ begin is_first.
     let (n, number_is, sent) = c.loop-group.invariant begin is_first in
     rw (p.1, p.2)
     (way_memory (λ n. group_line (counted n) (counted (length (all_targets c.args.walk)))) begin _ _ n _ _ sent
-    (groups_ahead g.G.ChunkGridTraits.dimensions g.E.ChunkKeyEncodingTraits.is_key g.H.ChunkGridTraits.dimensions g.F.ChunkKeyEncodingTraits.is_key
+    (moves_ahead g.G.ChunkGridTraits.dimensions g.E.ChunkKeyEncodingTraits.is_key g.H.ChunkGridTraits.dimensions g.F.ChunkKeyEncodingTraits.is_key
     c.args.walk (g.met.G.ChunkGridTraits.chained c.args.walk.source.now.grid) (g.met.H.ChunkGridTraits.chained c.args.walk.targets.grid.now)
-    c.requires.keys c.requires.target_keys c.requires.is_box c.loop-group.group-iterator))
+    c.requires.keys c.requires.target_keys c.requires.is_box c.requires.region c.requires.can c.loop-group.group-iterator))
 
 pub returns-in_err-write_group : goal.returns-in_err-write_group
 returns-in_err-write_group g c = λ begin is_first.
@@ -108,13 +108,14 @@ returns-in_err-write_group g c = λ begin is_first.
     let of = counted (length (all_targets c.args.walk)) in
     let Line : ℕ → Group → List ℕ = λ n. group_line (counted n) of in
     let IsOne : Group → Type 0 = λ y. (from : List Part) × ArePartsToCome dimensions is_key group.from from × (y ≡ (group.to, from)) in
-    let ahead = groups_ahead dimensions is_key also also_key c.args.walk (g.met.G.ChunkGridTraits.chained c.args.walk.source.now.grid)
-    (g.met.H.ChunkGridTraits.chained c.args.walk.targets.grid.now) c.requires.keys c.requires.target_keys c.requires.is_box in
+    let ahead = moves_ahead dimensions is_key also also_key c.args.walk (g.met.G.ChunkGridTraits.chained c.args.walk.source.now.grid)
+    (g.met.H.ChunkGridTraits.chained c.args.walk.targets.grid.now) c.requires.keys c.requires.target_keys c.requires.is_box c.requires.region
+    c.requires.can in
     rw (p.1, p.2)
-    (way_stops Line begin (GroupsHaveCome dimensions is_key also also_key c.args.walk c.loop-group.group-iterator)
-    (GroupsHaveCome dimensions is_key also also_key c.args.walk c.next.new.self) (AreGroupsToCome dimensions is_key also also_key c.args.walk) IsOne n
+    (way_stops Line begin (MovesHaveCome dimensions is_key also also_key c.args.walk c.loop-group.group-iterator)
+    (MovesHaveCome dimensions is_key also also_key c.args.walk c.next.new.self) (AreMovesToCome dimensions is_key also also_key c.args.walk) IsOne n
     (output g.W.Write.contents c.args.held_back.now.items c.args.writer.now) between after sent
-    (λ came y have (from, are, same). one_more_group dimensions is_key also also_key c.args.walk c.loop-group.group-iterator c.next.new.self group
+    (λ came y have (from, are, same). one_more_move dimensions is_key also also_key c.args.walk c.loop-group.group-iterator c.next.new.self group
     from came (came ++ y ∷ []) have gives are (rw same refl))
     (ahead c.loop-group.group-iterator) (ahead c.next.new.self) _
     (step_follows _ (IsLineOf Line begin IsOne n) (λ _. ⊥) (λ _. ⊥)
@@ -130,5 +131,5 @@ pub returns : goal.returns
 returns g c = λ begin is_first.
     let (n, number_is, sent) = c.loop-group.invariant begin is_first in
     way_ends (λ n. group_line (counted n) (counted (length (all_targets c.args.walk)))) begin _ _ n _ _ sent
-    (λ came have. last_group g.G.ChunkGridTraits.dimensions g.E.ChunkKeyEncodingTraits.is_key g.H.ChunkGridTraits.dimensions
+    (λ came have. last_move g.G.ChunkGridTraits.dimensions g.E.ChunkKeyEncodingTraits.is_key g.H.ChunkGridTraits.dimensions
     g.F.ChunkKeyEncodingTraits.is_key c.args.walk c.loop-group.group-iterator c.next.new.self came have c.in-None.ensures.steps)

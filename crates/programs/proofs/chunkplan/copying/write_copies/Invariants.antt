@@ -1,5 +1,5 @@
 use Rattle.std.proofs.Common.{◌≡◌, ℕ, length}
-use Rattle.zarrs_chunk_plan.proofs.Copied.{GroupsHaveCome}
+use Rattle.zarrs_chunk_plan.proofs.Copied.{MovesHaveCome}
 use Rattle.zarrs_chunk_plan.specs.Counted.{counted}
 use Rattle.zarrs_chunk_plan.specs.seen.Copies.{all_targets}
 use Rattle.programs.specs.chunkplan.Line.{group_line}
@@ -14,6 +14,6 @@ invariant-loop-group g l =
     (begin : ℕ) → l.fn.first ≡ counted begin → (n : ℕ) × (l.number ≡ counted n)
     × HasSent
     (Came (λ n. group_line (counted n) (counted (length (all_targets l.fn.walk)))) begin
-    (GroupsHaveCome g.G.ChunkGridTraits.dimensions g.E.ChunkKeyEncodingTraits.is_key g.H.ChunkGridTraits.dimensions g.F.ChunkKeyEncodingTraits.is_key
+    (MovesHaveCome g.G.ChunkGridTraits.dimensions g.E.ChunkKeyEncodingTraits.is_key g.H.ChunkGridTraits.dimensions g.F.ChunkKeyEncodingTraits.is_key
     l.fn.walk l.group-iterator) n)
     (output g.W.Write.contents l.initial.held_back.items l.initial.writer) (output g.W.Write.contents l.held_back.items l.writer)

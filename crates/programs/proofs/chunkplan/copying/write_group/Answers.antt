@@ -9,8 +9,7 @@ use Rattle.zarrs_chunk_plan.specs.declared.walk.Parts.{Parts}
 use Rattle.zarrs_chunk_plan.specs.seen.Parts.{ArePartsToCome, HasKeys, MeetSubset}
 use Rattle.zarrs_chunk_plan.proofs.Walked.{at_first}
 use Rattle.programs.specs.chunkplan.Line.{group_line, lines_from}
-use Rattle.programs.specs.chunkplan.seen.Pieces.{end_of_line, text_as}
-use Rattle.programs.specs.declared.chunkplan.line.Form.TheVariants.{Source}
+use Rattle.programs.specs.chunkplan.seen.Pieces.{end_of_line, source_text}
 use Rattle.programs.specs.seen.Sent.{output}
 use Rattle.programs.proofs.chunkplan.Begun.{parts_ahead}
 use Rattle.programs.proofs.chunkplan.Behind.{Begins, Behind, ends_behind, memory_after, sent_behind, stops_behind, stops_whole}
@@ -23,41 +22,41 @@ use Rattle.programs.proofs.chunkplan.copying.write_group.Goals as goal
 abbrev Head : List ℕ → Type 0
 Head text = text ≡ codes "{\"from\":["
 
-module _ (AreAll : List Part → Type 0) where
+module _ (AreAll : List Part → Type 0) (to : Part) where
   abbrev Sources : List ℕ → Type 0
-  Sources = IsTextOf (λ n. text_as Source (counted n)) 0 AreAll
+  Sources = IsTextOf (λ n. source_text to (counted n)) 0 AreAll
 
-  module _ (at of : Option ℕ) (to : Part) where
+  module _ (at of : Option ℕ) where
     abbrev IsLine : List ℕ → Type 0
     IsLine text = (from : List Part) × AreAll from × (text ≡ group_line at of (to, from))
 
     head_begins : (from : List Part) → AreAll from → Begins Head IsLine
     head_begins from are text is = (
-      lines_from (λ n. text_as Source (counted n)) 0 from ++ end_of_line at of to,
+      lines_from (λ n. source_text to (counted n)) 0 from ++ end_of_line at of to,
       (
         from,
         are,
-        rw is (sym (append_assoc (codes "{\"from\":[") (lines_from (λ n. text_as Source (counted n)) 0 from) (end_of_line at of to)))
-            ∙ sym (in_pieces at of to from),
+        rw is (sym (append_assoc (codes "{\"from\":[") (lines_from (λ n. source_text to (counted n)) 0 from) (end_of_line at of to)))
+            ∙ sym (in_pieces to at of from),
       ),
     )
 
     sources_begin : Begins (Behind Head Sources) IsLine
     sources_begin text (head, sources, is, (from, are, lines), both) =
-        (end_of_line at of to, (from, are, rw (both, is, lines) (sym (in_pieces at of to from))))
+        (end_of_line at of to, (from, are, rw (both, is, lines) (sym (in_pieces to at of from))))
 
     is_line : (text : List ℕ) → Behind (Behind Head Sources) (λ text. text ≡ end_of_line at of to) text → IsLine text
     is_line text (most, last, (head, sources, is, (from, are, lines), both), ends, all) =
-        (from, are, rw (all, ends, both, is, lines) (sym (in_pieces at of to from)))
+        (from, are, rw (all, ends, both, is, lines) (sym (in_pieces to at of from)))
 
 -- what the walk would give from here on
 module _ {G E : Type 0} (dimensions : G → List Dimension) (is_key : E → List ℕ → List ℕ → Type 0) (walk : Parts G E)
     (chains : AllByRecursion IsChain (dimensions walk.grid.now)) (keys : HasKeys (is_key walk.encoding.now)) (is_box : IsBox walk.array_subset)
-    (meet : MeetSubset dimensions walk) (at of : Option ℕ) (to : Part) where
-  begun : Begins Head (IsLine (ArePartsToCome dimensions is_key walk) at of to)
+    (meet : MeetSubset dimensions walk) (to : Part) (at of : Option ℕ) where
+  begun : Begins Head (IsLine (ArePartsToCome dimensions is_key walk) to at of)
   begun =
       let (from, are) = parts_ahead dimensions is_key walk chains keys is_box walk [] (at_first dimensions is_key walk walk [] refl refl meet) in
-      head_begins (ArePartsToCome dimensions is_key walk) at of to from are
+      head_begins (ArePartsToCome dimensions is_key walk) to at of from are
 
 pub returns-in_err-send_text : goal.returns-in_err-send_text
 returns-in_err-send_text g c =
@@ -66,7 +65,7 @@ returns-in_err-send_text g c =
     rw (p.1, p.2)
     (stops_whole Head _
     (begun g.G.ChunkGridTraits.dimensions g.E.ChunkKeyEncodingTraits.is_key group.from (g.met.G.ChunkGridTraits.chained group.from.grid.now)
-    c.requires.keys c.requires.is_box c.requires.meet c.args.number c.args.of group.to)
+    c.requires.keys c.requires.is_box c.requires.meet group.to c.args.number c.args.of)
     _ _ _ c.in_err-send_text.ensures)
 
 pub returns-in_err-write_parts : goal.returns-in_err-write_parts
@@ -75,13 +74,13 @@ returns-in_err-write_parts g c =
     let group = c.args.group in
     let AreAll = ArePartsToCome g.G.ChunkGridTraits.dimensions g.E.ChunkKeyEncodingTraits.is_key group.from in
     rw (p.1, p.2)
-    (stops_behind Head (Sources AreAll) (IsLine AreAll c.args.number c.args.of group.to)
+    (stops_behind Head (Sources AreAll group.to) (IsLine AreAll group.to c.args.number c.args.of)
     (output g.W.Write.contents c.args.held_back.now.items c.args.writer.now)
     (output g.W.Write.contents c.send_text.new.held_back.items c.send_text.new.writer)
     (output g.W.Write.contents c.write_parts.new.held_back.items c.write_parts.new.writer) c.in_ok-send_text.ensures
     (begun g.G.ChunkGridTraits.dimensions g.E.ChunkKeyEncodingTraits.is_key group.from (g.met.G.ChunkGridTraits.chained group.from.grid.now)
-    c.requires.keys c.requires.is_box c.requires.meet c.args.number c.args.of group.to)
-    (sources_begin AreAll c.args.number c.args.of group.to) _ (c.in_err-write_parts.ensures 0 (sym counted_first)))
+    c.requires.keys c.requires.is_box c.requires.meet group.to c.args.number c.args.of)
+    (sources_begin AreAll group.to c.args.number c.args.of) _ (c.in_err-write_parts.ensures 0 (sym counted_first)))
 
 pub returns-in_err-end : goal.returns-in_err-end
 returns-in_err-end g c =
@@ -92,9 +91,9 @@ returns-in_err-end g c =
     let between = output g.W.Write.contents c.send_text.new.held_back.items c.send_text.new.writer in
     let now = output g.W.Write.contents c.write_parts.new.held_back.items c.write_parts.new.writer in
     rw (p.1, p.2)
-    (memory_after (Behind Head (Sources AreAll)) (IsLine AreAll c.args.number c.args.of group.to)
-    (sources_begin AreAll c.args.number c.args.of group.to) before now
-    (sent_behind Head (Sources AreAll) (λ _. ⊥) before between now c.in_ok-send_text.ensures (c.in_ok-write_parts.ensures 0 (sym counted_first))))
+    (memory_after (Behind Head (Sources AreAll group.to)) (IsLine AreAll group.to c.args.number c.args.of)
+    (sources_begin AreAll group.to c.args.number c.args.of) before now
+    (sent_behind Head (Sources AreAll group.to) (λ _. ⊥) before between now c.in_ok-send_text.ensures (c.in_ok-write_parts.ensures 0 (sym counted_first))))
 
 pub returns : goal.returns
 returns g c =
@@ -104,8 +103,8 @@ returns g c =
     let between = output g.W.Write.contents c.send_text.new.held_back.items c.send_text.new.writer in
     let now = output g.W.Write.contents c.write_parts.new.held_back.items c.write_parts.new.writer in
     let ends = rw (c.deref.ensures.value) at c.send_text-2.ensures in
-    ends_behind (Behind Head (Sources AreAll)) (λ text. text ≡ c.in_ok-end.end.items) (IsLine AreAll c.args.number c.args.of group.to) before now _
-    (sent_behind Head (Sources AreAll) (λ _. ⊥) before between now c.in_ok-send_text.ensures (c.in_ok-write_parts.ensures 0 (sym counted_first)))
-    (sources_begin AreAll c.args.number c.args.of group.to)
-    (λ text (most, last, both, is, all). is_line AreAll c.args.number c.args.of group.to text (most, last, both, is ∙ c.in_ok-end.ensures, all))
+    ends_behind (Behind Head (Sources AreAll group.to)) (λ text. text ≡ c.in_ok-end.end.items) (IsLine AreAll group.to c.args.number c.args.of) before now _
+    (sent_behind Head (Sources AreAll group.to) (λ _. ⊥) before between now c.in_ok-send_text.ensures (c.in_ok-write_parts.ensures 0 (sym counted_first)))
+    (sources_begin AreAll group.to c.args.number c.args.of)
+    (λ text (most, last, both, is, all). is_line AreAll group.to c.args.number c.args.of text (most, last, both, is ∙ c.in_ok-end.ensures, all))
     c.send_text-2.result ends

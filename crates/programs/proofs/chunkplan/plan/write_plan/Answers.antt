@@ -1,4 +1,4 @@
-use Rattle.std.proofs.Common.{◌≡◌, ap, inl, inr, length, refl, subst, ⊎_elim}
+use Rattle.std.proofs.Common.{◌≡◌, ap, inl, inr, length, option_map, rules, refl, subst, ⊎_elim}
 use Rattle.std.proofs.lemmas.Result.{err_from_is_err_and}
 use Rattle.zarrs_chunk_keys.specs.ChunkKey.{IsKey}
 use Rattle.zarrs_chunk_keys.specs.seen.Encodings.{encoding_in}
@@ -7,8 +7,9 @@ use Rattle.zarrs_chunks.specs.seen.Grids.{grid_in}
 use Rattle.zarrs_chunk_plan.specs.Rechunking.{IsRechunking}
 use Rattle.programs.specs.Stored.{stored_of}
 use Rattle.programs.specs.chunkplan.Document.{document_of, task_of}
-use Rattle.programs.specs.chunkplan.PlanFault.{IsChunksFault, IsPlanFault, IsReadFault, of_chunks, of_source, of_subset, of_target}
-use Rattle.programs.specs.chunkplan.Planned.{IsAsked, IsPlanned, IsRechunkingText, of_read, of_rechunking}
+use Rattle.programs.specs.chunkplan.PlanFault.{IsChunksFault, IsCopyFault, IsPlanFault, IsReadFault, of_chunks, of_region_target, of_source, of_subset}
+use Rattle.programs.specs.chunkplan.PlanFault.{of_region as of_region_fault, of_target}
+use Rattle.programs.specs.chunkplan.Planned.{IsAsked, IsPlanned, IsRechunkingText, IsRegionPlan, begins_at, of_read, of_rechunking, of_region}
 use Rattle.programs.specs.chunkplan.RunFault.{of_create}
 use Rattle.programs.specs.seen.Sent.{output}
 use Rattle.programs.proofs.chunkplan.RunOutcomes.{no_failed_write}
@@ -25,6 +26,12 @@ write_rechunking-requires-clause-keys g c = has_key (encoding_in c.in_ok-array.a
 
 pub write_rechunking-requires-clause-target_keys : goal.write_rechunking-requires-clause-target_keys
 write_rechunking-requires-clause-target_keys g c = has_key (encoding_in c.in_ok-target-in-Rechunk.target.encoding)
+
+pub write_region-requires-clause-keys : goal.write_region-requires-clause-keys
+write_region-requires-clause-keys g c = has_key (encoding_in c.in_ok-array.array.encoding)
+
+pub write_region-requires-clause-target_keys : goal.write_region-requires-clause-target_keys
+write_region-requires-clause-target_keys g c = has_key (encoding_in c.in_ok-target-in-Copy.target.encoding)
 
 -- ---- what is sent, and why it stops
 
@@ -70,8 +77,8 @@ returns-in_err-target-in-Rechunk g c =
     (ap task_of c.in-Rechunk.is) made is))
     refused))
 
-pub returns : goal.returns
-returns g c =
+pub returns-in-Rechunk : goal.returns-in-Rechunk
+returns-in-Rechunk g c =
     let made = rw c.deref.ensures.value at c.in_ok-array.ensures.made in
     let made_target = rw c.deref-in-Rechunk.ensures.value at c.in_ok-target-in-Rechunk.ensures.made in
     let source = grid_in c.in_ok-array.array.grid in
@@ -93,3 +100,44 @@ returns g c =
     (output g.W.Write.contents c.args.held_back.now.items c.args.writer.now)
     (output g.W.Write.contents c.write_rechunking.new.held_back.items c.write_rechunking.new.writer)
     c.write_rechunking.result c.write_rechunking.ensures
+
+pub returns-in_err-target-in-Copy : goal.returns-in_err-target-in-Copy
+returns-in_err-target-in-Copy g c =
+    let p = err_from_is_err_and c.from_residual-in_err-target-in-Copy.result c.from_residual-in_err-target-in-Copy.ensures.1 in
+    let made = rw c.deref.ensures.value at c.in_ok-array.ensures.made in
+    let document = document_of c.args.document in
+    let refused = rw c.deref-in-Copy.ensures.value at c.in_err-target-in-Copy.ensures.refused in
+    rw (p.1, p.2)
+    (early (IsPlanned document) (IsPlanFault document) _
+    (output g.W.Write.contents c.args.held_back.now.items c.args.writer.now)
+    (no_failed_write document)
+    (⊎_elim (λ memory. inl memory)
+    (λ is. inr (of_region_target c.in-Copy.shape.items (stored_of c.in-Copy.target) c.in-Copy.region (option_map (λ v. v.items) c.in-Copy.at)
+    (grid_in c.in_ok-array.array.grid) (encoding_in c.in_ok-array.array.encoding) (ap task_of c.in-Copy.is) made is))
+    refused))
+
+pub returns : goal.returns
+returns g c =
+    let made = rw c.deref.ensures.value at c.in_ok-array.ensures.made in
+    let made_target = rw c.deref-in-Copy.ensures.value at c.in_ok-target-in-Copy.ensures.made in
+    let source = grid_in c.in_ok-array.array.grid in
+    let target = grid_in c.in_ok-target-in-Copy.target.grid in
+    let source_encoding = encoding_in c.in_ok-array.array.encoding in
+    let target_encoding = encoding_in c.in_ok-target-in-Copy.target.encoding in
+    let document = document_of c.args.document in
+    let shape = c.in-Copy.shape.items in
+    let stored = stored_of c.in-Copy.target in
+    let region = c.in-Copy.region in
+    let at = option_map (λ v. v.items) c.in-Copy.at in
+    let begins : c.deref-in-Copy-2.result.now ≡ begins_at region at = search rules in
+    step_follows _ (IsPlanned document) (IsCopyFault document.wanted source.dimensions target.dimensions region c.deref-in-Copy-2.result.now)
+    (IsPlanFault document)
+    (λ text (groups, plan, lines). of_region shape stored region at source target source_encoding target_encoding groups (ap task_of c.in-Copy.is) made
+    made_target
+    (subst (λ first. IsRegionPlan source.dimensions (IsKey source_encoding) target.dimensions (IsKey target_encoding) region first groups) begins plan)
+    lines)
+    (λ fault is. of_region_fault shape stored region at source target source_encoding target_encoding (ap task_of c.in-Copy.is) made made_target
+    (subst (λ first. IsCopyFault document.wanted source.dimensions target.dimensions region first fault) begins is))
+    (output g.W.Write.contents c.args.held_back.now.items c.args.writer.now)
+    (output g.W.Write.contents c.write_region.new.held_back.items c.write_region.new.writer)
+    c.write_region.result c.write_region.ensures

@@ -1,7 +1,0 @@
-use Rattle.std.proofs.Common.{inr}
-use Rattle.programs.proofs.chunkplan.document.check_target.Goals as goal
-
-pub returns-in-Err-Refused : goal.returns-in-Err-Refused
-returns-in-Err-Refused c =
-    let refused = c.in-Err-Refused in
-    rw refused.field-0-is (inr (rw refused.field-0-is at refused.ensures))

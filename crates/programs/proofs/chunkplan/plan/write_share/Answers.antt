@@ -1,0 +1,50 @@
+use Rattle.std.proofs.Common.{◌≡◌, ◌∙◌, ap, inl, length, refl, sym}
+use Rattle.std.proofs.lemmas.Result.{err_from_is_err_and}
+use Rattle.zarrs_chunk_plan.specs.Counted.{counted}
+use Rattle.zarrs_chunk_plan.specs.Shares.{before_share, share_of}
+use Rattle.zarrs_chunk_plan.specs.seen.Copies.{all_targets}
+use Rattle.programs.specs.chunkplan.Line.{group_line, lines_from}
+use Rattle.programs.specs.seen.Sent.{output}
+use Rattle.programs.proofs.chunkplan.Begun.{moves_of_share, share_can_move}
+use Rattle.programs.proofs.chunkplan.Steps.{step_follows}
+use Rattle.programs.proofs.chunkplan.plan.write_share.Goals as goal
+
+pub write_copies-requires-clause-can : goal.write_copies-requires-clause-can
+write_copies-requires-clause-can g c =
+    let shared = c.in_ok-first.ensures in
+    share_can_move g.G.ChunkGridTraits.dimensions g.E.ChunkKeyEncodingTraits.is_key g.H.ChunkGridTraits.dimensions g.F.ChunkKeyEncodingTraits.is_key
+    c.args.walk c.share.new.self c.args.share.now shared.about shared.first (shared.left ∙ ap (share_of c.args.share.now) c.requires.all) c.requires.can
+
+pub write_copies-requires-clause-numbered : goal.write_copies-requires-clause-numbered
+write_copies-requires-clause-numbered g c = (_, c.in_ok-first.ensures.before)
+
+pub returns-in_err-first : goal.returns-in_err-first
+returns-in_err-first g c = let p = err_from_is_err_and c.from_residual.result c.from_residual.ensures.1 in rw (p.1, p.2) (refl, inl refl)
+
+pub returns : goal.returns
+returns g c =
+    let walk = c.args.walk in
+    let share = c.args.share.now in
+    let shared = c.in_ok-first.ensures in
+    step_follows _ _ (λ _. ⊥) (λ _. ⊥)
+    (λ text (groups, come, lines).
+    let (all, come_all, is_share, long) =
+    moves_of_share g.G.ChunkGridTraits.dimensions g.E.ChunkKeyEncodingTraits.is_key g.H.ChunkGridTraits.dimensions
+    g.F.ChunkKeyEncodingTraits.is_key walk c.share.new.self share shared.about shared.first (shared.left ∙ ap (share_of share) c.requires.all)
+    c.requires.can (g.met.G.ChunkGridTraits.chained walk.source.now.grid) (g.met.H.ChunkGridTraits.chained walk.targets.grid.now) c.requires.keys
+    c.requires.target_keys c.requires.is_box c.requires.region groups come
+    in
+    let count : length (all_targets walk) ≡ length all = ap length c.requires.all ∙ sym long in (
+      all,
+      come_all,
+      lines
+          ∙ ap (λ k. lines_from (λ n. group_line (counted n) (counted k)) (before_share share.number share.of (length (all_targets walk))) groups)
+          (ap length shared.all ∙ count)
+          ∙ ap (λ k. lines_from (λ n. group_line (counted n) (counted (length all))) (before_share share.number share.of k) groups) count
+          ∙ ap (λ gs. lines_from (λ n. group_line (counted n) (counted (length all))) (before_share share.number share.of (length all)) gs)
+          (sym is_share),
+    ))
+    (λ fault none. none)
+    (output g.W.Write.contents c.args.held_back.now.items c.args.writer.now)
+    (output g.W.Write.contents c.write_copies.new.held_back.items c.write_copies.new.writer)
+    c.write_copies.result (c.write_copies.ensures _ shared.before)
