@@ -1,9 +1,11 @@
-"""Plans of reads and rechunkings, element by element: each element is asked for its chunk and its place there."""
+"""Plans of reads, rechunkings and copies of regions, element by element: each element is asked for its chunk and its place
+there. Copies of regions of arrays that have too many are found by boxes, too."""
 import collections
 import itertools
 import math
 
-from chunk_grids import counts_of
+from chunk_grids import counts_of, numbers_in
+from extensions import GREATEST
 
 
 def box_of(places):
@@ -76,15 +78,27 @@ def read(grid, encoding, start, shape, clip=False):
 
 def rechunk(source, target, chunks=None):
     """The plan that moves an array from one grid with its encoding to another, into the chunks of a box or into all."""
+    whole = [0] * len(source[0].shape)
+    return copied(source, target, [whole, source[0].shape], whole, chunks)
+
+
+def region(source, target, box, at):
+    """The plan that copies a box of one array, which is a grid with its encoding, to another array, where it begins at an
+    index."""
+    return copied(source, target, box, at)
+
+
+def copied(source, target, box, at, chunks=None):
+    """The lines of both: each element of a box, and where it goes from the index on."""
     (grid, encoding), (target_grid, target_encoding) = source, target
 
     def moved():
-        for index in elements(grid.shape):
-            (read, in_source), (written, in_target) = home(grid, index), home(target_grid, index)
+        for steps in elements(box[1]):
+            (read, in_source), (written, in_target) = home(grid, sums(box[0], steps)), home(target_grid, sums(at, steps))
             if chunks is None or is_inside(written, *chunks):
                 yield (written, read), in_source, in_target
 
-    held = collections.Counter(home(target_grid, index)[0] for index in elements(grid.shape))
+    held = collections.Counter(home(target_grid, index)[0] for index in elements(target_grid.shape))
     copies = boxes(moved())
     read_shape = shapes(grid, [read for (_, read), *_ in copies])
     written_shape = shapes(target_grid, [written for (written, _), *_ in copies])
@@ -96,9 +110,33 @@ def rechunk(source, target, chunks=None):
             for (_, read), in_source, in_target in group
         ]  # fmt: skip
         to = {"chunk": list(written), "key": target_encoding.key(written), "shape": written_shape[written]}
-        copied = sum(math.prod(source["in_target"][1]) for source in sources)
-        lines.append({"from": sources, "to": to, "whole": copied == held[written]})
+        given = sum(math.prod(source["in_target"][1]) for source in sources)
+        lines.append({"from": sources, "to": to, "whole": given == held[written]})
     return numbered(lines)
+
+
+def region_by_boxes(source, target, box, at):
+    """The lines of the same plan, one after another, by what each chunk and the region have in common: for arrays of any size."""
+    (grid, encoding), (target_grid, target_encoding) = source, target
+    written = target_grid.chunks_in_array_subset(at, box[1])
+    of = math.prod(written[1])
+    for number, chunk in enumerate(numbers_in(*written)):
+        to = target_grid.part(chunk, at, box[1], target_encoding)
+        steps, size = to["in_subset"]
+        sources = [
+            {"chunk": part["chunk"], "in_chunk": part["in_chunk"], "key": part["key"], "shape": grid.chunk_shape(part["chunk"]),
+             "in_target": [sums(to["in_chunk"][0], part["in_subset"][0]), part["in_subset"][1]]}
+            for part in grid.parts(sums(box[0], steps), size, encoding)
+        ]  # fmt: skip
+        held = [min(d.end(c), d.size) - d.start(c) for d, c in zip(target_grid.dimensions, chunk)]
+        yield {
+            "from": sources, "number": number if number <= GREATEST else None, "of": of if of <= GREATEST else None,
+            "to": {"chunk": chunk, "key": to["key"], "shape": target_grid.chunk_shape(chunk)}, "whole": size == held,
+        }  # fmt: skip
+
+
+def sums(numbers, steps):
+    return [number + step for number, step in zip(numbers, steps)]
 
 
 def counts(grid, target, chunks=None, share=(0, 1)):
