@@ -1,11 +1,16 @@
 #!/usr/bin/env python3
-"""Writes chunks of the target of a rechunking, by the lines that `chunkplan` wrote, from standard input.
+"""Writes chunks of the target of a rechunking, or of the copy of a region, by the lines that `chunkplan` wrote, from
+standard input.
 
-    copy_chunks.py SOURCE TARGET [--done FILE] [--resume FILE] [--cache MB] [--no-sync]
+    copy_chunks.py SOURCE TARGET [--subset START SHAPE [--at INDEX]] [--done FILE] [--resume FILE] [--cache MB] [--no-sync]
 
-SOURCE and TARGET are folders of Zarr arrays, of format 2 or 3. When a line's chunk is in its place, the line's `number`
-and `of` are printed, as JSON. --done appends the same to a file; --resume passes over the lines that a file has and
-whose chunk is stored, and may name the same one. --cache bounds the decoded chunks of the source that are kept.
+SOURCE and TARGET are folders of Zarr arrays, of format 2 or 3; --subset and --at tell the region, as for `document_of.py`.
+A chunk of the target that holds elements beside the region is read first, and keeps them: two plans that give something
+to one chunk have to run one after the other.
+
+When a line's chunk is in its place, the line's `number` and `of` are printed, as JSON. --done appends the same to a file;
+--resume passes over the lines that a file has and whose chunk is stored, and may name the same one. --cache bounds the
+decoded chunks of the source that are kept.
 
 Numbers are said when the disk has the chunks too, some hundred at a time or once a second. With --no-sync they are said
 at once: then chunks that were done may be lost where the machine crashes, but not where a process does.
@@ -28,15 +33,16 @@ import uuid
 
 import numpy
 
-from stored_arrays import UNFINISHED, Refused, check_movable, ended_by, open_array
+from region import add_region, region_between
+from stored_arrays import UNFINISHED, Refused, ended_by, open_array
 
 
 class Sources:
     """The chunks of the source, decoded. One is kept until each chunk of the target that it meets was asked for, or until
     those that were read after it take so many bytes."""
 
-    def __init__(self, source, target, most):
-        self.source, self.target, self.most = source, target, most
+    def __init__(self, source, target, region, most):
+        self.source, self.target, self.region, self.most = source, target, region, most
         self.kept, self.size, self.decoded = collections.OrderedDict(), 0, 0
 
     def chunk(self, numbers):
@@ -45,7 +51,7 @@ class Sources:
             elements, uses = self.kept.pop(numbers)
             self.size -= elements.nbytes
         else:
-            elements, uses = self.source.read(numbers), self.uses(numbers)
+            elements, uses = self.source.read(numbers), self.region.uses(numbers, self.source, self.target)
             self.decoded += 1
         if uses > 1:
             self.kept[numbers] = elements, uses - 1
@@ -54,21 +60,16 @@ class Sources:
             self.size -= self.kept.popitem(last=False)[1][0].nbytes
         return elements
 
-    def uses(self, numbers):
-        """How many chunks of the target a chunk meets."""
-        both = zip(*self.source.held(numbers), self.target.chunk_shape)
-        return math.prod((first + size - 1) // edge - first // edge + 1 for first, size, edge in both)
 
-
-def is_box(box, shape):
-    """Whether a box of a line is one of something of this shape, with elements in it."""
+def is_box(box, dimensions):
+    """Whether a box of a line is one of so many dimensions."""
     start, size = box
-    numbers = [*start, *size]
-    return (
-        all(type(number) is int for number in numbers)
-        and len(start) == len(size) == len(shape)
-        and all(first >= 0 and length > 0 and first + length <= edge for first, length, edge in zip(start, size, shape))
-    )
+    return len(start) == len(size) == dimensions and all(type(number) is int for number in [*start, *size])
+
+
+def is_within(box, other):
+    """Whether a box, in which are elements, lies within another one."""
+    return all(least <= begin < begin + length <= least + room for begin, length, least, room in zip(*box, *other))
 
 
 def is_chunk(array, named):
@@ -82,53 +83,49 @@ def is_chunk(array, named):
     )
 
 
-def number_of(chunk, grid):
-    """The number of a chunk in row-major order."""
-    number = 0
-    for step, count in zip(chunk, grid):
-        number = number * count + step
-    return number
-
-
 def in_array(array, chunk, box):
-    """Where a box of a chunk begins in the array."""
-    return [first + step for first, step in zip(array.held(chunk)[0], box[0])]
+    """A box of a chunk as one of the array."""
+    return [first + step for first, step in zip(array.held(chunk)[0], box[0])], box[1]
 
 
-def fault_of(line, source, target):
-    """What is wrong with a line, or None. Where nothing is, its boxes have each element of the target's chunk once:
-    they lie in different chunks of the source, inside the array, and have as many elements as the chunk."""
+def fault_of(line, source, target, region):
+    """What is wrong with a line, or None. Where nothing is, its boxes have each element once that the region gives the
+    target's chunk: they lie in different chunks of the source, inside the region, and have as many elements together."""
     to, parts = line["to"], line["from"]
-    count = math.prod(target.grid())
+    count = region.count(target)
     if not (type(line["number"]) is int and type(line["of"]) is int and 0 <= line["number"] < line["of"] <= count):
         return "a number that is none of the plan's"
-    if line["whole"] is not True:
-        return "it hasn't all that its chunk holds: the rest would be lost"
     if not is_chunk(target, to):
         return f"{to['key']} isn't a chunk of the target"
-    if line["of"] == count and line["number"] != number_of(to["chunk"], target.grid()):
+    given = region.given(to["chunk"], target)
+    if 0 in given[1]:
+        return f"{to['key']} gets nothing"
+    if line["of"] == count and line["number"] != region.number_of(to["chunk"], target):
         return f"{to['key']} has another number in the whole plan"
-    held = target.held(to["chunk"])[1]
+    if line["whole"] is not (given == target.held(to["chunk"])):
+        return f"`whole` doesn't say whether {to['key']} has elements besides, which would be lost"
     for part in parts:
         if not is_chunk(source, part):
             return f"{part['key']} isn't a chunk of the source"
-        here, there = part["in_chunk"], part["in_target"]
-        if not (is_box(here, source.held(part["chunk"])[1]) and is_box(there, held) and here[1] == there[1]):
-            return f"a box of {part['key']} isn't inside the chunk and the array"
-        if in_array(source, part["chunk"], here) != in_array(target, to["chunk"], there):
+        if not all(is_box(part[box], len(target.shape)) for box in ("in_chunk", "in_target")):
+            return f"a box of {part['key']} isn't one of the array"
+        here, there = in_array(source, part["chunk"], part["in_chunk"]), in_array(target, to["chunk"], part["in_target"])
+        if not (is_within(here, source.held(part["chunk"])) and is_within(there, given) and here[1] == there[1]):
+            return f"a box of {part['key']} isn't inside the chunk and the region"
+        if here[0] != region.in_source(there[0]):
             return f"a box of {part['key']} isn't the same elements in the target"
     if len({tuple(part["chunk"]) for part in parts}) != len(parts):
         return "it names a chunk of the source twice"
-    if sum(math.prod(part["in_chunk"][1]) for part in parts) != math.prod(held):
-        return "its boxes haven't each element of the target's chunk"
+    if sum(math.prod(part["in_chunk"][1]) for part in parts) != math.prod(given[1]):
+        return "its boxes haven't each element that the target's chunk gets"
     return None
 
 
-def line_of(text, source, target):
+def line_of(text, source, target, region):
     """A line of a plan, checked against both arrays."""
     try:
         line = json.loads(text)
-        fault = fault_of(line, source, target)
+        fault = fault_of(line, source, target, region)
     except (ValueError, KeyError, TypeError) as error:
         raise Refused(f"this is no line of a plan: {text[:60]!r}: {error!r}") from error
     if fault:
@@ -142,7 +139,9 @@ def slices(box):
 
 def assemble(chunk, line, sources, target):
     """Gives a chunk the elements that a line tells of."""
-    if target.held(line["to"]["chunk"])[1] != target.chunk_shape:  # beyond the array it has the fill value
+    if not line["whole"]:  # what it has besides stays as it is
+        chunk[...] = target.read(line["to"]["chunk"])
+    elif target.held(line["to"]["chunk"])[1] != target.chunk_shape:  # beyond the array it has the fill value
         chunk[...] = numpy.zeros((), target.dtype) if target.fill is None else target.fill
     for part in line["from"]:
         chunk[slices(part["in_target"])] = sources.chunk(part["chunk"])[slices(part["in_chunk"])]
@@ -246,16 +245,16 @@ class Progress:
             print(f"\r{done} chunks done here, of {of} in the plan", end="\n" if now else "", file=sys.stderr, flush=True)
 
 
-def copy(lines, source, target, words):
+def copy(lines, source, target, region, words):
     """Does each line of a plan."""
-    sources, store, progress = Sources(source, target, words.cache * 10**6), Store(target), Progress()
+    sources, store, progress = Sources(source, target, region, words.cache * 10**6), Store(target), Progress()
     record = Record(target.folder, words.done, not words.no_sync)
     passed_over = done_in(words.resume) if words.resume else set()
     chunk = target.new_chunk()  # the same memory for all of them
     written, of = 0, 0
     try:
         for text in lines:
-            line = line_of(text, source, target)
+            line = line_of(text, source, target, region)
             of = line["of"]
             if (line["number"], of) in passed_over and target.path(line["to"]["chunk"]).exists():
                 continue
@@ -275,9 +274,10 @@ def copy(lines, source, target, words):
 
 
 def main():
-    parser = argparse.ArgumentParser(description="Writes chunks of the target of a rechunking, by the lines of `chunkplan`.")
+    parser = argparse.ArgumentParser(description="Writes chunks of the target of a copy, by the lines of `chunkplan`.")
     parser.add_argument("source", metavar="SOURCE")
     parser.add_argument("target", metavar="TARGET")
+    add_region(parser)
     parser.add_argument("--done", metavar="FILE", help="append the number of each line that is done")
     parser.add_argument("--resume", metavar="FILE", help="pass over the lines that were done, by such a file")
     parser.add_argument("--cache", metavar="MB", type=int, default=256, help="of decoded chunks of the source (256)")
@@ -285,9 +285,9 @@ def main():
     parser.add_argument("--verbose", action="store_true", help="say at the end how many chunks were written and read")
     words = parser.parse_args()
     source, target = open_array(words.source), open_array(words.target)
-    check_movable(source, target)
+    region = region_between(source, target, words.subset, words.at)
     signal.signal(signal.SIGTERM, lambda *_: sys.exit("copy_chunks.py: terminated"))  # so that nothing unfinished is left
-    copy(sys.stdin, source, target, words)
+    copy(sys.stdin, source, target, region, words)
 
 
 if __name__ == "__main__":

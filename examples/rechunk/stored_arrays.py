@@ -124,8 +124,6 @@ def check_movable(source, target):
     """Refuses a target that can't have the source's elements."""
     if source.folder.resolve() == target.folder.resolve():
         raise Refused("source and target are one folder")
-    if source.shape != target.shape:
-        raise Refused(f"another shape: {source.shape} in {source.folder}, {target.shape} in {target.folder}")
     if source.dtype.newbyteorder("=") != target.dtype.newbyteorder("="):
         raise Refused(f"another data type: {source.dtype} in {source.folder}, {target.dtype} in {target.folder}")
 

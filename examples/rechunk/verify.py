@@ -1,19 +1,21 @@
 #!/usr/bin/env python3
-"""Compares two arrays, a chunk of the second at a time, byte by byte of their elements.
+"""Compares two arrays, or a region with what it was copied from, a chunk of the second at a time, byte by byte of their elements.
 
-    verify.py SOURCE TARGET
+    verify.py SOURCE TARGET [--subset START SHAPE [--at INDEX]]
 
 Arrays of format 2 are read by zarr-python 2, which shares no code with what moved them; those of format 3, which it
 doesn't know, by `stored_arrays.py`. It names the first places that differ, and ends with the status 1 where any does, or
 where a chunk can't be read.
 """
+import argparse
 import itertools
 import sys
 
 import numpy
 import zarr
 
-from stored_arrays import Refused, check_movable, ended_by, open_array
+from region import add_region, region_between
+from stored_arrays import Refused, ended_by, open_array
 
 NAMED = 5  # of the places that differ
 
@@ -47,16 +49,20 @@ def bytes_of(elements, dtype):
     return numpy.ascontiguousarray(elements, dtype).reshape(-1).view("u1").reshape(-1, dtype.itemsize)
 
 
-def differing(source, target, array):
-    """The places where two arrays differ, in the order of the second one's chunks."""
+def box_of(start, shape):
+    return tuple(slice(first, first + size) for first, size in zip(start, shape))
+
+
+def differing(source, target, array, region):
+    """The places of the second array where a region differs, in the order of its chunks."""
     native = array.dtype.newbyteorder("=")
-    for chunk in itertools.product(*map(range, array.grid())):
-        start, shape = array.held(chunk)
+    for chunk in itertools.product(*(range(first, first + count) for first, count in zip(*region.chunks(array)))):
+        start, shape = region.given(chunk, array)
         if array.fill is None and not array.path(chunk).exists():
             raise Refused(f"chunk {array.key(chunk)} of {array.folder} isn't stored, and there is no fill value")
-        box = tuple(slice(first, first + size) for first, size in zip(start, shape))
         try:
-            both = [bytes_of(elements[box], native) for elements in (source, target)]
+            places = ((source, region.in_source(start)), (target, start))
+            both = [bytes_of(elements[box_of(begin, shape)], native) for elements, begin in places]
         except Exception as error:  # each codec has exceptions of its own
             raise Refused(f"the elements of chunk {array.key(chunk)} of {array.folder} can't be read: {error}") from error
         for place in numpy.flatnonzero((both[0] != both[1]).any(axis=1)):
@@ -64,12 +70,15 @@ def differing(source, target, array):
 
 
 def main():
-    if len(sys.argv) != 3:
-        raise Refused("which SOURCE and TARGET?")
-    source, target = map(open_array, sys.argv[1:])
-    check_movable(source, target)
+    parser = argparse.ArgumentParser(description="Compares two arrays, or a region with what it was copied from.")
+    parser.add_argument("source", metavar="SOURCE")
+    parser.add_argument("target", metavar="TARGET")
+    add_region(parser)
+    words = parser.parse_args()
+    source, target = open_array(words.source), open_array(words.target)
+    region = region_between(source, target, words.subset, words.at)
     count = 0
-    for key, place in differing(reader(source), reader(target), target):
+    for key, place in differing(reader(source), reader(target), target, region):
         if count < NAMED:
             print(f"differs at {place}, in chunk {key} of the target", file=sys.stderr)
         count += 1

@@ -2,17 +2,19 @@
 # What all engines begin and end with; they source it, with the words SOURCE TARGET ROOM.
 #
 # ROOM is a folder for the document and for what was done, which a second run goes on from. The environment may say
-# which CHUNKPLAN and which PYTHON to run, how many WORKERS at a time (4), and into how many SHARES the plan is cut (16).
+# which CHUNKPLAN and which PYTHON to run, how many WORKERS at a time (4), into how many SHARES the plan is cut (16), and
+# which REGION is copied, as "--subset 2,0 3,4 --at 1,1"; without one it is a rechunking of the whole array.
 set -euo pipefail
 source=$(realpath "$1") target=$(realpath "$2")
 mkdir -p "$3"
 room=$(realpath "$3")
 tools=$(realpath "$(dirname "${BASH_SOURCE[0]}")/..")
-export CHUNKPLAN=${CHUNKPLAN:-chunkplan} PYTHON=${PYTHON:-python3}
+export CHUNKPLAN=${CHUNKPLAN:-chunkplan} PYTHON=${PYTHON:-python3} REGION=${REGION:-}
+read -ra region <<< "$REGION"
 workers=${WORKERS:-4} shares=${SHARES:-16}
 
 # What was done of one plan is nothing done of another.
-"$PYTHON" "$tools/document_of.py" "$source" "$target" > "$room/document.new"
+"$PYTHON" "$tools/document_of.py" "$source" "$target" "${region[@]}" > "$room/document.new"
 echo "$shares $source $target" >> "$room/document.new"
 if [ -e "$room/document" ] && ! cmp -s "$room/document" "$room/document.new"; then
     echo "$room has another rechunking, or one in another number of shares" >&2
@@ -22,7 +24,7 @@ mv "$room/document.new" "$room/document"
 
 # Ends with the status 0 where the engine did, and each chunk was done.
 end() {
-    "$PYTHON" "$tools/check_done.py" "$target" "$room"/done.*
+    "$PYTHON" "$tools/check_done.py" "$target" "$room"/done.* "${region[@]}"
     if [ "$1" -ne 0 ]; then
         echo "the engine ended with the status $1" >&2
         exit 1

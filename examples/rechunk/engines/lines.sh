@@ -4,4 +4,5 @@
 #     lines.sh SOURCE TARGET DONE
 set -euo pipefail
 tools=$(realpath "$(dirname "${BASH_SOURCE[0]}")/..")
-"$PYTHON" "$tools/copy_chunks.py" "$1" "$2" --done "$3" --resume "$3" > /dev/null
+read -ra region <<< "$REGION"
+"$PYTHON" "$tools/copy_chunks.py" "$1" "$2" "${region[@]}" --done "$3" --resume "$3" > /dev/null

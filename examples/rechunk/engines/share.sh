@@ -4,5 +4,6 @@
 #     share.sh SOURCE TARGET ROOM T N
 set -euo pipefail
 tools=$(realpath "$(dirname "${BASH_SOURCE[0]}")/..")
-"$PYTHON" "$tools/document_of.py" "$1" "$2" --share "$4" "$5" | "$CHUNKPLAN" |
-    "$PYTHON" "$tools/copy_chunks.py" "$1" "$2" --done "$3/done.$4" --resume "$3/done.$4" > /dev/null
+read -ra region <<< "$REGION"
+"$PYTHON" "$tools/document_of.py" "$1" "$2" "${region[@]}" --share "$4" "$5" | "$CHUNKPLAN" |
+    "$PYTHON" "$tools/copy_chunks.py" "$1" "$2" "${region[@]}" --done "$3/done.$4" --resume "$3/done.$4" > /dev/null

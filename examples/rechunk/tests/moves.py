@@ -30,6 +30,7 @@ TOOLS = pathlib.Path(__file__).resolve().parent.parent
 sys.path.insert(0, str(TOOLS))
 from copy_chunks import Sources, assemble, line_of  # noqa: E402
 from document_of import document_of  # noqa: E402
+from region import region_between  # noqa: E402
 from stored_arrays import Refused, open_array  # noqa: E402
 
 FORMAT_3 = all(map(importlib.util.find_spec, ("blosc", "crc32c", "zstandard")))
@@ -120,17 +121,18 @@ def make_2(folder, shape, chunks, **stored):
     return zarr.open_array(str(folder), mode="w", shape=shape, chunks=chunks, write_empty_chunks=True, **stored)
 
 
-def plan_of(chunkplan, source, target):
-    document = json.dumps(document_of(source, target))
+def plan_of(chunkplan, source, target, *asked):
+    document = json.dumps(document_of(source, target, *asked))
     return subprocess.run([chunkplan], input=document, stdout=subprocess.PIPE, check=True, text=True).stdout.splitlines(True)
 
 
-def move(chunkplan, here, there):
-    """Writes the target, as `copy_chunks.py` does, in this process."""
+def move(chunkplan, here, there, *asked):
+    """Writes the target, as `copy_chunks.py` does, in this process: the whole array, or the region that is asked for."""
     source, target = open_array(here), open_array(there)
-    sources, chunk = Sources(source, target, 10**6), target.new_chunk()
-    for text in plan_of(chunkplan, source, target):
-        line = line_of(text, source, target)
+    region = region_between(source, target, *asked)
+    sources, chunk = Sources(source, target, region, 10**6), target.new_chunk()
+    for text in plan_of(chunkplan, source, target, *asked):
+        line = line_of(text, source, target, region)
         assemble(chunk, line, sources, target)
         path = target.path(line["to"]["chunk"])
         path.parent.mkdir(parents=True, exist_ok=True)
@@ -470,17 +472,21 @@ def lines(chunkplan, generator, moves):
         make_2(ends[0], [12, 9], [5, 4], dtype="<i4")
         make_2(ends[1], [12, 9], [4, 6], dtype="<i4")
         source, target = map(open_array, ends)
-        for text in plan_of(chunkplan, source, target):
-            line = json.loads(text)
-            yield text, line_of(text, source, target) == line
-            for edited in edits(line):
-                if edited == {**line, "of": 5} and line["number"] < 5:  # of a plan of a box of chunks, as far as a line tells
-                    continue
-                yield json.dumps(edited), is_refused(lambda: line_of(json.dumps(edited), source, target), "line")
-            for end in range(len(text) - 1):
-                yield text[:end], is_refused(lambda: line_of(text[:end], source, target), "no line of a plan")
-        told = tool("copy_chunks.py", *ends, input=json.dumps({**line, "whole": False}) + "\n")
-        yield "the worker", (told.returncode, told.stdout, sorted(path.name for path in ends[1].iterdir())) == (1, "", [".zarray"])
+        # of the whole array, and of a region that gives some chunks of the target all they hold, and others a part
+        for asked, words in (((), ()), (([[1, 1], [9, 7]], [2, 0]), ("--subset", "1,1", "9,7", "--at", "2,0"))):
+            region = region_between(source, target, *asked)
+            fewer = region.count(target) - 1
+            for text in plan_of(chunkplan, source, target, *asked):
+                line = json.loads(text)
+                yield text, line_of(text, source, target, region) == line
+                for edited in edits(line):
+                    if edited == {**line, "of": fewer} and line["number"] < fewer:  # of a plan of a box of chunks, as far as a line tells
+                        continue
+                    yield json.dumps(edited), is_refused(lambda: line_of(json.dumps(edited), source, target, region), "line")
+                for end in range(len(text) - 1):
+                    yield text[:end], is_refused(lambda: line_of(text[:end], source, target, region), "no line of a plan")
+            told = tool("copy_chunks.py", *ends, *words, input=json.dumps({**line, "whole": not line["whole"]}) + "\n")
+            yield "the worker", (told.returncode, told.stdout, sorted(path.name for path in ends[1].iterdir())) == (1, "", [".zarray"])
 
 
 BROKEN = [(compressor, None) for compressor in COMPRESSORS] + [(None, [numcodecs.CRC32()]), (None, [numcodecs.Adler32()])]
@@ -550,7 +556,8 @@ def worker(chunkplan, generator, moves):
         target[3, 17] += 1
         told = tool("verify.py", *ends)
         yield "one element", told.returncode == 1 and "differs at [3, 17], in chunk 0.4 of the target" in told.stderr and "1 elements" in told.stderr
-        sources = Sources(*map(open_array, ends), 1000)
+        source, target = map(open_array, ends)
+        sources = Sources(source, target, region_between(source, target), 1000)
         sizes = [(sources.chunk([number % 3, 0]).nbytes, sources.size)[1] for number in range(9)]
         yield "a bounded cache", max(sizes) <= 1000 and sources.decoded == 9
         (ends[0] / "3.0").write_bytes(b"no")
@@ -636,15 +643,15 @@ def on_terminal(text, *words):
 CHECKS = [engines, kinds, by_hand, metadata, lines, broken_sources, worker, lossy, corners]
 
 
-def main():
+def main(checks):
     parser = argparse.ArgumentParser()
     parser.add_argument("chunkplan", type=lambda path: str(pathlib.Path(path).resolve()))
     parser.add_argument("--seed", type=int, default=1)
     parser.add_argument("--moves", type=int, default=150, help="of arrays of random kinds, from each format to each")
-    parser.add_argument("--checks", nargs="+", default=[check.__name__ for check in CHECKS], choices=[check.__name__ for check in CHECKS])
+    parser.add_argument("--checks", nargs="+", default=[check.__name__ for check in checks], choices=[check.__name__ for check in checks])
     words = parser.parse_args()
     failed = 0
-    for check in CHECKS:
+    for check in checks:
         if check.__name__ in words.checks:
             failed += count_failed(check, words)
     if not FORMAT_3:
@@ -665,4 +672,5 @@ def count_failed(check, words):
     return len(wrong)
 
 
-main()
+if __name__ == "__main__":
+    main(CHECKS)

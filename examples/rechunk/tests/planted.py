@@ -48,8 +48,8 @@ PLANTED = [
         "moves.py worker",
     ),
     ("what is unfinished is left", [("copy_chunks.py", "            unfinished.unlink(missing_ok=True)\n", "")], "moves.py worker"),
-    ("a line's boxes are taken as they are", [("copy_chunks.py", "!= in_array(target", "is in_array(target")], "moves.py lines"),
-    ("a box that is left out isn't missed", [("copy_chunks.py", "!= math.prod(held)", "> math.prod(held)")], "moves.py lines"),
+    ("a line's boxes are taken as they are", [("copy_chunks.py", "!= region.in_source", "is region.in_source")], "moves.py lines"),
+    ("a box that is left out isn't missed", [("copy_chunks.py", "!= math.prod(given[1])", "> math.prod(given[1])")], "moves.py lines"),
     ("a key is taken as it is", [("copy_chunks.py", 'named["key"] == array.key(numbers)', 'named["key"] != ""')], "moves.py lines"),
     ("the order F is forgotten", [("stored_arrays.py", 'if metadata["order"] == "C" else dimensions[::-1]', "")], "moves.py kinds"),
     (
@@ -78,6 +78,13 @@ PLANTED = [
     ("a filter is forgotten", [("stored_arrays.py", '*(metadata["filters"] or [])', "*[]")], "moves.py kinds"),
     ("another data type is moved", [("stored_arrays.py", "source.dtype.newbyteorder", "target.dtype.newbyteorder")], "moves.py metadata"),
     ("verify sees only elements all of whose bytes differ", [("verify.py", ".any(axis=1)", ".all(axis=1)")], "moves.py worker"),
+    ("`whole` is taken as it is", [("copy_chunks.py", 'if line["whole"] is not (', 'if line["whole"] is None and (')], "moves.py lines"),
+    (
+        "what a chunk holds beside a region is lost",
+        [("copy_chunks.py", '        chunk[...] = target.read(line["to"]["chunk"])\n', "        chunk[...] = 0\n")],
+        "regions.py copies",
+    ),
+    ("a region's chunks are counted from the array's first", [("region.py", " + step - first", " + step")], "regions.py copies"),
     ("the cache has no bound", [("copy_chunks.py", "while self.size > self.most:", "while False:")], "moves.py worker"),
 ]
 
