@@ -1,9 +1,10 @@
-//! `chunkplan` writes what a read or a rechunking of a Zarr array copies, a line for each chunk that is read, or for each chunk of the target.
+//! `chunkplan` writes what a read, a rechunking or the copy of a region of a Zarr array copies, a line for each chunk that is read, or for each chunk of the target.
 //!
 //! It reads one JSON document on standard input: an array's `shape`, `chunk_grid` and `chunk_key_encoding`, as in its `zarr.json`. With a `target`,
 //! which has a `chunk_grid` and a `chunk_key_encoding` of its own, the lines are those of a rechunking; its `chunks`, if it has any, is a box of the
-//! target's chunk numbers, and nothing is copied into others. Without one they are those of a read of `subset`, or of the whole array; with `clip`
-//! true, of what `subset` has of the array. A box is written as its start and its shape. A line has all that its chunk gets, and its number among the
+//! target's chunk numbers, and nothing is copied into others. With `subset` too, a box of elements, they are those of its copy to the target, whose
+//! `shape` is then that of an array of its own, to begin there at the index `at`. Without a `target` they are those of a read of `subset`, or of the
+//! whole array; with `clip` true, of what `subset` has of the array. A box is written as its start and its shape. A line has all that its chunk gets, and its number among the
 //! lines, so lines can be shared out in any way; `share`, a number and how many shares there are, takes of the lines the share with this number,
 //! counted from 0. With `counts` true there is one line in their place, of how much the plan copies, for who sizes tasks before they are planned.
 //!
@@ -28,16 +29,19 @@ use std::process::ExitCode;
 
 /// What `--help` prints.
 const HELP: &str = "\
-Writes what a read or a rechunking of a Zarr array copies, as JSON lines.
+Writes what a read, a rechunking or the copy of a region of a Zarr array copies,
+as JSON lines.
 
 Usage: chunkplan [--help | --version] < DOCUMENT > LINES
 
 Standard input is one JSON object: the `shape`, `chunk_grid` and
 `chunk_key_encoding` of an array, as in its zarr.json. With a `target`, which
 has a `chunk_grid` and a `chunk_key_encoding`, the lines are those of a
-rechunking; `chunks`, a box of the target's chunk numbers, narrows it. Without
-one they are those of a read of `subset`, or of the whole array; with `clip`
-true, of what `subset` has of the array. A box is its start and its shape.
+rechunking; `chunks`, a box of the target's chunk numbers, narrows it. With a
+`subset` too they are those of its copy into the target, whose `shape` is then
+its own array's, to begin there at the index `at`. Without a `target` they are
+those of a read of `subset`, or of the whole array; with `clip` true, of what
+`subset` has of the array. A box is its start and its shape.
 `share`, a number and how many shares there are, takes of the lines the share
 with this number, counted from 0. With `counts` true one line is written in
 place of all: how many copies, elements, lines and source chunks there are.

@@ -2,17 +2,13 @@
 use Rattle.std.proofs.Common.{◌≡◌, ◌≢◌, ◌⊎◌, ℕ, List, [], length, inl, refl, ⊎_elim, arith}
 use Rattle.std.specs.List.{AllByRecursion}
 use Rattle.zarrs_chunk_base.specs.ArraySubset.{Box, IsBox, IsEmptyBox}
-use Rattle.zarrs_chunk_base.specs.Dimension.{Dimension, IsChain, array_sizes}
-use Rattle.zarrs_chunks.specs.Walks.{chunks_in}
-use Rattle.zarrs_chunks.proofs.ChunksInBoxes.{are_those_inside}
+use Rattle.zarrs_chunk_base.specs.Dimension.{Dimension, IsChain}
 use Rattle.zarrs_chunk_plan.specs.Counts.{AreReadCounts}
-use Rattle.zarrs_chunk_plan.specs.Plan.{Meets}
-use Rattle.zarrs_chunk_plan.specs.Rechunking.{AreTargets, Group, IsRechunking, array_box}
 use Rattle.zarrs_chunk_plan.specs.declared.counts.Counts.{Counts}
 use Rattle.zarrs_chunk_plan.specs.declared.part.Part.{Part}
 use Rattle.zarrs_chunk_plan.specs.seen.Parts.{HasKeys}
 use Rattle.zarrs_chunk_plan.specs.seen.ReadCounts.{AreCountsOf}
-use Rattle.zarrs_chunk_plan.proofs.Plans.{all_of_each, empty_or_some}
+use Rattle.zarrs_chunk_plan.proofs.Plans.{empty_or_some}
 use Rattle.zarrs_chunk_plan.proofs.SomePlan.{plan_over}
 use Rattle.programs.specs.chunkplan.Planned.{IsReadPlan}
 

@@ -114,7 +114,7 @@ fn nearest(
     }
     for other in known {
         let edits = levenshtein(alloc, name, other)?;
-        if edits < fewest && 2 * edits <= other.len() {
+        if edits < fewest && edits <= other.len() / 2 {
             fewest = edits;
             near = Some(*other);
         }
