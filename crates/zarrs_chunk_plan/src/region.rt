@@ -119,11 +119,7 @@ fn fit_together<G: ChunkGridTraits, H: ChunkGridTraits>(
 ///
 /// # Errors
 /// Out of memory; or the box would end past 18446744073709551615, as it never does for the parts of one group.
-pub fn place_in_target(
-    alloc: Global,
-    to: &Part,
-    from: &Part,
-) -> Result<ArraySubset, AllocError>
+pub fn place_in_target(alloc: Global, to: &Part, from: &Part) -> Result<ArraySubset, AllocError>
     ensures { IfOk result (λ place. place ≡ behind to.now.in_chunk.start from.now.in_subset) }
 {
     let start = sums(alloc, to.in_chunk.start(), from.in_subset.start())?;

@@ -46,6 +46,10 @@ module _ (shape : List ℕ) (grid : ChunkGrid) (tree : Data) (target : Target) (
       inr (
         encoding_in made.source.encoding,
         is.is_encoding,
-        inr (kind_in made.target.grid, grid_in made.target.grid, is.is_target.0,
-        inr (encoding_in made.target.encoding, is.is_target.1, inr (is.is_box, refuses))),
+        inr (
+          kind_in made.target.grid,
+          grid_in made.target.grid,
+          is.is_target.0,
+          inr (encoding_in made.target.encoding, is.is_target.1, inr (is.is_box, refuses)),
+        ),
       )

@@ -45,7 +45,11 @@ pub(crate) fn member_numbers(
 }
 
 /// The box that a tree stands for.
-pub(crate) fn read_box(alloc: Global, tree: &Value, field: &'static str) -> Result<ArraySubset, RunFault>
+pub(crate) fn read_box(
+    alloc: Global,
+    tree: &Value,
+    field: &'static str,
+) -> Result<ArraySubset, RunFault>
     ensures { MatchResult result (IsBoxIn (view tree.now))
         (λ fault. (fault ≡ Memory) ⊎ IsBoxFormFault (view tree.now) field.now fault) }
 {

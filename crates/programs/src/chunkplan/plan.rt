@@ -105,11 +105,7 @@ fn open_target(
 }
 
 /// The numbers, or so many zeros.
-fn or_zeros(
-    alloc: Global,
-    numbers: Option<Vec<u64>>,
-    len: usize,
-) -> Result<Vec<u64>, AllocError>
+fn or_zeros(alloc: Global, numbers: Option<Vec<u64>>, len: usize) -> Result<Vec<u64>, AllocError>
     ensures { IfOk result (λ v. v.items
         ≡ unwrap_or (option_map (λ ns. ns.items) numbers) (replicate len 0)) }
 {

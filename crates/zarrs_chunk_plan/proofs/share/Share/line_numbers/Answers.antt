@@ -20,12 +20,12 @@ returns-clause-end c =
     let all = length (row_major lines) in
     let one_of = share.one_of in
     elim c.match-new.branch [
-      in-Some w ↦
+      | in-Some w ↦
           let (number, of) = w.in-Some.ensures in
           w.end-is
           ∙ (rw (number, of) at w.lines_before-end.ensures all c.long_count-count.ensures)
           ∙ ap (λ n. counted (before_share (share.number + 1) share.of n)) (below_shape lines)
-    | in-None w ↦
+      | in-None w ↦
           let last : share.number + 1 ≡ share.of = (let none = w.in-None.ensures in omega arith) in
           w.end-is ∙ w.count_of-end.ensures
           ∙ ap counted (sym (all_before share.number share.of all last) ∙ ap (λ n. before_share (share.number + 1) share.of n) (below_shape lines))
