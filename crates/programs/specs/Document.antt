@@ -50,7 +50,7 @@ IsMissingFault _ _ _ _ = ⊥
 -- the fault says that `shape` is missing, or isn't of its form, and calls it by the name
 abbrev pub IsShapeFault : Data → (name : List ℕ) → DocumentFault → Type 0
 IsShapeFault d name (Missing told) = (told.now ≡ name) × (get (codes "shape") d ≡ None)
-IsShapeFault d name (WrongValue told) = (told.now ≡ name) × (shape_in d ≡ None)
+IsShapeFault d name (WrongValue told) = (told.now ≡ name) × IsSome (get (codes "shape") d) × (shape_in d ≡ None)
 IsShapeFault _ _ _ = ⊥
 
 -- the fault says why the value of the member of this name is no extension's metadata

@@ -1,5 +1,6 @@
 -- A walk over what a rechunking copies, or over what is copied of a region: that it can go on, and what it gives.
-use Rattle.std.proofs.Common.{◌≡◌, ◌⊎◌, ◌∙◌, ℕ, List, [], ◌∷◌, ◌++◌, Option, Some, None, IfSome, Result, Ok, Err, IfOk, length, map, append_assoc}
+use Rattle.std.proofs.Common.{◌≡◌, ◌⊎◌, ◌∙◌, ℕ, List, [], ◌∷◌, ◌++◌, Option, Some, None, IfSome, Result, Ok, Err, IfOk, length, map, append_assoc, replicate}
+use Rattle.std.proofs.Common.{arith}
 use Rattle.std.proofs.Common.{append-nil, ap, inl, refl, subst, sym}
 use Rattle.std.specs.Iterator.{Drains, Yields}
 use Rattle.std.specs.List.{AllByRecursion, AllZip}
@@ -12,7 +13,7 @@ use Rattle.zarrs_chunks.specs.Subsets.{IsCover}
 use Rattle.zarrs_chunks.specs.Walks.{chunks_in}
 use Rattle.zarrs_chunk_plan.specs.Plan.{IsPart, Meets}
 use Rattle.zarrs_chunk_plan.specs.Rechunking.{AreCopiesInto, AreTargets, Group, IsRechunking, array_box}
-use Rattle.zarrs_chunk_plan.specs.Region.{AreMovedInto, IsRegionCopy, behind, moved}
+use Rattle.zarrs_chunk_plan.specs.Region.{AreMovedInto, IsRegionCopy, moved, shifted}
 use Rattle.zarrs_chunk_plan.specs.declared.chunk_copies.ChunkCopies.{ChunkCopies}
 use Rattle.zarrs_chunk_plan.specs.declared.chunk_copies.Copies.{Copies}
 use Rattle.zarrs_chunk_plan.specs.declared.part.Part.{Part}
@@ -21,91 +22,80 @@ use Rattle.zarrs_chunk_plan.specs.declared.walk.Parts.{Parts}
 use Rattle.zarrs_chunk_plan.specs.seen.Copies.{AreGroupsToCome, AreMovesToCome, CanCopy, CanMove, GivesCopies, HasAllParts, IsAboutCopies, IsPlanned}
 use Rattle.zarrs_chunk_plan.specs.seen.Copies.{first_of, region_of, target_of, targets_to_come}
 use Rattle.zarrs_chunk_plan.specs.seen.Parts.{AnswersParts, ArePartsToCome, GivesPart, IsAbout, MeetSubset, all_chunks, chunks_to_come}
-use Rattle.zarrs_chunk_plan.specs.seen.Shared.{held_back}
-use Rattle.zarrs_chunk_plan.proofs.MovedBoxes.{none_behind, none_held_back}
-use Rattle.zarrs_chunk_plan.proofs.Plans.{not_empty}
+use Rattle.zarrs_chunk_plan.proofs.Plans.{all_long, not_empty}
+use Rattle.zarrs_chunk_plan.proofs.Rechunkings.{counted_from_zeros}
 use Rattle.zarrs_chunk_plan.proofs.Walked.{one_came, plan_of}
 
 -- what `parts` answers of a box that isn't empty has to give the plan of reading it
 pub planned_of : {G E : Type 0} (dimensions : G → List Dimension) (grid : G) (encoding : E) (b : Box)
-    (r : Result (Option (Parts G E)) (Refusal IncompatibleDimensionalityError)) → IsBox b → (¬ IsEmptyBox b)
+    (r : Result (Option (Parts G E)) (Refusal IncompatibleDimensionalityError)) → (¬ IsEmptyBox b)
     → ((¬ IsEmptyBox b) ⊎ (length (dimensions grid) ≡ 0) → AnswersParts (dimensions grid) b r)
     → IfOk r (λ found. IfSome found (IsAbout grid encoding b)) → IfOk r (λ found. IfSome found (MeetSubset dimensions))
     → IfOk r (λ found. IfSome found (λ walk. all_chunks walk ≡ chunks_to_come walk))
-    → IfOk r (λ found. IfSome found (λ walk. IsBox walk.array_subset × IsPlanned dimensions grid encoding b walk))
-planned_of dimensions grid encoding b (Ok (Some walk)) is_box some answers about meet all =
+    → IfOk r (λ found. IfSome found (IsPlanned dimensions grid encoding b))
+planned_of dimensions grid encoding b (Ok (Some walk)) some answers about meet all =
     let (_, (cover, is, left)) = answers (inl some) in
-    (rw about.same_subset is_box, record { about = about; meet = meet; cover = cover; is_cover = is; left = left; all = all ∙ left })
-planned_of dimensions grid encoding b (Ok None) is_box some answers about meet all = tt
-planned_of dimensions grid encoding b (Err e) is_box some answers about meet all = tt
+    record { about = about; meet = meet; cover = cover; is_cover = is; left = left; all = all ∙ left }
+planned_of dimensions grid encoding b (Ok None) some answers about meet all = tt
+planned_of dimensions grid encoding b (Err e) some answers about meet all = tt
 
 module _ {G E H F : Type 0} (source_dimensions : G → List Dimension) (target_dimensions : H → List Dimension) where
   pub can_copy : (source : StoredArray G E) (target : H) (encoding : F) (walk : Copies G E H F) (targets : Parts H F) (wanted : Box)
       → walk.source.now ≡ source → walk.targets ≡ targets → IsAbout target encoding (array_box (target_dimensions target)) targets
       → chunks_to_come targets ≡ chunks_in wanted → array_sizes (source_dimensions source.grid) ≡ array_sizes (target_dimensions target)
       → AllByRecursion (Meets (target_dimensions target) (array_box (target_dimensions target))) (chunks_in wanted)
-      → CanCopy source_dimensions target_dimensions walk
-  can_copy source target encoding walk targets wanted same_source same_targets about left one meet = record {
+      → first_of walk ≡ replicate (length (target_dimensions target)) 0 → CanCopy source_dimensions target_dimensions walk
+  can_copy source target encoding walk targets wanted same_source same_targets about left one meet first = record {
     one_array = rw (same_source, same_targets, about.same_grid) one;
     whole_array = rw (same_targets, about.same_grid) about.same_subset;
+    from_zero = rw (same_targets, about.same_grid) first;
     meet = rw (same_targets, about.same_grid, about.same_subset, left) meet;
   }
 
   module _ (target_key : F → List ℕ → List ℕ → Type 0) (before : Copies G E H F) (to : Part) (targets : Parts H F)
       (steps : GivesPart target_dimensions target_key before.targets (Some (Ok to)) targets) where
-    -- the part of the target's chunk has an element
+    -- the chunk of the part has an element of the box
+    meets : MeetSubset target_dimensions before.targets
+        → Meets (target_dimensions before.targets.grid.now) before.targets.array_subset to.chunk.items
+    meets meet =
+        (subst (AllByRecursion (Meets (target_dimensions before.targets.grid.now) before.targets.array_subset)) steps.gives meet).0
+
+    -- and so the part has one
     has_some : MeetSubset target_dimensions before.targets → ¬ IsEmptyBox to.in_subset
-    has_some meet =
-        let meets = subst (AllByRecursion (Meets (target_dimensions before.targets.grid.now) before.targets.array_subset)) steps.gives meet in
-        not_empty _ _ before.targets.array_subset to.chunk.items to (steps.part meet) meets.0
+    has_some meet = not_empty _ _ before.targets.array_subset to.chunk.items to (steps.part meet) (meets meet)
 
-    -- as far behind the array's first element the elements are read as they lie behind the first of the box
-    abbrev pub read_from : List ℕ
-    read_from = held_back (first_of before) targets.array_subset.shape (array_sizes (source_dimensions before.source.now.grid))
-
-    abbrev PlansFrom : Parts G E → List ℕ → Type 0
-    PlansFrom from first =
-        IsPlanned source_dimensions before.source.now.grid before.source.now.encoding (behind first to.in_subset) from
+    abbrev PlansFrom : Parts G E → Box → Type 0
+    PlansFrom from b = IsPlanned source_dimensions before.source.now.grid before.source.now.encoding b from
 
     -- those of a rechunking are read from where they are in the array
-    where_they_are : CanCopy source_dimensions target_dimensions before → IsBox (behind read_from to.in_subset)
-        → behind read_from to.in_subset ≡ to.in_subset
-    where_they_are can is_box =
-        let shape : targets.array_subset.shape ≡ array_sizes (source_dimensions before.source.now.grid) =
-        ap (λ b. b.shape) (steps.about.same_subset ∙ can.whole_array) ∙ sym can.one_array
-        in
-        let is_read = is_box.lengths in
-        let is_part = (steps.part can.meet).boxes.from_subset.is_box.lengths in
-        ap (λ (start : List ℕ). let b : Box = record { start = start; shape = to.in_subset.shape } in b)
-        (none_behind (first_of before) targets.array_subset.shape (array_sizes (source_dimensions before.source.now.grid)) to.in_subset.start
-        shape (is_read ∙ sym is_part))
+    where_they_are : CanCopy source_dimensions target_dimensions before → shifted (first_of before) to.in_subset ≡ to.in_subset
+    where_they_are can =
+        let ds = target_dimensions before.targets.grid.now in
+        let (index, box, inside) = meets can.meet in
+        let long = all_long ds _ before.targets.array_subset to.chunk.items to index (steps.part can.meet) (box, inside) in
+        rw can.from_zero (ap (λ (start : List ℕ). let b : Box = record { start = start; shape = to.in_subset.shape } in b)
+        (counted_from_zeros (length ds) to.in_subset.start (omega arith)))
 
     pub gives_copies : (from : Parts G E)
-        → ((¬ IsEmptyBox to.in_subset) → IsBox from.array_subset × PlansFrom from read_from)
+        → ((¬ IsEmptyBox to.in_subset) → PlansFrom from (shifted (first_of before) to.in_subset))
         → (after : Copies G E H F) → after.targets ≡ targets → after.source.now ≡ before.source.now → first_of after ≡ first_of before
         → GivesCopies source_dimensions target_dimensions target_key before (Some (Ok (record { to = to; from = from }))) after
     gives_copies from planned after same_targets same_source same_first =
         let about = steps.about in record {
           gives = rw same_targets steps.gives;
           to = λ can. steps.part can.meet;
-          from = λ can.
-              let (is_box, plans) = planned (has_some can.meet) in
-              subst (λ b. IsPlanned source_dimensions before.source.now.grid before.source.now.encoding b from)
-              (where_they_are can (subst IsBox plans.about.same_subset is_box)) plans;
+          from = λ can. subst (PlansFrom from) (where_they_are can) (planned (has_some can.meet));
           about = record { same_source = same_source; targets = rw same_targets about };
           can = λ can. record {
             one_array = rw (same_source, same_targets, about.same_grid) can.one_array;
             whole_array = rw (same_targets, about.same_subset, about.same_grid) can.whole_array;
+            from_zero = rw (same_first, same_targets, about.same_grid) can.from_zero;
             meet = rw same_targets (steps.meet can.meet);
           };
           all = rw same_targets steps.all;
           first = same_first;
           moved_to = λ can. steps.part can.meet;
-          moved_from = λ can.
-              let lies = rw (← about.same_subset) at can.in_source in
-              subst (PlansFrom from)
-              (none_held_back (first_of before) targets.array_subset.shape (array_sizes (source_dimensions before.source.now.grid)) lies)
-              (planned (has_some can.meet)).1;
+          moved_from = λ can. planned (has_some can.meet);
           can_move = λ can. record {
             in_source = rw (same_first, same_source, same_targets, about.same_subset) can.in_source;
             meet = rw same_targets (steps.meet can.meet);
@@ -255,7 +245,7 @@ module _ {G E H F : Type 0} (source_dimensions : G → List Dimension) (source_k
   is_moved before after group from about (same_first, can) gives parts =
       let planned = gives.moved_from can in
       let targets = about.targets in
-      let read = behind (first_of before) group.to.in_subset in
+      let read = shifted (first_of before) group.to.in_subset in
       let plan = plan_of source_dimensions source_key before.source.now.grid before.source.now.encoding read planned.cover group.from from
       planned.about planned.is_cover planned.left parts
       in

@@ -248,7 +248,18 @@ module _ (ds : List Dimension) (IsKey : List ℕ → List ℕ → Type 0) (b : B
       (chunks_once plan.cover plan.is_cover.is_box)
       (λ one other part next _ _ differ is is_other same. differ (sym is.numbers ∙ same ∙ is_other.numbers))
 
-  -- chunks of a plan that have one key are one
+  -- chunks of one cover that have one key are one
+  pub one_chunk :
+      ((chunk other key : List ℕ) → AllFit chunk → AllFit other → length chunk ≡ length other → IsKey chunk key → IsKey other key → chunk ≡ other)
+      → (cover : Box) → IsBox cover → (one other : List ℕ) (part next : Part) → Contains (chunks_in cover) one → Contains (chunks_in cover) other
+      → IsPart ds IsKey b one part → IsPart ds IsKey b other next → part.key ≡ next.key → one ≡ other
+  one_chunk exact cover is_box one other part next among also is is_other same =
+      let inside = (are_those_inside cover is_box one).0 among in
+      let other_inside = (are_those_inside cover is_box other).0 also in
+      exact one other part.key (inside_fits cover.start cover.shape one is_box.fits inside)
+      (inside_fits cover.start cover.shape other is_box.fits other_inside)
+      (within_lengths _ _ _ inside ∙ sym (within_lengths _ _ _ other_inside)) is.key (subst (IsKey other) (sym same) is_other.key)
+
   pub keys_differ :
       ((chunk other key : List ℕ) → AllFit chunk → AllFit other → length chunk ≡ length other → IsKey chunk key → IsKey other key → chunk ≡ other)
       → (parts : List Part) → IsPlan ds IsKey b parts → AllPairs (λ part other. part.key ≢ other.key) parts
@@ -256,12 +267,7 @@ module _ (ds : List Dimension) (IsKey : List ℕ → List ℕ → Type 0) (b : B
       let cover = plan.cover in
       let is_box = plan.is_cover.is_box in
       pairs_of (IsPart ds IsKey b) (λ part other. part.key ≢ other.key) (chunks_in cover) parts plan.are_parts (chunks_once cover is_box)
-      (λ one other part next among also differ is is_other same.
-      let inside = (are_those_inside cover is_box one).0 among in
-      let other_inside = (are_those_inside cover is_box other).0 also in
-      differ (exact one other part.key (inside_fits cover.start cover.shape one is_box.fits inside)
-      (inside_fits cover.start cover.shape other is_box.fits other_inside)
-      (within_lengths _ _ _ inside ∙ sym (within_lengths _ _ _ other_inside)) is.key (subst (IsKey other) (sym same) is_other.key)))
+      (λ one other part next among also differ is is_other same. differ (one_chunk exact cover is_box one other part next among also is is_other same))
 
   -- what lies in a part's box is an element that the part has
   has_at : (chunk : List ℕ) (part : Part) (place : List ℕ) → IsPart ds IsKey b chunk part → IsInside part.in_subset place

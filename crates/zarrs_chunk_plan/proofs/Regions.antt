@@ -1,23 +1,23 @@
 -- The copies of a region: from where to where they move which elements, and that they differ.
 use Rattle.std.proofs.Common.{◌≡◌, ◌⊎◌, ◌∙◌, ℕ, suc, ◌+◌, ◌-◌, ◌<◌, ◌≤◌, List, [], ◌∷◌, Contains, length, refl, ap, ap₂, inl, inr, subst, sym, ⊎_elim}
-use Rattle.std.proofs.Common.{arith}
+use Rattle.std.proofs.Common.{arith, ◌≢◌, IsTrue}
 use Rattle.std.specs.List.{AllByRecursion, AllPairs}
 use Rattle.zarrs_chunk_base.specs.ArraySubset.{Box, IsBox, lasts}
-use Rattle.zarrs_chunk_base.specs.Dimension.{Dimension, InBox, IsChain, IsPlace}
-use Rattle.zarrs_chunk_base.specs.Greatest.{greatest}
+use Rattle.zarrs_chunk_base.specs.Dimension.{Dimension, InBox, IsChain, IsPlace, array_sizes}
+use Rattle.zarrs_chunk_base.specs.Greatest.{AllFit, greatest}
 use Rattle.zarrs_chunk_axes.specs.InBounds.{AreBelow}
 use Rattle.zarrs_chunks.specs.Walks.{chunks_in, counted_from}
 use Rattle.zarrs_chunks.proofs.Chains.{same_box}
-use Rattle.zarrs_chunks.proofs.ChunksInBoxes.{are_those_inside, chunks_once, length_below, lie_within}
+use Rattle.zarrs_chunks.proofs.ChunksInBoxes.{are_those_inside, chunks_once, length_below, lie_within, offset_of}
 use Rattle.zarrs_chunks.proofs.Covers.{head_some, tail_some}
 use Rattle.zarrs_chunks.proofs.Meeting.{cover_holds}
 use Rattle.zarrs_chunk_plan.specs.Plan.{HasElement, IsPart, Meets}
 use Rattle.zarrs_chunk_plan.specs.Rechunking.{Group, copies_of}
-use Rattle.zarrs_chunk_plan.specs.Region.{AreMovedInto, IsRegionCopy, MovesTo, behind, moved}
+use Rattle.zarrs_chunk_plan.specs.Region.{AreMovedInto, IsRegionCopy, MovesTo, moved, shifted}
 use Rattle.zarrs_chunk_plan.specs.declared.part.Part.{Part}
 use Rattle.zarrs_chunk_plan.proofs.CopyLists.{Differ, copies_differ, copy_in, copy_of, pairs_follow}
 use Rattle.zarrs_chunk_plan.proofs.Plans.{added, all_long, counted_once, has_common, has_place, length_counted, not_empty, pair_of, parts_differ, place_below}
-use Rattle.zarrs_chunk_plan.proofs.Plans.{some_part, source_of, takes}
+use Rattle.zarrs_chunk_plan.proofs.Plans.{one_chunk, pairs_of, some_part, source_of, takes}
 use Rattle.zarrs_chunk_plan.proofs.Written.{last_within}
 
 -- ---- lists of numbers
@@ -33,23 +33,23 @@ place_once (_ ∷ _) (_ ∷ _) (_ ∷ _) [] (_ ∷ _) is also = absurd also
 place_once _ _ _ _ _ is also = absurd is
 
 -- a box that lies in another one, counted from its first element, lies in it as a box of the array
-pub behind_is_box : (first shape start counts : List ℕ) → IsBox (record { start = first; shape = shape }) → length start ≡ length counts
+pub shifted_is_box : (first shape start counts : List ℕ) → IsBox (record { start = first; shape = shape }) → length start ≡ length counts
     → (¬ Contains counts 0) → AreBelow shape (lasts start counts) → IsBox (record { start = counted_from first start; shape = counts })
-behind_is_box [] [] [] [] is_box same some below = record { lengths = refl; fits = tt }
-behind_is_box (f ∷ first) (n ∷ shape) (s ∷ start) (count ∷ counts) is_box same some below =
+shifted_is_box [] [] [] [] is_box same some below = record { lengths = refl; fits = tt }
+shifted_is_box (f ∷ first) (n ∷ shape) (s ∷ start) (count ∷ counts) is_box same some below =
     let any : 0 < count = head_some count counts some in
     let last : s + (count - 1) < n = below.0 in
     let end : f + n ≤ greatest = is_box.fits.0 in
     let long = is_box.lengths in
     let b : Box = record { start = first; shape = shape } in
     let others : IsBox b = record { lengths = omega arith; fits = is_box.fits.1 } in
-    let rest = behind_is_box first shape start counts others (omega arith) (tail_some count counts some) below.1 in
+    let rest = shifted_is_box first shape start counts others (omega arith) (tail_some count counts some) below.1 in
     record { lengths = ap suc rest.lengths; fits = (omega arith, rest.fits) }
-behind_is_box [] (_ ∷ _) start counts is_box same some below = let long = is_box.lengths in absurd (omega arith)
-behind_is_box (_ ∷ _) [] start counts is_box same some below = let long = is_box.lengths in absurd (omega arith)
-behind_is_box [] [] (_ ∷ _) (_ ∷ _) is_box same some below = absurd below
-behind_is_box (_ ∷ _) (_ ∷ _) [] [] is_box same some below = absurd below
-behind_is_box _ _ _ _ is_box same some below = absurd (omega arith)
+shifted_is_box [] (_ ∷ _) start counts is_box same some below = let long = is_box.lengths in absurd (omega arith)
+shifted_is_box (_ ∷ _) [] start counts is_box same some below = let long = is_box.lengths in absurd (omega arith)
+shifted_is_box [] [] (_ ∷ _) (_ ∷ _) is_box same some below = absurd below
+shifted_is_box (_ ∷ _) (_ ∷ _) [] [] is_box same some below = absurd below
+shifted_is_box _ _ _ _ is_box same some below = absurd (omega arith)
 
 module _ (source : List Dimension) (IsSourceKey : List ℕ → List ℕ → Type 0) (target : List Dimension) (IsTargetKey : List ℕ → List ℕ → Type 0)
     (region : Box) (at : List ℕ) where
@@ -62,7 +62,7 @@ module _ (source : List Dimension) (IsSourceKey : List ℕ → List ℕ → Type
   module _ (chunk : List ℕ) (to : Part) (is : IsPart target IsTargetKey (moved at region) chunk to) where
     -- the elements of the chunk's part, as a box of the source's array
     abbrev Read : Box
-    Read = behind region.start to.in_subset
+    Read = shifted region.start to.in_subset
 
     to_long : to.in_subset.shape ≡ to.in_chunk.shape
     to_long = sym is.boxes.from_subset.shape ∙ is.boxes.from_chunk.shape
@@ -110,7 +110,7 @@ module _ (source : List Dimension) (IsSourceKey : List ℕ → List ℕ → Type
         let part = is.boxes.from_subset.is_box.lengths in
         let some = not_empty target IsTargetKey (moved at region) chunk to is meets in
         let last = last_within to.in_subset.start to.in_subset.shape part some in
-        behind_is_box region.start region.shape to.in_subset.start to.in_subset.shape is_region part some
+        shifted_is_box region.start region.shape to.in_subset.start to.in_subset.shape is_region part some
         (place_below target IsTargetKey (moved at region) chunk to (lasts to.in_subset.start to.in_subset.shape) is last)
 
   -- ---- the copies of a region
@@ -124,7 +124,7 @@ module _ (source : List Dimension) (IsSourceKey : List ℕ → List ℕ → Type
         → (place : List ℕ) × AreBelow region.shape place × MovesBehind copy steps place
     moves_region copy among steps below =
         let (chunk, parts, _, into, in_parts) = copy_of Into (chunks_in plan.cover) groups plan.are_groups copy among in
-        let read = behind region.start copy.1.in_subset in
+        let read = shifted region.start copy.1.in_subset in
         let (s, _, is_from) = source_of (IsPart source IsSourceKey read) (chunks_in into.from.cover) parts into.from.are_parts copy.0 in_parts in
         let (in_region, moved_so) = moves chunk copy.1 into.to s copy.0 is_from steps below in
         (counted_from copy.1.in_subset.start (counted_from copy.0.in_subset.start steps), in_region, moved_so)
@@ -147,7 +147,7 @@ module _ (source : List Dimension) (IsSourceKey : List ℕ → List ℕ → Type
         → IsSourceKey copy.0.chunk.items copy.0.key × IsTargetKey copy.1.chunk.items copy.1.key
     has_keys copy among =
         let (chunk, parts, _, into, in_parts) = copy_of Into (chunks_in plan.cover) groups plan.are_groups copy among in
-        let read = behind region.start copy.1.in_subset in
+        let read = shifted region.start copy.1.in_subset in
         let (s, _, is_from) = source_of (IsPart source IsSourceKey read) (chunks_in into.from.cover) parts into.from.are_parts copy.0 in_parts in (
           subst (λ c. IsSourceKey c copy.0.key) (sym is_from.numbers) is_from.key,
           subst (λ c. IsTargetKey c copy.1.key) (sym into.to.numbers) into.to.key,
@@ -157,9 +157,19 @@ module _ (source : List Dimension) (IsSourceKey : List ℕ → List ℕ → Type
     pub of_one_shape : (copy : Part × Part) → Contains (copies_of groups) copy → copy.0.in_chunk.shape ≡ copy.0.in_subset.shape
     of_one_shape copy among =
         let (chunk, parts, _, into, in_parts) = copy_of Into (chunks_in plan.cover) groups plan.are_groups copy among in
-        let read = behind region.start copy.1.in_subset in
+        let read = shifted region.start copy.1.in_subset in
         let (s, _, is_from) = source_of (IsPart source IsSourceKey read) (chunks_in into.from.cover) parts into.from.are_parts copy.0 in_parts in
         sym is_from.boxes.from_chunk.shape ∙ is_from.boxes.from_subset.shape
+
+    -- no two groups are under one key
+    pub target_keys_differ : ((chunk other key : List ℕ) → AllFit chunk → AllFit other → length chunk ≡ length other → IsTargetKey chunk key
+        → IsTargetKey other key → chunk ≡ other) → AllPairs (λ group other. group.0.key ≢ other.0.key) groups
+    target_keys_differ exact =
+        let cover = plan.cover in
+        let is_box = plan.is_cover.is_box in
+        pairs_of Into (λ group other. group.0.key ≢ other.0.key) (chunks_in cover) groups plan.are_groups (chunks_once cover is_box)
+        (λ one other group next among also differ into into_other same.
+        differ (one_chunk target IsTargetKey (moved at region) exact cover is_box one other group.0 next.0 among also into.to into_other.to same))
 
     module _ (chains : AllByRecursion IsChain source) (also_chains : AllByRecursion IsChain target) (is_region : IsBox region)
         (is_moved : IsBox (moved at region)) where
@@ -188,7 +198,7 @@ module _ (source : List Dimension) (IsSourceKey : List ℕ → List ℕ → Type
           let counted_many = length_counted to.in_subset.start has.steps steps_many in
           let long = all_long target IsTargetKey (moved at region) chunk to index into.to (box, inside) in
           let place_is : place ≡ counted = counted_once at place counted (moved_long place below) (omega arith) has.index_is in
-          let read = behind region.start to.in_subset in
+          let read = shifted region.start to.in_subset in
           let is_read = read_is_box chunk to into.to is_region (index, box, inside) in
           let at_source = counted_from read.start has.steps in
           let (from, in_parts, (at_from, has_from)) = some_part source IsSourceKey read chains is_read group.1 into.from at_source
@@ -212,6 +222,17 @@ module _ (source : List Dimension) (IsSourceKey : List ℕ → List ℕ → Type
               subst (λ x. MovesBehind (from, to) has_from.steps x) (ap (counted_from to.in_subset.start) (sym steps_are) ∙ sym place_is) moved_so,
             ),
           )
+
+      -- and each element of the array that a whole chunk holds is written by one
+      pub whole_is_written : (group : Group) → Contains groups group → IsTrue group.0.whole → (index : List ℕ)
+          → InBox target group.0.chunk.items index → AreBelow (array_sizes target) index
+          → (copy : Part × Part) × Contains (copies_of groups) copy × ((steps : List ℕ) × (from : List ℕ) × MovesTo source target copy steps from index)
+      whole_is_written group has is_whole index box below =
+          let (chunk, among, into) = source_of Into (chunks_in plan.cover) groups plan.are_groups group has in
+          let inside = into.to.whole.0 is_whole index (subst (λ c. InBox target c index) into.to.numbers box) below in
+          let (place, below_shape, counts) = offset_of at region.shape index inside in
+          let (copy, in_copies, (steps, moves_so)) = some_copy place below_shape in
+          (copy, in_copies, (steps, counted_from region.start place, subst (MovesTo source target copy steps (counted_from region.start place)) counts moves_so))
 
       -- two copies that differ move no two elements from one index, nor to one
       apart : (copy other : Part × Part) → Contains (copies_of groups) copy → Contains (copies_of groups) other → Differ copy other
@@ -241,7 +262,7 @@ module _ (source : List Dimension) (IsSourceKey : List ℕ → List ℕ → Type
       differ_all =
           copies_differ Into (chunks_in plan.cover) groups plan.are_groups (chunks_once plan.cover plan.is_cover.is_box)
           (λ chunk group into. into.to.numbers)
-          (λ chunk group into. parts_differ source IsSourceKey (behind region.start group.0.in_subset) group.1 into.from)
+          (λ chunk group into. parts_differ source IsSourceKey (shifted region.start group.0.in_subset) group.1 into.from)
 
       -- so no element of the target's array is written by two
       abbrev WriteApart : Part × Part → Part × Part → Type 0

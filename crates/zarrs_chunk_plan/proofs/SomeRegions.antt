@@ -8,7 +8,7 @@ use Rattle.zarrs_chunks.proofs.Covers.{head_some, tail_some}
 use Rattle.zarrs_chunks.specs.Walks.{counted_from}
 use Rattle.zarrs_chunk_plan.specs.Plan.{IsPart, IsPlan, Meets}
 use Rattle.zarrs_chunk_plan.specs.Rechunking.{AreCopiesInto, Group, array_box}
-use Rattle.zarrs_chunk_plan.specs.Region.{AreMovedInto, EndWithin, LiesIn, behind, moved}
+use Rattle.zarrs_chunk_plan.specs.Region.{AreMovedInto, EndWithin, LiesIn, moved, shifted}
 use Rattle.zarrs_chunk_plan.specs.declared.chunk_copies.Copies.{Copies}
 use Rattle.zarrs_chunk_plan.specs.seen.Copies.{AreGroupsToCome, AreMovesToCome, CanCopy, first_of, targets_to_come}
 use Rattle.zarrs_chunk_plan.specs.seen.Parts.{HasKeys}
@@ -47,7 +47,7 @@ module _ (source : List Dimension) (IsSourceKey : List ℕ → List ℕ → Type
       let last = last_within to.in_subset.start to.in_subset.shape is.boxes.from_subset.is_box.lengths some in
       let below = place_below target IsTargetKey (moved at region) chunk to (lasts to.in_subset.start to.in_subset.shape) is last in
       let is_read = read_is_box source IsSourceKey target IsTargetKey region at chunk to is is_region meets in
-      let (from, plan) = has_plan source IsSourceKey chains keys (behind region.start to.in_subset) is_read some
+      let (from, plan) = has_plan source IsSourceKey chains keys (shifted region.start to.in_subset) is_read some
       (λ index inside. inside_array region.start region.shape (array_sizes source) to.in_subset.start to.in_subset.shape index lies some below inside)
       in
       ((to, from), record { to = is; from = plan })
@@ -70,7 +70,7 @@ module _ (source : List Dimension) (IsSourceKey : List ℕ → List ℕ → Type
   copied chunk group (index, box, inside) into shape =
       let to = subst (λ sizes. IsPart target IsTargetKey (record { start = replicate (length target) 0; shape = sizes }) chunk group.0) shape into.to in
       let long = all_long target IsTargetKey (array_box target) chunk group.0 index to (box, inside) in
-      let same : behind region.start group.0.in_subset ≡ group.0.in_subset =
+      let same : shifted region.start group.0.in_subset ≡ group.0.in_subset =
       rw from_zero (ap (λ (start : List ℕ). let b : Box = record { start = start; shape = group.0.in_subset.shape } in b)
       (counted_from_zeros (length target) group.0.in_subset.start (omega arith)))
       in
@@ -88,10 +88,10 @@ module _ (source : List Dimension) (IsSourceKey : List ℕ → List ℕ → Type
 -- what a walk over a rechunking moves are its groups
 pub moved_groups : {G E H F : Type 0} (source_dimensions : G → List Dimension) (source_key : E → List ℕ → List ℕ → Type 0)
     (target_dimensions : H → List Dimension) (target_key : F → List ℕ → List ℕ → Type 0) (walk : Copies G E H F) (groups : List Group)
-    → CanCopy source_dimensions target_dimensions walk → first_of walk ≡ replicate (length (target_dimensions walk.targets.grid.now)) 0
+    → CanCopy source_dimensions target_dimensions walk
     → AreMovesToCome source_dimensions source_key target_dimensions target_key walk groups
     → AreGroupsToCome source_dimensions source_key target_dimensions target_key walk groups
-moved_groups source_dimensions source_key target_dimensions target_key walk groups can first are =
+moved_groups source_dimensions source_key target_dimensions target_key walk groups can are =
     let target = target_dimensions walk.targets.grid.now in
     let chunks = targets_to_come walk in
     let meet = subst (λ b. AllByRecursion (Meets target b) chunks) can.whole_array can.meet in
@@ -100,4 +100,4 @@ moved_groups source_dimensions source_key target_dimensions target_key walk grou
     (record { start = first_of walk; shape = b.shape }) b.start) chunks groups) can.whole_array are
     in
     all_copied (source_dimensions walk.source.now.grid) (source_key walk.source.now.encoding) target (target_key walk.targets.encoding.now)
-    (record { start = first_of walk; shape = array_sizes target }) first chunks groups meet moves refl
+    (record { start = first_of walk; shape = array_sizes target }) can.from_zero chunks groups meet moves refl

@@ -1,5 +1,6 @@
 -- The copy of a region: a box of elements of one array goes to a box of the same shape in another array, or in the same one. For each chunk of the
--- target that meets the moved box, the elements that it takes, and the parts of the source's chunks that have them.
+-- target that meets the moved box, the elements that it takes, and the parts of the source's chunks that have them. What is said of the copy is said of
+-- a region that isn't empty; that it lies in both arrays is `CanBeMoved`.
 -- Sources: Zarr V3 core, chunk grids and chunk key encodings; the copy of a region is this library's own.
 use Rattle.std.specs.Prelude.{◌≡◌, ◌≢◌, ℕ, ◌+◌, ◌≤◌, List, [], ◌∷◌, length}
 use Rattle.std.specs.List.{AllZip}
@@ -15,9 +16,9 @@ use Rattle.zarrs_chunk_plan.specs.declared.part.Part.{Part}
 use Rattle.zarrs_chunk_plan.specs.declared.region_error.RegionError.{RegionError}
 use Rattle.zarrs_chunk_plan.specs.declared.region_error.RegionError.TheVariants.{Region, Target, At, PastSource, PastTarget}
 
--- a box, as far behind the numbers of a list as it was behind 0
-abbrev pub behind : List ℕ → Box → Box
-behind first b = record { start = counted_from first b.start; shape = b.shape }
+-- a box, shifted by a list of numbers
+abbrev pub shifted : List ℕ → Box → Box
+shifted first b = record { start = counted_from first b.start; shape = b.shape }
 
 -- the box of the region's shape that begins at `at`
 abbrev pub moved : List ℕ → Box → Box
@@ -58,17 +59,17 @@ module _ (source : List Dimension) (IsSourceKey : List ℕ → List ℕ → Type
   -- that the chunk holds
   pub record AreMovedInto (chunk : List ℕ) (group : Group) : Type 0 where
     pub to : IsPart target IsTargetKey (moved at region) chunk group.0
-    pub from : IsPlan source IsSourceKey (behind region.start group.0.in_subset) group.1
+    pub from : IsPlan source IsSourceKey (shifted region.start group.0.in_subset) group.1
 
-  -- the copy of a region: a group for each chunk of the target that meets the moved box, in row-major order
+  -- the copy of a region: a group for each chunk of the moved box's cover, in row-major order
   pub record IsRegionCopy (groups : List Group) : Type 0 where
     pub cover : Box
     pub is_cover : IsCover target (moved at region) cover
     pub are_groups : AllZip AreMovedInto (chunks_in cover) groups
 
--- A copy moves the element at an index of the source's array to an index of the target's: so many steps behind the first of either box, it has
--- the one's place in the source's chunk, and the other's in the target's. The box of the part of the source that it has as `in_subset` is counted
--- from the first element of the box that the part of the target has as `in_chunk`.
+-- A copy moves the element at an index of the source's array to an index of the target's: so many steps after the first element of the source's box lies
+-- the one, and as many after the first of where this box goes the other. Where it goes is `in_subset` of the source's part, counted from the first
+-- element of `in_chunk` of the target's.
 pub record MovesTo (source target : List Dimension) (copy : Part × Part) (steps index to : List ℕ) : Type 0 where
   pub below : AreBelow copy.0.in_chunk.shape steps
   pub in_source : InBox source copy.0.chunk.items index

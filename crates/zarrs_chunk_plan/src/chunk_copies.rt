@@ -1,5 +1,5 @@
 //! The walk over what a rechunking copies, and over what is copied of a region.
-use crate::moved::box_behind;
+use crate::moved::shifted_box;
 use crate::part::Part;
 use crate::plan::parts;
 use crate::share::Share;
@@ -100,11 +100,9 @@ impl<
     F: ChunkKeyEncodingTraits,
 > Copies<'a, G, E, H, F> {
     ghost use Rattle.std.specs.Prelude.{IfOk, IfSome};
-    ghost use Rattle.zarrs_chunk_base.specs.ArraySubset.{IsBox, IsEmptyBox};
-    ghost use Rattle.zarrs_chunk_base.specs.Dimension.{array_sizes};
-    ghost use Rattle.zarrs_chunk_plan.specs.Region.{behind};
+    ghost use Rattle.zarrs_chunk_base.specs.ArraySubset.{IsEmptyBox};
+    ghost use Rattle.zarrs_chunk_plan.specs.Region.{shifted};
     ghost use Rattle.zarrs_chunk_plan.specs.seen.Copies.{IsPlanned, first_of};
-    ghost use Rattle.zarrs_chunk_plan.specs.seen.Shared.{held_back};
 
     /// The parts of the source's chunks that have a box of the elements that are copied, which is counted from the first of them.
     ///
@@ -115,14 +113,11 @@ impl<
         elements: &ArraySubset,
     ) -> Result<Option<Parts<'a, G, E>>, Refusal<IncompatibleDimensionalityError>>
         ensures { (¬ IsEmptyBox elements.now) → IfOk result (λ found. IfSome found
-            (λ walk. IsBox walk.array_subset × IsPlanned G.dimensions self.now.source.now.grid
-            self.now.source.now.encoding (behind (held_back (first_of self.now)
-            self.now.targets.array_subset.shape
-            (array_sizes (G.dimensions self.now.source.now.grid))) elements.now) walk)) }
+            (IsPlanned G.dimensions self.now.source.now.grid self.now.source.now.encoding
+            (shifted (first_of self.now) elements.now))) }
     {
         let StoredArray { grid, encoding } = self.source;
-        let shape = self.targets.elements().shape();
-        let read = box_behind(self.alloc, &self.first, shape, grid.array_shape(), elements)?;
+        let read = shifted_box(self.alloc, &self.first, elements)?;
         parts(self.alloc, grid, encoding, &read)
     }
 }

@@ -13,7 +13,8 @@
 //! | Rechunkings that share the target's chunks out are together the whole one | [`rechunkings_that_share_out_are_the_whole_one`] |
 //! | What a walk that `copies_of_region` answers gives, one group after another, is the copy of the region | [`the_walk_gives_the_region`] |
 //! | Each element of a region is moved, place to place, by exactly one copy | [`each_element_of_a_region_is_copied_once`] |
-ghost use Rattle.std.specs.Prelude.{◌≡◌, ◌≢◌, ◌↔◌, ◌<◌, ℕ, [], List, Ok, Some, map};
+//! | Each chunk that takes some of a region has one group; one that is whole is written whole | [`each_chunk_of_a_region_has_one_group`] |
+ghost use Rattle.std.specs.Prelude.{◌≡◌, ◌≢◌, ◌↔◌, ◌<◌, ℕ, [], IsTrue, List, Ok, Some, map};
 ghost use Rattle.std.specs.Iterator.{Drains};
 ghost use Rattle.std.specs.List.{AllPairs, AllZip, Contains, flat_map, range_with_len};
 ghost use Rattle.zarrs_chunk_axes.specs.InBounds.{AreBelow};
@@ -284,4 +285,26 @@ pub fn each_element_of_a_region_is_copied_once<
         (E.is_key source.now.encoding) (H.dimensions target.now.grid) (F.is_key target.now.encoding)
         region at groups → (copy : Part × Part) → Contains (copies_of groups) copy
         → copy.0.in_chunk.shape ≡ copy.0.in_subset.shape }
+{}
+
+/// Of the copy of a region no two groups are under one key, so each chunk of the target is written once. Where a chunk is whole, each element of the
+/// target's array that it holds is written.
+pub fn each_chunk_of_a_region_has_one_group<
+    G: ChunkGridTraits,
+    E: ChunkKeyEncodingTraits,
+    H: ChunkGridTraits,
+    F: ChunkKeyEncodingTraits,
+>(source: &StoredArray<G, E>, target: &StoredArray<H, F>)
+    ensures one_key { (region : Box) (at : List ℕ) (groups : List Group)
+        → IsRegionCopy (G.dimensions source.now.grid)
+        (E.is_key source.now.encoding) (H.dimensions target.now.grid) (F.is_key target.now.encoding)
+        region at groups → AllPairs (λ group other. group.0.key ≢ other.0.key) groups }
+    ensures whole { (region : Box) (at : List ℕ) (groups : List Group) → IsBox region
+        → IsBox (moved at region) → IsRegionCopy (G.dimensions source.now.grid)
+        (E.is_key source.now.encoding) (H.dimensions target.now.grid) (F.is_key target.now.encoding)
+        region at groups → (group : Group) → Contains groups group → IsTrue group.0.whole
+        → (index : List ℕ) → InBox (H.dimensions target.now.grid) group.0.chunk.items index
+        → AreBelow (array_sizes (H.dimensions target.now.grid)) index
+        → (copy : Part × Part) × Contains (copies_of groups) copy × ((steps : List ℕ) × (from : List ℕ)
+        × MovesTo (G.dimensions source.now.grid) (H.dimensions target.now.grid) copy steps from index) }
 {}

@@ -35,7 +35,7 @@
 //! | `chunks_between` | the walk over the chunks of a share |
 //! | `shared` | the elements that a chunk and a box share, counted from either |
 //! | `overlap` | what two boxes have in common |
-//! | `moved` | whether a box lies in an array; a box, as far behind another element |
+//! | `moved` | whether a box lies in an array; boxes that are shifted |
 //! | `laws` | what holds of every plan |
 #![tactic(auto)]
 

@@ -1,8 +1,8 @@
-//! Boxes of elements in an array, and as far behind another element.
-ghost use Rattle.std.specs.Prelude.{◌≡◌, ◌↔◌, ◌+◌, ◌-◌, ◌≤◌, IfOk, IsTrue, length, min};
-ghost use Rattle.zarrs_chunk_base.specs.ArraySubset.{IsBox, IsEmptyBox};
-ghost use Rattle.zarrs_chunk_plan.specs.Region.{EndWithin, behind};
-ghost use Rattle.zarrs_chunk_plan.specs.seen.Shared.{held_back, places_behind};
+//! Whether a box lies in an array, and boxes that are shifted.
+ghost use Rattle.std.specs.Prelude.{◌≡◌, ◌↔◌, ◌+◌, ◌≤◌, IfOk, IsTrue, length};
+ghost use Rattle.zarrs_chunk_base.specs.ArraySubset.{IsBox};
+ghost use Rattle.zarrs_chunks.specs.Walks.{counted_from};
+ghost use Rattle.zarrs_chunk_plan.specs.Region.{EndWithin, shifted};
 
 use crate::shared::made_box;
 use std::alloc::{AllocError, Global};
@@ -26,53 +26,35 @@ fn ends_within(first: u64, count: u64, size: u64) -> bool
     first <= size && count <= size - first
 }
 
-/// A box of some of the elements that are copied, which is counted from the first of them, as a box of the source's array. All that are copied are a
-/// box of this shape that begins at `first` there. Where that would end past the array, it begins so much earlier; so a box of the array's own shape
-/// always is the whole array.
+/// A box, shifted by as many numbers as it has dimensions.
 ///
 /// # Errors
-/// Out of memory.
-pub(crate) fn box_behind(
+/// Out of memory; or the box would end past 18446744073709551615.
+pub(crate) fn shifted_box(
     alloc: Global,
     first: &[u64],
-    shape: &[u64],
-    array_shape: &[u64],
-    elements: &ArraySubset,
+    b: &ArraySubset,
 ) -> Result<ArraySubset, AllocError>
-    ensures behind { (¬ IsEmptyBox elements.now) → IfOk result (λ b. b
-        ≡ behind (held_back first.now shape.now array_shape.now) elements.now) }
+    ensures value { IfOk result (λ moved. moved ≡ shifted first.now b.now) }
     ensures is_box { IfOk result IsBox }
 {
-    let start = places_behind(alloc, first, shape, array_shape, elements.start())?;
-    made_box(start, Vec::from_slice(alloc, elements.shape())?)
+    let start = sums(alloc, first, b.start())?;
+    made_box(start, Vec::from_slice(alloc, b.shape())?)
 }
 
-/// The index in the source's array of each of some indices, which are counted from the first element that is copied. One past 18446744073709551615
-/// stays there; the box of the elements, if there are some, ends at that or before.
+/// For each dimension the sum of two numbers.
 ///
 /// # Errors
-/// Out of memory.
-fn places_behind(
-    alloc: Global,
-    first: &[u64],
-    shape: &[u64],
-    array_shape: &[u64],
-    indices: &[u64],
-) -> Result<ArrayIndices, AllocError>
-    ensures { IfOk result (λ v. v.items
-        ≡ places_behind first.now shape.now array_shape.now indices.now) }
+/// Out of memory; or a sum is past 18446744073709551615.
+fn sums(alloc: Global, first: &[u64], steps: &[u64]) -> Result<ArrayIndices, AllocError>
+    ensures { IfOk result (λ v. v.items ≡ counted_from first.now steps.now) }
 {
-    let mut places = Vec::with_capacity(alloc, indices.len())?;
-    let ranges = first.iter().zip(shape).zip(array_shape).zip(indices);
-    places.extend(ranges.map(|(((first, count), size), index)| {
-        index.saturating_add(steps_before(*first, *count, *size))
-    }))?;
-    Ok(places)
-}
-
-/// How far so many indices from a first one on lie behind 0, and no farther than that they are below a size.
-fn steps_before(first: u64, count: u64, size: u64) -> u64
-    ensures { result ≡ min first (size - count) }
-{
-    first.min(size.saturating_sub(count))
+    let mut sums = Vec::with_capacity(alloc, steps.len())?;
+    for (start, step) in first.iter().zip(steps) {
+        match start.checked_add(*step) {
+            Some(sum) => sums.push(sum)?,
+            None => return Err(AllocError),
+        }
+    }
+    Ok(sums)
 }

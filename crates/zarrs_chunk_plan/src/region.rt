@@ -4,19 +4,19 @@ ghost use Rattle.zarrs_chunk_base.specs.ArraySubset.{Box, IsBox, IsEmptyBox};
 ghost use Rattle.zarrs_chunk_base.specs.Dimension.{array_sizes};
 ghost use Rattle.zarrs_chunk_base.specs.Refusal.{HasMemory, OrMemory};
 ghost use Rattle.zarrs_chunks.specs.Subsets.{IsCover};
-ghost use Rattle.zarrs_chunks.specs.Walks.{chunks_in, counted_from};
-ghost use Rattle.zarrs_chunk_plan.specs.Region.{CanBeMoved, IsRegionFault, behind, moved};
+ghost use Rattle.zarrs_chunks.specs.Walks.{chunks_in};
+ghost use Rattle.zarrs_chunk_plan.specs.Region.{CanBeMoved, IsRegionFault, moved, shifted};
 ghost use Rattle.zarrs_chunk_plan.specs.seen.Copies.{CanMove, IsAboutCopies, all_targets, first_of, targets_to_come};
 
 use crate::chunk_copies::Copies;
-use crate::moved::lies_in;
+use crate::moved::{lies_in, shifted_box};
 use crate::part::Part;
 use crate::plan::parts;
 use crate::region_error::RegionError;
-use crate::shared::{box_of, expect_answer, made_box};
+use crate::shared::{box_of, expect_answer};
 use crate::stored_array::StoredArray;
 use std::alloc::{AllocError, Global};
-use zarrs_chunk_base::{ArrayIndices, ArraySubset, IncompatibleDimensionalityError, Refusal};
+use zarrs_chunk_base::{ArraySubset, IncompatibleDimensionalityError, Refusal};
 use zarrs_chunk_keys::ChunkKeyEncodingTraits;
 use zarrs_chunks::ChunkGridTraits;
 
@@ -69,6 +69,7 @@ pub fn copies_of_region<
         Vec::from_slice(alloc, at)?,
         Vec::from_slice(alloc, region.shape())?,
     );
+    // The box has a cover: it lies in the target's array.
     let found = parts(alloc, &target.grid, &target.encoding, &moved);
     let targets = expect_answer(found)?;
     let first = Vec::from_slice(alloc, region.start())?;
@@ -118,27 +119,9 @@ fn fit_together<G: ChunkGridTraits, H: ChunkGridTraits>(
 /// of `in_chunk` of the target's, and this box from the chunk's first one.
 ///
 /// # Errors
-/// Out of memory; or the box would end past 18446744073709551615, as it never does for the parts of one group.
+/// Out of memory; or the box would end past 18446744073709551615, which that of two parts of one group doesn't.
 pub fn place_in_target(alloc: Global, to: &Part, from: &Part) -> Result<ArraySubset, AllocError>
-    ensures { IfOk result (λ place. place ≡ behind to.now.in_chunk.start from.now.in_subset) }
+    ensures { IfOk result (λ place. place ≡ shifted to.now.in_chunk.start from.now.in_subset) }
 {
-    let start = sums(alloc, to.in_chunk.start(), from.in_subset.start())?;
-    made_box(start, Vec::from_slice(alloc, from.in_subset.shape())?)
-}
-
-/// For each dimension the sum of two numbers.
-///
-/// # Errors
-/// Out of memory; or a sum is past 18446744073709551615.
-fn sums(alloc: Global, first: &[u64], steps: &[u64]) -> Result<ArrayIndices, AllocError>
-    ensures { IfOk result (λ v. v.items ≡ counted_from first.now steps.now) }
-{
-    let mut sums = Vec::with_capacity(alloc, steps.len())?;
-    for (start, step) in first.iter().zip(steps) {
-        match start.checked_add(*step) {
-            Some(sum) => sums.push(sum)?,
-            None => return Err(AllocError),
-        }
-    }
-    Ok(sums)
+    shifted_box(alloc, to.in_chunk.start(), &from.in_subset)
 }

@@ -161,7 +161,7 @@ fn reaches_from(first: u64, held: u64, start: u64, count: u64) -> bool
     start <= first && held <= count.saturating_sub(first - start)
 }
 
-/// The box of a start and a shape that make one, if they are of a chunk and of a box that share elements.
+/// The box of a start and a shape that make one, as those of elements that are there do.
 ///
 /// # Errors
 /// They make none.

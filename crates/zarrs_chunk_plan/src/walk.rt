@@ -52,13 +52,6 @@ impl<'a, G: ChunkGridTraits, E: ChunkKeyEncodingTraits> Parts<'a, G, E> {
         })
     }
 
-    /// The box of elements that the parts make up.
-    pub(crate) fn elements(&self) -> &ArraySubset
-        ensures { result.now ≡ self.now.array_subset }
-    {
-        &self.array_subset
-    }
-
     /// How many parts there are in all, from the first one on; `None` past 18446744073709551615.
     pub fn in_all(&self) -> Option<u64>
         ensures { result ≡ counted (length (all_chunks self.now)) }

@@ -34,7 +34,7 @@ pub(crate) enum OfArray {
     Parts,
     /// Of a target, with an encoding.
     Copies,
-    /// Of the same.
+    /// Of a target, with an encoding, and of a share.
     Counts,
 }
 

@@ -33,7 +33,7 @@ has_members d s g k shape grid keys =
 pub no_shape : (d m : Data) (told : DocumentFault) → HasOnly known_members d → HasMembers d → Fit d → get (codes "shape") d ≡ Some m
     → IsShapeFault d (codes "shape") told → IsFormFault d (of_document told)
 no_shape d m (Missing field) known members fit there is = absurd (is_there d m (codes "shape") there is.1)
-no_shape d m (WrongValue field) known members fit there is = misformed_shape known members fit is.1 is.0
+no_shape d m (WrongValue field) known members fit there (name, some, none) = misformed_shape known members fit none name
 no_shape d m _ known members fit there is = absurd is
 
 -- what doesn't go with what is asked for comes first

@@ -30,7 +30,7 @@ has_members d s g k i shape grid keys indices =
 pub no_shape : (d m : Data) (told : DocumentFault) → HasMembers d → get (codes "shape") d ≡ Some m → IsShapeFault d (codes "shape") told
     → IsFormFault d (of_document told)
 no_shape d m (Missing field) members there is = absurd (is_there d m (codes "shape") there is.1)
-no_shape d m (WrongValue field) members there is = misformed_shape members is.1 is.0
+no_shape d m (WrongValue field) members there (name, some, none) = misformed_shape members none name
 no_shape d m _ members there is = absurd is
 
 -- the members that are read after the two that were taken out are those of the document

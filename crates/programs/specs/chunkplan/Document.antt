@@ -1,6 +1,6 @@
--- The program's document: a JSON object with the members `shape`, `chunk_grid` and `chunk_key_encoding`; `subset` and `clip`, which may be absent;
--- or `target` and `chunks`, which may be absent; or `target`, `subset` and `at`, which may be absent; and one of `share` and `counts`, which may be
--- absent too. What else an array's `zarr.json` has may stand in it and in the target.
+-- The program's document: a JSON object with the members `shape`, `chunk_grid` and `chunk_key_encoding`. Besides it has, for a read, `subset` and `clip`,
+-- if they are wanted; for a rechunking, `target`, and `chunks` if it is wanted; for the copy of a region, `target` and `subset`, and `at` if it is wanted.
+-- `share` or `counts` says what is wanted of the plan, if not all lines. What else an array's `zarr.json` has may stand in it and in the target.
 use Rattle.std.specs.Prelude.{◌≡◌, ◌⊎◌, ℕ, Bool, true, false, List, Option, Some, None, IsSome, codes, MatchOption, option_map}
 use Rattle.serde_json.specs.Data.{Data}
 use Rattle.serde_json.specs.Find.{as_bool, get}

@@ -54,16 +54,16 @@ abbrev pub HasMembers : Data → Type 0
 HasMembers = HasAll document_members
 
 -- there is a target and no `clip`
-abbrev pub HasTarget : Data → Type 0
-HasTarget d = IsSome (get (codes "target") d) × (get (codes "clip") d ≡ None)
+abbrev pub HasTargetAlone : Data → Type 0
+HasTargetAlone d = IsSome (get (codes "target") d) × (get (codes "clip") d ≡ None)
 
 -- the fault says which member doesn't go with what is asked for, the first of `clip`, `chunks` and `at`
 abbrev pub IsTaskMisfit : Data → RunFault → Type 0
 IsTaskMisfit d ClipOfTarget = IsSome (get (codes "target") d) × IsSome (get (codes "clip") d)
 IsTaskMisfit d ChunksOfNoTarget = (get (codes "target") d ≡ None) × IsSome (get (codes "chunks") d)
-IsTaskMisfit d ChunksOfRegion = HasTarget d × IsSome (get (codes "subset") d) × IsSome (get (codes "chunks") d)
+IsTaskMisfit d ChunksOfRegion = HasTargetAlone d × IsSome (get (codes "subset") d) × IsSome (get (codes "chunks") d)
 IsTaskMisfit d AtOfNoRegion =
-    (((get (codes "target") d ≡ None) × (get (codes "chunks") d ≡ None)) ⊎ (HasTarget d × (get (codes "subset") d ≡ None)))
+    (((get (codes "target") d ≡ None) × (get (codes "chunks") d ≡ None)) ⊎ (HasTargetAlone d × (get (codes "subset") d ≡ None)))
     × IsSome (get (codes "at") d)
 IsTaskMisfit d _ = ⊥
 

@@ -7,7 +7,7 @@ use Rattle.json.specs.Tree.{json_tokens}
 use Rattle.zarrs_chunk_base.specs.ArraySubset.{Box}
 use Rattle.zarrs_chunk_plan.specs.Counted.{counted}
 use Rattle.zarrs_chunk_plan.specs.Rechunking.{Group}
-use Rattle.zarrs_chunk_plan.specs.Region.{behind}
+use Rattle.zarrs_chunk_plan.specs.Region.{shifted}
 use Rattle.zarrs_chunk_plan.specs.Shares.{before_share, share_of}
 use Rattle.zarrs_chunk_plan.specs.declared.part.Part.{Part}
 use Rattle.zarrs_chunk_plan.specs.declared.share.Share.{Share}
@@ -67,7 +67,7 @@ abbrev pub source_json : (first : List ℕ) → Part → Json
 source_json first from =
     object (member (codes "chunk") (numbers_json from.chunk.items)
     (member (codes "in_chunk") (box_json from.in_chunk)
-    (member (codes "in_target") (box_json (behind first from.in_subset))
+    (member (codes "in_target") (box_json (shifted first from.in_subset))
     (member (codes "key") (string from.key)
     (member (codes "shape") (numbers_json from.shape.items) no_members)))))
 

@@ -39,7 +39,7 @@ use zarrs_chunks::{ChunkGrid, ChunkGridTraits};
 ///
 /// # Errors
 /// The grid or the encoding can't be made, or those of the target; the box has another number of dimensions, or no cover, where it isn't clipped; the
-/// region doesn't fit the two arrays; a write failed; or out of memory. Nothing has been written where it is none of the last two.
+/// region doesn't fit the two arrays, or its counts are asked for; a write failed; or out of memory. Nothing has been written where it is none of the last two.
 pub(crate) fn write_plan<W: Write>(
     alloc: Global,
     document: Document,

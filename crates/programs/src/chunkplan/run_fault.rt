@@ -93,10 +93,10 @@ pub enum RunFault {
     #[error("field `subset`: it ends past the array: start plus shape is to be at most the array shape")]
     PastArray,
     /// The region doesn't lie in the target's array where it goes.
-    #[error("field `at`: the box ends past the target's array: `at` plus the box's shape is to be at most that array's shape")]
+    #[error("field `at`: the box ends past the target's array: `at`, which is 0 where it is left out, plus the box's shape is to be at most that array's shape")]
     PastTarget,
     /// The document asks for the counts of the copy of a region.
-    #[error("field `counts` is for a read or a rechunking: leave out `subset`, or leave it out")]
+    #[error("field `counts` isn't for the copy of a region: leave out `counts`")]
     CountsOfRegion,
     /// The box of the target's chunks has another number of dimensions than the target.
     #[error(transparent)]

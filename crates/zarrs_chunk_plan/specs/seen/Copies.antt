@@ -1,5 +1,5 @@
 -- What is left of a walk over what a rechunking copies, or over what is copied of a region.
-use Rattle.std.specs.Prelude.{◌≡◌, ◌≢◌, ℕ, List, [], Option, Some, None, Result, Ok, Err, Vec, map}
+use Rattle.std.specs.Prelude.{◌≡◌, ◌≢◌, ℕ, List, [], Option, Some, None, Result, Ok, Err, Vec, length, map, replicate}
 use Rattle.std.specs.List.{AllZip}
 use Rattle.std.specs.declared.alloc.Global.{Global}
 use Rattle.std.specs.declared.alloc.AllocError.{AllocError}
@@ -10,7 +10,7 @@ use Rattle.zarrs_chunks.specs.Subsets.{IsCover}
 use Rattle.zarrs_chunks.specs.Walks.{Gives, chunks_in}
 use Rattle.zarrs_chunk_plan.specs.Plan.{IsPart}
 use Rattle.zarrs_chunk_plan.specs.Rechunking.{AreCopiesInto, Group, array_box}
-use Rattle.zarrs_chunk_plan.specs.Region.{AreMovedInto, LiesIn, behind}
+use Rattle.zarrs_chunk_plan.specs.Region.{AreMovedInto, LiesIn, shifted}
 use Rattle.zarrs_chunk_plan.specs.declared.chunk_copies.ChunkCopies.{ChunkCopies}
 use Rattle.zarrs_chunk_plan.specs.declared.chunk_copies.Copies.{Copies}
 use Rattle.zarrs_chunk_plan.specs.declared.copies_error.CopiesError.{CopiesError}
@@ -49,10 +49,11 @@ module _ {G E H F : Type 0} where
     pub same_source : walk.source.now ≡ source
     pub targets : IsAbout target.grid target.encoding array walk.targets
 
-  -- both grids are of one array, all of it is copied, and each chunk to come holds some of its elements
+  -- both grids are of one array, all of it is copied, from where it begins, and each chunk to come holds some of its elements
   pub record CanCopy (source_dimensions : G → List Dimension) (target_dimensions : H → List Dimension) (walk : Copies G E H F) : Type 0 where
     pub one_array : array_sizes (source_dimensions walk.source.now.grid) ≡ array_sizes (target_dimensions walk.targets.grid.now)
     pub whole_array : walk.targets.array_subset ≡ array_box (target_dimensions walk.targets.grid.now)
+    pub from_zero : first_of walk ≡ replicate (length (target_dimensions walk.targets.grid.now)) 0
     pub meet : MeetSubset target_dimensions walk.targets
 
   -- the elements that are copied lie in the source's array, and each chunk to come takes some of them
@@ -97,7 +98,7 @@ pub record GivesCopies {G E H F : Type 0} (source_dimensions : G → List Dimens
       group.to.chunk.items group.to) given
   pub moved_from : CanMove source_dimensions target_dimensions before
       → IfGroup (λ group. IsPlanned source_dimensions before.source.now.grid before.source.now.encoding
-      (behind (first_of before) group.to.in_subset) group.from) given
+      (shifted (first_of before) group.to.in_subset) group.from) given
   pub can_move : CanMove source_dimensions target_dimensions before → CanMove source_dimensions target_dimensions after
 
 -- a group that `next` gave, with all parts that its own walk has to give

@@ -18,14 +18,6 @@ shared_sizes origin edges start sizes =
 abbrev pub later_starts : List ℕ → List ℕ → List ℕ
 later_starts one other = map (λ p. max p.0 p.1) (zip one other)
 
--- how far each of so many indices lies behind 0: as far as a first index, and no farther than that so many are below a size
-abbrev pub held_back : (first shape sizes : List ℕ) → List ℕ
-held_back first shape sizes = map (λ p. min p.0.0 (p.1 - p.0.1)) (zip (zip first shape) sizes)
-
--- indices that are counted from there, each at most the greatest number
-abbrev pub places_behind : (first shape sizes indices : List ℕ) → List ℕ
-places_behind first shape sizes indices = map (λ p. min (p.1 + min p.0.0.0 (p.0.1 - p.0.0.1)) greatest) (zip (zip (zip first shape) sizes) indices)
-
 -- so many indices from a first one on lie in a range, where they are some
 pub record Reaches (first held start count : ℕ) : Type 0 where
   pub from : start ≤ first

@@ -27,7 +27,7 @@ returns-clause-can_copy g c =
     let one : array_sizes (g.G.ChunkGridTraits.dimensions c.args.source.now.grid) ≡ array_sizes ds = search rules in
     can_copy g.G.ChunkGridTraits.dimensions g.H.ChunkGridTraits.dimensions c.args.source.now c.args.target.now.grid
     c.args.target.now.encoding c.new-2.result c.in_ok-walk.walk targets c.new-2.ensures.same_source c.new-2.ensures.targets
-    (rw c.in_ok-array.ensures.elements at c.in_ok-walk.ensures.about) c.in_ok-walk.ensures.left one meet
+    (rw c.in_ok-array.ensures.elements at c.in_ok-walk.ensures.about) c.in_ok-walk.ensures.left one meet (search rules)
 
 pub returns-clause-can_move : goal.returns-clause-can_move
 returns-clause-can_move g c =

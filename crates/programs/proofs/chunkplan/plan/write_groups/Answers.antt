@@ -18,7 +18,7 @@ returns-in-Ok g c =
     (λ text (groups, moves, lines). (
       groups,
       rechunking_of source source_key target target_key c.args.source.now c.args.target.now _ c.args.chunks.now targets walk groups said.about is_box
-          are left (moved_groups source source_key target target_key walk groups said.can_copy (rw said.about.targets.same_grid said.first) moves),
+          are left (moved_groups source source_key target target_key walk groups said.can_copy moves),
       said.lengths,
       lines,
     ))

@@ -1,6 +1,5 @@
 use Rattle.std.proofs.Common.{IfOk, IfSome, ap, subst, sym}
 use Rattle.std.specs.List.{Contains}
-use Rattle.zarrs_chunk_base.specs.ArraySubset.{IsBox}
 use Rattle.zarrs_chunk_plan.specs.seen.Copies.{IsPlanned}
 use Rattle.zarrs_chunk_plan.proofs.Copied.{planned_of}
 use Rattle.zarrs_chunk_plan.proofs.chunk_copies.Copies.sources.Goals as goal
@@ -11,10 +10,7 @@ returns g c = λ some.
     let dimensions = g.G.ChunkGridTraits.dimensions in
     let read = c.in_ok-read.read in
     let found = c.parts.ensures in
-    let first = c.deref.ensures.value in
-    let is = (rw (first, c.shape-shape.ensures.value, c.elements.ensures, c.array_shape.ensures) at c.in_ok-read.ensures.behind) some in
+    let is = rw c.deref.ensures.value at c.in_ok-read.ensures.value in
     let any = subst (λ shape. ¬ Contains shape 0) (sym (ap (λ b. b.shape) is)) some in
-    subst (λ b. IfOk c.parts.result (λ found. IfSome found (λ walk. IsBox walk.array_subset
-    × IsPlanned dimensions source.grid source.encoding b walk))) is
-    (planned_of dimensions source.grid source.encoding read c.parts.result c.in_ok-read.ensures.is_box any found.answers found.about found.meet
-    found.all)
+    subst (λ b. IfOk c.parts.result (λ found. IfSome found (IsPlanned dimensions source.grid source.encoding b))) is
+    (planned_of dimensions source.grid source.encoding read c.parts.result any found.answers found.about found.meet found.all)

@@ -1,6 +1,6 @@
 use Rattle.std.proofs.Common.{◌≡◌, ◌++◌}
 use Rattle.zarrs_chunks.specs.Walks.{counted_from}
-use Rattle.zarrs_chunk_plan.proofs.region.sums.Given as goal
+use Rattle.zarrs_chunk_plan.proofs.moved.sums.Given as goal
 
 -- with the sums of the numbers that are left, these are all
 abbrev pub invariant-loop-start : goal.invariant-loop-start

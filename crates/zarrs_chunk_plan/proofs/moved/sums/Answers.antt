@@ -1,6 +1,6 @@
 use Rattle.std.proofs.Common.{◌≡◌, ◌∙◌, ℕ, List, [], ◌∷◌, ◌++◌, append-nil, ap, length, sym, refl, arith, ⊎_elim}
 use Rattle.zarrs_chunks.specs.Walks.{counted_from}
-use Rattle.zarrs_chunk_plan.proofs.region.sums.Goals as goal
+use Rattle.zarrs_chunk_plan.proofs.moved.sums.Goals as goal
 
 -- behind the end of either list there are no sums
 none_left : (first steps : List ℕ) → length first ≡ 0 → counted_from first steps ≡ []
