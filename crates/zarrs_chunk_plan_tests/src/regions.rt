@@ -6,36 +6,39 @@ use std::process::Abort;
 use std::test::Fail;
 use zarrs_chunk_base::{ArraySubset, ChunkEdgeLengths, ChunkShape, Refusal, RunLengthElement};
 use zarrs_chunk_keys::DefaultChunkKeyEncoding;
-use zarrs_chunk_plan::laws::{each_element_of_a_region_is_copied_once, the_walk_gives_the_region};
+use zarrs_chunk_plan::laws::{
+    each_chunk_of_a_region_has_one_group, each_element_of_a_region_is_copied_once,
+    the_walk_gives_the_region,
+};
 use zarrs_chunk_plan::{
     ChunkCopies, Copies, Part, RegionError, StoredArray, all_chunks, copies, copies_of_region,
-    whole_array,
+    place_in_target, whole_array,
 };
 use zarrs_chunks::{ChunkGrid, RectilinearChunkGrid, RegularBoundedChunkGrid, RegularChunkGrid};
 
 /// The elements 1 to 6 of seven, in chunks of three, go to the places 4 to 9 of twelve, in chunks of five.
 const SHIFTED: &str = "\
-c/0 [4] false c/0 [1] [0] [1]
-c/1 [0] true c/0 [2] [0] [1]
-c/1 [0] true c/1 [0] [1] [3]
-c/1 [0] true c/2 [0] [4] [1]
+c/0 [4] false c/0 [1] [0] [4] [1]
+c/1 [0] true c/0 [2] [0] [0] [1]
+c/1 [0] true c/1 [0] [1] [1] [3]
+c/1 [0] true c/2 [0] [4] [4] [1]
 ";
 
 /// Of 4 x 5 elements in chunks of 2 x 3, those from [1, 2] to [2, 4] go to [3, 0] of 6 x 4 in chunks of 4 x 2.
 const IN_TWO_DIMENSIONS: &str = "\
-c/0/0 [3, 0] false c/0/0 [1, 2] [0, 0] [1, 1]
-c/0/0 [3, 0] false c/0/1 [1, 0] [0, 1] [1, 1]
-c/0/1 [3, 0] false c/0/1 [1, 1] [0, 0] [1, 1]
-c/1/0 [0, 0] false c/1/0 [0, 2] [0, 0] [1, 1]
-c/1/0 [0, 0] false c/1/1 [0, 0] [0, 1] [1, 1]
-c/1/1 [0, 0] false c/1/1 [0, 1] [0, 0] [1, 1]
+c/0/0 [3, 0] false c/0/0 [1, 2] [0, 0] [3, 0] [1, 1]
+c/0/0 [3, 0] false c/0/1 [1, 0] [0, 1] [3, 1] [1, 1]
+c/0/1 [3, 0] false c/0/1 [1, 1] [0, 0] [3, 0] [1, 1]
+c/1/0 [0, 0] false c/1/0 [0, 2] [0, 0] [0, 0] [1, 1]
+c/1/0 [0, 0] false c/1/1 [0, 0] [0, 1] [0, 1] [1, 1]
+c/1/1 [0, 0] false c/1/1 [0, 1] [0, 0] [0, 0] [1, 1]
 ";
 
 /// Of seven elements in chunks of 2, 4 and 1 those from 1 to 5 go to the places 2 to 6 of ten, in chunks of four.
 const OF_LISTED_EDGES: &str = "\
-c/0 [2] false c/0 [1] [0] [1]
-c/0 [2] false c/1 [0] [1] [1]
-c/1 [0] false c/1 [1] [0] [3]
+c/0 [2] false c/0 [1] [0] [2] [1]
+c/0 [2] false c/1 [0] [1] [3] [1]
+c/1 [0] false c/1 [1] [0] [0] [3]
 ";
 
 const REGION: &str = "the region: incompatible dimensionality 2, expected 1";
@@ -105,16 +108,18 @@ fn box_at(alloc: Global, start: &[u64], shape: &[u64]) -> Result<ArraySubset, Fa
 }
 
 /// Appends the line of a copy: the key of the target's chunk, where in it what is copied begins, and whether that is all of it; the key of the
-/// source's chunk, where in that the part begins, where behind the first element in the target's chunk, and its shape.
+/// source's chunk, where in that the part begins, where after the first element that the target's chunk gets, where in that chunk, and its shape.
 fn append_copy(alloc: Global, lines: &mut String, to: &Part, from: &Part) -> Result<(), Fail> {
     let (read, written) = (from.in_chunk.start(), from.in_subset.start());
+    let place = place_in_target(alloc, to, from)?;
     let line = format!(in alloc;
-        "{} {:?} {} {} {read:?} {written:?} {:?}\n",
+        "{} {:?} {} {} {read:?} {written:?} {:?} {:?}\n",
         to.key.as_str(),
         to.in_chunk.start(),
         to.whole,
         from.key.as_str(),
-        from.in_chunk.shape()
+        place.start(),
+        place.shape()
     )?;
     lines.push_str(line.as_str())?;
     Ok(())
@@ -210,6 +215,7 @@ fn the_groups_are_the_copy_of_a_region(rt: HostRuntime) -> Result<(), Fail> {
     let (source, target) = (listed(rt.alloc())?, regular(rt.alloc(), &[7], &[3])?);
     the_walk_gives_the_region(&source, &target);
     each_element_of_a_region_is_copied_once(&source, &target);
+    each_chunk_of_a_region_has_one_group(&source, &target);
     Ok(())
 }
 
