@@ -1,11 +1,15 @@
 -- The cover of a box, which may be empty.
-use Rattle.std.proofs.Common.{◌≡◌, ◌≢◌, ◌↔◌, ◌⊎◌, ◌∙◌, ℕ, zero, suc, List, [], ◌∷◌, Some, Ok, length, ap, refl, subst, inl, ⊎_elim, arith}
+use Rattle.std.proofs.Common.{◌≡◌, ◌≢◌, ◌↔◌, ◌⊎◌, ◌∙◌, ℕ, zero, suc, ◌+◌, ◌<◌, ◌≤◌, List, [], ◌∷◌, Some, Ok, length, replicate, ap, ap₂, refl, subst, inl, ⊎_elim}
+use Rattle.std.proofs.Common.{arith}
+use Rattle.std.proofs.lemmas.Bool.{cases_lt}
 use Rattle.std.proofs.lemmas.List.{length-map, length-replicate}
 use Rattle.std.specs.List.{AllByRecursion}
-use Rattle.zarrs_chunk_base.specs.ArraySubset.{Box, IsBox, IsEmptyBox, IsInside, zero_box}
-use Rattle.zarrs_chunk_base.specs.Dimension.{Dimension, Holds, IsChain, array_sizes}
+use Rattle.zarrs_chunk_base.specs.ArraySubset.{AreWithin, Box, IsBox, IsEmptyBox, IsInside, zero_box}
+use Rattle.zarrs_chunk_base.specs.Dimension.{Dimension, Holds, InBox, IsChain, array_sizes}
 use Rattle.zarrs_chunk_base.proofs.InEach.{length_numbers}
 use Rattle.zarrs_chunks.specs.Subsets.{AnswersCover, AnswersEmptyCover, LookedBox}
+use Rattle.zarrs_chunk_axes.specs.InBounds.{AreBelow}
+use Rattle.zarrs_chunks.proofs.Chains.{apart, earlier_has}
 use Rattle.zarrs_chunks.proofs.Meeting.{cover_meets}
 use Rattle.zarrs_chunk_plan.specs.Plan.{Meets}
 use Rattle.zarrs_chunk_plan.specs.Rechunking.{array_box}
@@ -43,3 +47,47 @@ module _ (ds : List Dimension) (b : Box) (dimensions : IsEmptyBox b → length d
           λ inside. absurd (none_below (length ds) (dimensions empty) chunk (subst (λ z. IsInside z chunk) same inside)),
           λ (index, box, inside). absurd (not_empty_if_inside _ _ index inside empty),
         )
+
+-- ---- the chunks that a whole array takes up begin with the first one
+
+first_chunk : (d : Dimension) → IsChain d → (c : ℕ) → Holds d c 0 → c ≡ 0
+first_chunk d chain c here =
+    let from : d.start c ≤ 0 = here.from in
+    ⊎_elim
+    (λ (later : 0 < c).
+    let gap : d.end 0 ≤ d.start c = apart d chain 0 c later here.chunk in
+    let some : d.start 0 < d.end 0 = chain.not_empty 0 (earlier_has d chain 0 c (omega arith) here.chunk) in
+    absurd (omega arith))
+    (λ (le : c ≤ 0). omega arith)
+    (cases_lt 0 c)
+
+first_chunks : (ds : List Dimension) (chunk : List ℕ) → AllByRecursion IsChain ds → InBox ds chunk (replicate (length ds) 0)
+    → chunk ≡ replicate (length ds) 0
+first_chunks [] [] chains box = refl
+first_chunks (d ∷ ds) (c ∷ chunk) chains box =
+    ap₂ (λ x xs. x ∷ xs) (first_chunk d chains.0 c box.0) (first_chunks ds chunk chains.1 box.1)
+first_chunks [] (_ ∷ _) chains box = absurd box
+first_chunks (_ ∷ _) [] chains box = absurd box
+
+pub cover_start : (ds : List Dimension) (r : LookedBox)
+    → (IsEmptyBox (array_box ds) → length ds ≢ 0 → AnswersEmptyCover ds r)
+    → ((¬ IsEmptyBox (array_box ds)) ⊎ (length ds ≡ 0) → AnswersCover ds (array_box ds) r)
+    → (cover : Box) → r ≡ Ok (Some cover) → AllByRecursion IsChain ds → cover.start ≡ replicate (length ds) 0
+cover_start ds r if_empty if_some cover is chains =
+    ⊎_elim
+    (λ empty. ap (λ (z : Box). z.start) (subst (AnswersEmptyCover ds) is (if_empty empty (some_dimension ds empty))))
+    (λ some. first_chunks ds cover.start chains (subst (AnswersCover ds (array_box ds)) is (if_some (inl some))).1.first)
+    (empty_or_some (array_sizes ds))
+
+-- what lies in a box that begins at 0 is below its shape
+pub below_from_zero : (n : ℕ) (shape chunk : List ℕ) → length shape ≡ n → AreBelow shape chunk ↔ AreWithin (replicate n 0) shape chunk
+below_from_zero zero [] [] same = (λ _. tt, λ _. tt)
+below_from_zero zero [] (_ ∷ _) same = (λ h. absurd h, λ h. absurd h)
+below_from_zero (suc n) (size ∷ shape) [] same = (λ h. absurd h, λ h. absurd h)
+below_from_zero (suc n) (size ∷ shape) (c ∷ chunk) same =
+    let rest = below_from_zero n shape chunk (omega arith) in (
+      λ below. let less : c < size = below.0 in (omega arith, omega arith, rest.0 below.1),
+      λ within. let less : c < 0 + size = within.1 in (omega arith, rest.1 within.2),
+    )
+below_from_zero zero (_ ∷ _) chunk same = absurd (omega arith)
+below_from_zero (suc n) [] chunk same = absurd (omega arith)

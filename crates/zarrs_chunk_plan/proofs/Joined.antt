@@ -9,7 +9,7 @@ module _ {X : Type 0} where
   deeper : (x : X) (xs : List X) (y : X) → Contains xs y → Contains (x ∷ xs) y
   deeper x xs y (k, within, is) = (suc k, omega arith, is)
 
-  pairs_of_both : (Q : X → X → Type 0) (xs ys : List X) → AllPairs Q xs → AllPairs Q ys
+  pub pairs_of_both : (Q : X → X → Type 0) (xs ys : List X) → AllPairs Q xs → AllPairs Q ys
       → ((x y : X) → Contains xs x → Contains ys y → Q x y) → AllPairs Q (xs ++ ys)
   pairs_of_both Q [] ys one other across = other
   pairs_of_both Q (x ∷ xs) ys one other across =

@@ -1,8 +1,10 @@
+pub mod AskedChunks
 pub mod BeforeShares
 pub mod Between
 pub mod BoxCounts
 pub mod BoxCover
 pub mod ByNumber
+pub mod ChunksChanged
 pub mod Clipped
 pub mod Copied
 pub mod CopyLists
@@ -10,9 +12,11 @@ pub mod CountedCopies
 pub mod CountedParts
 pub mod InPlace
 pub mod Joined
+pub mod Kept
 pub mod MetChunks
 pub mod MetCovers
 pub mod MovedBoxes
+pub mod OutsideBoxes
 pub mod Overlaps
 pub mod Plans
 pub mod Products

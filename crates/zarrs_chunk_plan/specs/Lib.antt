@@ -4,6 +4,7 @@ pub mod Counts
 pub mod Plan
 pub mod Rechunking
 pub mod Region
+pub mod Resize
 pub mod Shares
 pub mod SomeChunks
 pub mod SomeCopies

@@ -1,8 +1,11 @@
 pub mod Between
+pub mod Changes
 pub mod ChunksBetween
 pub mod Copies
+pub mod Outside
 pub mod Parts
 pub mod ReadCounts
 pub mod Shared
 pub mod Sources
 pub mod TargetCounts
+pub mod Used

@@ -36,7 +36,7 @@ pub fn all_chunks<G: ChunkGridTraits>(alloc: Global, grid: &G) -> Result<ArraySu
 ///
 /// # Errors
 /// Out of memory.
-fn box_from_zero(alloc: Global, shape: &[u64]) -> Result<ArraySubset, AllocError>
+pub(crate) fn box_from_zero(alloc: Global, shape: &[u64]) -> Result<ArraySubset, AllocError>
     ensures value { IfOk result (λ b. b ≡ record {
       start = replicate (length shape.now) 0;
       shape = shape.now;

@@ -40,6 +40,7 @@
 #![tactic(auto)]
 
 mod boxes_from_zero;
+mod chunk_changes;
 mod chunk_copies;
 mod chunks_between;
 mod clipping;
@@ -50,19 +51,23 @@ mod moved;
 mod numbered_chunks;
 mod numbered_copies;
 mod numbered_parts;
+mod outside;
 mod overlap;
 mod part;
 mod plan;
 mod rechunking;
 mod region;
 mod region_error;
+mod resize;
 mod share;
 mod shared;
 mod sources;
 mod stored_array;
+mod used;
 mod walk;
 
 pub use boxes_from_zero::{all_chunks, whole_array};
+pub use chunk_changes::Changes;
 pub use chunk_copies::{ChunkCopies, Copies};
 pub use clipping::clip;
 pub use copies_error::CopiesError;
@@ -75,6 +80,7 @@ pub use plan::parts;
 pub use rechunking::{copies, targets_of};
 pub use region::{copies_of_region, place_in_target};
 pub use region_error::RegionError;
+pub use resize::{Change, ChunkChange, Held, changes};
 pub use share::Share;
 pub use stored_array::StoredArray;
 pub use walk::Parts;

@@ -125,7 +125,7 @@ fn are_of_one_array<G: ChunkGridTraits, H: ChunkGridTraits>(source: &G, target: 
 ///
 /// # Errors
 /// Out of memory.
-fn chunks_of_array<G: ChunkGridTraits>(
+pub(crate) fn chunks_of_array<G: ChunkGridTraits>(
     alloc: Global,
     grid: &G,
     array: &ArraySubset,
@@ -135,6 +135,8 @@ fn chunks_of_array<G: ChunkGridTraits>(
         ≡ length (G.dimensions grid.now)) }
     ensures named { IfOk result (λ chunks. (chunk : List ℕ) → IsInside chunks chunk
         ↔ Meets (G.dimensions grid.now) (array_box (G.dimensions grid.now)) chunk) }
+    ensures start { IfOk result (λ chunks. chunks.start
+        ≡ replicate (length (G.dimensions grid.now)) 0) }
 {
     array.is_a_box();
     let cover = grid.chunks_in_array_subset(alloc, array);

@@ -1,4 +1,4 @@
-use Rattle.zarrs_chunk_plan.proofs.BoxCover.{cover_many, cover_names, some_dimension}
+use Rattle.zarrs_chunk_plan.proofs.BoxCover.{cover_many, cover_names, cover_start, some_dimension}
 use Rattle.zarrs_chunk_plan.proofs.rechunking.chunks_of_array.Goals as goal
 
 pub returns-clause-lengths : goal.returns-clause-lengths
@@ -13,3 +13,9 @@ returns-clause-named g c =
     cover_names _ _ (some_dimension _) cover.result (rw c.requires at cover.ensures.empty) (rw c.requires at cover.ensures.answers)
     c.in_ok-expect_answer.field-0 c.in_ok-expect_answer.ensures (g.met.G.ChunkGridTraits.chained c.args.grid.now)
     (rw c.requires at c.is_a_box.ensures)
+
+pub returns-clause-start : goal.returns-clause-start
+returns-clause-start g c =
+    let cover = c.chunks_in_array_subset-cover in
+    cover_start _ cover.result (rw c.requires at cover.ensures.empty) (rw c.requires at cover.ensures.answers) c.in_ok-expect_answer.field-0
+    c.in_ok-expect_answer.ensures (g.met.G.ChunkGridTraits.chained c.args.grid.now)

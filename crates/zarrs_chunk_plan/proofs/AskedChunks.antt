@@ -1,0 +1,55 @@
+-- The chunks of which a change is asked for are those that are told.
+use Rattle.std.proofs.Common.{◌≡◌, ◌↔◌, ◌⊎◌, ℕ, ◌<◌, ◌≤◌, Bool, IsTrue, List, [], ◌∷◌, Contains, inl, inr, ⊎_elim, arith}
+use Rattle.std.proofs.lemmas.Bool.{cases_lt}
+use Rattle.zarrs_chunk_base.specs.Dimension.{Dimension}
+use Rattle.zarrs_chunk_axes.specs.InBounds.{AreBelow}
+use Rattle.zarrs_chunk_plan.specs.Resize.{AreChanged, IsAsked, IsKept, IsUsed}
+use Rattle.zarrs_chunk_plan.specs.seen.Outside.{AreOnce, IsOutside, IsToldBefore}
+
+below_or_not : (sizes numbers : List ℕ) → AreBelow sizes numbers ⊎ (¬ AreBelow sizes numbers)
+below_or_not [] [] = inl tt
+below_or_not [] (_ ∷ _) = inr (λ below. below)
+below_or_not (_ ∷ _) [] = inr (λ below. below)
+below_or_not (size ∷ sizes) (n ∷ numbers) =
+    ⊎_elim
+    (λ (less : n < size). ⊎_elim (λ below. inl (less, below)) (λ not. inr (λ below. not below.1)) (below_or_not sizes numbers))
+    (λ (past : size ≤ n). inr (λ below. let less : n < size = below.0 in absurd (omega arith)))
+    (cases_lt n size)
+
+module _ (before after : List Dimension) (used used_after kept : List ℕ)
+    (named : (chunk : List ℕ) → AreBelow used chunk ↔ IsUsed before chunk)
+    (named_after : (chunk : List ℕ) → AreBelow used_after chunk ↔ IsUsed after chunk)
+    (are_kept : (chunk : List ℕ) → AreBelow kept chunk ↔ IsKept before after chunk)
+    (keeps : Bool) where
+  asked : (chunk : List ℕ)
+      → (IsToldBefore keeps used kept chunk ⊎ IsOutside used used_after chunk) ↔ IsAsked before after keeps chunk
+  asked chunk = (
+    λ told.
+        ⊎_elim
+        (λ (below, wanted). record {
+          used = inl ((named chunk).0 below);
+          wanted = ⊎_elim (λ all. inl all) (λ out. inr (λ is_kept. out ((are_kept chunk).1 is_kept))) wanted;
+        })
+        (λ (below, out). record {
+          used = inr ((named_after chunk).0 below);
+          wanted = inr (λ is_kept. out ((named chunk).1 is_kept.used));
+        })
+        told,
+    λ is_asked.
+        let wanted = ⊎_elim (λ all. inl all) (λ out. inr (λ below. out ((are_kept chunk).0 below))) is_asked.wanted in
+        ⊎_elim (λ below. inl (below, wanted))
+        (λ out.
+        ⊎_elim (λ is_used. absurd (out ((named chunk).1 is_used))) (λ is_used. inr ((named_after chunk).1 is_used, out)) is_asked.used)
+        (below_or_not used chunk),
+  )
+
+  pub are_changed : (chunks : List (List ℕ)) → AreOnce chunks
+      → ((chunk : List ℕ) → Contains chunks chunk ↔ (IsToldBefore keeps used kept chunk ⊎ IsOutside used used_after chunk))
+      → AreChanged before after keeps chunks
+  are_changed chunks once told = record {
+    once = once;
+    are_those = λ chunk.
+        let there = told chunk in
+        let is_asked = asked chunk in
+        (λ has. is_asked.0 (there.0 has), λ wanted. there.1 (is_asked.1 wanted));
+  }

@@ -1,0 +1,229 @@
+-- The boxes of the chunks that are below one list of numbers and not below another.
+use Rattle.std.proofs.Common.{◌≡◌, ◌≢◌, ◌↔◌, ◌⊎◌, ◌∙◌, ℕ, zero, suc, ◌+◌, ◌-◌, ◌<◌, ◌≤◌, IsTrue, true, false, List, [], ◌∷◌, ◌++◌, Contains, get_or, length}
+use Rattle.std.proofs.Common.{Bool, append-nil, length-set, replicate, set, refl, ap, inl, inr, subst, sym, ⊎_elim, arith}
+use Rattle.std.proofs.lemmas.Bool.{cases_lt, true≢false}
+use Rattle.std.proofs.lemmas.Grind.{flat_map-append, same_number_lists}
+use Rattle.std.proofs.lemmas.List.{get_or-set_other, get_or-set_same}
+use Rattle.std.proofs.lemmas.List.Elements.{Contains-append_cases, Contains-append_left, Contains-append_right}
+use Rattle.std.specs.List.{AllPairs, AllZip}
+use Rattle.zarrs_chunk_base.specs.ArraySubset.{AreWithin, Box, IsBox, IsInside}
+use Rattle.zarrs_chunk_axes.specs.InBounds.{AreBelow}
+use Rattle.zarrs_chunks.specs.Walks.{chunks_in}
+use Rattle.zarrs_chunks.proofs.ChunksInBoxes.{are_those_inside, chunks_once}
+use Rattle.zarrs_chunk_plan.specs.seen.Outside.{AreOnce, IsOutside, IsToldBefore, chunks_of_boxes, lesser}
+use Rattle.zarrs_chunk_plan.proofs.BoxCover.{below_from_zero}
+use Rattle.zarrs_chunk_plan.proofs.Joined.{pairs_of_both}
+use Rattle.zarrs_chunk_plan.proofs.Kept.{lesser_below}
+
+-- ---- what a box gets that grows along one dimension
+
+abbrev pub AddedTo : (shape : List ℕ) (k size : ℕ) → List ℕ → Type 0
+AddedTo shape k size = AreWithin (set (replicate (length shape) 0) k (get_or shape k 0)) (set shape k (size - get_or shape k 0))
+
+pub together : (shape : List ℕ) (k size : ℕ) (chunk : List ℕ) → k < length shape → get_or shape k 0 ≤ size
+    → AreBelow (set shape k size) chunk ↔ (AreBelow shape chunk ⊎ AddedTo shape k size chunk)
+together [] k size chunk within grows = absurd (omega arith)
+together (n ∷ shape) zero size [] within grows = (λ h. absurd h, λ h. ⊎_elim (λ a. absurd a) (λ a. absurd a) h)
+together (n ∷ shape) (suc k) size [] within grows = (λ h. absurd h, λ h. ⊎_elim (λ a. absurd a) (λ a. absurd a) h)
+together (n ∷ shape) zero size (c ∷ chunk) within grows =
+    let others = below_from_zero (length shape) shape chunk refl in (
+      λ below.
+          let less : c < size = below.0 in
+          ⊎_elim (λ (here : c < n). inl (here, below.1)) (λ (le : n ≤ c). inr (le, omega arith, others.0 below.1)) (cases_lt c n),
+      λ either.
+          ⊎_elim (λ below. let less : c < n = below.0 in (omega arith, below.1))
+          (λ added. let less : c < n + (size - n) = added.1 in (omega arith, others.1 added.2)) either,
+    )
+together (n ∷ shape) (suc k) size (c ∷ chunk) within grows =
+    let rest = together shape k size chunk (omega arith) grows in (
+      λ below.
+          let less : c < n = below.0 in
+          ⊎_elim (λ here. inl (less, here)) (λ added. inr (omega arith, omega arith, added)) (rest.0 below.1),
+      λ either.
+          ⊎_elim (λ below. (below.0, rest.1 (inl below.1)))
+          (λ added. let less : c < 0 + n = added.1 in (omega arith, rest.1 (inr added.2))) either,
+    )
+
+pub parted : (shape : List ℕ) (k size : ℕ) (chunk : List ℕ) → k < length shape → AreBelow shape chunk → ¬ AddedTo shape k size chunk
+parted [] k size chunk within below added = absurd (omega arith)
+parted (n ∷ shape) zero size [] within below added = below
+parted (n ∷ shape) (suc k) size [] within below added = below
+parted (n ∷ shape) zero size (c ∷ chunk) within below added =
+    let less : c < n = below.0 in
+    let from : n ≤ c = added.0 in
+    absurd (omega arith)
+parted (n ∷ shape) (suc k) size (c ∷ chunk) within below added = parted shape k size chunk (omega arith) below.1 added.2
+
+-- ---- the boxes so far
+
+-- a box that begins at 0 has grown along the last dimensions, and these boxes have what it got
+pub record HasGrown (inner outer : List ℕ) (left : ℕ) (shape : List ℕ) (boxes : List Box) : Type 0 where
+  pub long : length shape ≡ length outer
+  pub within : (k : ℕ) → k < length outer → get_or shape k 0 ≤ get_or outer k 0
+  pub grown : (k : ℕ) → left ≤ k → k < length outer → get_or shape k 0 ≡ get_or outer k 0
+  pub those : (chunk : List ℕ) → AreBelow shape chunk ↔ (AreBelow inner chunk ⊎ Contains (chunks_of_boxes boxes) chunk)
+  pub apart : (chunk : List ℕ) → AreBelow inner chunk → ¬ Contains (chunks_of_boxes boxes) chunk
+  pub once : AreOnce (chunks_of_boxes boxes)
+
+each_within : (inner outer : List ℕ) → AllZip ◌≤◌ inner outer → (k : ℕ) → k < length outer → get_or inner k 0 ≤ get_or outer k 0
+each_within (m ∷ inner) (n ∷ outer) all zero within = all.0
+each_within (m ∷ inner) (n ∷ outer) all (suc k) within = each_within inner outer all.1 k (omega arith)
+each_within [] [] all k within = absurd (omega arith)
+each_within [] (_ ∷ _) all k within = absurd all
+each_within (_ ∷ _) [] all k within = absurd all
+
+both_long : (inner outer : List ℕ) → AllZip ◌≤◌ inner outer → length inner ≡ length outer
+both_long [] [] all = refl
+both_long (_ ∷ inner) (_ ∷ outer) all = ap suc (both_long inner outer all.1)
+both_long [] (_ ∷ _) all = absurd all
+both_long (_ ∷ _) [] all = absurd all
+
+none_in : (chunk : List ℕ) → ¬ Contains (chunks_of_boxes []) chunk
+none_in chunk (k, within, is) = omega arith
+
+pub not_grown : (inner outer : List ℕ) → AllZip ◌≤◌ inner outer → HasGrown inner outer (length outer) inner []
+not_grown inner outer all = record {
+  long = both_long inner outer all;
+  within = each_within inner outer all;
+  grown = λ k from below. absurd (omega arith);
+  those = λ chunk. (λ below. inl below, λ either. ⊎_elim (λ below. below) (λ has. absurd (none_in chunk has)) either);
+  apart = λ chunk below. none_in chunk;
+  once = λ i j d before within. absurd (omega arith);
+}
+
+-- the chunks of one box more
+pub one_box_more : (boxes : List Box) (added : Box) → chunks_of_boxes (boxes ++ added ∷ []) ≡ chunks_of_boxes boxes ++ chunks_in added
+one_box_more boxes added =
+    flat_map-append chunks_in boxes (added ∷ []) ∙ ap (λ xs. chunks_of_boxes boxes ++ xs) (append-nil (chunks_in added))
+
+pub grown_more : (inner outer : List ℕ) (left : ℕ) (shape : List ℕ) (boxes : List Box) (added : Box) → left < length outer
+    → HasGrown inner outer (suc left) shape boxes → IsBox added
+    → ((chunk : List ℕ) → AreBelow (set shape left (get_or outer left 0)) chunk ↔ (AreBelow shape chunk ⊎ IsInside added chunk))
+    → ((chunk : List ℕ) → AreBelow shape chunk → ¬ IsInside added chunk)
+    → HasGrown inner outer left (set shape left (get_or outer left 0)) (boxes ++ added ∷ [])
+grown_more inner outer left shape boxes added below_all so_far is_box both differ =
+    let size = get_or outer left 0 in
+    let long = so_far.long in
+    let in_added = are_those_inside added is_box in
+    record {
+      long = length-set shape left size ∙ long;
+      within = λ k below.
+          ⊎_elim (λ (less : k < left). other k size below (omega arith)) (λ (le : left ≤ k).
+          ⊎_elim (λ (more : left < k). other k size below (omega arith))
+          (λ (at_most : k ≤ left).
+          let same : k ≡ left = omega arith in
+          let set_to = get_or-set_same shape left size 0 (omega arith) in
+          rw (same, set_to) (let le : size ≤ size = omega arith in le))
+          (cases_lt left k))
+          (cases_lt k left);
+      grown = λ k from below.
+          ⊎_elim (λ (more : left < k).
+          get_or-set_other shape left k size 0 (λ same. let no : k ≡ left = same in absurd (omega arith)) ∙ so_far.grown k (omega arith) below)
+          (λ (at_most : k ≤ left).
+          let same : k ≡ left = omega arith in
+          rw same (get_or-set_same shape left size 0 (omega arith)))
+          (cases_lt left k);
+      those = λ chunk. rw (one_box_more boxes added) (
+        λ below.
+            ⊎_elim
+            (λ was. ⊎_elim (λ in_inner. inl in_inner)
+            (λ has. inr (Contains-append_left (chunks_of_boxes boxes) (chunks_in added) chunk has)) ((so_far.those chunk).0 was))
+            (λ inside. inr (Contains-append_right (chunks_of_boxes boxes) (chunks_in added) chunk ((in_added chunk).1 inside)))
+            ((both chunk).0 below),
+        λ either.
+            ⊎_elim (λ in_inner. (both chunk).1 (inl ((so_far.those chunk).1 (inl in_inner))))
+            (λ has.
+            ⊎_elim (λ was. (both chunk).1 (inl ((so_far.those chunk).1 (inr was))))
+            (λ new. (both chunk).1 (inr ((in_added chunk).0 new)))
+            (Contains-append_cases (chunks_of_boxes boxes) (chunks_in added) chunk has))
+            either,
+      );
+      apart = λ chunk in_inner. rw (one_box_more boxes added)
+          (λ has.
+          ⊎_elim (λ was. so_far.apart chunk in_inner was)
+          (λ new. differ chunk ((so_far.those chunk).1 (inl in_inner)) ((in_added chunk).0 new))
+          (Contains-append_cases (chunks_of_boxes boxes) (chunks_in added) chunk has));
+      once = rw (one_box_more boxes added)
+          (pairs_of_both (λ one other. one ≢ other) (chunks_of_boxes boxes) (chunks_in added) so_far.once (chunks_once added is_box)
+          (λ one other was new same.
+          differ other ((so_far.those other).1 (inr (subst (Contains (chunks_of_boxes boxes)) same was))) ((in_added other).0 new)));
+    }
+  where
+    other : (k size : ℕ) → k < length outer → k ≢ left → get_or (set shape left size) k 0 ≤ get_or outer k 0
+    other k size below differs =
+        let same = get_or-set_other shape left k size 0 differs in
+        let within = so_far.within k below in
+        omega arith
+
+module _ (inner outer shape : List ℕ) (boxes : List Box) (all : HasGrown inner outer 0 shape boxes) where
+  all_grown : shape ≡ outer
+  all_grown =
+      let long = all.long in
+      same_number_lists shape outer all.long (λ k below. all.grown k (omega arith) (omega arith))
+
+  pub are_outside : (chunk : List ℕ) → Contains (chunks_of_boxes boxes) chunk ↔ IsOutside inner outer chunk
+  are_outside chunk = (
+    λ has. (subst (λ xs. AreBelow xs chunk) all_grown ((all.those chunk).1 (inr has)), λ in_inner. all.apart chunk in_inner has),
+    λ (below, out).
+        ⊎_elim (λ in_inner. absurd (out in_inner)) (λ has. has)
+        ((all.those chunk).0 (subst (λ xs. AreBelow xs chunk) (sym all_grown) below)),
+  )
+
+-- ---- the boxes of two lists
+
+-- those outside of what both have are those that aren't in the first one
+pub outside_both : (before after : List ℕ) → length before ≡ length after → (chunk : List ℕ)
+    → IsOutside (lesser before after) after chunk ↔ IsOutside before after chunk
+outside_both before after same chunk = (
+  λ (below, out). (below, λ was. out ((lesser_below before after chunk same).1 (was, below))),
+  λ (below, out). (below, λ both. out ((lesser_below before after chunk same).0 both).0),
+)
+
+module _ (keeps : Bool) (before after kept : List ℕ) (same : length before ≡ length after) (old added : List Box)
+    (are_old : (chunk : List ℕ) → Contains (chunks_of_boxes old) chunk ↔ IsToldBefore keeps before kept chunk)
+    (are_added : (chunk : List ℕ) → Contains (chunks_of_boxes added) chunk ↔ IsOutside (lesser before after) after chunk) where
+  both_lists : chunks_of_boxes (old ++ added) ≡ chunks_of_boxes old ++ chunks_of_boxes added
+  both_lists = flat_map-append chunks_in old added
+
+  pub told_of : (chunk : List ℕ)
+      → Contains (chunks_of_boxes (old ++ added)) chunk ↔ (IsToldBefore keeps before kept chunk ⊎ IsOutside before after chunk)
+  told_of chunk = rw both_lists (
+    λ has.
+        ⊎_elim (λ first. inl ((are_old chunk).0 first)) (λ second. inr ((outside_both before after same chunk).0 ((are_added chunk).0 second)))
+        (Contains-append_cases (chunks_of_boxes old) (chunks_of_boxes added) chunk has),
+    λ told.
+        ⊎_elim (λ first. Contains-append_left (chunks_of_boxes old) (chunks_of_boxes added) chunk ((are_old chunk).1 first))
+        (λ second.
+        Contains-append_right (chunks_of_boxes old) (chunks_of_boxes added) chunk
+        ((are_added chunk).1 ((outside_both before after same chunk).1 second)))
+        told,
+  )
+
+  pub told_once : AreOnce (chunks_of_boxes old) → AreOnce (chunks_of_boxes added) → AreOnce (chunks_of_boxes (old ++ added))
+  told_once one other = rw both_lists
+      (pairs_of_both (λ first second. first ≢ second) (chunks_of_boxes old) (chunks_of_boxes added) one other
+      (λ first second was new is.
+      ((outside_both before after same second).0 ((are_added second).0 new)).1
+      (subst (AreBelow before) is ((are_old first).0 was).0)))
+
+-- all chunks below some numbers, in one box
+pub all_told : (before kept : List ℕ) (b : Box) → IsBox b → b ≡ record { start = replicate (length before) 0; shape = before } → (chunk : List ℕ)
+    → Contains (chunks_of_boxes (b ∷ [])) chunk ↔ IsToldBefore true before kept chunk
+all_told before kept b is_box is chunk =
+    let in_box = are_those_inside b is_box chunk in
+    let inside : IsInside b chunk ↔ AreBelow before chunk =
+    rw is (let both = below_from_zero (length before) before chunk refl in (λ h. both.1 h, λ h. both.0 h)) in
+    rw (append-nil (chunks_in b)) (
+      λ has. (inside.0 (in_box.0 has), inl refl),
+      λ (below, _). in_box.1 (inside.1 below),
+    )
+
+pub all_told_once : (b : Box) → IsBox b → AreOnce (chunks_of_boxes (b ∷ []))
+all_told_once b is_box = rw (append-nil (chunks_in b)) (chunks_once b is_box)
+
+-- those that aren't kept
+pub others_told : (before kept : List ℕ) (chunk : List ℕ) → IsOutside kept before chunk ↔ IsToldBefore false before kept chunk
+others_told before kept chunk = (
+  λ (below, out). (below, inr out),
+  λ (below, wanted). (below, ⊎_elim (λ t. absurd (true≢false (sym t))) (λ out. out) wanted),
+)

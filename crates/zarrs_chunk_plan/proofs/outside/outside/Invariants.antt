@@ -1,0 +1,6 @@
+use Rattle.zarrs_chunk_plan.proofs.OutsideBoxes.{HasGrown}
+use Rattle.zarrs_chunk_plan.proofs.outside.outside.Given as goal
+
+-- the box has grown along the dimensions that were looked at
+abbrev pub invariant-loop-dimension : goal.invariant-loop-dimension
+invariant-loop-dimension l = HasGrown l.inner l.outer l.dimension l.shape.items l.boxes.items

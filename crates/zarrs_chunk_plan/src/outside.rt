@@ -1,0 +1,61 @@
+//! The chunks that are below one list of numbers and not below another, as boxes.
+ghost use Rattle.std.specs.Prelude.{◌≡◌, ◌↔◌, ◌⊎◌, ◌<◌, ◌≤◌, ℕ, IfOk, List, get_or, length, set};
+ghost use Rattle.std.specs.List.{AllZip, Contains};
+ghost use Rattle.zarrs_chunk_base.specs.ArraySubset.{IsBox, IsInside};
+ghost use Rattle.zarrs_chunk_axes.specs.InBounds.{AreBelow};
+ghost use Rattle.zarrs_chunk_plan.specs.seen.Outside.{AreOnce, IsOutside, chunks_of_boxes};
+
+use crate::boxes_from_zero::zeros;
+use crate::shared::made_box;
+use std::alloc::{AllocError, Global};
+use zarrs_chunk_base::{ArrayShape, ArraySubset};
+
+/// The chunks that are below one list of numbers and not below another, in boxes of which no two have one chunk.
+///
+/// # Errors
+/// Out of memory.
+pub(crate) fn outside(
+    alloc: Global,
+    inner: &[u64],
+    outer: &[u64],
+) -> Result<Vec<ArraySubset>, AllocError>
+    requires { AllZip ◌≤◌ inner.now outer.now }
+    ensures those { IfOk result (λ boxes. (chunk : List ℕ)
+        → Contains (chunks_of_boxes boxes.items) chunk ↔ IsOutside inner.now outer.now chunk) }
+    ensures once { IfOk result (λ boxes. AreOnce (chunks_of_boxes boxes.items)) }
+{
+    let mut shape = Vec::from_slice(alloc, inner)?;
+    let mut boxes = Vec::with_capacity(alloc, outer.len())?;
+    for dimension in (0..outer.len()).rev() {
+        boxes.push(added_part(alloc, &shape, dimension, outer[dimension])?)?;
+        shape[dimension] = outer[dimension];
+    }
+    Ok(boxes)
+}
+
+/// What a box that begins at 0 gets when it grows to a size along one dimension.
+///
+/// # Errors
+/// Out of memory.
+fn added_part(
+    alloc: Global,
+    shape: &[u64],
+    dimension: usize,
+    size: u64,
+) -> Result<ArraySubset, AllocError>
+    requires within { dimension < length shape.now }
+    requires grows { get_or shape.now dimension 0 ≤ size }
+    ensures together { IfOk result (λ added. (chunk : List ℕ)
+        → AreBelow (set shape.now dimension size) chunk
+        ↔ (AreBelow shape.now chunk ⊎ IsInside added chunk)) }
+    ensures apart { IfOk result (λ added. (chunk : List ℕ) → AreBelow shape.now chunk
+        → ¬ IsInside added chunk) }
+    ensures is_box { IfOk result IsBox }
+{
+    let mut start = zeros(alloc, shape.len())?;
+    let mut sizes = Vec::from_slice(alloc, shape)?;
+    start[dimension] = shape[dimension];
+    sizes[dimension] = size - shape[dimension];
+    let added = made_box(start, sizes)?;
+    Ok(added)
+}
