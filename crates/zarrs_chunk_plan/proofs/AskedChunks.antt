@@ -6,7 +6,8 @@ use Rattle.zarrs_chunk_axes.specs.InBounds.{AreBelow}
 use Rattle.zarrs_chunk_plan.specs.Resize.{AreChanged, IsAsked, IsKept, IsUsed}
 use Rattle.zarrs_chunk_plan.specs.seen.Outside.{AreOnce, IsOutside, IsToldBefore}
 
-below_or_not : (sizes numbers : List ℕ) → AreBelow sizes numbers ⊎ (¬ AreBelow sizes numbers)
+-- numbers are below sizes, or they aren't
+pub below_or_not : (sizes numbers : List ℕ) → AreBelow sizes numbers ⊎ (¬ AreBelow sizes numbers)
 below_or_not [] [] = inl tt
 below_or_not [] (_ ∷ _) = inr (λ below. below)
 below_or_not (_ ∷ _) [] = inr (λ below. below)

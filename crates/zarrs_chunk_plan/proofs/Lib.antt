@@ -16,6 +16,7 @@ pub mod Kept
 pub mod MetChunks
 pub mod MetCovers
 pub mod MovedBoxes
+pub mod OneConfiguration
 pub mod OutsideBoxes
 pub mod Overlaps
 pub mod Plans
@@ -23,11 +24,13 @@ pub mod Products
 pub mod Ranks
 pub mod Rechunkings
 pub mod Regions
-pub mod SomeRegions
+pub mod ResizeLaws
 pub mod SameBoxes
 pub mod ShareLists
 pub mod Shares
 pub mod SomePlan
+pub mod SomeRegions
+pub mod SomeResizes
 pub mod Taken
 pub mod Walked
 pub mod Wholes

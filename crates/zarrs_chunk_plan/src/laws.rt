@@ -14,22 +14,34 @@
 //! | What a walk that `copies_of_region` answers gives, one group after another, is the copy of the region | [`the_walk_gives_the_region`] |
 //! | Each element of a region is moved, place to place, by exactly one copy | [`each_element_of_a_region_is_copied_once`] |
 //! | Each chunk that takes some of a region has one group; one that is whole is written whole | [`each_chunk_of_a_region_has_one_group`] |
-ghost use Rattle.std.specs.Prelude.{◌≡◌, ◌≢◌, ◌↔◌, ◌<◌, ℕ, [], IsTrue, List, Ok, Some, map};
+//! | Grids that one configuration makes of two array shapes are those of a resize: an index that both arrays have lies in the same chunk | [`grids_of_one_configuration_share_their_chunks`] |
+//! | What a walk that `changes` answers gives, one after another, is the plan of the resize | [`the_walk_gives_the_resize`] |
+//! | Each chunk that either array uses gets one of four changes, under a key that no other one has | [`each_chunk_has_one_change`] |
+//! | A chunk that is kept holds each element at the place where it held it | [`a_kept_chunk_is_as_it_was`] |
+//! | An element that both arrays have stays in its chunk, at its place; its chunk is kept or written again | [`each_element_stays_in_its_chunk`] |
+//! | The chunk of an element that leaves is written again or deleted, that of one that comes is written again or new | [`each_element_that_leaves_or_comes_changes_its_chunk`] |
+ghost use Rattle.std.specs.Prelude.{◌≡◌, ◌≢◌, ◌↔◌, ◌⊎◌, ◌<◌, ℕ, [], Bool, IsTrue, true, List, Ok, Some, map};
 ghost use Rattle.std.specs.Iterator.{Drains};
 ghost use Rattle.std.specs.List.{AllPairs, AllZip, Contains, flat_map, range_with_len};
 ghost use Rattle.zarrs_chunk_axes.specs.InBounds.{AreBelow};
 ghost use Rattle.zarrs_chunk_base.specs.ArraySubset.{Box, IsBox, IsEmptyBox, IsInside};
 ghost use Rattle.zarrs_chunk_base.specs.Dimension.{InBox, IsPlace, array_sizes};
+ghost use Rattle.zarrs_chunk_base.specs.Grid.{Grid};
+ghost use Rattle.zarrs_chunk_base.specs.Metadata.{Extension};
+ghost use Rattle.zarrs_chunks.specs.GridKinds.{IsGrid};
 ghost use Rattle.zarrs_chunks.specs.Subsets.{IsCover};
 ghost use Rattle.zarrs_chunks.specs.Walks.{chunks_in, counted_from};
 ghost use Rattle.zarrs_chunk_plan.specs.Plan.{HasElement, IsPart, IsPlan};
 ghost use Rattle.zarrs_chunk_plan.specs.Rechunking.{AreTargets, Group, IsRechunking, Moves, ShareOut, array_box, copies_of};
 ghost use Rattle.zarrs_chunk_plan.specs.Region.{IsRegionCopy, MovesTo, moved};
+ghost use Rattle.zarrs_chunk_plan.specs.Resize.{AreChanged, AreResized, HasElementOf, IsAsked, IsChange, IsChanged, IsKept, IsResizePlan, IsUsed};
+ghost use Rattle.zarrs_chunk_plan.specs.declared.resize.Change.TheVariants.{Delete, Keep, New, Rewrite};
 ghost use Rattle.zarrs_chunk_plan.specs.Shares.{numbered_share};
+ghost use Rattle.zarrs_chunk_plan.specs.seen.Changes.{AreChangesToCome, CanChange, GivesChange, IsAboutResize, changes_to_come};
 ghost use Rattle.zarrs_chunk_plan.specs.seen.Copies.{AreGroupsToCome, AreMovesToCome, CanCopy, CanMove, GivesCopies, HasAllParts, IsAboutCopies, first_of, targets_to_come};
 ghost use Rattle.zarrs_chunk_plan.specs.seen.Parts.{AnswersNoParts, AnswersParts, ArePartsToCome, GivesPart, IsAbout, MeetSubset};
 
-use crate::{ChunkCopies, Copies, Part, Parts, StoredArray};
+use crate::{Change, Changes, ChunkChange, ChunkCopies, Copies, Part, Parts, StoredArray};
 use zarrs_chunk_base::ArraySubset;
 use zarrs_chunk_keys::ChunkKeyEncodingTraits;
 use zarrs_chunks::ChunkGridTraits;
@@ -307,4 +319,117 @@ pub fn each_chunk_of_a_region_has_one_group<
         → AreBelow (array_sizes (H.dimensions target.now.grid)) index
         → (copy : Part × Part) × Contains (copies_of groups) copy × ((steps : List ℕ) × (from : List ℕ)
         × MovesTo (G.dimensions source.now.grid) (H.dimensions target.now.grid) copy steps from index) }
+{}
+
+/// Grids that one configuration makes of two array shapes, of whatever kind it is, hold each index that both arrays have in the same chunk. So they may
+/// be the grids of a resize.
+pub fn grids_of_one_configuration_share_their_chunks()
+    ensures { (e : Extension) (shape other : List ℕ) (before after : Grid)
+        → IsGrid e shape before → IsGrid e other after
+        → AreResized before.dimensions after.dimensions }
+{}
+
+/// What a walk over the changes of a resize gives up to its end is its changes to come. Of a walk that `changes` answers these are the plan of the resize.
+pub fn the_walk_gives_the_resize<
+    G: ChunkGridTraits,
+    H: ChunkGridTraits,
+    E: ChunkKeyEncodingTraits,
+>(before: &G, after: &H, encoding: &E)
+    ensures to_come { (walk : Changes G H E) (changes : List ChunkChange)
+        → CanChange G.dimensions H.dimensions walk
+        → Drains (GivesChange G.dimensions H.dimensions E.is_key) walk (map Ok changes)
+        → AreChangesToCome G.dimensions H.dimensions E.is_key walk changes }
+    ensures plan { (keeps : Bool) (walk : Changes G H E) (changes : List ChunkChange)
+        → AreChanged (G.dimensions before.now) (H.dimensions after.now) keeps (changes_to_come walk)
+        → IsAboutResize before.now after.now encoding.now walk
+        → AreChangesToCome G.dimensions H.dimensions E.is_key walk changes
+        → IsResizePlan (G.dimensions before.now) (H.dimensions after.now) (E.is_key encoding.now)
+        keeps changes }
+{}
+
+/// In the plan of a resize each chunk of which a change is asked for has one, and no other chunk has; no two are under one key. Where the kept chunks are
+/// wanted too, each chunk that either array uses has one. What becomes of a chunk is one of four things and no other.
+pub fn each_chunk_has_one_change<
+    G: ChunkGridTraits,
+    H: ChunkGridTraits,
+    E: ChunkKeyEncodingTraits,
+>(before: &G, after: &H, encoding: &E)
+    ensures one { (keeps : Bool) (changes : List ChunkChange)
+        → IsResizePlan (G.dimensions before.now) (H.dimensions after.now) (E.is_key encoding.now)
+        keeps changes → (chunk : List ℕ)
+        → IsAsked (G.dimensions before.now) (H.dimensions after.now) keeps chunk
+        → (change : ChunkChange) × Contains changes change
+        × IsChange (G.dimensions before.now) (H.dimensions after.now) (E.is_key encoding.now)
+        chunk change }
+    ensures all { (changes : List ChunkChange)
+        → IsResizePlan (G.dimensions before.now) (H.dimensions after.now) (E.is_key encoding.now)
+        true changes → (chunk : List ℕ)
+        → (IsUsed (G.dimensions before.now) chunk ⊎ IsUsed (H.dimensions after.now) chunk)
+        → (change : ChunkChange) × Contains changes change
+        × IsChange (G.dimensions before.now) (H.dimensions after.now) (E.is_key encoding.now)
+        chunk change }
+    ensures nothing_else { (keeps : Bool) (changes : List ChunkChange)
+        → IsResizePlan (G.dimensions before.now) (H.dimensions after.now) (E.is_key encoding.now)
+        keeps changes → (change : ChunkChange) → Contains changes change → (chunk : List ℕ)
+        × IsAsked (G.dimensions before.now) (H.dimensions after.now) keeps chunk
+        × IsChange (G.dimensions before.now) (H.dimensions after.now) (E.is_key encoding.now)
+        chunk change }
+    ensures one_key { (keeps : Bool) (changes : List ChunkChange)
+        → IsResizePlan (G.dimensions before.now) (H.dimensions after.now) (E.is_key encoding.now)
+        keeps changes → AllPairs (λ change other. change.key ≢ other.key) changes }
+    ensures no_other { (chunk : List ℕ) (what other : Change)
+        → IsChanged (G.dimensions before.now) (H.dimensions after.now) chunk what
+        → IsChanged (G.dimensions before.now) (H.dimensions after.now) chunk other → what ≡ other }
+{
+    before.array_shape();
+    after.array_shape();
+}
+
+/// A chunk that is kept holds the same elements as before, each at the same place. Its key is that of its numbers, as before.
+pub fn a_kept_chunk_is_as_it_was<G: ChunkGridTraits, H: ChunkGridTraits>(before: &G, after: &H)
+    ensures elements { (chunk index : List ℕ)
+        → IsKept (G.dimensions before.now) (H.dimensions after.now) chunk
+        → HasElementOf (G.dimensions before.now) chunk index
+        ↔ HasElementOf (H.dimensions after.now) chunk index }
+    ensures place { (chunk index place : List ℕ)
+        → IsKept (G.dimensions before.now) (H.dimensions after.now) chunk
+        → IsPlace (G.dimensions before.now) chunk index place
+        ↔ IsPlace (H.dimensions after.now) chunk index place }
+{}
+
+/// An element that the array has before and after a resize lies in the same chunk, at the same place. That chunk is kept or written again; so an element
+/// is never to be moved from one chunk to another.
+pub fn each_element_stays_in_its_chunk<G: ChunkGridTraits, H: ChunkGridTraits>(
+    before: &G,
+    after: &H,
+)
+    ensures chunk { AreResized (G.dimensions before.now) (H.dimensions after.now)
+        → (chunk index : List ℕ) → AreBelow (array_sizes (G.dimensions before.now)) index
+        → AreBelow (array_sizes (H.dimensions after.now)) index
+        → InBox (G.dimensions before.now) chunk index ↔ InBox (H.dimensions after.now) chunk index }
+    ensures place { AreResized (G.dimensions before.now) (H.dimensions after.now)
+        → (chunk index : List ℕ) → HasElementOf (G.dimensions before.now) chunk index
+        → HasElementOf (H.dimensions after.now) chunk index → (place : List ℕ)
+        → IsPlace (G.dimensions before.now) chunk index place
+        ↔ IsPlace (H.dimensions after.now) chunk index place }
+    ensures what { (chunk index : List ℕ) → HasElementOf (G.dimensions before.now) chunk index
+        → HasElementOf (H.dimensions after.now) chunk index → (what : Change)
+        → IsChanged (G.dimensions before.now) (H.dimensions after.now) chunk what
+        → (what ≡ Keep) ⊎ (what ≡ Rewrite) }
+{}
+
+/// The chunk of an element that the array no longer has is written again or deleted; that of an element that it gets is written again or new. So no
+/// kept chunk holds what is to leave, or lacks what is to come.
+pub fn each_element_that_leaves_or_comes_changes_its_chunk<G: ChunkGridTraits, H: ChunkGridTraits>(
+    before: &G,
+    after: &H,
+)
+    ensures leaves { (chunk index : List ℕ) → HasElementOf (G.dimensions before.now) chunk index
+        → (¬ HasElementOf (H.dimensions after.now) chunk index) → (what : Change)
+        → IsChanged (G.dimensions before.now) (H.dimensions after.now) chunk what
+        → (what ≡ Rewrite) ⊎ (what ≡ Delete) }
+    ensures comes { (chunk index : List ℕ) → HasElementOf (H.dimensions after.now) chunk index
+        → (¬ HasElementOf (G.dimensions before.now) chunk index) → (what : Change)
+        → IsChanged (G.dimensions before.now) (H.dimensions after.now) chunk what
+        → (what ≡ Rewrite) ⊎ (what ≡ New) }
 {}

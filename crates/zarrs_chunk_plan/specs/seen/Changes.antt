@@ -1,5 +1,6 @@
 -- What is left of a walk over the changes of a resize.
 use Rattle.std.specs.Prelude.{◌≡◌, ◌≢◌, ◌↔◌, ℕ, Bool, true, false, List, [], ◌++◌, Option, Some, None, Result, Ok, Err, drop}
+use Rattle.std.specs.List.{AllZip}
 use Rattle.std.specs.declared.alloc.AllocError.{AllocError}
 use Rattle.zarrs_chunk_base.specs.Dimension.{Dimension}
 use Rattle.zarrs_chunk_axes.specs.InBounds.{AreBelow}
@@ -46,6 +47,12 @@ module _ {G H E : Type 0} where
     pub used_after : (chunk : List ℕ) → AreBelow walk.uses.after.items chunk ↔ IsUsed (dimensions_after walk.after.now) chunk
     pub kept : (chunk : List ℕ)
         → AreBelow walk.uses.kept.items chunk ↔ IsKept (dimensions_before walk.before.now) (dimensions_after walk.after.now) chunk
+
+-- the changes that the walk has to give: one for each chunk to come
+abbrev pub AreChangesToCome : {G H E : Type 0} → (G → List Dimension) → (H → List Dimension) → (E → List ℕ → List ℕ → Type 0) → Changes G H E
+    → List ChunkChange → Type 0
+AreChangesToCome dimensions_before dimensions_after is_key walk =
+    AllZip (IsChange (dimensions_before walk.before.now) (dimensions_after walk.after.now) (is_key walk.encoding.now)) (changes_to_come walk)
 
 -- what becomes of a chunk, by which array uses it, and whether it is one that is kept where both do
 abbrev pub what_becomes : (before after kept : Bool) → Option Change
