@@ -104,9 +104,9 @@ module _ (d e : Dimension) (resized : IsResized d e) where
               let below : c < both = omega arith in (
                 below,
                 ⊎_elim (earlier_kept c)
-                (λ (le : last ≤ c).
-                let at : last ≡ c = omega arith in subst (KeptAlong d e) at (last_kept a n edge edge_after same held_same))
-                (cases_lt c last),
+                    (λ (le : last ≤ c).
+                    let at : last ≡ c = omega arith in subst (KeptAlong d e) at (last_kept a n edge edge_after same held_same))
+                    (cases_lt c last),
               ),
           λ (below, kept). omega arith,
         ))

@@ -152,6 +152,12 @@ held_long (d ∷ ds) (c ∷ chunk) some = let rest = held_long ds chunk some.1 i
 held_long [] (_ ∷ _) some = absurd some
 held_long (_ ∷ _) [] some = absurd some
 
+as_many : (ds es : List Dimension) → AreResized ds es → length ds ≡ length es
+as_many [] [] resized = refl
+as_many (_ ∷ ds) (_ ∷ es) resized = let rest = as_many ds es resized.1 in omega arith
+as_many [] (_ ∷ _) resized = absurd resized
+as_many (_ ∷ _) [] resized = absurd resized
+
 module _ (ds es : List Dimension) (IsKey : List ℕ → List ℕ → Type 0) (keeps : Bool) (changes : List ChunkChange)
     (plan : IsResizePlan ds es IsKey keeps changes) where
   pub has_one : (chunk : List ℕ) → IsAsked ds es keeps chunk → (change : ChunkChange) × Contains changes change × IsChange ds es IsKey chunk change
@@ -164,10 +170,10 @@ module _ (ds es : List Dimension) (IsKey : List ℕ → List ℕ → Type 0) (ke
       (chunk, (plan.are_chunks.are_those chunk).0 in_chunks, is)
 
   pub change_keys_differ : AllByRecursion IsChain ds → AllByRecursion IsChain es → AllFit (array_sizes ds) → AllFit (array_sizes es)
-      → length ds ≡ length es
+      → AreResized ds es
       → ((chunk other key : List ℕ) → AllFit chunk → AllFit other → length chunk ≡ length other → IsKey chunk key → IsKey other key → chunk ≡ other)
       → AllPairs (λ change other. change.key ≢ other.key) changes
-  change_keys_differ chains also fit also_fit same exact =
+  change_keys_differ chains also fit also_fit resized exact =
       pairs_of (IsChange ds es IsKey) (λ change other. change.key ≢ other.key) plan.chunks changes plan.are_changes plan.are_chunks.once
       (λ one other change next among among_too differ is is_next keys.
       let (fits, long) = told one among in
@@ -178,5 +184,5 @@ module _ (ds es : List Dimension) (IsKey : List ℕ → List ℕ → Type 0) (ke
       told chunk among =
           ⊎_elim
           (λ used. let some = meets_hold ds chunk used in (used_fits ds chunk chains fit some, held_long ds chunk some))
-          (λ used. let some = meets_hold es chunk used in (used_fits es chunk also also_fit some, held_long es chunk some ∙ sym same))
+          (λ used. let some = meets_hold es chunk used in (used_fits es chunk also also_fit some, held_long es chunk some ∙ sym (as_many ds es resized)))
           ((plan.are_chunks.are_those chunk).0 among).used

@@ -26,6 +26,7 @@ ghost use Rattle.std.specs.List.{AllPairs, AllZip, Contains, flat_map, range_wit
 ghost use Rattle.zarrs_chunk_axes.specs.InBounds.{AreBelow};
 ghost use Rattle.zarrs_chunk_base.specs.ArraySubset.{Box, IsBox, IsEmptyBox, IsInside};
 ghost use Rattle.zarrs_chunk_base.specs.Dimension.{InBox, IsPlace, array_sizes};
+ghost use Rattle.zarrs_chunk_base.specs.Greatest.{AllFit};
 ghost use Rattle.zarrs_chunk_base.specs.Grid.{Grid};
 ghost use Rattle.zarrs_chunk_base.specs.Metadata.{Extension};
 ghost use Rattle.zarrs_chunks.specs.GridKinds.{IsGrid};
@@ -330,11 +331,11 @@ pub fn grids_of_one_configuration_share_their_chunks()
 {}
 
 /// What a walk over the changes of a resize gives up to its end is its changes to come. Of a walk that `changes` answers these are the plan of the resize.
-pub fn the_walk_gives_the_resize<
-    G: ChunkGridTraits,
-    H: ChunkGridTraits,
-    E: ChunkKeyEncodingTraits,
->(before: &G, after: &H, encoding: &E)
+pub fn the_walk_gives_the_resize<G: ChunkGridTraits, H: ChunkGridTraits, E: ChunkKeyEncodingTraits>(
+    before: &G,
+    after: &H,
+    encoding: &E,
+)
     ensures to_come { (walk : Changes G H E) (changes : List ChunkChange)
         → CanChange G.dimensions H.dimensions walk
         → Drains (GivesChange G.dimensions H.dimensions E.is_key) walk (map Ok changes)
@@ -347,13 +348,13 @@ pub fn the_walk_gives_the_resize<
         keeps changes }
 {}
 
-/// In the plan of a resize each chunk of which a change is asked for has one, and no other chunk has; no two are under one key. Where the kept chunks are
+/// In the plan of a resize each chunk of which a change is asked for has one, and no other chunk has; where the grids are those of a resize no two are under one key. Where the kept chunks are
 /// wanted too, each chunk that either array uses has one. What becomes of a chunk is one of four things and no other.
-pub fn each_chunk_has_one_change<
-    G: ChunkGridTraits,
-    H: ChunkGridTraits,
-    E: ChunkKeyEncodingTraits,
->(before: &G, after: &H, encoding: &E)
+pub fn each_chunk_has_one_change<G: ChunkGridTraits, H: ChunkGridTraits, E: ChunkKeyEncodingTraits>(
+    before: &G,
+    after: &H,
+    encoding: &E,
+)
     ensures one { (keeps : Bool) (changes : List ChunkChange)
         → IsResizePlan (G.dimensions before.now) (H.dimensions after.now) (E.is_key encoding.now)
         keeps changes → (chunk : List ℕ)
@@ -374,16 +375,22 @@ pub fn each_chunk_has_one_change<
         × IsAsked (G.dimensions before.now) (H.dimensions after.now) keeps chunk
         × IsChange (G.dimensions before.now) (H.dimensions after.now) (E.is_key encoding.now)
         chunk change }
-    ensures one_key { (keeps : Bool) (changes : List ChunkChange)
+    ensures one_key { AreResized (G.dimensions before.now) (H.dimensions after.now)
+        → (keeps : Bool) (changes : List ChunkChange)
         → IsResizePlan (G.dimensions before.now) (H.dimensions after.now) (E.is_key encoding.now)
         keeps changes → AllPairs (λ change other. change.key ≢ other.key) changes }
     ensures no_other { (chunk : List ℕ) (what other : Change)
         → IsChanged (G.dimensions before.now) (H.dimensions after.now) chunk what
         → IsChanged (G.dimensions before.now) (H.dimensions after.now) chunk other → what ≡ other }
 {
-    before.array_shape();
-    after.array_shape();
+    all_fit(before.array_shape());
+    all_fit(after.array_shape());
 }
+
+/// That sizes are at most the greatest number: the types say it.
+fn all_fit(sizes: &[u64])
+    ensures { AllFit sizes.now }
+{}
 
 /// A chunk that is kept holds the same elements as before, each at the same place. Its key is that of its numbers, as before.
 pub fn a_kept_chunk_is_as_it_was<G: ChunkGridTraits, H: ChunkGridTraits>(before: &G, after: &H)

@@ -11,13 +11,13 @@ returns-in-Ok-change_of-clause-steps g c =
     let is_chunk = c.in-Ok-change_of.ensures.chunk in
     let gives = rw c.in-Ok.is at c.in_ok-chunk.ensures.gives in
     let can_still : CanChange g.G.ChunkGridTraits.dimensions g.H.ChunkGridTraits.dimensions c.args.self.now
-        → CanChange g.G.ChunkGridTraits.dimensions g.H.ChunkGridTraits.dimensions c.next_chunk.new.self =
+    → CanChange g.G.ChunkGridTraits.dimensions g.H.ChunkGridTraits.dimensions c.next_chunk.new.self =
     λ can. record {
-        array_before = rw (same.same_array_before, same.same_before) can.array_before;
-        array_after = rw (same.same_array_after, same.same_after) can.array_after;
-        used_before = rw (same.same_uses, same.same_before) can.used_before;
-        used_after = rw (same.same_uses, same.same_after) can.used_after;
-        kept = rw (same.same_uses, same.same_before, same.same_after) can.kept;
+      array_before = rw (same.same_array_before, same.same_before) can.array_before;
+      array_after = rw (same.same_array_after, same.same_after) can.array_after;
+      used_before = rw (same.same_uses, same.same_before) can.used_before;
+      used_after = rw (same.same_uses, same.same_after) can.used_after;
+      kept = rw (same.same_uses, same.same_before, same.same_after) can.kept;
     } in
     record {
       gives = gives ∙ ap (λ chunk. chunk ∷ changes_to_come c.next_chunk.new.self) (sym is_chunk);
