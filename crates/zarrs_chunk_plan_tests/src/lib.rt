@@ -4,14 +4,20 @@
 //!
 //! | Module | What it tests |
 //! |---|---|
+//! | `arrays` | the arrays that are planned |
 //! | `plans` | the parts of a box of elements, and the laws |
 //! | `rechunkings` | what a rechunking copies, what refuses it, the counts of it and of a read, and the laws |
 //! | `regions` | what is copied of a region, what refuses it, and the laws |
+//! | `resizes` | what becomes of the chunks of an array that gets another shape, what refuses it, and the laws |
 #![tactic(auto)]
 
+#[cfg(test)]
+mod arrays;
 #[cfg(test)]
 mod plans;
 #[cfg(test)]
 mod rechunkings;
 #[cfg(test)]
 mod regions;
+#[cfg(test)]
+mod resizes;

@@ -1,20 +1,19 @@
 //! What is copied of a region: between arrays of one dimension and of two, from listed edges, of an empty region and of a whole array; what refuses
 //! one, and the laws.
+use crate::arrays::{Stored, bounded, box_at, listed, regular};
 use std::alloc::Global;
-use std::num::NonZeroU64;
 use std::process::Abort;
 use std::test::Fail;
-use zarrs_chunk_base::{ArraySubset, ChunkEdgeLengths, ChunkShape, Refusal, RunLengthElement};
+use zarrs_chunk_base::Refusal;
 use zarrs_chunk_keys::DefaultChunkKeyEncoding;
 use zarrs_chunk_plan::laws::{
     each_chunk_of_a_region_has_one_group, each_element_of_a_region_is_copied_once,
     the_walk_gives_the_region,
 };
 use zarrs_chunk_plan::{
-    ChunkCopies, Copies, Part, RegionError, StoredArray, all_chunks, copies, copies_of_region,
-    place_in_target, whole_array,
+    ChunkCopies, Copies, Part, RegionError, all_chunks, copies, copies_of_region, place_in_target,
 };
-use zarrs_chunks::{ChunkGrid, RectilinearChunkGrid, RegularBoundedChunkGrid, RegularChunkGrid};
+use zarrs_chunks::ChunkGrid;
 
 /// The elements 1 to 6 of seven, in chunks of three, go to the places 4 to 9 of twelve, in chunks of five.
 const SHIFTED: &str = "\
@@ -51,61 +50,6 @@ const PAST_SOURCE: &str = "the region has to end within the source's array";
 
 const PAST_TARGET: &str =
     "the region, moved to the index to begin at, has to end within the target's array";
-
-/// An array in any grid, under default keys with slashes.
-type Stored = StoredArray<ChunkGrid, DefaultChunkKeyEncoding>;
-
-/// The array that is stored in a grid.
-fn stored_in(grid: ChunkGrid) -> Stored {
-    StoredArray {
-        grid,
-        encoding: DefaultChunkKeyEncoding::new_slash(),
-    }
-}
-
-/// A number that isn't 0.
-fn non_zero(number: u64) -> Result<NonZeroU64, Fail> {
-    Ok(NonZeroU64::new(number).ok_or("an edge of 0")?)
-}
-
-/// These edges.
-fn edges_of(alloc: Global, edges: &[u64]) -> Result<ChunkShape, Fail> {
-    let mut shape = Vec::new(alloc);
-    for edge in edges {
-        shape.push(non_zero(*edge)?)?;
-    }
-    Ok(shape)
-}
-
-/// An array of these sizes, in chunks of these edges.
-fn regular(alloc: Global, sizes: &[u64], edges: &[u64]) -> Result<Stored, Fail> {
-    let edges = edges_of(alloc, edges)?;
-    let grid = RegularChunkGrid::new(alloc, sizes.to_vec(alloc)?, edges)?;
-    Ok(stored_in(grid.into()))
-}
-
-/// The same, and the last chunks end where the array does.
-fn bounded(alloc: Global, sizes: &[u64], edges: &[u64]) -> Result<Stored, Fail> {
-    let edges = edges_of(alloc, edges)?;
-    let grid = RegularBoundedChunkGrid::new(alloc, sizes.to_vec(alloc)?, edges)?;
-    Ok(stored_in(grid.into()))
-}
-
-/// Seven elements in chunks of 2, 4 and 1.
-fn listed(alloc: Global) -> Result<Stored, Fail> {
-    let mut edges = Vec::new(alloc);
-    for edge in [2, 4, 1] {
-        edges.push(RunLengthElement::Single(non_zero(edge)?))?;
-    }
-    let lengths = vec![in alloc; ChunkEdgeLengths::Varying(edges)]?;
-    let grid = RectilinearChunkGrid::new(alloc, [7].to_vec(alloc)?, &lengths)?;
-    Ok(stored_in(grid.into()))
-}
-
-/// The box that begins at a start and has a shape.
-fn box_at(alloc: Global, start: &[u64], shape: &[u64]) -> Result<ArraySubset, Fail> {
-    Ok(ArraySubset::new_with_start_shape(start.to_vec(alloc)?, shape.to_vec(alloc)?)?)
-}
 
 /// Appends the line of a copy: the key of the target's chunk, where in it what is copied begins, and whether that is all of it; the key of the
 /// source's chunk, where in that the part begins, where after the first element that the target's chunk gets, where in that chunk, and its shape.
@@ -190,7 +134,7 @@ fn a_region_of_two_dimensions_goes_to_another_corner(rt: HostRuntime) -> Result<
 #[test]
 fn a_region_is_read_from_listed_edges(rt: HostRuntime) -> Result<(), Fail> {
     let alloc = rt.alloc();
-    let arrays = (&listed(alloc)?, &regular(alloc, &[10], &[4])?);
+    let arrays = (&listed(alloc, 7)?, &regular(alloc, &[10], &[4])?);
     check_copies(&rt, arrays, (&[1], &[5]), &[2], OF_LISTED_EDGES)
 }
 
@@ -198,7 +142,7 @@ fn a_region_is_read_from_listed_edges(rt: HostRuntime) -> Result<(), Fail> {
 #[test]
 fn the_whole_array_is_a_region(rt: HostRuntime) -> Result<(), Fail> {
     let alloc = rt.alloc();
-    let (source, target) = (listed(alloc)?, regular(alloc, &[7], &[3])?);
+    let (source, target) = (listed(alloc, 7)?, regular(alloc, &[7], &[3])?);
     let chunks = all_chunks(alloc, &target.grid)?;
     let rechunked = lines_of(alloc, copies(alloc, &source, &target, &chunks)?)?;
     check_copies(
@@ -212,7 +156,7 @@ fn the_whole_array_is_a_region(rt: HostRuntime) -> Result<(), Fail> {
 
 #[test]
 fn the_groups_are_the_copy_of_a_region(rt: HostRuntime) -> Result<(), Fail> {
-    let (source, target) = (listed(rt.alloc())?, regular(rt.alloc(), &[7], &[3])?);
+    let (source, target) = (listed(rt.alloc(), 7)?, regular(rt.alloc(), &[7], &[3])?);
     the_walk_gives_the_region(&source, &target);
     each_element_of_a_region_is_copied_once(&source, &target);
     each_chunk_of_a_region_has_one_group(&source, &target);
