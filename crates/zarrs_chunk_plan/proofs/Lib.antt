@@ -9,7 +9,9 @@ pub mod Clipped
 pub mod Copied
 pub mod CopyLists
 pub mod CountedCopies
+pub mod CountedGroups
 pub mod CountedParts
+pub mod CountedRegions
 pub mod InPlace
 pub mod Joined
 pub mod Kept

@@ -1,18 +1,16 @@
 -- How many chunks of the source share elements with a chunk of the target: what is found of a cover is what is computed.
-use Rattle.std.proofs.Common.{◌≡◌, ◌↔◌, ℕ, zero, suc, ◌+◌, ◌-◌, ◌<◌, ◌≤◌, List, [], ◌∷◌, Contains, IsTrue, length}
+use Rattle.std.proofs.Common.{◌≡◌, ◌↔◌, ℕ, zero, suc, ◌+◌, ◌-◌, ◌<◌, ◌≤◌, List, [], ◌∷◌, Contains, IsTrue, length, max, min}
 use Rattle.std.proofs.Common.{refl, ap, ap₂, subst, sym, ⊎_elim, arith}
 use Rattle.std.proofs.lemmas.Bool.{cases_lt, le-ltb, lt-ltb}
 use Rattle.std.specs.List.{AllByRecursion}
-use Rattle.zarrs_chunk_base.specs.ArraySubset.{IsInside, lasts}
-use Rattle.zarrs_chunk_base.specs.Dimension.{Dimension, Holds, InBox, IsChain, array_sizes}
-use Rattle.zarrs_chunk_axes.specs.InBounds.{AreBelow}
-use Rattle.zarrs_chunks.specs.Walks.{starts_at}
+use Rattle.zarrs_chunk_base.specs.ArraySubset.{AreWithin, Box, IsInside, lasts}
+use Rattle.zarrs_chunk_base.specs.Dimension.{Dimension, Holds, InBox, IsChain}
+use Rattle.zarrs_chunks.specs.Walks.{counted_from}
 use Rattle.zarrs_chunks.proofs.Chains.{apart, at_most_start, earlier_has, no_later}
 use Rattle.zarrs_chunks.proofs.Covers.{head_some, tail_some}
 use Rattle.zarrs_chunk_plan.specs.Plan.{Meets}
-use Rattle.zarrs_chunk_plan.specs.Rechunking.{array_box}
-use Rattle.zarrs_chunk_plan.specs.seen.Sources.{held, held_box, home, home_from, met_along, met_by, sizes_of}
-use Rattle.zarrs_chunk_plan.proofs.Rechunkings.{in_array}
+use Rattle.zarrs_chunk_plan.specs.seen.Sources.{counters_from, home, home_from, met, met_by, taken, taken_box, taken_from, taken_sizes}
+use Rattle.zarrs_chunk_plan.specs.seen.Sources.{taken_starts}
 
 -- ---- one dimension
 
@@ -43,12 +41,11 @@ home_is d chain c i here =
     let from : d.start c ≤ i = here.from in
     home_from_is d chain i 0 c i here (omega arith) (omega (arith, at_most_start d chain c here.chunk))
 
--- chunks from that of the first element of a range to that of its last
-count_is : (s t : Dimension) → IsChain s → (c first size : ℕ) → 0 < size → Holds s first (t.start c)
-    → Holds s (first + (size - 1)) (t.start c + (held t c - 1)) → met_along s t c ≡ size
-unfolding met_along
-count_is s t chain c first size some low high =
-    rw (home_is s chain first (t.start c) low, home_is s chain (first + (size - 1)) (t.start c + (held t c - 1)) high) (omega arith)
+-- chunks from that of the first index of a range to that of its last
+count_is : (s : Dimension) → IsChain s → (c n first size : ℕ) → 0 < n → Holds s c first → Holds s (c + (n - 1)) (first + (size - 1))
+    → met s first size ≡ n
+unfolding met
+count_is s chain c n first size some low high = rw (home_is s chain c first low, home_is s chain (c + (n - 1)) (first + (size - 1)) high) (omega arith)
 
 -- each of so many chunks behind another holds an element more
 steps_far : (d : Dimension) → IsChain d → (c k : ℕ) → IsTrue (d.has_chunk (c + k)) → d.start c + k ≤ d.start (c + k)
@@ -61,18 +58,18 @@ steps_far d chain c (suc k) has =
     let start = ap d.start next in
     omega (arith, gap.1)
 
--- so there are no more of them than elements
-pub met_at_most : (s t : Dimension) → IsChain s → (c a b : ℕ) → 0 < held t c → Holds s a (t.start c) → Holds s b (t.start c + (held t c - 1))
-    → met_along s t c ≤ held t c
-met_at_most s t chain c a b some low high =
-    let order = no_later s chain a b (t.start c) (t.start c + (held t c - 1)) (omega arith) low high in
+-- so there are no more of them than indices
+pub met_at_most : (s : Dimension) → IsChain s → (a b first size : ℕ) → 0 < size → Holds s a first → Holds s b (first + (size - 1))
+    → met s first size ≤ size
+met_at_most s chain a b first size some low high =
+    let order = no_later s chain a b first (first + (size - 1)) (omega arith) low high in
     let split : a + (b - a) ≡ b = omega arith in
-    let is = count_is s t chain c a (suc (b - a)) (omega arith) low
-    (subst (λ k. Holds s k (t.start c + (held t c - 1))) (let last : b ≡ a + (suc (b - a) - 1) = omega arith in last) high) in
+    let is = count_is s chain a (suc (b - a)) first size (omega arith) low
+    (subst (λ k. Holds s k (first + (size - 1))) (let last : b ≡ a + (suc (b - a) - 1) = omega arith in last) high) in
     let far = steps_far s chain a (b - a) (subst (λ n. IsTrue (s.has_chunk n)) (sym split) high.chunk) in
     let start = ap s.start split in
-    let in_first : t.start c < s.end a = low.below in
-    let in_last : s.start b ≤ t.start c + (held t c - 1) = high.from in
+    let in_first : first < s.end a = low.below in
+    let in_last : s.start b ≤ first + (size - 1) = high.from in
     ⊎_elim
     (λ (later : a < b).
     let gap = chain.no_gap a (earlier_has s chain (a + 1) b (omega arith) high.chunk) in
@@ -86,65 +83,101 @@ met_at_most s t chain c a b some low high =
 
 -- ---- each dimension
 
--- the chunk holds an element of the array
-abbrev pub HoldsSome : Dimension → ℕ → Type 0
-HoldsSome d c = IsTrue (d.has_chunk c) × (d.start c < d.end c) × (d.start c < d.array_size)
+-- the chunk holds an index of the range
+abbrev pub TakesSome : Dimension → (at size chunk : ℕ) → Type 0
+TakesSome d at size chunk = IsTrue (d.has_chunk chunk) × (max at (d.start chunk) < min (d.end chunk) (at + size))
 
--- a chunk that holds an element of the array does so in each dimension
-abbrev pub AllHoldSome : List Dimension → List ℕ → Type 0
-AllHoldSome [] [] = Unit {0}
-AllHoldSome (d ∷ ds) (c ∷ chunk) = HoldsSome d c × AllHoldSome ds chunk
-AllHoldSome _ _ = ⊥
+-- a chunk that holds an element of a box does so in each dimension
+abbrev pub AllTakeSome : List Dimension → (at shape chunk : List ℕ) → Type 0
+AllTakeSome [] [] [] [] = Unit {0}
+AllTakeSome (d ∷ ds) (a ∷ at) (n ∷ shape) (c ∷ chunk) = TakesSome d a n c × AllTakeSome ds at shape chunk
+AllTakeSome _ _ _ _ = ⊥
 
-pub hold_some : (ds : List Dimension) (chunk index : List ℕ) → InBox ds chunk index → AreBelow (array_sizes ds) index → AllHoldSome ds chunk
-hold_some [] [] [] box below = tt
-hold_some (d ∷ ds) (c ∷ chunk) (i ∷ index) box below =
+take_some : (ds : List Dimension) (at shape chunk index : List ℕ) → InBox ds chunk index → AreWithin at shape index → AllTakeSome ds at shape chunk
+take_some [] [] [] [] [] box within = tt
+take_some (d ∷ ds) (a ∷ at) (n ∷ shape) (c ∷ chunk) (i ∷ index) box within =
     let here = box.0 in
-    let from = here.from in
-    let end = here.below in
-    let less : i < d.array_size = below.0 in
-    ((here.chunk, omega arith, omega arith), hold_some ds chunk index box.1 below.1)
-hold_some _ _ _ box below = absurd box
+    let from : d.start c ≤ i = here.from in
+    let end : i < d.end c = here.below in
+    let after : a ≤ i = within.0 in
+    let before : i < a + n = within.1 in
+    ((here.chunk, omega arith), take_some ds at shape chunk index box.1 within.2)
+take_some [] _ _ (_ ∷ _) _ box within = absurd box
+take_some [] _ _ [] (_ ∷ _) box within = absurd box
+take_some [] [] (_ ∷ _) [] [] box within = absurd within
+take_some [] (_ ∷ _) [] [] [] box within = absurd within
+take_some [] (_ ∷ _) (_ ∷ _) [] [] box within = absurd within
+take_some (_ ∷ _) _ _ [] _ box within = absurd box
+take_some (_ ∷ _) _ _ (_ ∷ _) [] box within = absurd box
+take_some (_ ∷ _) [] [] (_ ∷ _) (_ ∷ _) box within = absurd within
+take_some (_ ∷ _) [] (_ ∷ _) (_ ∷ _) (_ ∷ _) box within = absurd within
+take_some (_ ∷ _) (_ ∷ _) [] (_ ∷ _) (_ ∷ _) box within = absurd within
 
-pub meets_hold : (ds : List Dimension) (chunk : List ℕ) → Meets ds (array_box ds) chunk → AllHoldSome ds chunk
-meets_hold ds chunk (index, box, inside) = hold_some ds chunk index box ((in_array ds index).1 inside)
+pub meets_take : (ds : List Dimension) (b : Box) (chunk : List ℕ) → Meets ds b chunk → AllTakeSome ds b.start b.shape chunk
+meets_take ds b chunk (index, box, inside) = take_some ds b.start b.shape chunk index box inside
 
--- what the chunk shares with the array is its box of the array
-pub held_common : (ds : List Dimension) (chunk : List ℕ) → AllHoldSome ds chunk → (index : List ℕ)
-    → IsInside (held_box ds chunk) index ↔ (InBox ds chunk index × AreBelow (array_sizes ds) index)
-held_common [] [] some [] = (λ _. (tt, tt), λ _. tt)
-held_common [] [] some (_ ∷ _) = (λ within. absurd within, λ both. absurd both.0)
-held_common (d ∷ ds) (c ∷ chunk) some [] = (λ within. absurd within, λ both. absurd both.0)
-held_common (d ∷ ds) (c ∷ chunk) some (i ∷ index) =
-    let rest = held_common ds chunk some.1 index in
-    let (has, any, less) = some.0 in (
+-- what the chunk shares with the box is a box
+common : (ds : List Dimension) (at shape chunk : List ℕ) → AllTakeSome ds at shape chunk → (index : List ℕ)
+    → AreWithin (taken_starts ds at chunk) (taken_sizes ds at shape chunk) index ↔ (InBox ds chunk index × AreWithin at shape index)
+common [] [] [] [] some [] = (λ _. (tt, tt), λ _. tt)
+common [] [] [] [] some (_ ∷ _) = (λ within. absurd within, λ both. absurd both.0)
+common (d ∷ ds) (a ∷ at) (n ∷ shape) (c ∷ chunk) some [] = (λ within. absurd within, λ both. absurd both.0)
+common (d ∷ ds) (a ∷ at) (n ∷ shape) (c ∷ chunk) some (i ∷ index) =
+    let rest = common ds at shape chunk some.1 index in
+    let (has, any) = some.0 in (
       λ within.
-          let from : d.start c ≤ i = within.0 in
-          let below : i < d.start c + held d c = within.1 in
-          let (box, small) = rest.0 within.2 in
-          ((record { chunk = has; from = from; below = omega arith }, box), (omega arith, small)),
+          let from : taken_from d a c ≤ i = within.0 in
+          let below : i < taken_from d a c + taken d a n c = within.1 in
+          let (box, others) = rest.0 within.2 in
+          ((record { chunk = has; from = omega arith; below = omega arith }, box), (omega arith, omega arith, others)),
       λ both.
           let from : d.start c ≤ i = both.0.0.from in
           let below : i < d.end c = both.0.0.below in
-          let small : i < d.array_size = both.1.0 in
-          (from, omega arith, rest.1 (both.0.1, both.1.1)),
+          let after : a ≤ i = both.1.0 in
+          let before : i < a + n = both.1.1 in
+          (omega arith, omega arith, rest.1 (both.0.1, both.1.2)),
     )
-held_common _ _ some index = absurd some
+common _ _ _ _ some index = absurd some
 
--- the cover of a chunk's box has as many chunks as are computed
-pub cover_sizes : (source target : List Dimension) (chunk start shape : List ℕ) → AllByRecursion IsChain source → (¬ Contains shape 0)
-    → length shape ≡ length start → length source ≡ length target → length chunk ≡ length target
-    → InBox source start (starts_at target chunk) → InBox source (lasts start shape) (lasts (starts_at target chunk) (sizes_of target chunk))
-    → shape ≡ met_by source target chunk
-cover_sizes [] [] [] [] [] chains some a b e low high = refl
-cover_sizes (s ∷ source) (t ∷ target) (c ∷ chunk) (first ∷ start) (n ∷ shape) chains some a b e low high =
-    ap₂ (λ x xs. x ∷ xs) (sym (count_is s t chains.0 c first n (head_some n shape some) low.0 high.0))
-    (cover_sizes source target chunk start shape chains.1 (tail_some n shape some) (omega arith) (omega arith) (omega arith) low.1 high.1)
-cover_sizes [] [] (_ ∷ _) _ _ chains some a b e low high = absurd (omega arith)
-cover_sizes [] (_ ∷ _) _ _ _ chains some a b e low high = absurd (omega arith)
-cover_sizes (_ ∷ _) [] _ _ _ chains some a b e low high = absurd (omega arith)
-cover_sizes (_ ∷ _) (_ ∷ _) [] _ _ chains some a b e low high = absurd (omega arith)
-cover_sizes [] [] [] (_ ∷ _) _ chains some a b e low high = absurd low
-cover_sizes [] [] [] [] (_ ∷ _) chains some a b e low high = absurd (omega arith)
-cover_sizes (_ ∷ _) (_ ∷ _) (_ ∷ _) [] _ chains some a b e low high = absurd low
-cover_sizes (_ ∷ _) (_ ∷ _) (_ ∷ _) (_ ∷ _) [] chains some a b e low high = absurd (omega arith)
+pub taken_common : (ds : List Dimension) (b : Box) (chunk : List ℕ) → AllTakeSome ds b.start b.shape chunk → (index : List ℕ)
+    → IsInside (taken_box ds b chunk) index ↔ (InBox ds chunk index × IsInside b index)
+taken_common ds b chunk = common ds b.start b.shape chunk
+
+-- the cover of a box has along each dimension the chunks from that of its first index to that of its last
+abbrev pub met_along_each : List Dimension → (start shape : List ℕ) → List ℕ
+met_along_each (d ∷ ds) (a ∷ start) (n ∷ shape) = met d a n ∷ met_along_each ds start shape
+met_along_each _ _ _ = []
+
+pub cover_sizes : (ds : List Dimension) (first sizes start shape : List ℕ) → AllByRecursion IsChain ds → (¬ Contains sizes 0)
+    → length sizes ≡ length first → length shape ≡ length start → InBox ds first start → InBox ds (lasts first sizes) (lasts start shape)
+    → sizes ≡ met_along_each ds start shape
+cover_sizes [] [] [] start shape chains some e f low high = refl
+cover_sizes (d ∷ ds) (c ∷ first) (k ∷ sizes) (a ∷ start) (n ∷ shape) chains some e f low high =
+    ap₂ (λ x xs. x ∷ xs) (sym (count_is d chains.0 c k a n (head_some k sizes some) low.0 high.0))
+    (cover_sizes ds first sizes start shape chains.1 (tail_some k sizes some) (omega arith) (omega arith) low.1 high.1)
+cover_sizes [] [] (_ ∷ _) start shape chains some e f low high = absurd (omega arith)
+cover_sizes [] (_ ∷ _) sizes start shape chains some e f low high = absurd low
+cover_sizes (_ ∷ _) [] sizes start shape chains some e f low high = absurd low
+cover_sizes (_ ∷ _) (_ ∷ _) [] start shape chains some e f low high = absurd (omega arith)
+cover_sizes (_ ∷ _) (_ ∷ _) (_ ∷ _) [] shape chains some e f low high = absurd low
+cover_sizes (_ ∷ _) (_ ∷ _) (_ ∷ _) (_ ∷ _) [] chains some e f low high = absurd (omega arith)
+
+-- and those are as many as are computed, where the box is what a chunk holds of another one, counted from elsewhere
+pub shares_met : (source target : List Dimension) (first at shape chunk steps : List ℕ) → AllTakeSome target at shape chunk
+    → length source ≡ length target → length first ≡ length target → counted_from at steps ≡ taken_starts target at chunk
+    → met_along_each source (counted_from first steps) (taken_sizes target at shape chunk)
+    ≡ met_by (counters_from source target first at shape) chunk
+shares_met [] [] first at shape chunk steps some e f same = refl
+shares_met (s ∷ source) (t ∷ target) (x ∷ first) (a ∷ at) (n ∷ shape) (c ∷ chunk) (k ∷ steps) some e f same =
+    let here : a + k ≡ taken_from t a c = cc in
+    let others : counted_from at steps ≡ taken_starts target at chunk = cc in
+    let from : k ≡ taken_from t a c - a = omega arith in
+    ap₂ (λ m ms. m ∷ ms) (ap (λ steps. met s (x + steps) (taken t a n c)) from)
+    (shares_met source target first at shape chunk steps some.1 (omega arith) (omega arith) others)
+shares_met (_ ∷ _) (_ ∷ _) (_ ∷ _) (_ ∷ _) (_ ∷ _) (_ ∷ _) [] some e f same = absurd cc
+shares_met [] (_ ∷ _) first at shape chunk steps some e f same = absurd (omega arith)
+shares_met (_ ∷ _) [] first at shape chunk steps some e f same = absurd (omega arith)
+shares_met (_ ∷ _) (_ ∷ _) [] at shape chunk steps some e f same = absurd (omega arith)
+shares_met (_ ∷ _) (_ ∷ _) (_ ∷ _) [] shape chunk steps some e f same = absurd some
+shares_met (_ ∷ _) (_ ∷ _) (_ ∷ _) (_ ∷ _) [] chunk steps some e f same = absurd some
+shares_met (_ ∷ _) (_ ∷ _) (_ ∷ _) (_ ∷ _) (_ ∷ _) [] steps some e f same = absurd some

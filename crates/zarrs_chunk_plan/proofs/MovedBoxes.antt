@@ -31,6 +31,11 @@ within_long [] [] [] within = refl
 within_long (s ∷ start) (n ∷ shape) (size ∷ sizes) within = ap suc (within_long start shape sizes within.1)
 within_long _ _ _ within = absurd within
 
+pub within_starts : (start shape sizes : List ℕ) → EndWithin start shape sizes → length start ≡ length sizes
+within_starts [] [] [] within = refl
+within_starts (s ∷ start) (n ∷ shape) (size ∷ sizes) within = ap suc (within_starts start shape sizes within.1)
+within_starts _ _ _ within = absurd within
+
 pub some_dimension : (start shape sizes : List ℕ) → EndWithin start shape sizes → Contains shape 0 → length sizes ≢ 0
 some_dimension start shape sizes within (k, counted, is) none = let long = within_long start shape sizes within in absurd (omega arith)
 

@@ -5,11 +5,13 @@ use Rattle.std.proofs.Math.Nat.{mul_comm}
 use Rattle.std.proofs.lemmas.Bool.{cases_lt}
 use Rattle.std.proofs.lemmas.List.Sums.{sum_by-cons}
 use Rattle.std.specs.List.{flat_map, range_with_len, sum}
-use Rattle.zarrs_chunk_base.specs.Dimension.{Dimension}
+use Rattle.zarrs_chunk_base.specs.ArraySubset.{Box, IsEmptyBox}
 use Rattle.zarrs_chunk_axes.specs.RowMajor.{row_major, rows}
 use Rattle.zarrs_chunks.specs.Walks.{chunks_in, counted_from}
 use Rattle.zarrs_chunk_plan.specs.Counts.{product}
-use Rattle.zarrs_chunk_plan.specs.seen.Sources.{met_along, met_by, met_in}
+use Rattle.zarrs_chunk_plan.specs.seen.Sources.{met_by, met_in}
+use Rattle.zarrs_chunk_plan.specs.seen.TargetCounts.{met_by_each}
+use Rattle.zarrs_chunk_plan.proofs.Between.{none_below}
 
 abbrev pub times_each : ℕ → List ℕ → List ℕ
 times_each x = map (λ p. x * p)
@@ -84,38 +86,41 @@ greatest_of_products =
 
 -- ---- the chunks in a box
 
-abbrev pub met : (source target : List Dimension) → List ℕ → ℕ
-met source target chunk = product (met_by source target chunk)
+abbrev pub met_of : List (ℕ → ℕ) → List ℕ → ℕ
+met_of counters chunk = product (met_by counters chunk)
 
-met_in_rows : (s t : Dimension) (source target : List Dimension) (a b n : ℕ) (first : List ℕ) (others : List (List ℕ))
-    → map (met (s ∷ source) (t ∷ target)) (map (counted_from (a ∷ first)) (rows b n others))
-    ≡ flat_map (λ x. times_each x (map (met source target) (map (counted_from first) others))) (map (met_along s t) (range_with_len (a + b) n))
-met_in_rows s t source target a b zero first others = refl
-met_in_rows s t source target a b (suc n) first others =
+met_in_rows : (f : ℕ → ℕ) (counters : List (ℕ → ℕ)) (a b n : ℕ) (first : List ℕ) (others : List (List ℕ))
+    → map (met_of (f ∷ counters)) (map (counted_from (a ∷ first)) (rows b n others))
+    ≡ flat_map (λ x. times_each x (map (met_of counters) (map (counted_from first) others))) (map f (range_with_len (a + b) n))
+met_in_rows f counters a b zero first others = refl
+met_in_rows f counters a b (suc n) first others =
     let next : a + (b + 1) ≡ a + b + 1 = omega arith in
-    let rest = met_in_rows s t source target a (b + 1) n first others in
+    let rest = met_in_rows f counters a (b + 1) n first others in
     map_both (λ numbers. b ∷ numbers) others (rows (b + 1) n others) ∙ ap₂ ◌++◌ (one_row others) (rest ∙ rw next refl) where
-      map_both : (f : List ℕ → List ℕ) (xs ys : List (List ℕ))
-          → map (met (s ∷ source) (t ∷ target)) (map (counted_from (a ∷ first)) (map f xs ++ ys))
-          ≡ map (λ x. met (s ∷ source) (t ∷ target) (counted_from (a ∷ first) (f x))) xs
-          ++ map (met (s ∷ source) (t ∷ target)) (map (counted_from (a ∷ first)) ys)
-      map_both f [] ys = refl
-      map_both f (x ∷ xs) ys = ap (λ zs. met (s ∷ source) (t ∷ target) (counted_from (a ∷ first) (f x)) ∷ zs) (map_both f xs ys)
+      map_both : (g : List ℕ → List ℕ) (xs ys : List (List ℕ))
+          → map (met_of (f ∷ counters)) (map (counted_from (a ∷ first)) (map g xs ++ ys))
+          ≡ map (λ x. met_of (f ∷ counters) (counted_from (a ∷ first) (g x))) xs ++ map (met_of (f ∷ counters)) (map (counted_from (a ∷ first)) ys)
+      map_both g [] ys = refl
+      map_both g (x ∷ xs) ys = ap (λ zs. met_of (f ∷ counters) (counted_from (a ∷ first) (g x)) ∷ zs) (map_both g xs ys)
 
       one_row : (xs : List (List ℕ))
-          → map (λ x. met (s ∷ source) (t ∷ target) (counted_from (a ∷ first) (b ∷ x))) xs
-          ≡ times_each (met_along s t (a + b)) (map (met source target) (map (counted_from first) xs))
+          → map (λ x. met_of (f ∷ counters) (counted_from (a ∷ first) (b ∷ x))) xs
+          ≡ times_each (f (a + b)) (map (met_of counters) (map (counted_from first) xs))
       one_row [] = refl
-      one_row (x ∷ xs) = ap (λ zs. met_along s t (a + b) * met source target (counted_from first x) ∷ zs) (one_row xs)
+      one_row (x ∷ xs) = ap (λ zs. f (a + b) * met_of counters (counted_from first x) ∷ zs) (one_row xs)
 
 -- how many chunks of the source each of the chunks in a box meets: the products of what each meets along each dimension
-pub met_by_all : (source target : List Dimension) (first sizes : List ℕ) → length source ≡ length target → length first ≡ length target
-    → length sizes ≡ length target
-    → map (met source target) (chunks_in (record { start = first; shape = sizes })) ≡ products (met_in source target first sizes)
+pub met_by_all : (counters : List (ℕ → ℕ)) (first sizes : List ℕ) → length first ≡ length counters → length sizes ≡ length counters
+    → map (met_of counters) (chunks_in (record { start = first; shape = sizes })) ≡ products (met_in counters first sizes)
 unfolding row_major
-met_by_all [] [] [] [] e f g = refl
-met_by_all (s ∷ source) (t ∷ target) (a ∷ first) (n ∷ sizes) e f g =
-    let rest = met_by_all source target first sizes (omega arith) (omega arith) (omega arith) in
+met_by_all [] [] [] f g = refl
+met_by_all (h ∷ counters) (a ∷ first) (n ∷ sizes) f g =
+    let rest = met_by_all counters first sizes (omega arith) (omega arith) in
     let begin : a + 0 ≡ a = omega arith in
-    met_in_rows s t source target a 0 n first (row_major sizes) ∙ rw (begin, rest) refl
-met_by_all _ _ _ _ e f g = absurd (omega arith)
+    met_in_rows h counters a 0 n first (row_major sizes) ∙ rw (begin, rest) refl
+met_by_all _ _ _ f g = absurd (omega arith)
+
+-- of no chunks
+pub of_none : (counters : List (ℕ → ℕ)) (targets : Box) → IsEmptyBox targets → met_by_each counters targets ≡ []
+of_none counters targets empty =
+    ap (λ lists. map (λ chunk. product (met_by counters chunk)) (map (counted_from targets.start) lists)) (none_below targets.shape empty)

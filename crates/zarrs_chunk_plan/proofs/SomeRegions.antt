@@ -1,18 +1,22 @@
 -- Where each chunk has a key, the copy of a region of the array exists; and that of the whole array, to where it is, is a rechunking.
-use Rattle.std.proofs.Common.{◌≡◌, ℕ, ◌+◌, ◌-◌, ◌<◌, ◌≤◌, List, [], ◌∷◌, Contains, length, replicate, ap, refl, subst, arith}
+use Rattle.std.proofs.Common.{◌≡◌, ℕ, ◌+◌, ◌-◌, ◌<◌, ◌≤◌, List, [], ◌∷◌, Contains, length, replicate, ap, refl, subst, sym, arith}
 use Rattle.std.specs.List.{AllByRecursion, AllZip}
-use Rattle.zarrs_chunk_base.specs.ArraySubset.{AreWithin, Box, IsBox, lasts}
+use Rattle.zarrs_chunk_base.specs.ArraySubset.{AreWithin, Box, IsBox, IsEmptyBox, lasts}
 use Rattle.zarrs_chunk_base.specs.Dimension.{Dimension, IsChain, array_sizes}
 use Rattle.zarrs_chunk_axes.specs.InBounds.{AreBelow}
+use Rattle.zarrs_chunks.proofs.ChunksInBoxes.{are_those_inside}
 use Rattle.zarrs_chunks.proofs.Covers.{head_some, tail_some}
-use Rattle.zarrs_chunks.specs.Walks.{counted_from}
+use Rattle.zarrs_chunks.proofs.Meeting.{cover_meets}
+use Rattle.zarrs_chunks.specs.Subsets.{IsCover}
+use Rattle.zarrs_chunks.specs.Walks.{chunks_in, counted_from}
 use Rattle.zarrs_chunk_plan.specs.Plan.{IsPart, IsPlan, Meets}
 use Rattle.zarrs_chunk_plan.specs.Rechunking.{AreCopiesInto, Group, array_box}
-use Rattle.zarrs_chunk_plan.specs.Region.{AreMovedInto, EndWithin, LiesIn, moved, shifted}
+use Rattle.zarrs_chunk_plan.specs.Region.{AreMovedInto, EndWithin, IsRegionCopy, LiesIn, moved, shifted}
 use Rattle.zarrs_chunk_plan.specs.declared.chunk_copies.Copies.{Copies}
+use Rattle.zarrs_chunk_plan.specs.declared.part.Part.{Part}
 use Rattle.zarrs_chunk_plan.specs.seen.Copies.{AreGroupsToCome, AreMovesToCome, CanCopy, first_of, targets_to_come}
 use Rattle.zarrs_chunk_plan.specs.seen.Parts.{HasKeys}
-use Rattle.zarrs_chunk_plan.proofs.Plans.{all_long, not_empty, place_below}
+use Rattle.zarrs_chunk_plan.proofs.Plans.{all_long, all_of_each, not_empty, place_below}
 use Rattle.zarrs_chunk_plan.proofs.Rechunkings.{counted_from_zeros}
 use Rattle.zarrs_chunk_plan.proofs.Regions.{read_is_box}
 use Rattle.zarrs_chunk_plan.proofs.SomePlan.{has_part, has_plan}
@@ -60,20 +64,47 @@ module _ (source : List Dimension) (IsSourceKey : List ℕ → List ℕ → Type
       let (groups, are) = have_moves chunks meet.1 in
       (group ∷ groups, (into, are))
 
+  -- so where the moved box has a cover, the region has a copy
+  pub have_region : (cover : Box) → (¬ IsEmptyBox region) → IsCover target (moved at region) cover
+      → (groups : List Group) × IsRegionCopy source IsSourceKey target IsTargetKey region at groups
+  have_region cover some is =
+      let meet = all_of_each (Meets target (moved at region)) (chunks_in cover)
+      (λ chunk has.
+      (cover_meets target (moved at region) cover also_chains is_moved some is chunk).0 ((are_those_inside cover is.is_box chunk).0 has))
+      in
+      let (groups, zipped) = have_moves (chunks_in cover) meet in
+      (groups, record { cover = cover; is_cover = is; are_groups = zipped })
+
 -- ---- the whole array, to where it is
+
+module _ (source : List Dimension) (IsSourceKey : List ℕ → List ℕ → Type 0) (target : List Dimension) (IsTargetKey : List ℕ → List ℕ → Type 0) where
+  -- the elements that a chunk takes are read from where they are
+  read_there : (first : List ℕ) (chunk : List ℕ) (to : Part) → first ≡ replicate (length target) 0 → Meets target (array_box target) chunk
+      → IsPart target IsTargetKey (array_box target) chunk to → shifted first to.in_subset ≡ to.in_subset
+  read_there first chunk to from_zero (index, box, inside) is =
+      let long = all_long target IsTargetKey (array_box target) chunk to index is (box, inside) in
+      rw from_zero (ap (λ (start : List ℕ). let b : Box = record { start = start; shape = to.in_subset.shape } in b)
+      (counted_from_zeros (length target) to.in_subset.start (omega arith)))
+
+  -- so a rechunking moves the whole array
+  pub all_moved : (chunks : List (List ℕ)) (groups : List Group) → AllByRecursion (Meets target (array_box target)) chunks
+      → AllZip (AreCopiesInto source IsSourceKey target IsTargetKey) chunks groups
+      → AllZip (AreMovedInto source IsSourceKey target IsTargetKey (array_box target) (array_box target).start) chunks groups
+  all_moved [] [] meet are = tt
+  all_moved (chunk ∷ chunks) (group ∷ groups) meet are =
+      let same = read_there (replicate (length target) 0) chunk group.0 refl meet.0 are.0.to in
+      (record { to = are.0.to; from = subst (λ b. IsPlan source IsSourceKey b group.1) (sym same) are.0.from }, all_moved chunks groups meet.1 are.1)
+  all_moved [] (_ ∷ _) meet are = absurd are
+  all_moved (_ ∷ _) [] meet are = absurd are
 
 module _ (source : List Dimension) (IsSourceKey : List ℕ → List ℕ → Type 0) (target : List Dimension) (IsTargetKey : List ℕ → List ℕ → Type 0)
     (region : Box) (from_zero : region.start ≡ replicate (length target) 0) where
   copied : (chunk : List ℕ) (group : Group) → Meets target (array_box target) chunk
       → AreMovedInto source IsSourceKey target IsTargetKey region (array_box target).start chunk group → region.shape ≡ array_sizes target
       → AreCopiesInto source IsSourceKey target IsTargetKey chunk group
-  copied chunk group (index, box, inside) into shape =
+  copied chunk group meets into shape =
       let to = subst (λ sizes. IsPart target IsTargetKey (record { start = replicate (length target) 0; shape = sizes }) chunk group.0) shape into.to in
-      let long = all_long target IsTargetKey (array_box target) chunk group.0 index to (box, inside) in
-      let same : shifted region.start group.0.in_subset ≡ group.0.in_subset =
-      rw from_zero (ap (λ (start : List ℕ). let b : Box = record { start = start; shape = group.0.in_subset.shape } in b)
-      (counted_from_zeros (length target) group.0.in_subset.start (omega arith)))
-      in
+      let same = read_there source IsSourceKey target IsTargetKey region.start chunk group.0 from_zero meets to in
       record { to = to; from = subst (λ b. IsPlan source IsSourceKey b group.1) same into.from }
 
   all_copied : (chunks : List (List ℕ)) (groups : List Group) → AllByRecursion (Meets target (array_box target)) chunks

@@ -2,11 +2,12 @@
 -- Source: this library's own.
 use Rattle.std.specs.Prelude.{◌≡◌, ◌≢◌, ◌↔◌, ◌⊎◌, ◌*◌, ◌≤◌, ◌^◌, ℕ, List, [], ◌∷◌, MatchOption, fold, length, map, max, min}
 use Rattle.std.specs.List.{AllByRecursion, AllPairs, Contains}
-use Rattle.zarrs_chunk_base.specs.ArraySubset.{Box, IsEmptyBox}
+use Rattle.zarrs_chunk_base.specs.ArraySubset.{Box, IsEmptyBox, IsInside}
 use Rattle.zarrs_chunk_base.specs.Dimension.{Dimension, array_sizes}
 use Rattle.zarrs_chunk_axes.specs.InBounds.{AreBelow}
 use Rattle.zarrs_chunk_plan.specs.Plan.{HasElement}
 use Rattle.zarrs_chunk_plan.specs.Rechunking.{Group, Moves, copies_of}
+use Rattle.zarrs_chunk_plan.specs.Region.{MovesTo}
 use Rattle.zarrs_chunk_plan.specs.declared.counts.Counts.{Counts}
 use Rattle.zarrs_chunk_plan.specs.declared.part.Part.{Part}
 
@@ -53,3 +54,27 @@ pub record AreRechunkingCounts (source target : List Dimension) (targets : Box) 
       (product counts.elements.items)
   pub source_chunks : AreMany (λ chunk. (copy : Part × Part) × Contains (copies_of groups) copy × (copy.0.chunk.items ≡ chunk))
       (product counts.source_chunks.items)
+
+-- The counts of the copy of a region, where these chunks of the target take some of it, and these are the groups: each group is a line. Where the chunks
+-- aren't few, there is no count of copies, and none of those of the longest line.
+pub record AreRegionCounts (source target : List Dimension) (region targets : Box) (groups : List Group) (counts : Counts) : Type 0 where
+  pub lines : product counts.lines.items ≡ length groups
+  pub copies : MatchOption counts.copies (¬ AreFew targets)
+      (λ factors. AreFew targets × (product factors.items ≡ length (copies_of groups)))
+  pub largest_line : MatchOption counts.largest_line (¬ AreFew targets)
+      (λ factors. AreFew targets × (product factors.items ≡ longest groups))
+  pub elements : AreMany
+      (λ index. IsInside region index
+      × ((copy : Part × Part) × Contains (copies_of groups) copy
+      × ((steps : List ℕ) × (to : List ℕ) × MovesTo source target copy steps index to)))
+      (product counts.elements.items)
+  pub source_chunks : AreMany (λ chunk. (copy : Part × Part) × Contains (copies_of groups) copy × (copy.0.chunk.items ≡ chunk))
+      (product counts.source_chunks.items)
+
+-- nothing is copied: each count is 0, and none is left out
+pub record CountNothing (counts : Counts) : Type 0 where
+  pub lines : product counts.lines.items ≡ 0
+  pub copies : MatchOption counts.copies ⊥ (λ factors. product factors.items ≡ 0)
+  pub largest_line : MatchOption counts.largest_line ⊥ (λ factors. product factors.items ≡ 0)
+  pub elements : product counts.elements.items ≡ 0
+  pub source_chunks : product counts.source_chunks.items ≡ 0

@@ -5,20 +5,24 @@ ghost use Rattle.zarrs_chunk_base.specs.ArraySubset.{Box, IsBox, IsEmptyBox, IsI
 ghost use Rattle.zarrs_chunk_base.specs.Dimension.{InBox, array_sizes};
 ghost use Rattle.zarrs_chunk_base.specs.Refusal.{HasMemory, OrMemory};
 ghost use Rattle.zarrs_chunk_axes.specs.InBounds.{AreBelow};
-ghost use Rattle.zarrs_chunk_plan.specs.Counts.{AreFew, AreRechunkingCounts, product};
+ghost use Rattle.zarrs_chunks.specs.Subsets.{IsCover};
+ghost use Rattle.zarrs_chunk_plan.specs.Counts.{AreFew, AreRechunkingCounts, AreRegionCounts, CountNothing, product};
 ghost use Rattle.zarrs_chunk_plan.specs.Plan.{Meets};
 ghost use Rattle.zarrs_chunk_plan.specs.Rechunking.{AreTargets, Group, IsRechunking, array_box};
+ghost use Rattle.zarrs_chunk_plan.specs.Region.{CanBeMoved, IsRegionCopy, IsRegionFault, moved};
 ghost use Rattle.zarrs_chunk_plan.specs.seen.Copies.{IsCopiesFault};
 ghost use Rattle.zarrs_chunk_plan.specs.seen.ReadCounts.{AnswersCounts, AnswersNoCounts};
 ghost use Rattle.zarrs_chunk_plan.specs.seen.Shared.{distances};
 ghost use Rattle.zarrs_chunk_plan.specs.seen.TargetCounts.{AreTargetCounts, met_by_each};
-ghost use Rattle.zarrs_chunk_plan.specs.seen.Sources.{AreWritten};
+ghost use Rattle.zarrs_chunk_plan.specs.seen.Sources.{AreTaking, counters};
 
 use crate::boxes_from_zero::whole_array;
 use crate::copies_error::CopiesError;
 use crate::rechunking::targets_of;
+use crate::region::moved_box;
+use crate::region_error::RegionError;
 use crate::shared::{box_of, expect_answer, shared_elements, steps_to};
-use crate::sources::sources_along_each;
+use crate::sources::{Move, sources_along_each};
 use crate::stored_array::StoredArray;
 use std::alloc::{AllocError, Global};
 use zarrs_chunk_base::{ArrayShape, ArraySubset, IncompatibleDimensionalityError, Refusal};
@@ -29,8 +33,8 @@ use zarrs_chunks::ChunkGridTraits;
 /// dimension by dimension; that there is one for each isn't promised.
 #[derive(Debug, Drop)]
 pub struct Counts {
-    /// How many copies there are. In a rechunking these are pairs of a chunk of the source and one of the target that share elements; in a read,
-    /// chunks that are read. `None` where a rechunking writes some chunks, and along some dimension more than 2^24.
+    /// How many copies there are. In a rechunking and in the copy of a region these are pairs of a chunk of the source and one of the target between
+    /// which elements go; in a read, chunks that are read. `None` where some chunks are written, and along some dimension more than 2^24.
     pub copies: Option<ArrayShape>,
     /// How many elements are copied.
     pub elements: ArrayShape,
@@ -124,7 +128,65 @@ pub fn counts_of_rechunking<
         → HasMemory result }
 {
     let targets = targets_of(alloc, &source.grid, &target.grid, chunks)?;
-    Ok(counts_of_targets(alloc, &source.grid, &target.grid, &targets)?)
+    let array = whole_array(alloc, &target.grid)?;
+    let elements = elements_in(alloc, &target.grid, &array, &targets)?;
+    let whole = Move {
+        source: &source.grid,
+        target: &target.grid,
+        region: &array,
+        moved: &array,
+    };
+    Ok(counts_of_targets(alloc, &whole, &elements, &targets)?)
+}
+
+/// The counts of the copy of a region to the box of its shape that begins at `at` in the target's array.
+///
+/// It takes the time of some look-ups for each chunk of the target that takes some of the region, along each dimension by itself, where there are at
+/// most 2^24 of them along each, and that of a few look-ups otherwise. Of an encoding that has no key for some chunk nothing is said.
+///
+/// # Errors
+/// As of [`copies_of_region`](crate::copies_of_region).
+pub fn counts_of_region<
+    G: ChunkGridTraits,
+    E: ChunkKeyEncodingTraits,
+    H: ChunkGridTraits,
+    F: ChunkKeyEncodingTraits,
+>(
+    alloc: Global,
+    source: &StoredArray<G, E>,
+    target: &StoredArray<H, F>,
+    region: &ArraySubset,
+    at: &[u64],
+) -> Result<Counts, Refusal<RegionError>>
+    ensures counts { (¬ IsEmptyBox region.now) → IfOk result (λ counts. (cover : Box)
+        × IsCover (H.dimensions target.now.grid) (moved at.now region.now) cover
+        × ((groups : List Group) → IsRegionCopy (G.dimensions source.now.grid)
+        (E.is_key source.now.encoding) (H.dimensions target.now.grid) (F.is_key target.now.encoding)
+        region.now at.now groups → AreRegionCounts (G.dimensions source.now.grid)
+        (H.dimensions target.now.grid) region.now cover groups counts)) }
+    ensures empty { IsEmptyBox region.now → IfOk result CountNothing }
+    ensures is_box { IfOk result (λ _. IsBox (moved at.now region.now)) }
+    ensures lies { IfOk result (λ _. CanBeMoved (array_sizes (G.dimensions source.now.grid))
+        (array_sizes (H.dimensions target.now.grid)) region.now at.now) }
+    ensures refused { IfErr result (OrMemory (IsRegionFault
+        (array_sizes (G.dimensions source.now.grid)) (array_sizes (H.dimensions target.now.grid))
+        region.now at.now)) }
+    ensures faults_first { (¬ CanBeMoved (array_sizes (G.dimensions source.now.grid))
+        (array_sizes (H.dimensions target.now.grid)) region.now at.now) → HasMemory result }
+{
+    region.is_a_box();
+    let moved = moved_box(alloc, &source.grid, &target.grid, region, at)?;
+    // The box has a cover: it lies in the target's array.
+    let found = target.grid.chunks_in_array_subset(alloc, &moved);
+    let targets = expect_answer(found)?;
+    targets.is_a_box();
+    let copied = Move {
+        source: &source.grid,
+        target: &target.grid,
+        region,
+        moved: &moved,
+    };
+    Ok(counts_of_targets(alloc, &copied, region, &targets)?)
 }
 
 /// How many chunks of the target are gone through along a dimension, at most.
@@ -144,23 +206,28 @@ fn are_at_most(numbers: &[u64], most: u64) -> bool
     numbers.iter().all(|n| *n <= most)
 }
 
-/// The counts of a rechunking into chunks that hold elements of the array.
+/// The counts of what goes into chunks of the target that each take some: the elements of a box of the source's array.
 ///
 /// # Errors
 /// Out of memory.
 fn counts_of_targets<G: ChunkGridTraits, H: ChunkGridTraits>(
     alloc: Global,
-    source: &G,
-    target: &H,
+    copied: &Move<G, H>,
+    elements: &ArraySubset,
     targets: &ArraySubset,
 ) -> Result<Counts, AllocError>
-    requires { AreWritten (G.dimensions source.now) (H.dimensions target.now) targets.now }
-    ensures { IfOk result (λ counts. AreTargetCounts (G.dimensions source.now)
-        (H.dimensions target.now) targets.now counts) }
+    requires taking { AreTaking (G.dimensions copied.now.source.now)
+        (H.dimensions copied.now.target.now) copied.now.region.now copied.now.moved.now
+        targets.now }
+    requires dimensions { IsEmptyBox elements.now
+        → length (G.dimensions copied.now.source.now) ≢ 0 }
+    ensures { IfOk result (AreTargetCounts (G.dimensions copied.now.source.now)
+        (counters (G.dimensions copied.now.source.now) (H.dimensions copied.now.target.now)
+        copied.now.region.now copied.now.moved.now) elements.now targets.now) }
 {
-    let elements = elements_in(alloc, target, targets)?;
-    let cover = expect_answer(source.chunks_in_array_subset(alloc, &elements))?;
-    let (copies, largest_line) = copies_along(alloc, source, target, targets)?;
+    let found = copied.source.chunks_in_array_subset(alloc, elements);
+    let cover = expect_answer(found)?;
+    let (copies, largest_line) = copies_along(alloc, copied, targets)?;
     Ok(Counts {
         copies,
         elements: elements.shape().to_vec(alloc)?,
@@ -176,22 +243,24 @@ fn counts_of_targets<G: ChunkGridTraits, H: ChunkGridTraits>(
 /// Out of memory.
 fn copies_along<G: ChunkGridTraits, H: ChunkGridTraits>(
     alloc: Global,
-    source: &G,
-    target: &H,
+    copied: &Move<G, H>,
     targets: &ArraySubset,
 ) -> Result<(Option<ArrayShape>, Option<ArrayShape>), AllocError>
-    requires { AreWritten (G.dimensions source.now) (H.dimensions target.now) targets.now }
+    requires { AreTaking (G.dimensions copied.now.source.now) (H.dimensions copied.now.target.now)
+        copied.now.region.now copied.now.moved.now targets.now }
     ensures copies { IfOk result (λ both. MatchOption both.0 (¬ AreFew targets.now)
         (λ factors. AreFew targets.now × (product factors.items ≡ sum (met_by_each
-        (G.dimensions source.now) (H.dimensions target.now) targets.now)))) }
+        (counters (G.dimensions copied.now.source.now) (H.dimensions copied.now.target.now)
+        copied.now.region.now copied.now.moved.now) targets.now)))) }
     ensures largest { IfOk result (λ both. MatchOption both.1 (¬ AreFew targets.now)
         (λ factors. AreFew targets.now × (product factors.items ≡ fold max 0 (met_by_each
-        (G.dimensions source.now) (H.dimensions target.now) targets.now)))) }
+        (counters (G.dimensions copied.now.source.now) (H.dimensions copied.now.target.now)
+        copied.now.region.now copied.now.moved.now) targets.now)))) }
 {
     if !are_few(targets) {
         return Ok((None, None));
     }
-    let sources = sources_along_each(alloc, source, target, targets)?;
+    let sources = sources_along_each(alloc, copied, targets)?;
     Ok((Some(sources.in_all), Some(sources.most)))
 }
 
@@ -203,8 +272,10 @@ fn copies_along<G: ChunkGridTraits, H: ChunkGridTraits>(
 fn elements_in<G: ChunkGridTraits>(
     alloc: Global,
     grid: &G,
+    array: &ArraySubset,
     chunks: &ArraySubset,
 ) -> Result<ArraySubset, AllocError>
+    requires array { array.now ≡ array_box (G.dimensions grid.now) }
     requires meet { (chunk : List ℕ) → IsInside chunks.now chunk
         → Meets (G.dimensions grid.now) (array_box (G.dimensions grid.now)) chunk }
     requires long { length chunks.now.start ≡ length (G.dimensions grid.now) }
@@ -217,9 +288,8 @@ fn elements_in<G: ChunkGridTraits>(
     let Some(last) = chunks.end_inc(alloc)? else {
         return Ok(ArraySubset::new_empty(alloc, grid.dimensionality())?);
     };
-    let array = whole_array(alloc, grid)?;
-    let first = shared_elements(alloc, grid, &array, chunks.start())?.in_subset;
-    let last = shared_elements(alloc, grid, &array, &last)?.in_subset;
+    let first = shared_elements(alloc, grid, array, chunks.start())?.in_subset;
+    let last = shared_elements(alloc, grid, array, &last)?.in_subset;
     Ok(box_between(alloc, &first, &last)?)
 }
 

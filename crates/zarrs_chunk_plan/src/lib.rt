@@ -71,7 +71,7 @@ pub use chunk_changes::Changes;
 pub use chunk_copies::{ChunkCopies, Copies};
 pub use clipping::clip;
 pub use copies_error::CopiesError;
-pub use counts::{Counts, counts_of_read, counts_of_rechunking};
+pub use counts::{Counts, counts_of_read, counts_of_rechunking, counts_of_region};
 pub use numbered_chunks::{SomeChunks, some_chunks};
 pub use numbered_copies::{SomeCopies, some_copies};
 pub use numbered_parts::{SomeParts, some_parts};

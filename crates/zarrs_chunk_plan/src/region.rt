@@ -62,18 +62,39 @@ pub fn copies_of_region<
     ensures faults_first { (¬ CanBeMoved (array_sizes (G.dimensions source.now.grid))
         (array_sizes (H.dimensions target.now.grid)) region.now at.now) → HasMemory result }
 {
-    if let Err(fault) = fit_together(&source.grid, &target.grid, region, at) {
-        return Err(Refusal::Refused(fault));
-    }
-    let moved = box_of(
-        Vec::from_slice(alloc, at)?,
-        Vec::from_slice(alloc, region.shape())?,
-    );
+    let moved = moved_box(alloc, &source.grid, &target.grid, region, at)?;
     // The box has a cover: it lies in the target's array.
     let found = parts(alloc, &target.grid, &target.encoding, &moved);
     let targets = expect_answer(found)?;
     let first = Vec::from_slice(alloc, region.start())?;
     Ok(Copies::new(alloc, source, first, targets))
+}
+
+/// The box of the target's array that a region of the source's goes to, to begin at `at`.
+///
+/// # Errors
+/// As of [`copies_of_region`].
+pub(crate) fn moved_box<G: ChunkGridTraits, H: ChunkGridTraits>(
+    alloc: Global,
+    source: &G,
+    target: &H,
+    region: &ArraySubset,
+    at: &[u64],
+) -> Result<ArraySubset, Refusal<RegionError>>
+    ensures value { IfOk result (λ b. b ≡ moved at.now region.now) }
+    ensures is_box { IfOk result (λ _. IsBox (moved at.now region.now)) }
+    ensures lies { IfOk result (λ _. CanBeMoved (array_sizes (G.dimensions source.now))
+        (array_sizes (H.dimensions target.now)) region.now at.now) }
+    ensures refused { IfErr result (OrMemory (IsRegionFault (array_sizes (G.dimensions source.now))
+        (array_sizes (H.dimensions target.now)) region.now at.now)) }
+    ensures faults_first { (¬ CanBeMoved (array_sizes (G.dimensions source.now))
+        (array_sizes (H.dimensions target.now)) region.now at.now) → HasMemory result }
+{
+    if let Err(fault) = fit_together(source, target, region, at) {
+        return Err(Refusal::Refused(fault));
+    }
+    let start = Vec::from_slice(alloc, at)?;
+    Ok(box_of(start, Vec::from_slice(alloc, region.shape())?))
 }
 
 /// That a region of the source's array can go to the target's, to begin at `at`.

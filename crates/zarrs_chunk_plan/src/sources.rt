@@ -4,15 +4,27 @@ ghost use Rattle.std.specs.List.{slice_set, sum};
 ghost use Rattle.zarrs_chunk_base.specs.ArraySubset.{IsEmptyBox};
 ghost use Rattle.zarrs_chunk_base.specs.Greatest.{greatest};
 ghost use Rattle.zarrs_chunk_plan.specs.Counts.{product};
-ghost use Rattle.zarrs_chunk_plan.specs.Rechunking.{array_box};
-ghost use Rattle.zarrs_chunk_plan.specs.seen.Sources.{AreWritten, met_in};
+ghost use Rattle.zarrs_chunk_plan.specs.seen.Sources.{AreTaking, counters, met_in};
 ghost use Rattle.zarrs_chunk_plan.specs.seen.TargetCounts.{met_by_each};
 
-use crate::boxes_from_zero::whole_array;
+use crate::moved::shifted_box;
 use crate::shared::{expect_answer, shared_elements};
 use std::alloc::{AllocError, Global};
 use zarrs_chunk_base::{ArrayShape, ArraySubset};
 use zarrs_chunks::{ArrayIndicesTinyVec, ChunkGridTraits};
+
+/// A box of elements that goes from one array to another.
+#[derive(Drop)]
+pub(crate) struct Move<'a, G, H> {
+    /// The grid of the array that it comes from.
+    pub(crate) source: &'a G,
+    /// The grid of the array that it goes to.
+    pub(crate) target: &'a H,
+    /// The elements, as a box of the source's array.
+    pub(crate) region: &'a ArraySubset,
+    /// Where they go, as a box of the target's array.
+    pub(crate) moved: &'a ArraySubset,
+}
 
 /// For each dimension, of the chunks of the source that each chunk of the target shares elements with along it:
 #[derive(Drop)]
@@ -29,15 +41,17 @@ pub(crate) struct SourcesAlong {
 /// Out of memory.
 pub(crate) fn sources_along_each<G: ChunkGridTraits, H: ChunkGridTraits>(
     alloc: Global,
-    source: &G,
-    target: &H,
+    copied: &Move<G, H>,
     targets: &ArraySubset,
 ) -> Result<SourcesAlong, AllocError>
-    requires { AreWritten (G.dimensions source.now) (H.dimensions target.now) targets.now }
+    requires { AreTaking (G.dimensions copied.now.source.now) (H.dimensions copied.now.target.now)
+        copied.now.region.now copied.now.moved.now targets.now }
     ensures in_all { IfOk result (λ along. product along.in_all.items ≡ sum (met_by_each
-        (G.dimensions source.now) (H.dimensions target.now) targets.now)) }
+        (counters (G.dimensions copied.now.source.now) (H.dimensions copied.now.target.now)
+        copied.now.region.now copied.now.moved.now) targets.now)) }
     ensures most { IfOk result (λ along. product along.most.items ≡ fold max 0 (met_by_each
-        (G.dimensions source.now) (H.dimensions target.now) targets.now)) }
+        (counters (G.dimensions copied.now.source.now) (H.dimensions copied.now.target.now)
+        copied.now.region.now copied.now.moved.now) targets.now)) }
 {
     let shape = targets.shape();
     if targets.is_empty() {
@@ -46,11 +60,10 @@ pub(crate) fn sources_along_each<G: ChunkGridTraits, H: ChunkGridTraits>(
             most: shape.to_vec(alloc)?,
         });
     }
-    let array = whole_array(alloc, target)?;
     let mut in_all = Vec::with_capacity(alloc, shape.len())?;
     let mut most = Vec::with_capacity(alloc, shape.len())?;
     for dimension in 0..shape.len() {
-        let (sum, greatest) = sources_along(alloc, source, target, &array, targets, dimension)?;
+        let (sum, greatest) = sources_along(alloc, copied, targets, dimension)?;
         in_all.push(sum)?;
         most.push(greatest)?;
     }
@@ -63,28 +76,28 @@ pub(crate) fn sources_along_each<G: ChunkGridTraits, H: ChunkGridTraits>(
 /// Out of memory.
 fn sources_along<G: ChunkGridTraits, H: ChunkGridTraits>(
     alloc: Global,
-    source: &G,
-    target: &H,
-    array: &ArraySubset,
+    copied: &Move<G, H>,
     targets: &ArraySubset,
     dimension: usize,
 ) -> Result<(u64, u64), AllocError>
-    requires written { AreWritten (G.dimensions source.now) (H.dimensions target.now) targets.now }
+    requires taking { AreTaking (G.dimensions copied.now.source.now)
+        (H.dimensions copied.now.target.now) copied.now.region.now copied.now.moved.now
+        targets.now }
     requires some { ¬ IsEmptyBox targets.now }
-    requires array { array.now ≡ array_box (H.dimensions target.now) }
     requires dimension { dimension < length targets.now.shape }
-    ensures sum { IfOk result (λ along. along.0
-        ≡ sum (slice_index_or (met_in (G.dimensions source.now) (H.dimensions target.now)
+    ensures sum { IfOk result (λ along. along.0 ≡ sum (slice_index_or (met_in
+        (counters (G.dimensions copied.now.source.now) (H.dimensions copied.now.target.now)
+        copied.now.region.now copied.now.moved.now)
         targets.now.start targets.now.shape) dimension [])) }
-    ensures most { IfOk result (λ along. along.1
-        ≡ fold max 0 (slice_index_or (met_in (G.dimensions source.now) (H.dimensions target.now)
+    ensures most { IfOk result (λ along. along.1 ≡ fold max 0 (slice_index_or (met_in
+        (counters (G.dimensions copied.now.source.now) (H.dimensions copied.now.target.now)
+        copied.now.region.now copied.now.moved.now)
         targets.now.start targets.now.shape) dimension [])) }
 {
-    array.is_a_box();
     let mut sum = 0;
     let mut most = 0;
     for steps in 0..targets.shape()[dimension] {
-        let sources = sources_at(alloc, source, target, array, targets, dimension, steps)?;
+        let sources = sources_at(alloc, copied, targets, dimension, steps)?;
         sum += sources;
         most = most.max(sources);
     }
@@ -98,25 +111,26 @@ fn sources_along<G: ChunkGridTraits, H: ChunkGridTraits>(
 /// Out of memory.
 fn sources_at<G: ChunkGridTraits, H: ChunkGridTraits>(
     alloc: Global,
-    source: &G,
-    target: &H,
-    array: &ArraySubset,
+    copied: &Move<G, H>,
     targets: &ArraySubset,
     dimension: usize,
     steps: u64,
 ) -> Result<u64, AllocError>
-    requires written { AreWritten (G.dimensions source.now) (H.dimensions target.now) targets.now }
+    requires taking { AreTaking (G.dimensions copied.now.source.now)
+        (H.dimensions copied.now.target.now) copied.now.region.now copied.now.moved.now
+        targets.now }
     requires some { ¬ IsEmptyBox targets.now }
-    requires array { array.now ≡ array_box (H.dimensions target.now) }
     requires dimension { dimension < length targets.now.shape }
     requires steps { steps < slice_index_or targets.now.shape dimension 0 }
-    ensures { IfOk result (λ sources. sources
-        ≡ slice_index_or (slice_index_or (met_in (G.dimensions source.now) (H.dimensions target.now)
+    ensures { IfOk result (λ sources. sources ≡ slice_index_or (slice_index_or (met_in
+        (counters (G.dimensions copied.now.source.now) (H.dimensions copied.now.target.now)
+        copied.now.region.now copied.now.moved.now)
         targets.now.start targets.now.shape) dimension []) steps 0) }
 {
     let chunk = chunk_along(alloc, targets.start(), dimension, steps)?;
-    let shared = shared_elements(alloc, target, array, chunk.as_slice())?;
-    let cover = expect_answer(source.chunks_in_array_subset(alloc, &shared.in_subset))?;
+    let shared = shared_elements(alloc, copied.target, copied.moved, chunk.as_slice())?;
+    let read = shifted_box(alloc, copied.region.start(), &shared.in_subset)?;
+    let cover = expect_answer(copied.source.chunks_in_array_subset(alloc, &read))?;
     Ok(cover.shape()[dimension])
 }
 

@@ -1,11 +1,11 @@
--- How many chunks of the source share elements with a chunk of the target, dimension by dimension.
-use Rattle.std.specs.Prelude.{◌≡◌, ℕ, zero, suc, ◌+◌, ◌-◌, List, [], ◌∷◌, cond, length, map, min, nat_lt}
+-- How many chunks of the source share elements with a chunk of the target, dimension by dimension, where a box of the source's elements goes to a box
+-- of the target's.
+use Rattle.std.specs.Prelude.{◌≡◌, ℕ, zero, suc, ◌+◌, ◌-◌, List, [], ◌∷◌, cond, length, map, max, min, nat_lt}
 use Rattle.std.specs.List.{range_with_len}
 use Rattle.zarrs_chunk_base.specs.ArraySubset.{Box, IsBox, IsInside}
 use Rattle.zarrs_chunk_base.specs.Dimension.{Dimension, array_sizes}
-use Rattle.zarrs_chunks.specs.Walks.{starts_at}
 use Rattle.zarrs_chunk_plan.specs.Plan.{Meets}
-use Rattle.zarrs_chunk_plan.specs.Rechunking.{array_box}
+use Rattle.zarrs_chunk_plan.specs.Region.{LiesIn}
 
 -- the chunk that holds an index, looked for among so many from a first one on
 abbrev pub home_from : Dimension → (many first index : ℕ) → ℕ
@@ -15,36 +15,57 @@ home_from d (suc many) first index = cond (nat_lt index (d.end first)) first (ho
 abbrev pub home : Dimension → ℕ → ℕ
 home d index = home_from d index 0 index
 
--- how many elements of the array a chunk holds
-abbrev pub held : Dimension → ℕ → ℕ
-held d chunk = min (d.end chunk) d.array_size - d.start chunk
+-- how many chunks hold some of a range: from the one that holds its first index to the one that holds its last
+unfoldable pub met : Dimension → (first size : ℕ) → ℕ
+met d first size = suc (home d (first + (size - 1))) - home d first
 
--- how many chunks of the source share elements with a chunk of the target, along one dimension
-unfoldable pub met_along : (source target : Dimension) → ℕ → ℕ
-met_along source target chunk =
-    suc (home source (target.start chunk + (held target chunk - 1))) - home source (target.start chunk)
+-- the first index of a range from `at` on that a chunk holds, and how many of its `size` indices it holds
+abbrev pub taken_from : Dimension → (at chunk : ℕ) → ℕ
+taken_from d at chunk = max at (d.start chunk)
 
--- and along each
-abbrev pub met_by : (source target : List Dimension) → List ℕ → List ℕ
-met_by (s ∷ source) (t ∷ target) (c ∷ chunk) = met_along s t c ∷ met_by source target chunk
-met_by _ _ _ = []
+abbrev pub taken : Dimension → (at size chunk : ℕ) → ℕ
+taken d at size chunk = min (d.end chunk) (at + size) - taken_from d at chunk
 
--- for each dimension how many they are for each chunk of a range
-abbrev pub met_in : (source target : List Dimension) → (first sizes : List ℕ) → List (List ℕ)
-met_in (s ∷ source) (t ∷ target) (a ∷ first) (n ∷ sizes) = map (met_along s t) (range_with_len a n) ∷ met_in source target first sizes
-met_in _ _ _ _ = []
+-- how many chunks of the source share elements with a chunk of the target, along one dimension: a range from `first` on goes to one from `at` on
+abbrev pub met_along : (source target : Dimension) → (first at size chunk : ℕ) → ℕ
+met_along source target first at size chunk = met source (first + (taken_from target at chunk - at)) (taken target at size chunk)
 
--- the elements of the array that a chunk holds, as a box of the array
-abbrev pub sizes_of : List Dimension → List ℕ → List ℕ
-sizes_of (d ∷ ds) (c ∷ chunk) = held d c ∷ sizes_of ds chunk
-sizes_of _ _ = []
+-- and along each, where a box goes to another
+abbrev pub counters_from : (source target : List Dimension) → (first at shape : List ℕ) → List (ℕ → ℕ)
+counters_from (s ∷ source) (t ∷ target) (f ∷ first) (a ∷ at) (n ∷ shape) = met_along s t f a n ∷ counters_from source target first at shape
+counters_from _ _ _ _ _ = []
 
-abbrev pub held_box : List Dimension → List ℕ → Box
-held_box ds chunk = record { start = starts_at ds chunk; shape = sizes_of ds chunk }
+abbrev pub counters : (source target : List Dimension) → (region moved : Box) → List (ℕ → ℕ)
+counters source target region moved = counters_from source target region.start moved.start moved.shape
 
--- chunks of the target that each hold elements of the array
-pub record AreWritten (source target : List Dimension) (targets : Box) : Type 0 where
-  pub one_array : array_sizes source ≡ array_sizes target
+-- the counts of one chunk
+abbrev pub met_by : List (ℕ → ℕ) → List ℕ → List ℕ
+met_by (f ∷ counters) (c ∷ chunk) = f c ∷ met_by counters chunk
+met_by _ _ = []
+
+-- for each dimension those of the chunks of a range
+abbrev pub met_in : List (ℕ → ℕ) → (first sizes : List ℕ) → List (List ℕ)
+met_in (f ∷ counters) (a ∷ first) (n ∷ sizes) = map f (range_with_len a n) ∷ met_in counters first sizes
+met_in _ _ _ = []
+
+-- the elements of a box of the array that a chunk holds, as a box of the array
+abbrev pub taken_starts : List Dimension → (at chunk : List ℕ) → List ℕ
+taken_starts (d ∷ ds) (a ∷ at) (c ∷ chunk) = taken_from d a c ∷ taken_starts ds at chunk
+taken_starts _ _ _ = []
+
+abbrev pub taken_sizes : List Dimension → (at shape chunk : List ℕ) → List ℕ
+taken_sizes (d ∷ ds) (a ∷ at) (n ∷ shape) (c ∷ chunk) = taken d a n c ∷ taken_sizes ds at shape chunk
+taken_sizes _ _ _ _ = []
+
+abbrev pub taken_box : List Dimension → Box → List ℕ → Box
+taken_box ds b chunk = record { start = taken_starts ds b.start chunk; shape = taken_sizes ds b.start b.shape chunk }
+
+-- chunks of the target that each take some elements of a box, which goes from one array to the other
+pub record AreTaking (source target : List Dimension) (region moved targets : Box) : Type 0 where
+  pub in_source : LiesIn region (array_sizes source)
+  pub in_target : LiesIn moved (array_sizes target)
+  pub one_shape : moved.shape ≡ region.shape
+  pub is_moved : IsBox moved
   pub is_box : IsBox targets
   pub long : length targets.start ≡ length target
-  pub meet : (chunk : List ℕ) → IsInside targets chunk → Meets target (array_box target) chunk
+  pub meet : (chunk : List ℕ) → IsInside targets chunk → Meets target moved chunk

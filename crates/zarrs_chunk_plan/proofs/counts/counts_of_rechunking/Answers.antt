@@ -1,6 +1,27 @@
-use Rattle.zarrs_chunk_plan.specs.seen.Sources.{AreWritten}
-use Rattle.zarrs_chunk_plan.proofs.CountedCopies.{counts_are}
+use Rattle.std.proofs.Common.{◌∙◌, sym}
+use Rattle.zarrs_chunk_plan.proofs.CountedCopies.{are_taking, counts_are}
+use Rattle.zarrs_chunk_plan.proofs.MetCovers.{as_many_dimensions, some_dimensions}
 use Rattle.zarrs_chunk_plan.proofs.counts.counts_of_rechunking.Goals as goal
+
+pub counts_of_targets-requires-clause-taking : goal.counts_of_targets-requires-clause-taking
+counts_of_targets-requires-clause-taking g c =
+    let source = g.G.ChunkGridTraits.dimensions c.args.source.now.grid in
+    let target = g.H.ChunkGridTraits.dimensions c.args.target.now.grid in
+    let found = c.in_ok-targets.ensures in
+    rw c.in_ok-array.ensures.elements
+    (are_taking source target c.in_ok-targets.targets found.one_array found.array found.is_box found.long
+    (λ chunk inside. ((found.targets chunk).0 inside).1))
+
+pub counts_of_targets-requires-clause-dimensions : goal.counts_of_targets-requires-clause-dimensions
+counts_of_targets-requires-clause-dimensions g c = λ empty none.
+    let source = g.G.ChunkGridTraits.dimensions c.args.source.now.grid in
+    let target = g.H.ChunkGridTraits.dimensions c.args.target.now.grid in
+    let found = c.in_ok-targets.ensures in
+    let taking = are_taking source target c.in_ok-targets.targets found.one_array found.array found.is_box found.long
+    (λ chunk inside. ((found.targets chunk).0 inside).1)
+    in
+    let many = as_many_dimensions source target _ _ c.in_ok-targets.targets (g.met.G.ChunkGridTraits.chained c.args.source.now.grid) taking in
+    some_dimensions target c.in_ok-targets.targets found.is_box found.long (c.in_ok-elements.ensures.empty.0 empty) (sym many ∙ none)
 
 pub returns-clause-counts : goal.returns-clause-counts
 returns-clause-counts g c =
@@ -8,12 +29,8 @@ returns-clause-counts g c =
     let target = g.H.ChunkGridTraits.dimensions c.args.target.now.grid in
     let found = c.in_ok-targets.ensures in
     let targets = c.in_ok-targets.targets in
-    let written : AreWritten source target targets = record {
-      one_array = found.one_array;
-      is_box = found.is_box;
-      long = found.long;
-      meet = λ chunk inside. ((found.targets chunk).0 inside).1;
-    }
+    let taking = are_taking source target targets found.one_array found.array found.is_box found.long
+    (λ chunk inside. ((found.targets chunk).0 inside).1)
     in (
       targets,
       found.is_box,
@@ -21,6 +38,7 @@ returns-clause-counts g c =
       λ groups plan.
           counts_are source (g.E.ChunkKeyEncodingTraits.is_key c.args.source.now.encoding) target
           (g.F.ChunkKeyEncodingTraits.is_key c.args.target.now.encoding)
-          (g.met.G.ChunkGridTraits.chained c.args.source.now.grid) targets written c.args.chunks.now found.targets groups plan
-          c.in_ok-counts_of_targets.field-0 c.in_ok-counts_of_targets.ensures,
+          (g.met.G.ChunkGridTraits.chained c.args.source.now.grid) targets taking c.args.chunks.now found.targets groups plan
+          c.in_ok-elements.elements c.in_ok-counts_of_targets.field-0 c.in_ok-elements.ensures.elements
+          (rw c.in_ok-array.ensures.elements at c.in_ok-counts_of_targets.ensures),
     )

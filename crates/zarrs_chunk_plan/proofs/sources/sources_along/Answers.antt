@@ -3,8 +3,8 @@ use Rattle.std.proofs.Common.{ℕ, nat_cmp, rules, tests, ◌≡◌, ◌∙◌, 
 use Rattle.std.proofs.lemmas.List.{take_all}
 use Rattle.std.proofs.lemmas.List.Sums.{fold_more, sum_by_more}
 use Rattle.std.specs.List.{sum}
-use Rattle.zarrs_chunk_plan.specs.seen.Sources.{met_in}
-use Rattle.zarrs_chunk_plan.proofs.MetCovers.{as_many_dimensions, sizes_fit, written_hold}
+use Rattle.zarrs_chunk_plan.specs.seen.Sources.{counters, met_in}
+use Rattle.zarrs_chunk_plan.proofs.MetCovers.{as_many_counters, as_many_dimensions, as_many_starts, shape_fits, taking_ranges}
 use Rattle.zarrs_chunk_plan.proofs.Written.{sums_fit, table_long}
 use Rattle.zarrs_chunk_plan.proofs.sources.sources_along.Goals as goal
 
@@ -13,32 +13,38 @@ greater a b = search (rules, tests)
 
 pub overflow_add-sum : goal.overflow_add-sum
 overflow_add-sum g c =
-    let source = g.G.ChunkGridTraits.dimensions c.args.source.now in
-    let target = g.H.ChunkGridTraits.dimensions c.args.target.now in
+    let source = g.G.ChunkGridTraits.dimensions c.args.copied.now.source.now in
+    let target = g.H.ChunkGridTraits.dimensions c.args.copied.now.target.now in
+    let region = c.args.copied.now.region.now in
+    let moved = c.args.copied.now.moved.now in
     let targets = c.args.targets.now in
-    let written = c.requires.written in
-    let chains = g.met.G.ChunkGridTraits.chained c.args.source.now in
-    let fit = sizes_fit target (rw c.requires.array at c.is_a_box.ensures) in
+    let taking = c.requires.taking in
+    let chains = g.met.G.ChunkGridTraits.chained c.args.copied.now.source.now in
+    let fit = shape_fits moved.start moved.shape taking.is_moved in
     let less = rw c.shape.ensures.value at c.loop-steps-test.true in
-    let fits = sums_fit source target targets.start targets.shape c.args.dimension c.loop-steps.steps chains
-    (g.met.H.ChunkGridTraits.chained c.args.target.now) written.one_array fit (written_hold source target targets chains written c.requires.some)
-    c.requires.dimension less
+    let lies = rw (sym taking.one_shape) at taking.in_source in
+    let fits = sums_fit source target region.start moved.start moved.shape targets.start targets.shape c.args.dimension c.loop-steps.steps chains
+    (g.met.H.ChunkGridTraits.chained c.args.copied.now.target.now)
+    (as_many_dimensions source target region moved targets chains taking) (as_many_starts source target region moved targets chains taking) lies fit
+    (taking_ranges source target region moved targets chains taking c.requires.some) c.requires.dimension less
     in
     let (sum, _) = c.loop-steps.invariant in
     omega (arith, sum, c.in_ok-sources.ensures, fits)
 
 pub loop-steps-preserved : goal.loop-steps-preserved
 loop-steps-preserved g c =
-    let source = g.G.ChunkGridTraits.dimensions c.args.source.now in
-    let target = g.H.ChunkGridTraits.dimensions c.args.target.now in
+    let source = g.G.ChunkGridTraits.dimensions c.args.copied.now.source.now in
+    let target = g.H.ChunkGridTraits.dimensions c.args.copied.now.target.now in
+    let region = c.args.copied.now.region.now in
+    let moved = c.args.copied.now.moved.now in
     let targets = c.args.targets.now in
-    let written = c.requires.written in
-    let met = slice_index_or (met_in source target targets.start targets.shape) c.args.dimension [] in
+    let taking = c.requires.taking in
+    let all = counters source target region moved in
+    let met = slice_index_or (met_in all targets.start targets.shape) c.args.dimension [] in
     let less = rw c.shape.ensures.value at c.loop-steps-test.true in
-    let long = table_long source target targets.start targets.shape c.args.dimension
-    (as_many_dimensions source target targets (g.met.G.ChunkGridTraits.chained c.args.source.now) written) written.long written.is_box.lengths
-    c.requires.dimension
-    in
+    let many = as_many_counters source target region moved targets (g.met.G.ChunkGridTraits.chained c.args.copied.now.source.now) taking in
+    let is_box = taking.is_box in
+    let long = table_long all targets.start targets.shape c.args.dimension (omega (arith, taking.long, many)) is_box.lengths c.requires.dimension in
     let (sum, most) = c.loop-steps.invariant in (
       ap₂ ◌+◌ sum c.in_ok-sources.ensures ∙ sym (sum_by_more (λ n. n) met c.loop-steps.steps 0 (omega arith)),
       c.max-most.ensures ∙ greater c.loop-steps.most c.in_ok-sources.sources ∙ ap₂ max most c.in_ok-sources.ensures
@@ -47,32 +53,36 @@ loop-steps-preserved g c =
 
 pub returns-clause-sum : goal.returns-clause-sum
 returns-clause-sum g c =
-    let source = g.G.ChunkGridTraits.dimensions c.args.source.now in
-    let target = g.H.ChunkGridTraits.dimensions c.args.target.now in
+    let source = g.G.ChunkGridTraits.dimensions c.args.copied.now.source.now in
+    let target = g.H.ChunkGridTraits.dimensions c.args.copied.now.target.now in
+    let region = c.args.copied.now.region.now in
+    let moved = c.args.copied.now.moved.now in
     let targets = c.args.targets.now in
-    let written = c.requires.written in
-    let met = slice_index_or (met_in source target targets.start targets.shape) c.args.dimension [] in
+    let taking = c.requires.taking in
+    let all = counters source target region moved in
+    let met = slice_index_or (met_in all targets.start targets.shape) c.args.dimension [] in
     let ended = rw c.shape.ensures.value at c.loop-steps-test.false in
     let end = rw c.shape.ensures.value at c.loop-steps.auto.steps-end in
-    let long = table_long source target targets.start targets.shape c.args.dimension
-    (as_many_dimensions source target targets (g.met.G.ChunkGridTraits.chained c.args.source.now) written) written.long written.is_box.lengths
-    c.requires.dimension
-    in
-    let all : take c.loop-steps.steps met ≡ met = take_all c.loop-steps.steps met (omega (arith, ended, end)) in
-    c.loop-steps.invariant.0 ∙ ap sum all
+    let many = as_many_counters source target region moved targets (g.met.G.ChunkGridTraits.chained c.args.copied.now.source.now) taking in
+    let is_box = taking.is_box in
+    let long = table_long all targets.start targets.shape c.args.dimension (omega (arith, taking.long, many)) is_box.lengths c.requires.dimension in
+    let whole : take c.loop-steps.steps met ≡ met = take_all c.loop-steps.steps met (omega (arith, ended, end)) in
+    c.loop-steps.invariant.0 ∙ ap sum whole
 
 pub returns-clause-most : goal.returns-clause-most
 returns-clause-most g c =
-    let source = g.G.ChunkGridTraits.dimensions c.args.source.now in
-    let target = g.H.ChunkGridTraits.dimensions c.args.target.now in
+    let source = g.G.ChunkGridTraits.dimensions c.args.copied.now.source.now in
+    let target = g.H.ChunkGridTraits.dimensions c.args.copied.now.target.now in
+    let region = c.args.copied.now.region.now in
+    let moved = c.args.copied.now.moved.now in
     let targets = c.args.targets.now in
-    let written = c.requires.written in
-    let met = slice_index_or (met_in source target targets.start targets.shape) c.args.dimension [] in
+    let taking = c.requires.taking in
+    let all = counters source target region moved in
+    let met = slice_index_or (met_in all targets.start targets.shape) c.args.dimension [] in
     let ended = rw c.shape.ensures.value at c.loop-steps-test.false in
     let end = rw c.shape.ensures.value at c.loop-steps.auto.steps-end in
-    let long = table_long source target targets.start targets.shape c.args.dimension
-    (as_many_dimensions source target targets (g.met.G.ChunkGridTraits.chained c.args.source.now) written) written.long written.is_box.lengths
-    c.requires.dimension
-    in
-    let all : take c.loop-steps.steps met ≡ met = take_all c.loop-steps.steps met (omega (arith, ended, end)) in
-    c.loop-steps.invariant.1 ∙ ap (fold max 0) all
+    let many = as_many_counters source target region moved targets (g.met.G.ChunkGridTraits.chained c.args.copied.now.source.now) taking in
+    let is_box = taking.is_box in
+    let long = table_long all targets.start targets.shape c.args.dimension (omega (arith, taking.long, many)) is_box.lengths c.requires.dimension in
+    let whole : take c.loop-steps.steps met ≡ met = take_all c.loop-steps.steps met (omega (arith, ended, end)) in
+    c.loop-steps.invariant.1 ∙ ap (fold max 0) whole
