@@ -15,9 +15,8 @@ use Rattle.zarrs_chunk_plan.specs.Rechunking.{array_box}
 use Rattle.zarrs_chunk_plan.specs.Resize.{AreResized, HasElementOf, IsHeld, IsKept, IsResized, IsUsed}
 use Rattle.zarrs_chunk_plan.specs.declared.resize.Held.{Held}
 use Rattle.zarrs_chunk_plan.specs.seen.Outside.{lesser}
-use Rattle.zarrs_chunk_plan.specs.seen.Sources.{held, held_box, sizes_of}
 use Rattle.zarrs_chunk_plan.specs.seen.Used.{kept_size, kept_sizes}
-use Rattle.zarrs_chunk_plan.proofs.MetChunks.{AllHoldSome, HoldsSome, held_common, hold_some, meets_hold}
+use Rattle.zarrs_chunk_plan.proofs.HeldBoxes.{AllHoldSome, HoldsSome, held, held_box, held_common, hold_some, meets_hold, sizes_of}
 use Rattle.zarrs_chunk_plan.proofs.Rechunkings.{in_array}
 use Rattle.zarrs_chunk_plan.proofs.SameBoxes.{same_box_of}
 

@@ -12,6 +12,7 @@ pub mod CountedCopies
 pub mod CountedGroups
 pub mod CountedParts
 pub mod CountedRegions
+pub mod HeldBoxes
 pub mod InPlace
 pub mod Joined
 pub mod Kept

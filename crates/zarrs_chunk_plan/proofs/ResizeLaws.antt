@@ -11,7 +11,7 @@ use Rattle.zarrs_chunk_plan.specs.declared.resize.Change.{Change}
 use Rattle.zarrs_chunk_plan.specs.declared.resize.Change.TheVariants.{Delete, Keep, New, Rewrite}
 use Rattle.zarrs_chunk_plan.specs.declared.resize.ChunkChange.{ChunkChange}
 use Rattle.zarrs_chunk_plan.proofs.Kept.{AllKept, kept_is_all, same_start}
-use Rattle.zarrs_chunk_plan.proofs.MetChunks.{AllHoldSome, hold_some, meets_hold}
+use Rattle.zarrs_chunk_plan.proofs.HeldBoxes.{AllHoldSome, hold_some, meets_hold}
 use Rattle.zarrs_chunk_plan.proofs.Plans.{pair_of, pairs_of, source_of}
 use Rattle.zarrs_chunk_plan.proofs.Rechunkings.{in_array}
 

@@ -109,7 +109,10 @@ fn check_changes(
         append_change(alloc, &mut lines, &change?)?;
         count += 1;
     }
-    assert!(rt; lines.as_str() == expected, "other changes than:\n{expected}");
+    assert!(rt;
+        lines.as_str() == expected,
+        "other changes than:\n{expected}"
+    );
     assert!(rt; in_all == Some(count), "another count than {count}");
     Ok(())
 }
@@ -119,7 +122,12 @@ fn an_array_grows_and_shrinks(rt: HostRuntime) -> Result<(), Fail> {
     let alloc = rt.alloc();
     let seven = regular(alloc, &[7], &[3])?;
     check_changes(&rt, (&seven, &regular(alloc, &[10], &[3])?), true, LONGER)?;
-    check_changes(&rt, (&seven, &regular(alloc, &[10], &[3])?), false, LONGER_CHANGED)?;
+    check_changes(
+        &rt,
+        (&seven, &regular(alloc, &[10], &[3])?),
+        false,
+        LONGER_CHANGED,
+    )?;
     check_changes(&rt, (&seven, &regular(alloc, &[6], &[3])?), false, SHORTER)?;
     check_changes(&rt, (&seven, &regular(alloc, &[7], &[3])?), false, "")
 }
@@ -145,12 +153,21 @@ fn an_array_comes_from_nothing_and_goes_to_nothing(rt: HostRuntime) -> Result<()
 #[test]
 fn an_array_of_two_dimensions_or_none_is_resized(rt: HostRuntime) -> Result<(), Fail> {
     let alloc = rt.alloc();
-    let arrays = (&regular(alloc, &[4, 5], &[2, 3])?, &regular(alloc, &[5, 3], &[2, 3])?);
+    let arrays = (
+        &regular(alloc, &[4, 5], &[2, 3])?,
+        &regular(alloc, &[5, 3], &[2, 3])?,
+    );
     check_changes(&rt, arrays, false, IN_TWO_DIMENSIONS)?;
-    let arrays = (&regular(alloc, &[3, 4], &[2, 3])?, &regular(alloc, &[4, 4], &[2, 3])?);
+    let arrays = (
+        &regular(alloc, &[3, 4], &[2, 3])?,
+        &regular(alloc, &[4, 4], &[2, 3])?,
+    );
     check_changes(&rt, arrays, false, ONE_ROW_MORE)?;
     let none: [u64; 0] = [];
-    let arrays = (&regular(alloc, &none, &none)?, &regular(alloc, &none, &none)?);
+    let arrays = (
+        &regular(alloc, &none, &none)?,
+        &regular(alloc, &none, &none)?,
+    );
     check_changes(&rt, arrays, true, ONE_ELEMENT)?;
     check_changes(&rt, arrays, false, "")
 }
@@ -173,7 +190,10 @@ fn a_large_array_grows(rt: HostRuntime) -> Result<(), Fail> {
 #[test]
 fn another_number_of_dimensions_is_refused(rt: HostRuntime) -> Result<(), Fail> {
     let alloc = rt.alloc();
-    let (row, square) = (regular(alloc, &[7], &[3])?, regular(alloc, &[7, 7], &[3, 3])?);
+    let (row, square) = (
+        regular(alloc, &[7], &[3])?,
+        regular(alloc, &[7, 7], &[3, 3])?,
+    );
     match changes(alloc, &row.grid, &square.grid, &row.encoding, false) {
         Err(Refusal::Refused(error)) => {
             let told = format!(in alloc; "{error}")?;

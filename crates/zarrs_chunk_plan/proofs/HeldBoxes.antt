@@ -1,0 +1,89 @@
+-- What a chunk holds of the whole array, as a box of the array.
+use Rattle.std.proofs.Common.{◌≡◌, ◌↔◌, ◌∙◌, ℕ, ◌+◌, ◌-◌, ◌<◌, ◌≤◌, IsTrue, List, [], ◌∷◌, length, min, ap, ap₂, subst, sym, arith}
+use Rattle.zarrs_chunk_base.specs.ArraySubset.{Box, IsInside}
+use Rattle.zarrs_chunk_base.specs.Dimension.{Dimension, Holds, InBox, array_sizes}
+use Rattle.zarrs_chunk_base.proofs.Boxes.{within_lengths}
+use Rattle.zarrs_chunk_base.proofs.InEach.{length_values}
+use Rattle.zarrs_chunk_axes.specs.InBounds.{AreBelow}
+use Rattle.zarrs_chunks.specs.Walks.{starts_at}
+use Rattle.zarrs_chunk_plan.specs.Plan.{AreShared, Meets}
+use Rattle.zarrs_chunk_plan.specs.Rechunking.{array_box}
+use Rattle.zarrs_chunk_plan.specs.Resize.{HasElementOf, IsUsed}
+use Rattle.zarrs_chunk_plan.proofs.Rechunkings.{counted_from_zeros, in_array}
+
+-- how many elements of the array a chunk holds
+abbrev pub held : Dimension → ℕ → ℕ
+held d chunk = min (d.end chunk) d.array_size - d.start chunk
+
+abbrev pub sizes_of : List Dimension → List ℕ → List ℕ
+sizes_of (d ∷ ds) (c ∷ chunk) = held d c ∷ sizes_of ds chunk
+sizes_of _ _ = []
+
+abbrev pub held_box : List Dimension → List ℕ → Box
+held_box ds chunk = record { start = starts_at ds chunk; shape = sizes_of ds chunk }
+
+-- ---- the chunk in each dimension
+
+-- the chunk holds an element of the array
+abbrev pub HoldsSome : Dimension → ℕ → Type 0
+HoldsSome d c = IsTrue (d.has_chunk c) × (d.start c < d.end c) × (d.start c < d.array_size)
+
+-- a chunk that holds an element of the array does so in each dimension
+abbrev pub AllHoldSome : List Dimension → List ℕ → Type 0
+AllHoldSome [] [] = Unit {0}
+AllHoldSome (d ∷ ds) (c ∷ chunk) = HoldsSome d c × AllHoldSome ds chunk
+AllHoldSome _ _ = ⊥
+
+pub hold_some : (ds : List Dimension) (chunk index : List ℕ) → InBox ds chunk index → AreBelow (array_sizes ds) index → AllHoldSome ds chunk
+hold_some [] [] [] box below = tt
+hold_some (d ∷ ds) (c ∷ chunk) (i ∷ index) box below =
+    let here = box.0 in
+    let from = here.from in
+    let end = here.below in
+    let less : i < d.array_size = below.0 in
+    ((here.chunk, omega arith, omega arith), hold_some ds chunk index box.1 below.1)
+hold_some _ _ _ box below = absurd box
+
+pub meets_hold : (ds : List Dimension) (chunk : List ℕ) → Meets ds (array_box ds) chunk → AllHoldSome ds chunk
+meets_hold ds chunk (index, box, inside) = hold_some ds chunk index box ((in_array ds index).1 inside)
+
+-- what the chunk shares with the array is its box of the array
+pub held_common : (ds : List Dimension) (chunk : List ℕ) → AllHoldSome ds chunk → (index : List ℕ)
+    → IsInside (held_box ds chunk) index ↔ (InBox ds chunk index × AreBelow (array_sizes ds) index)
+held_common [] [] some [] = (λ _. (tt, tt), λ _. tt)
+held_common [] [] some (_ ∷ _) = (λ within. absurd within, λ both. absurd both.0)
+held_common (d ∷ ds) (c ∷ chunk) some [] = (λ within. absurd within, λ both. absurd both.0)
+held_common (d ∷ ds) (c ∷ chunk) some (i ∷ index) =
+    let rest = held_common ds chunk some.1 index in
+    let (has, any, less) = some.0 in (
+      λ within.
+          let from : d.start c ≤ i = within.0 in
+          let below : i < d.start c + held d c = within.1 in
+          let (box, small) = rest.0 within.2 in
+          ((record { chunk = has; from = from; below = omega arith }, box), (omega arith, small)),
+      λ both.
+          let from : d.start c ≤ i = both.0.0.from in
+          let below : i < d.end c = both.0.0.below in
+          let small : i < d.array_size = both.1.0 in
+          (from, omega arith, rest.1 (both.0.1, both.1.1)),
+    )
+held_common _ _ some index = absurd some
+
+-- what is found of a chunk and the whole array are the elements that the chunk holds
+pub found_are : (ds : List Dimension) (chunk : List ℕ) (in_chunk in_subset : Box) → AreShared ds (array_box ds) chunk in_chunk in_subset
+    → IsUsed ds chunk → (index : List ℕ) → IsInside in_subset index ↔ HasElementOf ds chunk index
+found_are ds chunk in_chunk in_subset boxes (one, box, inside) index =
+    let shared = boxes.shared in
+    let in_shared = (boxes.elements one).1 (box, inside) in
+    let many = length_values Holds ds chunk one box in
+    let long = within_lengths shared.start shared.shape one in_shared in
+    let shapes = ap length boxes.from_subset.shape in
+    let as_many : length in_subset.start ≡ length ds = omega (arith, boxes.is_box.lengths, boxes.from_subset.is_box.lengths) in
+    let start : shared.start ≡ in_subset.start = boxes.from_subset.start ∙ counted_from_zeros (length ds) in_subset.start as_many in
+    let same : in_subset ≡ shared =
+    ap₂ (λ (a b : List ℕ). let made : Box = record { start = a; shape = b } in made) (sym start) (sym boxes.from_subset.shape)
+    in
+    rw same (
+      λ h. let (in_box, within) = (boxes.elements index).0 h in (in_box, (in_array ds index).1 within),
+      λ h. (boxes.elements index).1 (h.0, (in_array ds index).0 h.1),
+    )
