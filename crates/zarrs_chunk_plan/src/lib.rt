@@ -2,8 +2,9 @@
 //!
 //! [`parts`] takes a grid, an encoding and a box of elements, and gives a part for each chunk that holds some of the box, one after
 //! another. [`copies`] takes an array as it is stored and as it is to be stored, and gives for each chunk of the target the parts of the source's
-//! chunks that have its elements. [`copies_of_region`] does so of a box of elements that goes to another place, or to an array of another shape. All
-//! ask grids and encodings by their traits alone, so these may be of other crates. `CALLING.md` has callers.
+//! chunks that have its elements. [`copies_of_region`] does so of a box of elements that goes to another place, or to an array of another shape.
+//! [`changes`] tells what becomes of each chunk of an array that gets another shape. All ask grids and encodings by their traits alone, so these may be
+//! of other crates. `CALLING.md` has callers.
 //!
 //! ```text
 //! RegularChunkGrid, array shape [6, 6], chunk shape [4, 3], default keys with `/`, box [3..6, 2..4]
@@ -25,6 +26,10 @@
 //! | `numbered_copies` | `some_copies`: some of the groups of that plan, from any one on |
 //! | `region` | `copies_of_region`: the copy of a box of elements to another place, or another array |
 //! | `chunk_copies` | the walk over what a rechunking copies, or what is copied of a region, a chunk of the target after another |
+//! | `resize` | `changes`: what becomes of the chunks of an array that gets another shape |
+//! | `chunk_changes` | the walk over what becomes of them |
+//! | `used` | how many chunks hold elements of an array along each dimension, and how many of them a resize keeps |
+//! | `outside` | the chunks below one list of numbers and not below another, as boxes |
 //! | `counts` | how much a plan copies, without a walk over it |
 //! | `sources` | how many chunks of the source share elements with those of the target, along each dimension |
 //! | `copies_error` | why a rechunking can't be planned |
