@@ -124,7 +124,7 @@ module _ (source target : List Dimension) (also_chains : AllByRecursion IsChain 
   }
 
   -- of an empty region there are none
-  none_taking : IsEmptyBox region → IsEmptyBox targets
+  pub none_taking : IsEmptyBox region → IsEmptyBox targets
   none_taking empty =
       let some = dimensions empty in
       subst IsEmptyBox (sym (subst (AnswersEmptyCover target) is (if_empty empty some))) (zeros_none (length target) some)

@@ -1,5 +1,5 @@
 -- Where each chunk has a key, the copy of a region of the array exists; and that of the whole array, to where it is, is a rechunking.
-use Rattle.std.proofs.Common.{◌≡◌, ℕ, ◌+◌, ◌-◌, ◌<◌, ◌≤◌, List, [], ◌∷◌, Contains, length, replicate, ap, refl, subst, sym, arith}
+use Rattle.std.proofs.Common.{◌≡◌, ℕ, ◌+◌, ◌-◌, ◌<◌, ◌≤◌, List, [], ◌∷◌, Contains, length, replicate, ap, drop, refl, subst, sym, take, zero, suc, arith}
 use Rattle.std.specs.List.{AllByRecursion, AllZip}
 use Rattle.zarrs_chunk_base.specs.ArraySubset.{AreWithin, Box, IsBox, IsEmptyBox, lasts}
 use Rattle.zarrs_chunk_base.specs.Dimension.{Dimension, IsChain, array_sizes}
@@ -115,6 +115,27 @@ module _ (source : List Dimension) (IsSourceKey : List ℕ → List ℕ → Type
       (copied chunk group meet.0 are.0 shape, all_copied chunks groups meet.1 are.1 shape)
   all_copied [] (_ ∷ _) meet are shape = absurd are
   all_copied (_ ∷ _) [] meet are shape = absurd are
+
+-- and so are the groups of some of the chunks
+pub some_copied : (source : List Dimension) (IsSourceKey : List ℕ → List ℕ → Type 0) (target : List Dimension)
+    (IsTargetKey : List ℕ → List ℕ → Type 0) (chunks : List (List ℕ)) → AllByRecursion (Meets target (array_box target)) chunks
+    → (count first : ℕ) (groups : List Group)
+    → AllZip (AreMovedInto source IsSourceKey target IsTargetKey (array_box target) (array_box target).start) (take count (drop first chunks)) groups
+    → AllZip (AreCopiesInto source IsSourceKey target IsTargetKey) (take count (drop first chunks)) groups
+some_copied source IsSourceKey target IsTargetKey chunks meet count first groups are =
+    all_copied source IsSourceKey target IsTargetKey (array_box target) refl (take count (drop first chunks)) groups
+    (all_taken (drop first chunks) count (all_dropped chunks first meet)) are refl where
+      all_taken : (xs : List (List ℕ)) (k : ℕ) → AllByRecursion (Meets target (array_box target)) xs
+          → AllByRecursion (Meets target (array_box target)) (take k xs)
+      all_taken xs zero all = tt
+      all_taken [] (suc k) all = tt
+      all_taken (x ∷ xs) (suc k) all = (all.0, all_taken xs k all.1)
+
+      all_dropped : (xs : List (List ℕ)) (k : ℕ) → AllByRecursion (Meets target (array_box target)) xs
+          → AllByRecursion (Meets target (array_box target)) (drop k xs)
+      all_dropped xs zero all = all
+      all_dropped [] (suc k) all = tt
+      all_dropped (x ∷ xs) (suc k) all = all_dropped xs k all.1
 
 -- what a walk over a rechunking moves are its groups
 pub moved_groups : {G E H F : Type 0} (source_dimensions : G → List Dimension) (source_key : E → List ℕ → List ℕ → Type 0)

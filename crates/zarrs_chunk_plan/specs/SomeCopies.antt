@@ -1,12 +1,14 @@
--- Some of the groups of a rechunking, from any one on.
+-- Some of the groups of a rechunking, or of the copy of a region, from any one on.
 -- Sources: Zarr V3 core, chunk grids and chunk key encodings; the plan is this library's own.
 use Rattle.std.specs.Prelude.{◌≡◌, ℕ, ◌-◌, List, length, drop, take, min}
 use Rattle.std.specs.List.{AllZip}
 use Rattle.zarrs_chunk_base.specs.ArraySubset.{Box, IsBox}
 use Rattle.zarrs_chunk_base.specs.Dimension.{Dimension}
 use Rattle.zarrs_chunk_base.specs.Greatest.{greatest}
+use Rattle.zarrs_chunks.specs.Subsets.{IsCover}
 use Rattle.zarrs_chunks.specs.Walks.{chunks_in}
 use Rattle.zarrs_chunk_plan.specs.Rechunking.{AreCopiesInto, AreTargets, Group}
+use Rattle.zarrs_chunk_plan.specs.Region.{AreMovedInto, moved}
 use Rattle.zarrs_chunk_plan.specs.declared.numbered_copies.SomeCopies.{SomeCopies}
 use Rattle.zarrs_chunk_plan.specs.seen.Copies.{groups_of}
 
@@ -26,3 +28,20 @@ abbrev pub AreSomeCopies : (source : List Dimension) (IsSourceKey : List ℕ →
     (target : List Dimension) (IsTargetKey : List ℕ → List ℕ → Type 0) (chunks : Box) (first most : ℕ) (some : SomeCopies) → Type 0
 AreSomeCopies source IsSourceKey target IsTargetKey chunks first most some =
     AreSomeGroups source IsSourceKey target IsTargetKey chunks first most some.in_all (groups_of some.groups.items)
+
+-- Of the groups of the copy of a region, of which there are `count`, as far as a number counts them: at most `most`, from the one with the number
+-- `first` on. Each is that of a chunk of the moved box's cover, and they come in row-major order of these chunks.
+pub record AreSomeMovedGroups (source : List Dimension) (IsSourceKey : List ℕ → List ℕ → Type 0)
+    (target : List Dimension) (IsTargetKey : List ℕ → List ℕ → Type 0) (region : Box) (at : List ℕ) (first most count : ℕ)
+    (groups : List Group) : Type 0 where
+  pub cover : Box
+  pub is_cover : IsCover target (moved at region) cover
+  pub in_all : count ≡ min (length (chunks_in cover)) greatest
+  pub are_groups : AllZip (AreMovedInto source IsSourceKey target IsTargetKey region at)
+      (take (min (count - first) most) (drop first (chunks_in cover))) groups
+
+-- some of these groups, and how many there are
+abbrev pub AreSomeMoves : (source : List Dimension) (IsSourceKey : List ℕ → List ℕ → Type 0)
+    (target : List Dimension) (IsTargetKey : List ℕ → List ℕ → Type 0) (region : Box) (at : List ℕ) (first most : ℕ) (some : SomeCopies) → Type 0
+AreSomeMoves source IsSourceKey target IsTargetKey region at first most some =
+    AreSomeMovedGroups source IsSourceKey target IsTargetKey region at first most some.in_all (groups_of some.groups.items)

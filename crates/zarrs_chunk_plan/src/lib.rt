@@ -23,7 +23,7 @@
 //! | `numbered_chunks` | the chunks in a box of chunk numbers, by their number; `some_chunks`: those from any one on |
 //! | `stored_array` | an array as it is stored: a grid and an encoding |
 //! | `rechunking` | `copies`: the plan of a rechunking; `targets_of`: the chunks that it writes |
-//! | `numbered_copies` | `some_copies`: some of the groups of that plan, from any one on |
+//! | `numbered_copies` | `some_copies`, `some_copies_of_region`: some of the groups of that plan, or of the copy of a region, from any one on |
 //! | `region` | `copies_of_region`: the copy of a box of elements to another place, or another array |
 //! | `chunk_copies` | the walk over what a rechunking copies, or what is copied of a region, a chunk of the target after another |
 //! | `resize` | `changes`: what becomes of the chunks of an array that gets another shape |
@@ -78,7 +78,7 @@ pub use clipping::clip;
 pub use copies_error::CopiesError;
 pub use counts::{Counts, counts_of_read, counts_of_rechunking, counts_of_region};
 pub use numbered_chunks::{SomeChunks, some_chunks};
-pub use numbered_copies::{SomeCopies, some_copies};
+pub use numbered_copies::{SomeCopies, some_copies, some_copies_of_region};
 pub use numbered_parts::{SomeParts, some_parts};
 pub use part::{ChunkShapeTinyVec, Part};
 pub use plan::parts;

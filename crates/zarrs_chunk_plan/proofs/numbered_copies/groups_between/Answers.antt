@@ -3,21 +3,23 @@ use Rattle.std.proofs.lemmas.List.{map-append}
 use Rattle.std.specs.List.{AllZip}
 use Rattle.zarrs_chunks.specs.Walks.{chunks_in}
 use Rattle.zarrs_chunk_plan.specs.Plan.{Meets}
-use Rattle.zarrs_chunk_plan.specs.Rechunking.{AreCopiesInto}
+use Rattle.zarrs_chunk_plan.specs.Region.{AreMovedInto}
 use Rattle.zarrs_chunk_plan.specs.seen.Copies.{groups_of}
 use Rattle.zarrs_chunk_plan.proofs.Taken.{of_place, one_more}
 use Rattle.zarrs_chunk_plan.proofs.numbered_copies.groups_between.Goals as goal
 
 pub group_of-requires-clause-meets : goal.group_of-requires-clause-meets
 group_of-requires-clause-meets g c =
-    of_place (Meets (g.H.ChunkGridTraits.dimensions c.args.target.now.grid) c.args.array.now) (chunks_in c.args.targets.now) c.loop-number.number
+    of_place (Meets (g.H.ChunkGridTraits.dimensions c.args.target.now.grid) c.args.moved.now) (chunks_in c.args.targets.now) c.loop-number.number
     c.in_ok-chunk.chunk.items c.requires.meet c.in_ok-chunk.ensures
 
 pub loop-number-preserved : goal.loop-number-preserved
 loop-number-preserved g c =
     let IsGroupOf =
-    AreCopiesInto (g.G.ChunkGridTraits.dimensions c.args.source.now.grid) (g.E.ChunkKeyEncodingTraits.is_key c.args.source.now.encoding)
-    (g.H.ChunkGridTraits.dimensions c.args.target.now.grid) (g.F.ChunkKeyEncodingTraits.is_key c.args.target.now.encoding) in
+    AreMovedInto (g.G.ChunkGridTraits.dimensions c.args.source.now.grid) (g.E.ChunkKeyEncodingTraits.is_key c.args.source.now.encoding)
+    (g.H.ChunkGridTraits.dimensions c.args.target.now.grid) (g.F.ChunkKeyEncodingTraits.is_key c.args.target.now.encoding) c.args.region.now
+    c.args.moved.now.start
+    in
     let chunks = chunks_in c.args.targets.now in
     let first = c.args.numbers.0 in
     let number = c.loop-number.number in
@@ -33,8 +35,10 @@ loop-number-preserved g c =
 pub returns : goal.returns
 returns g c =
     let IsGroupOf =
-    AreCopiesInto (g.G.ChunkGridTraits.dimensions c.args.source.now.grid) (g.E.ChunkKeyEncodingTraits.is_key c.args.source.now.encoding)
-    (g.H.ChunkGridTraits.dimensions c.args.target.now.grid) (g.F.ChunkKeyEncodingTraits.is_key c.args.target.now.encoding) in
+    AreMovedInto (g.G.ChunkGridTraits.dimensions c.args.source.now.grid) (g.E.ChunkKeyEncodingTraits.is_key c.args.source.now.encoding)
+    (g.H.ChunkGridTraits.dimensions c.args.target.now.grid) (g.F.ChunkKeyEncodingTraits.is_key c.args.target.now.encoding) c.args.region.now
+    c.args.moved.now.start
+    in
     let first = c.args.numbers.0 in
     let from = c.loop-number.auto.number in
     let ended = c.loop-number-test.false in
