@@ -9,7 +9,7 @@ use Rattle.zarrs_chunk_plan.specs.declared.region_error.RegionError.{RegionError
 use Rattle.zarrs_chunk_plan.specs.declared.region_error.RegionError.TheVariants.{At, PastSource, PastTarget, Region, Target}
 use Rattle.programs.specs.Streams.{IsReadToEnd, IsWritten, Streams}
 use Rattle.programs.specs.Watched.{IsReadFailure}
-use Rattle.programs.specs.chunkplan.Document.{Document, Wanted}
+use Rattle.programs.specs.chunkplan.Document.{Document}
 use Rattle.programs.specs.chunkplan.DocumentFault.{HasBoxFault, HasWantedFault, IsBoxFormFault, IsFormFault, IsMisfit, IsTargetMisfit, IsTaskFault}
 use Rattle.programs.specs.chunkplan.DocumentFault.{misfit, misformed_shape, misformed_stored, misformed_task, misformed_wanted, missing}
 use Rattle.programs.specs.chunkplan.DocumentFault.{no_object, not_of_form}
@@ -99,10 +99,9 @@ form_still d fault (misformed_wanted _ _ _ _ is) = wanted_still d fault is
 form_still d fault (misformed_stored told _ _ _ _ _ _ _ same) = ap moves same ∙ of_document_still told
 form_still d fault (misformed_task _ _ _ _ _ _ _ _ is) = task_still d fault is
 
-copy_still : (wanted : Wanted) (source target : List Dimension) (region : Box) (at : List ℕ) (fault : RunFault)
-    → IsCopyFault wanted source target region at fault → moves fault ≡ false
-copy_still wanted source target region at fault (inl (told, _, same)) = ap moves same ∙ of_region_still told
-copy_still wanted source target region at fault (inr (_, _, same)) = ap moves same
+copy_still : (source target : List Dimension) (region : Box) (at : List ℕ) (fault : RunFault) → IsCopyFault source target region at fault
+    → moves fault ≡ false
+copy_still source target region at fault (told, _, same) = ap moves same ∙ of_region_still told
 
 plan_still : (document : Document) (fault : RunFault) → IsPlanFault document fault → moves fault ≡ false
 plan_still document fault (of_source told _ same) = ap moves same ∙ of_create_still told
@@ -113,7 +112,7 @@ plan_still document fault (of_chunks _ chunks _ target _ _ _ _ _ is) =
     still (IsChunksFault target.dimensions (unwrap_or chunks (all_chunks_box target.dimensions))) (λ h. h) (λ h. h) fault is
 plan_still document fault (of_region_target shape stored _ _ _ _ _ _ is) = still (IsTargetFault stored shape) (λ h. h) (λ h. h) fault is
 plan_still document fault (of_region _ _ region at source target _ _ _ _ _ is) =
-    copy_still document.wanted source.dimensions target.dimensions region (begins_at region at) fault is
+    copy_still source.dimensions target.dimensions region (begins_at region at) fault is
 
 first_still : (input : List ℕ) (fault : RunFault) → IsFirstFault input fault → moves fault ≡ false
 first_still input fault (no_document (no_object told _ same)) = ap moves same ∙ of_document_still told
@@ -123,8 +122,8 @@ first_still input fault (no_plan _ document _ _ is) = plan_still document fault 
 pub no_failed_write : (document : Document) → ¬ IsPlanFault document Write
 no_failed_write document is = true≢false (plan_still document Write is)
 
-pub no_failed_copy : (wanted : Wanted) (source target : List Dimension) (region : Box) (at : List ℕ) → ¬ IsCopyFault wanted source target region at Write
-no_failed_copy wanted source target region at is = true≢false (copy_still wanted source target region at Write is)
+pub no_failed_copy : (source target : List Dimension) (region : Box) (at : List ℕ) → ¬ IsCopyFault source target region at Write
+no_failed_copy source target region at is = true≢false (copy_still source target region at Write is)
 
 pub no_write : (input : List ℕ) → ¬ IsFirstFault input Write
 no_write input is = true≢false (first_still input Write is)

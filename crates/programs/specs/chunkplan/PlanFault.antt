@@ -9,16 +9,16 @@ use Rattle.zarrs_chunk_base.specs.Refusal.{TellsLengths}
 use Rattle.zarrs_chunk_keys.specs.ChunkKey.{Encoding as KeyEncoding}
 use Rattle.zarrs_chunks.specs.Subsets.{HasNoHome}
 use Rattle.zarrs_chunk_plan.specs.Rechunking.{all_chunks_box, array_box}
-use Rattle.zarrs_chunk_plan.specs.Region.{CanBeMoved, IsRegionFault}
+use Rattle.zarrs_chunk_plan.specs.Region.{IsRegionFault}
 use Rattle.zarrs_chunk_plan.specs.declared.copies_error.CopiesError.TheVariants.{Chunks}
 use Rattle.zarrs_chunk_plan.specs.declared.region_error.RegionError.{RegionError}
 use Rattle.programs.specs.Stored.{IsCreateFault, IsStored, Stored}
-use Rattle.programs.specs.chunkplan.Document.{Document, IsDocument, Wanted, copy_to, counts_wanted, read_of, rechunk_to}
+use Rattle.programs.specs.chunkplan.Document.{Document, IsDocument, copy_to, read_of, rechunk_to}
 use Rattle.programs.specs.chunkplan.DocumentFault.{IsInputFault}
 use Rattle.programs.specs.chunkplan.Planned.{begins_at}
 use Rattle.programs.specs.chunkplan.RunFault.{of_create, of_region as of_region_error}
 use Rattle.programs.specs.declared.chunkplan.run_fault.RunFault.{RunFault}
-use Rattle.programs.specs.declared.chunkplan.run_fault.RunFault.TheVariants.{Copies, CountsOfRegion, SubsetDimensionality, TargetEncoding, TargetGrid}
+use Rattle.programs.specs.declared.chunkplan.run_fault.RunFault.TheVariants.{Copies, SubsetDimensionality, TargetEncoding, TargetGrid}
 use Rattle.programs.specs.declared.chunkplan.run_fault.RunFault.TheVariants.{Uncovered}
 use Rattle.programs.specs.declared.stored.CreateFault.{CreateFault}
 use Rattle.programs.specs.declared.stored.CreateFault.TheVariants.{Encoding, Grid}
@@ -43,11 +43,10 @@ abbrev pub IsChunksFault : List Dimension → Box → RunFault → Type 0
 IsChunksFault ds chunks (Copies (Chunks e)) = (length chunks.start ≢ length ds) × TellsLengths (length chunks.start) (length ds) e
 IsChunksFault ds chunks _ = ⊥
 
--- the fault says why the region can't be copied, or that there are no counts of that
-abbrev pub IsCopyFault : Wanted → (source target : List Dimension) → Box → (at : List ℕ) → RunFault → Type 0
-IsCopyFault wanted source target region at fault =
-    ((told : RegionError) × IsRegionFault (array_sizes source) (array_sizes target) region at told × (fault ≡ of_region_error told))
-    ⊎ (CanBeMoved (array_sizes source) (array_sizes target) region at × (wanted ≡ counts_wanted) × (fault ≡ CountsOfRegion))
+-- the fault says why the region can't be copied
+abbrev pub IsCopyFault : (source target : List Dimension) → Box → (at : List ℕ) → RunFault → Type 0
+IsCopyFault source target region at fault =
+    (told : RegionError) × IsRegionFault (array_sizes source) (array_sizes target) region at told × (fault ≡ of_region_error told)
 
 -- The first fault of a document without a plan: the grid and the encoding; then, of a read, the box; of a rechunking or the copy of a region, the
 -- grid and the encoding of the target, and then the box of its chunks, or the region.
@@ -68,7 +67,7 @@ pub data IsPlanFault (document : Document) (fault : RunFault) : Type 0 where
   of_region : (shape : List ℕ) (stored : Stored) (region : Box) (at : Option (List ℕ)) (source target : ChunkGrid)
       (source_encoding target_encoding : KeyEncoding) → document.task ≡ copy_to shape stored region at
       → IsStored document.stored document.shape source source_encoding → IsStored stored shape target target_encoding
-      → IsCopyFault document.wanted source.dimensions target.dimensions region (begins_at region at) fault → IsPlanFault document fault
+      → IsCopyFault source.dimensions target.dimensions region (begins_at region at) fault → IsPlanFault document fault
 
 -- The first fault of an input that has no plan: it is no document, or the document has no plan.
 pub data IsFirstFault (input : List ℕ) (fault : RunFault) : Type 0 where

@@ -6,11 +6,12 @@ use Rattle.zarrs_chunk_base.specs.Dimension.{Dimension, array_sizes}
 use Rattle.zarrs_chunk_base.specs.Grid.{Grid}
 use Rattle.zarrs_chunk_base.specs.Json.{IsJsonOf}
 use Rattle.zarrs_chunk_keys.specs.ChunkKey.{Encoding, IsKey}
+use Rattle.zarrs_chunks.specs.Subsets.{IsCover}
 use Rattle.zarrs_chunk_plan.specs.Clip.{IsClipped}
-use Rattle.zarrs_chunk_plan.specs.Counts.{AreReadCounts, AreRechunkingCounts}
+use Rattle.zarrs_chunk_plan.specs.Counts.{AreReadCounts, AreRechunkingCounts, AreRegionCounts, CountNothing}
 use Rattle.zarrs_chunk_plan.specs.Plan.{IsPlan}
 use Rattle.zarrs_chunk_plan.specs.Rechunking.{AreTargets, Group, IsRechunking, all_chunks_box, array_box}
-use Rattle.zarrs_chunk_plan.specs.Region.{CanBeMoved, IsRegionCopy}
+use Rattle.zarrs_chunk_plan.specs.Region.{CanBeMoved, IsRegionCopy, moved}
 use Rattle.zarrs_chunk_plan.specs.declared.counts.Counts.{Counts}
 use Rattle.zarrs_chunk_plan.specs.declared.part.Part.{Part}
 use Rattle.programs.specs.Stored.{IsStored, Stored}
@@ -51,10 +52,16 @@ pub record IsRegionPlan (source : List Dimension) (IsSourceKey : List ℕ → Li
   pub some : (¬ IsEmptyBox region) → IsRegionCopy source IsSourceKey target IsTargetKey region at groups
   pub none : IsEmptyBox region → groups ≡ []
 
--- what is written of it: the lines of a share; there are no counts
-abbrev pub IsRegionText : Wanted → List Group → List ℕ → Type 0
-IsRegionText (lines_wanted share) groups text = text ≡ rechunking_lines share groups
-IsRegionText counts_wanted groups text = ⊥
+-- its counts: by the chunks of the moved box's cover; of an empty region each is 0
+pub record AreCountsOfRegion (source target : List Dimension) (region : Box) (at : List ℕ) (groups : List Group) (counts : Counts) : Type 0 where
+  pub some : (¬ IsEmptyBox region) → (cover : Box) × IsCover target (moved at region) cover × AreRegionCounts source target region cover groups counts
+  pub none : IsEmptyBox region → CountNothing counts
+
+-- what is written of it: the lines of a share, or the line of its counts
+abbrev pub IsRegionText : Wanted → (source target : List Dimension) → (region : Box) → (at : List ℕ) → List Group → List ℕ → Type 0
+IsRegionText (lines_wanted share) source target region at groups text = text ≡ rechunking_lines share groups
+IsRegionText counts_wanted source target region at groups text =
+    (counts : Counts) × AreCountsOfRegion source target region at groups counts × IsCountsLine counts text
 
 -- What a document wants of its plan, as text: of a read of a box of elements, or of all, or of a rechunking into the chunks of a box, or into all, or
 -- of the copy of a region.
@@ -75,7 +82,7 @@ pub data IsPlanned (document : Document) (text : List ℕ) : Type 0 where
       (source_encoding target_encoding : Encoding) (groups : List Group) → document.task ≡ copy_to shape stored region at
       → IsStored document.stored document.shape source source_encoding → IsStored stored shape target target_encoding
       → IsRegionPlan source.dimensions (IsKey source_encoding) target.dimensions (IsKey target_encoding) region (begins_at region at) groups
-      → IsRegionText document.wanted groups text → IsPlanned document text
+      → IsRegionText document.wanted source.dimensions target.dimensions region (begins_at region at) groups text → IsPlanned document text
 
 -- the text that the program writes for an input
 pub record IsPlanOf (input text : List ℕ) : Type 0 where

@@ -31,7 +31,7 @@ use zarrs_chunk_base::{ArraySubset, IncompatibleDimensionalityError, Refusal};
 use zarrs_chunk_keys::{ChunkKeyEncoding, ChunkKeyEncodingTraits};
 use zarrs_chunk_plan::{
     Copies, Counts, Share, StoredArray, all_chunks, copies, copies_of_region, counts_of_read,
-    counts_of_rechunking, parts, whole_array,
+    counts_of_rechunking, counts_of_region, parts, whole_array,
 };
 use zarrs_chunks::{ChunkGrid, ChunkGridTraits};
 
@@ -39,7 +39,7 @@ use zarrs_chunks::{ChunkGrid, ChunkGridTraits};
 ///
 /// # Errors
 /// The grid or the encoding can't be made, or those of the target; the box has another number of dimensions, or no cover, where it isn't clipped; the
-/// region doesn't fit the two arrays, or its counts are asked for; a write failed; or out of memory. Nothing has been written where it is none of the last two.
+/// region doesn't fit the two arrays; a write failed; or out of memory. Nothing has been written where it is none of the last two.
 pub(crate) fn write_plan<W: Write>(
     alloc: Global,
     document: Document,
@@ -466,20 +466,93 @@ fn write_region<
         (λ text. (groups : List Group)
         × IsRegionPlan (G.dimensions source.now.grid) (E.is_key source.now.encoding)
         (H.dimensions target.now.grid) (F.is_key target.now.encoding) region.now at.now groups
-        × IsRegionText (wanted_of wanted.now) groups text)
-        (IsCopyFault (wanted_of wanted.now) (G.dimensions source.now.grid)
-        (H.dimensions target.now.grid) region.now at.now) result
+        × IsRegionText (wanted_of wanted.now) (G.dimensions source.now.grid)
+        (H.dimensions target.now.grid) region.now at.now groups text)
+        (IsCopyFault (G.dimensions source.now.grid) (H.dimensions target.now.grid)
+        region.now at.now) result
+        (output W.contents held_back.old.items writer.old)
+        (output W.contents held_back.new.items writer.new) }
+{
+    match wanted {
+        Wanted::Lines(share) => {
+            write_moves(alloc, source, target, region, at, share, held_back, writer)
+        }
+        Wanted::Counts => {
+            write_counts_of_region(alloc, source, target, region, at, held_back, writer)
+        }
+    }
+}
+
+/// Sends the counts of that plan.
+fn write_counts_of_region<
+    G: ChunkGridTraits,
+    E: ChunkKeyEncodingTraits,
+    H: ChunkGridTraits,
+    F: ChunkKeyEncodingTraits,
+    W: Write,
+>(
+    alloc: Global,
+    source: &StoredArray<G, E>,
+    target: &StoredArray<H, F>,
+    region: &ArraySubset,
+    at: &[u64],
+    held_back: &mut Vec<u8>,
+    writer: &mut Watched<W>,
+) -> Result<(), RunFault>
+    requires keys { HasKeys (E.is_key source.now.encoding) }
+    requires target_keys { HasKeys (F.is_key target.now.encoding) }
+    ensures { StepLeaves
+        (λ text. (groups : List Group)
+        × IsRegionPlan (G.dimensions source.now.grid) (E.is_key source.now.encoding)
+        (H.dimensions target.now.grid) (F.is_key target.now.encoding) region.now at.now groups
+        × IsRegionText counts_wanted (G.dimensions source.now.grid)
+        (H.dimensions target.now.grid) region.now at.now groups text)
+        (IsCopyFault (G.dimensions source.now.grid) (H.dimensions target.now.grid)
+        region.now at.now) result
         (output W.contents held_back.old.items writer.old)
         (output W.contents held_back.new.items writer.new) }
 {
     region.is_a_box();
-    let walk = match copies_of_region(alloc, source, target, region, at) {
-        Ok(walk) => walk,
-        Err(Refusal::Refused(error)) => return Err(RunFault::from(error)),
-        Err(Refusal::Memory(_)) => return Err(RunFault::Memory),
-    };
-    match wanted {
-        Wanted::Lines(share) => write_share(alloc, walk, share, held_back, writer),
-        Wanted::Counts => Err(RunFault::CountsOfRegion),
+    match counts_of_region(alloc, source, target, region, at) {
+        Ok(counts) => write_counts(alloc, &counts, held_back, writer),
+        Err(Refusal::Refused(error)) => Err(RunFault::from(error)),
+        Err(Refusal::Memory(_)) => Err(RunFault::Memory),
+    }
+}
+
+/// Sends a share of that plan.
+fn write_moves<
+    G: ChunkGridTraits,
+    E: ChunkKeyEncodingTraits,
+    H: ChunkGridTraits,
+    F: ChunkKeyEncodingTraits,
+    W: Write,
+>(
+    alloc: Global,
+    source: &StoredArray<G, E>,
+    target: &StoredArray<H, F>,
+    region: &ArraySubset,
+    at: &[u64],
+    share: &Share,
+    held_back: &mut Vec<u8>,
+    writer: &mut Watched<W>,
+) -> Result<(), RunFault>
+    requires keys { HasKeys (E.is_key source.now.encoding) }
+    requires target_keys { HasKeys (F.is_key target.now.encoding) }
+    ensures { StepLeaves
+        (λ text. (groups : List Group)
+        × IsRegionPlan (G.dimensions source.now.grid) (E.is_key source.now.encoding)
+        (H.dimensions target.now.grid) (F.is_key target.now.encoding) region.now at.now groups
+        × (text ≡ rechunking_lines share.now groups))
+        (IsCopyFault (G.dimensions source.now.grid) (H.dimensions target.now.grid)
+        region.now at.now) result
+        (output W.contents held_back.old.items writer.old)
+        (output W.contents held_back.new.items writer.new) }
+{
+    region.is_a_box();
+    match copies_of_region(alloc, source, target, region, at) {
+        Ok(walk) => write_share(alloc, walk, share, held_back, writer),
+        Err(Refusal::Refused(error)) => Err(RunFault::from(error)),
+        Err(Refusal::Memory(_)) => Err(RunFault::Memory),
     }
 }

@@ -95,9 +95,6 @@ pub enum RunFault {
     /// The region doesn't lie in the target's array where it goes.
     #[error("field `at`: the box ends past the target's array: `at`, which is 0 where it is left out, plus the box's shape is to be at most that array's shape")]
     PastTarget,
-    /// The document asks for the counts of the copy of a region.
-    #[error("field `counts` isn't for the copy of a region: leave out `counts`")]
-    CountsOfRegion,
     /// The box of the target's chunks has another number of dimensions than the target.
     #[error(transparent)]
     Copies(CopiesError),

@@ -9,7 +9,7 @@ use Rattle.programs.specs.Stored.{stored_of}
 use Rattle.programs.specs.chunkplan.Document.{document_of, task_of}
 use Rattle.programs.specs.chunkplan.PlanFault.{IsChunksFault, IsCopyFault, IsPlanFault, IsReadFault, of_chunks, of_region_target, of_source, of_subset}
 use Rattle.programs.specs.chunkplan.PlanFault.{of_region as of_region_fault, of_target}
-use Rattle.programs.specs.chunkplan.Planned.{IsAsked, IsPlanned, IsRechunkingText, IsRegionPlan, begins_at, of_read, of_rechunking, of_region}
+use Rattle.programs.specs.chunkplan.Planned.{IsAsked, IsPlanned, IsRechunkingText, IsRegionPlan, IsRegionText, begins_at, of_read, of_rechunking, of_region}
 use Rattle.programs.specs.chunkplan.RunFault.{of_create}
 use Rattle.programs.specs.seen.Sent.{output}
 use Rattle.programs.proofs.chunkplan.RunOutcomes.{no_failed_write}
@@ -130,14 +130,14 @@ returns g c =
     let region = c.in-Copy.region in
     let at = option_map (λ v. v.items) c.in-Copy.at in
     let begins : c.deref-in-Copy-2.result.now ≡ begins_at region at = search rules in
-    step_follows _ (IsPlanned document) (IsCopyFault document.wanted source.dimensions target.dimensions region c.deref-in-Copy-2.result.now)
+    step_follows _ (IsPlanned document) (IsCopyFault source.dimensions target.dimensions region c.deref-in-Copy-2.result.now)
     (IsPlanFault document)
     (λ text (groups, plan, lines). of_region shape stored region at source target source_encoding target_encoding groups (ap task_of c.in-Copy.is) made
     made_target
     (subst (λ first. IsRegionPlan source.dimensions (IsKey source_encoding) target.dimensions (IsKey target_encoding) region first groups) begins plan)
-    lines)
+    (subst (λ first. IsRegionText document.wanted source.dimensions target.dimensions region first groups text) begins lines))
     (λ fault is. of_region_fault shape stored region at source target source_encoding target_encoding (ap task_of c.in-Copy.is) made made_target
-    (subst (λ first. IsCopyFault document.wanted source.dimensions target.dimensions region first fault) begins is))
+    (subst (λ first. IsCopyFault source.dimensions target.dimensions region first fault) begins is))
     (output g.W.Write.contents c.args.held_back.now.items c.args.writer.now)
     (output g.W.Write.contents c.write_region.new.held_back.items c.write_region.new.writer)
     c.write_region.result c.write_region.ensures

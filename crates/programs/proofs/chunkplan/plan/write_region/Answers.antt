@@ -1,48 +1,7 @@
-use Rattle.std.proofs.Common.{◌∙◌, ap, inl, inr}
-use Rattle.zarrs_chunk_plan.proofs.Copied.{region_copy_of}
-use Rattle.zarrs_chunk_plan.proofs.Taken.{no_parts}
-use Rattle.programs.specs.chunkplan.Document.{wanted_of}
-use Rattle.programs.specs.chunkplan.PlanFault.{IsCopyFault}
-use Rattle.programs.specs.chunkplan.RunFault.{of_region}
-use Rattle.programs.specs.seen.Sent.{output}
-use Rattle.programs.proofs.chunkplan.RunOutcomes.{no_failed_copy}
-use Rattle.programs.proofs.chunkplan.Steps.{early, step_follows}
 use Rattle.programs.proofs.chunkplan.plan.write_region.Goals as goal
 
-pub returns-in-Err-Refused : goal.returns-in-Err-Refused
-returns-in-Err-Refused g c =
-    let wanted = wanted_of c.args.wanted.now in
-    let source = g.G.ChunkGridTraits.dimensions c.args.source.now.grid in
-    let target = g.H.ChunkGridTraits.dimensions c.args.target.now.grid in
-    let refused = c.in-Err-Refused in
-    early _ (IsCopyFault wanted source target c.args.region.now c.args.at.now) _
-    (output g.W.Write.contents c.args.held_back.now.items c.args.writer.now)
-    (no_failed_copy wanted source target c.args.region.now c.args.at.now)
-    (inr (inl (refused.error, (rw refused.field-0-is at refused.ensures.refused), c.from.ensures ∙ ap of_region refused.error-is)))
-
 pub returns-in-Lines : goal.returns-in-Lines
-returns-in-Lines g c =
-    let walk = c.in-Ok.walk in
-    let said = c.in-Ok.ensures in
-    let source = g.G.ChunkGridTraits.dimensions in
-    let target = g.H.ChunkGridTraits.dimensions in
-    let region = c.args.region.now in
-    let at = c.args.at.now in
-    rw c.in-Lines.is
-    (step_follows _ _ (λ _. ⊥) (IsCopyFault _ (source c.args.source.now.grid) (target c.args.target.now.grid) region at)
-    (λ text (groups, moves, lines). (
-      groups,
-      record {
-        can = said.lies;
-        some = λ filled.
-            let (cover, is, left) = said.targets filled in
-            region_copy_of source g.E.ChunkKeyEncodingTraits.is_key target g.F.ChunkKeyEncodingTraits.is_key c.args.source.now c.args.target.now region
-            at cover walk groups said.about said.first is left moves;
-        none = λ empty. no_parts _ _ groups (said.empty empty) moves;
-      },
-      lines,
-    ))
-    (λ fault none. absurd none)
-    (output g.W.Write.contents c.args.held_back.now.items c.args.writer.now)
-    (output g.W.Write.contents c.write_share.new.held_back.items c.write_share.new.writer)
-    c.write_share.result c.write_share.ensures)
+returns-in-Lines g c = rw c.in-Lines.is c.write_moves.ensures
+
+pub returns-in-Counts : goal.returns-in-Counts
+returns-in-Counts g c = rw c.in-Counts.is c.write_counts_of_region.ensures
