@@ -7,7 +7,7 @@
 //! | `arrays` | the arrays that are planned |
 //! | `plans` | the parts of a box of elements, and the laws |
 //! | `rechunkings` | what a rechunking copies, what refuses it, the counts of it and of a read, and the laws |
-//! | `regions` | what is copied of a region, what refuses it, and the laws |
+//! | `regions` | what is copied of a region, the counts of it, what refuses it, and the laws |
 //! | `resizes` | what becomes of the chunks of an array that gets another shape, what refuses it, and the laws |
 #![tactic(auto)]
 

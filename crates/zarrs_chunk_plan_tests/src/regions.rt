@@ -1,5 +1,5 @@
-//! What is copied of a region: between arrays of one dimension and of two, from listed edges, of an empty region and of a whole array; what refuses
-//! one, and the laws.
+//! What is copied of a region, and the counts of it: between arrays of one dimension and of two, from listed edges, of an empty region and of a whole
+//! array; what refuses one, and the laws.
 use crate::arrays::{Stored, bounded, box_at, listed, regular};
 use std::alloc::Global;
 use std::process::Abort;
@@ -11,13 +11,21 @@ use zarrs_chunk_plan::laws::{
     the_walk_gives_the_region,
 };
 use zarrs_chunk_plan::{
-    ChunkCopies, Copies, Part, RegionError, all_chunks, copies, copies_of_region, place_in_target,
+    ChunkCopies, Copies, Counts, Part, RegionError, all_chunks, copies, copies_of_region,
+    counts_of_region, place_in_target, some_copies_of_region, whole_array,
 };
 use zarrs_chunks::ChunkGrid;
 
 /// The elements 1 to 6 of seven, in chunks of three, go to the places 4 to 9 of twelve, in chunks of five.
 const SHIFTED: &str = "\
 c/0 [4] false c/0 [1] [0] [4] [1]
+c/1 [0] true c/0 [2] [0] [0] [1]
+c/1 [0] true c/1 [0] [1] [1] [3]
+c/1 [0] true c/2 [0] [4] [4] [1]
+";
+
+/// Those that go to the second chunk of the target.
+const SHIFTED_TO_THE_SECOND: &str = "\
 c/1 [0] true c/0 [2] [0] [0] [1]
 c/1 [0] true c/1 [0] [1] [1] [3]
 c/1 [0] true c/2 [0] [4] [4] [1]
@@ -163,6 +171,124 @@ fn the_groups_are_the_copy_of_a_region(rt: HostRuntime) -> Result<(), Fail> {
     Ok(())
 }
 
+/// Of the groups of the copies that are written first above, of which there are two, some from a number on have these lines.
+fn check_some(
+    rt: &(impl Abort + AllocGlobal),
+    (start, shape): (&[u64], &[u64]),
+    (first, most): (u64, usize),
+    in_all: u64,
+    expected: &str,
+) -> Result<(), Fail> {
+    let alloc = rt.alloc();
+    let (source, target) = (regular(alloc, &[7], &[3])?, bounded(alloc, &[12], &[5])?);
+    let region = box_at(alloc, start, shape)?;
+    let some = some_copies_of_region(alloc, &source, &target, &region, &[4], first, most)?;
+    assert_eq!(rt; some.in_all, in_all);
+    let mut lines = String::new(alloc);
+    for (to, from) in some.groups.as_slice() {
+        for part in from.as_slice() {
+            append_copy(alloc, &mut lines, to, part)?;
+        }
+    }
+    assert!(rt;
+        lines.as_str() == expected,
+        "other copies than:\n{expected}"
+    );
+    Ok(())
+}
+
+#[test]
+fn some_of_a_region_is_copied(rt: HostRuntime) -> Result<(), Fail> {
+    let (region, none): ((&[u64], &[u64]), (&[u64], &[u64])) = ((&[1], &[6]), (&[1], &[0]));
+    check_some(&rt, region, (0, 9), 2, SHIFTED)?;
+    check_some(&rt, region, (1, 1), 2, SHIFTED_TO_THE_SECOND)?;
+    check_some(&rt, region, (2, 1), 2, "")?;
+    check_some(&rt, region, (u64::MAX, 1), 2, "")?;
+    check_some(&rt, none, (0, 9), 0, "")
+}
+
+/// The product of some factors.
+fn product(factors: &[u64]) -> u64 {
+    let mut product: u64 = 1;
+    for factor in factors {
+        product = product.saturating_mul(*factor);
+    }
+    product
+}
+
+/// The counts of the copy of a region.
+fn counts(
+    alloc: Global,
+    (source, target): (&Stored, &Stored),
+    (start, shape): (&[u64], &[u64]),
+    at: &[u64],
+) -> Result<Counts, Fail> {
+    let region = box_at(alloc, start, shape)?;
+    Ok(counts_of_region(alloc, source, target, &region, at)?)
+}
+
+/// There are so many lines, elements and chunks of the source.
+fn check_sizes(rt: &impl Abort, counts: &Counts, lines: u64, elements: u64, source_chunks: u64) {
+    assert_eq!(rt; product(&counts.lines), lines);
+    assert_eq!(rt; product(&counts.elements), elements);
+    assert_eq!(rt; product(&counts.source_chunks), source_chunks);
+}
+
+/// And so many copies, in all and in the longest line.
+fn check_many(rt: &impl Abort, counts: &Counts, in_all: u64, most: u64) -> Result<(), Fail> {
+    let copies = counts.copies.as_deref().ok_or("copies aren't counted")?;
+    assert_eq!(rt; product(copies), in_all);
+    let longest = counts
+        .largest_line
+        .as_deref()
+        .ok_or("those of a line aren't")?;
+    assert_eq!(rt; product(longest), most);
+    Ok(())
+}
+
+/// The copies that are written above, and none.
+#[test]
+fn the_copies_of_a_region_are_counted(rt: HostRuntime) -> Result<(), Fail> {
+    let alloc = rt.alloc();
+    let row = regular(alloc, &[7], &[3])?;
+    let longer = bounded(alloc, &[12], &[5])?;
+    let shifted = counts(alloc, (&row, &longer), (&[1], &[6]), &[4])?;
+    check_sizes(&rt, &shifted, 2, 6, 3);
+    check_many(&rt, &shifted, 4, 3)?;
+    let none = counts(alloc, (&row, &longer), (&[7], &[0]), &[12])?;
+    check_sizes(&rt, &none, 0, 0, 0);
+    check_many(&rt, &none, 0, 0)?;
+    let listed = listed(alloc, 7)?;
+    let from_listed = (&listed, &regular(alloc, &[10], &[4])?);
+    let shifted = counts(alloc, from_listed, (&[1], &[5]), &[2])?;
+    check_sizes(&rt, &shifted, 2, 5, 2);
+    check_many(&rt, &shifted, 3, 2)?;
+    let whole = counts(alloc, (&listed, &row), (&[0], &[7]), &[0])?;
+    check_sizes(&rt, &whole, 3, 7, 3);
+    check_many(&rt, &whole, 4, 2)
+}
+
+/// In one dimension of 2^24 + 1 elements each is a chunk of the target.
+#[test]
+fn the_copies_of_larger_regions_are_counted(rt: HostRuntime) -> Result<(), Fail> {
+    let alloc = rt.alloc();
+    let squares = (
+        &regular(alloc, &[4, 5], &[2, 3])?,
+        &regular(alloc, &[6, 4], &[4, 2])?,
+    );
+    let corner = counts(alloc, squares, (&[1, 2], &[2, 3]), &[3, 0])?;
+    check_sizes(&rt, &corner, 4, 6, 4);
+    check_many(&rt, &corner, 6, 2)?;
+    let long = (
+        &regular(alloc, &[16777220], &[3])?,
+        &regular(alloc, &[16777217], &[1])?,
+    );
+    let many = counts(alloc, long, (&[2], &[16777217]), &[0])?;
+    check_sizes(&rt, &many, 16777217, 16777217, 5592407);
+    assert!(rt; many.copies.is_none() && many.largest_line.is_none());
+    Ok(())
+}
+
 /// Why a region isn't copied.
 fn refusal_of(
     alloc: Global,
@@ -178,7 +304,22 @@ fn refusal_of(
     }
 }
 
-/// A region isn't copied, and this text says why.
+/// Why its copies aren't counted.
+fn refusal_of_counts(
+    alloc: Global,
+    (source, target): (&Stored, &Stored),
+    (start, shape): (&[u64], &[u64]),
+    at: &[u64],
+) -> Result<RegionError, Fail> {
+    let region = box_at(alloc, start, shape)?;
+    match counts_of_region(alloc, source, target, &region, at) {
+        Err(Refusal::Refused(error)) => Ok(error),
+        Err(Refusal::Memory(error)) => Err(error.into()),
+        Ok(_) => Err("it is accepted".into()),
+    }
+}
+
+/// A region isn't copied, and this text says why. Nor are its copies counted.
 fn check_refusal(
     rt: &(impl Abort + AllocGlobal),
     arrays: (&Stored, &Stored),
@@ -189,6 +330,7 @@ fn check_refusal(
     let error = refusal_of(rt.alloc(), arrays, region, at)?;
     let told = format!(in rt.alloc(); "{error}")?;
     assert!(rt; told.as_str() == text, "another refusal than: {text}");
+    assert_eq!(rt; refusal_of_counts(rt.alloc(), arrays, region, at)?, error);
     Ok(())
 }
 
