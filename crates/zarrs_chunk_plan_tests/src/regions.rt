@@ -12,7 +12,7 @@ use zarrs_chunk_plan::laws::{
 };
 use zarrs_chunk_plan::{
     ChunkCopies, Copies, Counts, Part, RegionError, all_chunks, copies, copies_of_region,
-    counts_of_region, place_in_target, some_copies_of_region, whole_array,
+    counts_of_region, place_in_target, some_copies_of_region,
 };
 use zarrs_chunks::ChunkGrid;
 

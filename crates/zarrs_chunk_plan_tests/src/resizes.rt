@@ -183,7 +183,10 @@ fn a_large_array_grows(rt: HostRuntime) -> Result<(), Fail> {
     let mut walk = changes(alloc, &before.grid, &after.grid, &before.encoding, false)?;
     assert!(&rt; walk.in_all() == Some(size), "another count");
     let first = walk.next().ok_or("no change")??;
-    assert!(&rt; first.chunk.as_slice() == [0, size].as_slice(), "another chunk");
+    assert!(&rt;
+        first.chunk.as_slice() == [0, size].as_slice(),
+        "another chunk"
+    );
     Ok(())
 }
 
