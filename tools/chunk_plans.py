@@ -1,5 +1,5 @@
-"""Plans of reads, rechunkings and copies of regions, element by element: each element is asked for its chunk and its place
-there. Copies of regions of arrays that have too many are found by boxes, too."""
+"""Plans of reads, rechunkings, copies of regions and resizes, element by element: each element is asked for its chunk and
+its place there. Copies of regions and resizes of arrays that have too many are found by boxes, too."""
 import collections
 import itertools
 import math
@@ -133,6 +133,81 @@ def region_by_boxes(source, target, box, at):
             "from": sources, "number": number if number <= GREATEST else None, "of": of if of <= GREATEST else None,
             "to": {"chunk": chunk, "key": to["key"], "shape": target_grid.chunk_shape(chunk)}, "whole": size == held,
         }  # fmt: skip
+
+
+def resize(before, after, encoding, keep):
+    """The changes of an array that gets another shape, by chunk, without their numbers: which elements of the array each
+    chunk holds, before and after, and its shape. Two grids are given, of one metadata."""
+
+    def held(grid):
+        found = collections.defaultdict(list)
+        for index in elements(grid.shape):
+            found[home(grid, index)[0]].append(index)
+        shape_of = shapes(grid, list(found))
+        return {chunk: (box_of(indices), shape_of[chunk]) for chunk, indices in found.items()}
+
+    was, now = held(before), held(after)
+    return changes(was, now, sorted(was.keys() | now.keys()), encoding, keep)
+
+
+def resize_by_boxes(before, after, encoding, keep, chunks):
+    """The changes of some chunks in the same plan, which either array uses: by where each begins and ends."""
+
+    def held(grid, chunk):
+        along = list(zip(grid.dimensions, chunk))
+        if not all(d.has(c) and d.start(c) < d.size for d, c in along):
+            return None
+        sizes = [min(d.end(c), d.size) - d.start(c) for d, c in along]
+        return [d.start(c) for d, c in along], sizes, grid.chunk_shape(chunk)
+
+    def of_all(grid):
+        found = {chunk: held(grid, chunk) for chunk in chunks}
+        return {chunk: ([start, size], edges) for chunk, (start, size, edges) in ((c, h) for c, h in found.items() if h)}
+
+    return changes(of_all(before), of_all(after), chunks, encoding, keep)
+
+
+def changes(was, now, chunks, encoding, keep):
+    """What becomes of some chunks, each of which holds a box of the array and has a shape, as it was or as it is to be."""
+    lines = []
+    for chunk in chunks:
+        here, there = was.get(chunk), now.get(chunk)
+        what = "new" if here is None else "delete" if there is None else "keep" if here == there else "rewrite"
+        if keep or what != "keep":
+            (was_box, was_shape), (now_box, now_shape) = here or (None, None), there or (None, None)
+            lines.append({"chunk": list(chunk), "key": encoding.key(chunk), "now": now_box, "now_shape": now_shape,
+                          "was": was_box, "was_shape": was_shape, "what": what})  # fmt: skip
+    return lines
+
+
+def stored(grid, value_of):
+    """A store of an array: the elements of each chunk that has some of the array, by their places there, and 0 past it."""
+    held = {}
+    for index in elements(grid.shape):
+        chunk, place = home(grid, index)
+        held.setdefault(chunk, {})[tuple(place)] = value_of(index)
+    shape_of = shapes(grid, list(held))
+    return {chunk: {place: values.get(place, 0) for place in elements(shape_of[chunk])} for chunk, values in held.items()}
+
+
+def carried_out(store, lines):
+    """The store after a worker did the lines of a resize, as the program's page tells it: it looks at nothing else."""
+    store = dict(store)
+    for line in lines:
+        chunk = tuple(line["chunk"])
+        if line["what"] == "delete":
+            store.pop(chunk, None)
+        elif line["what"] in ("rewrite", "new"):
+            before = store.get(chunk, {})
+            kept = common(line["was"], line["now"]) if line["what"] == "rewrite" else set()
+            store[chunk] = {place: before[place] if place in kept else 0 for place in elements(line["now_shape"])}
+    return store
+
+
+def common(box, other):
+    """The places in a chunk of the elements that are in two boxes of the array, both from the chunk's first element on."""
+    assert box[0] == other[0]
+    return set(elements([min(sizes) for sizes in zip(box[1], other[1])]))
 
 
 def sums(numbers, steps):

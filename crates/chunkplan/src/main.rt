@@ -1,12 +1,16 @@
-//! `chunkplan` writes what a read, a rechunking or the copy of a region of a Zarr array copies, a line for each chunk that is read, or for each chunk of the target.
+//! `chunkplan` writes what a read, a rechunking or the copy of a region of a Zarr array copies, or what becomes of its chunks when it is resized: a line
+//! for each chunk that is read, for each chunk of the target, or for each chunk that changes.
 //!
 //! It reads one JSON document on standard input: an array's `shape`, `chunk_grid` and `chunk_key_encoding`, as in its `zarr.json`. With a `target`,
 //! which has a `chunk_grid` and a `chunk_key_encoding` of its own, the lines are those of a rechunking; its `chunks`, if it has any, is a box of the
 //! target's chunk numbers, and nothing is copied into others. With `subset` too, a box of elements, they are those of its copy to the target, whose
 //! `shape` is then that of an array of its own, to begin there at the index `at`. Without a `target` they are those of a read of `subset`, or of the
-//! whole array; with `clip` true, of what `subset` has of the array. A box is written as its start and its shape. A line has all that its chunk gets, and its number among the
-//! lines, so lines can be shared out in any way; `share`, a number and how many shares there are, takes of the lines the share with this number,
-//! counted from 0. With `counts` true there is one line in their place, of how much the plan copies, for who sizes tasks before they are planned.
+//! whole array; with `clip` true, of what `subset` has of the array. A box is written as its start and its shape. With `resize`, the shape that the
+//! array is to get, the lines say which chunks have to be written, written again or deleted; with `keep` true, also which stay.
+//!
+//! A line has all that its chunk gets, and its number among the lines, so lines can be shared out in any way; `share`, a number and how many shares
+//! there are, takes of the lines the share with this number, counted from 0. With `counts` true there is one line in their place, of how much the plan
+//! copies, for who sizes tasks before they are planned. Neither goes with `resize`.
 //!
 //! ```text
 //! {"shape":[4],"chunk_grid":{"name":"regular","configuration":{"chunk_shape":[3]}},
@@ -30,7 +34,7 @@ use std::process::ExitCode;
 /// What `--help` prints.
 const HELP: &str = "\
 Writes what a read, a rechunking or the copy of a region of a Zarr array copies,
-as JSON lines.
+or what becomes of its chunks when it is resized, as JSON lines.
 
 Usage: chunkplan [--help | --version] < DOCUMENT > LINES
 
@@ -42,9 +46,12 @@ rechunking; `chunks`, a box of the target's chunk numbers, narrows it. With a
 its own array's, to begin there at the index `at`. Without a `target` they are
 those of a read of `subset`, or of the whole array; with `clip` true, of what
 `subset` has of the array. A box is its start and its shape.
+With `resize`, the shape that the array is to get, the lines say which chunks
+have to be written, written again or deleted; with `keep` true, also which stay.
 `share`, a number and how many shares there are, takes of the lines the share
 with this number, counted from 0. With `counts` true one line is written in
 place of all: how many copies, elements, lines and source chunks there are.
+Neither goes with `resize`.
 
   {\"shape\":[4],\"chunk_grid\":{\"name\":\"regular\",\"configuration\":
    {\"chunk_shape\":[3]}},\"chunk_key_encoding\":\"default\",\"subset\":[[1],[3]]}

@@ -1,4 +1,5 @@
-//! `chunkplan` writes what a read or a rechunking of a Zarr array copies, a line for each chunk that is read or written.
+//! `chunkplan` writes what a read or a rechunking of a Zarr array copies, a line for each chunk that is read or written; or what a resize changes, a line
+//! for each chunk that has to be written, written again or deleted.
 //!
 //! | Module | What it holds |
 //! |---|---|
@@ -73,7 +74,7 @@ pub fn run_to_status<R: Read, W: Write, E: Write>(
 /// The first fault: a failed read; a text that is no JSON, or no object; a member that isn't known, then one that is missing, then one that
 /// doesn't go with the others, then one that isn't of its form; a grid or an encoding that can't be made, then those of the target; a box with
 /// another number of dimensions; a box of elements that has no cover, where it isn't clipped to the array; a region that doesn't lie in the array, or
-/// in the target's. Nothing has been written then. After a
+/// in the target's; a grid of the new shape that can't be made. Nothing has been written then. After a
 /// failed write, or where memory runs out, a beginning of the plan may have been written.
 pub fn run<R: Read, W: Write>(
     alloc: Global,

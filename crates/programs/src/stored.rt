@@ -48,6 +48,25 @@ impl Stored {
         ensures refused { IfErr result (λ fault. (fault ≡ Memory)
             ⊎ IsCreateFault (stored_of self) shape.now fault) }
     {
+        self.array(alloc, shape)
+    }
+
+    /// The same, where the metadata are still needed.
+    ///
+    /// # Errors
+    /// As of `open`.
+    pub(crate) fn array(
+        &self,
+        alloc: Global,
+        shape: &[u64],
+    ) -> Result<StoredArray<ChunkGrid, ChunkKeyEncoding>, CreateFault>
+        ensures made { IfOk result (λ made. IsStored (stored_of self.now) shape.now
+            (grid_in made.grid) (encoding_in made.encoding)) }
+        ensures sizes { IfOk result (λ made. array_sizes (grid_in made.grid).dimensions
+            ≡ shape.now) }
+        ensures refused { IfErr result (λ fault. (fault ≡ Memory)
+            ⊎ IsCreateFault (stored_of self.now) shape.now fault) }
+    {
         let grid = match ChunkGrid::from_metadata(alloc, &self.chunk_grid, shape) {
             Ok(grid) => grid,
             Err(Refusal::Refused(error)) => return Err(CreateFault::Grid(error)),

@@ -1,4 +1,4 @@
-//! What no contract says: readers and writers that fail, that a beginning of the plan is written then, and how a wrong `clip` or `counts` is told.
+//! What no contract says: readers and writers that fail, that a beginning of the plan is written then, and how a wrong `clip`, `counts` or `keep` is told.
 use crate::ended::{check_bytes, check_ending, check_that};
 use crate::failing::{FailingReader, FailingWriter};
 use programs::chunkplan::{Watched, run_to_status};
@@ -50,6 +50,20 @@ const SHARE_OF_COUNTS: &[u8] =
     br#"{"shape":[4],"chunk_grid":"","chunk_key_encoding":"","counts":false,"share":1}"#;
 
 const WRONG_COUNTS: &[u8] = br#"{"shape":[4],"chunk_grid":"","chunk_key_encoding":"","counts":1}"#;
+
+/// The same array, which gets a fifth element: the second chunk gets it.
+const RESIZED: &[u8] =
+    br#"{"shape":[4],"chunk_grid":{"name":"regular","configuration":{"chunk_shape":[3]}},"chunk_key_encoding":"v2","resize":[5]}"#;
+
+const CHANGES: &[u8] =
+    br#"{"chunk":[1],"key":"1","now":[[3],[2]],"now_shape":[3],"number":0,"of":1,"was":[[3],[1]],"was_shape":[3],"what":"rewrite"}
+"#;
+
+const SHARE_OF_RESIZE: &[u8] =
+    br#"{"shape":[4],"chunk_grid":"","chunk_key_encoding":"","resize":1,"counts":1,"share":1}"#;
+
+const WRONG_KEEP: &[u8] =
+    br#"{"shape":[4],"chunk_grid":"regular","chunk_key_encoding":"v2","resize":[5],"keep":1}"#;
 
 /// A reader of a document that fails after so many reads is told, and nothing is written then; the lines are, where it doesn't fail.
 fn check_read(
@@ -143,6 +157,7 @@ fn check_writes(rt: &(impl Abort + AllocGlobal), document: &[u8], lines: &[u8]) 
 fn a_failed_write_leaves_a_beginning(rt: HostRuntime) {
     check_writes(&rt, DOCUMENT, LINES);
     check_writes(&rt, SHARE, LINE_OF_SHARE);
+    check_writes(&rt, RESIZED, CHANGES);
 }
 
 /// The fault of a document is told by this line, and nothing is written.
@@ -187,4 +202,16 @@ fn a_plan_is_counted(rt: HostRuntime) {
         WRONG_COUNTS,
         "chunkplan: wrong value in field `counts`\n",
     );
+}
+
+#[test]
+fn a_resize_is_planned(rt: HostRuntime) {
+    let enough = RESIZED.len().div_ceil(16) + 1;
+    check_read(&rt, (RESIZED, CHANGES), enough, ErrorKind::Other, true);
+    check_fault(
+        &rt,
+        SHARE_OF_RESIZE,
+        "chunkplan: field `share` isn't for a resize: leave it out, or leave out `resize`\n",
+    );
+    check_fault(&rt, WRONG_KEEP, "chunkplan: wrong value in field `keep`\n");
 }

@@ -1,5 +1,5 @@
 -- What holds of each plan of a resize.
-use Rattle.std.proofs.Common.{◌≡◌, ◌≢◌, ◌↔◌, ◌⊎◌, ◌∙◌, ℕ, ◌+◌, ◌<◌, ◌≤◌, Bool, IsTrue, true, List, [], ◌∷◌, Contains, length, refl, ap, inl, inr, subst, sym, ⊎_elim}
+use Rattle.std.proofs.Common.{◌≡◌, ◌≢◌, ◌↔◌, ◌⊎◌, ◌∙◌, ℕ, ◌+◌, ◌<◌, ◌≤◌, Bool, IsTrue, true, false, List, [], ◌∷◌, Contains, length, refl, ap, inl, inr, subst, sym, ⊎_elim}
 use Rattle.std.proofs.Common.{arith}
 use Rattle.std.specs.List.{AllByRecursion, AllPairs}
 use Rattle.zarrs_chunk_base.specs.Dimension.{Dimension, InBox, IsChain, IsPlace, array_sizes}
@@ -133,6 +133,17 @@ module _ (ds es : List Dimension) (chunk : List ℕ) where
     coming has none Delete (_, unused) = absurd (unused (is_used es chunk index has))
     coming has none New is = inr refl
 
+-- a chunk that loses an element, or gets one, isn't kept
+pub asked_of_leaving : (ds es : List Dimension) (chunk index : List ℕ) → HasElementOf ds chunk index → (¬ HasElementOf es chunk index)
+    → IsAsked ds es false chunk
+asked_of_leaving ds es chunk index has gone =
+    record { used = inl (is_used ds chunk index has); wanted = inr (λ kept. gone ((kept.elements index).0 has)) }
+
+pub asked_of_coming : (ds es : List Dimension) (chunk index : List ℕ) → HasElementOf es chunk index → (¬ HasElementOf ds chunk index)
+    → IsAsked ds es false chunk
+asked_of_coming ds es chunk index has none =
+    record { used = inr (is_used es chunk index has); wanted = inr (λ kept. none ((kept.elements index).1 has)) }
+
 -- ---- the plan
 
 -- the numbers of a chunk that holds elements of an array fit, as those of its elements do
@@ -152,12 +163,6 @@ held_long (d ∷ ds) (c ∷ chunk) some = let rest = held_long ds chunk some.1 i
 held_long [] (_ ∷ _) some = absurd some
 held_long (_ ∷ _) [] some = absurd some
 
-as_many : (ds es : List Dimension) → AreResized ds es → length ds ≡ length es
-as_many [] [] resized = refl
-as_many (_ ∷ ds) (_ ∷ es) resized = let rest = as_many ds es resized.1 in omega arith
-as_many [] (_ ∷ _) resized = absurd resized
-as_many (_ ∷ _) [] resized = absurd resized
-
 module _ (ds es : List Dimension) (IsKey : List ℕ → List ℕ → Type 0) (keeps : Bool) (changes : List ChunkChange)
     (plan : IsResizePlan ds es IsKey keeps changes) where
   pub has_one : (chunk : List ℕ) → IsAsked ds es keeps chunk → (change : ChunkChange) × Contains changes change × IsChange ds es IsKey chunk change
@@ -170,10 +175,10 @@ module _ (ds es : List Dimension) (IsKey : List ℕ → List ℕ → Type 0) (ke
       (chunk, (plan.are_chunks.are_those chunk).0 in_chunks, is)
 
   pub change_keys_differ : AllByRecursion IsChain ds → AllByRecursion IsChain es → AllFit (array_sizes ds) → AllFit (array_sizes es)
-      → AreResized ds es
+      → length ds ≡ length es
       → ((chunk other key : List ℕ) → AllFit chunk → AllFit other → length chunk ≡ length other → IsKey chunk key → IsKey other key → chunk ≡ other)
       → AllPairs (λ change other. change.key ≢ other.key) changes
-  change_keys_differ chains also fit also_fit resized exact =
+  change_keys_differ chains also fit also_fit same exact =
       pairs_of (IsChange ds es IsKey) (λ change other. change.key ≢ other.key) plan.chunks changes plan.are_changes plan.are_chunks.once
       (λ one other change next among among_too differ is is_next keys.
       let (fits, long) = told one among in
@@ -184,5 +189,5 @@ module _ (ds es : List Dimension) (IsKey : List ℕ → List ℕ → Type 0) (ke
       told chunk among =
           ⊎_elim
           (λ used. let some = meets_hold ds chunk used in (used_fits ds chunk chains fit some, held_long ds chunk some))
-          (λ used. let some = meets_hold es chunk used in (used_fits es chunk also also_fit some, held_long es chunk some ∙ sym (as_many ds es resized)))
+          (λ used. let some = meets_hold es chunk used in (used_fits es chunk also also_fit some, held_long es chunk some ∙ sym same))
           ((plan.are_chunks.are_those chunk).0 among).used

@@ -13,7 +13,7 @@ use Rattle.zarrs_chunk_plan.specs.declared.resize.Change.TheVariants.{Delete, Ke
 use Rattle.zarrs_chunk_plan.specs.declared.resize.ChunkChange.{ChunkChange}
 use Rattle.zarrs_chunk_plan.specs.declared.resize.Held.{Held}
 
--- An index that both arrays have lies in the same chunk of either. So it is of grids that one configuration makes.
+-- An index below both array sizes lies in the same chunk of either. So it is of grids that one configuration makes.
 pub record IsResized (before after : Dimension) : Type 0 where
   pub same_chunk : (c i : ℕ) → i < before.array_size → i < after.array_size → Holds before c i ↔ Holds after c i
 

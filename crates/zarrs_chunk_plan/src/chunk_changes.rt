@@ -106,7 +106,7 @@ impl<'a, G: ChunkGridTraits, H: ChunkGridTraits, E: ChunkKeyEncodingTraits> Chan
         self.next_box = self.boxes.len();
     }
 
-    /// Goes to the chunks of the next box, where none are left of another one.
+    /// Goes to the chunks of the next box, where none are left of the one before.
     ///
     /// # Errors
     /// Out of memory. An empty box takes none.

@@ -14,13 +14,13 @@
 //! | What a walk that `copies_of_region` answers gives, one group after another, is the copy of the region | [`the_walk_gives_the_region`] |
 //! | Each element of a region is moved, place to place, by exactly one copy | [`each_element_of_a_region_is_copied_once`] |
 //! | Each chunk that takes some of a region has one group; one that is whole is written whole | [`each_chunk_of_a_region_has_one_group`] |
-//! | Grids that one configuration makes of two array shapes are those of a resize: an index that both arrays have lies in the same chunk | [`grids_of_one_configuration_share_their_chunks`] |
+//! | Grids that one configuration makes of two array shapes share their chunks | [`grids_of_one_configuration_share_their_chunks`] |
 //! | What a walk that `changes` answers gives, one after another, is the plan of the resize | [`the_walk_gives_the_resize`] |
-//! | Each chunk that either array uses gets one of four changes, under a key that no other one has | [`each_chunk_has_one_change`] |
+//! | Each chunk of which a change is asked for has one, and no two are under one key | [`each_chunk_has_one_change`] |
 //! | A chunk that is kept holds each element at the place where it held it | [`a_kept_chunk_is_as_it_was`] |
 //! | An element that both arrays have stays in its chunk, at its place; its chunk is kept or written again | [`each_element_stays_in_its_chunk`] |
 //! | The chunk of an element that leaves is written again or deleted, that of one that comes is written again or new | [`each_element_that_leaves_or_comes_changes_its_chunk`] |
-ghost use Rattle.std.specs.Prelude.{◌≡◌, ◌≢◌, ◌↔◌, ◌⊎◌, ◌<◌, ℕ, [], Bool, IsTrue, true, List, Ok, Some, map};
+ghost use Rattle.std.specs.Prelude.{◌≡◌, ◌≢◌, ◌↔◌, ◌⊎◌, ◌<◌, ℕ, [], Bool, IsTrue, true, false, List, Ok, Some, length, map};
 ghost use Rattle.std.specs.Iterator.{Drains};
 ghost use Rattle.std.specs.List.{AllPairs, AllZip, Contains, flat_map, range_with_len};
 ghost use Rattle.zarrs_chunk_axes.specs.InBounds.{AreBelow};
@@ -47,7 +47,8 @@ use zarrs_chunk_base::ArraySubset;
 use zarrs_chunk_keys::ChunkKeyEncodingTraits;
 use zarrs_chunks::ChunkGridTraits;
 
-/// What a walk over a box gives up to its end is its parts to come. Of a walk that `parts` answers these are a plan of the box: one for each chunk of
+/// What a walk over a box gives up to its end is its parts to come. Of a walk that `parts` answers these are a plan of the box: one for
+/// each chunk of
 /// its cover, in order; of an empty box there are none.
 pub fn the_walk_gives_the_plan<G: ChunkGridTraits, E: ChunkKeyEncodingTraits>(
     grid: &G,
@@ -223,7 +224,8 @@ pub fn rechunkings_that_share_out_are_the_whole_one<
         (flat_map copies_of plans) }
 {}
 
-/// What a walk over a region gives up to its end, each group with all of its parts, is its groups to come. Of a walk that `copies_of_region` answers
+/// What a walk over a region gives up to its end, each group with all of its parts, is its groups to come. Of a walk that
+/// `copies_of_region` answers
 /// these are the copy of the region; of an empty region there are none.
 pub fn the_walk_gives_the_region<
     G: ChunkGridTraits,
@@ -300,7 +302,8 @@ pub fn each_element_of_a_region_is_copied_once<
         → copy.0.in_chunk.shape ≡ copy.0.in_subset.shape }
 {}
 
-/// Of the copy of a region no two groups are under one key, so each chunk of the target is written once. Where a chunk is whole, each element of the
+/// Of the copy of a region no two groups are under one key, so each chunk of the target is written once. Where a chunk is whole, each
+/// element of the
 /// target's array that it holds is written.
 pub fn each_chunk_of_a_region_has_one_group<
     G: ChunkGridTraits,
@@ -322,7 +325,8 @@ pub fn each_chunk_of_a_region_has_one_group<
         × MovesTo (G.dimensions source.now.grid) (H.dimensions target.now.grid) copy steps from index) }
 {}
 
-/// Grids that one configuration makes of two array shapes, of whatever kind it is, hold each index that both arrays have in the same chunk. So they may
+/// Grids that one configuration makes of two array shapes, of whatever kind it is, hold each index that both arrays have in the same chunk.
+/// So they may
 /// be the grids of a resize.
 pub fn grids_of_one_configuration_share_their_chunks()
     ensures { (e : Extension) (shape other : List ℕ) (before after : Grid)
@@ -330,7 +334,8 @@ pub fn grids_of_one_configuration_share_their_chunks()
         → AreResized before.dimensions after.dimensions }
 {}
 
-/// What a walk over the changes of a resize gives up to its end is its changes to come. Of a walk that `changes` answers these are the plan of the resize.
+/// What a walk over the changes of a resize gives up to its end is its changes to come. Of a walk that `changes` answers these are the plan
+/// of the resize.
 pub fn the_walk_gives_the_resize<G: ChunkGridTraits, H: ChunkGridTraits, E: ChunkKeyEncodingTraits>(
     before: &G,
     after: &H,
@@ -348,7 +353,8 @@ pub fn the_walk_gives_the_resize<G: ChunkGridTraits, H: ChunkGridTraits, E: Chun
         keeps changes }
 {}
 
-/// In the plan of a resize each chunk of which a change is asked for has one, and no other chunk has; where the grids are those of a resize no two are under one key. Where the kept chunks are
+/// In the plan of a resize each chunk of which a change is asked for has one, and no other chunk has; where the grids are those of a resize
+/// no two are under one key. Where the kept chunks are
 /// wanted too, each chunk that either array uses has one. What becomes of a chunk is one of four things and no other.
 pub fn each_chunk_has_one_change<G: ChunkGridTraits, H: ChunkGridTraits, E: ChunkKeyEncodingTraits>(
     before: &G,
@@ -375,7 +381,7 @@ pub fn each_chunk_has_one_change<G: ChunkGridTraits, H: ChunkGridTraits, E: Chun
         × IsAsked (G.dimensions before.now) (H.dimensions after.now) keeps chunk
         × IsChange (G.dimensions before.now) (H.dimensions after.now) (E.is_key encoding.now)
         chunk change }
-    ensures one_key { AreResized (G.dimensions before.now) (H.dimensions after.now)
+    ensures one_key { length (G.dimensions before.now) ≡ length (H.dimensions after.now)
         → (keeps : Bool) (changes : List ChunkChange)
         → IsResizePlan (G.dimensions before.now) (H.dimensions after.now) (E.is_key encoding.now)
         keeps changes → AllPairs (λ change other. change.key ≢ other.key) changes }
@@ -392,7 +398,7 @@ fn all_fit(sizes: &[u64])
     ensures { AllFit sizes.now }
 {}
 
-/// A chunk that is kept holds the same elements as before, each at the same place. Its key is that of its numbers, as before.
+/// A chunk that is kept holds the same elements as before, each at the same place.
 pub fn a_kept_chunk_is_as_it_was<G: ChunkGridTraits, H: ChunkGridTraits>(before: &G, after: &H)
     ensures elements { (chunk index : List ℕ)
         → IsKept (G.dimensions before.now) (H.dimensions after.now) chunk
@@ -404,7 +410,8 @@ pub fn a_kept_chunk_is_as_it_was<G: ChunkGridTraits, H: ChunkGridTraits>(before:
         ↔ IsPlace (H.dimensions after.now) chunk index place }
 {}
 
-/// An element that the array has before and after a resize lies in the same chunk, at the same place. That chunk is kept or written again; so an element
+/// An element that the array has before and after a resize lies in the same chunk, at the same place. That chunk is kept or written again;
+/// so an element
 /// is never to be moved from one chunk to another.
 pub fn each_element_stays_in_its_chunk<G: ChunkGridTraits, H: ChunkGridTraits>(
     before: &G,
@@ -435,6 +442,14 @@ pub fn each_element_that_leaves_or_comes_changes_its_chunk<G: ChunkGridTraits, H
         → (¬ HasElementOf (H.dimensions after.now) chunk index) → (what : Change)
         → IsChanged (G.dimensions before.now) (H.dimensions after.now) chunk what
         → (what ≡ Rewrite) ⊎ (what ≡ Delete) }
+    ensures leaves_asked { (chunk index : List ℕ)
+        → HasElementOf (G.dimensions before.now) chunk index
+        → (¬ HasElementOf (H.dimensions after.now) chunk index)
+        → IsAsked (G.dimensions before.now) (H.dimensions after.now) false chunk }
+    ensures comes_asked { (chunk index : List ℕ)
+        → HasElementOf (H.dimensions after.now) chunk index
+        → (¬ HasElementOf (G.dimensions before.now) chunk index)
+        → IsAsked (G.dimensions before.now) (H.dimensions after.now) false chunk }
     ensures comes { (chunk index : List ℕ) → HasElementOf (H.dimensions after.now) chunk index
         → (¬ HasElementOf (G.dimensions before.now) chunk index) → (what : Change)
         → IsChanged (G.dimensions before.now) (H.dimensions after.now) chunk what

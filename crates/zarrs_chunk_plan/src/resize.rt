@@ -54,11 +54,11 @@ pub struct ChunkChange {
     pub what: Change,
 }
 
-/// What becomes of the chunks of an array that gets another shape: the chunks that hold elements of the array as it was, by one grid, or as it is to be,
-/// by another one. Those that stay as they are stored are left out, unless they are wanted.
+/// What becomes of the chunks of an array that gets another shape: the chunks that hold elements of the array as it was, by one grid, or as it
+/// is to be, by another one. Those that stay as they are stored are left out, unless they are wanted.
 ///
-/// The grids are those that one configuration makes of the two array shapes, or others by which an index that both arrays have lies in the same chunk;
-/// of other grids nothing is said. The chunks come in no order that is promised.
+/// The grids are those that one configuration makes of the two array shapes, or others by which, along each dimension, an index below both
+/// array sizes lies in the same chunk; of other grids nothing is said. The chunks come in no order that is promised.
 ///
 /// It takes the time and the memory of a few covers, however many chunks there are, and none for chunks that are left out.
 ///
@@ -78,6 +78,8 @@ pub fn changes<'a, G: ChunkGridTraits, H: ChunkGridTraits, E: ChunkKeyEncodingTr
         → IfOk result (CanChange G.dimensions H.dimensions) }
     ensures about { IfOk result (IsAboutResize before.now after.now encoding.now) }
     ensures all { IfOk result (λ walk. all_changes walk ≡ changes_to_come walk) }
+    ensures lengths { IfOk result (λ _. length (H.dimensions after.now)
+        ≡ length (G.dimensions before.now)) }
     ensures refused { IfErr result (OrMemory (λ e.
         (length (H.dimensions after.now) ≢ length (G.dimensions before.now))
         × TellsLengths (length (H.dimensions after.now)) (length (G.dimensions before.now)) e)) }

@@ -1,5 +1,5 @@
 //! How many chunks of a grid hold elements of its array along each dimension, and how many of them a resize keeps.
-ghost use Rattle.std.specs.Prelude.{◌≡◌, ◌↔◌, ◌-◌, ◌≤◌, ℕ, IfOk, IsTrue, List, cond, length, map, replicate};
+ghost use Rattle.std.specs.Prelude.{◌≡◌, ◌↔◌, ◌-◌, ◌≤◌, ℕ, IfOk, IsTrue, List, cond, length, map};
 ghost use Rattle.std.specs.List.{AllZip, Contains};
 ghost use Rattle.zarrs_chunk_axes.specs.InBounds.{AreBelow};
 ghost use Rattle.zarrs_chunk_plan.specs.Rechunking.{array_box};
@@ -130,8 +130,8 @@ fn all_less_one(alloc: Global, sizes: &[u64]) -> Result<ArrayShape, AllocError>
     Ok(lasts)
 }
 
-/// For each dimension so many chunks, or one less, where the last one had another edge along it than it is to have, or held another number of elements
-/// than it is to hold.
+/// For each dimension so many chunks, or one less, where the last one had another edge along it than it is to have, or held another number of
+/// elements than it is to hold.
 ///
 /// # Errors
 /// Out of memory.

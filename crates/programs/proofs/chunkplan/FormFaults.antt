@@ -1,16 +1,16 @@
 -- What the members of a tree say of its first fault.
-use Rattle.std.proofs.Common.{◌≡◌, ℕ, List, [], ◌∷◌, None, Some, codes}
+use Rattle.std.proofs.Common.{◌≡◌, ℕ, List, [], ◌∷◌, IsSome, None, Some, codes}
 use Rattle.serde_json.specs.Data.{Data}
 use Rattle.serde_json.specs.Find.{get}
 use Rattle.zarrs_chunk_base.specs.First.{IsFirst}
 use Rattle.programs.specs.Document.{IsMissingFault, IsShapeFault}
 use Rattle.programs.specs.declared.chunkplan.run_fault.RunFault.{RunFault}
-use Rattle.programs.specs.declared.chunkplan.run_fault.RunFault.TheVariants.{ShareOfCounts}
+use Rattle.programs.specs.declared.chunkplan.run_fault.RunFault.TheVariants.{KeepOfNoResize, NotOfResize, ShareOfCounts}
 use Rattle.programs.specs.declared.document_fault.DocumentFault.{DocumentFault}
 use Rattle.programs.specs.declared.document_fault.DocumentFault.TheVariants.{Missing, WrongValue}
 use Rattle.programs.proofs.Members.{has_more, is_there, no_more}
-use Rattle.programs.specs.chunkplan.Document.{Fit}
-use Rattle.programs.specs.chunkplan.DocumentFault.{HasMembers, IsFormFault, IsMisfit, IsTaskMisfit, document_members}
+use Rattle.programs.specs.chunkplan.Document.{Fit, FitResize, not_of_resize}
+use Rattle.programs.specs.chunkplan.DocumentFault.{HasMembers, IsFormFault, IsMisfit, IsTaskMisfit, TellsFirst, document_members}
 use Rattle.programs.specs.chunkplan.DocumentFault.{misformed_shape, missing}
 use Rattle.programs.specs.chunkplan.Known.{HasOnly, known_members}
 use Rattle.programs.specs.chunkplan.RunFault.{of_document}
@@ -36,7 +36,14 @@ no_shape d m (Missing field) known members fit there is = absurd (is_there d m (
 no_shape d m (WrongValue field) known members fit there (name, some, none) = misformed_shape known members fit none name
 no_shape d m _ known members fit there is = absurd is
 
--- what doesn't go with what is asked for comes first
-pub task_misfit : (d : Data) (fault : RunFault) → IsTaskMisfit d fault → IsMisfit d fault
-task_misfit d ShareOfCounts is = absurd is
-task_misfit d _ is = is
+-- what doesn't go with what is asked for comes next
+pub task_misfit : (d : Data) (fault : RunFault) → FitResize d → IsTaskMisfit d fault → IsMisfit d fault
+task_misfit d ShareOfCounts fit is = absurd is
+task_misfit d (NotOfResize _) fit is = absurd is
+task_misfit d KeepOfNoResize fit is = absurd is
+task_misfit d _ fit is = (fit, is)
+
+-- a member that doesn't go with a resize comes first
+pub resize_misfit : (d : Data) (fault : RunFault) → IsSome (get (codes "resize") d) → TellsFirst not_of_resize d fault → IsMisfit d fault
+resize_misfit d (NotOfResize told) some is = (some, is)
+resize_misfit d _ some is = absurd is

@@ -7,11 +7,11 @@ use Rattle.zarrs_chunk_base.specs.ArraySubset.{Box}
 use Rattle.zarrs_chunk_base.specs.Json.{list_of, size_of}
 use Rattle.programs.specs.declared.chunkplan.run_fault.RunFault.{RunFault}
 use Rattle.programs.specs.declared.chunkplan.run_fault.RunFault.TheVariants.{OtherDataType, OtherShape, UnknownOfTarget}
-use Rattle.programs.specs.chunkplan.Document.{HasBox, HasFlag, HasNumbers, IsBoxIn, IsOfArray, IsOfType, IsTask, IsTaskTo, Task, copy_to, read_of}
-use Rattle.programs.specs.chunkplan.Document.{rechunk_to}
-use Rattle.programs.specs.chunkplan.DocumentFault.{HasBoxFault, HasFlagFault, HasNumbersFault, IsTargetMisfit, IsTaskFault, IsTaskToFault}
-use Rattle.programs.specs.chunkplan.DocumentFault.{IsTypeMisfit, of_at, of_chunks, of_clip, of_misfit, of_region, of_region_stored, of_shape}
-use Rattle.programs.specs.chunkplan.DocumentFault.{of_subset, of_target, of_target_stored, of_task, of_type}
+use Rattle.programs.specs.chunkplan.Document.{HasBox, HasFlag, HasNumbers, IsBoxIn, IsCopying, IsOfArray, IsOfType, IsTask, IsTaskTo, Task, copy_to}
+use Rattle.programs.specs.chunkplan.Document.{read_of, rechunk_to, resize_to}
+use Rattle.programs.specs.chunkplan.DocumentFault.{HasBoxFault, HasFlagFault, HasNumbersFault, IsCopyingFault, IsTargetMisfit, IsTaskFault}
+use Rattle.programs.specs.chunkplan.DocumentFault.{IsTaskToFault, IsTypeMisfit, of_at, of_chunks, of_clip, of_copying, of_keep, of_misfit, of_region}
+use Rattle.programs.specs.chunkplan.DocumentFault.{of_region_stored, of_resize, of_shape, of_subset, of_target, of_target_stored, of_task, of_type}
 use Rattle.programs.specs.chunkplan.Known.{Agree, Differ}
 
 -- ---- one member
@@ -99,6 +99,7 @@ module _ (d left m : Data) (same : AskAlike d left) where
     has_box d left (codes "subset") (Some region) same.subset box,
     has_numbers d left (codes "at") at same.at numbers,
   )
+  is_task_to (resize_to shape keep) is = absurd is
 
   some_subset : IsSome (get (codes "subset") left) → IsSome (get (codes "subset") d)
   some_subset = subst IsSome same.subset
@@ -123,10 +124,18 @@ module _ (d left m : Data) (same : AskAlike d left) where
       (has_numbers_fault d left (codes "at") fault same.at is)
 
 -- what is asked for with the target that there is
-pub with_target : (d m : Data) (task : Task) → get (codes "target") d ≡ Some m → IsTaskTo d m task → IsTask d task
+pub with_target : (d m : Data) (task : Task) → get (codes "target") d ≡ Some m → IsTaskTo d m task → IsCopying d task
 with_target d m (read_of b clip) there is = absurd is
 with_target d m (rechunk_to stored b) there is = (m, there, is)
 with_target d m (copy_to shape stored region at) there is = (m, there, is)
+with_target d m (resize_to shape keep) there is = absurd is
+
+-- what is copied, where there is no resize
+pub without_resize : (d : Data) (task : Task) → get (codes "resize") d ≡ None → IsCopying d task → IsTask d task
+without_resize d (read_of b clip) none is = (none, is)
+without_resize d (rechunk_to stored b) none is = (none, is)
+without_resize d (copy_to shape stored region at) none is = (none, is)
+without_resize d (resize_to shape keep) none (m, there, is) = absurd is
 
 -- ---- the task, which is read where the array's own metadata were taken out
 
@@ -147,28 +156,46 @@ module _ (d left : Data) (are_left : AreLeft d left) where
     at = short (codes "at") (omega arith);
   }
 
-  pub is_task : (task : Task) → IsTask left task → IsTask d task
-  is_task (read_of b clip) (none, box, has) = (
+  is_copying : (task : Task) → IsCopying left task → IsCopying d task
+  is_copying (read_of b clip) (none, box, has) = (
     sym (short (codes "target") (omega arith)) ∙ none,
     has_box d left (codes "subset") b (short (codes "subset") (omega arith)) box,
     has_flag d left (codes "clip") clip (short (codes "clip") (omega arith)) has,
   )
-  is_task (rechunk_to stored b) (m, there, is) =
+  is_copying (rechunk_to stored b) (m, there, is) =
       (m, sym (short (codes "target") (omega arith)) ∙ there, is_task_to d left m ask_alike (rechunk_to stored b) is)
-  is_task (copy_to shape stored region at) (m, there, is) =
+  is_copying (copy_to shape stored region at) (m, there, is) =
       (m, sym (short (codes "target") (omega arith)) ∙ there, is_task_to d left m ask_alike (copy_to shape stored region at) is)
+  is_copying (resize_to shape keep) (m, there, is) = absurd is
 
-  pub is_task_fault : (fault : RunFault) → IsTaskFault left fault → IsTaskFault d fault
-  is_task_fault fault (of_subset none is) =
+  pub is_task : (task : Task) → IsTask left task → IsTask d task
+  is_task (resize_to shape keep) (numbers, has) = (
+    has_numbers d left (codes "resize") (Some shape) (short (codes "resize") (omega arith)) numbers,
+    has_flag d left (codes "keep") keep (short (codes "keep") (omega arith)) has,
+  )
+  is_task (read_of b clip) (none, is) = (sym (short (codes "resize") (omega arith)) ∙ none, is_copying (read_of b clip) is)
+  is_task (rechunk_to stored b) (none, is) = (sym (short (codes "resize") (omega arith)) ∙ none, is_copying (rechunk_to stored b) is)
+  is_task (copy_to shape stored region at) (none, is) =
+      (sym (short (codes "resize") (omega arith)) ∙ none, is_copying (copy_to shape stored region at) is)
+
+  is_copying_fault : (fault : RunFault) → IsCopyingFault left fault → IsCopyingFault d fault
+  is_copying_fault fault (of_subset none is) =
       of_subset (sym (short (codes "target") (omega arith)) ∙ none)
       (has_box_fault d left (codes "subset") fault (short (codes "subset") (omega arith)) is)
-  is_task_fault fault (of_clip b none box is) =
+  is_copying_fault fault (of_clip b none box is) =
       of_clip b (sym (short (codes "target") (omega arith)) ∙ none)
       (has_box d left (codes "subset") b (short (codes "subset") (omega arith)) box)
       (has_flag_fault d left (codes "clip") fault (short (codes "clip") (omega arith)) is)
-  is_task_fault fault (of_target m there none tells) = of_target m (sym (short (codes "target") (omega arith)) ∙ there) none tells
-  is_task_fault fault (of_task m there object is) =
+  is_copying_fault fault (of_target m there none tells) = of_target m (sym (short (codes "target") (omega arith)) ∙ there) none tells
+  is_copying_fault fault (of_task m there object is) =
       of_task m (sym (short (codes "target") (omega arith)) ∙ there) object (is_task_to_fault d left m ask_alike fault is)
+
+  pub is_task_fault : (fault : RunFault) → IsTaskFault left fault → IsTaskFault d fault
+  is_task_fault fault (of_resize is) = of_resize (has_numbers_fault d left (codes "resize") fault (short (codes "resize") (omega arith)) is)
+  is_task_fault fault (of_keep shape numbers is) =
+      of_keep shape (has_numbers d left (codes "resize") (Some shape) (short (codes "resize") (omega arith)) numbers)
+      (has_flag_fault d left (codes "keep") fault (short (codes "keep") (omega arith)) is)
+  is_task_fault fault (of_copying none is) = of_copying (sym (short (codes "resize") (omega arith)) ∙ none) (is_copying_fault fault is)
 
 -- ---- names of another letter
 

@@ -10,15 +10,16 @@ use Rattle.zarrs_chunk_plan.specs.declared.region_error.RegionError.TheVariants.
 use Rattle.programs.specs.Streams.{IsReadToEnd, IsWritten, Streams}
 use Rattle.programs.specs.Watched.{IsReadFailure}
 use Rattle.programs.specs.chunkplan.Document.{Document}
-use Rattle.programs.specs.chunkplan.DocumentFault.{HasBoxFault, HasWantedFault, IsBoxFormFault, IsFormFault, IsMisfit, IsTargetMisfit, IsTaskFault}
+use Rattle.programs.specs.chunkplan.DocumentFault.{HasBoxFault, HasWantedFault, IsBoxFormFault, IsCopyingFault, IsFormFault, IsMisfit, IsTargetMisfit}
 use Rattle.programs.specs.chunkplan.DocumentFault.{misfit, misformed_shape, misformed_stored, misformed_task, misformed_wanted, missing}
 use Rattle.programs.specs.chunkplan.DocumentFault.{no_object, not_of_form}
-use Rattle.programs.specs.chunkplan.DocumentFault.{IsTaskToFault, IsTypeMisfit, IsUnknownFault, TellsMissing, TellsWrongValue, of_at, of_clip, of_misfit}
-use Rattle.programs.specs.chunkplan.DocumentFault.{of_region_stored, of_shape, of_target_stored, of_task, of_type, unknown}
+use Rattle.programs.specs.chunkplan.DocumentFault.{IsTaskFault, IsTaskToFault, IsTypeMisfit, IsUnknownFault, TellsMissing, TellsWrongValue, of_at}
+use Rattle.programs.specs.chunkplan.DocumentFault.{of_clip, of_copying, of_keep, of_misfit, of_region_stored, of_shape, of_target_stored, of_task}
+use Rattle.programs.specs.chunkplan.DocumentFault.{of_resize as of_resize_form, of_type, unknown}
 use Rattle.programs.specs.chunkplan.DocumentFault.{of_chunks as of_chunks_box, of_region as of_region_box, of_subset as of_subset_box}
 use Rattle.programs.specs.chunkplan.DocumentFault.{of_target as of_target_tree}
-use Rattle.programs.specs.chunkplan.PlanFault.{IsChunksFault, IsCopyFault, IsFirstFault, IsPlanFault, IsReadFault, IsTargetFault, no_document, no_plan}
-use Rattle.programs.specs.chunkplan.PlanFault.{of_chunks, of_region, of_region_target, of_source, of_subset, of_target}
+use Rattle.programs.specs.chunkplan.PlanFault.{IsChunksFault, IsCopyFault, IsFirstFault, IsPlanFault, IsReadFault, IsResizeFault, IsTargetFault, no_document}
+use Rattle.programs.specs.chunkplan.PlanFault.{no_plan, of_chunks, of_region, of_region_target, of_resize, of_source, of_subset, of_target}
 use Rattle.programs.specs.chunkplan.Planned.{IsPlanOf, begins_at}
 use Rattle.programs.specs.chunkplan.Run.{HasBegunPlan, RunLeaves}
 use Rattle.programs.specs.chunkplan.RunFault.{of_create, of_document, of_region as of_region_error, of_stream}
@@ -79,11 +80,16 @@ target_still d target fault (of_region_stored told _ _ _ _ same) = ap moves same
 target_still d target fault (of_region_box _ _ _ _ is) = box_still d (codes "subset") fault is
 target_still d target fault (of_at _ _ _ _ _ _ (_, _, _, is)) = still (TellsWrongValue (codes "at")) (λ h. h) (λ h. h) fault is
 
+copying_still : (d : Data) (fault : RunFault) → IsCopyingFault d fault → moves fault ≡ false
+copying_still d fault (of_subset_box _ is) = box_still d (codes "subset") fault is
+copying_still d fault (of_clip _ _ _ (_, _, _, is)) = still (TellsWrongValue (codes "clip")) (λ h. h) (λ h. h) fault is
+copying_still d fault (of_target_tree _ _ _ is) = still (TellsWrongValue (codes "target")) (λ h. h) (λ h. h) fault is
+copying_still d fault (of_task target _ _ is) = target_still d target fault is
+
 task_still : (d : Data) (fault : RunFault) → IsTaskFault d fault → moves fault ≡ false
-task_still d fault (of_subset_box _ is) = box_still d (codes "subset") fault is
-task_still d fault (of_clip _ _ _ (_, _, _, is)) = still (TellsWrongValue (codes "clip")) (λ h. h) (λ h. h) fault is
-task_still d fault (of_target_tree _ _ _ is) = still (TellsWrongValue (codes "target")) (λ h. h) (λ h. h) fault is
-task_still d fault (of_task target _ _ is) = target_still d target fault is
+task_still d fault (of_resize_form (_, _, _, is)) = still (TellsWrongValue (codes "resize")) (λ h. h) (λ h. h) fault is
+task_still d fault (of_keep _ _ (_, _, _, is)) = still (TellsWrongValue (codes "keep")) (λ h. h) (λ h. h) fault is
+task_still d fault (of_copying _ is) = copying_still d fault is
 
 -- a fault of what is wanted is a wrong value
 wanted_still : (d : Data) (fault : RunFault) → HasWantedFault d fault → moves fault ≡ false
@@ -93,7 +99,7 @@ wanted_still d fault (inr (_, (_, _, is, _))) = still (TellsWrongValue (codes "s
 form_still : (d : Data) (fault : RunFault) → IsFormFault d fault → moves fault ≡ false
 form_still d fault (unknown is) = still (IsUnknownFault d) (λ h. h) (λ h. h) fault is
 form_still d fault (missing name _ _ is) = still (TellsMissing name) (λ h. h) (λ h. h) fault is
-form_still d fault (misfit _ _ is) = still (IsMisfit d) (λ h. h) (λ h. h) fault is
+form_still d fault (misfit _ _ is) = still (IsMisfit d) (λ h. h.1) (λ h. h.1) fault is
 form_still d fault (misformed_shape _ _ _ _ is) = still (TellsWrongValue (codes "shape")) (λ h. h) (λ h. h) fault is
 form_still d fault (misformed_wanted _ _ _ _ is) = wanted_still d fault is
 form_still d fault (misformed_stored told _ _ _ _ _ _ _ same) = ap moves same ∙ of_document_still told
@@ -113,6 +119,7 @@ plan_still document fault (of_chunks _ chunks _ target _ _ _ _ _ is) =
 plan_still document fault (of_region_target shape stored _ _ _ _ _ _ is) = still (IsTargetFault stored shape) (λ h. h) (λ h. h) fault is
 plan_still document fault (of_region _ _ region at source target _ _ _ _ _ is) =
     copy_still source.dimensions target.dimensions region (begins_at region at) fault is
+plan_still document fault (of_resize shape _ _ _ _ _ is) = still (IsResizeFault document.stored shape) (λ h. h) (λ h. h) fault is
 
 first_still : (input : List ℕ) (fault : RunFault) → IsFirstFault input fault → moves fault ≡ false
 first_still input fault (no_document (no_object told _ same)) = ap moves same ∙ of_document_still told

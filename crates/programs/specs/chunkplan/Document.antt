@@ -1,7 +1,9 @@
 -- The program's document: a JSON object with the members `shape`, `chunk_grid` and `chunk_key_encoding`. Besides it has, for a read, `subset` and `clip`,
 -- if they are wanted; for a rechunking, `target`, and `chunks` if it is wanted; for the copy of a region, `target` and `subset`, and `at` if it is wanted.
--- `share` or `counts` says what is wanted of the plan, if not all lines. What else an array's `zarr.json` has may stand in it and in the target.
-use Rattle.std.specs.Prelude.{◌≡◌, ◌⊎◌, ℕ, Bool, true, false, List, Option, Some, None, IsSome, codes, MatchOption, option_map}
+-- `share` or `counts` says what is wanted of the plan, if not all lines. For a resize it has `resize`, and `keep` if it is wanted, and none of these.
+-- What else an array's `zarr.json` has may stand in it and in the target.
+use Rattle.std.specs.Prelude.{◌≡◌, ◌⊎◌, ℕ, Bool, true, false, List, [], ◌∷◌, Option, Some, None, IsSome, codes, MatchOption, option_map}
+use Rattle.std.specs.List.{AllByRecursion}
 use Rattle.serde_json.specs.Data.{Data}
 use Rattle.serde_json.specs.Find.{as_bool, get}
 use Rattle.zarrs_chunk_base.specs.ArraySubset.{Box, IsBox}
@@ -13,15 +15,18 @@ use Rattle.programs.specs.chunkplan.Known.{Agree, HasOnly, known_members, zarr_j
 use Rattle.programs.specs.declared.chunkplan.document.Document.{Document as DocumentValue}
 use Rattle.programs.specs.declared.chunkplan.document.Task.{Task as TaskValue}
 use Rattle.programs.specs.declared.chunkplan.document.Task.TheVariants.{Copy as CopyValue, Read as ReadValue, Rechunk as RechunkValue}
+use Rattle.programs.specs.declared.chunkplan.document.Task.TheVariants.{Resize as ResizeValue}
 use Rattle.programs.specs.declared.chunkplan.document.Wanted.{Wanted as WantedValue}
 use Rattle.programs.specs.declared.chunkplan.document.Wanted.TheVariants.{Counts as CountsValue, Lines as LinesValue}
 
--- What is asked for: a read of a box of elements, or of all, as it is or clipped to the array; a rechunking into chunks of a box, or into all; or
--- the copy of a region, a box of elements, to an array of a shape that is stored in some way, to begin there at an index, where one is given.
+-- What is asked for: a read of a box of elements, or of all, as it is or clipped to the array; a rechunking into chunks of a box, or into all;
+-- the copy of a region, a box of elements, to an array of a shape that is stored in some way, to begin there at an index, where one is given; or a
+-- resize of the array to another shape, and whether the chunks are wanted too that stay as they are stored.
 pub data Task : Type 0 where
   read_of : Option Box → (clip : Bool) → Task
   rechunk_to : Stored → Option Box → Task
   copy_to : (shape : List ℕ) → Stored → (region : Box) → (at : Option (List ℕ)) → Task
+  resize_to : (shape : List ℕ) → (keep : Bool) → Task
 
 -- what is wanted of the plan: the lines of a share, or its counts
 pub data Wanted : Type 0 where
@@ -40,6 +45,7 @@ abbrev pub task_of : TaskValue → Task
 task_of (ReadValue subset clip) = read_of subset clip
 task_of (RechunkValue target chunks) = rechunk_to (stored_of target) chunks
 task_of (CopyValue shape target region at) = copy_to shape.items (stored_of target) region (option_map (λ v. v.items) at)
+task_of (ResizeValue shape keep) = resize_to shape.items keep
 
 abbrev pub wanted_of : WantedValue → Wanted
 wanted_of (LinesValue share) = lines_wanted share
@@ -97,11 +103,17 @@ IsTaskTo d target (rechunk_to stored chunks) =
     (get (codes "subset") d ≡ None) × IsOfArray d target × HasStored target stored × HasBox d (codes "chunks") chunks
 IsTaskTo d target (copy_to shape stored region at) = IsOfType d target × (shape_in target ≡ Some shape) × HasStored target stored
     × HasBox d (codes "subset") (Some region) × HasNumbers d (codes "at") at
+IsTaskTo d target (resize_to shape keep) = ⊥
 
 -- `subset` and `clip`, where there is no target, or what is asked for with it
+abbrev pub IsCopying : Data → Task → Type 0
+IsCopying d (read_of subset clip) = (get (codes "target") d ≡ None) × HasBox d (codes "subset") subset × HasFlag d (codes "clip") clip
+IsCopying d task = (m : Data) × (get (codes "target") d ≡ Some m) × IsTaskTo d m task
+
+-- a resize, where there is `resize`, the array's new shape; and else what is copied
 abbrev pub IsTask : Data → Task → Type 0
-IsTask d (read_of subset clip) = (get (codes "target") d ≡ None) × HasBox d (codes "subset") subset × HasFlag d (codes "clip") clip
-IsTask d task = (m : Data) × (get (codes "target") d ≡ Some m) × IsTaskTo d m task
+IsTask d (resize_to shape keep) = HasNumbers d (codes "resize") (Some shape) × HasFlag d (codes "keep") keep
+IsTask d task = (get (codes "resize") d ≡ None) × IsCopying d task
 
 -- `clip` stands beside no target, `chunks` beside one without a `subset`, and `at` beside both
 pub record FitTask (d : Data) : Type 0 where
@@ -110,8 +122,23 @@ pub record FitTask (d : Data) : Type 0 where
   pub of_rechunking : IsSome (get (codes "target") d) → get (codes "subset") d ≡ None → get (codes "at") d ≡ None
   pub of_region : IsSome (get (codes "target") d) → IsSome (get (codes "subset") d) → get (codes "chunks") d ≡ None
 
+-- the members that stand beside no `resize`
+abbrev pub not_of_resize : List (List ℕ)
+not_of_resize =
+    codes "target" ∷ codes "subset" ∷ codes "clip" ∷ codes "chunks" ∷ codes "at" ∷ codes "share" ∷ codes "counts" ∷ []
+
+-- none of these members is there
+abbrev pub HasNone : List (List ℕ) → Data → Type 0
+HasNone members d = AllByRecursion (λ name. get name d ≡ None) members
+
+-- `keep` stands beside `resize` alone
+pub record FitResize (d : Data) : Type 0 where
+  pub of_resize : IsSome (get (codes "resize") d) → HasNone not_of_resize d
+  pub of_others : get (codes "resize") d ≡ None → get (codes "keep") d ≡ None
+
 -- and `share` beside no `counts`
 pub record Fit (d : Data) : Type 0 where
+  pub resize : FitResize d
   pub task : FitTask d
   pub of_counts : IsSome (get (codes "counts") d) → get (codes "share") d ≡ None
 

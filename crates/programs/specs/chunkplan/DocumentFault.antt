@@ -8,11 +8,13 @@ use Rattle.zarrs_chunk_base.specs.First.{IsFirst}
 use Rattle.zarrs_chunk_base.specs.Json.{size_of, list_of, pair_of}
 use Rattle.programs.specs.Document.{HasAll, HasStored, IsObjectOf, IsShapeFault, IsStoredFault, IsTextFault, shape_in}
 use Rattle.programs.specs.Stored.{Stored}
-use Rattle.programs.specs.chunkplan.Document.{Fit, FitTask, HasBox, HasFlag, HasWanted, IsOfArray, IsOfType, Wanted}
+use Rattle.programs.specs.chunkplan.Document.{Fit, FitResize, FitTask, HasBox, HasFlag, HasNumbers, HasWanted, IsOfArray, IsOfType, Wanted}
+use Rattle.programs.specs.chunkplan.Document.{not_of_resize}
 use Rattle.programs.specs.chunkplan.Known.{Agree, Differ, HasOnly, IsFirstUnknown, known_members, zarr_json_members}
 use Rattle.programs.specs.chunkplan.RunFault.{of_document}
 use Rattle.programs.specs.declared.chunkplan.run_fault.RunFault.{RunFault}
-use Rattle.programs.specs.declared.chunkplan.run_fault.RunFault.TheVariants.{AtOfNoRegion, Box, ChunksOfNoTarget, ChunksOfRegion, ClipOfTarget, Missing}
+use Rattle.programs.specs.declared.chunkplan.run_fault.RunFault.TheVariants.{AtOfNoRegion, Box, ChunksOfNoTarget, ChunksOfRegion, ClipOfTarget}
+use Rattle.programs.specs.declared.chunkplan.run_fault.RunFault.TheVariants.{KeepOfNoResize, Missing, NotOfResize}
 use Rattle.programs.specs.declared.chunkplan.run_fault.RunFault.TheVariants.{OtherDataType, OtherShape, ShareOfCounts, Unknown, UnknownOfTarget}
 use Rattle.programs.specs.declared.chunkplan.run_fault.RunFault.TheVariants.{WrongValue}
 use Rattle.programs.specs.declared.document_fault.DocumentFault.{DocumentFault}
@@ -67,10 +69,18 @@ IsTaskMisfit d AtOfNoRegion =
     × IsSome (get (codes "at") d)
 IsTaskMisfit d _ = ⊥
 
--- and then, that a share doesn't go with counts
+-- the fault says which of these members is the first that is there, where none is to be
+abbrev pub TellsFirst : List (List ℕ) → Data → RunFault → Type 0
+TellsFirst members d (NotOfResize told) = IsFirst (λ name. IsSome (get name d)) members told.now
+TellsFirst members d _ = ⊥
+
+-- The first member that doesn't go with the others: with `resize`, the first of `not_of_resize`; without it, `keep`; then as of the task; last, a share
+-- beside counts.
 abbrev pub IsMisfit : Data → RunFault → Type 0
-IsMisfit d ShareOfCounts = FitTask d × IsSome (get (codes "counts") d) × IsSome (get (codes "share") d)
-IsMisfit d fault = IsTaskMisfit d fault
+IsMisfit d (NotOfResize told) = IsSome (get (codes "resize") d) × TellsFirst not_of_resize d (NotOfResize told)
+IsMisfit d KeepOfNoResize = (get (codes "resize") d ≡ None) × IsSome (get (codes "keep") d)
+IsMisfit d ShareOfCounts = FitResize d × FitTask d × IsSome (get (codes "counts") d) × IsSome (get (codes "share") d)
+IsMisfit d fault = FitResize d × IsTaskMisfit d fault
 
 -- the fault says why a member's value is no box: it is no list of two lists of sizes, or these make no box
 abbrev pub IsBoxFormFault : Data → List ℕ → RunFault → Type 0
@@ -123,14 +133,21 @@ pub data IsTaskToFault (d target : Data) (fault : RunFault) : Type 0 where
   of_at : (stored : Stored) (region : ElementBox) → IsOfType d target → IsSome (shape_in target) → HasStored target stored
       → HasBox d (codes "subset") (Some region) → HasNumbersFault d (codes "at") fault → IsTaskToFault d target fault
 
--- The first fault of what a tree asks for: its `subset` and its `clip`, where there is no target; and else the target, and what is asked for with it.
-pub data IsTaskFault (d : Data) (fault : RunFault) : Type 0 where
-  of_subset : get (codes "target") d ≡ None → HasBoxFault d (codes "subset") fault → IsTaskFault d fault
+-- The first fault of what is copied: its `subset` and its `clip`, where there is no target; and else the target, and what is asked for with it.
+pub data IsCopyingFault (d : Data) (fault : RunFault) : Type 0 where
+  of_subset : get (codes "target") d ≡ None → HasBoxFault d (codes "subset") fault → IsCopyingFault d fault
   of_clip : (subset : Option ElementBox) → get (codes "target") d ≡ None → HasBox d (codes "subset") subset → HasFlagFault d (codes "clip") fault
-      → IsTaskFault d fault
+      → IsCopyingFault d fault
   of_target : (target : Data) → get (codes "target") d ≡ Some target → as_object target ≡ None → TellsWrongValue (codes "target") fault
-      → IsTaskFault d fault
-  of_task : (target : Data) → get (codes "target") d ≡ Some target → IsSome (as_object target) → IsTaskToFault d target fault → IsTaskFault d fault
+      → IsCopyingFault d fault
+  of_task : (target : Data) → get (codes "target") d ≡ Some target → IsSome (as_object target) → IsTaskToFault d target fault
+      → IsCopyingFault d fault
+
+-- The first fault of what a tree asks for: its `resize` and its `keep`, where there is one; and else of what is copied.
+pub data IsTaskFault (d : Data) (fault : RunFault) : Type 0 where
+  of_resize : HasNumbersFault d (codes "resize") fault → IsTaskFault d fault
+  of_keep : (shape : List ℕ) → HasNumbers d (codes "resize") (Some shape) → HasFlagFault d (codes "keep") fault → IsTaskFault d fault
+  of_copying : get (codes "resize") d ≡ None → IsCopyingFault d fault → IsTaskFault d fault
 
 -- The first fault of an object that is no document: a member isn't known; one is missing; one doesn't go with the others; and then, of the
 -- shape, of what is wanted of the plan, of how the array is stored and of what is asked for, the first that isn't of its form.

@@ -10,6 +10,10 @@ use Rattle.zarrs_chunk_plan.specs.Rechunking.{Group}
 use Rattle.zarrs_chunk_plan.specs.Region.{shifted}
 use Rattle.zarrs_chunk_plan.specs.Shares.{before_share, share_of}
 use Rattle.zarrs_chunk_plan.specs.declared.part.Part.{Part}
+use Rattle.zarrs_chunk_plan.specs.declared.resize.Change.{Change}
+use Rattle.zarrs_chunk_plan.specs.declared.resize.Change.TheVariants.{Delete, Keep, New, Rewrite}
+use Rattle.zarrs_chunk_plan.specs.declared.resize.ChunkChange.{ChunkChange}
+use Rattle.zarrs_chunk_plan.specs.declared.resize.Held.{Held}
 use Rattle.zarrs_chunk_plan.specs.declared.share.Share.{Share}
 
 -- a list of numbers
@@ -102,3 +106,41 @@ group_line at of group = line_of (group_json at of group)
 abbrev pub rechunking_lines : Share → List Group → List ℕ
 rechunking_lines share groups =
     lines_from (λ n. group_line (counted n) (counted (length groups))) (before_share share.number share.of (length groups)) (share_of share groups)
+
+-- ---- a resize
+
+-- what a chunk holds of the array, as a box of it, and the chunk's shape; null, where that is nothing
+abbrev pub held_json : Option Held → Json
+held_json (Some held) = box_json held.elements
+held_json None = null
+
+abbrev pub held_shape_json : Option Held → Json
+held_shape_json (Some held) = numbers_json held.shape.items
+held_shape_json None = null
+
+-- what becomes of a chunk, in a word
+abbrev pub change_word : Change → List ℕ
+change_word Keep = codes "keep"
+change_word Rewrite = codes "rewrite"
+change_word Delete = codes "delete"
+change_word New = codes "new"
+
+-- the change of a chunk: its numbers, its key, what it is to hold, which line of how many it is, what it held, and what becomes of it
+abbrev pub change_json : (at of : Option ℕ) → ChunkChange → Json
+change_json at of change =
+    object (member (codes "chunk") (numbers_json change.chunk.items)
+    (member (codes "key") (string change.key)
+    (member (codes "now") (held_json change.after)
+    (member (codes "now_shape") (held_shape_json change.after)
+    (member (codes "number") (count_json at)
+    (member (codes "of") (count_json of)
+    (member (codes "was") (held_json change.before)
+    (member (codes "was_shape") (held_shape_json change.before)
+    (member (codes "what") (string (change_word change.what)) no_members)))))))))
+
+abbrev pub change_line : (at of : Option ℕ) → ChunkChange → List ℕ
+change_line at of change = line_of (change_json at of change)
+
+-- the lines of a resize, of which these are all changes
+abbrev pub resize_lines : List ChunkChange → List ℕ
+resize_lines changes = lines_from (λ n. change_line (counted n) (counted (length changes))) 0 changes

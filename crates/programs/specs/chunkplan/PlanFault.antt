@@ -7,19 +7,20 @@ use Rattle.zarrs_chunk_base.specs.Grid.{Grid as ChunkGrid}
 use Rattle.zarrs_chunk_base.specs.Json.{IsJsonOf}
 use Rattle.zarrs_chunk_base.specs.Refusal.{TellsLengths}
 use Rattle.zarrs_chunk_keys.specs.ChunkKey.{Encoding as KeyEncoding}
+use Rattle.zarrs_chunks.specs.GridKinds.{IsGridFault}
 use Rattle.zarrs_chunks.specs.Subsets.{HasNoHome}
 use Rattle.zarrs_chunk_plan.specs.Rechunking.{all_chunks_box, array_box}
 use Rattle.zarrs_chunk_plan.specs.Region.{IsRegionFault}
 use Rattle.zarrs_chunk_plan.specs.declared.copies_error.CopiesError.TheVariants.{Chunks}
 use Rattle.zarrs_chunk_plan.specs.declared.region_error.RegionError.{RegionError}
 use Rattle.programs.specs.Stored.{IsCreateFault, IsStored, Stored}
-use Rattle.programs.specs.chunkplan.Document.{Document, IsDocument, copy_to, read_of, rechunk_to}
+use Rattle.programs.specs.chunkplan.Document.{Document, IsDocument, copy_to, read_of, rechunk_to, resize_to}
 use Rattle.programs.specs.chunkplan.DocumentFault.{IsInputFault}
 use Rattle.programs.specs.chunkplan.Planned.{begins_at}
 use Rattle.programs.specs.chunkplan.RunFault.{of_create, of_region as of_region_error}
 use Rattle.programs.specs.declared.chunkplan.run_fault.RunFault.{RunFault}
-use Rattle.programs.specs.declared.chunkplan.run_fault.RunFault.TheVariants.{Copies, SubsetDimensionality, TargetEncoding, TargetGrid}
-use Rattle.programs.specs.declared.chunkplan.run_fault.RunFault.TheVariants.{Uncovered}
+use Rattle.programs.specs.declared.chunkplan.run_fault.RunFault.TheVariants.{Copies, ResizedGrid, SubsetDimensionality, TargetEncoding}
+use Rattle.programs.specs.declared.chunkplan.run_fault.RunFault.TheVariants.{TargetGrid, Uncovered}
 use Rattle.programs.specs.declared.stored.CreateFault.{CreateFault}
 use Rattle.programs.specs.declared.stored.CreateFault.TheVariants.{Encoding, Grid}
 
@@ -48,8 +49,13 @@ abbrev pub IsCopyFault : (source target : List Dimension) → Box → (at : List
 IsCopyFault source target region at fault =
     (told : RegionError) × IsRegionFault (array_sizes source) (array_sizes target) region at told × (fault ≡ of_region_error told)
 
+-- the fault says why the array's metadata make no grid of another shape
+abbrev pub IsResizeFault : Stored → List ℕ → RunFault → Type 0
+IsResizeFault stored shape (ResizedGrid error) = IsGridFault stored.chunk_grid shape error
+IsResizeFault stored shape _ = ⊥
+
 -- The first fault of a document without a plan: the grid and the encoding; then, of a read, the box; of a rechunking or the copy of a region, the
--- grid and the encoding of the target, and then the box of its chunks, or the region.
+-- grid and the encoding of the target, and then the box of its chunks, or the region; of a resize, the grid of the new shape.
 pub data IsPlanFault (document : Document) (fault : RunFault) : Type 0 where
   of_source : (told : CreateFault) → IsCreateFault document.stored document.shape told → fault ≡ of_create told → IsPlanFault document fault
   of_subset : (subset : Option Box) (clip : Bool) (grid : ChunkGrid) (encoding : KeyEncoding) → document.task ≡ read_of subset clip
@@ -68,6 +74,8 @@ pub data IsPlanFault (document : Document) (fault : RunFault) : Type 0 where
       (source_encoding target_encoding : KeyEncoding) → document.task ≡ copy_to shape stored region at
       → IsStored document.stored document.shape source source_encoding → IsStored stored shape target target_encoding
       → IsCopyFault source.dimensions target.dimensions region (begins_at region at) fault → IsPlanFault document fault
+  of_resize : (shape : List ℕ) (keep : Bool) (grid : ChunkGrid) (encoding : KeyEncoding) → document.task ≡ resize_to shape keep
+      → IsStored document.stored document.shape grid encoding → IsResizeFault document.stored shape fault → IsPlanFault document fault
 
 -- The first fault of an input that has no plan: it is no document, or the document has no plan.
 pub data IsFirstFault (input : List ℕ) (fault : RunFault) : Type 0 where

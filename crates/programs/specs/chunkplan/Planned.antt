@@ -6,18 +6,22 @@ use Rattle.zarrs_chunk_base.specs.Dimension.{Dimension, array_sizes}
 use Rattle.zarrs_chunk_base.specs.Grid.{Grid}
 use Rattle.zarrs_chunk_base.specs.Json.{IsJsonOf}
 use Rattle.zarrs_chunk_keys.specs.ChunkKey.{Encoding, IsKey}
+use Rattle.zarrs_chunks.specs.GridKinds.{IsGrid}
 use Rattle.zarrs_chunks.specs.Subsets.{IsCover}
 use Rattle.zarrs_chunk_plan.specs.Clip.{IsClipped}
 use Rattle.zarrs_chunk_plan.specs.Counts.{AreReadCounts, AreRechunkingCounts, AreRegionCounts, CountNothing}
 use Rattle.zarrs_chunk_plan.specs.Plan.{IsPlan}
 use Rattle.zarrs_chunk_plan.specs.Rechunking.{AreTargets, Group, IsRechunking, all_chunks_box, array_box}
 use Rattle.zarrs_chunk_plan.specs.Region.{CanBeMoved, IsRegionCopy, moved}
+use Rattle.zarrs_chunk_plan.specs.Resize.{IsResizePlan}
 use Rattle.zarrs_chunk_plan.specs.declared.counts.Counts.{Counts}
 use Rattle.zarrs_chunk_plan.specs.declared.part.Part.{Part}
+use Rattle.zarrs_chunk_plan.specs.declared.resize.ChunkChange.{ChunkChange}
 use Rattle.programs.specs.Stored.{IsStored, Stored}
 use Rattle.programs.specs.chunkplan.CountsLine.{IsCountsLine}
 use Rattle.programs.specs.chunkplan.Document.{Document, IsDocument, Wanted, copy_to, counts_wanted, lines_wanted, read_of, rechunk_to}
-use Rattle.programs.specs.chunkplan.Line.{read_lines, rechunking_lines}
+use Rattle.programs.specs.chunkplan.Document.{resize_to}
+use Rattle.programs.specs.chunkplan.Line.{read_lines, rechunking_lines, resize_lines}
 
 -- the plan of reading a box of elements, which has as many dimensions as the grid; an empty box has no parts
 pub record IsReadPlan (ds : List Dimension) (IsKeyOf : List ℕ → List ℕ → Type 0) (subset : Box) (parts : List Part) : Type 0 where
@@ -64,7 +68,7 @@ IsRegionText counts_wanted source target region at groups text =
     (counts : Counts) × AreCountsOfRegion source target region at groups counts × IsCountsLine counts text
 
 -- What a document wants of its plan, as text: of a read of a box of elements, or of all, or of a rechunking into the chunks of a box, or into all, or
--- of the copy of a region.
+-- of the copy of a region, or of a resize, whose two grids the same metadata make.
 pub data IsPlanned (document : Document) (text : List ℕ) : Type 0 where
   of_read : (subset : Option Box) (clip : Bool) (asked : Box) (grid : Grid) (encoding : Encoding) (parts : List Part)
       → document.task ≡ read_of subset clip → IsStored document.stored document.shape grid encoding
@@ -83,6 +87,9 @@ pub data IsPlanned (document : Document) (text : List ℕ) : Type 0 where
       → IsStored document.stored document.shape source source_encoding → IsStored stored shape target target_encoding
       → IsRegionPlan source.dimensions (IsKey source_encoding) target.dimensions (IsKey target_encoding) region (begins_at region at) groups
       → IsRegionText document.wanted source.dimensions target.dimensions region (begins_at region at) groups text → IsPlanned document text
+  of_resize : (shape : List ℕ) (keep : Bool) (before after : Grid) (encoding : Encoding) (changes : List ChunkChange)
+      → document.task ≡ resize_to shape keep → IsStored document.stored document.shape before encoding → IsGrid document.stored.chunk_grid shape after
+      → IsResizePlan before.dimensions after.dimensions (IsKey encoding) keep changes → text ≡ resize_lines changes → IsPlanned document text
 
 -- the text that the program writes for an input
 pub record IsPlanOf (input text : List ℕ) : Type 0 where

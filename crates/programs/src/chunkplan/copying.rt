@@ -1,24 +1,30 @@
 //! The lines of a plan, sent as they are made.
-ghost use Rattle.std.specs.Prelude.{◌≡◌, ℕ, suc, List, length};
+ghost use Rattle.std.specs.Prelude.{◌≡◌, ◌⊎◌, ℕ, suc, List, length};
+ghost use Rattle.std.specs.List.{AllByRecursion};
 ghost use Rattle.zarrs_chunk_base.specs.ArraySubset.{IsBox};
+ghost use Rattle.zarrs_chunk_base.specs.Dimension.{array_sizes};
+ghost use Rattle.zarrs_chunk_base.specs.Greatest.{AllFit};
 ghost use Rattle.zarrs_chunk_plan.specs.Counted.{counted};
 ghost use Rattle.zarrs_chunk_plan.specs.Rechunking.{Group};
+ghost use Rattle.zarrs_chunk_plan.specs.Resize.{IsUsed};
 ghost use Rattle.zarrs_chunk_plan.specs.declared.part.Part.{Part as PartValue};
+ghost use Rattle.zarrs_chunk_plan.specs.declared.resize.ChunkChange.{ChunkChange as ChangeValue};
+ghost use Rattle.zarrs_chunk_plan.specs.seen.Changes.{AreChangesToCome, CanChange, all_changes, changes_to_come};
 ghost use Rattle.zarrs_chunk_plan.specs.seen.Copies.{AreMovesToCome, CanMove, all_targets, region_of};
 ghost use Rattle.zarrs_chunk_plan.specs.seen.Parts.{ArePartsToCome, HasKeys, MeetSubset};
-ghost use Rattle.programs.specs.chunkplan.Line.{group_line, lines_from};
+ghost use Rattle.programs.specs.chunkplan.Line.{group_line, lines_from, resize_lines};
 ghost use Rattle.programs.specs.chunkplan.seen.Pieces.{text_as};
 ghost use Rattle.programs.specs.chunkplan.seen.Steps.{StepLeaves};
 ghost use Rattle.programs.specs.seen.Sent.{output};
 
 use crate::chunkplan::RunFault;
-use crate::chunkplan::line::{Form, LINE_BEGIN, line_end, part_text};
+use crate::chunkplan::line::{Form, LINE_BEGIN, change_line, line_end, part_text};
 use crate::streams::send;
 use crate::watched::Watched;
 use std::alloc::Global;
 use std::io::Write;
 use zarrs_chunk_keys::ChunkKeyEncodingTraits;
-use zarrs_chunk_plan::{ChunkCopies, Copies, Parts};
+use zarrs_chunk_plan::{Changes, ChunkCopies, Copies, Parts};
 use zarrs_chunks::ChunkGridTraits;
 
 /// Sends the text of each part that a walk has left, in one form; the first one has the number `first`.
@@ -88,6 +94,46 @@ pub(crate) fn write_copies<
     let mut number = first;
     for group in walk {
         write_group(alloc, group?, number, of, held_back, writer)?;
+        number = following(number);
+    }
+    Ok(())
+}
+
+/// Sends a line for each change that a walk, which is at its beginning, has to give.
+///
+/// # Errors
+/// As `write_parts`.
+pub(crate) fn write_changes<
+    G: ChunkGridTraits,
+    H: ChunkGridTraits,
+    E: ChunkKeyEncodingTraits,
+    W: Write,
+>(
+    alloc: Global,
+    walk: Changes<'_, G, H, E>,
+    held_back: &mut Vec<u8>,
+    writer: &mut Watched<W>,
+) -> Result<(), RunFault>
+    requires can { CanChange G.dimensions H.dimensions walk }
+    requires used { AllByRecursion (λ chunk. IsUsed (G.dimensions walk.before.now) chunk
+        ⊎ IsUsed (H.dimensions walk.after.now) chunk) (changes_to_come walk) }
+    requires all { all_changes walk ≡ changes_to_come walk }
+    requires fit { AllFit (array_sizes (G.dimensions walk.before.now)) }
+    requires also_fit { AllFit (array_sizes (H.dimensions walk.after.now)) }
+    requires keys { HasKeys (E.is_key walk.encoding.now) }
+    ensures { StepLeaves
+        (λ text. (changes : List ChangeValue)
+        × AreChangesToCome G.dimensions H.dimensions E.is_key walk.entry changes
+        × (text ≡ resize_lines changes))
+        (λ _. ⊥) result
+        (output W.contents held_back.old.items writer.old)
+        (output W.contents held_back.new.items writer.new) }
+{
+    let of = walk.in_all();
+    let mut number = Some(0);
+    for change in walk {
+        let line = change_line(alloc, &change?, number, of)?;
+        send_text(&line, held_back, writer)?;
         number = following(number);
     }
     Ok(())

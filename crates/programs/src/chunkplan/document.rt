@@ -1,14 +1,15 @@
 //! The program's document.
-ghost use Rattle.std.specs.Prelude.{◌≡◌, ◌⊎◌, IsSome, MatchResult, None, Some, codes};
+ghost use Rattle.std.specs.Prelude.{◌≡◌, ◌⊎◌, IsSome, MatchResult, None, Some, codes, map};
 ghost use Rattle.serde_json.specs.Data.{Data};
 ghost use Rattle.serde_json.specs.Find.{get};
 ghost use Rattle.serde_json.specs.View.{view};
 ghost use Rattle.zarrs_chunk_base.specs.Json.{IsJsonOf};
 ghost use Rattle.programs.specs.Document.{HasStored};
 ghost use Rattle.programs.specs.Stored.{stored_of};
-ghost use Rattle.programs.specs.chunkplan.Document.{Fit, FitTask, HasWanted, IsDocument, IsOfArray, IsOfType, IsTask, IsTaskTo, document_of, task_of, wanted_of};
-ghost use Rattle.programs.specs.chunkplan.DocumentFault.{HasWantedFault, IsFormFault, IsInputFault, IsMisfit, IsTargetMisfit, IsTargetStoredFault};
-ghost use Rattle.programs.specs.chunkplan.DocumentFault.{IsTaskFault, IsTaskMisfit, IsTaskToFault, IsTypeMisfit, IsUnknownFault};
+ghost use Rattle.programs.specs.chunkplan.Document.{Fit, FitResize, FitTask, HasNone, HasWanted, IsCopying, IsDocument, IsOfArray, IsOfType, IsTask, IsTaskTo};
+ghost use Rattle.programs.specs.chunkplan.Document.{document_of, task_of, wanted_of};
+ghost use Rattle.programs.specs.chunkplan.DocumentFault.{HasWantedFault, IsCopyingFault, IsFormFault, IsInputFault, IsMisfit, IsTargetMisfit, IsTargetStoredFault};
+ghost use Rattle.programs.specs.chunkplan.DocumentFault.{IsTaskFault, IsTaskMisfit, IsTaskToFault, IsTypeMisfit, IsUnknownFault, TellsFirst};
 ghost use Rattle.programs.specs.chunkplan.Known.{HasOnly, IsFirstUnknown, known_members, zarr_json_members};
 ghost use Rattle.programs.specs.declared.chunkplan.run_fault.RunFault.TheVariants.{Memory, UnknownOfTarget};
 ghost use Rattle.programs.specs.declared.document_fault.DocumentFault.TheVariants.{Memory as DocumentMemory};
@@ -43,7 +44,17 @@ pub(crate) enum Task {
         region: ArraySubset,
         at: Option<Vec<u64>>,
     },
+    /// A resize to this shape, and whether the chunks are wanted too that stay as they are stored.
+    Resize {
+        shape: Vec<u64>,
+        keep: bool,
+    },
 }
+
+/// The members that don't go with a resize, in the order in which they are refused.
+const NOT_OF_RESIZE: [&str; 7] = [
+    "target", "subset", "clip", "chunks", "at", "share", "counts",
+];
 
 /// What is wanted of a plan.
 #[derive(Drop)]
@@ -67,9 +78,9 @@ pub(crate) struct Document {
 ///
 /// # Errors
 /// The first that applies: the input is no JSON, or no object; a member isn't known; one is missing; one doesn't go with the others; one isn't of its
-/// form, of `shape`, `counts`, `share`, `chunk_grid`, `chunk_key_encoding`, and of `subset` and `clip`, of `target` and `chunks`, or of `target`, `subset`
-/// and `at`; before its own members, the target has one that isn't known, or is of another array, or for a region of another data type. Or out of
-/// memory.
+/// form, of `shape`, `counts`, `share`, `chunk_grid`, `chunk_key_encoding`, and of `resize` and `keep`, of `subset` and `clip`, of `target` and `chunks`, or
+/// of `target`, `subset` and `at`; before its own members, the target has one that isn't known, or is of another array, or for a region of another data
+/// type. Or out of memory.
 pub(crate) fn parse(alloc: Global, input: &[u8]) -> Result<Document, RunFault>
     ensures { MatchResult result
         (λ document. (tree : Data) × IsJsonOf input.now tree
@@ -130,9 +141,35 @@ fn check_fitting(tree: &Value) -> Result<(), RunFault>
     ensures { MatchResult result (λ _. Fit (view tree.now))
         (IsMisfit (view tree.now)) }
 {
+    check_fitting_resize(tree)?;
     check_fitting_task(tree)?;
     if tree.get("counts").is_some() && tree.get("share").is_some() {
         return Err(RunFault::ShareOfCounts);
+    }
+    Ok(())
+}
+
+/// Refuses a member that doesn't go with a resize, where there is one, and else `keep`.
+fn check_fitting_resize(tree: &Value) -> Result<(), RunFault>
+    ensures { MatchResult result (λ _. FitResize (view tree.now))
+        (IsMisfit (view tree.now)) }
+{
+    match tree.get("resize") {
+        Some(_) => refuse_each(tree, &NOT_OF_RESIZE),
+        None => refuse(tree, "keep", RunFault::KeepOfNoResize),
+    }
+}
+
+/// Refuses the first of some members that is there, since a resize has none of them.
+fn refuse_each(tree: &Value, fields: &[&'static str]) -> Result<(), RunFault>
+    ensures { MatchResult result
+        (λ _. HasNone (map (λ name. name.now) fields.now) (view tree.now))
+        (TellsFirst (map (λ name. name.now) fields.now) (view tree.now)) }
+{
+    for field in fields {
+        if tree.get(*field).is_some() {
+            return Err(RunFault::NotOfResize(*field));
+        }
     }
     Ok(())
 }
@@ -206,9 +243,23 @@ fn check_known_target(alloc: Global, target: &Value) -> Result<(), RunFault>
 }
 
 /// What a tree asks for.
-fn task_from(alloc: Global, mut tree: Value) -> Result<Task, RunFault>
+fn task_from(alloc: Global, tree: Value) -> Result<Task, RunFault>
     ensures { MatchResult result (λ task. IsTask (view tree) (task_of task))
         (λ fault. (fault ≡ Memory) ⊎ IsTaskFault (view tree) fault) }
+{
+    match member_numbers(alloc, &tree, "resize")? {
+        Some(shape) => {
+            let keep = member_flag(&tree, "keep")?;
+            Ok(Task::Resize { shape, keep })
+        }
+        None => copying_from(alloc, tree),
+    }
+}
+
+/// What is copied, as a tree asks for it: a read, a rechunking or a region.
+fn copying_from(alloc: Global, mut tree: Value) -> Result<Task, RunFault>
+    ensures { MatchResult result (λ task. IsCopying (view tree) (task_of task))
+        (λ fault. (fault ≡ Memory) ⊎ IsCopyingFault (view tree) fault) }
 {
     let Some(target) = take_member(&mut tree, "target") else {
         let subset = member_box(alloc, &tree, "subset")?;

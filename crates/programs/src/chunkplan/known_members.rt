@@ -26,7 +26,7 @@ pub(crate) const ZARR_JSON: [&str; 11] = [
 ];
 
 /// What a document may have.
-pub(crate) const DOCUMENT: [&str; 18] = [
+pub(crate) const DOCUMENT: [&str; 20] = [
     "attributes",
     "chunk_grid",
     "chunk_key_encoding",
@@ -42,6 +42,8 @@ pub(crate) const DOCUMENT: [&str; 18] = [
     "chunks",
     "clip",
     "counts",
+    "keep",
+    "resize",
     "share",
     "subset",
     "target",

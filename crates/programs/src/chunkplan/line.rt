@@ -1,16 +1,17 @@
 //! The text of a line of a plan.
 ghost use Rattle.std.specs.Prelude.{◌≡◌, [], ◌∷◌, ◌++◌, codes, IfOk, OnOk};
 ghost use Rattle.json.specs.Print.{print};
-ghost use Rattle.json.specs.Token.{boolean, key, string};
+ghost use Rattle.json.specs.Token.{boolean, key, null, string};
 ghost use Rattle.json.specs.Tree.{json_tokens};
-ghost use Rattle.programs.specs.chunkplan.Line.{box_json, count_json, line_of, numbers_json, part_json, source_json, target_json};
+ghost use Rattle.programs.specs.chunkplan.Line.{box_json, change_line, change_word, count_json, held_json, held_shape_json, line_of, numbers_json};
+ghost use Rattle.programs.specs.chunkplan.Line.{part_json, source_json, target_json};
 ghost use Rattle.programs.specs.chunkplan.seen.Added.{Adds};
 ghost use Rattle.programs.specs.chunkplan.seen.Pieces.{comma_before, end_of_line, text_as};
 
 use json::{Token, Writer};
 use std::alloc::{AllocError, Global};
 use zarrs_chunk_base::{ArraySubset, StoreKey};
-use zarrs_chunk_plan::{Part, place_in_target};
+use zarrs_chunk_plan::{Change, ChunkChange, Held, Part, place_in_target};
 
 /// How many bytes a line is given room for at first.
 const LINE_LEN: usize = 192;
@@ -121,6 +122,85 @@ pub(crate) fn line_end(
     write_whole(&mut json, to.whole)?;
     json.end_object()?;
     ended(json)
+}
+
+/// The line of the change of a chunk, by its number in its walk.
+///
+/// # Errors
+/// Out of memory.
+pub(crate) fn change_line(
+    alloc: Global,
+    change: &ChunkChange,
+    number: Option<u64>,
+    of: Option<u64>,
+) -> Result<Vec<u8>, AllocError>
+    ensures { IfOk result (λ line. line.items ≡ change_line number of change.now) }
+{
+    let mut json = Writer::new(Vec::with_capacity(alloc, LINE_LEN)?);
+    json.begin_object()?;
+    write_numbers(&mut json, "chunk", change.chunk.as_slice())?;
+    write_key(&mut json, &change.key)?;
+    write_held(&mut json, "now", &change.after)?;
+    write_held_shape(&mut json, "now_shape", &change.after)?;
+    write_count(&mut json, "number", number)?;
+    write_count(&mut json, "of", of)?;
+    write_held(&mut json, "was", &change.before)?;
+    write_held_shape(&mut json, "was_shape", &change.before)?;
+    write_what(&mut json, change.what)?;
+    json.end_object()?;
+    ended(json)
+}
+
+/// Writes a member of this name: what a chunk holds of its array, as a box of it, or `null` where that is nothing.
+fn write_held(json: &mut Writer, name: &str, held: &Option<Held>) -> Result<(), AllocError>
+    ensures { OnOk result (Adds json.old json.new (key name.now
+        ∷ json_tokens (held_json held.now))) }
+{
+    match held {
+        Some(held) => write_box(json, name, &held.elements),
+        None => write_null(json, name),
+    }
+}
+
+/// Writes a member of this name: the shape of a chunk that holds something, or `null` where it holds nothing.
+fn write_held_shape(json: &mut Writer, name: &str, held: &Option<Held>) -> Result<(), AllocError>
+    ensures { OnOk result (Adds json.old json.new (key name.now
+        ∷ json_tokens (held_shape_json held.now))) }
+{
+    match held {
+        Some(held) => write_numbers(json, name, held.shape.as_slice()),
+        None => write_null(json, name),
+    }
+}
+
+/// Writes a member of this name: `null`.
+fn write_null(json: &mut Writer, name: &str) -> Result<(), AllocError>
+    ensures { OnOk result (Adds json.old json.new (key name.now ∷ null ∷ [])) }
+{
+    json.key(name)?;
+    json.token(Token::Null)
+}
+
+/// Writes the member `what`.
+fn write_what(json: &mut Writer, what: Change) -> Result<(), AllocError>
+    ensures { OnOk result (Adds json.old json.new (key (codes "what")
+        ∷ string (change_word what) ∷ [])) }
+{
+    json.key("what")?;
+    json.string(word_of(what))?;
+    Ok(())
+}
+
+/// What becomes of a chunk, in a word.
+fn word_of(what: Change) -> &'static str
+    ensures { result.now ≡ change_word what }
+{
+    match what {
+        Change::Keep => "keep",
+        Change::Rewrite => "rewrite",
+        Change::Delete => "delete",
+        Change::New => "new",
+    }
 }
 
 /// The text of a writer that was begun on nothing, with a line feed.

@@ -2,24 +2,28 @@
 ghost use Rattle.std.specs.Prelude.{◌≡◌, ◌⊎◌, false, IfErr, IfOk, List, length, option_map, replicate, unwrap_or};
 ghost use Rattle.zarrs_chunk_base.specs.ArraySubset.{Box, IsBox};
 ghost use Rattle.zarrs_chunk_base.specs.Dimension.{array_sizes};
+ghost use Rattle.zarrs_chunk_base.specs.Greatest.{AllFit};
 ghost use Rattle.zarrs_chunk_keys.specs.seen.Encodings.{encoding_in};
+ghost use Rattle.zarrs_chunks.specs.GridKinds.{IsGrid};
 ghost use Rattle.zarrs_chunks.specs.seen.Grids.{grid_in};
 ghost use Rattle.zarrs_chunk_plan.specs.Rechunking.{Group, IsRechunking, all_chunks_box, array_box};
+ghost use Rattle.zarrs_chunk_plan.specs.Resize.{AreResized, IsResizePlan};
 ghost use Rattle.zarrs_chunk_plan.specs.declared.part.Part.{Part as PartValue};
+ghost use Rattle.zarrs_chunk_plan.specs.declared.resize.ChunkChange.{ChunkChange as ChangeValue};
 ghost use Rattle.zarrs_chunk_plan.specs.seen.Copies.{AreMovesToCome, CanMove, all_targets, region_of, targets_to_come};
 ghost use Rattle.zarrs_chunk_plan.specs.seen.Parts.{HasKeys};
 ghost use Rattle.programs.specs.Stored.{IsStored, stored_of};
 ghost use Rattle.programs.specs.chunkplan.CountsLine.{IsCountsLine};
 ghost use Rattle.programs.specs.chunkplan.Document.{counts_wanted, document_of, wanted_of};
-ghost use Rattle.programs.specs.chunkplan.Line.{read_lines, rechunking_lines};
-ghost use Rattle.programs.specs.chunkplan.PlanFault.{IsChunksFault, IsCopyFault, IsPlanFault, IsReadFault, IsTargetFault};
+ghost use Rattle.programs.specs.chunkplan.Line.{read_lines, rechunking_lines, resize_lines};
+ghost use Rattle.programs.specs.chunkplan.PlanFault.{IsChunksFault, IsCopyFault, IsPlanFault, IsReadFault, IsResizeFault, IsTargetFault};
 ghost use Rattle.programs.specs.chunkplan.Planned.{IsAsked, IsPlanned, IsReadPlan, IsReadText, IsRechunkingText, IsRegionPlan, IsRegionText};
 ghost use Rattle.programs.specs.chunkplan.seen.Steps.{StepLeaves};
 ghost use Rattle.programs.specs.declared.chunkplan.run_fault.RunFault.TheVariants.{Memory};
 ghost use Rattle.programs.specs.seen.Sent.{output};
 
 use crate::chunkplan::RunFault;
-use crate::chunkplan::copying::{send_text, write_copies, write_parts};
+use crate::chunkplan::copying::{send_text, write_changes, write_copies, write_parts};
 use crate::chunkplan::counting::counts_line;
 use crate::chunkplan::document::{Document, Task, Wanted};
 use crate::chunkplan::line::Form;
@@ -30,16 +34,17 @@ use std::io::Write;
 use zarrs_chunk_base::{ArraySubset, IncompatibleDimensionalityError, Refusal};
 use zarrs_chunk_keys::{ChunkKeyEncoding, ChunkKeyEncodingTraits};
 use zarrs_chunk_plan::{
-    Copies, Counts, Share, StoredArray, all_chunks, copies, copies_of_region, counts_of_read,
-    counts_of_rechunking, counts_of_region, parts, whole_array,
+    Copies, Counts, Share, StoredArray, all_chunks, changes, copies, copies_of_region,
+    counts_of_read, counts_of_rechunking, counts_of_region, parts, whole_array,
 };
 use zarrs_chunks::{ChunkGrid, ChunkGridTraits};
 
 /// Sends the plan that a document asks for, line by line.
 ///
 /// # Errors
-/// The grid or the encoding can't be made, or those of the target; the box has another number of dimensions, or no cover, where it isn't clipped; the
-/// region doesn't fit the two arrays; a write failed; or out of memory. Nothing has been written where it is none of the last two.
+/// The grid or the encoding can't be made, or those of the target, or the grid of the new shape; the box has another number of dimensions, or no cover,
+/// where it isn't clipped; the region doesn't fit the two arrays; a write failed; or out of memory. Nothing has been written
+/// where it is none of the last two.
 pub(crate) fn write_plan<W: Write>(
     alloc: Global,
     document: Document,
@@ -57,13 +62,15 @@ pub(crate) fn write_plan<W: Write>(
         stored,
         task,
     } = document;
-    let array = stored.open(alloc, &shape)?;
+    let array = stored.array(alloc, &shape)?;
     match task {
         Task::Read { subset, clip } => {
+            drop(stored);
             let subset = or_whole_array(alloc, subset, &array.grid)?;
             write_read(alloc, &array, subset, clip, &wanted, held_back, writer)
         }
         Task::Rechunk(target, chunks) => {
+            drop(stored);
             let target = open_target(alloc, target, &shape)?;
             let chunks = or_all_chunks(alloc, chunks, &target.grid)?;
             write_rechunking(alloc, &array, &target, &chunks, &wanted, held_back, writer)
@@ -74,11 +81,16 @@ pub(crate) fn write_plan<W: Write>(
             region,
             at,
         } => {
+            drop(stored);
             let target = open_target(alloc, target, &shape)?;
             let at = or_zeros(alloc, at, region.dimensionality())?;
             write_region(
                 alloc, &array, &target, &region, &at, &wanted, held_back, writer,
             )
+        }
+        Task::Resize { shape, keep } => {
+            let after = resized_grid(alloc, stored, &shape)?;
+            write_resize(alloc, &array, &after, keep, held_back, writer)
         }
     }
 }
@@ -101,6 +113,20 @@ fn open_target(
         Err(CreateFault::Grid(error)) => Err(RunFault::TargetGrid(error)),
         Err(CreateFault::Encoding(error)) => Err(RunFault::TargetEncoding(error)),
         Err(CreateFault::Memory) => Err(RunFault::Memory),
+    }
+}
+
+/// The grid that the array's metadata make of another shape.
+fn resized_grid(alloc: Global, stored: Stored, shape: &[u64]) -> Result<ChunkGrid, RunFault>
+    ensures made { IfOk result (λ grid. IsGrid (stored_of stored).chunk_grid shape.now
+        (grid_in grid)) }
+    ensures refused { IfErr result (λ fault. (fault ≡ Memory)
+        ⊎ IsResizeFault (stored_of stored) shape.now fault) }
+{
+    match ChunkGrid::from_metadata(alloc, &stored.chunk_grid, shape) {
+        Ok(grid) => Ok(grid),
+        Err(Refusal::Refused(error)) => Err(RunFault::ResizedGrid(error)),
+        Err(Refusal::Memory(_)) => Err(RunFault::Memory),
     }
 }
 
@@ -555,4 +581,41 @@ fn write_moves<
         Err(Refusal::Refused(error)) => Err(RunFault::from(error)),
         Err(Refusal::Memory(_)) => Err(RunFault::Memory),
     }
+}
+
+/// Sends the plan of a resize: a line for each chunk that changes, or also for each that is kept.
+fn write_resize<G: ChunkGridTraits, E: ChunkKeyEncodingTraits, H: ChunkGridTraits, W: Write>(
+    alloc: Global,
+    array: &StoredArray<G, E>,
+    after: &H,
+    keep: bool,
+    held_back: &mut Vec<u8>,
+    writer: &mut Watched<W>,
+) -> Result<(), RunFault>
+    requires resized { AreResized (G.dimensions array.now.grid) (H.dimensions after.now) }
+    requires keys { HasKeys (E.is_key array.now.encoding) }
+    ensures { StepLeaves
+        (λ text. (changes : List ChangeValue)
+        × IsResizePlan (G.dimensions array.now.grid) (H.dimensions after.now)
+        (E.is_key array.now.encoding) keep changes
+        × (text ≡ resize_lines changes))
+        (λ _. ⊥) result
+        (output W.contents held_back.old.items writer.old)
+        (output W.contents held_back.new.items writer.new) }
+{
+    fit(array.grid.array_shape());
+    fit(after.array_shape());
+    match changes(alloc, &array.grid, after, &array.encoding, keep) {
+        Ok(walk) => write_changes(alloc, walk, held_back, writer),
+        // Never: a resize keeps the number of dimensions.
+        Err(Refusal::Refused(_)) => unreachable!(),
+        Err(Refusal::Memory(_)) => Err(RunFault::Memory),
+    }
+}
+
+/// A law: the sizes are numbers of 64 bits.
+fn fit(sizes: &[u64])
+    ensures { AllFit sizes.now }
+{
+    let _ = sizes;
 }

@@ -56,6 +56,12 @@ pub enum RunFault {
     /// The document has a share, and asks for counts.
     #[error("field `share` is for lines: leave out `counts`, or leave it out")]
     ShareOfCounts,
+    /// The document has a member that doesn't go with a resize.
+    #[error("field `{0}` isn't for a resize: leave it out, or leave out `resize`")]
+    NotOfResize(&'static str),
+    /// The document says whether kept chunks are wanted, and has no resize.
+    #[error("field `keep` is for a resize: give `resize` too, or leave it out")]
+    KeepOfNoResize,
     /// A member of the target isn't known.
     #[error("field `target`: {0}")]
     UnknownOfTarget(UnknownMember),
@@ -77,6 +83,9 @@ pub enum RunFault {
     /// The target's chunk key encoding can't be made.
     #[error("field `target`: {0}")]
     TargetEncoding(PluginCreateError),
+    /// The document's chunk grid can't be made of the new shape.
+    #[error("field `resize`: {0}")]
+    ResizedGrid(PluginCreateError),
     /// The box of elements has another number of dimensions than the array.
     #[error("field `subset`: {0}")]
     SubsetDimensionality(IncompatibleDimensionalityError),

@@ -2,7 +2,7 @@
 use Rattle.std.specs.Prelude.{ℕ, ◌-◌, ◌&&◌, List, cond, map, nat_eq}
 use Rattle.std.specs.List.{zip}
 
--- all of them, or all but the last, where its edges or the elements that it holds are not as many in both arrays
+-- all of them, or all but the last, where its edge, or how many elements it holds, differs
 abbrev pub kept_size : (both edge next_edge count next_count : ℕ) → ℕ
 kept_size both edge next_edge count next_count = cond (nat_eq edge next_edge && nat_eq count next_count) both (both - 1)
 

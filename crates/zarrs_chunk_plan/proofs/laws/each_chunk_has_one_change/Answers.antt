@@ -12,11 +12,11 @@ pub returns-clause-nothing_else : goal.returns-clause-nothing_else
 returns-clause-nothing_else g c = λ keeps changes plan. is_asked _ _ _ keeps changes plan
 
 pub returns-clause-one_key : goal.returns-clause-one_key
-returns-clause-one_key g c = λ resized keeps changes plan.
+returns-clause-one_key g c = λ same keeps changes plan.
     let sizes = rw c.array_shape.ensures at c.all_fit.ensures in
     let next_sizes = rw c.array_shape-2.ensures at c.all_fit-2.ensures in
     change_keys_differ _ _ _ keeps changes plan (g.met.G.ChunkGridTraits.chained c.args.before.now)
-    (g.met.H.ChunkGridTraits.chained c.args.after.now) sizes next_sizes resized (g.met.E.ChunkKeyEncodingTraits.exact c.args.encoding.now)
+    (g.met.H.ChunkGridTraits.chained c.args.after.now) sizes next_sizes same (g.met.E.ChunkKeyEncodingTraits.exact c.args.encoding.now)
 
 pub returns-clause-no_other : goal.returns-clause-no_other
 returns-clause-no_other g c = λ chunk. one_what _ _ chunk

@@ -5,5 +5,7 @@ use Rattle.programs.proofs.chunkplan.document.check_fitting.Goals as goal
 
 pub returns-in_err-check_fitting_task : goal.returns-in_err-check_fitting_task
 returns-in_err-check_fitting_task c =
-    let p = err_from_is_err_and c.from_residual.result c.from_residual.ensures.1 in
-    rw (p.1, p.2) (task_misfit (view c.args.tree.now) c.in_err-check_fitting_task.field-0.0 c.in_err-check_fitting_task.ensures)
+    let p = err_from_is_err_and c.from_residual-in_err-check_fitting_task.result c.from_residual-in_err-check_fitting_task.ensures.1 in
+    rw (p.1, p.2)
+    (task_misfit (view c.args.tree.now) c.in_err-check_fitting_task.field-0.0 c.in_ok-check_fitting_resize.ensures
+    c.in_err-check_fitting_task.ensures)

@@ -5,11 +5,13 @@ use Rattle.zarrs_chunk_keys.specs.seen.Encodings.{encoding_in}
 use Rattle.zarrs_chunk_keys.proofs.OneKey.{has_key}
 use Rattle.zarrs_chunks.specs.seen.Grids.{grid_in}
 use Rattle.zarrs_chunk_plan.specs.Rechunking.{IsRechunking}
+use Rattle.zarrs_chunk_plan.proofs.OneConfiguration.{one_configuration}
 use Rattle.programs.specs.Stored.{stored_of}
 use Rattle.programs.specs.chunkplan.Document.{document_of, task_of}
 use Rattle.programs.specs.chunkplan.PlanFault.{IsChunksFault, IsCopyFault, IsPlanFault, IsReadFault, of_chunks, of_region_target, of_source, of_subset}
-use Rattle.programs.specs.chunkplan.PlanFault.{of_region as of_region_fault, of_target}
+use Rattle.programs.specs.chunkplan.PlanFault.{of_region as of_region_fault, of_resize as of_resize_fault, of_target}
 use Rattle.programs.specs.chunkplan.Planned.{IsAsked, IsPlanned, IsRechunkingText, IsRegionPlan, IsRegionText, begins_at, of_read, of_rechunking, of_region}
+use Rattle.programs.specs.chunkplan.Planned.{of_resize}
 use Rattle.programs.specs.chunkplan.RunFault.{of_create}
 use Rattle.programs.specs.seen.Sent.{output}
 use Rattle.programs.proofs.chunkplan.RunOutcomes.{no_failed_write}
@@ -32,6 +34,16 @@ write_region-requires-clause-keys g c = has_key (encoding_in c.in_ok-array.array
 
 pub write_region-requires-clause-target_keys : goal.write_region-requires-clause-target_keys
 write_region-requires-clause-target_keys g c = has_key (encoding_in c.in_ok-target-in-Copy.target.encoding)
+
+pub write_resize-requires-clause-keys : goal.write_resize-requires-clause-keys
+write_resize-requires-clause-keys g c = has_key (encoding_in c.in_ok-array.array.encoding)
+
+-- ---- both grids of a resize are made of one configuration
+
+pub write_resize-requires-clause-resized : goal.write_resize-requires-clause-resized
+write_resize-requires-clause-resized g c =
+    one_configuration (stored_of c.args.document.stored).chunk_grid _ _ (grid_in c.in_ok-array.array.grid) (grid_in c.in_ok-after-in-Resize.after)
+    c.in_ok-array.ensures.made.is_grid c.in_ok-after-in-Resize.ensures.made
 
 -- ---- what is sent, and why it stops
 
@@ -116,8 +128,8 @@ returns-in_err-target-in-Copy g c =
     (grid_in c.in_ok-array.array.grid) (encoding_in c.in_ok-array.array.encoding) (ap task_of c.in-Copy.is) made is))
     refused))
 
-pub returns : goal.returns
-returns g c =
+pub returns-in-Copy : goal.returns-in-Copy
+returns-in-Copy g c =
     let made = rw c.deref.ensures.value at c.in_ok-array.ensures.made in
     let made_target = rw c.deref-in-Copy.ensures.value at c.in_ok-target-in-Copy.ensures.made in
     let source = grid_in c.in_ok-array.array.grid in
@@ -141,3 +153,31 @@ returns g c =
     (output g.W.Write.contents c.args.held_back.now.items c.args.writer.now)
     (output g.W.Write.contents c.write_region.new.held_back.items c.write_region.new.writer)
     c.write_region.result c.write_region.ensures
+
+pub returns-in_err-after-in-Resize : goal.returns-in_err-after-in-Resize
+returns-in_err-after-in-Resize g c =
+    let p = err_from_is_err_and c.from_residual-in_err-after-in-Resize.result c.from_residual-in_err-after-in-Resize.ensures.1 in
+    let made = rw c.deref.ensures.value at c.in_ok-array.ensures.made in
+    let document = document_of c.args.document in
+    let refused = rw c.deref-in-Resize.ensures.value at c.in_err-after-in-Resize.ensures.refused in
+    rw (p.1, p.2)
+    (early (IsPlanned document) (IsPlanFault document) _
+    (output g.W.Write.contents c.args.held_back.now.items c.args.writer.now)
+    (no_failed_write document)
+    (⊎_elim (λ memory. inl memory)
+    (λ is. inr (of_resize_fault c.in-Resize.shape.items c.in-Resize.keep (grid_in c.in_ok-array.array.grid) (encoding_in c.in_ok-array.array.encoding)
+    (ap task_of c.in-Resize.is) made is))
+    refused))
+
+pub returns : goal.returns
+returns g c =
+    let made = rw c.deref.ensures.value at c.in_ok-array.ensures.made in
+    let made_after = rw c.deref-in-Resize.ensures.value at c.in_ok-after-in-Resize.ensures.made in
+    let document = document_of c.args.document in
+    step_follows _ (IsPlanned document) (λ _. ⊥) (IsPlanFault document)
+    (λ text (changes, plan, lines). of_resize c.in-Resize.shape.items c.in-Resize.keep (grid_in c.in_ok-array.array.grid)
+    (grid_in c.in_ok-after-in-Resize.after) (encoding_in c.in_ok-array.array.encoding) changes (ap task_of c.in-Resize.is) made made_after plan lines)
+    (λ fault none. absurd none)
+    (output g.W.Write.contents c.args.held_back.now.items c.args.writer.now)
+    (output g.W.Write.contents c.write_resize.new.held_back.items c.write_resize.new.writer)
+    c.write_resize.result c.write_resize.ensures

@@ -1,6 +1,6 @@
 use Rattle.std.proofs.Common.{inr}
 use Rattle.zarrs_chunks.specs.seen.Grids.{grid_in, kind_in}
-use Rattle.programs.proofs.stored.Stored.open.Goals as goal
+use Rattle.programs.proofs.stored.Stored.array.Goals as goal
 
 pub returns-in-Err-Refused-clause-refused : goal.returns-in-Err-Refused-clause-refused
 returns-in-Err-Refused-clause-refused c =

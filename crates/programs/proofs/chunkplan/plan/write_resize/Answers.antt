@@ -1,0 +1,47 @@
+use Rattle.zarrs_chunk_plan.specs.seen.Changes.{changes_to_come}
+use Rattle.zarrs_chunk_plan.proofs.SomeResizes.{asked_are_used}
+use Rattle.programs.specs.seen.Sent.{output}
+use Rattle.programs.proofs.chunkplan.Steps.{step_follows}
+use Rattle.programs.proofs.chunkplan.plan.write_resize.Goals as goal
+
+pub write_changes-requires-clause-can : goal.write_changes-requires-clause-can
+write_changes-requires-clause-can g c = c.in-Ok.ensures.can_change c.requires.resized
+
+pub write_changes-requires-clause-used : goal.write_changes-requires-clause-used
+write_changes-requires-clause-used g c =
+    let about = c.in-Ok.ensures.about in
+    rw (about.same_before, about.same_after)
+    (asked_are_used (g.G.ChunkGridTraits.dimensions c.args.array.now.grid) (g.H.ChunkGridTraits.dimensions c.args.after.now) c.args.keep
+    (changes_to_come c.in-Ok.walk) (c.in-Ok.ensures.changed c.requires.resized))
+
+pub write_changes-requires-clause-fit : goal.write_changes-requires-clause-fit
+write_changes-requires-clause-fit g c =
+    let about = c.in-Ok.ensures.about in
+    rw about.same_before (rw c.array_shape.ensures at c.fit.ensures)
+
+pub write_changes-requires-clause-also_fit : goal.write_changes-requires-clause-also_fit
+write_changes-requires-clause-also_fit g c =
+    let about = c.in-Ok.ensures.about in
+    rw about.same_after (rw c.array_shape-2.ensures at c.fit-2.ensures)
+
+pub write_changes-requires-clause-keys : goal.write_changes-requires-clause-keys
+write_changes-requires-clause-keys g c = rw c.in-Ok.ensures.about.same_encoding c.requires.keys
+
+pub returns-in-Ok : goal.returns-in-Ok
+returns-in-Ok g c =
+    let walk = c.in-Ok.walk in
+    let about = c.in-Ok.ensures.about in
+    step_follows _ _ (λ _. ⊥) (λ _. ⊥)
+    (λ text (changes, are, lines). (
+      changes,
+      record {
+        chunks = changes_to_come walk;
+        are_chunks = c.in-Ok.ensures.changed c.requires.resized;
+        are_changes = rw (about.same_before, about.same_after, about.same_encoding) at are;
+      },
+      lines,
+    ))
+    (λ fault none. none)
+    (output g.W.Write.contents c.args.held_back.now.items c.args.writer.now)
+    (output g.W.Write.contents c.write_changes.new.held_back.items c.write_changes.new.writer)
+    c.write_changes.result c.write_changes.ensures
