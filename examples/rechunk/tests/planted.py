@@ -85,6 +85,9 @@ PLANTED = [
         "regions.py copies",
     ),
     ("a region's chunks are counted from the array's first", [("region.py", " + step - first", " + step")], "regions.py copies"),
+    ("elements that left stay in a chunk at the border", [("resize_array.py", "    chunk[kept] = elements[kept]\n", "    chunk[...] = elements\n")], "resizes.py resizes"),
+    ("a chunk that is new keeps what was there", [("resize_array.py", 'in ("delete", "new")', 'in ("delete",)'), ("resize_array.py", '    else:\n        raise', '    elif line["what"] != "new":\n        raise')], "resizes.py faults"),
+    ("an array only shrinks", [("resize_array.py", "    if shape != smaller:", "    if False:")], "resizes.py resizes"),
     ("the cache has no bound", [("copy_chunks.py", "while self.size > self.most:", "while False:")], "moves.py worker"),
 ]
 
