@@ -104,10 +104,10 @@ fn check_changes(
     let walk = changes(alloc, &before.grid, &after.grid, &before.encoding, keeps)?;
     let in_all = walk.in_all();
     let mut lines = String::new(alloc);
-    let mut count = 0;
+    let mut count = 0u64;
     for change in walk {
         append_change(alloc, &mut lines, &change?)?;
-        count += 1;
+        count = count.saturating_add(1);
     }
     assert!(rt;
         lines.as_str() == expected,
