@@ -1,7 +1,7 @@
 -- The chunks that a walk over the changes of a resize has left.
-use Rattle.std.proofs.Common.{◌≡◌, ◌≢◌, ◌↔◌, ◌⊎◌, ◌∙◌, ℕ, zero, suc, ◌+◌, ◌<◌, ◌≤◌, ◌^◌, List, [], ◌∷◌, Contains, Some, None, Option, length, zip}
+use Rattle.std.proofs.Common.{◌≡◌, ◌≢◌, ◌↔◌, ◌∙◌, ℕ, suc, ◌+◌, ◌<◌, ◌≤◌, ◌^◌, List, [], ◌∷◌, Some, None, Option, length, zip}
 use Rattle.std.proofs.Common.{length-append, Bool, IsTrue, true, false, drop, get_or, is_some, map, ◌++◌}
-use Rattle.std.proofs.Common.{refl, ap, inl, inr, subst, sym, ⊎_elim, arith}
+use Rattle.std.proofs.Common.{refl, ap, subst, sym, ⊎_elim, arith}
 use Rattle.std.proofs.Math.ListN.{drop_of_length-le}
 use Rattle.std.proofs.Math.Seq.{drop-cons}
 use Rattle.std.proofs.lemmas.Bool.{true≢false}
@@ -9,7 +9,7 @@ use Rattle.std.proofs.lemmas.List.{nil_from_length}
 use Rattle.std.proofs.lemmas.Option.{none-some, same_Some}
 use Rattle.std.specs.List.{AllByRecursion}
 use Rattle.std.specs.Option.{SomeIff}
-use Rattle.zarrs_chunk_base.specs.ArraySubset.{Box, IsBox, IsEmptyBox}
+use Rattle.zarrs_chunk_base.specs.ArraySubset.{Box, IsEmptyBox}
 use Rattle.zarrs_chunk_base.specs.Dimension.{Dimension}
 use Rattle.zarrs_chunk_base.specs.Greatest.{greatest}
 use Rattle.zarrs_chunk_axes.specs.InBounds.{AreBelow}

@@ -1,5 +1,5 @@
 -- What a chunk holds of the whole array, as a box of the array.
-use Rattle.std.proofs.Common.{◌≡◌, ◌↔◌, ◌∙◌, ℕ, ◌+◌, ◌-◌, ◌<◌, ◌≤◌, IsTrue, List, [], ◌∷◌, length, min, ap, ap₂, subst, sym, arith}
+use Rattle.std.proofs.Common.{◌≡◌, ◌↔◌, ◌∙◌, ℕ, ◌+◌, ◌-◌, ◌<◌, ◌≤◌, IsTrue, List, [], ◌∷◌, length, min, ap, ap₂, sym, arith}
 use Rattle.zarrs_chunk_base.specs.ArraySubset.{Box, IsInside}
 use Rattle.zarrs_chunk_base.specs.Dimension.{Dimension, Holds, InBox, array_sizes}
 use Rattle.zarrs_chunk_base.proofs.Boxes.{within_lengths}

@@ -1,17 +1,15 @@
 -- Which chunks a resize keeps, dimension by dimension.
-use Rattle.std.proofs.Common.{◌≡◌, ◌≢◌, ◌↔◌, ◌⊎◌, ◌∙◌, ℕ, zero, suc, ◌+◌, ◌-◌, ◌<◌, ◌≤◌, IsTrue, List, [], ◌∷◌, Contains, length, map, min}
-use Rattle.std.proofs.Common.{refl, ap, ap₂, inl, inr, subst, sym, ⊎_elim, arith, true, false}
+use Rattle.std.proofs.Common.{◌≡◌, ◌↔◌, ◌∙◌, ℕ, zero, suc, ◌+◌, ◌-◌, ◌<◌, ◌≤◌, List, [], ◌∷◌, Contains, length, map, min}
+use Rattle.std.proofs.Common.{refl, ap, ap₂, subst, sym, ⊎_elim, arith}
 use Rattle.std.proofs.lemmas.Bool.{cases_lt}
 use Rattle.std.proofs.lemmas.Bool.Decides.{eqb_tells}
 use Rattle.std.specs.List.{AllByRecursion, AllZip}
-use Rattle.zarrs_chunk_base.specs.ArraySubset.{Box, IsInside}
-use Rattle.zarrs_chunk_base.specs.Dimension.{Dimension, Holds, InBox, IsChain, IsShape, array_sizes}
+use Rattle.zarrs_chunk_base.specs.ArraySubset.{Box}
+use Rattle.zarrs_chunk_base.specs.Dimension.{Dimension, InBox, IsChain, IsShape, array_sizes}
 use Rattle.zarrs_chunk_axes.specs.InBounds.{AreBelow}
 use Rattle.zarrs_chunks.specs.Walks.{starts_at}
 use Rattle.zarrs_chunks.proofs.Chains.{apart, earlier_has}
 use Rattle.zarrs_chunks.proofs.Covers.{head_some, tail_some}
-use Rattle.zarrs_chunk_plan.specs.Plan.{Meets}
-use Rattle.zarrs_chunk_plan.specs.Rechunking.{array_box}
 use Rattle.zarrs_chunk_plan.specs.Resize.{AreResized, HasElementOf, IsHeld, IsKept, IsResized, IsUsed}
 use Rattle.zarrs_chunk_plan.specs.declared.resize.Held.{Held}
 use Rattle.zarrs_chunk_plan.specs.seen.Outside.{lesser}

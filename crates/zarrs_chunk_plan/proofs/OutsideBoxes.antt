@@ -1,11 +1,11 @@
 -- The boxes of the chunks that are below one list of numbers and not below another.
-use Rattle.std.proofs.Common.{◌≡◌, ◌≢◌, ◌↔◌, ◌⊎◌, ◌∙◌, ℕ, zero, suc, ◌+◌, ◌-◌, ◌<◌, ◌≤◌, IsTrue, true, false, List, [], ◌∷◌, ◌++◌, Contains, get_or, length}
+use Rattle.std.proofs.Common.{◌≡◌, ◌≢◌, ◌↔◌, ◌⊎◌, ◌∙◌, ℕ, zero, suc, ◌+◌, ◌-◌, ◌<◌, ◌≤◌, true, false, List, [], ◌∷◌, ◌++◌, Contains, get_or, length}
 use Rattle.std.proofs.Common.{Bool, append-nil, length-set, replicate, set, refl, ap, inl, inr, subst, sym, ⊎_elim, arith}
 use Rattle.std.proofs.lemmas.Bool.{cases_lt, true≢false}
 use Rattle.std.proofs.lemmas.Grind.{flat_map-append, same_number_lists}
 use Rattle.std.proofs.lemmas.List.{get_or-set_other, get_or-set_same}
 use Rattle.std.proofs.lemmas.List.Elements.{Contains-append_cases, Contains-append_left, Contains-append_right}
-use Rattle.std.specs.List.{AllPairs, AllZip}
+use Rattle.std.specs.List.{AllZip}
 use Rattle.zarrs_chunk_base.specs.ArraySubset.{AreWithin, Box, IsBox, IsInside}
 use Rattle.zarrs_chunk_axes.specs.InBounds.{AreBelow}
 use Rattle.zarrs_chunks.specs.Walks.{chunks_in}

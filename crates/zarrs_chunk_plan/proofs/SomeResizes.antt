@@ -1,16 +1,14 @@
 -- Where each chunk has a key, each chunk that one of a resize's arrays uses has a change; and the changes that came of a walk, one for each chunk that
 -- came, are at the end all that were to come.
-use Rattle.std.proofs.Common.{◌≡◌, ◌⊎◌, ◌∙◌, ℕ, ◌<◌, ◌≤◌, List, [], ◌∷◌, ◌++◌, Option, Some, None, Ok, length, replicate, inl, inr, ap, refl, subst, sym}
+use Rattle.std.proofs.Common.{◌≡◌, ◌⊎◌, ◌∙◌, ℕ, ◌≤◌, List, [], ◌∷◌, ◌++◌, Option, Some, None, Ok, length, replicate, ap, refl, subst, sym}
 use Rattle.std.proofs.Common.{append-nil, append_assoc, map, Bool, Result, ⊎_elim, arith}
 use Rattle.std.specs.declared.alloc.AllocError.{AllocError}
-use Rattle.std.proofs.lemmas.Bool.{cases_lt}
 use Rattle.std.proofs.lemmas.List.{length-map, length-replicate}
 use Rattle.std.specs.Iterator.{Drains, Yields}
 use Rattle.std.specs.List.{AllByRecursion, AllZip}
 use Rattle.zarrs_chunk_base.specs.ArraySubset.{IsBox, ends}
 use Rattle.zarrs_chunk_base.specs.Dimension.{Dimension, IsChain, array_sizes}
 use Rattle.zarrs_chunk_base.specs.Greatest.{AllFit, greatest}
-use Rattle.zarrs_chunk_axes.specs.InBounds.{AreBelow}
 use Rattle.zarrs_chunk_plan.specs.Rechunking.{array_box}
 use Rattle.zarrs_chunk_plan.specs.Resize.{AreChanged, IsChange, IsHeld, IsUsed}
 use Rattle.zarrs_chunk_plan.specs.declared.chunk_changes.Changes.{Changes}

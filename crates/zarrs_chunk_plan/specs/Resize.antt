@@ -1,9 +1,9 @@
 -- An array that gets another shape: which of its chunks stay as they are stored, and which don't. What each chunk holds is said of two grids, that of
 -- the array as it was and that of the array as it is to be.
 -- Sources: Zarr V3 core, chunk grids and chunk key encodings; the plan of a resize is this library's own.
-use Rattle.std.specs.Prelude.{◌≡◌, ◌≢◌, ◌↔◌, ◌⊎◌, ◌<◌, ℕ, Bool, IsTrue, List, Option, Some, None, MatchOption}
+use Rattle.std.specs.Prelude.{◌≡◌, ◌≢◌, ◌↔◌, ◌⊎◌, ◌<◌, ℕ, Bool, IsTrue, List, Option, MatchOption}
 use Rattle.std.specs.List.{AllPairs, AllZip, Contains}
-use Rattle.zarrs_chunk_base.specs.ArraySubset.{Box, IsBox, IsInside}
+use Rattle.zarrs_chunk_base.specs.ArraySubset.{IsBox, IsInside}
 use Rattle.zarrs_chunk_base.specs.Dimension.{Dimension, Holds, InBox, IsShape, array_sizes}
 use Rattle.zarrs_chunk_axes.specs.InBounds.{AreBelow}
 use Rattle.zarrs_chunk_plan.specs.Plan.{Meets}

@@ -1,5 +1,5 @@
 -- Chunks that are below one list of numbers and not below another.
-use Rattle.std.specs.Prelude.{◌≡◌, ◌≢◌, ◌⊎◌, ℕ, Bool, IsTrue, List, map, min}
+use Rattle.std.specs.Prelude.{◌≢◌, ◌⊎◌, ℕ, Bool, IsTrue, List, map, min}
 use Rattle.std.specs.List.{AllPairs, flat_map, zip}
 use Rattle.zarrs_chunk_base.specs.ArraySubset.{Box}
 use Rattle.zarrs_chunk_axes.specs.InBounds.{AreBelow}

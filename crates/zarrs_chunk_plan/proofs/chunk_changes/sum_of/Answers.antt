@@ -1,5 +1,4 @@
-use Rattle.std.proofs.Common.{◌≡◌, ◌+◌, ◌≤◌, ◌∙◌, Some, None, refl, ap, sym, rules, arith}
-use Rattle.zarrs_chunk_base.specs.Greatest.{greatest}
+use Rattle.std.proofs.Common.{◌≡◌, ◌+◌, ◌∙◌, ap, sym, arith}
 use Rattle.zarrs_chunk_plan.specs.Counted.{counted}
 use Rattle.zarrs_chunk_plan.proofs.ChunksChanged.{counted_is, not_counted, sum_counted}
 use Rattle.zarrs_chunk_plan.proofs.chunk_changes.sum_of.Goals as goal

@@ -1,4 +1,4 @@
-use Rattle.std.proofs.Common.{◌≡◌, ◌-◌, ◌+◌, suc, arith, subst}
+use Rattle.std.proofs.Common.{◌≡◌, ◌-◌, suc, arith, subst}
 use Rattle.zarrs_chunk_plan.proofs.OutsideBoxes.{HasGrown, are_outside, grown_more, not_grown}
 use Rattle.zarrs_chunk_plan.proofs.outside.outside.Goals as goal
 

@@ -1,5 +1,4 @@
-use Rattle.std.proofs.Common.{◌≡◌, ◌∷◌, [], sym}
-use Rattle.zarrs_chunk_plan.proofs.OutsideBoxes.{all_told, all_told_once, others_told}
+use Rattle.zarrs_chunk_plan.proofs.OutsideBoxes.{all_told, all_told_once}
 use Rattle.zarrs_chunk_plan.proofs.resize.boxes_before.Goals as goal
 
 pub returns-clause-those : goal.returns-clause-those

@@ -1,4 +1,4 @@
-use Rattle.std.proofs.Common.{◌≡◌, sym}
+use Rattle.std.proofs.Common.{sym}
 use Rattle.zarrs_chunk_plan.proofs.Kept.{lesser_second}
 use Rattle.zarrs_chunk_plan.proofs.OutsideBoxes.{told_of, told_once}
 use Rattle.zarrs_chunk_plan.proofs.resize.boxes_of_changes.Goals as goal

@@ -1,4 +1,3 @@
-use Rattle.std.proofs.Common.{◌≡◌}
 use Rattle.zarrs_chunk_plan.proofs.AskedChunks.{are_changed}
 use Rattle.zarrs_chunk_plan.proofs.resize.changes.Goals as goal
 

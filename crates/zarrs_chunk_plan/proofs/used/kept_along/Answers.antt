@@ -1,7 +1,5 @@
-use Rattle.std.proofs.Common.{◌≡◌, ◌∙◌, ◌≤◌, Contains, IsTrue, ap, length, map, subst, sym, rules}
+use Rattle.std.proofs.Common.{◌≡◌, ◌∙◌, ◌≤◌, Contains, length, sym, rules}
 use Rattle.std.specs.List.{AllZip}
-use Rattle.zarrs_chunk_plan.specs.seen.Outside.{lesser}
-use Rattle.zarrs_chunk_plan.specs.seen.Used.{kept_sizes}
 use Rattle.zarrs_chunk_plan.proofs.Kept.{kept_are, kept_at_most, lesser_first, none_kept}
 use Rattle.std.proofs.lemmas.Bool.{true≢false}
 use Rattle.zarrs_chunk_plan.proofs.used.kept_along.Goals as goal

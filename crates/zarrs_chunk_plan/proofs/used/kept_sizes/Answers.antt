@@ -1,4 +1,4 @@
-use Rattle.std.proofs.Common.{rules, zip, ◌≡◌, map, tests}
+use Rattle.std.proofs.Common.{rules, ◌≡◌, tests}
 use Rattle.std.proofs.lemmas.Iterator.{YieldsList-from_map, YieldsList-from_slice, YieldsList-from_zip}
 use Rattle.std.proofs.lemmas.Iterator.Adapters.{items_from_extend}
 use Rattle.std.proofs.lemmas.Iterator.Consumers.{YieldsList-at}

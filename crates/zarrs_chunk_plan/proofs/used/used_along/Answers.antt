@@ -1,4 +1,4 @@
-use Rattle.std.proofs.Common.{◌≡◌, ◌∙◌, length, replicate, ap, subst, sym}
+use Rattle.std.proofs.Common.{◌≡◌, ◌∙◌, length, ap, subst, sym}
 use Rattle.std.proofs.lemmas.List.{length-replicate}
 use Rattle.zarrs_chunk_plan.proofs.BoxCover.{below_from_zero}
 use Rattle.zarrs_chunk_base.specs.ArraySubset.{AreWithin}

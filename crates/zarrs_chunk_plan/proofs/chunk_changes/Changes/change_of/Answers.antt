@@ -1,4 +1,4 @@
-use Rattle.std.proofs.Common.{◌≡◌, ◌∙◌, ap, refl, sym}
+use Rattle.std.proofs.Common.{◌∙◌, refl, sym}
 use Rattle.zarrs_chunk_plan.proofs.ChunksChanged.{becomes}
 use Rattle.zarrs_chunk_plan.proofs.chunk_changes.Changes.change_of.Goals as goal
 

@@ -1,4 +1,4 @@
-use Rattle.std.proofs.Common.{◌≡◌, ◌+◌, ◌∙◌, arith, refl, length, ap, sym}
+use Rattle.std.proofs.Common.{◌+◌, ◌∙◌, arith, refl, length, ap, sym}
 use Rattle.zarrs_chunk_plan.specs.Counted.{counted}
 use Rattle.zarrs_chunk_axes.specs.RowMajor.{row_major}
 use Rattle.zarrs_chunk_plan.proofs.ChunksChanged.{all_counted, one_box_counted, zero_counted}

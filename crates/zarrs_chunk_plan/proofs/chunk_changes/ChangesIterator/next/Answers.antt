@@ -1,4 +1,4 @@
-use Rattle.std.proofs.Common.{◌≡◌, ◌∷◌, ◌∙◌, ap, refl, subst, sym}
+use Rattle.std.proofs.Common.{◌∷◌, ◌∙◌, ap, subst, sym}
 use Rattle.zarrs_chunk_plan.specs.seen.Changes.{CanChange, changes_to_come}
 use Rattle.zarrs_chunk_plan.specs.seen.Outside.{chunks_of_boxes}
 use Rattle.zarrs_chunk_plan.specs.Resize.{IsChange}
