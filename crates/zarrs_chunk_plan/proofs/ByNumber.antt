@@ -59,7 +59,7 @@ pub length-shape : (size : ℕ) (shape : List ℕ) → length (row_major (size �
 unfolding row_major
 length-shape size shape = length-rows 0 size (row_major shape)
 
-some_of : {X Y : Type 0} (f : X → Y) (o : Option X) (y : Y) → option_map f o ≡ Some y → (x : X) × (o ≡ Some x) × (f x ≡ y)
+pub some_of : {X Y : Type 0} (f : X → Y) (o : Option X) (y : Y) → option_map f o ≡ Some y → (x : X) × (o ≡ Some x) × (f x ≡ y)
 some_of f None y is = cc
 some_of f (Some x) y is = (x, refl, cc)
 

@@ -12,10 +12,12 @@ pub mod CountedCopies
 pub mod CountedGroups
 pub mod CountedParts
 pub mod CountedRegions
+pub mod FromNumber
 pub mod HeldBoxes
 pub mod InPlace
 pub mod Joined
 pub mod Kept
+pub mod MarkedChunks
 pub mod MetChunks
 pub mod MetCovers
 pub mod MovedBoxes

@@ -9,5 +9,6 @@ pub mod Shares
 pub mod SomeChunks
 pub mod SomeCopies
 pub mod SomeParts
+pub mod StoredChunks
 pub mod lemmas
 pub mod seen

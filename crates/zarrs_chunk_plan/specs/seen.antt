@@ -7,5 +7,6 @@ pub mod Parts
 pub mod ReadCounts
 pub mod Shared
 pub mod Sources
+pub mod StoredChunks
 pub mod TargetCounts
 pub mod Used

@@ -25,7 +25,7 @@ pub struct ChunkCopies<'a, G, E> {
 /// What a rechunking copies, or what is copied of a region, a chunk of the target after another, in row-major order of these chunks.
 ///
 /// A group is made when it is asked for, and so is each of its parts. After an `Err` or the end the walk gives nothing more, until it goes to a
-/// [`share`](Copies::share).
+/// [`share`](Copies::share) or [to a chunk](Copies::skip_to).
 #[derive(Debug, Drop)]
 pub struct Copies<'a, G, E, H, F> {
     alloc: Global,
@@ -60,10 +60,17 @@ impl<'a, G, E, H, F> Copies<'a, G, E, H, F> {
 }
 
 impl<'a, G, E, H: ChunkGridTraits, F: ChunkKeyEncodingTraits> Copies<'a, G, E, H, F> {
-    ghost use Rattle.std.specs.Prelude.{◌≡◌, IfOk, OnErr, OnOk, length};
+    ghost use Rattle.std.specs.Prelude.{◌≡◌, IfOk, OnErr, OnOk, drop, length};
     ghost use Rattle.zarrs_chunk_plan.specs.Counted.{counted};
     ghost use Rattle.zarrs_chunk_plan.specs.Shares.{before_share, share_of};
     ghost use Rattle.zarrs_chunk_plan.specs.seen.Copies.{IsAboutCopies, all_targets, first_of, target_of, targets_to_come};
+
+    /// The walk over the chunks of the target.
+    pub(crate) fn targets(&self) -> &Parts<'a, H, F>
+        ensures { result.now ≡ self.now.targets }
+    {
+        &self.targets
+    }
 
     /// How many chunks of the target something is copied into, from the first one on; `None` past 18446744073709551615.
     pub fn in_all(&self) -> Option<u64>
@@ -89,6 +96,22 @@ impl<'a, G, E, H: ChunkGridTraits, F: ChunkKeyEncodingTraits> Copies<'a, G, E, H
         ensures first { first_of self.new ≡ first_of self.old }
     {
         self.targets.share(share)
+    }
+
+    /// Goes to the chunk with this number, counted from 0 among all these chunks, wherever the walk is; nothing is left where there are no more. Those
+    /// before it take no time.
+    ///
+    /// # Errors
+    /// Out of memory. The walk is as it was then.
+    pub fn skip_to(&mut self, first: u64) -> Result<(), AllocError>
+        ensures left { OnOk result (targets_to_come self.new ≡ drop first (all_targets self.old)) }
+        ensures unchanged { OnErr result (targets_to_come self.new ≡ targets_to_come self.old) }
+        ensures all { all_targets self.new ≡ all_targets self.old }
+        ensures about { IsAboutCopies self.old.source.now (target_of self.old)
+            self.old.targets.array_subset self.new }
+        ensures first { first_of self.new ≡ first_of self.old }
+    {
+        self.targets.skip_to(first)
     }
 }
 

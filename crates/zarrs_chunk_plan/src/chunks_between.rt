@@ -1,5 +1,5 @@
 //! The walk over some of the chunks in a box of chunk numbers.
-ghost use Rattle.std.specs.Prelude.{◌≡◌, ◌↔◌, ◌⊎◌, ◌+◌, ◌<◌, IfOk, IsTrue, false, length};
+ghost use Rattle.std.specs.Prelude.{◌≡◌, ◌↔◌, ◌⊎◌, ◌+◌, ◌<◌, IfOk, IsTrue, drop, false, length};
 ghost use Rattle.std.specs.List.{Contains};
 ghost use Rattle.std.specs.Option.{ForSome};
 ghost use Rattle.zarrs_chunk_axes.specs.InBounds.{AreBelow};
@@ -10,6 +10,8 @@ ghost use Rattle.zarrs_chunk_plan.specs.Shares.{before_share, share_of};
 ghost use Rattle.zarrs_chunk_plan.specs.lemmas.EndOnce.{end_below_once};
 ghost use Rattle.zarrs_chunk_plan.specs.seen.Between.{IsEnd, digits, end_rank, rank};
 
+use crate::boxes_from_zero::box_from_zero;
+use crate::numbered_chunks::{chunk_at, long_count};
 use crate::share::Share;
 use smallvec::SmallVec;
 use std::alloc::{AllocError, Global};
@@ -67,6 +69,38 @@ impl ChunksBetween {
             next,
             end,
             over,
+        })
+    }
+
+    /// A walk over the chunks in a box from the one with this number on; they are numbered from 0 in row-major order. It is over where there is none.
+    ///
+    /// # Errors
+    /// Out of memory.
+    pub(crate) fn from_number(
+        alloc: Global,
+        chunks: ArraySubset,
+        number: u64,
+    ) -> Result<ChunksBetween, AllocError>
+        ensures left { IfOk result (λ walk. chunks_between walk
+            ≡ drop number (chunks_in chunks)) }
+        ensures chunks { IfOk result (λ walk. walk.chunks ≡ chunks) }
+    {
+        if number as u128 >= long_count(chunks.shape()) {
+            return Ok(ChunksBetween {
+                alloc,
+                chunks,
+                next: SmallVec::new(alloc),
+                end: None,
+                over: true,
+            });
+        }
+        let next = list_at(alloc, chunks.shape(), number)?;
+        Ok(ChunksBetween {
+            alloc,
+            chunks,
+            next,
+            end: None,
+            over: false,
         })
     }
 
@@ -168,6 +202,20 @@ fn end_of_share(
     }
     let end = list_before(alloc, shape, share.number + 1, share.of)?;
     Ok(Some(end))
+}
+
+/// The list below a shape with this number; they are numbered from 0 in row-major order.
+///
+/// # Errors
+/// Out of memory.
+fn list_at(alloc: Global, shape: &[u64], number: u64) -> Result<ArrayIndicesTinyVec, AllocError>
+    requires { number < length (row_major shape.now) }
+    ensures { IfOk result (λ list. AreBelow shape.now list.items
+        × (rank shape.now list.items ≡ number)) }
+{
+    let lists = box_from_zero(alloc, shape)?;
+    let list = chunk_at(alloc, &lists, number)?;
+    Ok(list)
 }
 
 /// The list below a shape before which so many of `of` equal parts of all of them come.

@@ -26,6 +26,7 @@
 //! | `numbered_copies` | `some_copies`, `some_copies_of_region`: some of the groups of that plan, or of the copy of a region, from any one on |
 //! | `region` | `copies_of_region`: the copy of a box of elements to another place, or another array |
 //! | `chunk_copies` | the walk over what a rechunking copies, or what is copied of a region, a chunk of the target after another |
+//! | `stored_chunks` | which chunks of the target a store has already, by the keys that it lists |
 //! | `resize` | `changes`: what becomes of the chunks of an array that gets another shape |
 //! | `chunk_changes` | the walk over what becomes of them |
 //! | `used` | how many chunks hold elements of an array along each dimension, and how many of them a resize keeps |
@@ -68,6 +69,7 @@ mod share;
 mod shared;
 mod sources;
 mod stored_array;
+mod stored_chunks;
 mod used;
 mod walk;
 
@@ -88,4 +90,5 @@ pub use region_error::RegionError;
 pub use resize::{Change, ChunkChange, Held, changes};
 pub use share::Share;
 pub use stored_array::StoredArray;
+pub use stored_chunks::StoredChunks;
 pub use walk::Parts;

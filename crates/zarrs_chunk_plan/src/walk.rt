@@ -11,7 +11,7 @@ use zarrs_chunks::ChunkGridTraits;
 /// The parts of a box of elements: one for each chunk of its cover, in row-major order of the chunks.
 ///
 /// A part is made when it is asked for, so the first one comes without a walk over the others. After an `Err` or the end the walk gives
-/// nothing more, until it goes to a [`share`](Parts::share).
+/// nothing more, until it goes to a [`share`](Parts::share) or [to a part](Parts::skip_to).
 #[derive(Debug, Drop)]
 pub struct Parts<'a, G, E> {
     alloc: Global,
@@ -22,7 +22,7 @@ pub struct Parts<'a, G, E> {
 }
 
 impl<'a, G: ChunkGridTraits, E: ChunkKeyEncodingTraits> Parts<'a, G, E> {
-    ghost use Rattle.std.specs.Prelude.{◌≡◌, [], IfOk, OnErr, OnOk, length};
+    ghost use Rattle.std.specs.Prelude.{◌≡◌, [], IfOk, OnErr, OnOk, drop, length};
     ghost use Rattle.zarrs_chunks.specs.Walks.{chunks_in};
     ghost use Rattle.zarrs_chunk_plan.specs.Counted.{counted};
     ghost use Rattle.zarrs_chunk_plan.specs.Shares.{before_share, share_of};
@@ -76,6 +76,36 @@ impl<'a, G: ChunkGridTraits, E: ChunkKeyEncodingTraits> Parts<'a, G, E> {
         let before = share.lines_before(long_count(chunks.shape()));
         self.chunks = ChunksBetween::new(self.alloc, chunks, share)?;
         Ok(before)
+    }
+
+    /// Goes to the part with this number, counted from 0 among all parts, wherever the walk is; nothing is left where there are no more. Those before
+    /// it take no time.
+    ///
+    /// # Errors
+    /// Out of memory. The walk is as it was then.
+    pub fn skip_to(&mut self, first: u64) -> Result<(), AllocError>
+        ensures left { OnOk result (chunks_to_come self.new ≡ drop first (all_chunks self.old)) }
+        ensures unchanged { OnErr result (chunks_to_come self.new ≡ chunks_to_come self.old) }
+        ensures all { all_chunks self.new ≡ all_chunks self.old }
+        ensures about { IsAbout self.old.grid.now self.old.encoding.now self.old.array_subset self.new }
+    {
+        let chunks = self.chunks.chunks().clone()?;
+        self.chunks = ChunksBetween::from_number(self.alloc, chunks, first)?;
+        Ok(())
+    }
+
+    /// The grid of the chunks.
+    pub(crate) fn grid(&self) -> &'a G
+        ensures { result.now ≡ self.now.grid.now }
+    {
+        self.grid
+    }
+
+    /// The box of the chunks of all parts.
+    pub(crate) fn box_of_all(&self) -> &ArraySubset
+        ensures { chunks_in result.now ≡ all_chunks self.now }
+    {
+        self.chunks.chunks()
     }
 
     /// Leaves no part to come.

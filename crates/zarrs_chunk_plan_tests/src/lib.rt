@@ -8,6 +8,7 @@
 //! | `plans` | the parts of a box of elements, and the laws |
 //! | `rechunkings` | what a rechunking copies, what refuses it, the counts of it and of a read, and the laws |
 //! | `regions` | what is copied of a region, the counts of it, what refuses it, and the laws |
+//! | `stored_chunks` | which chunks of a plan a store has, by the keys that it lists |
 //! | `resizes` | what becomes of the chunks of an array that gets another shape, what refuses it, and the laws |
 #![tactic(auto)]
 
@@ -21,3 +22,5 @@ mod rechunkings;
 mod regions;
 #[cfg(test)]
 mod resizes;
+#[cfg(test)]
+mod stored_chunks;

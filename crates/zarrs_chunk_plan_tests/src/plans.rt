@@ -98,6 +98,31 @@ fn more_than_a_thousand_parts_are_read_to_their_end(rt: HostRuntime) -> Result<(
     Ok(())
 }
 
+/// A walk over the same elements goes to its third part, to its end, past it, and back: what it gives next then.
+#[test]
+fn a_walk_goes_to_any_part(rt: HostRuntime) -> Result<(), Fail> {
+    let alloc = rt.alloc();
+    let grid = row(alloc, 3001)?;
+    let encoding = DefaultChunkKeyEncoding::new_slash();
+    let elements = elements_from(alloc, 1, 3000)?;
+    let mut walk = parts(alloc, &grid, &encoding, &elements)?.ok_or("no cover")?;
+    for number in [2, 1000, 1001, u64::MAX, 0] {
+        walk.skip_to(number)?;
+        let next = match walk.next() {
+            Some(part) => Some(part?),
+            None => None,
+        };
+        match (number, next) {
+            (0, Some(part)) => check_part(&rt, &part, "c/0/0/0/0/0", 1, 0, 2),
+            (2, Some(part)) => check_part(&rt, &part, "c/0/0/0/0/2", 0, 5, 3),
+            (1000, Some(part)) => check_part(&rt, &part, "c/0/0/0/0/1000", 0, 2999, 1),
+            (_, next) => assert!(rt; number > 1000 && next.is_none(), "another part at {number}"),
+        }
+    }
+    assert_eq!(rt; all_parts(alloc, walk)?.len(), 1000);
+    Ok(())
+}
+
 #[test]
 fn a_part_is_asked_for_by_its_number(rt: HostRuntime) -> Result<(), Fail> {
     let alloc = rt.alloc();

@@ -207,6 +207,35 @@ fn some_of_a_region_is_copied(rt: HostRuntime) -> Result<(), Fail> {
     check_some(&rt, none, (0, 9), 0, "")
 }
 
+/// Of the walk over the copies that are written first above, which was at its end, these lines are left from a group on.
+fn check_walk_from(
+    rt: &(impl Abort + AllocGlobal),
+    first: u64,
+    expected: &str,
+) -> Result<(), Fail> {
+    let alloc = rt.alloc();
+    let (source, target) = (regular(alloc, &[7], &[3])?, bounded(alloc, &[12], &[5])?);
+    let region = box_at(alloc, &[1], &[6])?;
+    let mut walk = copies_of_region(alloc, &source, &target, &region, &[4])?;
+    walk.skip_to(2)?;
+    walk.skip_to(first)?;
+    assert_eq!(rt; walk.in_all(), Some(2));
+    let lines = lines_of(alloc, walk)?;
+    assert!(rt;
+        lines.as_str() == expected,
+        "other copies than:\n{expected}"
+    );
+    Ok(())
+}
+
+#[test]
+fn a_walk_over_a_region_goes_to_any_group(rt: HostRuntime) -> Result<(), Fail> {
+    check_walk_from(&rt, 1, SHIFTED_TO_THE_SECOND)?;
+    check_walk_from(&rt, 2, "")?;
+    check_walk_from(&rt, u64::MAX, "")?;
+    check_walk_from(&rt, 0, SHIFTED)
+}
+
 /// The product of some factors.
 fn product(factors: &[u64]) -> u64 {
     let mut product: u64 = 1;
