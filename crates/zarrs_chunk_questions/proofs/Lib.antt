@@ -3,8 +3,9 @@ pub mod Refusals
 pub mod LineFeeds
 pub mod AnswerLines
 pub mod SomeItems
-pub mod Groups
+pub mod GroupPages
 pub mod Listed
 pub mod WalkPages
 pub mod RechunkingsAsked
+pub mod RegionsAsked
 pub mod NoFloats

@@ -1,5 +1,6 @@
 -- No answer has a float: its numbers are sizes.
 use Rattle.std.proofs.Common.{◌≡◌, ◌∙◌, ◌||◌, ℕ, zero, suc, ◌+◌, Bool, false, List, [], ◌∷◌, Option, Some, None, ap, ap₂, length, map, nat_lt, refl, take}
+use Rattle.std.proofs.Common.{⊎_elim}
 use Rattle.std.proofs.lemmas.Bool.{or_parts}
 use Rattle.std.specs.Int.NonZero.{non_zero_u64_get}
 use Rattle.serde_json.specs.Data.{Data, Members}
@@ -16,7 +17,9 @@ use Rattle.zarrs_chunks.specs.Walks.{box_at, boxed, chunks_of}
 use Rattle.zarrs_chunk_base.specs.Dimension.{Dimension, array_sizes, grid_sizes}
 use Rattle.zarrs_chunk_plan.specs.Counted.{counted as counted_up_to}
 use Rattle.zarrs_chunk_plan.specs.Counts.{product}
+use Rattle.zarrs_chunk_plan.proofs.Plans.{empty_or_some}
 use Rattle.zarrs_chunk_plan.specs.Rechunking.{Group}
+use Rattle.zarrs_chunk_plan.specs.Region.{shifted}
 use Rattle.zarrs_chunk_plan.specs.Shares.{before_share}
 use Rattle.zarrs_chunk_plan.specs.declared.counts.Counts.{Counts}
 use Rattle.zarrs_chunk_plan.specs.declared.numbered_parts.SomeParts.{SomeParts}
@@ -25,8 +28,9 @@ use Rattle.zarrs_chunk_questions.specs.Answers.{located_tree}
 use Rattle.zarrs_chunk_questions.specs.Counts.{count_tree, counts_tree, line_number_tree}
 use Rattle.zarrs_chunk_questions.specs.Pages.{chunks_from, first_of, group_tree, is_more, item_tree, item_trees, count_of, page_tree, part_tree}
 use Rattle.zarrs_chunk_questions.specs.Pages.{parts_tree, source_tree, walk_page}
-use Rattle.zarrs_chunk_questions.specs.Question.{Asked, Question, ShareAsked, copies, counted, counts, decode, encode, located, of_array, of_box, of_grid, of_numbers}
-use Rattle.zarrs_chunk_questions.specs.Question.{of_walk, parts, runs}
+use Rattle.zarrs_chunk_questions.specs.Question.{Asked, Question, ShareAsked, copies, copies_of_region, counted, counts, counts_of_region, decode}
+use Rattle.zarrs_chunk_questions.specs.Question.{encode, located, of_array, of_box, of_grid, of_numbers, of_walk, parts, runs}
+use Rattle.zarrs_chunk_questions.specs.Regions.{moved_group_tree, moved_source_tree}
 use Rattle.zarrs_chunk_questions.specs.Trees.{box_of, box_tree, numbers_tree, or_null}
 use Rattle.zarrs_chunk_questions.specs.declared.call.OfBox.{OfBox}
 use Rattle.zarrs_chunk_questions.specs.declared.call.OfBox.TheVariants.{ChunksInArraySubset, ChunksSubset}
@@ -132,6 +136,14 @@ a_group group =
       no_float_in_numbers group.0.chunk.items,
     ) refl
 
+a_moved_group : (group : Group) → HasNone (moved_group_tree group)
+a_moved_group group =
+    let first = group.0.in_chunk.start in
+    rw (
+      no_float_mapped (moved_source_tree first) (λ part. of_part part.chunk.items part.in_chunk (shifted first part.in_subset)) group.1,
+      no_float_in_numbers group.0.chunk.items,
+    ) refl
+
 a_line_number : (number : ℕ) → HasNone (line_number_tree number)
 a_line_number number = or_none size_tree (λ n. refl) (counted_up_to number)
 
@@ -167,6 +179,15 @@ of_an_array shape (copies tree target wanted chunks) kind grid t is =
 of_an_array shape (counts tree target share chunks) kind grid t is =
     let (as_long, groups, plan, targets, is_box, are, many, those, same) = is.answers in
     ap has_float same ∙ of_counts share many
+of_an_array shape (copies_of_region tree target wanted region) kind grid t is =
+    let answer = is.answers in
+    ⊎_elim (λ none. ap has_float (answer.none none) ∙ of_page [] false refl)
+    (λ some.
+    let (in_all, groups, are, same) = answer.some some in
+    ap has_float same
+    ∙ of_page (map moved_group_tree groups) (is_more (first_of wanted) (length groups) in_all) (no_float_mapped moved_group_tree a_moved_group groups))
+    (empty_or_some (box_of region.elements).shape)
+of_an_array shape (counts_of_region tree target share region) kind grid t is = ap has_float is.answers.tree ∙ of_counts share is.answers.counts
 
 pub no_float : (question : Question) (t : Data) → IsAnswer question t → has_float t ≡ false
 no_float (of_array shape tree asked) t (kind, grid, made, is) = of_an_array shape asked kind grid t is

@@ -26,8 +26,9 @@ use Rattle.zarrs_chunks.specs.Subsets.{AnswersChunksSubset, AnswersCover, Answer
 use Rattle.zarrs_chunks.specs.declared.location.Located.{Located}
 use Rattle.zarrs_chunk_questions.specs.Counts.{IsSomeCountsAnswer}
 use Rattle.zarrs_chunk_questions.specs.Pages.{IsSomeCopiesAnswer, IsSomePartsAnswer, walk_tree}
-use Rattle.zarrs_chunk_questions.specs.Question.{Asked, Question, copies, counted, counts, decode, encode, located, of_array, of_box, of_grid, of_numbers}
-use Rattle.zarrs_chunk_questions.specs.Question.{of_walk, parts, runs}
+use Rattle.zarrs_chunk_questions.specs.Question.{Asked, Question, copies, copies_of_region, counted, counts, counts_of_region, decode, encode}
+use Rattle.zarrs_chunk_questions.specs.Question.{located, of_array, of_box, of_grid, of_numbers, of_walk, parts, runs}
+use Rattle.zarrs_chunk_questions.specs.Regions.{IsSomeRegionCopiesAnswer, IsSomeRegionCountsAnswer}
 use Rattle.zarrs_chunk_questions.specs.Trees.{Says, box_of, box_tree, numbers_tree, or_null}
 use Rattle.zarrs_chunk_questions.specs.declared.call.OfBox.{OfBox}
 use Rattle.zarrs_chunk_questions.specs.declared.call.OfBox.TheVariants.{ChunksInArraySubset, ChunksSubset}
@@ -138,6 +139,8 @@ IsArrayAnswer shape (located tree index) kind grid t =
 IsArrayAnswer shape (parts tree items lists) kind grid t = IsSomePartsAnswer tree items lists grid t
 IsArrayAnswer shape (copies tree target items chunks) kind grid t = IsSomeCopiesAnswer shape tree target items chunks grid t
 IsArrayAnswer shape (counts tree target share chunks) kind grid t = IsSomeCountsAnswer shape tree target share chunks grid t
+IsArrayAnswer shape (copies_of_region tree target items region) kind grid t = IsSomeRegionCopiesAnswer tree target items region grid t
+IsArrayAnswer shape (counts_of_region tree target share region) kind grid t = IsSomeRegionCountsAnswer tree target share region grid t
 
 -- The answer of a question.
 abbrev pub IsAnswer : Question → Data → Type 0

@@ -7,5 +7,6 @@ pub mod Pages
 pub mod Question
 pub mod Reading
 pub mod Refused
+pub mod Regions
 pub mod Trees
 pub mod seen

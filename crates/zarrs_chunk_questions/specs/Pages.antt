@@ -108,13 +108,17 @@ IsSomePartsAnswer tree items lists grid t =
 
 -- ---- of the plan of a rechunking
 
--- a chunk of the source, and where in the chunk of the target what is copied from it goes
-abbrev pub source_tree : Part → Data
-source_tree part =
+-- a chunk of the source, and the box of the chunk of the target that what is copied from it goes to
+abbrev pub placed_tree : Part → (in_target : Box) → Data
+placed_tree part in_target =
     object (member (codes "chunk") (numbers_tree part.chunk.items)
     (member (codes "in_chunk") (box_tree part.in_chunk)
-    (member (codes "in_target") (box_tree part.in_subset)
+    (member (codes "in_target") (box_tree in_target)
     (member (codes "key") (string part.key) no_members))))
+
+-- in a rechunking that is the part's own box
+abbrev pub source_tree : Part → Data
+source_tree part = placed_tree part part.in_subset
 
 -- a chunk of the target
 abbrev pub target_chunk_tree : Part → Data

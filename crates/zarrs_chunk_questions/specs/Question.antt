@@ -31,6 +31,16 @@ pub record Target : Type 0 where
   pub chunk_grid : Data
   pub chunk_key_encoding : Data
 
+-- the array that a region goes to: its shape, and how it is to be stored
+pub record TargetArray : Type 0 where
+  pub shape : List ℕ
+  pub stored : Target
+
+-- a region: a box of the array's elements, and the index in the target's array that it begins at, where one is given
+pub record RegionAsked : Type 0 where
+  pub elements : Lists
+  pub at : Option (List ℕ)
+
 -- a share of a plan: its number, counted from 0, and how many there are
 abbrev pub ShareAsked : Type 0
 ShareAsked = ℕ × ℕ
@@ -47,6 +57,8 @@ pub data Asked : Type 0 where
   parts : (encoding : Data) (items : Items) (b : Lists) → Asked
   copies : (encoding : Data) (target : Target) (items : Items) (chunks : Option Lists) → Asked
   counts : (encoding : Data) (target : Target) (share : ShareAsked) (chunks : Option Lists) → Asked
+  copies_of_region : (encoding : Data) (target : TargetArray) (items : Items) (region : RegionAsked) → Asked
+  counts_of_region : (encoding : Data) (target : TargetArray) (share : ShareAsked) (region : RegionAsked) → Asked
 
 -- what is asked: of the grid of an array with this shape, of which the tree is the metadata; the key of a chunk; or the chunk of a key
 pub data Question : Type 0 where
@@ -72,13 +84,37 @@ items_in d =
 abbrev pub of_target : (field path : List ℕ) → Data → Reading Data
 of_target field path target = ok_or (get field target) (missing path)
 
-abbrev pub target_in : Data → Reading Target
-target_in d =
-    then (required (codes "target") d) (λ target.
-    then (in_form as_object (codes "target") target) (λ _.
+-- the target, which is an object
+abbrev pub target_object_in : Data → Reading Data
+target_object_in d = then (required (codes "target") d) (λ target. then (in_form as_object (codes "target") target) (λ _. Ok target))
+
+-- how it is to be stored
+abbrev pub stored_in : Data → Reading Target
+stored_in target =
     then (of_target (codes "chunk_grid") (codes "target.chunk_grid") target) (λ grid.
     then (of_target (codes "chunk_key_encoding") (codes "target.chunk_key_encoding") target) (λ encoding.
-    Ok (record { chunk_grid = grid; chunk_key_encoding = encoding })))))
+    Ok (record { chunk_grid = grid; chunk_key_encoding = encoding })))
+
+abbrev pub target_in : Data → Reading Target
+target_in d = then (target_object_in d) stored_in
+
+-- a target that is another array: one that has a shape of its own
+abbrev pub target_shape_in : Data → Reading (List ℕ)
+target_shape_in target =
+    then (of_target (codes "shape") (codes "target.shape") target) (in_form (list_of size_of) (codes "target.shape"))
+
+abbrev pub target_array_in : Data → Reading TargetArray
+target_array_in d =
+    then (target_object_in d) (λ target.
+    then (target_shape_in target) (λ sizes.
+    then (stored_in target) (λ stored.
+    Ok (record { shape = sizes; stored = stored }))))
+
+abbrev pub region_in : Data → Reading RegionAsked
+region_in d =
+    then (lists_in (codes "subset") d) (λ elements.
+    then (optional_in (list_of size_of) (codes "at") d) (λ at.
+    Ok (record { elements = elements; at = at })))
 
 -- the one share that is the whole plan, where none is given; a share's number is below how many there are
 abbrev pub one_of : Option ShareAsked → Reading ShareAsked
@@ -117,6 +153,18 @@ asked_in array.Counts d =
     then (share_in d) (λ share.
     then (optional_in (pair_of (list_of size_of)) (codes "chunks") d) (λ chunks.
     Ok (counts encoding target share chunks)))))
+asked_in array.CopiesOfRegion d =
+    then (encoding_in d) (λ encoding.
+    then (target_array_in d) (λ target.
+    then (items_in d) (λ items.
+    then (region_in d) (λ region.
+    Ok (copies_of_region encoding target items region)))))
+asked_in array.CountsOfRegion d =
+    then (encoding_in d) (λ encoding.
+    then (target_array_in d) (λ target.
+    then (share_in d) (λ share.
+    then (region_in d) (λ region.
+    Ok (counts_of_region encoding target share region)))))
 
 -- the text of a member, if it has one
 abbrev pub text_in : List ℕ → Data → Option (List ℕ)

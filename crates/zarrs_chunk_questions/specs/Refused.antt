@@ -16,18 +16,21 @@ use Rattle.zarrs_chunk_keys.specs.ChunkKey.{Encoding, IsKey}
 use Rattle.zarrs_chunk_keys.specs.KeyKinds.{IsEncodingIn, IsNoEncodingIn}
 use Rattle.zarrs_chunks.specs.GridKinds.{GridKind, IsGridIn, IsNoGridIn, rectilinear}
 use Rattle.zarrs_chunks.specs.Subsets.{AnswersChunksSubset}
+use Rattle.zarrs_chunk_plan.specs.Region.{IsRegionFault}
 use Rattle.zarrs_chunk_plan.specs.seen.Copies.{IsCopiesFault}
 use Rattle.zarrs_chunk_questions.specs.Answers.{AnswersCoverOf}
 use Rattle.zarrs_chunk_questions.specs.Pages.{AnswersPartsOf, target_chunks}
-use Rattle.zarrs_chunk_questions.specs.Question.{Asked, Lists, Question, Target, copies, counted, counts, decode, encode, located}
-use Rattle.zarrs_chunk_questions.specs.Question.{of_array, of_box, of_grid, of_numbers, of_walk, parts, runs}
+use Rattle.zarrs_chunk_questions.specs.Question.{Asked, Lists, Question, RegionAsked, Target, TargetArray, copies, copies_of_region, counted}
+use Rattle.zarrs_chunk_questions.specs.Question.{counts, counts_of_region, decode, encode, located, of_array, of_box, of_grid, of_numbers}
+use Rattle.zarrs_chunk_questions.specs.Question.{of_walk, parts, runs}
+use Rattle.zarrs_chunk_questions.specs.Regions.{begins_at}
 use Rattle.zarrs_chunk_questions.specs.Trees.{box_of}
 use Rattle.zarrs_chunk_questions.specs.declared.call.OfBox.{OfBox}
 use Rattle.zarrs_chunk_questions.specs.declared.call.OfBox.TheVariants.{ChunksInArraySubset, ChunksSubset}
 use Rattle.zarrs_chunk_questions.specs.declared.call.OfNumbers.{OfNumbers}
 use Rattle.zarrs_chunk_questions.specs.declared.call.OfNumbers.TheVariants.{ArrayIndicesInbounds, ChunkIndicesInbounds}
 use Rattle.zarrs_chunk_questions.specs.declared.line_fault.LineFault.{LineFault}
-use Rattle.zarrs_chunk_questions.specs.declared.line_fault.LineFault.TheVariants.{Copies, Extension, Key, Lengths, NotBox}
+use Rattle.zarrs_chunk_questions.specs.declared.line_fault.LineFault.TheVariants.{Copies, Extension, Key, Lengths, NotBox, Region}
 use Rattle.zarrs_chunk_questions.specs.declared.line_fault.LineFault.TheVariants.{TargetExtension, Unreadable}
 use Rattle.zarrs_chunk_questions.specs.declared.unreadable.Unreadable.TheVariants.{NoCall}
 
@@ -117,20 +120,39 @@ IsChunksRefusal source target chunks fault =
     IsNoBoxOf chunks fault
     ⊎ (IfSome chunks (λ lists. IsBox (box_of lists)) × IsNoRechunking source target (target_chunks chunks target) fault)
 
--- why nothing is copied to the target: its grid can't be made; its encoding can't; or nothing is copied into the chunks
-abbrev pub IsTargetRefusal : (shape : List ℕ) → Target → Option Lists → Grid → LineFault → Type 0
-IsTargetRefusal shape target chunks grid fault =
+-- the library refuses the copy of the region
+abbrev pub IsNoRegionCopy : (source target : List Dimension) (region : Box) (at : List ℕ) → LineFault → Type 0
+IsNoRegionCopy source target region at (Region error) = IsRegionFault (array_sizes source) (array_sizes target) region at error
+IsNoRegionCopy _ _ _ _ _ = ⊥
+
+-- why nothing is copied of the region that is asked for: it is no box; or the library refuses
+abbrev pub IsRegionRefusal : (source target : List Dimension) → RegionAsked → LineFault → Type 0
+IsRegionRefusal source target region fault =
+    IsNoBox (box_of region.elements) fault
+    ⊎ (IsBox (box_of region.elements) × IsNoRegionCopy source target (box_of region.elements) (begins_at region) fault)
+
+-- why nothing is copied to a target of an array of this shape: its grid can't be made; its encoding can't; or why nothing is copied to that grid
+abbrev pub IsTargetRefusal : (IsRefused : List Dimension → LineFault → Type 0) (shape : List ℕ) → Target → LineFault → Type 0
+IsTargetRefusal IsRefused shape target fault =
     IsOfTarget (IsNoGrid target.chunk_grid shape) fault
     ⊎ ((kind : GridKind) × (to : Grid) × IsGridIn target.chunk_grid shape kind to
     × (IsOfTarget (IsNoEncoding target.chunk_key_encoding) fault
-    ⊎ ((encoding : Encoding) × IsEncodingIn target.chunk_key_encoding encoding
-    × IsChunksRefusal grid.dimensions to.dimensions chunks fault)))
+    ⊎ ((encoding : Encoding) × IsEncodingIn target.chunk_key_encoding encoding × IsRefused to.dimensions fault)))
 
 -- there is no encoding of the array; or nothing is copied to the target
-abbrev pub IsSomeCopiesRefusal : (shape : List ℕ) → Data → Target → Option Lists → Grid → LineFault → Type 0
-IsSomeCopiesRefusal shape tree target chunks grid fault =
+abbrev pub IsPlanRefusal : (IsRefused : List Dimension → LineFault → Type 0) (shape : List ℕ) → Data → Target → LineFault → Type 0
+IsPlanRefusal IsRefused shape tree target fault =
     IsNoEncoding tree fault
-    ⊎ ((encoding : Encoding) × IsEncodingIn tree encoding × IsTargetRefusal shape target chunks grid fault)
+    ⊎ ((encoding : Encoding) × IsEncodingIn tree encoding × IsTargetRefusal IsRefused shape target fault)
+
+-- so of a rechunking, whose target is of the array's shape
+abbrev pub IsSomeCopiesRefusal : (shape : List ℕ) → Data → Target → Option Lists → Grid → LineFault → Type 0
+IsSomeCopiesRefusal shape tree target chunks grid = IsPlanRefusal (λ to. IsChunksRefusal grid.dimensions to chunks) shape tree target
+
+-- and of the copy of a region, whose target is an array with a shape of its own
+abbrev pub IsSomeRegionRefusal : Data → TargetArray → RegionAsked → Grid → LineFault → Type 0
+IsSomeRegionRefusal tree target region grid =
+    IsPlanRefusal (λ to. IsRegionRefusal grid.dimensions to region) target.shape tree target.stored
 
 -- Why the grid of an array of this shape has no answer.
 abbrev pub IsArrayRefusal : (shape : List ℕ) → Asked → GridKind → Grid → LineFault → Type 0
@@ -146,6 +168,8 @@ IsArrayRefusal shape (located tree index) kind grid fault = IsLocatedRefusal tre
 IsArrayRefusal shape (parts tree items lists) kind grid fault = IsSomePartsRefusal tree lists grid fault
 IsArrayRefusal shape (copies tree target items chunks) kind grid fault = IsSomeCopiesRefusal shape tree target chunks grid fault
 IsArrayRefusal shape (counts tree target share chunks) kind grid fault = IsSomeCopiesRefusal shape tree target chunks grid fault
+IsArrayRefusal shape (copies_of_region tree target items region) kind grid fault = IsSomeRegionRefusal tree target region grid fault
+IsArrayRefusal shape (counts_of_region tree target share region) kind grid fault = IsSomeRegionRefusal tree target region grid fault
 
 -- Why a question has no answer.
 abbrev pub IsRefusal : Question → LineFault → Type 0

@@ -3,3 +3,4 @@ pub mod Lines
 pub mod Found
 pub mod Walked
 pub mod Targets
+pub mod Groups

@@ -8,12 +8,13 @@ ghost use Rattle.zarrs_chunks.specs.seen.Grids.{grid_in, kind_in};
 ghost use Rattle.zarrs_chunk_questions.specs.Answers.{IsArrayAnswer, IsLocatedAnswer};
 ghost use Rattle.zarrs_chunk_questions.specs.Counts.{IsSomeCountsAnswer};
 ghost use Rattle.zarrs_chunk_questions.specs.Pages.{IsSomeCopiesAnswer, IsSomePartsAnswer, walk_tree};
-ghost use Rattle.zarrs_chunk_questions.specs.Refused.{IsArrayRefusal, IsLocatedRefusal, IsSomeCopiesRefusal, IsSomePartsRefusal};
-ghost use Rattle.zarrs_chunk_questions.specs.seen.Read.{asked_of, items_of, lists_of, share_of, target_of};
+ghost use Rattle.zarrs_chunk_questions.specs.Refused.{IsArrayRefusal, IsLocatedRefusal, IsSomeCopiesRefusal, IsSomePartsRefusal, IsSomeRegionRefusal};
+ghost use Rattle.zarrs_chunk_questions.specs.Regions.{IsSomeRegionCopiesAnswer, IsSomeRegionCountsAnswer};
+ghost use Rattle.zarrs_chunk_questions.specs.seen.Read.{asked_of, items_of, lists_of, region_of, share_of, target_array_of, target_of};
 
-use crate::asked::{Asked, Items, Lists, Target};
+use crate::asked::{Asked, Items, Lists, RegionAsked, Target, TargetArray};
 use crate::call::WalkOf;
-use crate::counting::counts_of_copies;
+use crate::counting::{counts_of_copies, counts_of_moves};
 use crate::extensions::{box_of, make_encoding};
 use crate::grid_answers::{answer_alone, answer_box, answer_numbers};
 use crate::limits::Limits;
@@ -21,6 +22,7 @@ use crate::line_fault::LineFault;
 use crate::pages::{items_from, parts_from};
 use crate::rechunking::{Rechunking, copies_from};
 use crate::rectilinear_answers::{answer_counted, answer_runs, expect_rectilinear};
+use crate::regions::{RegionCopy, region_copies_from};
 use crate::trees::{found, located_tree};
 use crate::walk_items::items_of_walk;
 use serde_json::Value;
@@ -74,6 +76,13 @@ pub(crate) fn answer_asked(
         }
         Asked::Counts(encoding, target, share, chunks) => {
             let counts = answer_counts(alloc, shape, grid, encoding, target, share, chunks)?;
+            Ok(Some(counts))
+        }
+        Asked::CopiesOfRegion(encoding, target, items, region) => {
+            some_region_copies(alloc, grid, encoding, target, items, region, room)
+        }
+        Asked::CountsOfRegion(encoding, target, share, region) => {
+            let counts = answer_region_counts(alloc, grid, encoding, target, share, region)?;
             Ok(Some(counts))
         }
     }
@@ -207,4 +216,52 @@ fn answer_counts(
 {
     let rechunking = Rechunking::new(alloc, shape, grid, encoding_tree, target, chunks)?;
     counts_of_copies(alloc, &rechunking, &share)
+}
+
+/// Some of the groups of the copy of a region of the grid's array.
+///
+/// # Errors
+/// The first that applies: the encoding can't be made; the target's grid or its encoding; the start and the shape make no box; the region, the two
+/// arrays and the index to begin at don't fit together. Or out of memory.
+fn some_region_copies(
+    alloc: Global,
+    grid: ChunkGrid,
+    encoding_tree: &Value,
+    target: TargetArray<'_>,
+    items: Items,
+    region: RegionAsked,
+    room: usize,
+) -> Result<Option<Value>, Refusal<LineFault>>
+    ensures { MatchResult result (λ found. IfSome found (λ tree. IsSomeRegionCopiesAnswer
+        (view encoding_tree.now) (target_array_of target.entry) (items_of items)
+        (region_of region) (grid_in grid) (view tree)))
+        (OrMemory (IsSomeRegionRefusal (view encoding_tree.now) (target_array_of target.entry)
+        (region_of region) (grid_in grid))) }
+{
+    let limits = limits_of(&grid, items, 5, room);
+    let copied = RegionCopy::new(alloc, grid, encoding_tree, target, region)?;
+    let first = items.first.unwrap_or(0);
+    region_copies_from(alloc, &copied, first, &limits)
+}
+
+/// How much is copied of a region of the grid's array, and which of the lines a share has.
+///
+/// # Errors
+/// As of [`some_region_copies`].
+fn answer_region_counts(
+    alloc: Global,
+    grid: ChunkGrid,
+    encoding_tree: &Value,
+    target: TargetArray<'_>,
+    share: Share,
+    region: RegionAsked,
+) -> Result<Value, Refusal<LineFault>>
+    ensures { MatchResult result (λ tree. IsSomeRegionCountsAnswer (view encoding_tree.now)
+        (target_array_of target.entry) (share_of share) (region_of region) (grid_in grid)
+        (view tree))
+        (OrMemory (IsSomeRegionRefusal (view encoding_tree.now) (target_array_of target.entry)
+        (region_of region) (grid_in grid))) }
+{
+    let copied = RegionCopy::new(alloc, grid, encoding_tree, target, region)?;
+    counts_of_moves(alloc, &copied, &share)
 }

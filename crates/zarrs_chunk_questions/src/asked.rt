@@ -1,12 +1,13 @@
 //! What an array's grid is asked.
 ghost use Rattle.std.specs.Prelude.{codes};
 ghost use Rattle.serde_json.specs.View.{view};
-ghost use Rattle.zarrs_chunk_questions.specs.Question.{asked_in, encoding_in, items_in, lists_in, numbers_in, of_target as member_of, share_in, target_in};
-ghost use Rattle.zarrs_chunk_questions.specs.seen.Read.{IsRead, asked_of, items_of, lists_of, share_of, target_of};
-ghost use Rattle.zarrs_chunk_questions.specs.declared.call.OfArray.TheVariants.{Copies, Counts, Locate, Parts};
+ghost use Rattle.zarrs_chunk_questions.specs.Question.{asked_in, encoding_in, items_in, lists_in, numbers_in, of_target as member_of, region_in, share_in};
+ghost use Rattle.zarrs_chunk_questions.specs.Question.{stored_in, target_array_in, target_in, target_object_in, target_shape_in};
+ghost use Rattle.zarrs_chunk_questions.specs.seen.Read.{IsRead, asked_of, items_of, lists_of, region_of, share_of, target_array_of, target_of};
+ghost use Rattle.zarrs_chunk_questions.specs.declared.call.OfArray.TheVariants.{Copies, CopiesOfRegion, Counts, CountsOfRegion, Locate, Parts};
 
 use crate::call::{OfArray, OfBox, OfGrid, OfNumbers, WalkOf};
-use crate::reading::{optional_in, required, required_in};
+use crate::reading::{in_form, optional_in, required, required_in};
 use crate::unreadable::Unreadable;
 use serde_json::Value;
 use std::alloc::Global;
@@ -35,6 +36,10 @@ pub(crate) enum Asked<'t> {
     Copies(&'t Value, Target<'t>, Items, Option<Lists>),
     /// How much that plan copies, and which of its lines a share has.
     Counts(&'t Value, Target<'t>, Share, Option<Lists>),
+    /// Some of the groups of the copy of a region to another array.
+    CopiesOfRegion(&'t Value, TargetArray<'t>, Items, RegionAsked),
+    /// How much that copies, and which of its lines a share has.
+    CountsOfRegion(&'t Value, TargetArray<'t>, Share, RegionAsked),
 }
 
 /// Which items of a walk are asked for.
@@ -51,6 +56,22 @@ pub(crate) struct Items {
 pub(crate) struct Target<'t> {
     pub(crate) chunk_grid: &'t Value,
     pub(crate) chunk_key_encoding: &'t Value,
+}
+
+/// The array that a region goes to: its shape, and how it is to be stored.
+#[derive(Drop)]
+pub(crate) struct TargetArray<'t> {
+    pub(crate) shape: Vec<u64>,
+    pub(crate) stored: Target<'t>,
+}
+
+/// A region that is asked about.
+#[derive(Drop)]
+pub(crate) struct RegionAsked {
+    /// The box of the array's elements.
+    pub(crate) elements: Lists,
+    /// The index that it begins at in the target's array; `None`: 0 in each dimension.
+    pub(crate) at: Option<Vec<u64>>,
 }
 
 impl<'t> Asked<'t> {
@@ -77,6 +98,8 @@ impl<'t> Asked<'t> {
             OfArray::Parts => parts(alloc, tree),
             OfArray::Copies => copies(alloc, tree),
             OfArray::Counts => counts(alloc, tree),
+            OfArray::CopiesOfRegion => copies_of_region(alloc, tree),
+            OfArray::CountsOfRegion => counts_of_region(alloc, tree),
         }
     }
 }
@@ -143,6 +166,28 @@ fn counts<'t>(alloc: Global, tree: &'t Value) -> Result<Asked<'t>, Refusal<Unrea
     Ok(Asked::Counts(encoding, target, share, chunks))
 }
 
+/// What `copies_of_region` is asked of.
+fn copies_of_region<'t>(alloc: Global, tree: &'t Value) -> Result<Asked<'t>, Refusal<Unreadable>>
+    ensures { IsRead asked_of (asked_in CopiesOfRegion (view tree.now)) result }
+{
+    let encoding = encoding(tree)?;
+    let target = TargetArray::from_tree(alloc, tree)?;
+    let items = Items::from_tree(alloc, tree)?;
+    let region = RegionAsked::from_tree(alloc, tree)?;
+    Ok(Asked::CopiesOfRegion(encoding, target, items, region))
+}
+
+/// What `counts_of_region` is asked of.
+fn counts_of_region<'t>(alloc: Global, tree: &'t Value) -> Result<Asked<'t>, Refusal<Unreadable>>
+    ensures { IsRead asked_of (asked_in CountsOfRegion (view tree.now)) result }
+{
+    let encoding = encoding(tree)?;
+    let target = TargetArray::from_tree(alloc, tree)?;
+    let share = share(alloc, tree)?;
+    let region = RegionAsked::from_tree(alloc, tree)?;
+    Ok(Asked::CountsOfRegion(encoding, target, share, region))
+}
+
 /// The share that a line asks for: its member `share`, the number of the share and how many there are; where it has none, the whole plan.
 ///
 /// # Errors
@@ -182,10 +227,17 @@ impl<'t> Target<'t> {
     pub(crate) fn from_tree(tree: &'t Value) -> Result<Target<'t>, Refusal<Unreadable>>
         ensures { IsRead target_of (target_in (view tree.now)) result }
     {
-        let target = required(tree, "target")?;
-        if !target.is_object() {
-            return Err(Refusal::Refused(Unreadable::WrongValue("target")));
-        }
+        let target = target_object(tree)?;
+        Target::stored(target)
+    }
+
+    /// The trees that a target has.
+    ///
+    /// # Errors
+    /// The first that applies: it has no `chunk_grid`; it has no `chunk_key_encoding`.
+    fn stored(target: &'t Value) -> Result<Target<'t>, Refusal<Unreadable>>
+        ensures { IsRead target_of (stored_in (view target.now)) result }
+    {
         let chunk_grid = of_target("chunk_grid", "target.chunk_grid", target)?;
         let chunk_key_encoding = of_target(
             "chunk_key_encoding",
@@ -197,6 +249,55 @@ impl<'t> Target<'t> {
             chunk_key_encoding,
         })
     }
+}
+
+impl<'t> TargetArray<'t> {
+    /// The array that a line asks for as its member `target`. What else that has says nothing.
+    ///
+    /// # Errors
+    /// The first that applies: `target` is missing, or no object; it has no `shape`, or one that is no list of sizes; it has no `chunk_grid`; it has
+    /// no `chunk_key_encoding`. Or out of memory.
+    fn from_tree(alloc: Global, tree: &'t Value) -> Result<TargetArray<'t>, Refusal<Unreadable>>
+        ensures { IsRead target_array_of (target_array_in (view tree.now)) result }
+    {
+        let target = target_object(tree)?;
+        let shape = target_shape(alloc, target)?;
+        let stored = Target::stored(target)?;
+        Ok(TargetArray { shape, stored })
+    }
+}
+
+impl RegionAsked {
+    /// The region that a line asks for: its members `subset` and `at`.
+    ///
+    /// # Errors
+    /// The first that applies: `subset` is missing, or isn't two lists of sizes; `at` is no list of sizes. Or out of memory.
+    fn from_tree(alloc: Global, tree: &Value) -> Result<RegionAsked, Refusal<Unreadable>>
+        ensures { IsRead region_of (region_in (view tree.now)) result }
+    {
+        let elements = lists(alloc, "subset", tree)?;
+        let at = optional_in(alloc, "at", tree)?;
+        Ok(RegionAsked { elements, at })
+    }
+}
+
+/// The member `target` of a line, which has to be an object.
+fn target_object(tree: &Value) -> Result<&Value, Refusal<Unreadable>>
+    ensures { IsRead (λ value. view value.now) (target_object_in (view tree.now)) result }
+{
+    let target = required(tree, "target")?;
+    if !target.is_object() {
+        return Err(Refusal::Refused(Unreadable::WrongValue("target")));
+    }
+    Ok(target)
+}
+
+/// The shape of a target that is another array.
+fn target_shape(alloc: Global, target: &Value) -> Result<Vec<u64>, Refusal<Unreadable>>
+    ensures { IsRead (λ shape. shape.items) (target_shape_in (view target.now)) result }
+{
+    let shape = of_target("shape", "target.shape", target)?;
+    in_form(alloc, "target.shape", shape)
 }
 
 /// A member that a target has to have, which a fault calls by its path.

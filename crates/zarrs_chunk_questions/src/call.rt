@@ -36,6 +36,10 @@ pub(crate) enum OfArray {
     Copies,
     /// Of a target, with an encoding, and of a share.
     Counts,
+    /// Of a box and another array that it goes to, with an encoding.
+    CopiesOfRegion,
+    /// Of such a box and such an array, with an encoding, and of a share.
+    CountsOfRegion,
 }
 
 /// What a grid is asked alone.
@@ -112,6 +116,8 @@ impl Call {
             "parts" => OfArray::Parts,
             "copies" => OfArray::Copies,
             "counts" => OfArray::Counts,
+            "copies_of_region" => OfArray::CopiesOfRegion,
+            "counts_of_region" => OfArray::CountsOfRegion,
             _ => return None,
         };
         Some(Call::OfArray(of_array))

@@ -1,4 +1,4 @@
-//! How much a rechunking copies, and which of its lines a share has.
+//! How much a rechunking copies, or what is copied of a region, and which of its lines a share has.
 ghost use Rattle.std.specs.Prelude.{◌≡◌, IfOk, MatchResult};
 ghost use Rattle.serde_json.specs.View.{view};
 ghost use Rattle.zarrs_chunk_base.specs.Json.{size_tree};
@@ -9,16 +9,18 @@ ghost use Rattle.zarrs_chunk_plan.specs.Counts.{product};
 ghost use Rattle.zarrs_chunks.specs.seen.Grids.{grid_in};
 ghost use Rattle.zarrs_chunk_questions.specs.Counts.{IsCountsAnswer, count_tree as tree_of_count, counts_tree as tree_of_counts};
 ghost use Rattle.zarrs_chunk_questions.specs.Counts.{share_tree as tree_of_share};
-ghost use Rattle.zarrs_chunk_questions.specs.Refused.{IsNoRechunking};
+ghost use Rattle.zarrs_chunk_questions.specs.Refused.{IsNoRechunking, IsNoRegionCopy};
+ghost use Rattle.zarrs_chunk_questions.specs.Regions.{IsRegionCountsAnswer};
 ghost use Rattle.zarrs_chunk_questions.specs.Trees.{or_null};
 ghost use Rattle.zarrs_chunk_questions.specs.seen.Read.{share_of};
 
 use crate::line_fault::LineFault;
 use crate::rechunking::Rechunking;
+use crate::regions::RegionCopy;
 use serde_json::{Map, Value};
 use std::alloc::{AllocError, Global};
 use zarrs_chunk_base::{ArrayShape, Refusal, write_list};
-use zarrs_chunk_plan::{Counts, Share, counts_of_rechunking};
+use zarrs_chunk_plan::{Counts, Share, counts_of_rechunking, counts_of_region};
 
 /// The tree of how much a rechunking copies, and of the numbers of a share's lines.
 ///
@@ -46,6 +48,38 @@ pub(crate) fn counts_of_copies(
     match counts_of_rechunking(alloc, source, target, chunks) {
         Ok(counts) => Ok(counts_tree(alloc, &counts, share)?),
         Err(Refusal::Refused(error)) => Err(Refusal::Refused(LineFault::Copies(error))),
+        Err(Refusal::Memory(error)) => Err(Refusal::Memory(error)),
+    }
+}
+
+/// The tree of how much is copied of a region, and of the numbers of a share's lines.
+///
+/// # Errors
+/// The region, the two arrays and the index to begin at don't fit together; or out of memory.
+pub(crate) fn counts_of_moves(
+    alloc: Global,
+    region: &RegionCopy,
+    share: &Share,
+) -> Result<Value, Refusal<LineFault>>
+    ensures { MatchResult result (λ tree. IsRegionCountsAnswer (share_of share.now)
+        (grid_in region.now.source.grid).dimensions
+        (IsKey (encoding_in region.now.source.encoding))
+        (grid_in region.now.target.grid).dimensions
+        (IsKey (encoding_in region.now.target.encoding))
+        region.now.elements region.now.at.items (view tree))
+        (OrMemory (IsNoRegionCopy (grid_in region.now.source.grid).dimensions
+        (grid_in region.now.target.grid).dimensions region.now.elements region.now.at.items)) }
+{
+    let RegionCopy {
+        source,
+        target,
+        elements,
+        at,
+    } = region;
+    elements.is_a_box();
+    match counts_of_region(alloc, source, target, elements, at) {
+        Ok(counts) => Ok(counts_tree(alloc, &counts, share)?),
+        Err(Refusal::Refused(error)) => Err(Refusal::Refused(LineFault::Region(error))),
         Err(Refusal::Memory(error)) => Err(Refusal::Memory(error)),
     }
 }

@@ -4,7 +4,7 @@ use thiserror::Error;
 use zarrs_chunk_base::{
     ArraySubsetError, ExtensionError, IncompatibleDimensionalityError, StoreKeyError,
 };
-use zarrs_chunk_plan::CopiesError;
+use zarrs_chunk_plan::{CopiesError, RegionError};
 
 /// Why a line has no answer: it can't be read, or the library refuses.
 #[derive(Debug, Drop, Error)]
@@ -30,4 +30,7 @@ pub(crate) enum LineFault {
     /// The rechunking that is asked for can't be planned.
     #[error("{0}")]
     Copies(CopiesError),
+    /// The region that is asked for can't be copied.
+    #[error("{0}")]
+    Region(RegionError),
 }

@@ -1,17 +1,12 @@
-//! A rechunking that a question is about; and the groups of its plan, from one of them on: those before it take no time.
-ghost use Rattle.std.specs.Prelude.{◌≡◌, IfOk, IfSome, List, MatchResult, length, map, option_map, replicate};
-ghost use Rattle.std.specs.List.{AllByRecursion, AllZip};
+//! A rechunking that a question is about, and the groups of its plan.
+ghost use Rattle.std.specs.Prelude.{◌≡◌, IfSome, MatchResult, option_map};
 ghost use Rattle.serde_json.specs.View.{view};
 ghost use Rattle.zarrs_chunk_base.specs.ArraySubset.{IsBox};
 ghost use Rattle.zarrs_chunk_base.specs.Refusal.{OrMemory};
 ghost use Rattle.zarrs_chunk_keys.specs.ChunkKey.{IsKey};
 ghost use Rattle.zarrs_chunk_keys.specs.seen.Encodings.{encoding_in};
-ghost use Rattle.zarrs_chunk_plan.specs.Plan.{IsPart, Meets};
-ghost use Rattle.zarrs_chunk_plan.specs.Rechunking.{AreCopiesInto, Group, array_box};
-ghost use Rattle.zarrs_chunk_plan.specs.seen.Copies.{IsPlanned};
-ghost use Rattle.zarrs_chunk_plan.specs.seen.Parts.{ArePartsToCome, MeetSubset};
 ghost use Rattle.zarrs_chunks.specs.seen.Grids.{grid_in};
-ghost use Rattle.zarrs_chunk_questions.specs.Pages.{IsCopiesAnswer, group_tree as tree_of_group, target_chunks as chunks_asked};
+ghost use Rattle.zarrs_chunk_questions.specs.Pages.{IsCopiesAnswer, target_chunks as chunks_asked};
 ghost use Rattle.zarrs_chunk_questions.specs.Refused.{IsNoBoxOf, IsNoRechunking, IsSomeCopiesRefusal};
 ghost use Rattle.zarrs_chunk_questions.specs.seen.Read.{lists_of, target_of};
 ghost use Rattle.zarrs_chunk_questions.specs.Trees.{box_of as box_said};
@@ -19,18 +14,16 @@ ghost use Rattle.zarrs_chunk_questions.specs.seen.Targets.{IsNoTarget, IsRechunk
 
 use crate::asked::{Lists, Target};
 use crate::extensions::{box_of, make_encoding};
+use crate::groups::groups_page;
 use crate::limits::Limits;
 use crate::line_fault::LineFault;
-use crate::pages::page_tree;
-use crate::plan_trees::group_tree;
+use crate::plan_trees::PlanOf;
 use serde_json::Value;
-use std::alloc::{AllocError, Global};
+use std::alloc::Global;
 use zarrs_chunk_base::{ArraySubset, Refusal};
-use zarrs_chunk_keys::{ChunkKeyEncoding, ChunkKeyEncodingTraits};
-use zarrs_chunk_plan::{
-    ChunkCopies, Part, Parts, StoredArray, all_chunks, copies, some_chunks, targets_of,
-};
-use zarrs_chunks::{ArrayIndicesTinyVec, ChunkGrid, ChunkGridTraits};
+use zarrs_chunk_keys::ChunkKeyEncoding;
+use zarrs_chunk_plan::{StoredArray, all_chunks, copies};
+use zarrs_chunks::ChunkGrid;
 
 /// An array as it is stored, by metadata.
 pub(crate) type Stored = StoredArray<ChunkGrid, ChunkKeyEncoding>;
@@ -79,7 +72,7 @@ impl Rechunking {
 ///
 /// # Errors
 /// The first that applies: the grid can't be made; the encoding can't. Or out of memory.
-fn make_target(
+pub(crate) fn make_target(
     alloc: Global,
     target: Target<'_>,
     shape: &[u64],
@@ -120,8 +113,7 @@ fn target_chunks(
     }
 }
 
-/// The tree of the groups of the plan of a rechunking, from the one with this number on; `None` where the parts are longer than there is room for. A
-/// group is made for one chunk of the target at a time, and no more of its parts than there is room for.
+/// The tree of the groups of the plan of a rechunking, from the one with this number on; `None` where the parts are longer than there is room for.
 ///
 /// # Errors
 /// The box of chunks has another number of dimensions than the target; or out of memory.
@@ -145,128 +137,11 @@ pub(crate) fn copies_from(
         target,
         chunks,
     } = rechunking;
-    let targets = match targets_of(alloc, &source.grid, &target.grid, chunks) {
-        Ok(targets) => targets,
+    let walk = match copies(alloc, source, target, chunks) {
+        Ok(walk) => walk,
         Err(Refusal::Refused(error)) => return Err(Refusal::Refused(LineFault::Copies(error))),
         Err(Refusal::Memory(error)) => return Err(Refusal::Memory(error)),
     };
-    let some = some_chunks(alloc, &targets, first, limits.wanted() as usize)?;
-    let Some(groups) = group_trees(alloc, source, target, &some.chunks, limits.too_many)? else {
-        return Ok(None);
-    };
-    let page = page_tree(alloc, groups, limits, first, some.chunks.len(), some.in_all)?;
+    let page = groups_page(alloc, PlanOf::OfRechunking, walk, first, limits)?;
     Ok(page)
-}
-
-/// The trees of the groups of chunks of the target, each of which holds some element of the array; `None` where they have that many parts, or more.
-///
-/// # Errors
-/// Out of memory.
-fn group_trees<
-    G: ChunkGridTraits,
-    E: ChunkKeyEncodingTraits,
-    H: ChunkGridTraits,
-    F: ChunkKeyEncodingTraits,
->(
-    alloc: Global,
-    source: &StoredArray<G, E>,
-    target: &StoredArray<H, F>,
-    chunks: &[ArrayIndicesTinyVec],
-    too_many: u64,
-) -> Result<Option<Vec<Value>>, AllocError>
-    requires { AllByRecursion (λ chunk. Meets (H.dimensions target.now.grid)
-        (array_box (H.dimensions target.now.grid)) chunk.items) chunks.now }
-    ensures { IfOk result (λ found. IfSome found (λ trees. (groups : List Group)
-        × AllZip (λ chunk group. AreCopiesInto (G.dimensions source.now.grid)
-        (E.is_key source.now.encoding) (H.dimensions target.now.grid) (F.is_key target.now.encoding)
-        chunk.items group) chunks.now groups
-        × (map view trees.items ≡ map tree_of_group groups))) }
-{
-    let mut trees = Vec::new(alloc);
-    let mut left = too_many;
-    for chunk in chunks {
-        let group = copies_into(alloc, source, target, chunk.as_slice())?;
-        let ChunkCopies { to, from } = group;
-        let Some(parts) = parts_below(alloc, from, left)? else {
-            return Ok(None);
-        };
-        left = left.saturating_sub(parts.len() as u64);
-        trees.push(group_tree(alloc, &to, &parts)?)?;
-    }
-    Ok(Some(trees))
-}
-
-/// What is copied into a chunk of the target that holds some element of the array.
-///
-/// # Errors
-/// Out of memory.
-fn copies_into<
-    'a,
-    G: ChunkGridTraits,
-    E: ChunkKeyEncodingTraits,
-    H: ChunkGridTraits,
-    F: ChunkKeyEncodingTraits,
->(
-    alloc: Global,
-    source: &'a StoredArray<G, E>,
-    target: &'a StoredArray<H, F>,
-    chunk: &[u64],
-) -> Result<ChunkCopies<'a, G, E>, AllocError>
-    requires { Meets (H.dimensions target.now.grid) (array_box (H.dimensions target.now.grid))
-        chunk.now }
-    ensures to { IfOk result (λ group. IsPart (H.dimensions target.now.grid)
-        (F.is_key target.now.encoding) (array_box (H.dimensions target.now.grid)) chunk.now group.to) }
-    ensures from { IfOk result (λ group. IsPlanned G.dimensions source.now.grid
-        source.now.encoding group.to.in_subset group.from) }
-{
-    let one = box_of_one(alloc, chunk)?;
-    let Ok(mut walk) = copies(alloc, source, target, &one) else {
-        return Err(AllocError);
-    };
-    match walk.next() {
-        Some(group) => group,
-        // Never: something is copied into the chunk.
-        None => Err(AllocError),
-    }
-}
-
-/// The box of one chunk number.
-///
-/// # Errors
-/// Out of memory; or no box holds the number.
-fn box_of_one(alloc: Global, chunk: &[u64]) -> Result<ArraySubset, AllocError>
-    ensures one { IfOk result (λ one. one
-        ≡ record { start = chunk.now; shape = replicate (length chunk.now) 1 }) }
-    ensures is_box { IfOk result IsBox }
-{
-    let start = chunk.to_vec(alloc)?;
-    let mut shape = Vec::with_capacity(alloc, chunk.len())?;
-    shape.resize(chunk.len(), 1)?;
-    match ArraySubset::new_with_start_shape(start, shape) {
-        Ok(one) => Ok(one),
-        Err(_) => Err(AllocError),
-    }
-}
-
-/// The parts that a walk has left; `None` where they are that many, or more.
-///
-/// # Errors
-/// Out of memory.
-fn parts_below<G: ChunkGridTraits, E: ChunkKeyEncodingTraits>(
-    alloc: Global,
-    walk: Parts<'_, G, E>,
-    too_many: u64,
-) -> Result<Option<Vec<Part>>, AllocError>
-    requires { MeetSubset G.dimensions walk }
-    ensures { IfOk result (λ found. IfSome found (λ all.
-        ArePartsToCome G.dimensions E.is_key walk.entry all.items)) }
-{
-    let mut all = Vec::new(alloc);
-    for part in walk {
-        all.push(part?)?;
-        if all.len() as u64 >= too_many {
-            return Ok(None);
-        }
-    }
-    Ok(Some(all))
 }

@@ -10,7 +10,9 @@ use Rattle.zarrs_chunk_questions.specs.Reading.{Fault, Reading, missing, no_call
 use Rattle.zarrs_chunk_questions.specs.declared.asked.Asked.{Asked}
 use Rattle.zarrs_chunk_questions.specs.declared.asked.Asked.TheVariants as asked
 use Rattle.zarrs_chunk_questions.specs.declared.asked.Items.{Items}
+use Rattle.zarrs_chunk_questions.specs.declared.asked.RegionAsked.{RegionAsked}
 use Rattle.zarrs_chunk_questions.specs.declared.asked.Target.{Target}
+use Rattle.zarrs_chunk_questions.specs.declared.asked.TargetArray.{TargetArray}
 use Rattle.zarrs_chunk_questions.specs.declared.question.Question.{Question}
 use Rattle.zarrs_chunk_questions.specs.declared.question.Question.TheVariants as asks
 use Rattle.zarrs_chunk_questions.specs.declared.unreadable.Unreadable.{Unreadable}
@@ -36,6 +38,12 @@ items_of items = record { most = items.most; first = items.first }
 abbrev pub target_of : Target → question.Target
 target_of target = record { chunk_grid = view target.chunk_grid.now; chunk_key_encoding = view target.chunk_key_encoding.now }
 
+abbrev pub target_array_of : TargetArray → question.TargetArray
+target_array_of target = record { shape = target.shape.items; stored = target_of target.stored }
+
+abbrev pub region_of : RegionAsked → question.RegionAsked
+region_of region = record { elements = lists_of region.elements; at = option_map (λ at. at.items) region.at }
+
 abbrev pub share_of : Share → question.ShareAsked
 share_of share = (share.number, share.of)
 
@@ -52,6 +60,10 @@ asked_of (asked.Copies encoding target items chunks) =
     question.copies (view encoding.now) (target_of target) (items_of items) (option_map lists_of chunks)
 asked_of (asked.Counts encoding target share chunks) =
     question.counts (view encoding.now) (target_of target) (share_of share) (option_map lists_of chunks)
+asked_of (asked.CopiesOfRegion encoding target items region) =
+    question.copies_of_region (view encoding.now) (target_array_of target) (items_of items) (region_of region)
+asked_of (asked.CountsOfRegion encoding target share region) =
+    question.counts_of_region (view encoding.now) (target_array_of target) (share_of share) (region_of region)
 
 abbrev pub question_of : Question → question.Question
 question_of (asks.OfArray shape chunk_grid asked) = question.of_array shape.items (view chunk_grid.now) (asked_of asked)

@@ -1,4 +1,4 @@
--- A rechunking, as it is made of a question's trees.
+-- A rechunking and the copy of a region, as they are made of a question's trees.
 use Rattle.std.specs.Prelude.{◌≡◌, ◌⊎◌, ℕ, IfSome, List, Option}
 use Rattle.serde_json.specs.Data.{Data}
 use Rattle.zarrs_chunk_base.specs.ArraySubset.{IsBox}
@@ -10,11 +10,13 @@ use Rattle.zarrs_chunk_plan.specs.declared.stored_array.StoredArray.{StoredArray
 use Rattle.zarrs_chunks.specs.seen.Grids.{grid_in, kind_in}
 use Rattle.zarrs_chunks.specs.declared.chunk_grid.named.ChunkGrid.{ChunkGrid}
 use Rattle.zarrs_chunk_questions.specs.Pages.{target_chunks}
-use Rattle.zarrs_chunk_questions.specs.Question.{Lists, Target}
+use Rattle.zarrs_chunk_questions.specs.Question.{Lists, RegionAsked, Target, TargetArray}
 use Rattle.zarrs_chunk_questions.specs.Refused.{IsNoEncoding, IsNoGrid, IsOfTarget}
+use Rattle.zarrs_chunk_questions.specs.Regions.{begins_at}
 use Rattle.zarrs_chunk_questions.specs.Trees.{box_of}
 use Rattle.zarrs_chunk_questions.specs.declared.line_fault.LineFault.{LineFault}
 use Rattle.zarrs_chunk_questions.specs.declared.rechunking.Rechunking.{Rechunking}
+use Rattle.zarrs_chunk_questions.specs.declared.regions.RegionCopy.{RegionCopy}
 
 -- its grid and its encoding, of an array of this shape
 abbrev pub IsTargetIn : Target → List ℕ → StoredArray ChunkGrid ChunkKeyEncoding → Type 0
@@ -37,3 +39,12 @@ pub record IsRechunkingIn (shape : List ℕ) (grid : ChunkGrid) (tree : Data) (t
   pub is_target : IsTargetIn target shape made.target
   pub are_chunks : made.chunks ≡ target_chunks chunks (grid_in made.target.grid).dimensions
   pub is_box : IfSome chunks (λ lists. IsBox (box_of lists))
+
+-- What is asked about a region of an array with this grid: the grids and encodings of source and target, the box, and the index that it begins at.
+pub record IsRegionIn (grid : ChunkGrid) (tree : Data) (target : TargetArray) (region : RegionAsked) (made : RegionCopy) : Type 0 where
+  pub same_grid : made.source.grid ≡ grid
+  pub is_encoding : IsEncodingIn tree (encoding_in made.source.encoding)
+  pub is_target : IsTargetIn target.stored target.shape made.target
+  pub elements : made.elements ≡ box_of region.elements
+  pub is_box : IsBox (box_of region.elements)
+  pub begins : made.at.items ≡ begins_at region

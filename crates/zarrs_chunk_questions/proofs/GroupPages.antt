@@ -1,0 +1,162 @@
+-- The groups of a plan: those that came of a walk, and the page of some of them.
+use Rattle.std.proofs.Common.{◌≡◌, ◌≢◌, ◌∙◌, ℕ, ◌+◌, ◌-◌, ◌≤◌, List, [], ◌∷◌, ◌++◌, false, IfSome, Option, Some, None, ap, ap₂, append-nil, drop, length, map}
+use Rattle.std.proofs.Common.{min, refl, subst, sym, take, arith}
+use Rattle.std.proofs.Math.Seq.{drop-nil, take-append_seam, take-nil}
+use Rattle.std.proofs.lemmas.Bool.{le-ltb}
+use Rattle.std.proofs.lemmas.List.{length-map, map-append, take_all}
+use Rattle.std.proofs.lemmas.Slice.Zip.{AllZip-long}
+use Rattle.std.specs.List.{AllZip}
+use Rattle.serde_json.specs.Data.{Data}
+use Rattle.serde_json.specs.View.{view}
+use Rattle.serde_json.specs.declared.value.Value.{Value}
+use Rattle.zarrs_chunk_base.specs.ArraySubset.{Box, IsBox, IsEmptyBox}
+use Rattle.zarrs_chunk_base.specs.Dimension.{Dimension, array_sizes}
+use Rattle.zarrs_chunks.specs.Subsets.{IsCover}
+use Rattle.zarrs_chunks.specs.Walks.{chunks_in}
+use Rattle.zarrs_chunks.proofs.ChunksInBoxes.{are_those_inside}
+use Rattle.zarrs_chunk_plan.specs.Plan.{Meets}
+use Rattle.zarrs_chunk_plan.specs.Rechunking.{AreTargets, Group, array_box}
+use Rattle.zarrs_chunk_plan.specs.Region.{AreMovedInto, CanBeMoved, moved}
+use Rattle.zarrs_chunk_plan.specs.declared.chunk_copies.Copies.{Copies}
+use Rattle.zarrs_chunk_plan.specs.seen.Copies.{CanMove, IsAboutCopies, first_of, target_of, targets_to_come}
+use Rattle.zarrs_chunk_plan.proofs.Plans.{all_of_each}
+use Rattle.zarrs_chunk_plan.proofs.SomeRegions.{some_copied}
+use Rattle.zarrs_chunk_questions.specs.Pages.{IsCopiesAnswer, chunks_from, count_of, is_more, page_tree}
+use Rattle.zarrs_chunk_questions.specs.Regions.{IsRegionCopiesAnswer}
+use Rattle.zarrs_chunk_questions.specs.declared.plan_trees.PlanOf.{PlanOf}
+use Rattle.zarrs_chunk_questions.specs.declared.plan_trees.PlanOf.TheVariants.{OfRechunking, OfRegion}
+use Rattle.zarrs_chunk_questions.specs.seen.Groups.{IsGroupIn, IsPageOfGroups, tree_in}
+use Rattle.zarrs_chunk_questions.proofs.Listed.{all_behind}
+use Rattle.zarrs_chunk_questions.proofs.SomeItems.{all_wanted}
+
+-- ---- what came of a walk
+
+module _ {X Y : Type 0} (R : X → Y → Type 0) (all came left : List X) (ys : List Y) (most : ℕ) (split : all ≡ came ++ left)
+    (are : AllZip R came ys) where
+  -- as many as were asked for
+  pub as_many_came : length ys ≡ most → AllZip R (take most all) ys
+  as_many_came many =
+      let long : most ≡ length came = sym many ∙ AllZip-long R came ys are in
+      subst (λ xs. AllZip R xs ys) (sym (ap (take most) split ∙ ap (λ n. take n (came ++ left)) long ∙ take-append_seam came left)) are
+
+  -- all that there are, which are no more
+  pub all_came : left ≡ [] → length ys ≤ most → AllZip R (take most all) ys
+  all_came none few =
+      let long = AllZip-long R came ys are in
+      let same : all ≡ came = split ∙ ap (λ xs. came ++ xs) none ∙ append-nil came in
+      subst (λ xs. AllZip R xs ys) (sym (ap (take most) same ∙ take_all most came (omega arith))) are
+
+-- of one more the tree
+pub one_tree_more : (plan : PlanOf) (trees more : List Value) (tree : Value) (groups : List Group) (group : Group)
+    → map view trees ≡ map (tree_in plan) groups → view tree ≡ tree_in plan group → more ≡ trees ++ tree ∷ []
+    → map view more ≡ map (tree_in plan) (groups ++ group ∷ [])
+one_tree_more plan trees more tree groups group written told longer =
+    ap (map view) longer ∙ map-append view trees (tree ∷ []) ∙ ap₂ (λ xs x. xs ++ x ∷ []) written told
+    ∙ sym (map-append (tree_in plan) groups (group ∷ []))
+
+-- as many trees as groups
+pub as_many_trees : (plan : PlanOf) (trees : List Value) (groups : List Group) → map view trees ≡ map (tree_in plan) groups
+    → length groups ≡ length trees
+as_many_trees plan trees groups written =
+    sym (length-map groups (tree_in plan)) ∙ ap length (sym written) ∙ length-map trees view
+
+-- ---- a walk that went to a chunk
+
+module _ {G E H F : Type 0} (source_dimensions : G → List Dimension) (source_key : E → List ℕ → List ℕ → Type 0)
+    (target_dimensions : H → List Dimension) (target_key : F → List ℕ → List ℕ → Type 0) (walk gone : Copies G E H F) (first : ℕ)
+    (about : IsAboutCopies walk.source.now (target_of walk) walk.targets.array_subset gone) (same_first : first_of gone ≡ first_of walk)
+    (left : targets_to_come gone ≡ drop first (targets_to_come walk)) where
+  -- it can go on
+  pub still_moves : CanMove source_dimensions target_dimensions walk → CanMove source_dimensions target_dimensions gone
+  still_moves can =
+      let targets = about.targets in record {
+        in_source = rw (same_first, about.same_source, targets.same_subset) can.in_source;
+        meet = rw (targets.same_grid, targets.same_subset, left)
+            (all_behind (Meets (target_dimensions walk.targets.grid.now) walk.targets.array_subset) first (targets_to_come walk) can.meet);
+      }
+
+  -- and it gives the same groups
+  pub same_groups : (count : ℕ) (groups : List Group)
+      → AllZip (IsGroupIn source_dimensions source_key target_dimensions target_key gone) (take count (targets_to_come gone)) groups
+      → AllZip (IsGroupIn source_dimensions source_key target_dimensions target_key walk) (take count (drop first (targets_to_come walk))) groups
+  same_groups count groups are =
+      let targets = about.targets in
+      rw (left, about.same_source, targets.same_grid, targets.same_encoding, targets.same_subset, same_first) at are
+
+-- ---- pages
+
+-- the page of the groups that were made
+pub groups_page : (plan : PlanOf) (IsGroup : List ℕ → Group → Type 0) (chunks : List (List ℕ)) (first most too_many count given in_all : ℕ)
+    (trees : List Value) (page : Option Value) → in_all ≡ count_of chunks → count ≡ min (min most too_many) (in_all - first)
+    → (groups : List Group) × AllZip IsGroup (take count (drop first chunks)) groups × (map view trees ≡ map (tree_in plan) groups)
+    → given ≡ length trees
+    → IfSome page (λ tree. (given ≢ too_many) × (view tree ≡ page_tree (map view trees) (is_more first given in_all)))
+    → IfSome page (λ tree. IsPageOfGroups plan IsGroup chunks first most (view tree))
+groups_page plan IsGroup chunks first most too_many count given in_all trees None counted wanted made many is = tt
+groups_page plan IsGroup chunks first most too_many count given in_all trees (Some tree) counted wanted (groups, zipped, written) many (few, is) =
+    let as_many = as_many_trees plan trees groups written in
+    let fewer : length groups ≢ too_many = λ same. few (many ∙ sym as_many ∙ same) in
+    let within : in_all ≤ length chunks = omega arith in
+    let same : count ≡ min (in_all - first) (min most too_many) = omega arith in
+    let all = all_wanted IsGroup chunks groups first most too_many in_all within (rw same at zipped) fewer in (
+      groups,
+      subst (λ n. AllZip IsGroup (take (min (n - first) most) (drop first chunks)) groups) counted all,
+      is ∙ ap₂ (λ xs n. page_tree xs (is_more first n in_all)) written (many ∙ sym as_many)
+          ∙ ap (λ n. page_tree (map (tree_in plan) groups) (is_more first (length groups) n)) counted,
+    )
+
+module _ (source : List Dimension) (IsSourceKey : List ℕ → List ℕ → Type 0) (target : List Dimension) (IsTargetKey : List ℕ → List ℕ → Type 0)
+    (first most : ℕ) where
+  -- of a rechunking
+  pub copies_page : (chunks targets : Box) (page : Option Value) → length chunks.start ≡ length target → IsBox targets
+      → AreTargets target chunks targets
+      → IfSome page (λ t. IsPageOfGroups OfRechunking
+      (AreMovedInto source IsSourceKey target IsTargetKey (array_box target) (array_box target).start) (chunks_in targets) first most (view t))
+      → IfSome page (λ t. IsCopiesAnswer source IsSourceKey target IsTargetKey chunks first most (view t))
+  copies_page chunks targets None long is_box are page = tt
+  copies_page chunks targets (Some t) long is_box are (groups, zipped, is) =
+      let in_all = count_of (chunks_in targets) in
+      let meet = all_of_each (Meets target (array_box target)) (chunks_in targets)
+      (λ chunk has. ((are chunk).0 ((are_those_inside targets is_box chunk).0 has)).1)
+      in (
+        long,
+        in_all,
+        groups,
+        record {
+          targets = targets;
+          is_box = is_box;
+          are_targets = are;
+          in_all = refl;
+          are_groups = some_copied source IsSourceKey target IsTargetKey (chunks_in targets) meet (min (in_all - first) most) first groups zipped;
+        },
+        is,
+      )
+
+  -- of an empty list
+  no_groups : (IsGroup : List ℕ → Group → Type 0) (chunks : List (List ℕ)) (t : Data) → chunks ≡ []
+      → IsPageOfGroups OfRegion IsGroup chunks first most t → t ≡ page_tree [] false
+  no_groups IsGroup [] t none ([], zipped, is) = is ∙ ap (page_tree []) (le-ltb (first + 0) 0 (omega arith))
+  no_groups IsGroup [] t none (group ∷ groups, zipped, is) =
+      let count = count_of [] - first in
+      let nothing : chunks_from first most [] ≡ [] = ap (take (min count most)) (drop-nil first) ∙ take-nil (min count most) in
+      absurd (subst (λ xs. AllZip IsGroup xs (group ∷ groups)) nothing zipped)
+  no_groups IsGroup (chunk ∷ chunks) t none page = cc
+
+  -- of the copy of a region
+  pub region_page : (region : Box) (at : List ℕ) (chunks : List (List ℕ)) (page : Option Value)
+      → CanBeMoved (array_sizes source) (array_sizes target) region at
+      → ((¬ IsEmptyBox region) → (cover : Box) × IsCover target (moved at region) cover × (chunks ≡ chunks_in cover))
+      → (IsEmptyBox region → chunks ≡ [])
+      → IfSome page (λ t. IsPageOfGroups OfRegion (AreMovedInto source IsSourceKey target IsTargetKey region at) chunks first most (view t))
+      → IfSome page (λ t. IsRegionCopiesAnswer first most source IsSourceKey target IsTargetKey region at (view t))
+  region_page region at chunks None can covered empty page = tt
+  region_page region at chunks (Some t) can covered empty page = record {
+    can = can;
+    some = λ some.
+        let (cover, is_cover, same) = covered some in
+        let IsPage = λ (xs : List (List ℕ)).
+        IsPageOfGroups OfRegion (AreMovedInto source IsSourceKey target IsTargetKey region at) xs first most (view t) in
+        let (groups, zipped, is) = subst IsPage same page in
+        (count_of (chunks_in cover), groups, record { cover = cover; is_cover = is_cover; in_all = refl; are_groups = zipped }, is);
+    none = λ none. no_groups (AreMovedInto source IsSourceKey target IsTargetKey region at) chunks (view t) (empty none) page;
+  }

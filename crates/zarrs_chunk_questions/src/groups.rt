@@ -1,0 +1,115 @@
+//! The groups that a walk over a plan has to give, from one of them on: those before it take no time.
+ghost use Rattle.std.specs.Prelude.{◌≡◌, IfOk, IfSome, List, map, take};
+ghost use Rattle.std.specs.List.{AllZip};
+ghost use Rattle.serde_json.specs.View.{view};
+ghost use Rattle.zarrs_chunk_plan.specs.Rechunking.{Group};
+ghost use Rattle.zarrs_chunk_plan.specs.seen.Copies.{CanMove, all_targets, targets_to_come};
+ghost use Rattle.zarrs_chunk_plan.specs.seen.Parts.{ArePartsToCome, MeetSubset};
+ghost use Rattle.zarrs_chunk_questions.specs.seen.Groups.{IsGroupIn, IsPageOfGroups, tree_in};
+
+use crate::limits::Limits;
+use crate::pages::page_tree;
+use crate::plan_trees::{PlanOf, group_tree};
+use serde_json::Value;
+use std::alloc::{AllocError, Global};
+use zarrs_chunk_keys::ChunkKeyEncodingTraits;
+use zarrs_chunk_plan::{ChunkCopies, Copies, Part, Parts};
+use zarrs_chunks::ChunkGridTraits;
+
+/// The tree of the groups of a walk that is at its beginning, from the one with this number on; `None` where their parts are longer than there is room
+/// for. A group is made at a time, and no more of its parts than there is room for.
+///
+/// # Errors
+/// Out of memory.
+pub(crate) fn groups_page<
+    G: ChunkGridTraits,
+    E: ChunkKeyEncodingTraits,
+    H: ChunkGridTraits,
+    F: ChunkKeyEncodingTraits,
+>(
+    alloc: Global,
+    plan: PlanOf,
+    walk: Copies<'_, G, E, H, F>,
+    first: u64,
+    limits: &Limits,
+) -> Result<Option<Value>, AllocError>
+    requires can_move { CanMove G.dimensions H.dimensions walk }
+    requires begins { all_targets walk ≡ targets_to_come walk }
+    ensures { IfOk result (λ found. IfSome found (λ tree. IsPageOfGroups plan
+        (IsGroupIn G.dimensions E.is_key H.dimensions F.is_key walk.entry)
+        (targets_to_come walk.entry) first limits.now.most (view tree))) }
+{
+    let mut walk = walk;
+    let in_all = walk.in_all().unwrap_or(u64::MAX);
+    let count = limits.wanted().min(in_all.saturating_sub(first));
+    walk.skip_to(first)?;
+    let Some(trees) = group_trees(alloc, plan, walk, count as usize, limits.too_many)? else {
+        return Ok(None);
+    };
+    let given = trees.len();
+    let page = page_tree(alloc, trees, limits, first, given, in_all)?;
+    Ok(page)
+}
+
+/// The trees of the groups that a walk has left, at most so many; `None` where they have that many parts, or more.
+///
+/// # Errors
+/// Out of memory.
+fn group_trees<
+    G: ChunkGridTraits,
+    E: ChunkKeyEncodingTraits,
+    H: ChunkGridTraits,
+    F: ChunkKeyEncodingTraits,
+>(
+    alloc: Global,
+    plan: PlanOf,
+    walk: Copies<'_, G, E, H, F>,
+    most: usize,
+    too_many: u64,
+) -> Result<Option<Vec<Value>>, AllocError>
+    requires { CanMove G.dimensions H.dimensions walk }
+    ensures { IfOk result (λ found. IfSome found (λ trees. (groups : List Group)
+        × AllZip (IsGroupIn G.dimensions E.is_key H.dimensions F.is_key walk.entry)
+        (take most (targets_to_come walk.entry)) groups
+        × (map view trees.items ≡ map (tree_in plan) groups))) }
+{
+    let mut walk = walk;
+    let mut trees = Vec::new(alloc);
+    let mut left = too_many;
+    'groups: while trees.len() < most {
+        let group = match walk.next() {
+            Some(group) => group?,
+            None => return Ok(Some(trees)),
+        };
+        let ChunkCopies { to, from } = group;
+        let Some(parts) = parts_below(alloc, from, left)? else {
+            return Ok(None);
+        };
+        left = left.saturating_sub(parts.len() as u64);
+        trees.push(group_tree(alloc, plan, &to, &parts)?)?;
+    }
+    Ok(Some(trees))
+}
+
+/// The parts that a walk has left; `None` where they are that many, or more.
+///
+/// # Errors
+/// Out of memory.
+fn parts_below<G: ChunkGridTraits, E: ChunkKeyEncodingTraits>(
+    alloc: Global,
+    walk: Parts<'_, G, E>,
+    too_many: u64,
+) -> Result<Option<Vec<Part>>, AllocError>
+    requires { MeetSubset G.dimensions walk }
+    ensures { IfOk result (λ found. IfSome found (λ all.
+        ArePartsToCome G.dimensions E.is_key walk.entry all.items)) }
+{
+    let mut all = Vec::new(alloc);
+    for part in walk {
+        all.push(part?)?;
+        if all.len() as u64 >= too_many {
+            return Ok(None);
+        }
+    }
+    Ok(Some(all))
+}
