@@ -10,7 +10,8 @@
 //!
 //! A line has all that its chunk gets, and its number among the lines, so lines can be shared out in any way; `share`, a number and how many shares
 //! there are, takes of the lines the share with this number, counted from 0. With `counts` true there is one line in their place, of how much the plan
-//! copies, for who sizes tasks before they are planned. Neither goes with `resize`.
+//! copies, for who sizes tasks before they are planned. Neither goes with `resize`. With `keys` true, beside a `target`, the document is the first line, and
+//! each line behind it a key that the target's store has: the lines of what is there are left out, and keys that aren't the target's are told at the end.
 //!
 //! ```text
 //! {"shape":[4],"chunk_grid":{"name":"regular","configuration":{"chunk_shape":[3]}},
@@ -51,7 +52,9 @@ have to be written, written again or deleted; with `keep` true, also which stay.
 `share`, a number and how many shares there are, takes of the lines the share
 with this number, counted from 0. With `counts` true one line is written in
 place of all: how many copies, elements, lines and source chunks there are.
-Neither goes with `resize`.
+Neither goes with `resize`. With `keys` true, beside a `target`, the document is
+the first line, and each line behind it a key that the target's store has: what
+is there is left out, and keys that aren't the target's are told at the end.
 
   {\"shape\":[4],\"chunk_grid\":{\"name\":\"regular\",\"configuration\":
    {\"chunk_shape\":[3]}},\"chunk_key_encoding\":\"default\",\"subset\":[[1],[3]]}

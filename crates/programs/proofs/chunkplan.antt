@@ -4,10 +4,15 @@ pub mod Behind
 pub mod CountedPlans
 pub mod Digits
 pub mod FormFaults
+pub mod Inputs
+pub mod KeyDocuments
+pub mod KeyLines
+pub mod KeySteps
 pub mod LeftMembers
 pub mod Numbered
 pub mod Pieces
 pub mod ReadPlans
 pub mod RunOutcomes
 pub mod Steps
+pub mod StoredLines
 pub mod Tokens

@@ -1,9 +1,10 @@
-//! `chunkplan` writes what a read or a rechunking of a Zarr array copies, a line for each chunk that is read or written; or what a resize changes, a line
-//! for each chunk that has to be written, written again or deleted.
+//! `chunkplan` writes what a read, a rechunking or the copy of a region of a Zarr array copies, a line for each chunk that is read or written, or what
+//! of that a store hasn't; or what a resize changes, a line for each chunk that has to be written, written again or deleted.
 //!
 //! | Module | What it holds |
 //! |---|---|
 //! | `document` | the document that a JSON tree stands for |
+//! | `keys` | the keys behind a document |
 //! | `known_members` | the members that a document may have |
 //! | `boxes` | a box as a document writes it |
 //! | `flag` | a flag as a document writes it |
@@ -12,15 +13,23 @@
 //! | `copying` | the lines of a plan, sent as they are made |
 //! | `line` | one line |
 //! | `counting` | the counts of a plan, as one line |
+//! | `missing` | what is left of a plan beside keys |
 //! | `product` | products of numbers, in decimal digits |
 //! | `run_fault` | why a run stops |
-ghost use Rattle.std.specs.Prelude.{◌≡◌, ◌≤◌, false, IfSome, MatchResult, OnOk};
+ghost use Rattle.std.specs.Prelude.{◌≡◌, ◌≤◌, ◌⊎◌, ℕ, false, IfSome, List, MatchResult, OnOk, Some};
 ghost use Rattle.std.specs.Io.KnownBytes.{Keeps};
 ghost use Rattle.programs.specs.Watched.{has_failed, watched};
-ghost use Rattle.programs.specs.chunkplan.PlanFault.{IsFirstFault};
-ghost use Rattle.programs.specs.chunkplan.Planned.{IsPlanOf};
+ghost use Rattle.serde_json.specs.Data.{Data};
+ghost use Rattle.zarrs_chunk_base.specs.Json.{IsJsonOf};
+ghost use Rattle.programs.specs.chunkplan.Document.{Document as PlanDocument, IsDocument};
+ghost use Rattle.programs.specs.chunkplan.DocumentFault.{IsInputFault};
+ghost use Rattle.programs.specs.chunkplan.Keys.{HasKeysBehind, first_line};
+ghost use Rattle.programs.specs.chunkplan.PlanFault.{IsFaultBeside, IsFirstFault};
+ghost use Rattle.programs.specs.chunkplan.Planned.{IsPlanOf, IsPlannedBeside};
+ghost use Rattle.programs.specs.chunkplan.seen.Missing.{KeyStepLeaves};
+ghost use Rattle.programs.specs.seen.Lines.{left};
 ghost use Rattle.programs.specs.chunkplan.Run.{RunEndsWith, RunLeaves};
-ghost use Rattle.programs.specs.chunkplan.seen.Steps.{StepLeaves};
+ghost use Rattle.programs.specs.chunkplan.seen.Steps.{InputStepLeaves, StepLeaves};
 ghost use Rattle.programs.specs.seen.Sent.{output};
 
 mod boxes;
@@ -28,17 +37,22 @@ mod copying;
 mod counting;
 mod document;
 mod flag;
+mod keys;
 mod known_members;
 mod line;
+mod missing;
 mod plan;
 mod product;
 mod run_fault;
 mod share;
 
 pub use crate::Watched;
-use crate::streams::{read_to_end, write_all};
+use crate::lines::Lines;
+use crate::streams::write_all;
 use document::parse;
+use keys::has_keys_behind;
 pub use known_members::UnknownMember;
+use missing::write_beside_keys;
 use plan::write_plan;
 pub use run_fault::RunFault;
 use std::alloc::Global;
@@ -68,13 +82,15 @@ pub fn run_to_status<R: Read, W: Write, E: Write>(
     finish(&outcome, errors)
 }
 
-/// Reads a document to its end, and writes the plan that it asks for, line by line as the lines are made.
+/// Reads a document to its end, and writes the plan that it asks for, line by line as the lines are made. Where `keys` is true in a document that is
+/// the first line, the lines behind it are keys of the target's store: they are read to their end, and then what the store hasn't is written.
 ///
 /// # Errors
 /// The first fault: a failed read; a text that is no JSON, or no object; a member that isn't known, then one that is missing, then one that
 /// doesn't go with the others, then one that isn't of its form; a grid or an encoding that can't be made, then those of the target; a box with
 /// another number of dimensions; a box of elements that has no cover, where it isn't clipped to the array; a region that doesn't lie in the array, or
-/// in the target's; a grid of the new shape that can't be made. Nothing has been written then. After a
+/// in the target's; a grid of the new shape that can't be made. Where keys stand behind the document, behind its own faults more lines than there are
+/// bits for, a failed read, and a key that is no text. Nothing has been written then. After a
 /// failed write, or where memory runs out, a beginning of the plan may have been written.
 pub fn run<R: Read, W: Write>(
     alloc: Global,
@@ -91,26 +107,77 @@ pub fn run<R: Read, W: Write>(
           write_failed = has_failed writer.new;
         }))) }
 {
-    let input = read_to_end(alloc, reader)?;
     let mut held_back = Vec::new(alloc);
-    answer(alloc, input, &mut held_back, writer)?;
+    answer_input(alloc, reader, &mut held_back, writer)?;
     write_all(writer, &held_back)?;
     Ok(())
 }
 
-/// Sends the plan that an input asks for.
+/// Reads an input, and sends the plan that it asks for.
+fn answer_input<R: Read, W: Write>(
+    alloc: Global,
+    reader: &mut Watched<R>,
+    held_back: &mut Vec<u8>,
+    writer: &mut Watched<W>,
+) -> Result<(), RunFault>
+    ensures { IfSome (R.remaining (watched reader.old)) (λ input. has_failed reader.old ≡ false
+        → InputStepLeaves input result (has_failed reader.new) (R.remaining (watched reader.new))
+        (output W.contents held_back.old.items writer.old)
+        (output W.contents held_back.new.items writer.new)) }
+{
+    let mut lines = Lines::new(alloc);
+    let mut input = Vec::new(alloc);
+    lines.read_line(reader, &mut input)?;
+    if has_keys_behind(alloc, &input)? {
+        return answer_beside_keys(alloc, input, &mut lines, reader, held_back, writer);
+    }
+    lines.read_rest(reader, &mut input)?;
+    answer(alloc, input, held_back, writer)
+}
+
+/// Sends what is left of the plan that a first line asks for, of a store with the keys behind it.
+fn answer_beside_keys<R: Read, W: Write>(
+    alloc: Global,
+    line: Vec<u8>,
+    lines: &mut Lines,
+    reader: &mut Watched<R>,
+    held_back: &mut Vec<u8>,
+    writer: &mut Watched<W>,
+) -> Result<(), RunFault>
+    requires { HasKeysBehind line.items }
+    ensures { (bytes : List ℕ) → left lines.old (R.remaining (watched reader.old)) ≡ Some bytes
+        → KeyStepLeaves
+        (λ keys text. (tree : Data) × (document : PlanDocument) × IsJsonOf line.items tree
+        × IsDocument tree document × IsPlannedBeside document keys text)
+        (λ keys fault. IsInputFault line.items fault
+        ⊎ ((tree : Data) × (document : PlanDocument) × IsJsonOf line.items tree
+        × IsDocument tree document × IsFaultBeside document keys fault)) bytes result
+        (has_failed reader.old) (has_failed reader.new) (R.remaining (watched reader.new))
+        (output W.contents held_back.old.items writer.old)
+        (output W.contents held_back.new.items writer.new) }
+{
+    let document = parse(alloc, &line)?;
+    drop(line);
+    write_beside_keys(alloc, document, lines, reader, held_back, writer)
+}
+
+/// Sends the plan that an input asks for, which is all a document.
 fn answer<W: Write>(
     alloc: Global,
     input: Vec<u8>,
     held_back: &mut Vec<u8>,
     writer: &mut Watched<W>,
 ) -> Result<(), RunFault>
-    ensures { StepLeaves (IsPlanOf input.items) (IsFirstFault input.items) result
+    ensures { (¬ HasKeysBehind (first_line input.items))
+        → StepLeaves (IsPlanOf input.items) (IsFirstFault input.items) result
         (output W.contents held_back.old.items writer.old)
         (output W.contents held_back.new.items writer.new) }
 {
     let document = parse(alloc, &input)?;
     drop(input);
+    if document.keys {
+        return Err(RunFault::KeysOfLongDocument);
+    }
     write_plan(alloc, document, held_back, writer)
 }
 

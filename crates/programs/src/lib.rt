@@ -19,6 +19,7 @@ pub mod chunkplan;
 pub mod chunkwhere;
 mod document;
 mod document_fault;
+mod lines;
 mod stored;
 mod stream_fault;
 mod streams;

@@ -51,6 +51,27 @@ const SHARE_OF_COUNTS: &[u8] =
 
 const WRONG_COUNTS: &[u8] = br#"{"shape":[4],"chunk_grid":"","chunk_key_encoding":"","counts":1}"#;
 
+/// The same array, whose rechunking into chunks of two was broken off: the first of these is there.
+const BESIDE_KEYS: &[u8] =
+    br#"{"shape":[4],"chunk_grid":{"name":"regular","configuration":{"chunk_shape":[3]}},"chunk_key_encoding":"v2","keys":true,"target":{"chunk_grid":{"name":"regular","configuration":{"chunk_shape":[2]}},"chunk_key_encoding":"v2"}}
+.zarray
+
+0
+2"#;
+
+const LINES_BESIDE_KEYS: &[u8] =
+    br#"{"from":[{"chunk":[0],"in_chunk":[[2],[1]],"in_target":[[0],[1]],"key":"0","shape":[3]},{"chunk":[1],"in_chunk":[[0],[1]],"in_target":[[1],[1]],"key":"1","shape":[3]}],"number":1,"of":2,"to":{"chunk":[1],"key":"1","shape":[2]},"whole":true}
+{"foreign":".zarray"}
+{"foreign":"2"}
+"#;
+
+const KEYS_OF_LONG_DOCUMENT: &[u8] =
+    br#"{"shape":[4],"chunk_grid":{"name":"regular","configuration":{"chunk_shape":[3]}},"chunk_key_encoding":"v2","keys":true,
+"target":{"chunk_grid":{"name":"regular","configuration":{"chunk_shape":[2]}},"chunk_key_encoding":"v2"}}"#;
+
+const KEY_NOT_TEXT: &[u8] =
+    b"{\"shape\":[],\"chunk_grid\":{\"name\":\"regular\",\"configuration\":{\"chunk_shape\":[]}},\"chunk_key_encoding\":\"v2\",\"keys\":true,\"target\":{\"chunk_grid\":{\"name\":\"regular\",\"configuration\":{\"chunk_shape\":[]}},\"chunk_key_encoding\":\"v2\"}}\n\xff\n";
+
 /// The same array, which gets a fifth element: the second chunk gets it.
 const RESIZED: &[u8] =
     br#"{"shape":[4],"chunk_grid":{"name":"regular","configuration":{"chunk_shape":[3]}},"chunk_key_encoding":"v2","resize":[5]}"#;
@@ -201,6 +222,29 @@ fn a_plan_is_counted(rt: HostRuntime) {
         &rt,
         WRONG_COUNTS,
         "chunkplan: wrong value in field `counts`\n",
+    );
+}
+
+#[test]
+fn what_a_store_has_is_left_out(rt: HostRuntime) {
+    let enough = BESIDE_KEYS.len().div_ceil(16) + 1;
+    check_read(
+        &rt,
+        (BESIDE_KEYS, LINES_BESIDE_KEYS),
+        enough,
+        ErrorKind::Other,
+        true,
+    );
+    check_writes(&rt, BESIDE_KEYS, LINES_BESIDE_KEYS);
+    check_fault(
+        &rt,
+        KEYS_OF_LONG_DOCUMENT,
+        "chunkplan: field `keys`: the document is to be the first line, and each line behind it a key\n",
+    );
+    check_fault(
+        &rt,
+        KEY_NOT_TEXT,
+        "chunkplan: field `keys`: a line behind the document isn't UTF-8\n",
     );
 }
 

@@ -7,23 +7,24 @@ use Rattle.zarrs_chunk_base.specs.Dimension.{Dimension}
 use Rattle.zarrs_chunk_plan.specs.Rechunking.{all_chunks_box, array_box}
 use Rattle.zarrs_chunk_plan.specs.declared.region_error.RegionError.{RegionError}
 use Rattle.zarrs_chunk_plan.specs.declared.region_error.RegionError.TheVariants.{At, PastSource, PastTarget, Region, Target}
-use Rattle.programs.specs.Streams.{IsReadToEnd, IsWritten, Streams}
-use Rattle.programs.specs.Watched.{IsReadFailure}
+use Rattle.programs.specs.Streams.{IsReadToEnd, Streams}
 use Rattle.programs.specs.chunkplan.Document.{Document}
-use Rattle.programs.specs.chunkplan.DocumentFault.{HasBoxFault, HasWantedFault, IsBoxFormFault, IsCopyingFault, IsFormFault, IsMisfit, IsTargetMisfit}
-use Rattle.programs.specs.chunkplan.DocumentFault.{misfit, misformed_shape, misformed_stored, misformed_task, misformed_wanted, missing}
+use Rattle.programs.specs.chunkplan.DocumentFault.{HasBoxFault, HasWantedFault, IsBoxFormFault, IsCopyingFault, IsFormFault, IsInputFault, IsMisfit, IsTargetMisfit}
+use Rattle.programs.specs.chunkplan.DocumentFault.{misfit, misformed_keys, misformed_shape, misformed_stored, misformed_task, misformed_wanted, missing}
 use Rattle.programs.specs.chunkplan.DocumentFault.{no_object, not_of_form}
 use Rattle.programs.specs.chunkplan.DocumentFault.{IsTaskFault, IsTaskToFault, IsTypeMisfit, IsUnknownFault, TellsMissing, TellsWrongValue, of_at}
 use Rattle.programs.specs.chunkplan.DocumentFault.{of_clip, of_copying, of_keep, of_misfit, of_region_stored, of_shape, of_target_stored, of_task}
 use Rattle.programs.specs.chunkplan.DocumentFault.{of_resize as of_resize_form, of_type, unknown}
 use Rattle.programs.specs.chunkplan.DocumentFault.{of_chunks as of_chunks_box, of_region as of_region_box, of_subset as of_subset_box}
 use Rattle.programs.specs.chunkplan.DocumentFault.{of_target as of_target_tree}
-use Rattle.programs.specs.chunkplan.PlanFault.{IsChunksFault, IsCopyFault, IsFirstFault, IsPlanFault, IsReadFault, IsResizeFault, IsTargetFault, no_document}
+use Rattle.programs.specs.chunkplan.PlanFault.{IsChunksFault, IsCopyFault, IsFaultBeside, IsFirstFault, IsPlanFault, IsReadFault, IsResizeFault, IsTargetFault}
+use Rattle.programs.specs.chunkplan.PlanFault.{beside_keys, long_document, no_document, no_first_document, of_keys, of_plan}
 use Rattle.programs.specs.chunkplan.PlanFault.{no_plan, of_chunks, of_region, of_region_target, of_resize, of_source, of_subset, of_target}
+use Rattle.programs.specs.chunkplan.Keys.{IsKeysFault, first_line}
 use Rattle.programs.specs.chunkplan.Planned.{IsPlanOf, begins_at}
 use Rattle.programs.specs.chunkplan.Run.{HasBegunPlan, RunLeaves}
 use Rattle.programs.specs.chunkplan.RunFault.{of_create, of_document, of_region as of_region_error, of_stream}
-use Rattle.programs.specs.chunkplan.seen.Steps.{HasBegun, StepLeaves}
+use Rattle.programs.specs.chunkplan.seen.Steps.{HasBegun, InputStepLeaves}
 use Rattle.programs.specs.seen.Sent.{Output}
 use Rattle.programs.specs.declared.chunkplan.run_fault.RunFault.{RunFault}
 use Rattle.programs.specs.declared.chunkplan.run_fault.RunFault.TheVariants.{Memory, Read, Write}
@@ -32,7 +33,7 @@ use Rattle.programs.specs.declared.document_fault.DocumentFault.TheVariants.{Mem
 use Rattle.programs.specs.declared.stored.CreateFault.{CreateFault}
 use Rattle.programs.specs.declared.stored.CreateFault.TheVariants.{Encoding, Grid, Memory as NoRoom}
 use Rattle.programs.specs.declared.stream_fault.StreamFault.{StreamFault}
-use Rattle.programs.specs.declared.stream_fault.StreamFault.TheVariants.{Memory as NoMoreMemory, Read as ReadFailed, Write as WriteFailed}
+use Rattle.programs.specs.declared.stream_fault.StreamFault.TheVariants.{Write as WriteFailed}
 
 -- ---- a fault of an input is none of reading or writing
 
@@ -102,8 +103,9 @@ form_still d fault (missing name _ _ is) = still (TellsMissing name) (λ h. h) (
 form_still d fault (misfit _ _ is) = still (IsMisfit d) (λ h. h.1) (λ h. h.1) fault is
 form_still d fault (misformed_shape _ _ _ _ is) = still (TellsWrongValue (codes "shape")) (λ h. h) (λ h. h) fault is
 form_still d fault (misformed_wanted _ _ _ _ is) = wanted_still d fault is
-form_still d fault (misformed_stored told _ _ _ _ _ _ _ same) = ap moves same ∙ of_document_still told
-form_still d fault (misformed_task _ _ _ _ _ _ _ _ is) = task_still d fault is
+form_still d fault (misformed_keys _ _ _ _ _ _ (_, _, _, is)) = still (TellsWrongValue (codes "keys")) (λ h. h) (λ h. h) fault is
+form_still d fault (misformed_stored told _ _ _ _ _ _ _ _ _ same) = ap moves same ∙ of_document_still told
+form_still d fault (misformed_task _ _ _ _ _ _ _ _ _ _ is) = task_still d fault is
 
 copy_still : (source target : List Dimension) (region : Box) (at : List ℕ) (fault : RunFault) → IsCopyFault source target region at fault
     → moves fault ≡ false
@@ -121,10 +123,20 @@ plan_still document fault (of_region _ _ region at source target _ _ _ _ _ is) =
     copy_still source.dimensions target.dimensions region (begins_at region at) fault is
 plan_still document fault (of_resize shape _ _ _ _ _ is) = still (IsResizeFault document.stored shape) (λ h. h) (λ h. h) fault is
 
+input_still : (input : List ℕ) (fault : RunFault) → IsInputFault input fault → moves fault ≡ false
+input_still input fault (no_object told _ same) = ap moves same ∙ of_document_still told
+input_still input fault (not_of_form tree _ is) = form_still tree fault is
+
+beside_still : (document : Document) (keys : List (List ℕ)) (fault : RunFault) → IsFaultBeside document keys fault → moves fault ≡ false
+beside_still document keys fault (of_plan is) = plan_still document fault is
+beside_still document keys fault (of_keys _ _ groups _ is) = still (IsKeysFault groups keys) (λ h. h) (λ h. h) fault is
+
 first_still : (input : List ℕ) (fault : RunFault) → IsFirstFault input fault → moves fault ≡ false
-first_still input fault (no_document (no_object told _ same)) = ap moves same ∙ of_document_still told
-first_still input fault (no_document (not_of_form tree _ is)) = form_still tree fault is
-first_still input fault (no_plan _ document _ _ is) = plan_still document fault is
+first_still input fault (no_document _ is) = input_still input fault is
+first_still input fault (long_document _ _ _ _ _ _ same) = ap moves same
+first_still input fault (no_plan _ document _ _ _ _ is) = plan_still document fault is
+first_still input fault (no_first_document _ is) = input_still (first_line input) fault is
+first_still input fault (beside_keys _ document keys _ _ _ _ is) = beside_still document keys fault is
 
 pub no_failed_write : (document : Document) → ¬ IsPlanFault document Write
 no_failed_write document is = true≢false (plan_still document Write is)
@@ -135,32 +147,39 @@ no_failed_copy source target region at is = true≢false (copy_still source targ
 pub no_write : (input : List ℕ) → ¬ IsFirstFault input Write
 no_write input is = true≢false (first_still input Write is)
 
--- ---- reading
+pub no_read_beside : (document : Document) (keys : List (List ℕ)) → ¬ IsFaultBeside document keys Read
+no_read_beside document keys is = true≢false (beside_still document keys Read is)
 
-pub read_stops : (input held : List ℕ) (fault : StreamFault) (s : Streams) (before : Bool) → IsReadFailure fault before s.read_failed → before ≡ false
-    → IsWritten held s → RunLeaves input held (Err (of_stream fault)) s
-read_stops input held ReadFailed s before now not_read written = (now, written)
-read_stops input held NoMoreMemory s before is not_read (holds, not_written) = (is ∙ not_read, not_written, inl holds)
-read_stops input held WriteFailed s before never not_read written = absurd never
+pub no_write_beside : (document : Document) (keys : List (List ℕ)) → ¬ IsFaultBeside document keys Write
+no_write_beside document keys is = true≢false (beside_still document keys Write is)
+
+pub no_read_of_input : (input : List ℕ) → ¬ IsInputFault input Read
+no_read_of_input input is = true≢false (input_still input Read is)
+
+pub no_write_of_input : (input : List ℕ) → ¬ IsInputFault input Write
+no_write_of_input input is = true≢false (input_still input Write is)
+
+pub no_read : (input : List ℕ) → ¬ IsFirstFault input Read
+no_read input is = true≢false (first_still input Read is)
 
 -- ---- sending
 
-module _ (input held bytes : List ℕ) (read : bytes ≡ input) (s : Streams) (end : IsReadToEnd s) (before : Output) (known : before.holds ≡ Some held)
-    (none : before.held_back ≡ []) (not_failed : before.failed ≡ false) (held_back : List ℕ) where
+module _ (input held : List ℕ) (s : Streams) (before : Output) (known : before.holds ≡ Some held) (none : before.held_back ≡ [])
+    (not_failed : before.failed ≡ false) (held_back : List ℕ) where
   abbrev After : Output
   After = record { holds = s.holds; held_back = held_back; failed = s.write_failed }
 
-  begun : HasBegun (IsPlanOf bytes) before After → HasBegunPlan input held s
+  begun : HasBegun (IsPlanOf input) before After → HasBegunPlan input held s
   begun (text, is, rest, sends) =
       let (sent, now, parts) = rw (known, none) at sends in
-      (text, sent, rest, rw read at is, parts, now)
+      (text, sent, rest, is, parts, now)
 
-  pub sending_stops : (fault : RunFault) → StepLeaves (IsPlanOf bytes) (IsFirstFault bytes) (Err fault) before After
-      → RunLeaves input held (Err fault) s
-  sending_stops Read leaves = absurd (true≢false (first_still bytes Read leaves.2))
-  sending_stops Write leaves = (end, begun leaves.1, leaves.0)
-  sending_stops Memory (same, which) = (end.1, same ∙ not_failed, ⊎_elim (λ unsent. inl (unsent ∙ known)) (λ has. inr (begun has)) which)
-  sending_stops _ leaves = (end, rw read at leaves.2, (leaves.1 ∙ known, leaves.0 ∙ not_failed))
+  pub sending_stops : (fault : RunFault) → InputStepLeaves input (Err fault) s.read_failed s.left before After → RunLeaves input held (Err fault) s
+  sending_stops Read leaves = (leaves.0, (leaves.2 ∙ known, leaves.1 ∙ not_failed))
+  sending_stops Write leaves = ((leaves.1, leaves.0), begun leaves.3, leaves.2)
+  sending_stops Memory leaves =
+      (leaves.0, leaves.1 ∙ not_failed, ⊎_elim (λ unsent. inl (unsent ∙ known)) (λ has. inr (begun has)) leaves.2)
+  sending_stops _ leaves = ((leaves.0, leaves.1), leaves.4, (leaves.3 ∙ known, leaves.2 ∙ not_failed))
 
 -- ---- writing what was held back
 

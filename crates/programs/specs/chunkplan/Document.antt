@@ -1,6 +1,7 @@
 -- The program's document: a JSON object with the members `shape`, `chunk_grid` and `chunk_key_encoding`. Besides it has, for a read, `subset` and `clip`,
 -- if they are wanted; for a rechunking, `target`, and `chunks` if it is wanted; for the copy of a region, `target` and `subset`, and `at` if it is wanted.
--- `share` or `counts` says what is wanted of the plan, if not all lines. For a resize it has `resize`, and `keep` if it is wanted, and none of these.
+-- `share` or `counts` says what is wanted of the plan, if not all lines; beside a target, `keys` that keys of its store stand behind the document. For a
+-- resize it has `resize`, and `keep` if it is wanted, and none of these.
 -- What else an array's `zarr.json` has may stand in it and in the target.
 use Rattle.std.specs.Prelude.{◌≡◌, ◌⊎◌, ℕ, Bool, true, false, List, [], ◌∷◌, Option, Some, None, IsSome, codes, MatchOption, option_map}
 use Rattle.std.specs.List.{AllByRecursion}
@@ -37,6 +38,7 @@ pub data Wanted : Type 0 where
 pub record Document : Type 0 where
   pub shape : List ℕ
   pub wanted : Wanted
+  pub keys : Bool
   pub stored : Stored
   pub task : Task
 
@@ -52,7 +54,8 @@ wanted_of (LinesValue share) = lines_wanted share
 wanted_of CountsValue = counts_wanted
 
 abbrev pub document_of : DocumentValue → Document
-document_of d = record { shape = d.shape.items; wanted = wanted_of d.wanted; stored = stored_of d.stored; task = task_of d.task }
+document_of d =
+    record { shape = d.shape.items; wanted = wanted_of d.wanted; keys = d.keys; stored = stored_of d.stored; task = task_of d.task }
 
 -- a list of two lists of sizes, which are the start and the shape of a box
 pub record IsBoxIn (d : Data) (b : Box) : Type 0 where
@@ -125,7 +128,8 @@ pub record FitTask (d : Data) : Type 0 where
 -- the members that stand beside no `resize`
 abbrev pub not_of_resize : List (List ℕ)
 not_of_resize =
-    codes "target" ∷ codes "subset" ∷ codes "clip" ∷ codes "chunks" ∷ codes "at" ∷ codes "share" ∷ codes "counts" ∷ []
+    codes "target" ∷ codes "subset" ∷ codes "clip" ∷ codes "chunks" ∷ codes "at" ∷ codes "share" ∷ codes "counts" ∷ codes "keys"
+    ∷ []
 
 -- none of these members is there
 abbrev pub HasNone : List (List ℕ) → Data → Type 0
@@ -136,11 +140,23 @@ pub record FitResize (d : Data) : Type 0 where
   pub of_resize : IsSome (get (codes "resize") d) → HasNone not_of_resize d
   pub of_others : get (codes "resize") d ≡ None → get (codes "keep") d ≡ None
 
+-- `keys` stands beside a target, and beside no `counts`
+pub record FitKeys (d : Data) : Type 0 where
+  pub of_target : IsSome (get (codes "keys") d) → IsSome (get (codes "target") d)
+  pub of_lines : IsSome (get (codes "keys") d) → get (codes "counts") d ≡ None
+
 -- and `share` beside no `counts`
 pub record Fit (d : Data) : Type 0 where
   pub resize : FitResize d
   pub task : FitTask d
+  pub keys : FitKeys d
   pub of_counts : IsSome (get (codes "counts") d) → get (codes "share") d ≡ None
+
+-- the lines of a rechunking, or of the copy of a region, are asked for
+abbrev pub AsksForLinesOfCopy : Document → Type 0
+AsksForLinesOfCopy document = ((share : Share) × (document.wanted ≡ lines_wanted share))
+    × (((stored : Stored) × (chunks : Option Box) × (document.task ≡ rechunk_to stored chunks))
+    ⊎ ((shape : List ℕ) × (stored : Stored) × (region : Box) × (at : Option (List ℕ)) × (document.task ≡ copy_to shape stored region at)))
 
 -- the document that a tree stands for
 pub record IsDocument (d : Data) (document : Document) : Type 0 where
@@ -148,5 +164,6 @@ pub record IsDocument (d : Data) (document : Document) : Type 0 where
   pub fitting : Fit d
   pub shape : shape_in d ≡ Some document.shape
   pub wanted : HasWanted d document.wanted
+  pub keys : HasFlag d (codes "keys") document.keys
   pub stored : HasStored d document.stored
   pub task : IsTask d document.task

@@ -1,5 +1,5 @@
 -- The first fault of an input that is no document.
-use Rattle.std.specs.Prelude.{◌≡◌, ◌⊎◌, ℕ, false, ◌≤◌, List, [], ◌∷◌, Option, IsSome, Some, None, codes}
+use Rattle.std.specs.Prelude.{◌≡◌, ◌⊎◌, ℕ, Bool, false, ◌≤◌, List, [], ◌∷◌, Option, IsSome, Some, None, codes}
 use Rattle.serde_json.specs.Data.{Data}
 use Rattle.serde_json.specs.Find.{as_bool, as_object, get}
 use Rattle.zarrs_chunk_base.specs.ArraySubset.{Box as ElementBox}
@@ -8,13 +8,13 @@ use Rattle.zarrs_chunk_base.specs.First.{IsFirst}
 use Rattle.zarrs_chunk_base.specs.Json.{size_of, list_of, pair_of}
 use Rattle.programs.specs.Document.{HasAll, HasStored, IsObjectOf, IsShapeFault, IsStoredFault, IsTextFault, shape_in}
 use Rattle.programs.specs.Stored.{Stored}
-use Rattle.programs.specs.chunkplan.Document.{Fit, FitResize, FitTask, HasBox, HasFlag, HasNumbers, HasWanted, IsOfArray, IsOfType, Wanted}
+use Rattle.programs.specs.chunkplan.Document.{Fit, FitKeys, FitResize, FitTask, HasBox, HasFlag, HasNumbers, HasWanted, IsOfArray, IsOfType, Wanted}
 use Rattle.programs.specs.chunkplan.Document.{not_of_resize}
 use Rattle.programs.specs.chunkplan.Known.{Agree, Differ, HasOnly, IsFirstUnknown, known_members, zarr_json_members}
 use Rattle.programs.specs.chunkplan.RunFault.{of_document}
 use Rattle.programs.specs.declared.chunkplan.run_fault.RunFault.{RunFault}
 use Rattle.programs.specs.declared.chunkplan.run_fault.RunFault.TheVariants.{AtOfNoRegion, Box, ChunksOfNoTarget, ChunksOfRegion, ClipOfTarget}
-use Rattle.programs.specs.declared.chunkplan.run_fault.RunFault.TheVariants.{KeepOfNoResize, Missing, NotOfResize}
+use Rattle.programs.specs.declared.chunkplan.run_fault.RunFault.TheVariants.{KeepOfNoResize, KeysOfCounts, KeysOfNoTarget, Missing, NotOfResize}
 use Rattle.programs.specs.declared.chunkplan.run_fault.RunFault.TheVariants.{OtherDataType, OtherShape, ShareOfCounts, Unknown, UnknownOfTarget}
 use Rattle.programs.specs.declared.chunkplan.run_fault.RunFault.TheVariants.{WrongValue}
 use Rattle.programs.specs.declared.document_fault.DocumentFault.{DocumentFault}
@@ -74,12 +74,20 @@ abbrev pub TellsFirst : List (List ℕ) → Data → RunFault → Type 0
 TellsFirst members d (NotOfResize told) = IsFirst (λ name. IsSome (get name d)) members told.now
 TellsFirst members d _ = ⊥
 
--- The first member that doesn't go with the others: with `resize`, the first of `not_of_resize`; without it, `keep`; then as of the task; last, a share
--- beside counts.
+-- the fault says that there are `keys`, and no target, or counts; the first of these
+abbrev pub IsKeysMisfit : Data → RunFault → Type 0
+IsKeysMisfit d KeysOfNoTarget = IsSome (get (codes "keys") d) × (get (codes "target") d ≡ None)
+IsKeysMisfit d KeysOfCounts = IsSome (get (codes "keys") d) × IsSome (get (codes "target") d) × IsSome (get (codes "counts") d)
+IsKeysMisfit d _ = ⊥
+
+-- The first member that doesn't go with the others: with `resize`, the first of `not_of_resize`; without it, `keep`; then as of the task; then `keys`;
+-- last, a share beside counts.
 abbrev pub IsMisfit : Data → RunFault → Type 0
 IsMisfit d (NotOfResize told) = IsSome (get (codes "resize") d) × TellsFirst not_of_resize d (NotOfResize told)
 IsMisfit d KeepOfNoResize = (get (codes "resize") d ≡ None) × IsSome (get (codes "keep") d)
-IsMisfit d ShareOfCounts = FitResize d × FitTask d × IsSome (get (codes "counts") d) × IsSome (get (codes "share") d)
+IsMisfit d KeysOfNoTarget = FitResize d × FitTask d × IsKeysMisfit d KeysOfNoTarget
+IsMisfit d KeysOfCounts = FitResize d × FitTask d × IsKeysMisfit d KeysOfCounts
+IsMisfit d ShareOfCounts = FitResize d × FitTask d × FitKeys d × IsSome (get (codes "counts") d) × IsSome (get (codes "share") d)
 IsMisfit d fault = FitResize d × IsTaskMisfit d fault
 
 -- the fault says why a member's value is no box: it is no list of two lists of sizes, or these make no box
@@ -150,7 +158,7 @@ pub data IsTaskFault (d : Data) (fault : RunFault) : Type 0 where
   of_copying : get (codes "resize") d ≡ None → IsCopyingFault d fault → IsTaskFault d fault
 
 -- The first fault of an object that is no document: a member isn't known; one is missing; one doesn't go with the others; and then, of the
--- shape, of what is wanted of the plan, of how the array is stored and of what is asked for, the first that isn't of its form.
+-- shape, of what is wanted of the plan, of `keys`, of how the array is stored and of what is asked for, the first that isn't of its form.
 pub data IsFormFault (d : Data) (fault : RunFault) : Type 0 where
   unknown : IsUnknownFault d fault → IsFormFault d fault
   missing : (name : List ℕ) → HasOnly known_members d → IsFirst (λ member. get member d ≡ None) document_members name → TellsMissing name fault
@@ -158,10 +166,12 @@ pub data IsFormFault (d : Data) (fault : RunFault) : Type 0 where
   misfit : HasOnly known_members d → HasMembers d → IsMisfit d fault → IsFormFault d fault
   misformed_shape : HasOnly known_members d → HasMembers d → Fit d → shape_in d ≡ None → TellsWrongValue (codes "shape") fault → IsFormFault d fault
   misformed_wanted : HasOnly known_members d → HasMembers d → Fit d → IsSome (shape_in d) → HasWantedFault d fault → IsFormFault d fault
-  misformed_stored : (told : DocumentFault) (wanted : Wanted) → HasOnly known_members d → HasMembers d → Fit d → IsSome (shape_in d)
-      → HasWanted d wanted → IsStoredFault d (codes "chunk_grid") (codes "chunk_key_encoding") told → fault ≡ of_document told → IsFormFault d fault
-  misformed_task : (wanted : Wanted) (stored : Stored) → HasOnly known_members d → HasMembers d → Fit d → IsSome (shape_in d) → HasWanted d wanted
-      → HasStored d stored → IsTaskFault d fault → IsFormFault d fault
+  misformed_keys : (wanted : Wanted) → HasOnly known_members d → HasMembers d → Fit d → IsSome (shape_in d) → HasWanted d wanted
+      → HasFlagFault d (codes "keys") fault → IsFormFault d fault
+  misformed_stored : (told : DocumentFault) (wanted : Wanted) (keys : Bool) → HasOnly known_members d → HasMembers d → Fit d → IsSome (shape_in d)
+      → HasWanted d wanted → HasFlag d (codes "keys") keys → IsStoredFault d (codes "chunk_grid") (codes "chunk_key_encoding") told → fault ≡ of_document told → IsFormFault d fault
+  misformed_task : (wanted : Wanted) (keys : Bool) (stored : Stored) → HasOnly known_members d → HasMembers d → Fit d → IsSome (shape_in d)
+      → HasWanted d wanted → HasFlag d (codes "keys") keys → HasStored d stored → IsTaskFault d fault → IsFormFault d fault
 
 -- The first fault of an input that is no document: it is no text of an object, or its object isn't of the form.
 pub data IsInputFault (input : List ℕ) (fault : RunFault) : Type 0 where

@@ -1,5 +1,5 @@
 -- The first fault of an input that has no plan.
-use Rattle.std.specs.Prelude.{◌≡◌, ◌≢◌, ◌⊎◌, ℕ, Bool, false, List, length, Option, unwrap_or}
+use Rattle.std.specs.Prelude.{◌≡◌, ◌≢◌, ◌⊎◌, ℕ, Bool, true, false, List, length, Option, unwrap_or}
 use Rattle.serde_json.specs.Data.{Data}
 use Rattle.zarrs_chunk_base.specs.ArraySubset.{Box, IsEmptyBox, lasts}
 use Rattle.zarrs_chunk_base.specs.Dimension.{Dimension, array_sizes}
@@ -9,17 +9,18 @@ use Rattle.zarrs_chunk_base.specs.Refusal.{TellsLengths}
 use Rattle.zarrs_chunk_keys.specs.ChunkKey.{Encoding as KeyEncoding}
 use Rattle.zarrs_chunks.specs.GridKinds.{IsGridFault}
 use Rattle.zarrs_chunks.specs.Subsets.{HasNoHome}
-use Rattle.zarrs_chunk_plan.specs.Rechunking.{all_chunks_box, array_box}
+use Rattle.zarrs_chunk_plan.specs.Rechunking.{Group, all_chunks_box, array_box}
 use Rattle.zarrs_chunk_plan.specs.Region.{IsRegionFault}
 use Rattle.zarrs_chunk_plan.specs.declared.copies_error.CopiesError.TheVariants.{Chunks}
 use Rattle.zarrs_chunk_plan.specs.declared.region_error.RegionError.{RegionError}
 use Rattle.programs.specs.Stored.{IsCreateFault, IsStored, Stored}
 use Rattle.programs.specs.chunkplan.Document.{Document, IsDocument, copy_to, read_of, rechunk_to, resize_to}
 use Rattle.programs.specs.chunkplan.DocumentFault.{IsInputFault}
-use Rattle.programs.specs.chunkplan.Planned.{begins_at}
+use Rattle.programs.specs.chunkplan.Keys.{AreKeys, HasKeysBehind, IsKeysFault, behind_first, first_line}
+use Rattle.programs.specs.chunkplan.Planned.{ArePlanned, begins_at}
 use Rattle.programs.specs.chunkplan.RunFault.{of_create, of_region as of_region_error}
 use Rattle.programs.specs.declared.chunkplan.run_fault.RunFault.{RunFault}
-use Rattle.programs.specs.declared.chunkplan.run_fault.RunFault.TheVariants.{Copies, ResizedGrid, SubsetDimensionality, TargetEncoding}
+use Rattle.programs.specs.declared.chunkplan.run_fault.RunFault.TheVariants.{Copies, KeysOfLongDocument, ResizedGrid, SubsetDimensionality, TargetEncoding}
 use Rattle.programs.specs.declared.chunkplan.run_fault.RunFault.TheVariants.{TargetGrid, Uncovered}
 use Rattle.programs.specs.declared.stored.CreateFault.{CreateFault}
 use Rattle.programs.specs.declared.stored.CreateFault.TheVariants.{Encoding, Grid}
@@ -77,8 +78,20 @@ pub data IsPlanFault (document : Document) (fault : RunFault) : Type 0 where
   of_resize : (shape : List ℕ) (keep : Bool) (grid : ChunkGrid) (encoding : KeyEncoding) → document.task ≡ resize_to shape keep
       → IsStored document.stored document.shape grid encoding → IsResizeFault document.stored shape fault → IsPlanFault document fault
 
--- The first fault of an input that has no plan: it is no document, or the document has no plan.
+-- the first fault of a document before keys: it has no plan; or what is wrong with the keys beside its plan
+pub data IsFaultBeside (document : Document) (keys : List (List ℕ)) (fault : RunFault) : Type 0 where
+  of_plan : IsPlanFault document fault → IsFaultBeside document keys fault
+  of_keys : (target : ChunkGrid) (encoding : KeyEncoding) (groups : List Group) → ArePlanned document target encoding groups
+      → IsKeysFault groups keys fault → IsFaultBeside document keys fault
+
+-- The first fault of an input that has no plan: it is no document; or `keys` is true in a document that is more than the first line; or the document has
+-- no plan. Where keys stand behind it: the first line is no document; or of it and the keys.
 pub data IsFirstFault (input : List ℕ) (fault : RunFault) : Type 0 where
-  no_document : IsInputFault input fault → IsFirstFault input fault
-  no_plan : (tree : Data) (document : Document) → IsJsonOf input tree → IsDocument tree document → IsPlanFault document fault
-      → IsFirstFault input fault
+  no_document : (¬ HasKeysBehind (first_line input)) → IsInputFault input fault → IsFirstFault input fault
+  long_document : (tree : Data) (document : Document) → (¬ HasKeysBehind (first_line input)) → IsJsonOf input tree → IsDocument tree document
+      → document.keys ≡ true → fault ≡ KeysOfLongDocument → IsFirstFault input fault
+  no_plan : (tree : Data) (document : Document) → (¬ HasKeysBehind (first_line input)) → IsJsonOf input tree → IsDocument tree document
+      → document.keys ≡ false → IsPlanFault document fault → IsFirstFault input fault
+  no_first_document : HasKeysBehind (first_line input) → IsInputFault (first_line input) fault → IsFirstFault input fault
+  beside_keys : (tree : Data) (document : Document) (keys : List (List ℕ)) → HasKeysBehind (first_line input) → IsJsonOf (first_line input) tree
+      → IsDocument tree document → AreKeys (behind_first input) keys → IsFaultBeside document keys fault → IsFirstFault input fault

@@ -17,10 +17,12 @@ use Rattle.zarrs_chunk_plan.specs.Resize.{IsResizePlan}
 use Rattle.zarrs_chunk_plan.specs.declared.counts.Counts.{Counts}
 use Rattle.zarrs_chunk_plan.specs.declared.part.Part.{Part}
 use Rattle.zarrs_chunk_plan.specs.declared.resize.ChunkChange.{ChunkChange}
+use Rattle.zarrs_chunk_plan.specs.declared.share.Share.{Share}
 use Rattle.programs.specs.Stored.{IsStored, Stored}
 use Rattle.programs.specs.chunkplan.CountsLine.{IsCountsLine}
 use Rattle.programs.specs.chunkplan.Document.{Document, IsDocument, Wanted, copy_to, counts_wanted, lines_wanted, read_of, rechunk_to}
 use Rattle.programs.specs.chunkplan.Document.{resize_to}
+use Rattle.programs.specs.chunkplan.Keys.{AreKeys, HasKeysBehind, IsMissingText, behind_first, first_line}
 use Rattle.programs.specs.chunkplan.Line.{read_lines, rechunking_lines, resize_lines}
 
 -- the plan of reading a box of elements, which has as many dimensions as the grid; an empty box has no parts
@@ -91,10 +93,32 @@ pub data IsPlanned (document : Document) (text : List ℕ) : Type 0 where
       → document.task ≡ resize_to shape keep → IsStored document.stored document.shape before encoding → IsGrid document.stored.chunk_grid shape after
       → IsResizePlan before.dimensions after.dimensions (IsKey encoding) keep changes → text ≡ resize_lines changes → IsPlanned document text
 
--- the text that the program writes for an input
-pub record IsPlanOf (input text : List ℕ) : Type 0 where
-  pub tree : Data
-  pub document : Document
-  pub reads : IsJsonOf input tree
-  pub stands_for : IsDocument tree document
-  pub planned : IsPlanned document text
+-- The plan of a rechunking or of the copy of a region, which a document asks for: its groups, and how the target's array is stored.
+pub data ArePlanned (document : Document) (target : Grid) (encoding : Encoding) (groups : List Group) : Type 0 where
+  of_rechunking : (stored : Stored) (chunks : Option Box) (source : Grid) (source_encoding : Encoding) → document.task ≡ rechunk_to stored chunks
+      → IsStored document.stored document.shape source source_encoding → IsStored stored document.shape target encoding
+      → length (unwrap_or chunks (all_chunks_box target.dimensions)).start ≡ length target.dimensions
+      → IsRechunking source.dimensions (IsKey source_encoding) target.dimensions (IsKey encoding)
+      (unwrap_or chunks (all_chunks_box target.dimensions)) groups → ArePlanned document target encoding groups
+  of_region : (shape : List ℕ) (stored : Stored) (region : Box) (at : Option (List ℕ)) (source : Grid) (source_encoding : Encoding)
+      → document.task ≡ copy_to shape stored region at → IsStored document.stored document.shape source source_encoding
+      → IsStored stored shape target encoding
+      → IsRegionPlan source.dimensions (IsKey source_encoding) target.dimensions (IsKey encoding) region (begins_at region at) groups
+      → ArePlanned document target encoding groups
+
+-- What a document wants of its plan, as text, where the target's store has these keys.
+pub record IsPlannedBeside (document : Document) (keys : List (List ℕ)) (text : List ℕ) : Type 0 where
+  pub target : Grid
+  pub encoding : Encoding
+  pub groups : List Group
+  pub share : Share
+  pub planned : ArePlanned document target encoding groups
+  pub wanted : document.wanted ≡ lines_wanted share
+  pub is_text : IsMissingText target.dimensions (IsKey encoding) keys share groups text
+
+-- The text that the program writes for an input: that is a document; or its first line is one, in which `keys` is true, and keys stand behind it.
+pub data IsPlanOf (input text : List ℕ) : Type 0 where
+  of_document : (tree : Data) (document : Document) → (¬ HasKeysBehind (first_line input)) → IsJsonOf input tree → IsDocument tree document
+      → document.keys ≡ false → IsPlanned document text → IsPlanOf input text
+  of_keys : (tree : Data) (document : Document) (keys : List (List ℕ)) → HasKeysBehind (first_line input) → IsJsonOf (first_line input) tree
+      → IsDocument tree document → AreKeys (behind_first input) keys → IsPlannedBeside document keys text → IsPlanOf input text

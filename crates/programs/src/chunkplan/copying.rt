@@ -1,5 +1,5 @@
 //! The lines of a plan, sent as they are made.
-ghost use Rattle.std.specs.Prelude.{◌≡◌, ◌⊎◌, ℕ, suc, List, length};
+ghost use Rattle.std.specs.Prelude.{◌≡◌, ◌⊎◌, ℕ, suc, List, length, option_map};
 ghost use Rattle.std.specs.List.{AllByRecursion};
 ghost use Rattle.zarrs_chunk_base.specs.ArraySubset.{IsBox};
 ghost use Rattle.zarrs_chunk_base.specs.Dimension.{array_sizes};
@@ -13,6 +13,7 @@ ghost use Rattle.zarrs_chunk_plan.specs.seen.Changes.{AreChangesToCome, CanChang
 ghost use Rattle.zarrs_chunk_plan.specs.seen.Copies.{AreMovesToCome, CanMove, all_targets, region_of};
 ghost use Rattle.zarrs_chunk_plan.specs.seen.Parts.{ArePartsToCome, HasKeys, MeetSubset};
 ghost use Rattle.programs.specs.chunkplan.Line.{group_line, lines_from, resize_lines};
+ghost use Rattle.programs.specs.chunkplan.seen.Missing.{is_left_out as left_out, line_unless_stored};
 ghost use Rattle.programs.specs.chunkplan.seen.Pieces.{text_as};
 ghost use Rattle.programs.specs.chunkplan.seen.Steps.{StepLeaves};
 ghost use Rattle.programs.specs.seen.Sent.{output};
@@ -24,7 +25,7 @@ use crate::watched::Watched;
 use std::alloc::Global;
 use std::io::Write;
 use zarrs_chunk_keys::ChunkKeyEncodingTraits;
-use zarrs_chunk_plan::{Changes, ChunkCopies, Copies, Parts};
+use zarrs_chunk_plan::{Changes, ChunkCopies, Copies, Part, Parts, StoredChunks};
 use zarrs_chunks::ChunkGridTraits;
 
 /// Sends the text of each part that a walk has left, in one form; the first one has the number `first`.
@@ -58,7 +59,8 @@ pub(crate) fn write_parts<G: ChunkGridTraits, E: ChunkKeyEncodingTraits, W: Writ
     Ok(())
 }
 
-/// Sends a line for each chunk of the target into which a walk has something left to copy; the first one has the number `first`.
+/// Sends a line for each chunk of the target into which a walk has something left to copy; the first one has the number `first`. The line of a chunk is
+/// left out that is known to be stored, and would be written whole.
 ///
 /// # Errors
 /// As `write_parts`.
@@ -72,6 +74,7 @@ pub(crate) fn write_copies<
     alloc: Global,
     walk: Copies<'_, G, E, H, F>,
     first: Option<u64>,
+    stored: Option<&StoredChunks>,
     held_back: &mut Vec<u8>,
     writer: &mut Watched<W>,
 ) -> Result<(), RunFault>
@@ -84,8 +87,8 @@ pub(crate) fn write_copies<
     ensures { (begin : ℕ) → first ≡ counted begin → StepLeaves
         (λ text. (groups : List Group)
         × AreMovesToCome G.dimensions E.is_key H.dimensions F.is_key walk.entry groups
-        × (text ≡ lines_from (λ number. group_line (counted number)
-        (counted (length (all_targets walk.entry)))) begin groups))
+        × (text ≡ lines_from (λ number. line_unless_stored (option_map (λ s. s.now) stored.entry)
+        (counted number) (counted (length (all_targets walk.entry)))) begin groups))
         (λ _. ⊥) result
         (output W.contents held_back.old.items writer.old)
         (output W.contents held_back.new.items writer.new) }
@@ -93,10 +96,48 @@ pub(crate) fn write_copies<
     let of = walk.in_all();
     let mut number = first;
     for group in walk {
-        write_group(alloc, group?, number, of, held_back, writer)?;
+        write_unless_stored(alloc, group?, stored, number, of, held_back, writer)?;
         number = following(number);
     }
     Ok(())
+}
+
+/// Sends the line of one chunk of the target, unless that is known to be stored, and would be written whole.
+fn write_unless_stored<G: ChunkGridTraits, E: ChunkKeyEncodingTraits, W: Write>(
+    alloc: Global,
+    group: ChunkCopies<'_, G, E>,
+    stored: Option<&StoredChunks>,
+    number: Option<u64>,
+    of: Option<u64>,
+    held_back: &mut Vec<u8>,
+    writer: &mut Watched<W>,
+) -> Result<(), RunFault>
+    requires meet { MeetSubset G.dimensions group.from }
+    requires is_box { IsBox group.from.array_subset }
+    requires keys { HasKeys (E.is_key group.from.encoding.now) }
+    ensures { StepLeaves
+        (λ text. (from : List PartValue)
+        × ArePartsToCome G.dimensions E.is_key group.entry.from from
+        × (text ≡ line_unless_stored (option_map (λ s. s.now) stored.entry) number of
+        (group.entry.to, from)))
+        (λ _. ⊥) result
+        (output W.contents held_back.old.items writer.old)
+        (output W.contents held_back.new.items writer.new) }
+{
+    if is_left_out(stored, number, &group.to) {
+        return Ok(());
+    }
+    write_group(alloc, group, number, of, held_back, writer)
+}
+
+/// Whether the line of a chunk of the target, which has this number, is left out: the chunk is stored, and would be written whole.
+fn is_left_out(stored: Option<&StoredChunks>, number: Option<u64>, to: &Part) -> bool
+    ensures { result ≡ left_out (option_map (λ s. s.now) stored.entry) number to.now }
+{
+    match (stored, number) {
+        (Some(stored), Some(number)) => to.whole && stored.has(number),
+        _ => false,
+    }
 }
 
 /// Sends a line for each change that a walk, which is at its beginning, has to give.

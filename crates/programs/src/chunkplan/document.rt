@@ -6,9 +6,9 @@ ghost use Rattle.serde_json.specs.View.{view};
 ghost use Rattle.zarrs_chunk_base.specs.Json.{IsJsonOf};
 ghost use Rattle.programs.specs.Document.{HasStored};
 ghost use Rattle.programs.specs.Stored.{stored_of};
-ghost use Rattle.programs.specs.chunkplan.Document.{Fit, FitResize, FitTask, HasNone, HasWanted, IsCopying, IsDocument, IsOfArray, IsOfType, IsTask, IsTaskTo};
+ghost use Rattle.programs.specs.chunkplan.Document.{Fit, FitKeys, FitResize, FitTask, HasNone, HasWanted, IsCopying, IsDocument, IsOfArray, IsOfType, IsTask, IsTaskTo};
 ghost use Rattle.programs.specs.chunkplan.Document.{document_of, task_of, wanted_of};
-ghost use Rattle.programs.specs.chunkplan.DocumentFault.{HasWantedFault, IsCopyingFault, IsFormFault, IsInputFault, IsMisfit, IsTargetMisfit, IsTargetStoredFault};
+ghost use Rattle.programs.specs.chunkplan.DocumentFault.{HasWantedFault, IsCopyingFault, IsFormFault, IsInputFault, IsKeysMisfit, IsMisfit, IsTargetMisfit, IsTargetStoredFault};
 ghost use Rattle.programs.specs.chunkplan.DocumentFault.{IsTaskFault, IsTaskMisfit, IsTaskToFault, IsTypeMisfit, IsUnknownFault, TellsFirst};
 ghost use Rattle.programs.specs.chunkplan.Known.{HasOnly, IsFirstUnknown, known_members, zarr_json_members};
 ghost use Rattle.programs.specs.declared.chunkplan.run_fault.RunFault.TheVariants.{Memory, UnknownOfTarget};
@@ -52,8 +52,8 @@ pub(crate) enum Task {
 }
 
 /// The members that don't go with a resize, in the order in which they are refused.
-const NOT_OF_RESIZE: [&str; 7] = [
-    "target", "subset", "clip", "chunks", "at", "share", "counts",
+const NOT_OF_RESIZE: [&str; 8] = [
+    "target", "subset", "clip", "chunks", "at", "share", "counts", "keys",
 ];
 
 /// What is wanted of a plan.
@@ -70,6 +70,8 @@ pub(crate) enum Wanted {
 pub(crate) struct Document {
     pub(crate) shape: Vec<u64>,
     pub(crate) wanted: Wanted,
+    /// Whether keys of the target's store stand behind the document, in lines of their own.
+    pub(crate) keys: bool,
     pub(crate) stored: Stored,
     pub(crate) task: Task,
 }
@@ -78,7 +80,7 @@ pub(crate) struct Document {
 ///
 /// # Errors
 /// The first that applies: the input is no JSON, or no object; a member isn't known; one is missing; one doesn't go with the others; one isn't of its
-/// form, of `shape`, `counts`, `share`, `chunk_grid`, `chunk_key_encoding`, and of `resize` and `keep`, of `subset` and `clip`, of `target` and `chunks`, or
+/// form, of `shape`, `counts`, `share`, `keys`, `chunk_grid`, `chunk_key_encoding`, and of `resize` and `keep`, of `subset` and `clip`, of `target` and `chunks`, or
 /// of `target`, `subset` and `at`; before its own members, the target has one that isn't known, or is of another array, or for a region of another data
 /// type. Or out of memory.
 pub(crate) fn parse(alloc: Global, input: &[u8]) -> Result<Document, RunFault>
@@ -103,11 +105,13 @@ fn document_from(alloc: Global, mut tree: Value) -> Result<Document, RunFault>
     check_fitting(&tree)?;
     let shape = read_shape(alloc, &tree, "shape")?;
     let wanted = wanted_from(alloc, &tree)?;
+    let keys = member_flag(&tree, "keys")?;
     let stored = take_stored(alloc, &mut tree, "chunk_grid", "chunk_key_encoding")?;
     let task = task_from(alloc, tree)?;
     Ok(Document {
         shape,
         wanted,
+        keys,
         stored,
         task,
     })
@@ -143,6 +147,7 @@ fn check_fitting(tree: &Value) -> Result<(), RunFault>
 {
     check_fitting_resize(tree)?;
     check_fitting_task(tree)?;
+    check_fitting_keys(tree)?;
     if tree.get("counts").is_some() && tree.get("share").is_some() {
         return Err(RunFault::ShareOfCounts);
     }
@@ -189,6 +194,20 @@ fn check_fitting_task(tree: &Value) -> Result<(), RunFault>
     } else {
         refuse(tree, "chunks", RunFault::ChunksOfRegion)
     }
+}
+
+/// Refuses `keys` beside no target, and beside counts.
+fn check_fitting_keys(tree: &Value) -> Result<(), RunFault>
+    ensures { MatchResult result (λ _. FitKeys (view tree.now))
+        (IsKeysMisfit (view tree.now)) }
+{
+    if tree.get("keys").is_none() {
+        return Ok(());
+    }
+    if tree.get("target").is_none() {
+        return Err(RunFault::KeysOfNoTarget);
+    }
+    refuse(tree, "counts", RunFault::KeysOfCounts)
 }
 
 /// Refuses a member of this name, by this fault.

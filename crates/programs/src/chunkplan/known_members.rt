@@ -26,7 +26,7 @@ pub(crate) const ZARR_JSON: [&str; 11] = [
 ];
 
 /// What a document may have.
-pub(crate) const DOCUMENT: [&str; 20] = [
+pub(crate) const DOCUMENT: [&str; 21] = [
     "attributes",
     "chunk_grid",
     "chunk_key_encoding",
@@ -43,6 +43,7 @@ pub(crate) const DOCUMENT: [&str; 20] = [
     "clip",
     "counts",
     "keep",
+    "keys",
     "resize",
     "share",
     "subset",

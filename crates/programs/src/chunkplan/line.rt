@@ -3,6 +3,7 @@ ghost use Rattle.std.specs.Prelude.{◌≡◌, [], ◌∷◌, ◌++◌, codes, I
 ghost use Rattle.json.specs.Print.{print};
 ghost use Rattle.json.specs.Token.{boolean, key, null, string};
 ghost use Rattle.json.specs.Tree.{json_tokens};
+ghost use Rattle.programs.specs.chunkplan.Keys.{foreign_json};
 ghost use Rattle.programs.specs.chunkplan.Line.{box_json, change_line, change_word, count_json, held_json, held_shape_json, line_of, numbers_json};
 ghost use Rattle.programs.specs.chunkplan.Line.{part_json, source_json, target_json};
 ghost use Rattle.programs.specs.chunkplan.seen.Added.{Adds};
@@ -147,6 +148,21 @@ pub(crate) fn change_line(
     write_held(&mut json, "was", &change.before)?;
     write_held_shape(&mut json, "was_shape", &change.before)?;
     write_what(&mut json, change.what)?;
+    json.end_object()?;
+    ended(json)
+}
+
+/// The line of a key that is none of the target's.
+///
+/// # Errors
+/// Out of memory.
+pub(crate) fn foreign_line(alloc: Global, key: &str) -> Result<Vec<u8>, AllocError>
+    ensures { IfOk result (λ line. line.items ≡ line_of (foreign_json key.now)) }
+{
+    let mut json = Writer::new(Vec::with_capacity(alloc, LINE_LEN)?);
+    json.begin_object()?;
+    json.key("foreign")?;
+    json.string(key)?;
     json.end_object()?;
     ended(json)
 }

@@ -18,6 +18,7 @@ ghost use Rattle.programs.specs.chunkplan.Document.{counts_wanted, document_of, 
 ghost use Rattle.programs.specs.chunkplan.Line.{read_lines, rechunking_lines, resize_lines};
 ghost use Rattle.programs.specs.chunkplan.PlanFault.{IsChunksFault, IsCopyFault, IsPlanFault, IsReadFault, IsResizeFault, IsTargetFault};
 ghost use Rattle.programs.specs.chunkplan.Planned.{IsAsked, IsPlanned, IsReadPlan, IsReadText, IsRechunkingText, IsRegionPlan, IsRegionText};
+ghost use Rattle.programs.specs.chunkplan.seen.Missing.{share_unless_stored};
 ghost use Rattle.programs.specs.chunkplan.seen.Steps.{StepLeaves};
 ghost use Rattle.programs.specs.declared.chunkplan.run_fault.RunFault.TheVariants.{Memory};
 ghost use Rattle.programs.specs.seen.Sent.{output};
@@ -34,8 +35,8 @@ use std::io::Write;
 use zarrs_chunk_base::{ArraySubset, IncompatibleDimensionalityError, Refusal};
 use zarrs_chunk_keys::{ChunkKeyEncoding, ChunkKeyEncodingTraits};
 use zarrs_chunk_plan::{
-    Copies, Counts, Share, StoredArray, all_chunks, changes, copies, copies_of_region,
-    counts_of_read, counts_of_rechunking, counts_of_region, parts, whole_array,
+    Copies, Counts, Share, StoredArray, StoredChunks, all_chunks, changes, copies,
+    copies_of_region, counts_of_read, counts_of_rechunking, counts_of_region, parts, whole_array,
 };
 use zarrs_chunks::{ChunkGrid, ChunkGridTraits};
 
@@ -61,6 +62,7 @@ pub(crate) fn write_plan<W: Write>(
         wanted,
         stored,
         task,
+        ..
     } = document;
     let array = stored.array(alloc, &shape)?;
     match task {
@@ -96,7 +98,7 @@ pub(crate) fn write_plan<W: Write>(
 }
 
 /// The array as it is to be stored.
-fn open_target(
+pub(crate) fn open_target(
     alloc: Global,
     stored: Stored,
     shape: &[u64],
@@ -131,7 +133,11 @@ fn resized_grid(alloc: Global, stored: Stored, shape: &[u64]) -> Result<ChunkGri
 }
 
 /// The numbers, or so many zeros.
-fn or_zeros(alloc: Global, numbers: Option<Vec<u64>>, len: usize) -> Result<Vec<u64>, AllocError>
+pub(crate) fn or_zeros(
+    alloc: Global,
+    numbers: Option<Vec<u64>>,
+    len: usize,
+) -> Result<Vec<u64>, AllocError>
     ensures { IfOk result (λ v. v.items
         ≡ unwrap_or (option_map (λ ns. ns.items) numbers) (replicate len 0)) }
 {
@@ -160,7 +166,7 @@ fn or_whole_array<G: ChunkGridTraits>(
 }
 
 /// The box, or that of all chunks of the grid.
-fn or_all_chunks<G: ChunkGridTraits>(
+pub(crate) fn or_all_chunks<G: ChunkGridTraits>(
     alloc: Global,
     chunks: Option<ArraySubset>,
     grid: &G,
@@ -431,14 +437,15 @@ fn write_groups<
         (output W.contents held_back.new.items writer.new) }
 {
     match copies(alloc, source, target, chunks) {
-        Ok(walk) => write_share(alloc, walk, share, held_back, writer),
+        Ok(walk) => write_share(alloc, walk, share, None, held_back, writer),
         Err(Refusal::Refused(error)) => Err(RunFault::Copies(error)),
         Err(Refusal::Memory(_)) => Err(RunFault::Memory),
     }
 }
 
-/// Sends the lines of a share of all that a walk gives which is at its beginning.
-fn write_share<
+/// Sends the lines of a share of all that a walk gives which is at its beginning, without those of chunks that are known to be stored, and would be
+/// written whole.
+pub(crate) fn write_share<
     G: ChunkGridTraits,
     E: ChunkKeyEncodingTraits,
     H: ChunkGridTraits,
@@ -448,6 +455,7 @@ fn write_share<
     alloc: Global,
     mut walk: Copies<'_, G, E, H, F>,
     share: &Share,
+    stored: Option<&StoredChunks>,
     held_back: &mut Vec<u8>,
     writer: &mut Watched<W>,
 ) -> Result<(), RunFault>
@@ -460,13 +468,13 @@ fn write_share<
     ensures { StepLeaves
         (λ text. (groups : List Group)
         × AreMovesToCome G.dimensions E.is_key H.dimensions F.is_key walk.entry groups
-        × (text ≡ rechunking_lines share.now groups))
+        × (text ≡ share_unless_stored (option_map (λ s. s.now) stored.entry) share.now groups))
         (λ _. ⊥) result
         (output W.contents held_back.old.items writer.old)
         (output W.contents held_back.new.items writer.new) }
 {
     let first = walk.share(share)?;
-    write_copies(alloc, walk, first, held_back, writer)
+    write_copies(alloc, walk, first, stored, held_back, writer)
 }
 
 /// Sends what is wanted of the plan of the copy of a region.
@@ -577,7 +585,7 @@ fn write_moves<
 {
     region.is_a_box();
     match copies_of_region(alloc, source, target, region, at) {
-        Ok(walk) => write_share(alloc, walk, share, held_back, writer),
+        Ok(walk) => write_share(alloc, walk, share, None, held_back, writer),
         Err(Refusal::Refused(error)) => Err(RunFault::from(error)),
         Err(Refusal::Memory(_)) => Err(RunFault::Memory),
     }

@@ -62,6 +62,15 @@ pub enum RunFault {
     /// The document says whether kept chunks are wanted, and has no resize.
     #[error("field `keep` is for a resize: give `resize` too, or leave it out")]
     KeepOfNoResize,
+    /// The document says whether keys stand behind it, and has no target.
+    #[error("field `keys` is for a target: give `target` too, or leave it out")]
+    KeysOfNoTarget,
+    /// The document says whether keys stand behind it, and asks for counts.
+    #[error("field `keys` is for lines: leave out `counts`, or leave it out")]
+    KeysOfCounts,
+    /// The document says that keys stand behind it, and isn't the first line.
+    #[error("field `keys`: the document is to be the first line, and each line behind it a key")]
+    KeysOfLongDocument,
     /// A member of the target isn't known.
     #[error("field `target`: {0}")]
     UnknownOfTarget(UnknownMember),
@@ -107,6 +116,12 @@ pub enum RunFault {
     /// The box of the target's chunks has another number of dimensions than the target.
     #[error(transparent)]
     Copies(CopiesError),
+    /// The plan has more lines than there are bits for, one a line.
+    #[error("field `keys`: the plan has more than 4294967295 lines: plan the chunks of a smaller box with `chunks`, or a smaller region")]
+    TooManyForKeys,
+    /// A key behind the document is no text.
+    #[error("field `keys`: a line behind the document isn't UTF-8")]
+    KeyNotText,
     /// A write or the flush failed, or a write took nothing. A beginning of the plan may have been written.
     #[error("output failed")]
     Write,

@@ -3,27 +3,17 @@ use Rattle.std.proofs.lemmas.Result.{err_from_is_err_and}
 use Rattle.programs.specs.Watched.{watched}
 use Rattle.programs.specs.seen.Sent.{output}
 use Rattle.programs.proofs.Known.{for_both}
-use Rattle.programs.proofs.chunkplan.RunOutcomes.{all_written, read_stops, sending_stops, some_written}
+use Rattle.programs.proofs.chunkplan.RunOutcomes.{all_written, sending_stops, some_written}
 use Rattle.programs.proofs.chunkplan.run.Goals as goal
 
-pub returns-in_err-input : goal.returns-in_err-input
-returns-in_err-input g c =
+pub returns-in_err-answer_input : goal.returns-in_err-answer_input
+returns-in_err-answer_input g c =
     let p = err_from_is_err_and c.from_residual.result c.from_residual.ensures.1 in
     rw (p.1, p.2)
     (for_both (g.R.Read.remaining (watched c.args.reader.now)) (g.W.Write.contents (watched c.args.writer.now)) _
     (λ input held is_input is_held not_read not_written.
-    read_stops input held _ _ _ c.in_err-input.ensures.failed not_read (is_held, not_written)))
-
-pub returns-in_err-answer : goal.returns-in_err-answer
-returns-in_err-answer g c =
-    let p = err_from_is_err_and c.from_residual-in_err-answer.result c.from_residual-in_err-answer.ensures.1 in
-    rw (p.1, p.2)
-    (for_both (g.R.Read.remaining (watched c.args.reader.now)) (g.W.Write.contents (watched c.args.writer.now)) _
-    (λ input held is_input is_held not_read not_written.
-    let (read, left) = rw is_input at c.in_ok-input.ensures.bytes in
-    sending_stops input held c.in_ok-input.input.items read _ (left, c.in_ok-input.ensures.failed ∙ not_read)
-    (output g.W.Write.contents c.new-held_back.result.items c.args.writer.now) is_held c.new-held_back.ensures.items not_written
-    c.answer.new.held_back.items _ c.in_err-answer.ensures))
+    sending_stops input held _ (output g.W.Write.contents c.new-held_back.result.items c.args.writer.now) is_held c.new-held_back.ensures.items
+    not_written c.answer_input.new.held_back.items _ ((rw is_input at c.in_err-answer_input.ensures) not_read)))
 
 pub returns-in_err-write_all : goal.returns-in_err-write_all
 returns-in_err-write_all g c =
@@ -31,16 +21,18 @@ returns-in_err-write_all g c =
     rw (p.1, p.2)
     (for_both (g.R.Read.remaining (watched c.args.reader.now)) (g.W.Write.contents (watched c.args.writer.now)) _
     (λ input held is_input is_held not_read not_written.
-    let (read, left) = rw is_input at c.in_ok-input.ensures.bytes in
-    let (text, is, (sent, now, parts), same) = rw (read, is_held, c.new-held_back.ensures.items) at c.in_ok-answer.ensures in
-    some_written input held _ (left, c.in_ok-input.ensures.failed ∙ not_read) _ (same ∙ not_written) text sent c.answer.new.held_back.items is parts
+    let (read, left, (text, is, (sent, now, parts), same)) =
+    rw (is_held, c.new-held_back.ensures.items) at ((rw is_input at c.in_ok-answer_input.ensures) not_read)
+    in
+    some_written input held _ (left, read) _ (same ∙ not_written) text sent c.answer_input.new.held_back.items is parts
     _ c.in_err-write_all.ensures.failed (rw (now, c.deref.ensures.value) at c.in_err-write_all.ensures.err)))
 
 pub returns : goal.returns
 returns g c =
     for_both (g.R.Read.remaining (watched c.args.reader.now)) (g.W.Write.contents (watched c.args.writer.now)) _
     (λ input held is_input is_held not_read not_written.
-    let (read, left) = rw is_input at c.in_ok-input.ensures.bytes in
-    let (text, is, (sent, now, parts), same) = rw (read, is_held, c.new-held_back.ensures.items) at c.in_ok-answer.ensures in
-    all_written input held _ (left, c.in_ok-input.ensures.failed ∙ not_read) _ (same ∙ not_written) text sent c.answer.new.held_back.items is parts
+    let (read, left, (text, is, (sent, now, parts), same)) =
+    rw (is_held, c.new-held_back.ensures.items) at ((rw is_input at c.in_ok-answer_input.ensures) not_read)
+    in
+    all_written input held _ (left, read) _ (same ∙ not_written) text sent c.answer_input.new.held_back.items is parts
     (rw (now, c.deref.ensures.value) at c.in_ok-write_all.ensures.ok) c.in_ok-write_all.ensures.unfailed)

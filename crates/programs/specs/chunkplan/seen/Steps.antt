@@ -1,8 +1,11 @@
 -- What a step leaves that sends the text of a plan.
-use Rattle.std.specs.Prelude.{◌≡◌, ◌⊎◌, ℕ, true, List, Result, Ok, Err}
+use Rattle.std.specs.Prelude.{◌≡◌, ◌⊎◌, ℕ, Bool, true, false, List, [], Option, Some, Result, Ok, Err}
+use Rattle.programs.specs.chunkplan.Keys.{HasKeysBehind, first_line}
+use Rattle.programs.specs.chunkplan.PlanFault.{IsFirstFault}
+use Rattle.programs.specs.chunkplan.Planned.{IsPlanOf}
 use Rattle.programs.specs.seen.Sent.{Output, Sends}
 use Rattle.programs.specs.declared.chunkplan.run_fault.RunFault.{RunFault}
-use Rattle.programs.specs.declared.chunkplan.run_fault.RunFault.TheVariants.{Memory, Write}
+use Rattle.programs.specs.declared.chunkplan.run_fault.RunFault.TheVariants.{Memory, Read, Write}
 
 -- a text of which Planned holds was sent, or a beginning of it
 abbrev pub HasBegun : (Planned : List ℕ → Type 0) → Output → Output → Type 0
@@ -21,3 +24,17 @@ StepLeaves Planned IsFault (Err Memory) before after =
 StepLeaves Planned IsFault (Err Write) before after = (after.failed ≡ true) × HasBegun Planned before after
 StepLeaves Planned IsFault (Err fault) before after =
     (after.failed ≡ before.failed) × (after.holds ≡ before.holds) × IsFault fault
+
+-- What a step leaves that reads an input and sends its plan, by its outcome: whether a read failed, and what is left to read; and as of a step that
+-- sends. Keys behind a document are left where that has a fault.
+abbrev pub InputStepLeaves : (input : List ℕ) → Result (Unit {0}) RunFault → (read_failed : Bool) (left : Option (List ℕ)) → Output → Output → Type 0
+InputStepLeaves input (Ok _) read_failed left before after = (read_failed ≡ false) × (left ≡ Some []) × HasSent (IsPlanOf input) before after
+InputStepLeaves input (Err Read) read_failed left before after =
+    (read_failed ≡ true) × (after.failed ≡ before.failed) × (after.holds ≡ before.holds)
+InputStepLeaves input (Err Memory) read_failed left before after =
+    (read_failed ≡ false) × (after.failed ≡ before.failed) × ((after.holds ≡ before.holds) ⊎ HasBegun (IsPlanOf input) before after)
+InputStepLeaves input (Err Write) read_failed left before after =
+    (read_failed ≡ false) × (left ≡ Some []) × (after.failed ≡ true) × HasBegun (IsPlanOf input) before after
+InputStepLeaves input (Err fault) read_failed left before after =
+    (read_failed ≡ false) × ((¬ HasKeysBehind (first_line input)) → left ≡ Some [])
+    × (after.failed ≡ before.failed) × (after.holds ≡ before.holds) × IsFirstFault input fault

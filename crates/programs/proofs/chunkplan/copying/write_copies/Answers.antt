@@ -1,4 +1,4 @@
-use Rattle.std.proofs.Common.{◌≡◌, ◌∙◌, ℕ, suc, List, [], ◌∷◌, ◌++◌, Err, ap, length, refl, arith}
+use Rattle.std.proofs.Common.{◌≡◌, ◌∙◌, ℕ, suc, List, [], ◌∷◌, ◌++◌, Err, ap, length, option_map, refl, arith}
 use Rattle.std.proofs.lemmas.Result.{err_from_is_err_and}
 use Rattle.zarrs_chunk_plan.specs.Counted.{counted}
 use Rattle.zarrs_chunk_plan.specs.Rechunking.{Group}
@@ -6,7 +6,7 @@ use Rattle.zarrs_chunk_plan.specs.declared.part.Part.{Part}
 use Rattle.zarrs_chunk_plan.specs.seen.Copies.{AreMovesToCome, all_targets}
 use Rattle.zarrs_chunk_plan.specs.seen.Parts.{ArePartsToCome}
 use Rattle.zarrs_chunk_plan.proofs.Copied.{MovesHaveCome, first_move, last_move, one_more_move}
-use Rattle.programs.specs.chunkplan.Line.{group_line}
+use Rattle.programs.specs.chunkplan.seen.Missing.{line_unless_stored}
 use Rattle.programs.specs.seen.Sent.{Output, output}
 use Rattle.programs.proofs.Sent.{sends_nothing}
 use Rattle.programs.proofs.chunkplan.Begun.{moves_ahead}
@@ -41,16 +41,16 @@ loop-group-preserved g c = λ begin is_first.
     let also = g.H.ChunkGridTraits.dimensions in
     let also_key = g.F.ChunkKeyEncodingTraits.is_key in
     let gives = rw c.in_ok-group.was at c.in-Some.ensures.steps in
-    let (text, (from, are, is), more, failed) = rw c.in_all-of.ensures at c.in_ok-write_group.ensures in (
+    let (text, (from, are, is), more, failed) = rw c.in_all-of.ensures at c.in_ok-write_unless_stored.ensures in (
       suc n,
       c.following-number.ensures n number_is,
-      way_goes_on (λ n. group_line (counted n) (counted (length (all_targets c.args.walk)))) begin
+      way_goes_on (λ n. line_unless_stored (option_map (λ s. s.now) c.args.stored) (counted n) (counted (length (all_targets c.args.walk)))) begin
           (MovesHaveCome dimensions is_key also also_key c.args.walk c.loop-group.group-iterator)
           (MovesHaveCome dimensions is_key also also_key c.args.walk c.next.new.self) (λ _. ⊥)
           (λ y. (from : List Part) × ArePartsToCome dimensions is_key group.from from × (y ≡ (group.to, from))) n
           (output g.W.Write.contents c.args.held_back.now.items c.args.writer.now)
           (output g.W.Write.contents c.loop-group.held_back.items c.loop-group.writer)
-          (output g.W.Write.contents c.write_group.new.held_back.items c.write_group.new.writer) sent
+          (output g.W.Write.contents c.write_unless_stored.new.held_back.items c.write_unless_stored.new.writer) sent
           (λ came y have (from, are, same).
           one_more_move dimensions is_key also also_key c.args.walk c.loop-group.group-iterator c.next.new.self group
           from came (came ++ y ∷ []) have gives are (rw same refl)) (
@@ -58,23 +58,23 @@ loop-group-preserved g c = λ begin is_first.
             (
               (group.to, from),
               (from, are, refl),
-              is ∙ ap (λ number. group_line number (counted (length (all_targets c.args.walk))) (group.to, from)) number_is,
+              is ∙ ap (λ number. line_unless_stored (option_map (λ s. s.now) c.args.stored) number (counted (length (all_targets c.args.walk))) (group.to, from)) number_is,
             ),
             more,
             failed,
           ),
     )
 
-pub write_group-requires-clause-meet : goal.write_group-requires-clause-meet
-write_group-requires-clause-meet g c =
+pub write_unless_stored-requires-clause-meet : goal.write_unless_stored-requires-clause-meet
+write_unless_stored-requires-clause-meet g c =
     let (n, number_is, (text, (came, (chunks, left, are, about, (same_first, can)), many, lines), sends, same)) =
     c.loop-group.invariant c.requires.numbered.0 c.requires.numbered.1
     in
     let gives = rw c.in_ok-group.was at c.in-Some.ensures.steps in
     (gives.moved_from can).meet
 
-pub write_group-requires-clause-keys : goal.write_group-requires-clause-keys
-write_group-requires-clause-keys g c =
+pub write_unless_stored-requires-clause-keys : goal.write_unless_stored-requires-clause-keys
+write_unless_stored-requires-clause-keys g c =
     let (n, number_is, (text, (came, (chunks, left, are, about, (same_first, can)), many, lines), sends, same)) =
     c.loop-group.invariant c.requires.numbered.0 c.requires.numbered.1
     in
@@ -88,14 +88,14 @@ returns-in_err-group g c = λ begin is_first.
     let p = err_from_is_err_and c.from_residual.result c.from_residual.ensures.1 in
     let (n, number_is, sent) = c.loop-group.invariant begin is_first in
     rw (p.1, p.2)
-    (way_memory (λ n. group_line (counted n) (counted (length (all_targets c.args.walk)))) begin _ _ n _ _ sent
+    (way_memory (λ n. line_unless_stored (option_map (λ s. s.now) c.args.stored) (counted n) (counted (length (all_targets c.args.walk)))) begin _ _ n _ _ sent
     (moves_ahead g.G.ChunkGridTraits.dimensions g.E.ChunkKeyEncodingTraits.is_key g.H.ChunkGridTraits.dimensions g.F.ChunkKeyEncodingTraits.is_key
     c.args.walk (g.met.G.ChunkGridTraits.chained c.args.walk.source.now.grid) (g.met.H.ChunkGridTraits.chained c.args.walk.targets.grid.now)
     c.requires.keys c.requires.target_keys c.requires.is_box c.requires.region c.requires.can c.loop-group.group-iterator))
 
-pub returns-in_err-write_group : goal.returns-in_err-write_group
-returns-in_err-write_group g c = λ begin is_first.
-    let p = err_from_is_err_and c.from_residual-in_err-write_group.result c.from_residual-in_err-write_group.ensures.1 in
+pub returns-in_err-write_unless_stored : goal.returns-in_err-write_unless_stored
+returns-in_err-write_unless_stored g c = λ begin is_first.
+    let p = err_from_is_err_and c.from_residual-in_err-write_unless_stored.result c.from_residual-in_err-write_unless_stored.ensures.1 in
     let (n, number_is, sent) = c.loop-group.invariant begin is_first in
     let group = c.in_ok-group.field-0 in
     let dimensions = g.G.ChunkGridTraits.dimensions in
@@ -104,9 +104,9 @@ returns-in_err-write_group g c = λ begin is_first.
     let also_key = g.F.ChunkKeyEncodingTraits.is_key in
     let gives = rw c.in_ok-group.was at c.in-Some.ensures.steps in
     let between : Output = output g.W.Write.contents c.loop-group.held_back.items c.loop-group.writer in
-    let after : Output = output g.W.Write.contents c.write_group.new.held_back.items c.write_group.new.writer in
+    let after : Output = output g.W.Write.contents c.write_unless_stored.new.held_back.items c.write_unless_stored.new.writer in
     let of = counted (length (all_targets c.args.walk)) in
-    let Line : ℕ → Group → List ℕ = λ n. group_line (counted n) of in
+    let Line : ℕ → Group → List ℕ = λ n. line_unless_stored (option_map (λ s. s.now) c.args.stored) (counted n) of in
     let IsOne : Group → Type 0 = λ y. (from : List Part) × ArePartsToCome dimensions is_key group.from from × (y ≡ (group.to, from)) in
     let ahead = moves_ahead dimensions is_key also also_key c.args.walk (g.met.G.ChunkGridTraits.chained c.args.walk.source.now.grid)
     (g.met.H.ChunkGridTraits.chained c.args.walk.targets.grid.now) c.requires.keys c.requires.target_keys c.requires.is_box c.requires.region
@@ -122,14 +122,14 @@ returns-in_err-write_group g c = λ begin is_first.
     (λ text (from, are, is). (
       (group.to, from),
       (from, are, refl),
-      is ∙ ap (λ of. group_line c.loop-group.number of (group.to, from)) c.in_all-of.ensures
-          ∙ ap (λ number. group_line number of (group.to, from)) number_is,
+      is ∙ ap (λ of. line_unless_stored (option_map (λ s. s.now) c.args.stored) c.loop-group.number of (group.to, from)) c.in_all-of.ensures
+          ∙ ap (λ number. line_unless_stored (option_map (λ s. s.now) c.args.stored) number of (group.to, from)) number_is,
     ))
-    (λ fault none. none) between after (Err _) c.in_err-write_group.ensures))
+    (λ fault none. none) between after (Err _) c.in_err-write_unless_stored.ensures))
 
 pub returns : goal.returns
 returns g c = λ begin is_first.
     let (n, number_is, sent) = c.loop-group.invariant begin is_first in
-    way_ends (λ n. group_line (counted n) (counted (length (all_targets c.args.walk)))) begin _ _ n _ _ sent
+    way_ends (λ n. line_unless_stored (option_map (λ s. s.now) c.args.stored) (counted n) (counted (length (all_targets c.args.walk)))) begin _ _ n _ _ sent
     (λ came have. last_move g.G.ChunkGridTraits.dimensions g.E.ChunkKeyEncodingTraits.is_key g.H.ChunkGridTraits.dimensions
     g.F.ChunkKeyEncodingTraits.is_key c.args.walk c.loop-group.group-iterator c.next.new.self came have c.in-None.ensures.steps)

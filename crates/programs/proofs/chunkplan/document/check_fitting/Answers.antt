@@ -1,6 +1,6 @@
 use Rattle.std.proofs.lemmas.Result.{err_from_is_err_and}
 use Rattle.serde_json.specs.View.{view}
-use Rattle.programs.proofs.chunkplan.FormFaults.{task_misfit}
+use Rattle.programs.proofs.chunkplan.FormFaults.{keys_misfit, task_misfit}
 use Rattle.programs.proofs.chunkplan.document.check_fitting.Goals as goal
 
 pub returns-in_err-check_fitting_task : goal.returns-in_err-check_fitting_task
@@ -9,3 +9,10 @@ returns-in_err-check_fitting_task c =
     rw (p.1, p.2)
     (task_misfit (view c.args.tree.now) c.in_err-check_fitting_task.field-0.0 c.in_ok-check_fitting_resize.ensures
     c.in_err-check_fitting_task.ensures)
+
+pub returns-in_err-check_fitting_keys : goal.returns-in_err-check_fitting_keys
+returns-in_err-check_fitting_keys c =
+    let p = err_from_is_err_and c.from_residual-in_err-check_fitting_keys.result c.from_residual-in_err-check_fitting_keys.ensures.1 in
+    rw (p.1, p.2)
+    (keys_misfit (view c.args.tree.now) c.in_err-check_fitting_keys.field-0.0 c.in_ok-check_fitting_resize.ensures
+    c.in_ok-check_fitting_task.ensures c.in_err-check_fitting_keys.ensures)

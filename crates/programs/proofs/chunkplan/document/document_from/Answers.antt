@@ -3,7 +3,7 @@ use Rattle.std.proofs.lemmas.Result.{err_from_is_err_and}
 use Rattle.serde_json.specs.View.{view}
 use Rattle.programs.specs.Stored.{stored_of}
 use Rattle.programs.specs.chunkplan.Document.{wanted_of}
-use Rattle.programs.specs.chunkplan.DocumentFault.{HasMembers, misfit, misformed_wanted, misformed_stored, misformed_task, unknown}
+use Rattle.programs.specs.chunkplan.DocumentFault.{HasMembers, misfit, misformed_keys, misformed_wanted, misformed_stored, misformed_task, unknown}
 use Rattle.programs.specs.chunkplan.RunFault.{of_document}
 use Rattle.programs.proofs.Members.{is_there}
 use Rattle.programs.proofs.chunkplan.FormFaults.{has_members, no_member, no_shape}
@@ -67,6 +67,16 @@ returns-in_err-wanted c =
     (λ is. inr (misformed_wanted c.in_ok-check_document.ensures members c.in_ok-check_fitting.ensures (ap is_some c.in_ok-shape.ensures) is))
     c.in_err-wanted.ensures)
 
+pub returns-in_err-keys : goal.returns-in_err-keys
+returns-in_err-keys c =
+    let p = err_from_is_err_and c.from_residual-in_err-keys.result c.from_residual-in_err-keys.ensures.1 in
+    let tree = view c.args.tree in
+    let members : HasMembers tree =
+    has_members tree _ _ _ c.in_ok-required_member.ensures c.in_ok-required_member-2.ensures c.in_ok-required_member-3.ensures in
+    rw (p.1, p.2)
+    (inr (misformed_keys (wanted_of c.in_ok-wanted.wanted) c.in_ok-check_document.ensures members c.in_ok-check_fitting.ensures
+    (ap is_some c.in_ok-shape.ensures) c.in_ok-wanted.ensures c.in_err-keys.ensures))
+
 pub returns-in_err-stored : goal.returns-in_err-stored
 returns-in_err-stored c =
     let p = err_from_is_err_and c.from_residual-in_err-stored.result c.from_residual-in_err-stored.ensures.1 in
@@ -75,8 +85,8 @@ returns-in_err-stored c =
     has_members tree _ _ _ c.in_ok-required_member.ensures c.in_ok-required_member-2.ensures c.in_ok-required_member-3.ensures in
     rw (p.1, p.2)
     (⊎_elim (λ memory. inl (ap of_document memory))
-    (λ is. inr (misformed_stored _ (wanted_of c.in_ok-wanted.wanted) c.in_ok-check_document.ensures members c.in_ok-check_fitting.ensures
-    (ap is_some c.in_ok-shape.ensures) c.in_ok-wanted.ensures is refl))
+    (λ is. inr (misformed_stored _ (wanted_of c.in_ok-wanted.wanted) c.in_ok-keys.keys c.in_ok-check_document.ensures members
+    c.in_ok-check_fitting.ensures (ap is_some c.in_ok-shape.ensures) c.in_ok-wanted.ensures c.in_ok-keys.ensures is refl))
     c.in_err-stored.ensures.stored)
 
 pub returns-in_err-task : goal.returns-in_err-task
@@ -87,8 +97,9 @@ returns-in_err-task c =
     has_members tree _ _ _ c.in_ok-required_member.ensures c.in_ok-required_member-2.ensures c.in_ok-required_member-3.ensures in
     rw (p.1, p.2)
     (⊎_elim (λ memory. inl memory)
-    (λ is. inr (misformed_task (wanted_of c.in_ok-wanted.wanted) (stored_of c.in_ok-stored.stored) c.in_ok-check_document.ensures members
-    c.in_ok-check_fitting.ensures (ap is_some c.in_ok-shape.ensures) c.in_ok-wanted.ensures c.in_ok-stored.ensures.stored
+    (λ is. inr (misformed_task (wanted_of c.in_ok-wanted.wanted) c.in_ok-keys.keys (stored_of c.in_ok-stored.stored) c.in_ok-check_document.ensures
+    members c.in_ok-check_fitting.ensures (ap is_some c.in_ok-shape.ensures) c.in_ok-wanted.ensures c.in_ok-keys.ensures
+    c.in_ok-stored.ensures.stored
     (is_task_fault tree (view c.take_stored.new.tree) c.in_ok-stored.ensures.others _ is)))
     c.in_err-task.ensures)
 
@@ -98,6 +109,7 @@ returns c = record {
   fitting = c.in_ok-check_fitting.ensures;
   shape = c.in_ok-shape.ensures;
   wanted = c.in_ok-wanted.ensures;
+  keys = c.in_ok-keys.ensures;
   stored = c.in_ok-stored.ensures.stored;
   task = is_task (view c.args.tree) (view c.take_stored.new.tree) c.in_ok-stored.ensures.others _ c.in_ok-task.ensures;
 }

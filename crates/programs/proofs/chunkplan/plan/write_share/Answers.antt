@@ -1,9 +1,10 @@
-use Rattle.std.proofs.Common.{◌≡◌, ◌∙◌, ap, inl, length, refl, sym}
+use Rattle.std.proofs.Common.{◌≡◌, ◌∙◌, ap, inl, length, option_map, refl, sym}
 use Rattle.std.proofs.lemmas.Result.{err_from_is_err_and}
 use Rattle.zarrs_chunk_plan.specs.Counted.{counted}
 use Rattle.zarrs_chunk_plan.specs.Shares.{before_share, share_of}
 use Rattle.zarrs_chunk_plan.specs.seen.Copies.{all_targets}
-use Rattle.programs.specs.chunkplan.Line.{group_line, lines_from}
+use Rattle.programs.specs.chunkplan.Line.{lines_from}
+use Rattle.programs.specs.chunkplan.seen.Missing.{line_unless_stored}
 use Rattle.programs.specs.seen.Sent.{output}
 use Rattle.programs.proofs.chunkplan.Begun.{moves_of_share, share_can_move}
 use Rattle.programs.proofs.chunkplan.Steps.{step_follows}
@@ -38,10 +39,10 @@ returns g c =
       all,
       come_all,
       lines
-          ∙ ap (λ k. lines_from (λ n. group_line (counted n) (counted k)) (before_share share.number share.of (length (all_targets walk))) groups)
+          ∙ ap (λ k. lines_from (λ n. line_unless_stored (option_map (λ s. s.now) c.args.stored) (counted n) (counted k)) (before_share share.number share.of (length (all_targets walk))) groups)
           (ap length shared.all ∙ count)
-          ∙ ap (λ k. lines_from (λ n. group_line (counted n) (counted (length all))) (before_share share.number share.of k) groups) count
-          ∙ ap (λ gs. lines_from (λ n. group_line (counted n) (counted (length all))) (before_share share.number share.of (length all)) gs)
+          ∙ ap (λ k. lines_from (λ n. line_unless_stored (option_map (λ s. s.now) c.args.stored) (counted n) (counted (length all))) (before_share share.number share.of k) groups) count
+          ∙ ap (λ gs. lines_from (λ n. line_unless_stored (option_map (λ s. s.now) c.args.stored) (counted n) (counted (length all))) (before_share share.number share.of (length all)) gs)
           (sym is_share),
     ))
     (λ fault none. none)

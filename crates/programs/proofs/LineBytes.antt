@@ -1,0 +1,109 @@
+-- The bytes of a line, one after another.
+use Rattle.std.proofs.Common.{◌≡◌, ◌≢◌, ◌∙◌, ℕ, ◌<◌, ◌≤◌, Bool, true, false, drop, eqb, false-eqb, get_or, List, Option, Some, None, [], ◌∷◌, ◌++◌, append-nil, append_assoc, ap, arith, cond, eq-eqb}
+use Rattle.std.proofs.Common.{eqb-true, length, length-append, ne_eqb, refl, sym}
+use Rattle.std.proofs.BufReadLemmas.{take_through-nil}
+use Rattle.std.specs.Io.BufRead.{drop_through, take_through}
+use Rattle.programs.specs.chunkplan.Keys.{unended}
+use Rattle.programs.specs.seen.Lines.{IsNextByte}
+
+module _ (byte : ℕ) (rest : List ℕ) where
+  pub line_ends : byte ≡ 10 → (take_through 10 (byte ∷ rest) ≡ byte ∷ []) × (drop_through 10 (byte ∷ rest) ≡ rest)
+  line_ends is =
+      let hit = eq-eqb byte 10 is in (
+        ap (λ b. cond b (byte ∷ []) (byte ∷ take_through 10 rest)) hit,
+        ap (λ b. cond b rest (drop_through 10 rest)) hit,
+      )
+
+  pub line_goes_on : byte ≢ 10 → (take_through 10 (byte ∷ rest) ≡ byte ∷ take_through 10 rest) × (drop_through 10 (byte ∷ rest) ≡ drop_through 10 rest)
+  line_goes_on other =
+      let miss = ne_eqb byte 10 other in (
+        ap (λ b. cond b (byte ∷ []) (byte ∷ take_through 10 rest)) miss,
+        ap (λ b. cond b rest (drop_through 10 rest)) miss,
+      )
+
+-- What was taken of a line so far, and what is still to be taken of it and left behind it, is the whole of it.
+pub record IsPartOfLine (before line : List ℕ) (bytes rest : List ℕ) : Type 0 where
+  pub taken : before ++ take_through 10 bytes ≡ line ++ take_through 10 rest
+  pub behind : drop_through 10 bytes ≡ drop_through 10 rest
+  pub longer : length before ≤ length line
+
+module _ (before line bytes : List ℕ) where
+  pub one_more_byte : (byte : ℕ) (rest : List ℕ) → byte ≢ 10 → IsPartOfLine before line bytes (byte ∷ rest)
+      → IsPartOfLine before (line ++ byte ∷ []) bytes rest
+  one_more_byte byte rest other part =
+      let more = line_goes_on byte rest other in
+      let many = length-append line (byte ∷ []) in
+      record {
+        taken = part.taken ∙ ap (λ xs. line ++ xs) more.0 ∙ sym (append_assoc line (byte ∷ []) (take_through 10 rest));
+        behind = part.behind ∙ more.1;
+        longer = omega (arith, part.longer);
+      }
+
+  pub last_byte : (byte : ℕ) (rest : List ℕ) → byte ≡ 10 → IsPartOfLine before line bytes (byte ∷ rest)
+      → (line ++ byte ∷ [] ≡ before ++ take_through 10 bytes) × (rest ≡ drop_through 10 bytes) × (length before < length (line ++ byte ∷ []))
+  last_byte byte rest is part =
+      let ends = line_ends byte rest is in
+      let many = length-append line (byte ∷ []) in
+      (sym (part.taken ∙ ap (λ xs. line ++ xs) ends.0), sym (part.behind ∙ ends.1), omega (arith, part.longer))
+
+  pub no_more_bytes : IsPartOfLine before line bytes []
+      → (line ≡ before ++ take_through 10 bytes) × ([] ≡ drop_through 10 bytes) × (length line ≤ length before → bytes ≡ [])
+  no_more_bytes part = (
+    sym (part.taken ∙ append-nil line),
+    sym part.behind,
+    λ short. take_through-nil 10 bytes
+        (omega (arith, short, ap length part.taken, length-append before (take_through 10 bytes), length-append line [])),
+  )
+
+-- nothing is left where there is no next byte
+pub at_end : (bytes : List ℕ) (found : Option ℕ) (behind : Option (List ℕ)) → ((byte : ℕ) → found ≢ Some byte) → IsNextByte bytes found behind
+    → (bytes ≡ []) × (behind ≡ Some [])
+at_end bytes None behind none is = is
+at_end bytes (Some byte) behind none is = absurd (none byte refl)
+
+both_at : (ended : Bool) (byte : ℕ) (bytes : List ℕ) → bytes ≡ take_through 10 bytes ++ drop_through 10 bytes
+    → byte ∷ bytes ≡ cond ended (byte ∷ []) (byte ∷ take_through 10 bytes) ++ cond ended bytes (drop_through 10 bytes)
+both_at true byte bytes both = refl
+both_at false byte bytes both = ap (λ xs. byte ∷ xs) both
+
+-- a line and what is behind it are all
+pub both_parts : (bytes : List ℕ) → bytes ≡ take_through 10 bytes ++ drop_through 10 bytes
+both_parts [] = refl
+both_parts (byte ∷ bytes) = both_at (eqb byte 10) byte bytes (both_parts bytes)
+
+-- ---- a line without its line feed
+
+ended_at : (ended : Bool) (byte : ℕ) (bytes front : List ℕ) → (ended ≡ false → byte ≢ 10)
+    → ((others : List ℕ) → take_through 10 bytes ≡ others ++ 10 ∷ [] → unended bytes ≡ others)
+    → cond ended (byte ∷ []) (byte ∷ take_through 10 bytes) ≡ front ++ 10 ∷ [] → cond ended [] (byte ∷ unended bytes) ≡ front
+ended_at true byte bytes [] other later is = refl
+ended_at true byte bytes (first ∷ front) other later is = absurd (omega (arith, ap length is, length-append front (10 ∷ [])))
+ended_at false byte bytes [] other later is = absurd (other refl (ap (λ xs. get_or xs 0 0) is))
+ended_at false byte bytes (first ∷ front) other later is =
+    ap (λ xs. byte ∷ xs) (later front (ap (drop 1) is)) ∙ ap (λ x. x ∷ front) (ap (λ xs. get_or xs 0 0) is)
+
+-- a line that ends in a line feed
+pub unended_front : (bytes front : List ℕ) → take_through 10 bytes ≡ front ++ 10 ∷ [] → unended bytes ≡ front
+unended_front [] [] is = absurd (omega (arith, ap length is))
+unended_front [] (first ∷ front) is = absurd (omega (arith, ap length is))
+unended_front (byte ∷ bytes) front is = ended_at (eqb byte 10) byte bytes front (λ miss. false-eqb byte 10 (sym miss)) (unended_front bytes) is
+
+unended_at : (ended : Bool) (byte : ℕ) (bytes front : List ℕ) (last : ℕ) → (ended ≡ true → byte ≡ 10) → last ≢ 10
+    → ((others : List ℕ) → take_through 10 bytes ≡ others ++ last ∷ [] → unended bytes ≡ take_through 10 bytes)
+    → cond ended (byte ∷ []) (byte ∷ take_through 10 bytes) ≡ front ++ last ∷ []
+    → cond ended [] (byte ∷ unended bytes) ≡ cond ended (byte ∷ []) (byte ∷ take_through 10 bytes)
+unended_at true byte bytes [] last is_feed other later is = absurd (other (sym (ap (λ xs. get_or xs 0 0) is) ∙ is_feed refl))
+unended_at true byte bytes (first ∷ front) last is_feed other later is = absurd (omega (arith, ap length is, length-append front (last ∷ [])))
+unended_at false byte bytes [] last is_feed other later is =
+    ap (λ xs. byte ∷ xs) (rw (take_through-nil 10 bytes (omega (arith, ap length is))) refl)
+unended_at false byte bytes (first ∷ front) last is_feed other later is = ap (λ xs. byte ∷ xs) (later front (ap (drop 1) is))
+
+-- the last line, where it has none
+pub unended_whole : (bytes front : List ℕ) (last : ℕ) → last ≢ 10 → take_through 10 bytes ≡ front ++ last ∷ [] → unended bytes ≡ take_through 10 bytes
+unended_whole [] front last other is = refl
+unended_whole (byte ∷ bytes) front last other is =
+    unended_at (eqb byte 10) byte bytes front last (λ hit. eqb-true byte 10 hit) other (λ others. unended_whole bytes others last other) is
+
+-- no line
+pub unended_none : (bytes line : List ℕ) → length line ≡ 0 → line ≡ take_through 10 bytes → unended bytes ≡ take_through 10 bytes
+unended_none bytes line none is = rw (take_through-nil 10 bytes (ap length (sym is) ∙ none)) refl

@@ -1,0 +1,47 @@
+-- What a document before keys asks for.
+use Rattle.std.proofs.Common.{◌≡◌, ◌⊎◌, ◌∙◌, ℕ, true, IsSome, List, Option, None, Some, ap, codes, inl, inr, is_some, refl, sym, true≢false}
+use Rattle.std.proofs.lemmas.Option.{none-some, same_Some}
+use Rattle.serde_json.specs.Data.{Data}
+use Rattle.serde_json.specs.Find.{get}
+use Rattle.zarrs_chunk_base.specs.ArraySubset.{Box}
+use Rattle.zarrs_chunk_base.specs.Json.{IsJsonOf}
+use Rattle.zarrs_chunk_plan.specs.declared.share.Share.{Share}
+use Rattle.programs.specs.Stored.{Stored}
+use Rattle.programs.specs.chunkplan.Document.{Document, HasFlag, HasWanted, AsksForLinesOfCopy, IsDocument, IsTask, Task, Wanted, copy_to, counts_wanted}
+use Rattle.programs.specs.chunkplan.Document.{lines_wanted, read_of, rechunk_to, resize_to}
+use Rattle.programs.specs.chunkplan.Keys.{HasKeysBehind}
+
+-- a flag that is true is there
+flag_is_there : (d : Data) (field : List ℕ) → HasFlag d field true → (m : Data) × (get field d ≡ Some m)
+flag_is_there d field (inl (none, never)) = absurd (true≢false never)
+flag_is_there d field (inr (m, there, is)) = (m, there)
+
+-- what is there isn't missing
+not_missing : (d m : Data) (field : List ℕ) → get field d ≡ Some m → ¬ (get field d ≡ None)
+not_missing d m field there none = none-some m (sym none ∙ there)
+
+are_lines : (d : Data) (wanted : Wanted) → HasWanted d wanted → get (codes "counts") d ≡ None → (share : Share) × (wanted ≡ lines_wanted share)
+are_lines d (lines_wanted share) has none = (share, refl)
+are_lines d counts_wanted has none = let (m, there) = flag_is_there d (codes "counts") has in absurd (not_missing d m (codes "counts") there none)
+
+is_copy : (d : Data) (task : Task) → IsTask d task → IsSome (get (codes "target") d)
+    → (IsSome (get (codes "resize") d) → get (codes "target") d ≡ None)
+    → ((stored : Stored) × (chunks : Option Box) × (task ≡ rechunk_to stored chunks))
+    ⊎ ((shape : List ℕ) × (stored : Stored) × (region : Box) × (at : Option (List ℕ)) × (task ≡ copy_to shape stored region at))
+is_copy d (read_of subset clip) is some no_resize = absurd (true≢false (sym some ∙ ap is_some is.1.0))
+is_copy d (rechunk_to stored chunks) is some no_resize = inl (stored, chunks, refl)
+is_copy d (copy_to shape stored region at) is some no_resize = inr (shape, stored, region, at, refl)
+is_copy d (resize_to shape keep) is some no_resize =
+    let (m, there, _) = is.0 in
+    absurd (true≢false (sym some ∙ ap is_some (no_resize (ap is_some there))))
+
+pub copy_of_lines : (line : List ℕ) (d : Data) (document : Document) → IsJsonOf line d → IsDocument d document → HasKeysBehind line
+    → AsksForLinesOfCopy document
+copy_of_lines line d document json stands (other, also, flag) =
+    let same : other ≡ d = same_Some other d (sym also.1 ∙ json.1) in
+    let (m, there) = flag_is_there d (codes "keys") (rw same at flag) in
+    let some = ap is_some there in
+    let fitting = stands.fitting in (
+      are_lines d document.wanted stands.wanted (fitting.keys.of_lines some),
+      is_copy d document.task stands.task (fitting.keys.of_target some) (λ resized. (fitting.resize.of_resize resized).0),
+    )

@@ -1,0 +1,239 @@
+-- Keys behind a document, line after line.
+use Rattle.std.proofs.Common.{◌≡◌, ◌≢◌, ◌↔◌, ◌⊎◌, ◌∙◌, ℕ, zero, suc, ◌≤◌, Bool, true, false, cond, eqb, List, [], ◌∷◌, ◌++◌, Contains, IfOk, IfSome, IsTrue, OnOk, Option, Some, None, Result, Ok, Err, append-nil, append_assoc}
+use Rattle.std.proofs.Common.{ap, arith, inl, inr, length, refl, subst, sym, ⊎_elim}
+use Rattle.std.proofs.lemmas.Option.{none-some, same_Some}
+use Rattle.std.proofs.lemmas.List.Elements.{Contains-append_cases, Contains-append_left, Contains-append_right, Contains-push, Contains-push_cases}
+use Rattle.std.specs.Io.BufRead.{drop_through}
+use Rattle.std.specs.Str.{IsUtf8}
+use Rattle.zarrs_chunk_base.specs.Dimension.{Dimension}
+use Rattle.zarrs_chunk_base.specs.StoreKey.{EndsInSlash}
+use Rattle.zarrs_chunk_plan.specs.StoredChunks.{IsOfArray}
+use Rattle.zarrs_chunk_plan.specs.declared.stored_chunks.StoredChunks.{StoredChunks}
+use Rattle.zarrs_chunk_plan.specs.seen.StoredChunks.{Knows}
+use Rattle.programs.specs.chunkplan.Keys.{AreForeign, AreKeys, IsKeyOfTarget, behind_first, empty_line, foreign_json, foreign_lines}
+use Rattle.programs.specs.chunkplan.Keys.{key_line, no_line, unended}
+use Rattle.programs.specs.chunkplan.Line.{line_of}
+use Rattle.programs.specs.Watched.{IsReadFailure}
+use Rattle.programs.specs.chunkplan.RunFault.{of_stream}
+use Rattle.programs.specs.chunkplan.seen.Missing.{HaveMarked, HaveNoted, IsKeysStop, with_line}
+use Rattle.programs.specs.seen.Lines.{left, unread}
+use Rattle.programs.specs.declared.chunkplan.run_fault.RunFault.{RunFault}
+use Rattle.programs.specs.declared.chunkplan.run_fault.RunFault.TheVariants.{KeyNotText, Memory}
+use Rattle.programs.specs.declared.lines.Lines.{Lines}
+use Rattle.programs.specs.declared.stream_fault.StreamFault.{StreamFault}
+use Rattle.programs.specs.declared.stream_fault.StreamFault.TheVariants.{Memory as NoMemory, Read as ReadFailed, Write as WriteFailed}
+
+-- ---- the keys in some lines
+
+shorter_at : (ended : Bool) (bytes : List ℕ) → length (drop_through 10 bytes) ≤ length bytes
+    → length (cond ended bytes (drop_through 10 bytes)) ≤ length bytes
+shorter_at true bytes short = omega arith
+shorter_at false bytes short = short
+
+behind_shorter : (bytes : List ℕ) → length (behind_first bytes) ≤ length bytes
+behind_shorter [] = omega arith
+behind_shorter (byte ∷ bytes) = let short = shorter_at (eqb byte 10) bytes (behind_shorter bytes) in omega arith
+
+behind_less : (byte : ℕ) (bytes : List ℕ) → length (behind_first (byte ∷ bytes)) ≤ length bytes
+behind_less byte bytes = shorter_at (eqb byte 10) bytes (behind_shorter bytes)
+
+-- the first line, and the keys behind it
+pub first_of_keys : (bytes : List ℕ) (keys : List (List ℕ)) → bytes ≢ [] → AreKeys (behind_first bytes) keys
+    → AreKeys bytes (with_line [] (unended bytes) ++ keys)
+first_of_keys bytes keys some are = at (unended bytes) refl
+  where
+    at : (line : List ℕ) → unended bytes ≡ line → AreKeys bytes (with_line [] line ++ keys)
+    at [] is = empty_line bytes keys some is are
+    at (byte ∷ line) is =
+        rw (sym is) (key_line bytes keys (λ none. absurd (omega (arith, ap length (sym is ∙ none)))) are)
+
+keys_in : (most : ℕ) (bytes : List ℕ) → length bytes ≤ most → (keys : List (List ℕ)) × AreKeys bytes keys
+keys_in most [] short = ([], no_line)
+keys_in zero (byte ∷ bytes) short = absurd (omega (arith, short))
+keys_in (suc most) (byte ∷ bytes) short =
+    let less = behind_less byte bytes in
+    let (keys, are) = keys_in most (behind_first (byte ∷ bytes)) (omega (arith, less, short)) in
+    (_, first_of_keys (byte ∷ bytes) keys (λ none. absurd (omega (arith, ap length none))) are)
+
+-- any lines have keys
+pub some_keys : (bytes : List ℕ) → (keys : List (List ℕ)) × AreKeys bytes keys
+some_keys bytes = keys_in (length bytes) bytes (omega arith)
+
+-- these keys were read, and the rest is left of the lines
+abbrev pub HaveCome : (bytes : List ℕ) (came : List (List ℕ)) (rest : List ℕ) → Type 0
+HaveCome bytes came rest = (others : List (List ℕ)) → AreKeys rest others → AreKeys bytes (came ++ others)
+
+-- a line that isn't empty is a key
+pub with_key : (keys : List (List ℕ)) (line : List ℕ) → line ≢ [] → with_line keys line ≡ keys ++ line ∷ []
+with_key keys [] some = absurd (some refl)
+with_key keys (byte ∷ line) some = refl
+
+with_more : (came : List (List ℕ)) (line : List ℕ) (others : List (List ℕ)) → came ++ (with_line [] line ++ others) ≡ with_line came line ++ others
+with_more came [] others = refl
+with_more came (byte ∷ line) others = sym (append_assoc came ((byte ∷ line) ∷ []) others)
+
+pub one_more_line : (bytes : List ℕ) (came : List (List ℕ)) (rest : List ℕ) → rest ≢ [] → HaveCome bytes came rest
+    → HaveCome bytes (with_line came (unended rest)) (behind_first rest)
+one_more_line bytes came rest some have others are =
+    rw (sym (with_more came (unended rest) others)) (have (with_line [] (unended rest) ++ others) (first_of_keys rest others some are))
+
+pub no_more_lines : (bytes : List ℕ) (came : List (List ℕ)) → HaveCome bytes came [] → AreKeys bytes came
+no_more_lines bytes came have = rw append-nil at (have [] no_line)
+
+-- a key that was just read is among all
+pub is_among : (bytes : List ℕ) (came : List (List ℕ)) (rest : List ℕ) (line : List ℕ) → line ≢ [] → HaveCome bytes (with_line came line) rest
+    → (keys : List (List ℕ)) × AreKeys bytes keys × Contains keys line
+is_among bytes came rest [] some have = absurd (some refl)
+is_among bytes came rest (byte ∷ line) some have =
+    let (others, are) = some_keys rest in (
+      _,
+      have others are,
+      Contains-append_left (came ++ (byte ∷ line) ∷ []) others (byte ∷ line) (Contains-push came (byte ∷ line)),
+    )
+
+-- ---- keys that are none of the target's
+
+module _ (target : List Dimension) (IsKeyOf : List ℕ → List ℕ → Type 0) (key : List ℕ) where
+  own_key : (keys foreign : List (List ℕ)) → IsKeyOfTarget target IsKeyOf key → AreForeign target IsKeyOf keys foreign
+      → AreForeign target IsKeyOf (keys ++ key ∷ []) foreign
+  own_key [] foreign is are = inl (is, are)
+  own_key (first ∷ keys) foreign is (inl (own, are)) = inl (own, own_key keys foreign is are)
+  own_key (first ∷ keys) foreign is (inr (other, others, same, are)) = inr (other, others, same, own_key keys others is are)
+
+  other_key : (keys foreign : List (List ℕ)) → (¬ IsKeyOfTarget target IsKeyOf key) → AreForeign target IsKeyOf keys foreign
+      → AreForeign target IsKeyOf (keys ++ key ∷ []) (foreign ++ key ∷ [])
+  other_key [] foreign is are = inr (is, [], ap (λ ks. ks ++ key ∷ []) are, refl)
+  other_key (first ∷ keys) foreign is (inl (own, are)) = inl (own, other_key keys foreign is are)
+  other_key (first ∷ keys) foreign is (inr (other, others, same, are)) =
+      inr (other, others ++ key ∷ [], ap (λ ks. ks ++ key ∷ []) same, other_key keys others is are)
+
+  lines_of_both : (keys : List (List ℕ)) → foreign_lines (keys ++ key ∷ []) ≡ foreign_lines keys ++ line_of (foreign_json key)
+  lines_of_both [] = append-nil (line_of (foreign_json key))
+  lines_of_both (first ∷ keys) =
+      ap (λ text. line_of (foreign_json first) ++ text) (lines_of_both keys)
+      ∙ sym (append_assoc (line_of (foreign_json first)) (foreign_lines keys) (line_of (foreign_json key)))
+
+  module _ (targets keys : List (List ℕ)) where
+    -- a key that ends in a slash marks nothing
+    pub slash_marks_nothing : (stored : StoredChunks) → EndsInSlash key → HaveMarked target IsKeyOf targets keys stored
+        → HaveMarked target IsKeyOf targets (keys ++ key ∷ []) stored
+    slash_marks_nothing stored slash marked = record {
+      store_keys = marked.store_keys;
+      are_store_keys = λ other. (
+        λ is. let (there, none) = (marked.are_store_keys other).0 is in (Contains-append_left keys (key ∷ []) other there, none),
+        λ (there, none).
+            ⊎_elim (λ before. (marked.are_store_keys other).1 (before, none)) (λ same. absurd (none (subst (λ x. EndsInSlash x) same slash)))
+            (Contains-push_cases keys key other there),
+      );
+      knows = marked.knows;
+    }
+
+    -- any other key marks its chunk
+    pub key_marks : (before after : StoredChunks) → (¬ EndsInSlash key) → HaveMarked target IsKeyOf targets keys before
+        → ((store_keys : List (List ℕ)) → Knows target IsKeyOf targets store_keys before → Knows target IsKeyOf targets (key ∷ store_keys) after)
+        → HaveMarked target IsKeyOf targets (keys ++ key ∷ []) after
+    key_marks before after no_slash marked notes = record {
+      store_keys = key ∷ marked.store_keys;
+      are_store_keys = λ other. (
+        λ is.
+            ⊎_elim
+            (λ first.
+            ⊎_elim (λ none. absurd (omega (arith, none.1)))
+            (λ same. (
+              subst (λ x. Contains (keys ++ key ∷ []) x) same (Contains-push keys key),
+              subst (λ x. ¬ EndsInSlash x) same no_slash,
+            ))
+            (Contains-push_cases [] key other first))
+            (λ there. let (before, none) = (marked.are_store_keys other).0 there in (Contains-append_left keys (key ∷ []) other before, none))
+            (Contains-append_cases (key ∷ []) marked.store_keys other is),
+        λ (there, none).
+            ⊎_elim (λ before. Contains-append_right (key ∷ []) marked.store_keys other ((marked.are_store_keys other).1 (before, none)))
+            (λ same.
+            subst (λ x. Contains (key ∷ marked.store_keys) x) same
+            (Contains-append_left (key ∷ []) marked.store_keys key (Contains-push [] key)))
+            (Contains-push_cases keys key other there),
+      );
+      knows = notes marked.store_keys marked.knows;
+    }
+
+    module _ (before after : StoredChunks) (text : List ℕ) (noted : HaveNoted target IsKeyOf targets keys before text)
+        (marked : HaveMarked target IsKeyOf targets (keys ++ key ∷ []) after) (is_text : IsUtf8 key) where
+      are_texts : (other : List ℕ) → Contains (keys ++ key ∷ []) other → IsUtf8 other
+      are_texts other there = ⊎_elim (noted.are_texts other) (λ same. subst IsUtf8 same is_text) (Contains-push_cases keys key other there)
+
+      pub own_noted : IsKeyOfTarget target IsKeyOf key → HaveNoted target IsKeyOf targets (keys ++ key ∷ []) after text
+      own_noted is = record {
+        marked = marked;
+        are_texts = are_texts;
+        foreign = noted.foreign;
+        are_foreign = own_key keys noted.foreign is noted.are_foreign;
+        text_is = noted.text_is;
+      }
+
+      pub other_noted : (¬ IsKeyOfTarget target IsKeyOf key)
+          → HaveNoted target IsKeyOf targets (keys ++ key ∷ []) after (text ++ line_of (foreign_json key))
+      other_noted is = record {
+        marked = marked;
+        are_texts = are_texts;
+        foreign = noted.foreign ++ key ∷ [];
+        are_foreign = other_key keys noted.foreign is noted.are_foreign;
+        text_is = ap (λ xs. xs ++ line_of (foreign_json key)) noted.text_is ∙ sym (lines_of_both noted.foreign);
+      }
+
+-- whether a key is the target's, where it doesn't end in a slash, and where it does
+pub of_target_if_of_array : (target : List Dimension) (IsKeyOf : List ℕ → List ℕ → Type 0) (key : List ℕ) → (¬ EndsInSlash key)
+    → IsOfArray target IsKeyOf key ↔ IsKeyOfTarget target IsKeyOf key
+of_target_if_of_array target IsKeyOf key no_slash =
+    (λ (chunk, meets, is). (chunk, meets, (no_slash, is)), λ (chunk, meets, (_, is)). (chunk, meets, is))
+
+-- what a call tells of its key
+module _ (target : List Dimension) (IsKeyOf : List ℕ → List ℕ → Type 0) (key : List ℕ) (no_slash : ¬ EndsInSlash key)
+    (before after : StoredChunks) where
+  pub if_noted : {E : Type 0} (r : Result Bool E)
+      → ((targets store_keys : List (List ℕ)) → Knows target IsKeyOf targets store_keys before
+      → IfOk r (λ _. Knows target IsKeyOf targets (key ∷ store_keys) after))
+      → OnOk r ((targets keys : List (List ℕ)) → HaveMarked target IsKeyOf targets keys before
+      → HaveMarked target IsKeyOf targets (keys ++ key ∷ []) after)
+  if_noted (Ok _) notes = λ targets keys marked. key_marks target IsKeyOf key targets keys before after no_slash marked (notes targets)
+  if_noted (Err _) notes = tt
+
+  pub if_of_target : {E : Type 0} (r : Result Bool E)
+      → ((targets store_keys : List (List ℕ)) → Knows target IsKeyOf targets store_keys before
+      → IfOk r (λ is. IsTrue is ↔ IsOfArray target IsKeyOf key))
+      → IfOk r (λ is. (targets keys : List (List ℕ)) → HaveMarked target IsKeyOf targets keys before
+      → IsTrue is ↔ IsKeyOfTarget target IsKeyOf key)
+  if_of_target (Ok is) tells = λ targets keys marked.
+      let told = tells targets marked.store_keys marked.knows in
+      let same = of_target_if_of_array target IsKeyOf key no_slash in
+      (λ yes. same.0 (told.0 yes), λ own. told.1 (same.1 own))
+  if_of_target (Err _) tells = tt
+
+pub slash_is_foreign : (target : List Dimension) (IsKeyOf : List ℕ → List ℕ → Type 0) (key : List ℕ) → EndsInSlash key
+    → ¬ IsKeyOfTarget target IsKeyOf key
+slash_is_foreign target IsKeyOf key slash (chunk, meets, (no_slash, is)) = no_slash slash
+
+-- ---- why reading them stops
+
+pub reading_stops_keys : (told : StreamFault) (bytes : Option (List ℕ)) (start old new : Bool) → IsReadFailure told old new → old ≡ start
+    → IsKeysStop (of_stream told) bytes start new
+reading_stops_keys ReadFailed bytes start old new is same = is
+reading_stops_keys NoMemory bytes start old new is same = is ∙ same
+reading_stops_keys WriteFailed bytes start old new never same = absurd never
+
+pub key_stops : (fault : RunFault) (bytes : Option (List ℕ)) (start new : Bool) (line : List ℕ) → new ≡ start
+    → (fault ≡ Memory) ⊎ ((fault ≡ KeyNotText) × (line ≢ []) × (¬ IsUtf8 line))
+    → (line ≢ [] → IfSome bytes (λ bs. (keys : List (List ℕ)) × AreKeys bs keys × Contains keys line)) → IsKeysStop fault bytes start new
+key_stops fault bytes start new line same (inl memory) among = rw memory same
+key_stops fault None start new line same (inr (is, some, not_text)) among = rw is (same, tt)
+key_stops fault (Some bs) start new line same (inr (is, some, not_text)) among =
+    let (keys, are, there) = among some in
+    rw is (same, (keys, are, line, there, not_text))
+
+-- where nothing is left, the reader is at its end
+pub nothing_left : (lines : Lines) (remaining : Option (List ℕ)) → left lines remaining ≡ Some [] → remaining ≡ Some []
+nothing_left lines None none = absurd (none-some [] none)
+nothing_left lines (Some rest) is = ap Some (last_part (unread lines) rest (same_Some (unread lines ++ rest) [] is))
+  where
+    last_part : (first rest : List ℕ) → first ++ rest ≡ [] → rest ≡ []
+    last_part [] rest is = is
+    last_part (x ∷ first) rest is = absurd (omega (arith, ap length is))

@@ -1,0 +1,60 @@
+-- What a step leaves that reads keys, and then sends what they leave of a plan.
+use Rattle.std.proofs.Common.{◌≡◌, ◌⊎◌, ℕ, Bool, List, [], Contains, Option, Some, Result, Ok, Err, inl, inr, refl, ⊎_elim}
+use Rattle.std.specs.Str.{IsUtf8}
+use Rattle.programs.specs.chunkplan.Keys.{AreKeys}
+use Rattle.programs.specs.chunkplan.seen.Missing.{IsKeysStop, KeyStepLeaves}
+use Rattle.programs.specs.chunkplan.seen.Steps.{HasBegun, StepLeaves}
+use Rattle.programs.specs.seen.Sent.{Output}
+use Rattle.programs.specs.declared.chunkplan.run_fault.RunFault.{RunFault}
+use Rattle.programs.specs.declared.chunkplan.run_fault.RunFault.TheVariants.{KeyNotText, Memory, Read, Write}
+use Rattle.programs.proofs.chunkplan.KeyLines.{some_keys}
+
+module _ (Planned : List (List ℕ) → List ℕ → Type 0) (IsFault : List (List ℕ) → RunFault → Type 0) (bytes : List ℕ) (start : Bool)
+    (left : Option (List ℕ)) (before : Output) where
+  -- a fault before any key was read, and before anything was sent
+  pub early_beside : (fault : RunFault) → ((keys : List (List ℕ)) → ¬ IsFault keys Read) → ((keys : List (List ℕ)) → ¬ IsFault keys Write)
+      → (fault ≡ Memory) ⊎ ((keys : List (List ℕ)) → IsFault keys fault)
+      → KeyStepLeaves Planned IsFault bytes (Err fault) start start left before before
+  early_beside fault no_read no_write (inl is) = rw is (refl, refl, inl refl)
+  early_beside Read no_read no_write (inr is) = absurd (no_read [] (is []))
+  early_beside Write no_read no_write (inr is) = absurd (no_write [] (is []))
+  early_beside Memory no_read no_write (inr is) = (refl, refl, inl refl)
+  early_beside _ no_read no_write (inr is) = let (keys, are) = some_keys bytes in (refl, refl, refl, keys, are, is keys)
+
+  -- reading the keys stopped
+  pub noting_stops : (fault : RunFault) (read : Bool) → IsKeysStop fault (Some bytes) start read
+      → ((keys : List (List ℕ)) (key : List ℕ) → Contains keys key → (¬ IsUtf8 key) → IsFault keys KeyNotText)
+      → KeyStepLeaves Planned IsFault bytes (Err fault) start read left before before
+  noting_stops Read read stops blames = (stops, refl, refl)
+  noting_stops Memory read stops blames = (stops, refl, inl refl)
+  noting_stops KeyNotText read stops blames =
+      let (same, (keys, are, key, there, not_text)) = stops in
+      (same, refl, refl, keys, are, blames keys key there not_text)
+  noting_stops _ read stops blames = absurd stops
+
+  -- all keys were read, and then a text is sent
+  pub sent_after_keys : (after : Output) (keys : List (List ℕ)) (read : Bool) → AreKeys bytes keys → read ≡ start → left ≡ Some []
+      → (r : Result (Unit {0}) RunFault) → StepLeaves (Planned keys) (λ _. ⊥) r before after
+      → KeyStepLeaves Planned IsFault bytes r start read left before after
+  sent_after_keys after keys read are same end (Ok _) leaves = (same, end, keys, are, leaves)
+  sent_after_keys after keys read are same end (Err Memory) leaves =
+      (same, leaves.0, ⊎_elim inl (λ begun. inr (keys, are, begun)) leaves.1)
+  sent_after_keys after keys read are same end (Err Write) leaves = (same, end, leaves.0, keys, are, leaves.1)
+  sent_after_keys after keys read are same end (Err _) leaves = absurd leaves.2
+
+-- what a step leaves, in other words
+module _ (P Q : List (List ℕ) → List ℕ → Type 0) (F G : List (List ℕ) → RunFault → Type 0)
+    (step : (keys : List (List ℕ)) (text : List ℕ) → P keys text → Q keys text)
+    (blames : (keys : List (List ℕ)) (fault : RunFault) → F keys fault → G keys fault) (bytes : List ℕ) (start read : Bool)
+    (left : Option (List ℕ)) (before after : Output) where
+  begun_beside : (keys : List (List ℕ)) → HasBegun (P keys) before after → HasBegun (Q keys) before after
+  begun_beside keys (text, is, rest, sends) = (text, step keys text is, rest, sends)
+
+  pub key_step_follows : (r : Result (Unit {0}) RunFault) → KeyStepLeaves P F bytes r start read left before after
+      → KeyStepLeaves Q G bytes r start read left before after
+  key_step_follows (Ok _) (same, end, keys, are, (text, is, sends, failed)) = (same, end, keys, are, (text, step keys text is, sends, failed))
+  key_step_follows (Err Read) leaves = leaves
+  key_step_follows (Err Memory) leaves =
+      (leaves.0, leaves.1, ⊎_elim inl (λ (keys, are, begun). inr (keys, are, begun_beside keys begun)) leaves.2)
+  key_step_follows (Err Write) leaves = (leaves.0, leaves.1, leaves.2, leaves.3, leaves.4, begun_beside leaves.3 leaves.5)
+  key_step_follows (Err _) leaves = (leaves.0, leaves.1, leaves.2, leaves.3, leaves.4, blames leaves.3 _ leaves.5)

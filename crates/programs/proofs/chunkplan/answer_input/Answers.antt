@@ -1,0 +1,46 @@
+use Rattle.std.proofs.Common.{◌≡◌, ◌∙◌, ◌++◌, Some, ap, subst, sym, true≢false}
+use Rattle.programs.specs.Watched.{watched}
+use Rattle.programs.specs.chunkplan.Keys.{HasKeysBehind, behind_first, first_line}
+use Rattle.programs.specs.seen.Lines.{left}
+use Rattle.programs.specs.seen.Sent.{output}
+use Rattle.programs.proofs.Known.{for_known}
+use Rattle.programs.proofs.LineBytes.{both_parts}
+use Rattle.programs.proofs.chunkplan.Inputs.{sent_after_reading, sent_beside_keys}
+use Rattle.programs.proofs.chunkplan.answer_input.Goals as goal
+
+pub returns-then-branch : goal.returns-then-branch
+returns-then-branch g c =
+    for_known (g.R.Read.remaining (watched c.args.reader.now)) _ (λ input is not_read.
+    let all : left c.new-lines.result (g.R.Read.remaining (watched c.args.reader.now)) ≡ Some input =
+    rw is (ap (λ xs. Some (xs ++ input)) c.new-lines.ensures)
+    in
+    let line : c.read_line.new.line.items ≡ first_line input =
+    (rw all at c.in_ok-read_line.ensures.line) ∙ ap (λ xs. xs ++ first_line input) c.new-input.ensures.items
+    in
+    let behind = rw all at c.in_ok-read_line.ensures.behind in
+    let has : HasKeysBehind (first_line input) = rw (c.deref.ensures.value ∙ line) at (c.in_ok-has_keys_behind.ensures.0 c.if-branch.true) in
+    sent_beside_keys input has _ _ (c.in_ok-read_line.ensures.failed ∙ not_read) _
+    (output g.W.Write.contents c.args.held_back.now.items c.args.writer.now)
+    (output g.W.Write.contents c.answer_beside_keys.new.held_back.items c.answer_beside_keys.new.writer) c.answer_beside_keys.result
+    ((rw line at c.answer_beside_keys.ensures) (behind_first input) behind))
+
+pub returns : goal.returns
+returns g c =
+    for_known (g.R.Read.remaining (watched c.args.reader.now)) _ (λ input is not_read.
+    let all : left c.new-lines.result (g.R.Read.remaining (watched c.args.reader.now)) ≡ Some input =
+    rw is (ap (λ xs. Some (xs ++ input)) c.new-lines.ensures)
+    in
+    let line : c.read_line.new.line.items ≡ first_line input =
+    (rw all at c.in_ok-read_line.ensures.line) ∙ ap (λ xs. xs ++ first_line input) c.new-input.ensures.items
+    in
+    let behind = rw all at c.in_ok-read_line.ensures.behind in
+    let whole : c.read_rest.new.bytes.items ≡ input =
+    (rw behind at c.in_ok-read_rest.ensures.rest) ∙ ap (λ xs. xs ++ behind_first input) line ∙ sym (both_parts input)
+    in
+    let none : ¬ HasKeysBehind (first_line input) = λ has.
+    true≢false (sym (c.in_ok-has_keys_behind.ensures.1 (subst HasKeysBehind (sym (c.deref.ensures.value ∙ line)) has)) ∙ c.if-branch.false)
+    in
+    sent_after_reading input _ _ (output g.W.Write.contents c.args.held_back.now.items c.args.writer.now)
+    (output g.W.Write.contents c.answer.new.held_back.items c.answer.new.writer) c.answer.result
+    (c.in_ok-read_rest.ensures.failed ∙ c.in_ok-read_line.ensures.failed ∙ not_read) (rw behind at c.in_ok-read_rest.ensures.end)
+    ((rw whole at c.answer.ensures) none))

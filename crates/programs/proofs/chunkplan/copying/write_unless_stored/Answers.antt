@@ -1,0 +1,37 @@
+use Rattle.std.proofs.Common.{◌∙◌, [], cond, ap, refl, sym}
+use Rattle.zarrs_chunk_plan.proofs.Walked.{at_first}
+use Rattle.programs.specs.chunkplan.Line.{group_line}
+use Rattle.programs.specs.seen.Sent.{output}
+use Rattle.programs.proofs.Sent.{sends_nothing}
+use Rattle.programs.proofs.chunkplan.Begun.{parts_ahead}
+use Rattle.programs.proofs.chunkplan.Steps.{step_follows}
+use Rattle.programs.proofs.chunkplan.copying.write_unless_stored.Goals as goal
+
+pub returns-then-is_left_out : goal.returns-then-is_left_out
+returns-then-is_left_out g c =
+    let group = c.args.group in
+    let (from, are) = parts_ahead g.G.ChunkGridTraits.dimensions g.E.ChunkKeyEncodingTraits.is_key group.from
+    (g.met.G.ChunkGridTraits.chained group.from.grid.now) c.requires.keys c.requires.is_box group.from []
+    (at_first g.G.ChunkGridTraits.dimensions g.E.ChunkKeyEncodingTraits.is_key group.from group.from [] refl refl c.requires.meet)
+    in
+    let left = sym c.is_left_out.ensures ∙ c.if-is_left_out.true in (
+      [],
+      (from, are, sym (ap (λ b. cond b [] (group_line c.args.number c.args.of (group.to, from))) left)),
+      sends_nothing (output g.W.Write.contents c.args.held_back.now.items c.args.writer.now),
+      refl,
+    )
+
+pub returns : goal.returns
+returns g c =
+    let group = c.args.group in
+    let written = sym c.is_left_out.ensures ∙ c.if-is_left_out.false in
+    step_follows _ _ (λ _. ⊥) (λ _. ⊥)
+    (λ text (from, are, is). (
+      from,
+      are,
+      is ∙ sym (ap (λ b. cond b [] (group_line c.args.number c.args.of (group.to, from))) written),
+    ))
+    (λ fault none. none)
+    (output g.W.Write.contents c.args.held_back.now.items c.args.writer.now)
+    (output g.W.Write.contents c.write_group.new.held_back.items c.write_group.new.writer)
+    c.write_group.result c.write_group.ensures

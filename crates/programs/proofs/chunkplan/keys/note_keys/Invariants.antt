@@ -1,0 +1,19 @@
+use Rattle.std.proofs.Common.{◌≡◌, [], ℕ, List, Some}
+use Rattle.programs.specs.Watched.{has_failed, watched}
+use Rattle.programs.specs.chunkplan.seen.Missing.{HaveNoted}
+use Rattle.programs.specs.seen.Lines.{left}
+use Rattle.programs.proofs.chunkplan.KeyLines.{HaveCome}
+use Rattle.programs.proofs.chunkplan.keys.note_keys.Given as goal
+
+-- some keys were read and noted, the others are left, and no read failed
+abbrev pub invariant-loop : goal.invariant-loop
+invariant-loop g l =
+    ((bytes : List ℕ) → left l.initial.lines (g.R.Read.remaining (watched l.initial.reader)) ≡ Some bytes
+    → (came : List (List ℕ)) × (rest : List ℕ) × (left l.lines (g.R.Read.remaining (watched l.reader)) ≡ Some rest) × HaveCome bytes came rest
+    × ((targets : List (List ℕ))
+    → HaveNoted (g.H.ChunkGridTraits.dimensions l.fn.target.grid) (g.F.ChunkKeyEncodingTraits.is_key l.fn.target.encoding) targets []
+    l.initial.stored l.initial.foreign.items
+    → HaveNoted (g.H.ChunkGridTraits.dimensions l.fn.target.grid) (g.F.ChunkKeyEncodingTraits.is_key l.fn.target.encoding) targets came
+    l.stored l.foreign.items))
+    × (l.line.items ≡ [])
+    × (has_failed l.reader ≡ has_failed l.initial.reader)

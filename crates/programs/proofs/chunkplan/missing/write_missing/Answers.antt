@@ -1,0 +1,150 @@
+use Rattle.std.proofs.Common.{◌≡◌, ◌∙◌, ◌<◌, ◌≤◌, ◌^◌, ◌++◌, ℕ, List, [], Some, Err, ap, arith, length, refl, subst, sym}
+use Rattle.std.proofs.lemmas.Result.{err_from_is_err_and}
+use Rattle.std.proofs.lemmas.Slice.Zip.{AllZip-long}
+use Rattle.std.specs.List.{AllByRecursion}
+use Rattle.zarrs_chunk_base.specs.ArraySubset.{IsBox}
+use Rattle.zarrs_chunk_base.specs.Dimension.{Dimension, IsChain}
+use Rattle.zarrs_chunk_plan.specs.Rechunking.{Group}
+use Rattle.zarrs_chunk_plan.specs.Region.{AreMovedInto}
+use Rattle.zarrs_chunk_plan.specs.declared.chunk_copies.Copies.{Copies}
+use Rattle.zarrs_chunk_plan.specs.declared.share.Share.{Share}
+use Rattle.zarrs_chunk_plan.specs.declared.stored_chunks.StoredChunks.{StoredChunks}
+use Rattle.zarrs_chunk_plan.specs.seen.Copies.{AreMovesToCome, CanMove, all_targets, region_of, targets_to_come}
+use Rattle.zarrs_chunk_plan.specs.seen.Parts.{HasKeys}
+use Rattle.zarrs_chunk_plan.specs.seen.StoredChunks.{Knows}
+use Rattle.zarrs_chunk_plan.proofs.Copied.{first_move}
+use Rattle.programs.specs.chunkplan.Keys.{IsMissingText}
+use Rattle.programs.specs.chunkplan.seen.Missing.{HaveNoted, share_unless_stored}
+use Rattle.programs.specs.seen.Sent.{Output, output}
+use Rattle.programs.proofs.chunkplan.Begun.{moves_ahead}
+use Rattle.programs.proofs.chunkplan.Behind.{Begins, Behind, ends_behind, stops_whole}
+use Rattle.programs.proofs.chunkplan.KeyLines.{some_keys}
+use Rattle.programs.proofs.chunkplan.KeySteps.{noting_stops, sent_after_keys}
+use Rattle.programs.proofs.chunkplan.StoredLines.{FaultOf, TextOf, missing_text, none_noted}
+use Rattle.programs.proofs.chunkplan.missing.write_missing.Goals as goal
+
+-- a walk has groups to give
+module _ {G E H F : Type 0} (dimensions : G → List Dimension) (is_key : E → List ℕ → List ℕ → Type 0) (also : H → List Dimension)
+    (also_key : F → List ℕ → List ℕ → Type 0) (walk : Copies G E H F) (chains : AllByRecursion IsChain (dimensions walk.source.now.grid))
+    (also_chains : AllByRecursion IsChain (also walk.targets.grid.now)) (keys : HasKeys (is_key walk.source.now.encoding))
+    (also_keys : HasKeys (also_key walk.targets.encoding.now)) (is_box : IsBox walk.targets.array_subset) (is_region : IsBox (region_of walk))
+    (can : CanMove dimensions also walk) where
+  some_groups : (groups : List Group) × AreMovesToCome dimensions is_key also also_key walk groups
+  some_groups =
+      moves_ahead dimensions is_key also also_key walk chains also_chains keys also_keys is_box is_region can walk []
+      (first_move dimensions is_key also also_key walk walk [] refl refl can)
+
+-- the lines of what isn't stored, and behind them those of the foreign keys
+module _ {G E H F : Type 0} (dimensions : G → List Dimension) (is_key : E → List ℕ → List ℕ → Type 0) (also : H → List Dimension)
+    (also_key : F → List ℕ → List ℕ → Type 0) (walk : Copies G E H F) (all : all_targets walk ≡ targets_to_come walk)
+    (few : length (all_targets walk) < 2 ^ 32) (target : List Dimension) (IsKeyOf : List ℕ → List ℕ → Type 0) (keys : List (List ℕ))
+    (stored : StoredChunks) (foreign : List ℕ) (noted : HaveNoted target IsKeyOf (all_targets walk) keys stored foreign) (share : Share) where
+  abbrev AreLines : List ℕ → Type 0
+  AreLines text = (groups : List Group) × AreMovesToCome dimensions is_key also also_key walk groups
+      × (text ≡ share_unless_stored (Some stored) share groups)
+
+  abbrev IsWhole : List ℕ → Type 0
+  IsWhole text = (groups : List Group) × AreMovesToCome dimensions is_key also also_key walk groups
+      × IsMissingText target IsKeyOf keys share groups text
+
+  both : (groups : List Group) → AreMovesToCome dimensions is_key also also_key walk groups
+      → IsMissingText target IsKeyOf keys share groups (share_unless_stored (Some stored) share groups ++ foreign)
+  both groups moves =
+      missing_text target IsKeyOf (all_targets walk) keys stored groups
+      (AreMovedInto (dimensions walk.source.now.grid) (is_key walk.source.now.encoding) (also walk.targets.grid.now)
+      (also_key walk.targets.encoding.now) (region_of walk) walk.targets.array_subset.start)
+      (λ chunk group of. of.to.numbers) (rw all moves) few foreign noted share
+
+  lines_begin : Begins AreLines IsWhole
+  lines_begin text (groups, moves, is) = (foreign, (groups, moves, rw is (both groups moves)))
+
+  whole : (text : List ℕ) → Behind AreLines (λ text. text ≡ foreign) text → IsWhole text
+  whole text (one, other, (groups, moves, is), same, joined) = (groups, moves, rw (joined, is, same) (both groups moves))
+
+pub returns-in_default : goal.returns-in_default
+returns-in_default g c = λ bytes is.
+    let walk = c.args.walk in
+    let (keys, are) = some_keys bytes in
+    let (groups, moves) = some_groups g.G.ChunkGridTraits.dimensions g.E.ChunkKeyEncodingTraits.is_key g.H.ChunkGridTraits.dimensions
+    g.F.ChunkKeyEncodingTraits.is_key walk (g.met.G.ChunkGridTraits.chained walk.source.now.grid)
+    (g.met.H.ChunkGridTraits.chained walk.targets.grid.now) c.requires.keys c.requires.target_keys c.requires.is_box c.requires.region c.requires.can
+    in
+    let long = ap length c.requires.all ∙ sym (AllZip-long _ (targets_to_come walk) groups moves) in
+    let many : 2 ^ 32 ≤ length (all_targets walk) = rw c.in_default.is at c.in_ok-stored.ensures.none in
+    (refl, refl, refl, keys, are, (groups, moves, omega (arith, long, many)))
+
+pub returns-in_err-note_keys : goal.returns-in_err-note_keys
+returns-in_err-note_keys g c = λ bytes is.
+    let p = err_from_is_err_and c.from_residual-in_err-note_keys.result c.from_residual-in_err-note_keys.ensures.1 in
+    let walk = c.args.walk in
+    let (groups, moves) = some_groups g.G.ChunkGridTraits.dimensions g.E.ChunkKeyEncodingTraits.is_key g.H.ChunkGridTraits.dimensions
+    g.F.ChunkKeyEncodingTraits.is_key walk (g.met.G.ChunkGridTraits.chained walk.source.now.grid)
+    (g.met.H.ChunkGridTraits.chained walk.targets.grid.now) c.requires.keys c.requires.target_keys c.requires.is_box c.requires.region c.requires.can
+    in
+    let long = ap length c.requires.all ∙ sym (AllZip-long _ (targets_to_come walk) groups moves) in
+    let few : length (all_targets walk) < 2 ^ 32 = rw c.in-Some.is at c.in_ok-stored.ensures.few in
+    rw (p.1, p.2)
+    (noting_stops (TextOf g.G.ChunkGridTraits.dimensions g.E.ChunkKeyEncodingTraits.is_key g.H.ChunkGridTraits.dimensions
+    g.F.ChunkKeyEncodingTraits.is_key walk (g.H.ChunkGridTraits.dimensions c.args.target.now.grid)
+    (g.F.ChunkKeyEncodingTraits.is_key c.args.target.now.encoding) c.args.share.now)
+    (FaultOf g.G.ChunkGridTraits.dimensions g.E.ChunkKeyEncodingTraits.is_key g.H.ChunkGridTraits.dimensions
+    g.F.ChunkKeyEncodingTraits.is_key walk) bytes _ _ _ _ _ (rw is at c.in_err-note_keys.ensures.refused)
+    (λ keys key there not_text. (groups, moves, (omega (arith, long, few), key, there, not_text))))
+
+pub returns-in_err-write_share : goal.returns-in_err-write_share
+returns-in_err-write_share g c = λ bytes is.
+    let p = err_from_is_err_and c.from_residual-in_err-write_share.result c.from_residual-in_err-write_share.ensures.1 in
+    let walk = c.args.walk in
+    let target = g.H.ChunkGridTraits.dimensions c.args.target.now.grid in
+    let IsKeyOf = g.F.ChunkKeyEncodingTraits.is_key c.args.target.now.encoding in
+    let few : length (all_targets walk) < 2 ^ 32 = rw c.in-Some.is at c.in_ok-stored.ensures.few in
+    let knows = subst (λ to. Knows (g.H.ChunkGridTraits.dimensions to.grid) (g.F.ChunkKeyEncodingTraits.is_key to.encoding) (all_targets walk) []
+    c.in-Some.stored) c.requires.target (rw c.in-Some.is at c.in_ok-stored.ensures.none)
+    in
+    let (keys, are, noted) = c.in_ok-note_keys.ensures.noted bytes (all_targets walk) is
+    (none_noted target IsKeyOf (all_targets walk) c.in-Some.stored _ knows c.new-foreign.ensures.items)
+    in
+    let before : Output = output g.W.Write.contents c.args.held_back.now.items c.args.writer.now in
+    let after : Output = output g.W.Write.contents c.write_share.new.held_back.items c.write_share.new.writer in
+    let begins = lines_begin g.G.ChunkGridTraits.dimensions g.E.ChunkKeyEncodingTraits.is_key g.H.ChunkGridTraits.dimensions
+    g.F.ChunkKeyEncodingTraits.is_key walk c.requires.all few target IsKeyOf keys c.note_keys.new.stored c.note_keys.new.foreign.items noted
+    c.args.share.now
+    in
+    rw (p.1, p.2)
+    (sent_after_keys (TextOf g.G.ChunkGridTraits.dimensions g.E.ChunkKeyEncodingTraits.is_key g.H.ChunkGridTraits.dimensions
+    g.F.ChunkKeyEncodingTraits.is_key walk (g.H.ChunkGridTraits.dimensions c.args.target.now.grid)
+    (g.F.ChunkKeyEncodingTraits.is_key c.args.target.now.encoding) c.args.share.now)
+    (FaultOf g.G.ChunkGridTraits.dimensions g.E.ChunkKeyEncodingTraits.is_key g.H.ChunkGridTraits.dimensions
+    g.F.ChunkKeyEncodingTraits.is_key walk) bytes _ _ before after keys _ are c.in_ok-note_keys.ensures.failed (rw is at c.in_ok-note_keys.ensures.end) (Err _)
+    (stops_whole _ _ begins before after _ c.in_err-write_share.ensures))
+
+pub returns : goal.returns
+returns g c = λ bytes is.
+    let walk = c.args.walk in
+    let target = g.H.ChunkGridTraits.dimensions c.args.target.now.grid in
+    let IsKeyOf = g.F.ChunkKeyEncodingTraits.is_key c.args.target.now.encoding in
+    let few : length (all_targets walk) < 2 ^ 32 = rw c.in-Some.is at c.in_ok-stored.ensures.few in
+    let knows = subst (λ to. Knows (g.H.ChunkGridTraits.dimensions to.grid) (g.F.ChunkKeyEncodingTraits.is_key to.encoding) (all_targets walk) []
+    c.in-Some.stored) c.requires.target (rw c.in-Some.is at c.in_ok-stored.ensures.none)
+    in
+    let (keys, are, noted) = c.in_ok-note_keys.ensures.noted bytes (all_targets walk) is
+    (none_noted target IsKeyOf (all_targets walk) c.in-Some.stored _ knows c.new-foreign.ensures.items)
+    in
+    let before : Output = output g.W.Write.contents c.args.held_back.now.items c.args.writer.now in
+    let between : Output = output g.W.Write.contents c.write_share.new.held_back.items c.write_share.new.writer in
+    let after : Output = output g.W.Write.contents c.send_text.new.held_back.items c.send_text.new.writer in
+    let begins = lines_begin g.G.ChunkGridTraits.dimensions g.E.ChunkKeyEncodingTraits.is_key g.H.ChunkGridTraits.dimensions
+    g.F.ChunkKeyEncodingTraits.is_key walk c.requires.all few target IsKeyOf keys c.note_keys.new.stored c.note_keys.new.foreign.items noted
+    c.args.share.now
+    in
+    let ends = whole g.G.ChunkGridTraits.dimensions g.E.ChunkKeyEncodingTraits.is_key g.H.ChunkGridTraits.dimensions
+    g.F.ChunkKeyEncodingTraits.is_key walk c.requires.all few target IsKeyOf keys c.note_keys.new.stored c.note_keys.new.foreign.items noted
+    c.args.share.now
+    in
+    sent_after_keys (TextOf g.G.ChunkGridTraits.dimensions g.E.ChunkKeyEncodingTraits.is_key g.H.ChunkGridTraits.dimensions
+    g.F.ChunkKeyEncodingTraits.is_key walk (g.H.ChunkGridTraits.dimensions c.args.target.now.grid)
+    (g.F.ChunkKeyEncodingTraits.is_key c.args.target.now.encoding) c.args.share.now)
+    (FaultOf g.G.ChunkGridTraits.dimensions g.E.ChunkKeyEncodingTraits.is_key g.H.ChunkGridTraits.dimensions
+    g.F.ChunkKeyEncodingTraits.is_key walk) bytes _ _ before after keys _ are c.in_ok-note_keys.ensures.failed (rw is at c.in_ok-note_keys.ensures.end) c.send_text.result
+    (ends_behind _ (λ text. text ≡ c.note_keys.new.foreign.items) _ before between after c.in_ok-write_share.ensures begins ends c.send_text.result
+    (rw c.deref.ensures.value at c.send_text.ensures))

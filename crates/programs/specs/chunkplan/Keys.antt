@@ -1,0 +1,108 @@
+-- Keys behind a document, a line each, and what they leave of a plan.
+-- Source: the form of the input and of the lines is this program's own.
+use Rattle.std.specs.Prelude.{◌≡◌, ◌≢◌, ◌↔◌, ◌⊎◌, ◌≤◌, ◌<◌, ◌^◌, ◌==◌, ℕ, Bool, true, IsTrue, if◌then◌else◌, List, [], ◌∷◌, ◌++◌, Contains}
+use Rattle.std.specs.Prelude.{length, codes, Some}
+use Rattle.std.specs.List.{slice_get}
+use Rattle.std.specs.Io.BufRead.{drop_through, take_through}
+use Rattle.std.specs.Str.{IsUtf8}
+use Rattle.json.specs.Json.{Json, string, object, no_members, member}
+use Rattle.serde_json.specs.Data.{Data}
+use Rattle.zarrs_chunk_base.specs.Dimension.{Dimension}
+use Rattle.zarrs_chunk_base.specs.Json.{IsJsonOf}
+use Rattle.zarrs_chunk_base.specs.StoreKey.{EndsInSlash}
+use Rattle.zarrs_chunk_plan.specs.Counted.{counted}
+use Rattle.zarrs_chunk_plan.specs.Rechunking.{Group}
+use Rattle.zarrs_chunk_plan.specs.Shares.{before_share, share_of}
+use Rattle.zarrs_chunk_plan.specs.StoredChunks.{IsListed, IsOfArray}
+use Rattle.zarrs_chunk_plan.specs.declared.share.Share.{Share}
+use Rattle.programs.specs.chunkplan.Document.{HasFlag}
+use Rattle.programs.specs.chunkplan.Line.{group_line, line_of, lines_from}
+use Rattle.programs.specs.declared.chunkplan.run_fault.RunFault.{RunFault}
+use Rattle.programs.specs.declared.chunkplan.run_fault.RunFault.TheVariants.{KeyNotText, TooManyForKeys}
+
+-- ---- the input
+
+-- the first line, with its line feed, if it has one; and what is behind it
+abbrev pub first_line : List ℕ → List ℕ
+first_line = take_through 10
+
+abbrev pub behind_first : List ℕ → List ℕ
+behind_first = drop_through 10
+
+-- the first line is a text of JSON in which `keys` is true
+abbrev pub HasKeysBehind : List ℕ → Type 0
+HasKeysBehind line = (tree : Data) × IsJsonOf line tree × HasFlag tree (codes "keys") true
+
+-- the bytes before the first line feed
+abbrev pub unended : List ℕ → List ℕ
+unended [] = []
+unended (byte ∷ bytes) = if byte == 10 then [] else byte ∷ unended bytes
+
+-- The keys in some lines, in order: each line that isn't empty is one.
+pub data AreKeys : (bytes : List ℕ) (keys : List (List ℕ)) → Type 0 where
+  no_line : AreKeys [] []
+  empty_line : (bytes : List ℕ) (keys : List (List ℕ)) → bytes ≢ [] → unended bytes ≡ [] → AreKeys (behind_first bytes) keys → AreKeys bytes keys
+  key_line : (bytes : List ℕ) (keys : List (List ℕ)) → unended bytes ≢ [] → AreKeys (behind_first bytes) keys → AreKeys bytes (unended bytes ∷ keys)
+
+-- ---- what is left of a plan
+
+-- a key, as a store may have it: a text that ends in a slash is none
+abbrev pub AsStoreKey : (List ℕ → List ℕ → Type 0) → (chunk key : List ℕ) → Type 0
+AsStoreKey IsKeyOf chunk key = (¬ EndsInSlash key) × IsKeyOf chunk key
+
+module _ (IsKeyOf : List ℕ → List ℕ → Type 0) (keys : List (List ℕ)) where
+  -- a chunk needn't be written: it would be written whole, and a key of it is listed
+  abbrev pub IsThere : Group → Type 0
+  IsThere group = IsTrue group.0.whole × IsListed (AsStoreKey IsKeyOf) keys group.0.chunk.items
+
+  -- of which groups that holds, by their numbers
+  abbrev pub TellsThere : List Group → (ℕ → Group → Bool) → Type 0
+  TellsThere groups is_there =
+      (number : ℕ) (group : Group) → slice_get groups number ≡ Some group → IsTrue (is_there number group) ↔ IsThere group
+
+-- the lines of a share of a plan, without those of the groups that are there
+abbrev pub missing_lines : (ℕ → Group → Bool) → Share → List Group → List ℕ
+missing_lines is_there share groups =
+    lines_from (λ n group. if is_there n group then [] else group_line (counted n) (counted (length groups)) group)
+    (before_share share.number share.of (length groups)) (share_of share groups)
+
+-- ---- keys of others
+
+-- the key of a chunk that holds elements of the target's array
+abbrev pub IsKeyOfTarget : (target : List Dimension) → (List ℕ → List ℕ → Type 0) → List ℕ → Type 0
+IsKeyOfTarget target IsKeyOf = IsOfArray target (AsStoreKey IsKeyOf)
+
+-- of the keys those that are none of the target's, in order
+abbrev pub AreForeign : (target : List Dimension) → (List ℕ → List ℕ → Type 0) → (keys foreign : List (List ℕ)) → Type 0
+AreForeign target IsKeyOf [] foreign = foreign ≡ []
+AreForeign target IsKeyOf (key ∷ keys) foreign =
+    (IsKeyOfTarget target IsKeyOf key × AreForeign target IsKeyOf keys foreign)
+    ⊎ ((¬ IsKeyOfTarget target IsKeyOf key)
+    × (others : List (List ℕ)) × (foreign ≡ key ∷ others) × AreForeign target IsKeyOf keys others)
+
+abbrev pub foreign_json : List ℕ → Json
+foreign_json key = object (member (codes "foreign") (string key) no_members)
+
+abbrev pub foreign_lines : List (List ℕ) → List ℕ
+foreign_lines [] = []
+foreign_lines (key ∷ keys) = line_of (foreign_json key) ++ foreign_lines keys
+
+-- ---- both
+
+-- What is written of a share of a plan where a store has these keys: the lines of what it hasn't, and behind them the keys that are none of the
+-- target's. The plan has fewer lines than 2 ^ 32, and each key is a text.
+pub record IsMissingText (target : List Dimension) (IsKeyOf : List ℕ → List ℕ → Type 0) (keys : List (List ℕ)) (share : Share) (groups : List Group)
+    (text : List ℕ) : Type 0 where
+  pub few : length groups < 2 ^ 32
+  pub are_texts : (key : List ℕ) → Contains keys key → IsUtf8 key
+  pub is_there : ℕ → Group → Bool
+  pub tells : TellsThere IsKeyOf keys groups is_there
+  pub foreign : List (List ℕ)
+  pub are_foreign : AreForeign target IsKeyOf keys foreign
+  pub text_is : text ≡ missing_lines is_there share groups ++ foreign_lines foreign
+
+-- the fault says that the plan has too many lines; or else that a key is no text
+abbrev pub IsKeysFault : List Group → (keys : List (List ℕ)) → RunFault → Type 0
+IsKeysFault groups keys TooManyForKeys = 2 ^ 32 ≤ length groups
+IsKeysFault groups keys KeyNotText = (length groups < 2 ^ 32) × (key : List ℕ) × Contains keys key × (¬ IsUtf8 key)
+IsKeysFault groups keys _ = ⊥

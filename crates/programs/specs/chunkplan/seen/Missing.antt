@@ -1,0 +1,80 @@
+-- What is known after some keys were read.
+use Rattle.std.specs.Prelude.{◌≡◌, ◌↔◌, ◌⊎◌, ◌++◌, ◌&&◌, ℕ, Bool, true, false, if◌then◌else◌, Contains, IfSome, length, List, [], ◌∷◌, Option, Some}
+use Rattle.std.specs.Prelude.{Result, Ok, Err}
+use Rattle.std.specs.Str.{IsUtf8}
+use Rattle.zarrs_chunk_base.specs.Dimension.{Dimension}
+use Rattle.zarrs_chunk_base.specs.StoreKey.{EndsInSlash}
+use Rattle.zarrs_chunk_plan.specs.Rechunking.{Group}
+use Rattle.zarrs_chunk_plan.specs.Counted.{counted}
+use Rattle.zarrs_chunk_plan.specs.Shares.{before_share, share_of}
+use Rattle.zarrs_chunk_plan.specs.declared.part.Part.{Part}
+use Rattle.zarrs_chunk_plan.specs.declared.share.Share.{Share}
+use Rattle.zarrs_chunk_plan.specs.declared.stored_chunks.StoredChunks.{StoredChunks}
+use Rattle.zarrs_chunk_plan.specs.seen.StoredChunks.{Knows, is_stored}
+use Rattle.programs.specs.chunkplan.Keys.{AreForeign, AreKeys, foreign_lines}
+use Rattle.programs.specs.chunkplan.Line.{group_line, lines_from}
+use Rattle.programs.specs.chunkplan.seen.Steps.{HasBegun, HasSent}
+use Rattle.programs.specs.seen.Sent.{Output}
+use Rattle.programs.specs.declared.chunkplan.run_fault.RunFault.{RunFault}
+use Rattle.programs.specs.declared.chunkplan.run_fault.RunFault.TheVariants.{KeyNotText, Memory, Read, Write}
+
+-- whether the line of a chunk of the target is left out, by its number: it is stored, and would be written whole
+abbrev pub is_left_out : Option StoredChunks → (at : Option ℕ) → Part → Bool
+is_left_out (Some stored) (Some number) to = to.whole && is_stored stored number
+is_left_out _ _ _ = false
+
+-- the line, or nothing
+abbrev pub line_unless_stored : Option StoredChunks → (at of : Option ℕ) → Group → List ℕ
+line_unless_stored stored at of group = if is_left_out stored at group.0 then [] else group_line at of group
+
+-- the lines of a share of a plan, without those
+abbrev pub share_unless_stored : Option StoredChunks → Share → List Group → List ℕ
+share_unless_stored stored share groups =
+    lines_from (λ n. line_unless_stored stored (counted n) (counted (length groups))) (before_share share.number share.of (length groups))
+    (share_of share groups)
+
+-- of the chunks `targets` those are marked of which a key is among these
+pub record HaveMarked (target : List Dimension) (IsKeyOf : List ℕ → List ℕ → Type 0) (targets keys : List (List ℕ)) (stored : StoredChunks) : Type 0 where
+  pub store_keys : List (List ℕ)
+  pub are_store_keys : (key : List ℕ) → Contains store_keys key ↔ (Contains keys key × (¬ EndsInSlash key))
+  pub knows : Knows target IsKeyOf targets store_keys stored
+
+-- and each key is a text, and the text has the lines of those that are none of the target's
+pub record HaveNoted (target : List Dimension) (IsKeyOf : List ℕ → List ℕ → Type 0) (targets keys : List (List ℕ)) (stored : StoredChunks)
+    (text : List ℕ) : Type 0 where
+  pub marked : HaveMarked target IsKeyOf targets keys stored
+  pub are_texts : (key : List ℕ) → Contains keys key → IsUtf8 key
+  pub foreign : List (List ℕ)
+  pub are_foreign : AreForeign target IsKeyOf keys foreign
+  pub text_is : text ≡ foreign_lines foreign
+
+-- these keys, and behind them the one in a line, if that isn't empty
+abbrev pub with_line : List (List ℕ) → (line : List ℕ) → List (List ℕ)
+with_line keys [] = keys
+with_line keys (byte ∷ line) = keys ++ (byte ∷ line) ∷ []
+
+-- why noting the keys in some lines stops, by whether a read had failed before, and after it: a read failed; memory ran out; a key is no text
+abbrev pub IsKeysStop : RunFault → (bytes : Option (List ℕ)) → (read_before read_after : Bool) → Type 0
+IsKeysStop Read bytes read_before read_after = read_after ≡ true
+IsKeysStop Memory bytes read_before read_after = read_after ≡ read_before
+IsKeysStop KeyNotText bytes read_before read_after = (read_after ≡ read_before)
+    × IfSome bytes (λ bs. (keys : List (List ℕ)) × AreKeys bs keys × (key : List ℕ) × Contains keys key × (¬ IsUtf8 key))
+IsKeysStop _ bytes read_before read_after = ⊥
+
+-- By the outcome of a step that reads the keys in some lines and then sends a text: it read all of them, and such a text was sent, or is held back;
+-- a read failed; memory ran out; a write failed; or there is another fault, of which IsFault holds, and nothing was sent.
+abbrev pub KeyStepLeaves : (Planned : List (List ℕ) → List ℕ → Type 0) (IsFault : List (List ℕ) → RunFault → Type 0) (bytes : List ℕ)
+    → Result (Unit {0}) RunFault → (read_before read_after : Bool) (left_after : Option (List ℕ)) → Output → Output → Type 0
+KeyStepLeaves Planned IsFault bytes (Ok _) read_before read_after left_after before after =
+    (read_after ≡ read_before) × (left_after ≡ Some []) × (keys : List (List ℕ)) × AreKeys bytes keys × HasSent (Planned keys) before after
+KeyStepLeaves Planned IsFault bytes (Err Read) read_before read_after left_after before after =
+    (read_after ≡ true) × (after.failed ≡ before.failed) × (after.holds ≡ before.holds)
+KeyStepLeaves Planned IsFault bytes (Err Memory) read_before read_after left_after before after =
+    (read_after ≡ read_before) × (after.failed ≡ before.failed)
+    × ((after.holds ≡ before.holds) ⊎ ((keys : List (List ℕ)) × AreKeys bytes keys × HasBegun (Planned keys) before after))
+KeyStepLeaves Planned IsFault bytes (Err Write) read_before read_after left_after before after =
+    (read_after ≡ read_before) × (left_after ≡ Some []) × (after.failed ≡ true)
+    × (keys : List (List ℕ)) × AreKeys bytes keys × HasBegun (Planned keys) before after
+KeyStepLeaves Planned IsFault bytes (Err fault) read_before read_after left_after before after =
+    (read_after ≡ read_before) × (after.failed ≡ before.failed) × (after.holds ≡ before.holds)
+    × (keys : List (List ℕ)) × AreKeys bytes keys × IsFault keys fault

@@ -1,0 +1,147 @@
+//! The keys behind a document, a line each.
+ghost use Rattle.std.specs.Prelude.{◌≡◌, ◌≢◌, ◌↔◌, ◌⊎◌, ◌++◌, ◌∷◌, [], ℕ, IfErr, IfOk, IfSome, IsTrue, List, OnOk, Some};
+ghost use Rattle.std.specs.Io.BufRead.{take_through};
+ghost use Rattle.std.specs.Str.{IsUtf8};
+ghost use Rattle.programs.specs.Watched.{has_failed, watched};
+ghost use Rattle.programs.specs.chunkplan.Keys.{AreKeys, HasKeysBehind, IsKeyOfTarget, foreign_json, unended};
+ghost use Rattle.programs.specs.chunkplan.Line.{line_of};
+ghost use Rattle.programs.specs.chunkplan.seen.Missing.{HaveMarked, HaveNoted, IsKeysStop, with_line};
+ghost use Rattle.programs.specs.declared.chunkplan.run_fault.RunFault.TheVariants.{KeyNotText, Memory, Read as ReadFailed};
+ghost use Rattle.programs.specs.seen.Lines.{left};
+
+use crate::chunkplan::RunFault;
+use crate::chunkplan::line::foreign_line;
+use crate::lines::Lines;
+use crate::watched::Watched;
+use std::alloc::{AllocError, Global};
+use std::io::Read;
+use zarrs_chunk_base::{StoreKey, read_json};
+use zarrs_chunk_keys::ChunkKeyEncodingTraits;
+use zarrs_chunk_plan::{StoredArray, StoredChunks};
+use zarrs_chunks::ChunkGridTraits;
+
+/// Whether a first line is a document in which `keys` is true.
+///
+/// # Errors
+/// Out of memory.
+pub(crate) fn has_keys_behind(alloc: Global, line: &[u8]) -> Result<bool, AllocError>
+    ensures { IfOk result (λ has. IsTrue has ↔ HasKeysBehind line.now) }
+{
+    let Some(tree) = read_json(alloc, line)? else {
+        return Ok(false);
+    };
+    match tree.get("keys") {
+        Some(keys) => Ok(keys.as_bool() == Some(true)),
+        None => Ok(false),
+    }
+}
+
+/// Notes each key in the lines that a reader has left: marks the target's chunk of that key, or appends the line of a key that is none of the
+/// target's.
+///
+/// # Errors
+/// A read failed; a key is no text; or out of memory.
+pub(crate) fn note_keys<R: Read, H: ChunkGridTraits, F: ChunkKeyEncodingTraits>(
+    alloc: Global,
+    target: &StoredArray<H, F>,
+    stored: &mut StoredChunks,
+    foreign: &mut Vec<u8>,
+    lines: &mut Lines,
+    reader: &mut Watched<R>,
+) -> Result<(), RunFault>
+    ensures noted { OnOk result ((bytes : List ℕ) (targets : List (List ℕ))
+        → left lines.old (R.remaining (watched reader.old)) ≡ Some bytes
+        → HaveNoted (H.dimensions target.now.grid) (F.is_key target.now.encoding) targets []
+        stored.old foreign.old.items
+        → (keys : List (List ℕ)) × AreKeys bytes keys
+        × HaveNoted (H.dimensions target.now.grid) (F.is_key target.now.encoding) targets keys
+        stored.new foreign.new.items) }
+    ensures end { OnOk result (IfSome (left lines.old (R.remaining (watched reader.old)))
+        (λ _. R.remaining (watched reader.new) ≡ Some [])) }
+    ensures refused { IfErr result (λ fault. IsKeysStop fault
+        (left lines.old (R.remaining (watched reader.old)))
+        (has_failed reader.old) (has_failed reader.new)) }
+    ensures failed { OnOk result (has_failed reader.new ≡ has_failed reader.old) }
+{
+    let mut line = Vec::new(alloc);
+    for _ in 0..u64::MAX {
+        if !lines.read_line(reader, &mut line)? {
+            return Ok(());
+        }
+        note_line(alloc, target, stored, foreign, without_feed(&line))?;
+        line.clear();
+    }
+    // No input has so many lines.
+    Err(RunFault::Memory)
+}
+
+/// Notes the key in a line, if the line isn't empty.
+///
+/// # Errors
+/// The key is no text; or out of memory.
+fn note_line<H: ChunkGridTraits, F: ChunkKeyEncodingTraits>(
+    alloc: Global,
+    target: &StoredArray<H, F>,
+    stored: &mut StoredChunks,
+    foreign: &mut Vec<u8>,
+    line: &[u8],
+) -> Result<(), RunFault>
+    ensures noted { OnOk result ((targets keys : List (List ℕ))
+        → HaveNoted (H.dimensions target.now.grid) (F.is_key target.now.encoding) targets keys
+        stored.old foreign.old.items
+        → HaveNoted (H.dimensions target.now.grid) (F.is_key target.now.encoding) targets
+        (with_line keys line.now) stored.new foreign.new.items) }
+    ensures refused { IfErr result (λ fault. (fault ≡ Memory)
+        ⊎ ((fault ≡ KeyNotText) × (line.now ≢ []) × (¬ IsUtf8 line.now))) }
+{
+    if line.is_empty() {
+        return Ok(());
+    }
+    let Ok(key) = str::from_utf8(line) else {
+        return Err(RunFault::KeyNotText);
+    };
+    if note_key(alloc, target, stored, key)? {
+        return Ok(());
+    }
+    let line = foreign_line(alloc, key)?;
+    foreign.extend_from_slice(&line)?;
+    Ok(())
+}
+
+/// Marks the chunk of a key, and tells whether the key is that of a chunk that holds elements of the target's array.
+///
+/// # Errors
+/// Out of memory.
+fn note_key<H: ChunkGridTraits, F: ChunkKeyEncodingTraits>(
+    alloc: Global,
+    target: &StoredArray<H, F>,
+    stored: &mut StoredChunks,
+    key: &str,
+) -> Result<bool, AllocError>
+    ensures noted { OnOk result ((targets keys : List (List ℕ))
+        → HaveMarked (H.dimensions target.now.grid) (F.is_key target.now.encoding) targets keys
+        stored.old
+        → HaveMarked (H.dimensions target.now.grid) (F.is_key target.now.encoding) targets
+        (keys ++ key.now ∷ []) stored.new) }
+    ensures of_target { IfOk result (λ is. (targets keys : List (List ℕ))
+        → HaveMarked (H.dimensions target.now.grid) (F.is_key target.now.encoding) targets keys
+        stored.old
+        → IsTrue is ↔ IsKeyOfTarget (H.dimensions target.now.grid) (F.is_key target.now.encoding)
+        key.now) }
+{
+    match StoreKey::new(String::from_str(alloc, key)?) {
+        Ok(key) => stored.note(alloc, target, &key),
+        // No chunk has a key that ends in a slash.
+        Err(_) => Ok(false),
+    }
+}
+
+/// A line without its line feed.
+fn without_feed(line: &[u8]) -> &[u8]
+    ensures { (bytes : List ℕ) → line.now ≡ take_through 10 bytes → result.now ≡ unended bytes }
+{
+    match line.split_last() {
+        Some((last, front)) if *last == b'\n' => front,
+        _ => line,
+    }
+}

@@ -1,0 +1,144 @@
+//! What a plan still has to write where a store has some of it.
+ghost use Rattle.std.specs.Prelude.{◌≡◌, ℕ, List, Some};
+ghost use Rattle.zarrs_chunk_base.specs.ArraySubset.{IsBox};
+ghost use Rattle.zarrs_chunk_plan.specs.Rechunking.{Group};
+ghost use Rattle.zarrs_chunk_plan.specs.seen.Copies.{AreMovesToCome, CanMove, all_targets, region_of, target_of, targets_to_come};
+ghost use Rattle.zarrs_chunk_plan.specs.seen.Parts.{HasKeys};
+ghost use Rattle.programs.specs.Watched.{has_failed, watched};
+ghost use Rattle.programs.specs.chunkplan.Document.{AsksForLinesOfCopy, document_of};
+ghost use Rattle.programs.specs.chunkplan.Keys.{IsKeysFault, IsMissingText};
+ghost use Rattle.programs.specs.chunkplan.PlanFault.{IsFaultBeside};
+ghost use Rattle.programs.specs.chunkplan.Planned.{IsPlannedBeside};
+ghost use Rattle.programs.specs.chunkplan.seen.Missing.{KeyStepLeaves};
+ghost use Rattle.programs.specs.seen.Lines.{left};
+ghost use Rattle.programs.specs.seen.Sent.{output};
+
+use crate::chunkplan::RunFault;
+use crate::chunkplan::copying::send_text;
+use crate::chunkplan::document::{Document, Task, Wanted};
+use crate::chunkplan::keys::note_keys;
+use crate::chunkplan::plan::{open_target, or_all_chunks, or_zeros, write_share};
+use crate::lines::Lines;
+use crate::watched::Watched;
+use std::alloc::Global;
+use std::io::{Read, Write};
+use zarrs_chunk_base::Refusal;
+use zarrs_chunk_keys::ChunkKeyEncodingTraits;
+use zarrs_chunk_plan::{Copies, Share, StoredArray, copies, copies_of_region};
+use zarrs_chunks::ChunkGridTraits;
+
+/// Reads the keys behind a document, and sends the lines that it asks for of what isn't stored under any of them; and behind these the line of each
+/// key that is none of the target's.
+///
+/// # Errors
+/// Those of a plan; the plan has too many lines; a read failed; a key is no text; a write failed; or out of memory. Nothing has been written where it is
+/// none of the last two.
+pub(crate) fn write_beside_keys<R: Read, W: Write>(
+    alloc: Global,
+    document: Document,
+    lines: &mut Lines,
+    reader: &mut Watched<R>,
+    held_back: &mut Vec<u8>,
+    writer: &mut Watched<W>,
+) -> Result<(), RunFault>
+    requires { AsksForLinesOfCopy (document_of document) }
+    ensures { (bytes : List ℕ) → left lines.old (R.remaining (watched reader.old)) ≡ Some bytes
+        → KeyStepLeaves (IsPlannedBeside (document_of document))
+        (IsFaultBeside (document_of document)) bytes result
+        (has_failed reader.old) (has_failed reader.new) (R.remaining (watched reader.new))
+        (output W.contents held_back.old.items writer.old)
+        (output W.contents held_back.new.items writer.new) }
+{
+    let Document {
+        shape,
+        wanted,
+        stored,
+        task,
+        ..
+    } = document;
+    let array = stored.array(alloc, &shape)?;
+    drop(stored);
+    match (task, wanted) {
+        (Task::Rechunk(target, chunks), Wanted::Lines(share)) => {
+            let target = open_target(alloc, target, &shape)?;
+            let chunks = or_all_chunks(alloc, chunks, &target.grid)?;
+            match copies(alloc, &array, &target, &chunks) {
+                Ok(walk) => write_missing(
+                    alloc, walk, &target, &share, lines, reader, held_back, writer,
+                ),
+                Err(Refusal::Refused(error)) => Err(RunFault::Copies(error)),
+                Err(Refusal::Memory(_)) => Err(RunFault::Memory),
+            }
+        }
+        (
+            Task::Copy {
+                shape,
+                target,
+                region,
+                at,
+            },
+            Wanted::Lines(share),
+        ) => {
+            let target = open_target(alloc, target, &shape)?;
+            let at = or_zeros(alloc, at, region.dimensionality())?;
+            region.is_a_box();
+            match copies_of_region(alloc, &array, &target, &region, &at) {
+                Ok(walk) => write_missing(
+                    alloc, walk, &target, &share, lines, reader, held_back, writer,
+                ),
+                Err(Refusal::Refused(error)) => Err(RunFault::from(error)),
+                Err(Refusal::Memory(_)) => Err(RunFault::Memory),
+            }
+        }
+        // Never: keys stand behind a copy whose lines are asked for.
+        _ => unreachable!(),
+    }
+}
+
+/// Reads the keys in the lines that a reader has left, and sends the lines of a share of all that a walk gives which is at its beginning, without those
+/// of chunks that are stored under one of the keys, and would be written whole.
+fn write_missing<
+    G: ChunkGridTraits,
+    E: ChunkKeyEncodingTraits,
+    H: ChunkGridTraits,
+    F: ChunkKeyEncodingTraits,
+    R: Read,
+    W: Write,
+>(
+    alloc: Global,
+    walk: Copies<'_, G, E, H, F>,
+    target: &StoredArray<H, F>,
+    share: &Share,
+    lines: &mut Lines,
+    reader: &mut Watched<R>,
+    held_back: &mut Vec<u8>,
+    writer: &mut Watched<W>,
+) -> Result<(), RunFault>
+    requires target { target_of walk ≡ target.now }
+    requires can { CanMove G.dimensions H.dimensions walk }
+    requires is_box { IsBox walk.targets.array_subset }
+    requires region { IsBox (region_of walk) }
+    requires all { all_targets walk ≡ targets_to_come walk }
+    requires keys { HasKeys (E.is_key walk.source.now.encoding) }
+    requires target_keys { HasKeys (F.is_key walk.targets.encoding.now) }
+    ensures { (bytes : List ℕ) → left lines.old (R.remaining (watched reader.old)) ≡ Some bytes
+        → KeyStepLeaves
+        (λ keys text. (groups : List Group)
+        × AreMovesToCome G.dimensions E.is_key H.dimensions F.is_key walk.entry groups
+        × IsMissingText (H.dimensions target.now.grid) (F.is_key target.now.encoding) keys share.now
+        groups text)
+        (λ keys fault. (groups : List Group)
+        × AreMovesToCome G.dimensions E.is_key H.dimensions F.is_key walk.entry groups
+        × IsKeysFault groups keys fault) bytes result
+        (has_failed reader.old) (has_failed reader.new) (R.remaining (watched reader.new))
+        (output W.contents held_back.old.items writer.old)
+        (output W.contents held_back.new.items writer.new) }
+{
+    let Some(mut stored) = walk.none_stored(alloc)? else {
+        return Err(RunFault::TooManyForKeys);
+    };
+    let mut foreign = Vec::new(alloc);
+    note_keys(alloc, target, &mut stored, &mut foreign, lines, reader)?;
+    write_share(alloc, walk, share, Some(&stored), held_back, writer)?;
+    send_text(&foreign, held_back, writer)
+}
