@@ -32,7 +32,7 @@ from faults import seen_parts
 from memory import at_most, used
 from odd_values import Index, Lying, Raising, Whole, misaligned
 from random_arrays import Generator
-from zarrs_chunks import Box, Copies, Counted, Counts, Encoding, Grid, Located, Source, __main__, _boxes, _questions
+from zarrs_chunks import Box, Copies, Counted, Counts, Encoding, Grid, Located, RegionCopies, Source, __main__, _boxes, _questions
 
 PACKAGE = pathlib.Path(zarrs_chunks.__file__).parent
 REGULAR = regular(2, 3)
@@ -55,8 +55,9 @@ def plain(value):
         return {"answer": plain(value.chunk), "comparisons": value.comparisons}
     if isinstance(value, Source):
         return {name: plain(part) for name, part in value._asdict().items()}
-    if isinstance(value, Copies):
-        return {"from": plain(value.sources), "to": {"chunk": plain(value.chunk), "key": value.key}}
+    if isinstance(value, (Copies, RegionCopies)):
+        whole = {"whole": value.whole} if isinstance(value, RegionCopies) else {}
+        return {"from": plain(value.sources), "to": {"chunk": plain(value.chunk), "key": value.key}, **whole}
     if isinstance(value, dict):
         return {name: plain(part) for name, part in value.items()}
     return [plain(part) for part in value] if isinstance(value, (list, tuple)) else value
@@ -124,6 +125,29 @@ def counted(asked):
     return {**counts, "share": items and [copies.chunk for copies in items]}
 
 
+def target_of(asked):
+    """The array that a region goes to: its grid and its encoding."""
+    target = asked["target"]
+    try:
+        return Grid(target["shape"], target["chunk_grid"]), encoding_in(target)
+    except ValueError as error:
+        raise ValueError(f"field `target`: {error}") from error
+
+
+def copied_of_region(asked):
+    grid, encoding = grid_in(asked), encoding_in(asked)
+    written, more = target_of(asked), {name: asked[name] for name in ("at", "first") if name in asked}
+    whole = grid.copies_of_region(encoding, *written, asked["subset"], **more)
+    limited = [plain(item) for item in grid.copies_of_region(encoding, *written, asked["subset"], **more, most=asked["items"])]
+    page = first_of((plain(item) for item in whole), min(asked["items"], 10**6))
+    return page if limited == page["items"] else f"{limited} with `most`"
+
+
+def counted_of_region(asked):
+    grid, _encoding = grid_in(asked), encoding_in(asked)
+    return grid.counts_of_region(target_of(asked)[0], asked["subset"], asked.get("at"))._asdict()
+
+
 def may_list(asked):
     """Whether what is copied into one chunk isn't too long to be given."""
     return max(asked["shape"], default=0) <= 100
@@ -161,6 +185,8 @@ METHODS = {
     "parts": planned,
     "copies": rechunked,
     "counts": counted,
+    "copies_of_region": copied_of_region,
+    "counts_of_region": counted_of_region,
     "iter_chunk_indices": walked,
     "iter_chunk_subsets": walked,
     "iter_chunk_indices_and_subsets": walked,
@@ -188,6 +214,9 @@ def expected_of(asked, answer):
     for beginning in ("refused: ", "unreadable: "):
         if answer.startswith(beginning):
             return ValueError, answer[len(beginning) :]
+    if call == "counts_of_region":
+        counts = {name: factors for name, factors in json.loads(answer).items() if name != "share"}
+        return {name: None if factors is None else math.prod(factors) for name, factors in counts.items()}
     if call == "counts":
         counts = json.loads(answer)
         share = counts.pop("share")
@@ -211,7 +240,7 @@ def by_methods(tally):
         tally.same(question, found, expected)
         asked_of[asked["call"]] += 1
     tally.same("calls without a vector", [call for call, count in asked_of.items() if count < 10], [])
-    tally.same("the vectors are asked or left", (sum(asked_of.values()) + left, left < 100), (len(vectors()), True))
+    tally.same("the vectors are asked or left", (sum(asked_of.values()) + left, left < 130), (len(vectors()), True))
 
 
 # ---- the models

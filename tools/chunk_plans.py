@@ -115,6 +115,15 @@ def copied(source, target, box, at, chunks=None):
     return numbered(lines)
 
 
+def beside(lines, target, keys):
+    """What is left of the lines of a plan where the target, which is a grid with its encoding, has these keys in its store;
+    and the keys that are of no chunk that holds elements of its array."""
+    grid, encoding = target
+    held = {encoding.key(home(grid, index)[0]) for index in elements(grid.shape)}
+    left = [line for line in lines if not (line["whole"] and line["to"]["key"] in keys)]
+    return left + [{"foreign": key} for key in keys if key not in held]
+
+
 def region_by_boxes(source, target, box, at):
     """The lines of the same plan, one after another, by what each chunk and the region have in common: for arrays of any size."""
     (grid, encoding), (target_grid, target_encoding) = source, target
@@ -223,11 +232,25 @@ def counts(grid, target, chunks=None, share=(0, 1)):
         if chunks is not None:
             first, size = (numbers[dimension] for numbers in chunks)
             moved = [(written, read) for written, read in moved if first <= written < first + size]
-        copies = set(moved)
-        lines = collections.Counter(written for written, _ in copies)
-        return {
-            "copies": len(copies), "elements": len(moved), "largest_line": max(lines.values(), default=0), "lines": len(lines),
-            "source_chunks": len({read for _, read in copies}),
-        }  # fmt: skip
+        return counts_along(moved)
 
     return counts_of([along(dimension) for dimension in range(len(grid.shape))], share)
+
+
+def counts_of_region(grid, target, box, at, share=(0, 1)):
+    """How much the copy of a region copies: each index is asked for its chunk, and so is the one that it goes to."""
+
+    def along(here, there, first, size, begin):
+        return counts_along([(there.holder(begin + step), here.holder(first + step)) for step in range(size)])
+
+    return counts_of([along(*row) for row in zip(grid.dimensions, target.dimensions, *box, at)], share)
+
+
+def counts_along(moved):
+    """The counts along a dimension, of the chunk that each index is written to, and the one that it is read from."""
+    copies = set(moved)
+    lines = collections.Counter(written for written, _ in copies)
+    return {
+        "copies": len(copies), "elements": len(moved), "largest_line": max(lines.values(), default=0), "lines": len(lines),
+        "source_chunks": len({read for _, read in copies}),
+    }  # fmt: skip

@@ -83,6 +83,10 @@ def is_chunk(array, named):
     )
 
 
+# How the line begins of a key that is none of the target's.
+FOREIGN = '{"foreign":'
+
+
 def in_array(array, chunk, box):
     """A box of a chunk as one of the array."""
     return [first + step for first, step in zip(array.held(chunk)[0], box[0])], box[1]
@@ -254,6 +258,9 @@ def copy(lines, source, target, region, words):
     written, of = 0, 0
     try:
         for text in lines:
+            if text.startswith(FOREIGN):
+                print(f"copy_chunks.py: {target.folder} has a key that isn't its own: {text.strip()}", file=sys.stderr)
+                continue
             line = line_of(text, source, target, region)
             of = line["of"]
             if (line["number"], of) in passed_over and target.path(line["to"]["chunk"]).exists():

@@ -1,17 +1,20 @@
 #!/usr/bin/env python3
 """Prints what `chunkplan` reads for a rechunking, or for the copy of a region, from the metadata of both arrays.
 
-    document_of.py SOURCE TARGET [--subset START SHAPE [--at INDEX]] [--share T N]
+    document_of.py SOURCE TARGET [--subset START SHAPE [--at INDEX]] [--share T N] [--keys]
 
 SOURCE and TARGET are folders of Zarr arrays, of format 2 or 3. With --subset it is a box of the source that is copied, to
-where it begins at an index in the target. With --share it asks for the share T of N. Where the target can't have the
-source's elements, or an array is one that isn't moved here, it says so and ends with the status 1.
+where it begins at an index in the target. With --share it asks for the share T of N. With --keys the keys that TARGET has
+stand behind the document, but for those of metadata and of what isn't finished. Where the target can't have the source's
+elements, or an array is one that isn't moved here, it says so and ends with the status 1.
 """
 import argparse
 import json
 
 from region import add_region, region_between
-from stored_arrays import ended_by, open_array
+from stored_arrays import UNFINISHED, ended_by, open_array
+
+METADATA = {".zarray", ".zattrs", "zarr.json"}
 
 
 def stored(array):
@@ -27,17 +30,31 @@ def document_of(source, target, subset=None, at=None):
     return {**document, "target": {"shape": target.shape, **stored(target)}, "subset": [region.start, region.shape], "at": region.at}
 
 
+def keys_in(folder):
+    """The keys of what an array's folder holds besides its metadata."""
+    for path in sorted(folder.rglob("*")):
+        key = path.relative_to(folder)
+        if path.is_file() and key.parts[0] != UNFINISHED and path.name not in METADATA:
+            yield key.as_posix()
+
+
 def main():
     parser = argparse.ArgumentParser(description="Prints what `chunkplan` reads for a rechunking, or for a region.")
     parser.add_argument("source", metavar="SOURCE")
     parser.add_argument("target", metavar="TARGET")
     add_region(parser)
     parser.add_argument("--share", nargs=2, type=int, metavar=("T", "N"), help="ask for the share T of N")
+    parser.add_argument("--keys", action="store_true", help="leave out what TARGET has")
     words = parser.parse_args()
-    document = document_of(open_array(words.source), open_array(words.target), words.subset, words.at)
+    target = open_array(words.target)
+    document = document_of(open_array(words.source), target, words.subset, words.at)
     if words.share:
         document["share"] = words.share
+    if words.keys:
+        document["keys"] = True
     print(json.dumps(document))
+    if words.keys:
+        print("".join(f"{key}\n" for key in keys_in(target.folder)), end="")
 
 
 if __name__ == "__main__":

@@ -1,4 +1,4 @@
-"""Rechunkings: what is copied into each chunk of the target."""
+"""Rechunkings and copies of regions: what is copied into each chunk of the target."""
 
 from __future__ import annotations
 
@@ -34,10 +34,31 @@ class Copies(NamedTuple):
     """What is copied from each chunk of the source that shares elements of the array with it, in row-major order of these chunks."""
 
 
+class RegionCopies(NamedTuple):
+    """What is copied of a region into one chunk of the target."""
+
+    chunk: tuple[int, ...]
+    """The chunk of the target."""
+    key: str
+    """Its key."""
+    sources: list[Source]
+    """What is copied from each chunk of the source that has some of the elements, in row-major order of these chunks."""
+    whole: bool
+    """Whether these are all elements of its array that the chunk holds. Where they aren't, it has to be read before it is written."""
+
+
 def copies_of(item: Any) -> Copies:
     """An item of the answer to the question `copies`."""
-    sources = [Source(tuple(part["chunk"]), part["key"], as_box(part["in_chunk"]), as_box(part["in_target"])) for part in item["from"]]
-    return Copies(tuple(item["to"]["chunk"]), item["to"]["key"], sources)
+    return Copies(tuple(item["to"]["chunk"]), item["to"]["key"], _sources_of(item))
+
+
+def region_copies_of(item: Any) -> RegionCopies:
+    """An item of the answer to the question `copies_of_region`."""
+    return RegionCopies(tuple(item["to"]["chunk"]), item["to"]["key"], _sources_of(item), item["whole"])
+
+
+def _sources_of(item: Any) -> list[Source]:
+    return [Source(tuple(part["chunk"]), part["key"], as_box(part["in_chunk"]), as_box(part["in_target"])) for part in item["from"]]
 
 
 def given_share(share: Any) -> tuple[int, int]:

@@ -1,4 +1,4 @@
-"""How much a rechunking copies, as the library tells it without walking over it."""
+"""How much a rechunking copies, or what is copied of a region, as the library tells it without walking over it."""
 
 from __future__ import annotations
 
@@ -8,11 +8,12 @@ from typing import Any, NamedTuple
 
 
 class Counts(NamedTuple):
-    """How much a rechunking copies, exactly, however large it is. The names are those of `chunkplan`, which has a line for each chunk of the target
-    that is written."""
+    """How much a rechunking copies, or what is copied of a region, exactly, however large it is. The names are those of `chunkplan`, which has a line
+    for each chunk of the target that is written."""
 
     copies: int | None
-    """How many sources all items of `Grid.copies` have together; None where more than 16777216 chunks are written along a dimension."""
+    """How many sources all items of `Grid.copies`, or `Grid.copies_of_region`, have together; None where more than 16777216 chunks are written along a
+    dimension."""
     elements: int
     """How many elements are moved."""
     largest_line: int | None
@@ -24,7 +25,7 @@ class Counts(NamedTuple):
 
 
 def counts_of(answer: Mapping[str, Any]) -> Counts:
-    """The counts of an answer to the question `counts`, which tells each by its factors.
+    """The counts of an answer to the question `counts` or `counts_of_region`, which tells each by its factors.
 
     >>> counts_of({"copies": None, "elements": [2**60, 2**60], "largest_line": None, "lines": [2**60, 1], "share": [0, 2**60], "source_chunks": [1, 1]})
     Counts(copies=None, elements=1329227995784915872903807060280344576, largest_line=None, lines=1152921504606846976, source_chunks=1)

@@ -12,7 +12,7 @@ import numpy.typing as npt
 from . import _library, _questions
 from ._answer import refuse
 from ._boxes import Box, as_box, given_box, selected_box, slabs
-from ._copies import Copies, copies_of, ends_of_share, given_share
+from ._copies import Copies, RegionCopies, copies_of, ends_of_share, given_share, region_copies_of
 from ._counts import Counts, counts_of
 from ._encoding import Encoding, keys_between, usual_length
 from ._metadata import Metadata
@@ -496,6 +496,53 @@ class Grid:
         within = {} if chunks is None else {"chunks": given_box("chunks", chunks)}
         return counts_of(self._ask("counts", chunk_key_encoding=_ANY_ENCODING, target=target._stored_text(_ANY_ENCODING), **within))
 
+    def copies_of_region(
+        self,
+        encoding: Encoding,
+        target: Grid,
+        target_encoding: Encoding,
+        subset: tuple[npt.ArrayLike, npt.ArrayLike],
+        at: npt.ArrayLike | None = None,
+        first: SupportsIndex = 0,
+        most: SupportsIndex | None = None,
+    ) -> Iterator[RegionCopies]:
+        """What is copied of a region: `subset`, a box of the array's elements, which is given as its start and its shape, goes to the array of
+        `target`, which may have another shape, or be this array. There it begins at the index `at`, or where there is none at 0 in each dimension.
+        An item for each chunk of the target that takes some of it, in row-major order of these chunks; of all these the one with the number `first`
+        and those after it, at most `most`. An empty box has none. Raises ValueError where the box doesn't lie in one of the two arrays; it is never
+        clipped.
+
+        The items are read page by page. An item holds all its sources.
+
+        >>> grid = Grid([7], {"name": "regular", "configuration": {"chunk_shape": [3]}})
+        >>> target = Grid([12], {"name": "regular", "configuration": {"chunk_shape": [5]}})
+        >>> for copies in grid.copies_of_region(Encoding("default"), target, Encoding("v2"), grid.box(np.s_[1:]), at=[4]):
+        ...     print(copies.key, copies.whole, [(source.key, source.in_target) for source in copies.sources])
+        0 False [('c/0', Box(start=(4,), shape=(1,)))]
+        1 True [('c/0', Box(start=(0,), shape=(1,))), ('c/1', Box(start=(1,), shape=(3,))), ('c/2', Box(start=(4,), shape=(1,)))]
+        """
+        _check_encoding("encoding", encoding)
+        _check_grid("target", target)
+        _check_encoding("target_encoding", target_encoding)
+        number, limit = whole_number("first", first), GREATEST if most is None else whole_number("most", most)
+        asked = {"chunk_key_encoding": encoding._metadata.text, "target": target._array_text(target_encoding._metadata.text)}
+        region = _given_region(subset, at)
+        # What the library refuses is told at once, and not with the first item.
+        self._ask("copies_of_region", items=0, **asked, **region)
+        return map(region_copies_of, self._walk("copies_of_region", number, limit, **asked, **region))
+
+    def counts_of_region(self, target: Grid, subset: tuple[npt.ArrayLike, npt.ArrayLike], at: npt.ArrayLike | None = None) -> Counts:
+        """How much is copied of a region, without walking over it: the counts of what `copies_of_region` answers.
+
+        >>> grid = Grid([7], {"name": "regular", "configuration": {"chunk_shape": [3]}})
+        >>> target = Grid([12], {"name": "regular", "configuration": {"chunk_shape": [5]}})
+        >>> grid.counts_of_region(target, grid.box(np.s_[1:]), at=[4])
+        Counts(copies=4, elements=6, largest_line=3, lines=2, source_chunks=3)
+        """
+        _check_grid("target", target)
+        region = _given_region(subset, at)
+        return counts_of(self._ask("counts_of_region", chunk_key_encoding=_ANY_ENCODING, target=target._array_text(_ANY_ENCODING), **region))
+
     def _check_array_of(self, target: Grid) -> None:
         if target.array_shape != self.array_shape:
             raise ValueError("the source and the target have different array shapes")
@@ -503,6 +550,11 @@ class Grid:
     def _stored_text(self, encoding: bytes) -> bytes:
         """How the array is stored by this grid and an encoding, as JSON."""
         return _questions.object_text(chunk_grid=self._metadata.text, chunk_key_encoding=encoding)
+
+    def _array_text(self, encoding: bytes) -> bytes:
+        """The array itself, as JSON: its shape, this grid and an encoding."""
+        shape = _questions.plain_text(self._shape.tolist())
+        return _questions.object_text(shape=shape, chunk_grid=self._metadata.text, chunk_key_encoding=encoding)
 
     def _ask(self, call: str, **members: Any) -> Any:
         """The answer to a question about this grid, whose members are plain numbers and lists, or JSON already."""
@@ -518,6 +570,14 @@ class Grid:
 def _check_grid(argument: str, grid: object) -> None:
     if not isinstance(grid, Grid):
         raise TypeError(f"{argument}: a Grid is wanted, and not a {type(grid).__name__}")
+
+
+def _given_region(subset: Any, at: Any) -> dict[str, bytes]:
+    """The members of a question about a region: its box, and where it begins."""
+    region = {"subset": _questions.plain_text(given_box("subset", subset))}
+    if at is not None:
+        region["at"] = _questions.plain_text(list_of_numbers("at", at).tolist())
+    return region
 
 
 def _check_encoding(argument: str, encoding: object) -> None:

@@ -29,7 +29,7 @@ from numcodecs.bitround import BitRound
 TOOLS = pathlib.Path(__file__).resolve().parent.parent
 sys.path.insert(0, str(TOOLS))
 from copy_chunks import Sources, assemble, line_of  # noqa: E402
-from document_of import document_of  # noqa: E402
+from document_of import document_of, keys_in  # noqa: E402
 from region import region_between  # noqa: E402
 from stored_arrays import Refused, open_array  # noqa: E402
 
@@ -128,10 +128,14 @@ def plan_of(chunkplan, source, target, *asked):
 
 def move(chunkplan, here, there, *asked):
     """Writes the target, as `copy_chunks.py` does, in this process: the whole array, or the region that is asked for."""
+    carry_out(plan_of(chunkplan, open_array(here), open_array(there), *asked), here, there, *asked)
+
+
+def carry_out(lines, here, there, *asked):
     source, target = open_array(here), open_array(there)
     region = region_between(source, target, *asked)
     sources, chunk = Sources(source, target, region, 10**6), target.new_chunk()
-    for text in plan_of(chunkplan, source, target, *asked):
+    for text in lines:
         line = line_of(text, source, target, region)
         assemble(chunk, line, sources, target)
         path = target.path(line["to"]["chunk"])
@@ -293,6 +297,47 @@ def kinds(chunkplan, generator, moves):
                 move(chunkplan, *ends)
                 got = zarr.open_array(str(ends[1]), mode="r")[...] if formats[1] == 2 else format_3.read(ends[1], dtype, fill)
                 yield f"{formats}, move {count} of {dtype}, {shape}", same(elements, numpy.asarray(got))
+
+
+def broken_off(chunkplan, generator, moves):
+    """Targets that lack some of their chunks, and have a file besides: beside their keys just those chunks are planned, and the
+    file is told; with the chunks each target is what it was. So it is by shares."""
+    for count in range(moves):
+        dtype, fills, name = generator.choice(TYPES)
+        shape, of = shapes(generator), generator.randint(1, 3)
+        with tempfile.TemporaryDirectory() as room:
+            ends = [pathlib.Path(room, name) for name in ("source", "target")]
+            fill = generator.choice(fills)
+            for folder, elements in zip(ends, (random_elements(generator, shape, dtype), None)):
+                store(generator, 2, folder, shape, dtype, name, fill, elements)
+            move(chunkplan, *ends)
+            stored = held_by_keys(ends[1])
+            lost = {key for key in stored if generator.random() < 0.4}
+            for key in lost:
+                (ends[1] / key).unlink()
+            other = generator.choice(["other", "0.0.bak", "c/0", "é"])
+            (ends[1] / other).parent.mkdir(exist_ok=True)
+            (ends[1] / other).write_bytes(b"x")
+            planned = []
+            for task in range(of):
+                words = ["--keys", "--share", task, of] if of > 1 else ["--keys"]
+                document = tool("document_of.py", *ends, *words, check=True).stdout
+                lines = subprocess.run([chunkplan], input=document, stdout=subprocess.PIPE, check=True, text=True).stdout.splitlines(True)
+                yield f"broken off {count}: the other file", lines[-1] == json.dumps({"foreign": other}, ensure_ascii=False, separators=(",", ":")) + "\n"
+                planned += lines[:-1]
+            yield f"broken off {count}: what is missing", sorted(json.loads(line)["to"]["key"] for line in planned) == sorted(lost)
+            if count % 10 == 0:
+                told = tool("copy_chunks.py", *ends, input="".join([*planned, lines[-1]]))
+                yield f"broken off {count}: by the worker", told.returncode == 0 and "a key that isn't its own" in told.stderr
+            carry_out(planned, *ends)
+            (ends[1] / other).unlink()
+            yield f"broken off {count}: what it was", held_by_keys(ends[1]) == stored
+
+
+def held_by_keys(folder):
+    """What each chunk of an array holds, by its key. It is decoded: gzip's bytes tell the time, too."""
+    array = open_array(folder)
+    return {key: array.decode((folder / key).read_bytes()).tobytes() for key in keys_in(folder)}
 
 
 def store(generator, form, folder, shape, dtype, name, fill, elements):
@@ -640,7 +685,7 @@ def on_terminal(text, *words):
     return seen if run.returncode == 0 else ""
 
 
-CHECKS = [engines, kinds, by_hand, metadata, lines, broken_sources, worker, lossy, corners]
+CHECKS = [engines, kinds, broken_off, by_hand, metadata, lines, broken_sources, worker, lossy, corners]
 
 
 def main(checks):
