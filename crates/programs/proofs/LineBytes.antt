@@ -2,9 +2,11 @@
 use Rattle.std.proofs.Common.{◌≡◌, ◌≢◌, ◌∙◌, ℕ, ◌<◌, ◌≤◌, Bool, true, false, drop, eqb, false-eqb, get_or, List, Option, Some, None, [], ◌∷◌, ◌++◌, append-nil, append_assoc, ap, arith, cond, eq-eqb}
 use Rattle.std.proofs.Common.{eqb-true, length, length-append, ne_eqb, refl, sym}
 use Rattle.std.proofs.BufReadLemmas.{take_through-nil}
+use Rattle.std.proofs.lemmas.Option.{none-some, same_Some}
 use Rattle.std.specs.Io.BufRead.{drop_through, take_through}
 use Rattle.programs.specs.chunkplan.Keys.{unended}
-use Rattle.programs.specs.seen.Lines.{IsNextByte}
+use Rattle.programs.specs.declared.lines.Lines.{Lines}
+use Rattle.programs.specs.seen.Lines.{IsNextByte, left, unread}
 
 module _ (byte : ℕ) (rest : List ℕ) where
   pub line_ends : byte ≡ 10 → (take_through 10 (byte ∷ rest) ≡ byte ∷ []) × (drop_through 10 (byte ∷ rest) ≡ rest)
@@ -47,13 +49,8 @@ module _ (before line bytes : List ℕ) where
       (sym (part.taken ∙ ap (λ xs. line ++ xs) ends.0), sym (part.behind ∙ ends.1), omega (arith, part.longer))
 
   pub no_more_bytes : IsPartOfLine before line bytes []
-      → (line ≡ before ++ take_through 10 bytes) × ([] ≡ drop_through 10 bytes) × (length line ≤ length before → bytes ≡ [])
-  no_more_bytes part = (
-    sym (part.taken ∙ append-nil line),
-    sym part.behind,
-    λ short. take_through-nil 10 bytes
-        (omega (arith, short, ap length part.taken, length-append before (take_through 10 bytes), length-append line [])),
-  )
+      → (line ≡ before ++ take_through 10 bytes) × ([] ≡ drop_through 10 bytes)
+  no_more_bytes part = (sym (part.taken ∙ append-nil line), sym part.behind)
 
 -- nothing is left where there is no next byte
 pub at_end : (bytes : List ℕ) (found : Option ℕ) (behind : Option (List ℕ)) → ((byte : ℕ) → found ≢ Some byte) → IsNextByte bytes found behind
@@ -107,3 +104,12 @@ unended_whole (byte ∷ bytes) front last other is =
 -- no line
 pub unended_none : (bytes line : List ℕ) → length line ≡ 0 → line ≡ take_through 10 bytes → unended bytes ≡ take_through 10 bytes
 unended_none bytes line none is = rw (take_through-nil 10 bytes (ap length (sym is) ∙ none)) refl
+
+-- where nothing is left, the reader is at its end
+pub nothing_left : (lines : Lines) (remaining : Option (List ℕ)) → left lines remaining ≡ Some [] → remaining ≡ Some []
+nothing_left lines None none = absurd (none-some [] none)
+nothing_left lines (Some rest) is = ap Some (last_part (unread lines) rest (same_Some (unread lines ++ rest) [] is))
+  where
+    last_part : (first rest : List ℕ) → first ++ rest ≡ [] → rest ≡ []
+    last_part [] rest is = is
+    last_part (x ∷ first) rest is = absurd (omega (arith, ap length is))

@@ -127,11 +127,13 @@ fn answer_input<R: Read, W: Write>(
 {
     let mut lines = Lines::new(alloc);
     let mut input = Vec::new(alloc);
-    lines.read_line(reader, &mut input)?;
+    let ended = lines.read_line(reader, &mut input)?;
     if has_keys_behind(alloc, &input)? {
         return answer_beside_keys(alloc, input, &mut lines, reader, held_back, writer);
     }
-    lines.read_rest(reader, &mut input)?;
+    if ended {
+        lines.read_rest(reader, &mut input)?;
+    }
     answer(alloc, input, held_back, writer)
 }
 

@@ -32,7 +32,8 @@ impl Lines {
         }
     }
 
-    /// Appends the next line to some bytes, with its line feed, and tells whether there was one. The last one may have no line feed.
+    /// Appends the next line to some bytes, with its line feed, and tells whether it has one. Nothing is left behind a line that has none: a reader
+    /// that came to its end there, as a terminal does, isn't asked again.
     ///
     /// # Errors
     /// A read failed; or out of memory.
@@ -46,21 +47,21 @@ impl Lines {
         ensures behind { IfOk result (λ _. IfSome (left self.old (R.remaining (watched reader.old)))
             (λ bytes. left self.new (R.remaining (watched reader.new))
             ≡ Some (drop_through 10 bytes))) }
-        ensures end { IfOk result (λ found. found ≡ false
-            → IfSome (left self.old (R.remaining (watched reader.old))) (λ bytes. bytes ≡ [])) }
-        ensures longer { IfOk result (λ found. found ≡ true
+        ensures end { IfOk result (λ ended. ended ≡ false
+            → IfSome (left self.old (R.remaining (watched reader.old)))
+            (λ bytes. drop_through 10 bytes ≡ [])) }
+        ensures longer { IfOk result (λ ended. ended ≡ true
             → length line.old.items < length line.new.items) }
         ensures failed { MatchResult result (λ _. has_failed reader.new ≡ has_failed reader.old)
             (λ fault. IsReadFailure fault (has_failed reader.old) (has_failed reader.new)) }
     {
-        let before = line.len();
         while let Some(byte) = self.next_byte(reader)? {
             line.push(byte)?;
             if byte == b'\n' {
                 return Ok(true);
             }
         }
-        Ok(line.len() > before)
+        Ok(false)
     }
 
     /// Appends all that is left.

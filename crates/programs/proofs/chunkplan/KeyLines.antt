@@ -1,7 +1,6 @@
 -- Keys behind a document, line after line.
 use Rattle.std.proofs.Common.{◌≡◌, ◌≢◌, ◌↔◌, ◌⊎◌, ◌∙◌, ℕ, zero, suc, ◌≤◌, Bool, true, false, cond, eqb, List, [], ◌∷◌, ◌++◌, Contains, IfOk, IfSome, IsTrue, OnOk, Option, Some, None, Result, Ok, Err, append-nil, append_assoc}
 use Rattle.std.proofs.Common.{ap, arith, inl, inr, length, refl, subst, sym, ⊎_elim}
-use Rattle.std.proofs.lemmas.Option.{none-some, same_Some}
 use Rattle.std.proofs.lemmas.List.Elements.{Contains-append_cases, Contains-append_left, Contains-append_right, Contains-push, Contains-push_cases}
 use Rattle.std.specs.Io.BufRead.{drop_through}
 use Rattle.std.specs.Str.{IsUtf8}
@@ -16,10 +15,8 @@ use Rattle.programs.specs.chunkplan.Line.{line_of}
 use Rattle.programs.specs.Watched.{IsReadFailure}
 use Rattle.programs.specs.chunkplan.RunFault.{of_stream}
 use Rattle.programs.specs.chunkplan.seen.Missing.{HaveMarked, HaveNoted, IsKeysStop, with_line}
-use Rattle.programs.specs.seen.Lines.{left, unread}
 use Rattle.programs.specs.declared.chunkplan.run_fault.RunFault.{RunFault}
 use Rattle.programs.specs.declared.chunkplan.run_fault.RunFault.TheVariants.{KeyNotText, Memory}
-use Rattle.programs.specs.declared.lines.Lines.{Lines}
 use Rattle.programs.specs.declared.stream_fault.StreamFault.{StreamFault}
 use Rattle.programs.specs.declared.stream_fault.StreamFault.TheVariants.{Memory as NoMemory, Read as ReadFailed, Write as WriteFailed}
 
@@ -72,10 +69,13 @@ with_more : (came : List (List ℕ)) (line : List ℕ) (others : List (List ℕ)
 with_more came [] others = refl
 with_more came (byte ∷ line) others = sym (append_assoc came ((byte ∷ line) ∷ []) others)
 
-pub one_more_line : (bytes : List ℕ) (came : List (List ℕ)) (rest : List ℕ) → rest ≢ [] → HaveCome bytes came rest
+-- the next line, if any is left
+pub one_more_line : (bytes : List ℕ) (came : List (List ℕ)) (rest : List ℕ) → HaveCome bytes came rest
     → HaveCome bytes (with_line came (unended rest)) (behind_first rest)
-one_more_line bytes came rest some have others are =
-    rw (sym (with_more came (unended rest) others)) (have (with_line [] (unended rest) ++ others) (first_of_keys rest others some are))
+one_more_line bytes came [] have = have
+one_more_line bytes came (byte ∷ rest) have = λ others are.
+    rw (sym (with_more came (unended (byte ∷ rest)) others))
+    (have (with_line [] (unended (byte ∷ rest)) ++ others) (first_of_keys (byte ∷ rest) others (λ none. absurd (omega (arith, ap length none))) are))
 
 pub no_more_lines : (bytes : List ℕ) (came : List (List ℕ)) → HaveCome bytes came [] → AreKeys bytes came
 no_more_lines bytes came have = rw append-nil at (have [] no_line)
@@ -228,12 +228,3 @@ key_stops fault None start new line same (inr (is, some, not_text)) among = rw i
 key_stops fault (Some bs) start new line same (inr (is, some, not_text)) among =
     let (keys, are, there) = among some in
     rw is (same, (keys, are, line, there, not_text))
-
--- where nothing is left, the reader is at its end
-pub nothing_left : (lines : Lines) (remaining : Option (List ℕ)) → left lines remaining ≡ Some [] → remaining ≡ Some []
-nothing_left lines None none = absurd (none-some [] none)
-nothing_left lines (Some rest) is = ap Some (last_part (unread lines) rest (same_Some (unread lines ++ rest) [] is))
-  where
-    last_part : (first rest : List ℕ) → first ++ rest ≡ [] → rest ≡ []
-    last_part [] rest is = is
-    last_part (x ∷ first) rest is = absurd (omega (arith, ap length is))

@@ -65,10 +65,11 @@ pub(crate) fn note_keys<R: Read, H: ChunkGridTraits, F: ChunkKeyEncodingTraits>(
 {
     let mut line = Vec::new(alloc);
     for _ in 0..u64::MAX {
-        if !lines.read_line(reader, &mut line)? {
+        let ended = lines.read_line(reader, &mut line)?;
+        note_line(alloc, target, stored, foreign, without_feed(&line))?;
+        if !ended {
             return Ok(());
         }
-        note_line(alloc, target, stored, foreign, without_feed(&line))?;
         line.clear();
     }
     // No input has so many lines.

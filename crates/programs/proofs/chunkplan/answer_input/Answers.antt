@@ -1,12 +1,13 @@
-use Rattle.std.proofs.Common.{◌≡◌, ◌∙◌, ◌++◌, Some, ap, subst, sym, true≢false}
-use Rattle.programs.specs.Watched.{watched}
+use Rattle.std.proofs.Common.{◌≡◌, ◌∙◌, ◌++◌, [], Some, ap, append-nil, false, subst, sym, true≢false}
+use Rattle.programs.specs.Watched.{has_failed, watched}
 use Rattle.programs.specs.chunkplan.Keys.{HasKeysBehind, behind_first, first_line}
 use Rattle.programs.specs.seen.Lines.{left}
 use Rattle.programs.specs.seen.Sent.{output}
 use Rattle.programs.proofs.Known.{for_known}
-use Rattle.programs.proofs.LineBytes.{both_parts}
+use Rattle.programs.proofs.LineBytes.{both_parts, nothing_left}
 use Rattle.programs.proofs.chunkplan.Inputs.{sent_after_reading, sent_beside_keys}
 use Rattle.programs.proofs.chunkplan.answer_input.Goals as goal
+use Rattle.programs.proofs.chunkplan.answer_input.Goals.{then-ended+in_ok-read_rest, else-ended}
 
 pub returns-then-branch : goal.returns-then-branch
 returns-then-branch g c =
@@ -15,11 +16,11 @@ returns-then-branch g c =
     rw is (ap (λ xs. Some (xs ++ input)) c.new-lines.ensures)
     in
     let line : c.read_line.new.line.items ≡ first_line input =
-    (rw all at c.in_ok-read_line.ensures.line) ∙ ap (λ xs. xs ++ first_line input) c.new-input.ensures.items
+    (rw all at c.in_ok-ended.ensures.line) ∙ ap (λ xs. xs ++ first_line input) c.new-input.ensures.items
     in
-    let behind = rw all at c.in_ok-read_line.ensures.behind in
+    let behind = rw all at c.in_ok-ended.ensures.behind in
     let has : HasKeysBehind (first_line input) = rw (c.deref.ensures.value ∙ line) at (c.in_ok-has_keys_behind.ensures.0 c.if-branch.true) in
-    sent_beside_keys input has _ _ (c.in_ok-read_line.ensures.failed ∙ not_read) _
+    sent_beside_keys input has _ _ (c.in_ok-ended.ensures.failed ∙ not_read) _
     (output g.W.Write.contents c.args.held_back.now.items c.args.writer.now)
     (output g.W.Write.contents c.answer_beside_keys.new.held_back.items c.answer_beside_keys.new.writer) c.answer_beside_keys.result
     ((rw line at c.answer_beside_keys.ensures) (behind_first input) behind))
@@ -31,16 +32,28 @@ returns g c =
     rw is (ap (λ xs. Some (xs ++ input)) c.new-lines.ensures)
     in
     let line : c.read_line.new.line.items ≡ first_line input =
-    (rw all at c.in_ok-read_line.ensures.line) ∙ ap (λ xs. xs ++ first_line input) c.new-input.ensures.items
+    (rw all at c.in_ok-ended.ensures.line) ∙ ap (λ xs. xs ++ first_line input) c.new-input.ensures.items
     in
-    let behind = rw all at c.in_ok-read_line.ensures.behind in
-    let whole : c.read_rest.new.bytes.items ≡ input =
-    (rw behind at c.in_ok-read_rest.ensures.rest) ∙ ap (λ xs. xs ++ behind_first input) line ∙ sym (both_parts input)
-    in
+    let behind = rw all at c.in_ok-ended.ensures.behind in
     let none : ¬ HasKeysBehind (first_line input) = λ has.
     true≢false (sym (c.in_ok-has_keys_behind.ensures.1 (subst HasKeysBehind (sym (c.deref.ensures.value ∙ line)) has)) ∙ c.if-branch.false)
     in
+    let read : (has_failed c.if-ended.reader ≡ false) × (g.R.Read.remaining (watched c.if-ended.reader) ≡ Some []) × (c.if-ended.input.items ≡ input) =
+    elim c.if-ended.branch [
+      then-ended+in_ok-read_rest w ↦
+          rw (w.reader-is, w.input-is) (
+            w.in_ok-read_rest.ensures.failed ∙ c.in_ok-ended.ensures.failed ∙ not_read,
+            rw behind at w.in_ok-read_rest.ensures.end,
+            (rw behind at w.in_ok-read_rest.ensures.rest) ∙ ap (λ xs. xs ++ behind_first input) line ∙ sym (both_parts input),
+          )
+      | else-ended w ↦
+          let nothing : behind_first input ≡ [] = rw all at (c.in_ok-ended.ensures.end w.if-ended.false) in
+          rw (w.reader-is, w.input-is) (
+            c.in_ok-ended.ensures.failed ∙ not_read,
+            nothing_left c.read_line.new.self _ (rw nothing at behind),
+            line ∙ sym (both_parts input ∙ ap (λ xs. first_line input ++ xs) nothing ∙ append-nil (first_line input)),
+          )
+    ]
+    in
     sent_after_reading input _ _ (output g.W.Write.contents c.args.held_back.now.items c.args.writer.now)
-    (output g.W.Write.contents c.answer.new.held_back.items c.answer.new.writer) c.answer.result
-    (c.in_ok-read_rest.ensures.failed ∙ c.in_ok-read_line.ensures.failed ∙ not_read) (rw behind at c.in_ok-read_rest.ensures.end)
-    ((rw whole at c.answer.ensures) none))
+    (output g.W.Write.contents c.answer.new.held_back.items c.answer.new.writer) c.answer.result read.0 read.1 ((rw read.2 at c.answer.ensures) none))

@@ -1,4 +1,4 @@
-use Rattle.std.proofs.Common.{◌≡◌, ◌≢◌, ◌∙◌, ◌++◌, [], ap, arith, length, refl, sym}
+use Rattle.std.proofs.Common.{◌≡◌, ◌∙◌, ◌++◌, [], ap, refl, sym}
 use Rattle.std.proofs.lemmas.Result.{err_from_is_err_and}
 use Rattle.std.specs.Io.BufRead.{drop_through, take_through}
 use Rattle.programs.specs.Watched.{watched}
@@ -6,65 +6,68 @@ use Rattle.programs.specs.chunkplan.Keys.{unended}
 use Rattle.programs.specs.chunkplan.seen.Missing.{with_line}
 use Rattle.programs.specs.seen.Lines.{left}
 use Rattle.programs.proofs.Known.{for_known}
-use Rattle.programs.proofs.chunkplan.KeyLines.{is_among, key_stops, no_more_lines, nothing_left, one_more_line, reading_stops_keys}
+use Rattle.programs.proofs.LineBytes.{nothing_left}
+use Rattle.programs.proofs.chunkplan.KeyLines.{is_among, key_stops, no_more_lines, one_more_line, reading_stops_keys}
 use Rattle.programs.proofs.chunkplan.keys.note_keys.Goals as goal
 
 pub loop-init : goal.loop-init
 loop-init g c = (λ bytes is. ([], bytes, is, λ others are. are, λ targets noted. noted), c.new-line.ensures.items, refl)
 
-pub returns-in_err-read_line-clause-refused : goal.returns-in_err-read_line-clause-refused
-returns-in_err-read_line-clause-refused g c =
+pub returns-in_err-ended-clause-refused : goal.returns-in_err-ended-clause-refused
+returns-in_err-ended-clause-refused g c =
     let p = err_from_is_err_and c.from_residual.result c.from_residual.ensures.1 in
     rw (p.1, p.2)
-    (reading_stops_keys _ (left c.args.lines.now (g.R.Read.remaining (watched c.args.reader.now))) _ _ _ c.in_err-read_line.ensures.failed
+    (reading_stops_keys _ (left c.args.lines.now (g.R.Read.remaining (watched c.args.reader.now))) _ _ _ c.in_err-ended.ensures.failed
     c.loop.invariant.2)
-
-pub returns-then-not-branch-clause-noted : goal.returns-then-not-branch-clause-noted
-returns-then-not-branch-clause-noted g c = λ bytes targets is noted.
-    let (came, rest, is_left, have, notes) = c.loop.invariant.0 bytes is in
-    let none : rest ≡ [] = rw is_left at (c.in_ok-read_line.ensures.end c.if-not-branch.true) in
-    (came, no_more_lines bytes came (rw none at have), notes targets noted)
-
-pub returns-then-not-branch-clause-end : goal.returns-then-not-branch-clause-end
-returns-then-not-branch-clause-end g c =
-    for_known (left c.args.lines.now (g.R.Read.remaining (watched c.args.reader.now))) _ (λ bytes is.
-    let (came, rest, is_left, have, notes) = c.loop.invariant.0 bytes is in
-    let none : rest ≡ [] = rw is_left at (c.in_ok-read_line.ensures.end c.if-not-branch.true) in
-    nothing_left c.read_line.new.self _ (rw (is_left, none) at c.in_ok-read_line.ensures.behind))
-
-pub returns-then-not-branch-clause-failed : goal.returns-then-not-branch-clause-failed
-returns-then-not-branch-clause-failed g c = c.in_ok-read_line.ensures.failed ∙ c.loop.invariant.2
 
 pub returns-in_err-note_line-clause-refused : goal.returns-in_err-note_line-clause-refused
 returns-in_err-note_line-clause-refused g c =
     let p = err_from_is_err_and c.from_residual-in_err-note_line.result c.from_residual-in_err-note_line.ensures.1 in
     rw (p.1, p.2)
     (key_stops _ (left c.args.lines.now (g.R.Read.remaining (watched c.args.reader.now))) _ _ c.without_feed.result.now
-    (c.in_ok-read_line.ensures.failed ∙ c.loop.invariant.2) c.in_err-note_line.ensures.refused
+    (c.in_ok-ended.ensures.failed ∙ c.loop.invariant.2) c.in_err-note_line.ensures.refused
     (λ some. for_known (left c.args.lines.now (g.R.Read.remaining (watched c.args.reader.now))) _ (λ bytes is.
     let (came, rest, is_left, have, notes) = c.loop.invariant.0 bytes is in
-    let line_is = (rw is_left at c.in_ok-read_line.ensures.line) ∙ ap (λ xs. xs ++ take_through 10 rest) c.loop.invariant.1 in
+    let line_is = (rw is_left at c.in_ok-ended.ensures.line) ∙ ap (λ xs. xs ++ take_through 10 rest) c.loop.invariant.1 in
     let key : c.without_feed.result.now ≡ unended rest = c.without_feed.ensures rest (c.deref.ensures.value ∙ line_is) in
-    let rest_is : rest ≢ [] = λ none. some (key ∙ ap unended none) in
     is_among bytes came (drop_through 10 rest) c.without_feed.result.now some
-    (rw (sym key) at (one_more_line bytes came rest rest_is have)))))
+    (rw (sym key) at (one_more_line bytes came rest have)))))
+
+pub returns-then-not-ended-clause-noted : goal.returns-then-not-ended-clause-noted
+returns-then-not-ended-clause-noted g c = λ bytes targets is noted.
+    let (came, rest, is_left, have, notes) = c.loop.invariant.0 bytes is in
+    let line_is = (rw is_left at c.in_ok-ended.ensures.line) ∙ ap (λ xs. xs ++ take_through 10 rest) c.loop.invariant.1 in
+    let key : c.without_feed.result.now ≡ unended rest = c.without_feed.ensures rest (c.deref.ensures.value ∙ line_is) in
+    let none : drop_through 10 rest ≡ [] = rw is_left at (c.in_ok-ended.ensures.end c.if-not-ended.true) in (
+      with_line came (unended rest),
+      no_more_lines bytes (with_line came (unended rest)) (rw none at (one_more_line bytes came rest have)),
+      rw key at (c.in_ok-note_line.ensures.noted targets came (notes targets noted)),
+    )
+
+pub returns-then-not-ended-clause-end : goal.returns-then-not-ended-clause-end
+returns-then-not-ended-clause-end g c =
+    for_known (left c.args.lines.now (g.R.Read.remaining (watched c.args.reader.now))) _ (λ bytes is.
+    let (came, rest, is_left, have, notes) = c.loop.invariant.0 bytes is in
+    let none : drop_through 10 rest ≡ [] = rw is_left at (c.in_ok-ended.ensures.end c.if-not-ended.true) in
+    nothing_left c.read_line.new.self _ (rw (is_left, none) at c.in_ok-ended.ensures.behind))
+
+pub returns-then-not-ended-clause-failed : goal.returns-then-not-ended-clause-failed
+returns-then-not-ended-clause-failed g c = c.in_ok-ended.ensures.failed ∙ c.loop.invariant.2
 
 pub loop-preserved : goal.loop-preserved
 loop-preserved g c = (
   λ bytes is.
       let (came, rest, is_left, have, notes) = c.loop.invariant.0 bytes is in
-      let line_is = (rw is_left at c.in_ok-read_line.ensures.line) ∙ ap (λ xs. xs ++ take_through 10 rest) c.loop.invariant.1 in
-      let key : c.without_feed.result.now ≡ unended rest = c.without_feed.ensures rest (c.deref.ensures.value ∙ line_is) in
-      let longer = c.in_ok-read_line.ensures.longer c.if-not-branch.false in
-      let rest_is : rest ≢ [] = λ none. omega (arith, ap length line_is, ap (λ xs. length (take_through 10 xs)) none, longer) in (
+      let line_is = (rw is_left at c.in_ok-ended.ensures.line) ∙ ap (λ xs. xs ++ take_through 10 rest) c.loop.invariant.1 in
+      let key : c.without_feed.result.now ≡ unended rest = c.without_feed.ensures rest (c.deref.ensures.value ∙ line_is) in (
         with_line came (unended rest),
         drop_through 10 rest,
-        rw is_left at c.in_ok-read_line.ensures.behind,
-        one_more_line bytes came rest rest_is have,
+        rw is_left at c.in_ok-ended.ensures.behind,
+        one_more_line bytes came rest have,
         λ targets noted. rw key at (c.in_ok-note_line.ensures.noted targets came (notes targets noted)),
       ),
   c.clear.ensures.items,
-  c.in_ok-read_line.ensures.failed ∙ c.loop.invariant.2,
+  c.in_ok-ended.ensures.failed ∙ c.loop.invariant.2,
 )
 
 pub returns-clause-refused : goal.returns-clause-refused

@@ -1,4 +1,4 @@
-use Rattle.std.proofs.Common.{◌∙◌, ap, arith, length, length-append, ltb-false, ◌∷◌, [], Some}
+use Rattle.std.proofs.Common.{◌∙◌, ap, arith, length, length-append, sym, ◌∷◌, [], Some}
 use Rattle.programs.specs.Watched.{watched}
 use Rattle.programs.specs.seen.Lines.{left}
 use Rattle.programs.proofs.Known.{for_known}
@@ -51,9 +51,8 @@ returns-clause-behind g c =
     now ∙ ap Some (no_more_bytes c.args.line.now.items c.loop-byte.line.items bytes (rw none at part)).1)
 
 pub returns-clause-end : goal.returns-clause-end
-returns-clause-end g c = λ short.
+returns-clause-end g c = λ _.
     for_known (left c.args.self.now (g.R.Read.remaining (watched c.args.reader.now))) _ (λ bytes is.
     let (before, is_left, part) = c.loop-byte.invariant.0 bytes is in
     let (none, now) = at_end before _ _ c.in_default.not-Some (c.in_ok-byte.ensures.next before is_left) in
-    (no_more_bytes c.args.line.now.items c.loop-byte.line.items bytes (rw none at part)).2
-    (omega (arith, ltb-false c.len-before.result c.len.result short, c.len.ensures, c.len-before.ensures)))
+    sym (no_more_bytes c.args.line.now.items c.loop-byte.line.items bytes (rw none at part)).1)

@@ -1,6 +1,9 @@
-use Rattle.std.proofs.Common.{◌∙◌, ◌++◌, ap, append_assoc, sym}
+use Rattle.std.proofs.Common.{◌≡◌, ◌∙◌, ◌++◌, [], ap, append-nil, append_assoc, sym}
 use Rattle.std.specs.Io.BufRead.{drop_through, take_through}
-use Rattle.programs.proofs.LineBytes.{both_parts}
+use Rattle.programs.specs.Watched.{watched}
+use Rattle.programs.specs.seen.Lines.{left}
+use Rattle.programs.proofs.Known.{for_known}
+use Rattle.programs.proofs.LineBytes.{both_parts, nothing_left}
 use Rattle.programs.proofs.lines.Lines.read_rest.Goals as goal
 
 pub loop-preserved : goal.loop-preserved
@@ -15,3 +18,19 @@ loop-preserved g c = (
       ),
   c.in_ok-read_line.ensures.failed ∙ c.loop.invariant.1,
 )
+
+pub returns-clause-rest : goal.returns-clause-rest
+returns-clause-rest g c =
+    for_known (left c.args.self.now (g.R.Read.remaining (watched c.args.reader.now))) _ (λ bytes is.
+    let (rest, is_left, same) = c.loop.invariant.0 bytes is in
+    let none : drop_through 10 rest ≡ [] = rw is_left at (c.in_ok-read_line.ensures.end c.if-branch.false) in
+    (rw is_left at c.in_ok-read_line.ensures.line)
+    ∙ ap (λ xs. c.loop.bytes.items ++ xs) (sym (both_parts rest ∙ ap (λ xs. take_through 10 rest ++ xs) none ∙ append-nil (take_through 10 rest)))
+    ∙ sym same)
+
+pub returns-clause-end : goal.returns-clause-end
+returns-clause-end g c =
+    for_known (left c.args.self.now (g.R.Read.remaining (watched c.args.reader.now))) _ (λ bytes is.
+    let (rest, is_left, same) = c.loop.invariant.0 bytes is in
+    let none : drop_through 10 rest ≡ [] = rw is_left at (c.in_ok-read_line.ensures.end c.if-branch.false) in
+    nothing_left c.read_line.new.self _ (rw (is_left, none) at c.in_ok-read_line.ensures.behind))
