@@ -304,6 +304,10 @@ lesser_second (m ∷ one) (n ∷ other) same = (omega arith, lesser_second one o
 lesser_second [] (_ ∷ _) same = absurd (omega arith)
 lesser_second (_ ∷ _) [] same = absurd (omega arith)
 
+pub each_at_most : (sizes : List ℕ) → AllZip ◌≤◌ sizes sizes
+each_at_most [] = tt
+each_at_most (n ∷ sizes) = (omega arith, each_at_most sizes)
+
 -- no more are kept than both arrays use
 pub kept_at_most : (both edges nexts counts also most : List ℕ) → length (kept_sizes both edges nexts counts also) ≡ length both
     → AllZip ◌≤◌ both most → AllZip ◌≤◌ (kept_sizes both edges nexts counts also) most

@@ -3,6 +3,7 @@ pub mod BeforeShares
 pub mod Between
 pub mod BoxCounts
 pub mod BoxCover
+pub mod BoxesOfChanges
 pub mod ByNumber
 pub mod ChunksChanged
 pub mod Clipped

@@ -1,16 +1,17 @@
 -- The boxes of the chunks that are below one list of numbers and not below another.
 use Rattle.std.proofs.Common.{◌≡◌, ◌≢◌, ◌↔◌, ◌⊎◌, ◌∙◌, ℕ, zero, suc, ◌+◌, ◌-◌, ◌<◌, ◌≤◌, true, false, List, [], ◌∷◌, ◌++◌, Contains, get_or, length}
-use Rattle.std.proofs.Common.{Bool, append-nil, length-set, replicate, set, refl, ap, inl, inr, subst, sym, ⊎_elim, arith}
+use Rattle.std.proofs.Common.{Bool, append-nil, length-set, map, replicate, set, refl, ap, inl, inr, subst, sym, ⊎_elim, arith}
 use Rattle.std.proofs.lemmas.Bool.{cases_lt, true≢false}
 use Rattle.std.proofs.lemmas.Grind.{flat_map-append, same_number_lists}
 use Rattle.std.proofs.lemmas.List.{get_or-set_other, get_or-set_same}
 use Rattle.std.proofs.lemmas.List.Elements.{Contains-append_cases, Contains-append_left, Contains-append_right}
 use Rattle.std.specs.List.{AllZip}
-use Rattle.zarrs_chunk_base.specs.ArraySubset.{AreWithin, Box, IsBox, IsInside}
+use Rattle.zarrs_chunk_base.specs.ArraySubset.{AreWithin, Box, IsBox, IsEmptyBox, IsInside}
 use Rattle.zarrs_chunk_axes.specs.InBounds.{AreBelow}
-use Rattle.zarrs_chunks.specs.Walks.{chunks_in}
+use Rattle.zarrs_chunks.specs.Walks.{chunks_in, counted_from}
 use Rattle.zarrs_chunks.proofs.ChunksInBoxes.{are_those_inside, chunks_once}
-use Rattle.zarrs_chunk_plan.specs.seen.Outside.{AreOnce, IsOutside, IsToldBefore, chunks_of_boxes, lesser}
+use Rattle.zarrs_chunk_plan.specs.seen.Outside.{AreOnce, AreSome, IsOutside, IsToldBefore, chunks_of_boxes, lesser}
+use Rattle.zarrs_chunk_plan.proofs.Between.{none_below}
 use Rattle.zarrs_chunk_plan.proofs.BoxCover.{below_from_zero}
 use Rattle.zarrs_chunk_plan.proofs.Joined.{pairs_of_both}
 use Rattle.zarrs_chunk_plan.proofs.Kept.{lesser_below}
@@ -64,6 +65,8 @@ pub record HasGrown (inner outer : List ℕ) (left : ℕ) (shape : List ℕ) (bo
   pub those : (chunk : List ℕ) → AreBelow shape chunk ↔ (AreBelow inner chunk ⊎ Contains (chunks_of_boxes boxes) chunk)
   pub apart : (chunk : List ℕ) → AreBelow inner chunk → ¬ Contains (chunks_of_boxes boxes) chunk
   pub once : AreOnce (chunks_of_boxes boxes)
+  pub some : AreSome boxes
+  pub few : length boxes + left ≤ length outer
 
 each_within : (inner outer : List ℕ) → AllZip ◌≤◌ inner outer → (k : ℕ) → k < length outer → get_or inner k 0 ≤ get_or outer k 0
 each_within (m ∷ inner) (n ∷ outer) all zero within = all.0
@@ -72,7 +75,7 @@ each_within [] [] all k within = absurd (omega arith)
 each_within [] (_ ∷ _) all k within = absurd all
 each_within (_ ∷ _) [] all k within = absurd all
 
-both_long : (inner outer : List ℕ) → AllZip ◌≤◌ inner outer → length inner ≡ length outer
+pub both_long : (inner outer : List ℕ) → AllZip ◌≤◌ inner outer → length inner ≡ length outer
 both_long [] [] all = refl
 both_long (_ ∷ inner) (_ ∷ outer) all = ap suc (both_long inner outer all.1)
 both_long [] (_ ∷ _) all = absurd all
@@ -89,6 +92,8 @@ not_grown inner outer all = record {
   those = λ chunk. (λ below. inl below, λ either. ⊎_elim (λ below. below) (λ has. absurd (none_in chunk has)) either);
   apart = λ chunk below. none_in chunk;
   once = λ i j d before within. absurd (omega arith);
+  some = tt;
+  few = omega arith;
 }
 
 -- the chunks of one box more
@@ -96,14 +101,26 @@ pub one_box_more : (boxes : List Box) (added : Box) → chunks_of_boxes (boxes +
 one_box_more boxes added =
     flat_map-append chunks_in boxes (added ∷ []) ∙ ap (λ xs. chunks_of_boxes boxes ++ xs) (append-nil (chunks_in added))
 
-pub grown_more : (inner outer : List ℕ) (left : ℕ) (shape : List ℕ) (boxes : List Box) (added : Box) → left < length outer
+-- an empty one has none
+pub no_box_more : (boxes : List Box) (added : Box) → IsEmptyBox added → chunks_of_boxes boxes ≡ chunks_of_boxes boxes ++ chunks_in added
+no_box_more boxes added empty =
+    let nothing : chunks_in added ≡ [] = ap (map (counted_from added.start)) (none_below added.shape empty) in
+    rw nothing (sym (append-nil (chunks_of_boxes boxes)))
+
+pub some_more : (boxes : List Box) (added : Box) → (¬ IsEmptyBox added) → AreSome boxes → AreSome (boxes ++ added ∷ [])
+some_more [] added some all = (some, tt)
+some_more (_ ∷ boxes) added some all = (all.0, some_more boxes added some all.1)
+
+pub grown_more : (inner outer : List ℕ) (left : ℕ) (shape : List ℕ) (boxes more : List Box) (added : Box) → left < length outer
     → HasGrown inner outer (suc left) shape boxes → IsBox added
+    → chunks_of_boxes more ≡ chunks_of_boxes boxes ++ chunks_in added → (AreSome boxes → AreSome more) → length more ≤ length boxes + 1
     → ((chunk : List ℕ) → AreBelow (set shape left (get_or outer left 0)) chunk ↔ (AreBelow shape chunk ⊎ IsInside added chunk))
     → ((chunk : List ℕ) → AreBelow shape chunk → ¬ IsInside added chunk)
-    → HasGrown inner outer left (set shape left (get_or outer left 0)) (boxes ++ added ∷ [])
-grown_more inner outer left shape boxes added below_all so_far is_box both differ =
+    → HasGrown inner outer left (set shape left (get_or outer left 0)) more
+grown_more inner outer left shape boxes more added below_all so_far is_box are some few both differ =
     let size = get_or outer left 0 in
     let long = so_far.long in
+    let few_so_far = so_far.few in
     let in_added = are_those_inside added is_box in
     record {
       long = length-set shape left size ∙ long;
@@ -123,7 +140,7 @@ grown_more inner outer left shape boxes added below_all so_far is_box both diffe
           let same : k ≡ left = omega arith in
           rw same (get_or-set_same shape left size 0 (omega arith)))
           (cases_lt left k);
-      those = λ chunk. rw (one_box_more boxes added) (
+      those = λ chunk. rw are (
         λ below.
             ⊎_elim
             (λ was. ⊎_elim (λ in_inner. inl in_inner)
@@ -138,15 +155,17 @@ grown_more inner outer left shape boxes added below_all so_far is_box both diffe
             (Contains-append_cases (chunks_of_boxes boxes) (chunks_in added) chunk has))
             either,
       );
-      apart = λ chunk in_inner. rw (one_box_more boxes added)
+      apart = λ chunk in_inner. rw are
           (λ has.
           ⊎_elim (λ was. so_far.apart chunk in_inner was)
           (λ new. differ chunk ((so_far.those chunk).1 (inl in_inner)) ((in_added chunk).0 new))
           (Contains-append_cases (chunks_of_boxes boxes) (chunks_in added) chunk has));
-      once = rw (one_box_more boxes added)
+      once = rw are
           (pairs_of_both (λ one other. one ≢ other) (chunks_of_boxes boxes) (chunks_in added) so_far.once (chunks_once added is_box)
           (λ one other was new same.
           differ other ((so_far.those other).1 (inr (subst (Contains (chunks_of_boxes boxes)) same was))) ((in_added other).0 new)));
+      some = some so_far.some;
+      few = omega arith;
     }
   where
     other : (k size : ℕ) → k < length outer → k ≢ left → get_or (set shape left size) k 0 ≤ get_or outer k 0
@@ -206,20 +225,18 @@ module _ (keeps : Bool) (before after kept : List ℕ) (same : length before ≡
       ((outside_both before after same second).0 ((are_added second).0 new)).1
       (subst (AreBelow before) is ((are_old first).0 was).0)))
 
--- all chunks below some numbers, in one box
-pub all_told : (before kept : List ℕ) (b : Box) → IsBox b → b ≡ record { start = replicate (length before) 0; shape = before } → (chunk : List ℕ)
-    → Contains (chunks_of_boxes (b ∷ [])) chunk ↔ IsToldBefore true before kept chunk
-all_told before kept b is_box is chunk =
+-- the chunks of the box that begins at 0
+pub from_zero_below : (sizes : List ℕ) (b : Box) → IsBox b → b ≡ record { start = replicate (length sizes) 0; shape = sizes } → (chunk : List ℕ)
+    → Contains (chunks_in b) chunk ↔ AreBelow sizes chunk
+from_zero_below sizes b is_box is chunk =
     let in_box = are_those_inside b is_box chunk in
-    let inside : IsInside b chunk ↔ AreBelow before chunk =
-    rw is (let both = below_from_zero (length before) before chunk refl in (λ h. both.1 h, λ h. both.0 h)) in
-    rw (append-nil (chunks_in b)) (
-      λ has. (inside.0 (in_box.0 has), inl refl),
-      λ (below, _). in_box.1 (inside.1 below),
-    )
+    let inside : IsInside b chunk ↔ AreBelow sizes chunk =
+    rw is (let both = below_from_zero (length sizes) sizes chunk refl in (λ h. both.1 h, λ h. both.0 h)) in
+    (λ has. inside.0 (in_box.0 has), λ below. in_box.1 (inside.1 below))
 
-pub all_told_once : (b : Box) → IsBox b → AreOnce (chunks_of_boxes (b ∷ []))
-all_told_once b is_box = rw (append-nil (chunks_in b)) (chunks_once b is_box)
+-- all that the array as it was uses
+pub all_told : (before kept : List ℕ) (chunk : List ℕ) → AreBelow before chunk ↔ IsToldBefore true before kept chunk
+all_told before kept chunk = (λ below. (below, inl refl), λ told. told.0)
 
 -- those that aren't kept
 pub others_told : (before kept : List ℕ) (chunk : List ℕ) → IsOutside kept before chunk ↔ IsToldBefore false before kept chunk

@@ -3,7 +3,7 @@
 //! [`parts`] takes a grid, an encoding and a box of elements, and gives a part for each chunk that holds some of the box, one after
 //! another. [`copies`] takes an array as it is stored and as it is to be stored, and gives for each chunk of the target the parts of the source's
 //! chunks that have its elements. [`copies_of_region`] does so of a box of elements that goes to another place, or to an array of another shape.
-//! [`changes`] tells what becomes of each chunk of an array that gets another shape. All ask grids and encodings by their traits alone, so these may be
+//! [`changes`] tells what becomes of each chunk of an array that gets another shape, [`changed_chunks`] tells it in boxes of chunks. All ask grids and encodings by their traits alone, so these may be
 //! of other crates. `CALLING.md` has callers.
 //!
 //! ```text
@@ -29,6 +29,7 @@
 //! | `stored_chunks` | which chunks of the target a store has already, by the keys that it lists |
 //! | `resize` | `changes`: what becomes of the chunks of an array that gets another shape |
 //! | `chunk_changes` | the walk over what becomes of them |
+//! | `changed` | `changed_chunks`: what becomes of them, in boxes of chunks |
 //! | `used` | how many chunks hold elements of an array along each dimension, and how many of them a resize keeps |
 //! | `outside` | the chunks below one list of numbers and not below another, as boxes |
 //! | `counts` | how much a plan copies, without a walk over it |
@@ -46,6 +47,7 @@
 #![tactic(auto)]
 
 mod boxes_from_zero;
+mod changed;
 mod chunk_changes;
 mod chunk_copies;
 mod chunks_between;
@@ -74,6 +76,7 @@ mod used;
 mod walk;
 
 pub use boxes_from_zero::{all_chunks, whole_array};
+pub use changed::{ChangedChunks, changed_chunks};
 pub use chunk_changes::Changes;
 pub use chunk_copies::{ChunkCopies, Copies};
 pub use clipping::clip;

@@ -1,15 +1,14 @@
 //! The plan of a resize: which chunks of an array that gets another shape stay as they are stored, and which don't.
-ghost use Rattle.std.specs.Prelude.{◌≡◌, ◌≢◌, ◌↔◌, ◌⊎◌, ◌≤◌, ℕ, IfErr, IfOk, List, length};
+ghost use Rattle.std.specs.Prelude.{◌≡◌, ◌≢◌, ◌↔◌, ◌⊎◌, ◌≤◌, ℕ, IfErr, IfOk, List, MatchResult, length};
 ghost use Rattle.std.specs.List.{AllZip, Contains};
-ghost use Rattle.zarrs_chunk_base.specs.Refusal.{HasMemory, OrMemory, TellsLengths};
+ghost use Rattle.zarrs_chunk_base.specs.Refusal.{HasMemory, OrMemory, RefusesLength, TellsLengths};
 ghost use Rattle.zarrs_chunk_axes.specs.InBounds.{AreBelow};
 ghost use Rattle.zarrs_chunk_plan.specs.Resize.{AreChanged, AreResized, IsKept, IsUsed};
 ghost use Rattle.zarrs_chunk_plan.specs.seen.Changes.{CanChange, IsAboutResize, all_changes, changes_to_come};
-ghost use Rattle.zarrs_chunk_plan.specs.seen.Outside.{AreOnce, IsOutside, IsToldBefore, chunks_of_boxes};
+ghost use Rattle.zarrs_chunk_plan.specs.seen.Outside.{AreOnce, IsOutside, IsToldBefore, chunks_of_boxes, lesser};
 
-use crate::boxes_from_zero::box_from_zero;
 use crate::chunk_changes::{Changes, Uses};
-use crate::outside::outside;
+use crate::outside::{below, outside};
 use crate::part::ChunkShapeTinyVec;
 use crate::used::{kept_along, lesser, used_along};
 use std::alloc::{AllocError, Global};
@@ -86,22 +85,38 @@ pub fn changes<'a, G: ChunkGridTraits, H: ChunkGridTraits, E: ChunkKeyEncodingTr
     ensures lengths_first { length (H.dimensions after.now) ≢ length (G.dimensions before.now)
         → HasMemory result }
 {
+    expect_as_many(before, after)?;
+    let uses = uses_of(alloc, before, after)?;
+    let boxes = boxes_of_changes(alloc, &uses, keeps)?;
+    Ok(Changes::new(alloc, before, after, encoding, uses, boxes)?)
+}
+
+/// Refuses two grids with different numbers of dimensions.
+///
+/// # Errors
+/// They have different numbers of dimensions.
+pub(crate) fn expect_as_many<G: ChunkGridTraits, H: ChunkGridTraits>(
+    before: &G,
+    after: &H,
+) -> Result<(), Refusal<IncompatibleDimensionalityError>>
+    ensures { MatchResult result (λ _. length (H.dimensions after.now)
+        ≡ length (G.dimensions before.now))
+        (RefusesLength (length (H.dimensions after.now)) (length (G.dimensions before.now))) }
+{
     if after.dimensionality() != before.dimensionality() {
         return Err(Refusal::Refused(IncompatibleDimensionalityError::new(
             after.dimensionality(),
             before.dimensionality(),
         )));
     }
-    let uses = uses_of(alloc, before, after)?;
-    let boxes = boxes_of_changes(alloc, &uses, keeps)?;
-    Ok(Changes::new(alloc, before, after, encoding, uses, boxes)?)
+    Ok(())
 }
 
 /// How many chunks two grids' arrays use along each dimension, and how many of them are kept.
 ///
 /// # Errors
 /// Out of memory.
-fn uses_of<G: ChunkGridTraits, H: ChunkGridTraits>(
+pub(crate) fn uses_of<G: ChunkGridTraits, H: ChunkGridTraits>(
     alloc: Global,
     before: &G,
     after: &H,
@@ -115,6 +130,10 @@ fn uses_of<G: ChunkGridTraits, H: ChunkGridTraits>(
         → IfOk result (λ uses. (chunk : List ℕ) → AreBelow uses.kept.items chunk
         ↔ IsKept (G.dimensions before.now) (H.dimensions after.now) chunk) }
     ensures at_most { IfOk result (λ uses. AllZip ◌≤◌ uses.kept.items uses.before.items) }
+    ensures in_both { IfOk result (λ uses.
+        AllZip ◌≤◌ uses.kept.items (lesser uses.before.items uses.after.items)) }
+    ensures dimensions { IfOk result (λ uses. length uses.before.items
+        ≡ length (G.dimensions before.now)) }
     ensures lengths { IfOk result (λ uses. length uses.after.items ≡ length uses.before.items) }
 {
     let used_before = used_along(alloc, before)?;
@@ -158,11 +177,8 @@ fn boxes_before(alloc: Global, uses: &Uses, keeps: bool) -> Result<Vec<ArraySubs
         ↔ IsToldBefore keeps uses.now.before.items uses.now.kept.items chunk) }
     ensures once { IfOk result (λ boxes. AreOnce (chunks_of_boxes boxes.items)) }
 {
-    if !keeps {
-        let boxes = outside(alloc, &uses.kept, &uses.before)?;
-        return Ok(boxes);
+    if keeps {
+        return below(alloc, &uses.before);
     }
-    let mut boxes = Vec::with_capacity(alloc, 1)?;
-    boxes.push(box_from_zero(alloc, &uses.before)?)?;
-    Ok(boxes)
+    outside(alloc, &uses.kept, &uses.before)
 }

@@ -75,6 +75,8 @@ pub(crate) fn kept_along<G: ChunkGridTraits, H: ChunkGridTraits>(
         → IfOk result (λ kept. (chunk : List ℕ) → AreBelow kept.items chunk
         ↔ IsKept (G.dimensions before.now) (H.dimensions after.now) chunk) }
     ensures at_most { IfOk result (λ kept. AllZip ◌≤◌ kept.items used_before.now) }
+    ensures in_both { IfOk result (λ kept.
+        AllZip ◌≤◌ kept.items (lesser used_before.now used_after.now)) }
 {
     let both = lesser(alloc, used_before, used_after)?;
     if has_zero(&both) {

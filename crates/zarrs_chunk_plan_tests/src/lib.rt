@@ -10,10 +10,13 @@
 //! | `regions` | what is copied of a region, the counts of it, what refuses it, and the laws |
 //! | `stored_chunks` | which chunks of a plan a store has, by the keys that it lists |
 //! | `resizes` | what becomes of the chunks of an array that gets another shape, what refuses it, and the laws |
+//! | `changed_boxes` | the same in boxes of chunks |
 #![tactic(auto)]
 
 #[cfg(test)]
 mod arrays;
+#[cfg(test)]
+mod changed_boxes;
 #[cfg(test)]
 mod plans;
 #[cfg(test)]

@@ -15,10 +15,11 @@ loop-dimension-preserved c =
     let left = c.loop-dimension.dimension - 1 in
     let is : c.loop-dimension.dimension ≡ suc left = omega arith in
     let so_far = subst (λ d. HasGrown inner outer d shape boxes) is c.loop-dimension.invariant in
-    let added = c.in_ok-added_part in
-    rw c.in_ok-push.ensures.items
-    (grown_more inner outer left shape boxes added.field-0 (omega arith) so_far added.ensures.is_box
-    (rw c.deref.ensures.value at added.ensures.together) (rw c.deref.ensures.value at added.ensures.apart))
+    let added = c.in_ok-added in
+    let pushed = c.in_ok-push_some.ensures in
+    grown_more inner outer left shape boxes c.push_some.new.boxes.items added.added (omega arith) so_far added.ensures.is_box
+    pushed.chunks pushed.some pushed.few
+    (rw c.deref.ensures.value at added.ensures.together) (rw c.deref.ensures.value at added.ensures.apart)
 
 pub returns-clause-those : goal.returns-clause-those
 returns-clause-those c = λ chunk.
@@ -27,3 +28,9 @@ returns-clause-those c = λ chunk.
     let ended : c.loop-dimension.dimension ≡ 0 = omega arith in
     are_outside inner outer c.loop-dimension.shape.items c.loop-dimension.boxes.items
     (subst (λ d. HasGrown inner outer d c.loop-dimension.shape.items c.loop-dimension.boxes.items) ended c.loop-dimension.invariant) chunk
+
+pub returns-clause-some : goal.returns-clause-some
+returns-clause-some c = c.loop-dimension.invariant.some
+
+pub returns-clause-few : goal.returns-clause-few
+returns-clause-few c = let few = c.loop-dimension.invariant.few in omega arith

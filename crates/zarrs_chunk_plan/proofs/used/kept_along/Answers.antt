@@ -1,6 +1,7 @@
-use Rattle.std.proofs.Common.{◌≡◌, ◌∙◌, ◌≤◌, Contains, length, sym, rules}
+use Rattle.std.proofs.Common.{◌≡◌, ◌∙◌, ◌≤◌, Contains, length, subst, sym, rules}
 use Rattle.std.specs.List.{AllZip}
-use Rattle.zarrs_chunk_plan.proofs.Kept.{kept_are, kept_at_most, lesser_first, none_kept}
+use Rattle.zarrs_chunk_plan.specs.seen.Outside.{lesser}
+use Rattle.zarrs_chunk_plan.proofs.Kept.{each_at_most, kept_are, kept_at_most, lesser_first, none_kept}
 use Rattle.std.proofs.lemmas.Bool.{true≢false}
 use Rattle.zarrs_chunk_plan.proofs.used.kept_along.Goals as goal
 
@@ -40,3 +41,14 @@ returns-clause-at_most g c =
     let is = rw c.deref-5.ensures.value at c.in_ok-kept.ensures in
     let long : length c.in_ok-kept.kept.items ≡ length c.in_ok-both.both.items = search rules in
     rw is (kept_at_most c.in_ok-both.both.items _ _ _ _ c.args.used_before.now (rw is at long) within)
+
+pub returns-then-has_zero-clause-in_both : goal.returns-then-has_zero-clause-in_both
+returns-then-has_zero-clause-in_both g c = rw c.in_ok-both.ensures (each_at_most (lesser c.args.used_before.now c.args.used_after.now))
+
+pub returns-clause-in_both : goal.returns-clause-in_both
+returns-clause-in_both g c =
+    let both_is = c.in_ok-both.ensures in
+    let is = rw c.deref-5.ensures.value at c.in_ok-kept.ensures in
+    let long : length c.in_ok-kept.kept.items ≡ length c.in_ok-both.both.items = search rules in
+    subst (λ most. AllZip ◌≤◌ c.in_ok-kept.kept.items most) both_is
+    (rw is (kept_at_most c.in_ok-both.both.items _ _ _ _ c.in_ok-both.both.items (rw is at long) (each_at_most c.in_ok-both.both.items)))
