@@ -1,5 +1,6 @@
 pub mod FirstFaults
 pub mod Refusals
+pub mod ResizedGrids
 pub mod LineFeeds
 pub mod AnswerLines
 pub mod SomeItems

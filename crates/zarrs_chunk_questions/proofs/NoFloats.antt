@@ -25,10 +25,11 @@ use Rattle.zarrs_chunk_plan.specs.declared.counts.Counts.{Counts}
 use Rattle.zarrs_chunk_plan.specs.declared.numbered_parts.SomeParts.{SomeParts}
 use Rattle.zarrs_chunk_questions.specs.Answers.{IsAnswer, IsArrayAnswer, IsBoxAnswer, IsGridAnswer, IsNumbersAnswer, edges_tree, items_tree}
 use Rattle.zarrs_chunk_questions.specs.Answers.{located_tree}
+use Rattle.zarrs_chunk_questions.specs.Changed.{boxes_tree}
 use Rattle.zarrs_chunk_questions.specs.Counts.{count_tree, counts_tree, line_number_tree}
 use Rattle.zarrs_chunk_questions.specs.Pages.{chunks_from, first_of, group_tree, is_more, item_tree, item_trees, count_of, page_tree, part_tree}
 use Rattle.zarrs_chunk_questions.specs.Pages.{parts_tree, source_tree, walk_page}
-use Rattle.zarrs_chunk_questions.specs.Question.{Asked, Question, ShareAsked, copies, copies_of_region, counted, counts, counts_of_region, decode}
+use Rattle.zarrs_chunk_questions.specs.Question.{Asked, Question, ShareAsked, changed_chunks, copies, copies_of_region, counted, counts, counts_of_region, decode}
 use Rattle.zarrs_chunk_questions.specs.Question.{encode, located, of_array, of_box, of_grid, of_numbers, of_walk, parts, runs}
 use Rattle.zarrs_chunk_questions.specs.Regions.{moved_group_tree, moved_source_tree}
 use Rattle.zarrs_chunk_questions.specs.Trees.{box_of, box_tree, numbers_tree, or_null}
@@ -161,25 +162,29 @@ of_counts (number, of) many =
 
 -- ---- of a question
 
-of_an_array : (shape : List ℕ) (asked : Asked) (kind : GridKind) (grid : Grid) (t : Data) → IsArrayAnswer shape asked kind grid t → HasNone t
-of_an_array shape (of_grid call) kind grid t is = of_alone call kind grid t is
-of_an_array shape (of_numbers call xs) kind grid t is = of_list_of_numbers call grid xs t is
-of_an_array shape (of_box call lists) kind grid t is = of_a_box call grid.dimensions (box_of lists) t is.1
-of_an_array shape (of_walk walk wanted) kind grid t is = ap has_float is ∙ of_a_walk walk grid.dimensions wanted.most wanted.first
-of_an_array shape (runs dimension) kind grid t (of_kind, (answer, told, is)) = of_says size_tree (λ n. refl) answer t is
-of_an_array shape (counted index) kind grid t (of_kind, is) =
+of_boxes : (boxes : List Box) → HasNone (boxes_tree boxes)
+of_boxes boxes = no_float_mapped box_tree a_box boxes
+
+of_an_array : (shape : List ℕ) (own : Data) (asked : Asked) (kind : GridKind) (grid : Grid) (t : Data) → IsArrayAnswer shape own asked kind grid t
+    → HasNone t
+of_an_array shape own (of_grid call) kind grid t is = of_alone call kind grid t is
+of_an_array shape own (of_numbers call xs) kind grid t is = of_list_of_numbers call grid xs t is
+of_an_array shape own (of_box call lists) kind grid t is = of_a_box call grid.dimensions (box_of lists) t is.1
+of_an_array shape own (of_walk walk wanted) kind grid t is = ap has_float is ∙ of_a_walk walk grid.dimensions wanted.most wanted.first
+of_an_array shape own (runs dimension) kind grid t (of_kind, (answer, told, is)) = of_says size_tree (λ n. refl) answer t is
+of_an_array shape own (counted index) kind grid t (of_kind, is) =
     ap has_float is.tree ∙ ap (λ b. b || (false || false)) (or_none items_tree (λ v. no_float_in_numbers v.items) is.answer)
-of_an_array shape (located tree index) kind grid t (encoding, made, (answer, may, is)) =
+of_an_array shape own (located tree index) kind grid t (encoding, made, (answer, may, is)) =
     of_says located_tree (λ at. rw (no_float_in_numbers at.chunk.items, no_float_in_numbers at.element.items) refl) answer t is
-of_an_array shape (parts tree wanted lists) kind grid t (encoding, made, is_box, (answer, may, is)) =
+of_an_array shape own (parts tree wanted lists) kind grid t (encoding, made, is_box, (answer, may, is)) =
     of_says (parts_tree (first_of wanted)) (of_some_parts (first_of wanted)) answer t is
-of_an_array shape (copies tree target wanted chunks) kind grid t is =
+of_an_array shape own (copies tree target wanted chunks) kind grid t is =
     let (as_long, in_all, groups, are, same) = is.answers in
     ap has_float same ∙ of_page (map group_tree groups) (is_more (first_of wanted) (length groups) in_all) (no_float_mapped group_tree a_group groups)
-of_an_array shape (counts tree target share chunks) kind grid t is =
+of_an_array shape own (counts tree target share chunks) kind grid t is =
     let (as_long, groups, plan, targets, is_box, are, many, those, same) = is.answers in
     ap has_float same ∙ of_counts share many
-of_an_array shape (copies_of_region tree target wanted region) kind grid t is =
+of_an_array shape own (copies_of_region tree target wanted region) kind grid t is =
     let answer = is.answers in
     ⊎_elim (λ none. ap has_float (answer.none none) ∙ of_page [] false refl)
     (λ some.
@@ -187,10 +192,14 @@ of_an_array shape (copies_of_region tree target wanted region) kind grid t is =
     ap has_float same
     ∙ of_page (map moved_group_tree groups) (is_more (first_of wanted) (length groups) in_all) (no_float_mapped moved_group_tree a_moved_group groups))
     (empty_or_some (box_of region.elements).shape)
-of_an_array shape (counts_of_region tree target share region) kind grid t is = ap has_float is.answers.tree ∙ of_counts share is.answers.counts
+of_an_array shape own (counts_of_region tree target share region) kind grid t is = ap has_float is.answers.tree ∙ of_counts share is.answers.counts
+of_an_array shape own (changed_chunks resize) kind grid t is =
+    let changed = is.changed in
+    ap has_float is.same
+    ∙ rw (of_boxes changed.delete.items, of_boxes changed.keep.items, of_boxes changed.new.items, of_boxes changed.rewrite.items) refl
 
 pub no_float : (question : Question) (t : Data) → IsAnswer question t → has_float t ≡ false
-no_float (of_array shape tree asked) t (kind, grid, made, is) = of_an_array shape asked kind grid t is
+no_float (of_array shape tree asked) t (kind, grid, made, is) = of_an_array shape tree asked kind grid t is
 no_float (encode tree chunk) t (encoding, made, (key, is_key, is)) = ap has_float is
 no_float (decode tree key dimensionality) t (encoding, made, no_slash, (answer, is_decoded, is)) =
     of_says items_tree (λ v. no_float_in_numbers v.items) answer t is

@@ -24,9 +24,10 @@ use Rattle.zarrs_chunks.specs.GridKinds.{GridKind, IsGridIn, grid_kind, rectilin
 use Rattle.zarrs_chunks.specs.Located.{IsLocated}
 use Rattle.zarrs_chunks.specs.Subsets.{AnswersChunksSubset, AnswersCover, AnswersEmptyCover, AnswersSubset, HasNoHome, LookedBox}
 use Rattle.zarrs_chunks.specs.declared.location.Located.{Located}
+use Rattle.zarrs_chunk_questions.specs.Changed.{IsChangedAnswer}
 use Rattle.zarrs_chunk_questions.specs.Counts.{IsSomeCountsAnswer}
 use Rattle.zarrs_chunk_questions.specs.Pages.{IsSomeCopiesAnswer, IsSomePartsAnswer, walk_tree}
-use Rattle.zarrs_chunk_questions.specs.Question.{Asked, Question, copies, copies_of_region, counted, counts, counts_of_region, decode, encode}
+use Rattle.zarrs_chunk_questions.specs.Question.{Asked, Question, changed_chunks, copies, copies_of_region, counted, counts, counts_of_region, decode, encode}
 use Rattle.zarrs_chunk_questions.specs.Question.{located, of_array, of_box, of_grid, of_numbers, of_walk, parts, runs}
 use Rattle.zarrs_chunk_questions.specs.Regions.{IsSomeRegionCopiesAnswer, IsSomeRegionCountsAnswer}
 use Rattle.zarrs_chunk_questions.specs.Trees.{Says, box_of, box_tree, numbers_tree, or_null}
@@ -126,26 +127,27 @@ IsDecodedAnswer encoding key dimensionality t =
 
 -- ---- of a question
 
--- What the grid of an array of this shape answers.
-abbrev pub IsArrayAnswer : (shape : List ℕ) → Asked → GridKind → Grid → Data → Type 0
-IsArrayAnswer shape (of_grid call) kind grid t = IsGridAnswer call kind grid t
-IsArrayAnswer shape (of_numbers call numbers) kind grid t = IsNumbersAnswer call grid numbers t
-IsArrayAnswer shape (of_box call lists) kind grid t = IsBox (box_of lists) × IsBoxAnswer call grid.dimensions (box_of lists) t
-IsArrayAnswer shape (of_walk walk items) kind grid t = t ≡ walk_tree walk grid.dimensions items
-IsArrayAnswer shape (runs dimension) kind grid t = (kind ≡ rectilinear) × IsRunsAnswer grid dimension t
-IsArrayAnswer shape (counted index) kind grid t = (kind ≡ rectilinear) × IsCountedAnswer grid index t
-IsArrayAnswer shape (located tree index) kind grid t =
+-- What the grid of an array of this shape answers; `own` is the grid's metadata.
+abbrev pub IsArrayAnswer : (shape : List ℕ) → Data → Asked → GridKind → Grid → Data → Type 0
+IsArrayAnswer shape own (of_grid call) kind grid t = IsGridAnswer call kind grid t
+IsArrayAnswer shape own (of_numbers call numbers) kind grid t = IsNumbersAnswer call grid numbers t
+IsArrayAnswer shape own (of_box call lists) kind grid t = IsBox (box_of lists) × IsBoxAnswer call grid.dimensions (box_of lists) t
+IsArrayAnswer shape own (of_walk walk items) kind grid t = t ≡ walk_tree walk grid.dimensions items
+IsArrayAnswer shape own (runs dimension) kind grid t = (kind ≡ rectilinear) × IsRunsAnswer grid dimension t
+IsArrayAnswer shape own (counted index) kind grid t = (kind ≡ rectilinear) × IsCountedAnswer grid index t
+IsArrayAnswer shape own (located tree index) kind grid t =
     (encoding : Encoding) × IsEncodingIn tree encoding × IsLocatedAnswer grid encoding index t
-IsArrayAnswer shape (parts tree items lists) kind grid t = IsSomePartsAnswer tree items lists grid t
-IsArrayAnswer shape (copies tree target items chunks) kind grid t = IsSomeCopiesAnswer shape tree target items chunks grid t
-IsArrayAnswer shape (counts tree target share chunks) kind grid t = IsSomeCountsAnswer shape tree target share chunks grid t
-IsArrayAnswer shape (copies_of_region tree target items region) kind grid t = IsSomeRegionCopiesAnswer tree target items region grid t
-IsArrayAnswer shape (counts_of_region tree target share region) kind grid t = IsSomeRegionCountsAnswer tree target share region grid t
+IsArrayAnswer shape own (parts tree items lists) kind grid t = IsSomePartsAnswer tree items lists grid t
+IsArrayAnswer shape own (copies tree target items chunks) kind grid t = IsSomeCopiesAnswer shape tree target items chunks grid t
+IsArrayAnswer shape own (counts tree target share chunks) kind grid t = IsSomeCountsAnswer shape tree target share chunks grid t
+IsArrayAnswer shape own (copies_of_region tree target items region) kind grid t = IsSomeRegionCopiesAnswer tree target items region grid t
+IsArrayAnswer shape own (counts_of_region tree target share region) kind grid t = IsSomeRegionCountsAnswer tree target share region grid t
+IsArrayAnswer shape own (changed_chunks resize) kind grid t = IsChangedAnswer own resize grid t
 
 -- The answer of a question.
 abbrev pub IsAnswer : Question → Data → Type 0
 IsAnswer (of_array shape tree asked) t =
-    (kind : GridKind) × (grid : Grid) × IsGridIn tree shape kind grid × IsArrayAnswer shape asked kind grid t
+    (kind : GridKind) × (grid : Grid) × IsGridIn tree shape kind grid × IsArrayAnswer shape tree asked kind grid t
 IsAnswer (encode tree chunk) t = (encoding : Encoding) × IsEncodingIn tree encoding × IsKeyAnswer encoding chunk t
 IsAnswer (decode tree key dimensionality) t =
     (encoding : Encoding) × IsEncodingIn tree encoding × (¬ EndsInSlash key) × IsDecodedAnswer encoding key dimensionality t

@@ -1,6 +1,6 @@
 -- The calls that a question may name, one row a call.
--- Source: the names are those of zarrs, but for `locate`, `parts`, `copies`, `counts`, `copies_of_region`, `counts_of_region`, `runs` and
--- `chunk_indices_counted`, which are this library's own.
+-- Source: the names are those of zarrs, but for `locate`, `parts`, `copies`, `counts`, `copies_of_region`, `counts_of_region`,
+-- `changed_chunks`, `runs` and `chunk_indices_counted`, which are this library's own.
 use Rattle.std.specs.Prelude.{◌≡◌, ◌≢◌, ℕ, List, Option, Some, None, codes}
 use Rattle.zarrs_chunk_questions.specs.declared.call.Call.{Call}
 use Rattle.zarrs_chunk_questions.specs.declared.call.Call.TheVariants as call
@@ -59,6 +59,7 @@ array_call of_array.Copies = codes "copies"
 array_call of_array.Counts = codes "counts"
 array_call of_array.CopiesOfRegion = codes "copies_of_region"
 array_call of_array.CountsOfRegion = codes "counts_of_region"
+array_call of_array.ChangedChunks = codes "changed_chunks"
 
 -- the name of a call
 abbrev pub name_of : Call → List ℕ

@@ -1,6 +1,7 @@
 pub mod AnswerLine
 pub mod Answers
 pub mod Calls
+pub mod Changed
 pub mod Counts
 pub mod Line
 pub mod Pages

@@ -59,6 +59,7 @@ pub data Asked : Type 0 where
   counts : (encoding : Data) (target : Target) (share : ShareAsked) (chunks : Option Lists) → Asked
   copies_of_region : (encoding : Data) (target : TargetArray) (items : Items) (region : RegionAsked) → Asked
   counts_of_region : (encoding : Data) (target : TargetArray) (share : ShareAsked) (region : RegionAsked) → Asked
+  changed_chunks : (resize : List ℕ) → Asked
 
 -- what is asked: of the grid of an array with this shape, of which the tree is the metadata; the key of a chunk; or the chunk of a key
 pub data Question : Type 0 where
@@ -165,6 +166,7 @@ asked_in array.CountsOfRegion d =
     then (share_in d) (λ share.
     then (region_in d) (λ region.
     Ok (counts_of_region encoding target share region)))))
+asked_in array.ChangedChunks d = then (required_in (list_of size_of) (codes "resize") d) (λ resize. Ok (changed_chunks resize))
 
 -- the text of a member, if it has one
 abbrev pub text_in : List ℕ → Data → Option (List ℕ)

@@ -20,7 +20,7 @@ use Rattle.zarrs_chunk_plan.specs.Region.{IsRegionFault}
 use Rattle.zarrs_chunk_plan.specs.seen.Copies.{IsCopiesFault}
 use Rattle.zarrs_chunk_questions.specs.Answers.{AnswersCoverOf}
 use Rattle.zarrs_chunk_questions.specs.Pages.{AnswersPartsOf, target_chunks}
-use Rattle.zarrs_chunk_questions.specs.Question.{Asked, Lists, Question, RegionAsked, Target, TargetArray, copies, copies_of_region, counted}
+use Rattle.zarrs_chunk_questions.specs.Question.{Asked, Lists, Question, RegionAsked, Target, TargetArray, changed_chunks, copies, copies_of_region, counted}
 use Rattle.zarrs_chunk_questions.specs.Question.{counts, counts_of_region, decode, encode, located, of_array, of_box, of_grid, of_numbers}
 use Rattle.zarrs_chunk_questions.specs.Question.{of_walk, parts, runs}
 use Rattle.zarrs_chunk_questions.specs.Regions.{begins_at}
@@ -31,7 +31,7 @@ use Rattle.zarrs_chunk_questions.specs.declared.call.OfNumbers.{OfNumbers}
 use Rattle.zarrs_chunk_questions.specs.declared.call.OfNumbers.TheVariants.{ArrayIndicesInbounds, ChunkIndicesInbounds}
 use Rattle.zarrs_chunk_questions.specs.declared.line_fault.LineFault.{LineFault}
 use Rattle.zarrs_chunk_questions.specs.declared.line_fault.LineFault.TheVariants.{Copies, Extension, Key, Lengths, NotBox, Region}
-use Rattle.zarrs_chunk_questions.specs.declared.line_fault.LineFault.TheVariants.{TargetExtension, Unreadable}
+use Rattle.zarrs_chunk_questions.specs.declared.line_fault.LineFault.TheVariants.{ResizedExtension, TargetExtension, Unreadable}
 use Rattle.zarrs_chunk_questions.specs.declared.unreadable.Unreadable.TheVariants.{NoCall}
 
 -- the fault tells that so many numbers were given, and others expected
@@ -154,27 +154,37 @@ abbrev pub IsSomeRegionRefusal : Data → TargetArray → RegionAsked → Grid �
 IsSomeRegionRefusal tree target region grid =
     IsPlanRefusal (λ to. IsRegionRefusal grid.dimensions to region) target.shape tree target.stored
 
--- Why the grid of an array of this shape has no answer.
-abbrev pub IsArrayRefusal : (shape : List ℕ) → Asked → GridKind → Grid → LineFault → Type 0
-IsArrayRefusal shape (of_grid call) kind grid fault = ⊥
-IsArrayRefusal shape (of_numbers call numbers) kind grid fault = IsNumbersRefusal call (length numbers) (length grid.dimensions) fault
-IsArrayRefusal shape (of_box call lists) kind grid fault =
+-- it is the fault of the grid of the new shape
+abbrev pub IsOfResize : (LineFault → Type 0) → LineFault → Type 0
+IsOfResize IsFault (ResizedExtension error) = IsFault (Extension error)
+IsOfResize _ _ = ⊥
+
+-- the array's own tree gives no grid of the new shape
+abbrev pub IsChangedRefusal : Data → (resize : List ℕ) → LineFault → Type 0
+IsChangedRefusal tree resize = IsOfResize (IsNoGrid tree resize)
+
+-- Why the grid of an array of this shape has no answer; `own` is the grid's metadata.
+abbrev pub IsArrayRefusal : (shape : List ℕ) → Data → Asked → GridKind → Grid → LineFault → Type 0
+IsArrayRefusal shape own (of_grid call) kind grid fault = ⊥
+IsArrayRefusal shape own (of_numbers call numbers) kind grid fault = IsNumbersRefusal call (length numbers) (length grid.dimensions) fault
+IsArrayRefusal shape own (of_box call lists) kind grid fault =
     IsNoBox (box_of lists) fault ⊎ (IsBox (box_of lists) × IsBoxRefusal call grid.dimensions (box_of lists) fault)
-IsArrayRefusal shape (of_walk walk items) kind grid fault = ⊥
-IsArrayRefusal shape (runs dimension) kind grid fault = IsNotOfKind (codes "runs") kind fault
-IsArrayRefusal shape (counted index) kind grid fault =
+IsArrayRefusal shape own (of_walk walk items) kind grid fault = ⊥
+IsArrayRefusal shape own (runs dimension) kind grid fault = IsNotOfKind (codes "runs") kind fault
+IsArrayRefusal shape own (counted index) kind grid fault =
     IsNotOfKind (codes "chunk_indices_counted") kind fault ⊎ ((kind ≡ rectilinear) × IsLengthFault (length index) (length grid.dimensions) fault)
-IsArrayRefusal shape (located tree index) kind grid fault = IsLocatedRefusal tree (length index) (length grid.dimensions) fault
-IsArrayRefusal shape (parts tree items lists) kind grid fault = IsSomePartsRefusal tree lists grid fault
-IsArrayRefusal shape (copies tree target items chunks) kind grid fault = IsSomeCopiesRefusal shape tree target chunks grid fault
-IsArrayRefusal shape (counts tree target share chunks) kind grid fault = IsSomeCopiesRefusal shape tree target chunks grid fault
-IsArrayRefusal shape (copies_of_region tree target items region) kind grid fault = IsSomeRegionRefusal tree target region grid fault
-IsArrayRefusal shape (counts_of_region tree target share region) kind grid fault = IsSomeRegionRefusal tree target region grid fault
+IsArrayRefusal shape own (located tree index) kind grid fault = IsLocatedRefusal tree (length index) (length grid.dimensions) fault
+IsArrayRefusal shape own (parts tree items lists) kind grid fault = IsSomePartsRefusal tree lists grid fault
+IsArrayRefusal shape own (copies tree target items chunks) kind grid fault = IsSomeCopiesRefusal shape tree target chunks grid fault
+IsArrayRefusal shape own (counts tree target share chunks) kind grid fault = IsSomeCopiesRefusal shape tree target chunks grid fault
+IsArrayRefusal shape own (copies_of_region tree target items region) kind grid fault = IsSomeRegionRefusal tree target region grid fault
+IsArrayRefusal shape own (counts_of_region tree target share region) kind grid fault = IsSomeRegionRefusal tree target region grid fault
+IsArrayRefusal shape own (changed_chunks resize) kind grid fault = IsChangedRefusal own resize fault
 
 -- Why a question has no answer.
 abbrev pub IsRefusal : Question → LineFault → Type 0
 IsRefusal (of_array shape tree asked) fault =
-    IsNoGrid tree shape fault ⊎ ((kind : GridKind) × (grid : Grid) × IsGridIn tree shape kind grid × IsArrayRefusal shape asked kind grid fault)
+    IsNoGrid tree shape fault ⊎ ((kind : GridKind) × (grid : Grid) × IsGridIn tree shape kind grid × IsArrayRefusal shape tree asked kind grid fault)
 IsRefusal (encode tree chunk) fault = IsNoEncoding tree fault
 IsRefusal (decode tree key dimensionality) fault =
     IsNoEncoding tree fault ⊎ ((encoding : Encoding) × IsEncodingIn tree encoding × IsNoKey key fault)

@@ -32,7 +32,7 @@ pub(crate) fn answer_question(
     match question {
         Question::OfArray(shape, chunk_grid, asked) => {
             let grid = make_grid(alloc, chunk_grid, &shape)?;
-            answer_asked(alloc, &shape, grid, asked, room)
+            answer_asked(alloc, &shape, chunk_grid, grid, asked, room)
         }
         Question::Encode(encoding, chunk) => Ok(Some(key_of_chunk(alloc, encoding, &chunk)?)),
         Question::Decode(encoding, key, dimensionality) => Ok(Some(chunk_of_key(

@@ -4,6 +4,7 @@ ghost use Rattle.serde_json.specs.View.{view};
 ghost use Rattle.zarrs_chunk_base.specs.Refusal.{OrMemory};
 ghost use Rattle.zarrs_chunk_keys.specs.ChunkKey.{Encoding};
 ghost use Rattle.zarrs_chunk_keys.specs.KeyKinds.{IsEncodingIn};
+ghost use Rattle.zarrs_chunks.specs.GridKinds.{IsGridIn};
 ghost use Rattle.zarrs_chunks.specs.seen.Grids.{grid_in, kind_in};
 ghost use Rattle.zarrs_chunk_questions.specs.Answers.{IsArrayAnswer, IsLocatedAnswer};
 ghost use Rattle.zarrs_chunk_questions.specs.Counts.{IsSomeCountsAnswer};
@@ -14,6 +15,7 @@ ghost use Rattle.zarrs_chunk_questions.specs.seen.Read.{asked_of, items_of, list
 
 use crate::asked::{Asked, Items, Lists, RegionAsked, Target, TargetArray};
 use crate::call::WalkOf;
+use crate::changed::answer_changed;
 use crate::counting::{counts_of_copies, counts_of_moves};
 use crate::extensions::{box_of, make_encoding};
 use crate::grid_answers::{answer_alone, answer_box, answer_numbers};
@@ -31,21 +33,26 @@ use zarrs_chunk_base::Refusal;
 use zarrs_chunk_plan::Share;
 use zarrs_chunks::{ChunkGrid, ChunkGridTraits, locate};
 
-/// What the grid of an array with this shape answers; `None` where the items of a walk are longer than there is room for.
+/// What the grid of an array with this shape answers, which the tree is the metadata of; `None` where the items of a walk are longer than there is
+/// room for.
 ///
 /// # Errors
-/// The first that applies: the grid's kind hasn't the call; an encoding, a target or a box that the call is asked of can't be made, in this order;
-/// the call refuses. Or out of memory.
+/// The first that applies: the grid's kind hasn't the call; an encoding, a target, a box or a grid of another shape that the call is asked of can't
+/// be made, in this order; the call refuses. Or out of memory.
 pub(crate) fn answer_asked(
     alloc: Global,
     shape: &[u64],
+    chunk_grid: &Value,
     grid: ChunkGrid,
     asked: Asked<'_>,
     room: usize,
 ) -> Result<Option<Value>, Refusal<LineFault>>
+    requires { IsGridIn (view chunk_grid.now) shape.now (kind_in grid) (grid_in grid) }
     ensures { MatchResult result (λ found. IfSome found (λ tree.
-        IsArrayAnswer shape.now (asked_of asked.entry) (kind_in grid) (grid_in grid) (view tree)))
-        (OrMemory (IsArrayRefusal shape.now (asked_of asked.entry) (kind_in grid) (grid_in grid))) }
+        IsArrayAnswer shape.now (view chunk_grid.now) (asked_of asked.entry) (kind_in grid)
+        (grid_in grid) (view tree)))
+        (OrMemory (IsArrayRefusal shape.now (view chunk_grid.now) (asked_of asked.entry)
+        (kind_in grid) (grid_in grid))) }
 {
     match asked {
         Asked::OfGrid(call) => Ok(Some(answer_alone(alloc, call, &grid)?)),
@@ -84,6 +91,10 @@ pub(crate) fn answer_asked(
         Asked::CountsOfRegion(encoding, target, share, region) => {
             let counts = answer_region_counts(alloc, grid, encoding, target, share, region)?;
             Ok(Some(counts))
+        }
+        Asked::ChangedChunks(resize) => {
+            let changed = answer_changed(alloc, &grid, chunk_grid, &resize)?;
+            Ok(Some(changed))
         }
     }
 }

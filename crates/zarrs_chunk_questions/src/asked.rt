@@ -40,6 +40,8 @@ pub(crate) enum Asked<'t> {
     CopiesOfRegion(&'t Value, TargetArray<'t>, Items, RegionAsked),
     /// How much that copies, and which of its lines a share has.
     CountsOfRegion(&'t Value, TargetArray<'t>, Share, RegionAsked),
+    /// What becomes of the chunks when the array gets this shape.
+    ChangedChunks(Vec<u64>),
 }
 
 /// Which items of a walk are asked for.
@@ -100,6 +102,7 @@ impl<'t> Asked<'t> {
             OfArray::Counts => counts(alloc, tree),
             OfArray::CopiesOfRegion => copies_of_region(alloc, tree),
             OfArray::CountsOfRegion => counts_of_region(alloc, tree),
+            OfArray::ChangedChunks => Ok(Asked::ChangedChunks(required_in(alloc, "resize", tree)?)),
         }
     }
 }

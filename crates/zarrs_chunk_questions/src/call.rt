@@ -40,6 +40,8 @@ pub(crate) enum OfArray {
     CopiesOfRegion,
     /// Of such a box and such an array, with an encoding, and of a share.
     CountsOfRegion,
+    /// Of another shape of the array.
+    ChangedChunks,
 }
 
 /// What a grid is asked alone.
@@ -118,6 +120,7 @@ impl Call {
             "counts" => OfArray::Counts,
             "copies_of_region" => OfArray::CopiesOfRegion,
             "counts_of_region" => OfArray::CountsOfRegion,
+            "changed_chunks" => OfArray::ChangedChunks,
             _ => return None,
         };
         Some(Call::OfArray(of_array))

@@ -28,6 +28,7 @@
 //! | `rechunking`, `regions` | a rechunking, and a region of an array, that a question is about, and what is copied |
 //! | `groups` | the groups of what is copied, from one of them on |
 //! | `counting` | how much is copied |
+//! | `changed` | what becomes of the chunks of an array that gets another shape |
 //! | `limits` | how many of them are given |
 //! | `trees`, `plan_trees` | the trees that answers are written as, and the parts of plans |
 //! | `answer_line` | the line that answers a line |
@@ -38,6 +39,7 @@ mod answering;
 mod array_question;
 mod asked;
 mod call;
+mod changed;
 mod counting;
 mod extensions;
 mod grid_answers;

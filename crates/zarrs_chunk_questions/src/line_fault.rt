@@ -18,6 +18,9 @@ pub(crate) enum LineFault {
     /// The same of the target.
     #[error("field `target`: {0}")]
     TargetExtension(ExtensionError),
+    /// The grid of the new shape can't be made of the array's own tree.
+    #[error("field `resize`: {0}")]
+    ResizedExtension(ExtensionError),
     /// The box that the call is asked of can't be made.
     #[error("{0}")]
     NotBox(ArraySubsetError),

@@ -64,6 +64,7 @@ asked_of (asked.CopiesOfRegion encoding target items region) =
     question.copies_of_region (view encoding.now) (target_array_of target) (items_of items) (region_of region)
 asked_of (asked.CountsOfRegion encoding target share region) =
     question.counts_of_region (view encoding.now) (target_array_of target) (share_of share) (region_of region)
+asked_of (asked.ChangedChunks resize) = question.changed_chunks resize.items
 
 abbrev pub question_of : Question → question.Question
 question_of (asks.OfArray shape chunk_grid asked) = question.of_array shape.items (view chunk_grid.now) (asked_of asked)

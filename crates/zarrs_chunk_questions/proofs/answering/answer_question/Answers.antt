@@ -18,3 +18,6 @@ returns-in_ok-grid-in-OfArray c =
     (in_other_words _ _ _ _ c.answer_asked.result
     (λ found is. if_some _ _ found (λ tree is. (kind_in grid, grid_in grid, made, is)) is)
     (λ fault is. inr (kind_in grid, grid_in grid, made, is)) (rw c.deref-in-OfArray.ensures.value at c.answer_asked.ensures))
+
+pub answer_asked-requires : goal.answer_asked-requires
+answer_asked-requires c = rw (c.deref.ensures.value, ← c.deref-in-OfArray.ensures.value) at c.in_ok-grid-in-OfArray.ensures

@@ -39,5 +39,6 @@ returns-in_default c = of where
   of (call.OfArray of_array.Counts) is = c.in_default.not-counts is
   of (call.OfArray of_array.CopiesOfRegion) is = c.in_default.not-copies_of_region is
   of (call.OfArray of_array.CountsOfRegion) is = c.in_default.not-counts_of_region is
+  of (call.OfArray of_array.ChangedChunks) is = c.in_default.not-changed_chunks is
   of call.Encode is = c.in_default.not-encode is
   of call.Decode is = c.in_default.not-decode is
