@@ -11,7 +11,7 @@ import sys
 
 sys.path.insert(0, str(pathlib.Path(__file__).resolve().parent.parent / "tools"))
 from built import CRATES, vectors  # noqa: E402
-from call_names import CALLS, OF_BOX, OF_CHUNK, OF_INDEX, OF_NOTHING, OF_RECTILINEAR, OF_TARGET, WALKS  # noqa: E402
+from call_names import CALLS, OF_BOX, OF_CHUNK, OF_INDEX, OF_NOTHING, OF_RECTILINEAR, OF_RESIZE, OF_TARGET, WALKS  # noqa: E402
 from extensions import GRIDS  # noqa: E402
 
 OF_A_LIST = OF_CHUNK + OF_INDEX
@@ -20,7 +20,7 @@ OF_LISTS = OF_BOX + OF_TARGET
 GREAT = 2**63
 ENDS, ZERO, NONE = "at the ends of numbers", "along a size of 0", "without dimensions"
 LENGTH = "with a list of a wrong length"
-OF_LENGTH = ("refused: incompatible dimensionality", "refused: the box of chunks: incompatible dimensionality", "false")
+OF_LENGTH = ("refused: incompatible dimensionality", "refused: the box of chunks: incompatible dimensionality", "false", "refused: field `resize`: ")
 
 
 def is_great(value):
@@ -60,7 +60,7 @@ def questions():
 def points(question, answer):
     """Where a question asks its call, if the answer is one of the call's."""
     call, shape = question.get("call"), question["shape"]
-    of = question.get("chunks" if call in OF_TARGET else "of")
+    of = question.get("chunks" if call in OF_TARGET else "resize" if call in OF_RESIZE else "of")
     if has_a_wrong_length(call, of, shape) and answer.startswith(OF_LENGTH):
         yield LENGTH
     if answer.startswith(("refused: ", "unreadable: ")):
@@ -75,11 +75,11 @@ def points(question, answer):
 
 def wanted():
     for grid in GRIDS:
-        for call in [*OF_NOTHING, *WALKS, *OF_A_LIST, *OF_LISTS, "runs"]:
+        for call in [*OF_NOTHING, *WALKS, *OF_A_LIST, *OF_LISTS, *OF_RESIZE, "runs"]:
             if call in OF_RECTILINEAR and grid != "rectilinear":
                 continue
             yield from ((grid, call, point) for point in (ENDS, ZERO, NONE))
-            if call in OF_A_LIST + OF_LISTS:
+            if call in OF_A_LIST + OF_LISTS + OF_RESIZE:
                 yield grid, call, LENGTH
 
 

@@ -9,8 +9,10 @@ WALKS = ["iter_chunk_indices", "iter_chunk_subsets", "iter_chunk_indices_and_sub
 OF_TARGET = ["copies", "counts"]
 # Of a box of elements, and of another array that it goes to.
 OF_REGION = ["copies_of_region", "counts_of_region"]
+# Of another shape that the array gets.
+OF_RESIZE = ["changed_chunks"]
 OF_KEYS = ["encode", "decode"]
-CALLS = [*OF_NOTHING, *OF_CHUNK, *OF_INDEX, *OF_BOX, *OF_TARGET, *OF_REGION, *WALKS, "runs", *OF_KEYS]
+CALLS = [*OF_NOTHING, *OF_CHUNK, *OF_INDEX, *OF_BOX, *OF_TARGET, *OF_REGION, *OF_RESIZE, *WALKS, "runs", *OF_KEYS]
 # Those that a rectilinear grid alone has, and those that take an encoding besides a grid.
 OF_RECTILINEAR = ["runs", "chunk_indices_counted"]
 WITH_ENCODING = ["locate", "parts", *OF_TARGET, *OF_REGION]

@@ -1,11 +1,23 @@
 """Plans of reads, rechunkings, copies of regions and resizes, element by element: each element is asked for its chunk and
-its place there. Copies of regions and resizes of arrays that have too many are found by boxes, too."""
+its place there. Copies of regions and resizes of arrays that have too many are found by boxes, too.
+
+    python3 tools/chunk_plans.py [SEED]
+
+compares the two ways to tell which chunks a resize changes, on small arrays of each kind of grid. It prints how many
+resizes were compared and where the two differ, and then ends with the status 1 where they did.
+"""
 import collections
 import itertools
 import math
+import sys
 
-from chunk_grids import counts_of, numbers_in
-from extensions import GREATEST
+from chunk_grids import Grid, counts_of, numbers_in
+from chunk_keys import Encoding
+from extensions import GREATEST, GRIDS, Refused
+from random_arrays import Generator
+
+# What becomes of a chunk, in the order of the words.
+CHANGES = ("delete", "keep", "new", "rewrite")
 
 
 def box_of(places):
@@ -189,6 +201,67 @@ def changes(was, now, chunks, encoding, keep):
     return lines
 
 
+def changed_chunks(before, after):
+    """The chunks that either array uses, by what becomes of them: each by the lines of the resize, and so by its elements."""
+    found = {what: [] for what in CHANGES}
+    for line in resize(before, after, Encoding("v2"), True):
+        found[line["what"]].append(line["chunk"])
+    return found
+
+
+def changed_chunks_by_boxes(before, after):
+    """The same as boxes of chunks, of which none is empty: by how many chunks are used along each dimension, for arrays of any
+    size."""
+    was, now = used_along(before), used_along(after)
+    both = [min(pair) for pair in zip(was, now)]
+    kept = kept_along(before, after, both)
+    keep = [] if 0 in kept else [[[0] * len(kept), kept]]
+    return {"delete": outside(both, was), "keep": keep, "new": outside(both, now), "rewrite": outside(kept, both)}
+
+
+def used_along(grid):
+    """How many chunks hold elements of the array along each dimension. An array without elements uses no chunk along any."""
+    return [0 if 0 in grid.shape else d.holder(d.size - 1) + 1 for d in grid.dimensions]
+
+
+def kept_along(before, after, both):
+    """How many of the chunks that both arrays use are kept along each dimension. Only the last of them may differ."""
+
+    def held(dimension, chunk):
+        start, end = dimension.start(chunk), dimension.end(chunk)
+        return end - start, min(end, dimension.size) - start
+
+    if 0 in both:
+        return both
+    return [n if held(d, n - 1) == held(e, n - 1) else n - 1 for d, e, n in zip(before.dimensions, after.dimensions, both)]
+
+
+def outside(inner, outer):
+    """The chunks that are below the outer numbers and not below the inner ones, which are no greater, as boxes: what a box
+    from 0 gets as it grows along one dimension after another, from the last one on."""
+    shape, found = list(inner), []
+    for dimension in reversed(range(len(outer))):
+        start, sizes = [0] * len(shape), list(shape)
+        start[dimension], sizes[dimension] = shape[dimension], outer[dimension] - shape[dimension]
+        found += [] if 0 in sizes else [[start, sizes]]
+        shape[dimension] = outer[dimension]
+    return found
+
+
+def fault_of_boxes(boxes, chunks, dimensionality):
+    """What is wrong with boxes that tell of some chunks, by what becomes of each, or None: in which order they come, and which
+    boxes they are, is free, but none is empty, there are at most as many of a kind as dimensions, or one, and each chunk is
+    in one box, which is of its kind."""
+    if list(boxes) != sorted(CHANGES):
+        return f"its members are {list(boxes)}"
+    for what, found in boxes.items():
+        if len(found) > max(dimensionality, 1) or any(0 in size for _, size in found):
+            return f"`{what}` has empty boxes, or too many: {found}"
+        if sorted(itertools.chain.from_iterable(numbers_in(*box) for box in found)) != sorted(chunks[what]):
+            return f"`{what}` has other chunks than {chunks[what]}: {found}"
+    return None
+
+
 def stored(grid, value_of):
     """A store of an array: the elements of each chunk that has some of the array, by their places there, and 0 past it."""
     held = {}
@@ -254,3 +327,34 @@ def counts_along(moved):
         "copies": len(copies), "elements": len(moved), "largest_line": max(lines.values(), default=0), "lines": len(lines),
         "source_chunks": len({read for _, read in copies}),
     }  # fmt: skip
+
+
+def small_resizes(seed, of_each_kind):
+    """Small arrays of each kind of grid that get other shapes: the metadata and both shapes, of which the new one may have no
+    grid by these metadata."""
+    generator = Generator(seed, longest_edge=4)
+    for kind in GRIDS:
+        for _ in range(of_each_kind):
+            shape = [generator.number(9) for _ in range(generator.random.randint(0, 4))]
+            resized = [size if generator.one_in(3) else generator.number(9) for size in shape]
+            yield generator.grid_over(shape, kind), shape, resized
+
+
+def main():
+    compared = differ = 0
+    for metadata, shape, resized in small_resizes(int(sys.argv[1]) if sys.argv[1:] else 1, 500):
+        try:
+            grids = Grid(metadata, shape), Grid(metadata, resized)
+        except Refused:
+            continue
+        compared += 1
+        fault = fault_of_boxes(changed_chunks_by_boxes(*grids), changed_chunks(*grids), len(shape))
+        if fault:
+            differ += 1
+            print(f"{metadata} from {shape} to {resized}: {fault}")
+    print(f"{compared} resizes compared, {differ} differ")
+    sys.exit(1 if differ or not compared else 0)
+
+
+if __name__ == "__main__":
+    main()

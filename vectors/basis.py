@@ -14,14 +14,14 @@ import sys
 
 HERE = pathlib.Path(__file__).resolve().parent
 sys.path.insert(0, str(HERE.parent / "tools"))
-from call_names import OF_CHUNK, OF_INDEX, OF_RECTILINEAR, OF_REGION, OF_TARGET, WALKS  # noqa: E402
+from call_names import OF_CHUNK, OF_INDEX, OF_RECTILINEAR, OF_REGION, OF_RESIZE, OF_TARGET, WALKS  # noqa: E402
 from chunk_grids import Grid  # noqa: E402
 from extensions import GREATEST  # noqa: E402
 
 # From the weakest on.
 OWN, ZARRS, STANDARD = "own", "zarrs", "standard"
 # Calls that zarrs hasn't, so that nobody else refuses them.
-NOT_IN_ZARRS = {"locate", "parts", *OF_TARGET, *OF_REGION, "decode", *OF_RECTILINEAR}
+NOT_IN_ZARRS = {"locate", "parts", *OF_TARGET, *OF_REGION, *OF_RESIZE, "decode", *OF_RECTILINEAR}
 # Refusals in the words of zarrs; docs/DIFFERENCES.md says which texts this library has made itself.
 WORDS_OF_ZARRS = re.compile("incompatible dimensionality|(regular|`regular_bounded`) chunk shape and array shape have")
 BOUNDS = {"chunk_indices_inbounds", "array_indices_inbounds"}
@@ -92,6 +92,7 @@ REASONS = [
     (OWN, "`copies`: in which groups, in which order they come, and their pages", lambda row: row.call == "copies"),
     (OWN, "`counts`: which numbers, as factors, and the shares", lambda row: row.call == "counts"),
     (OWN, "regions: what is asked of them, and the same", lambda row: row.call in OF_REGION),
+    (OWN, "resizes: in which boxes chunks are told, and in which order", lambda row: row.call in OF_RESIZE),
     (OWN, "`first`: a page of a walk", lambda row: "first" in row.vector),
     (OWN, "a chunk that begins or ends past the greatest number", lambda row: row.grid
      and row.is_past_the_greatest_number()),

@@ -31,6 +31,7 @@ SUBJECTS = {
     "walks": ["iter_chunk_indices", "iter_chunk_subsets", "iter_chunk_indices_and_subsets"],
     "plans": ["parts", "copies", "copies_of_region"],
     "counts": ["counts", "counts_of_region"],
+    "resizes": ["changed_chunks"],
     "keys": ["encode", "decode"],
     "metadata": ["configuration", "metadata"],
     "runs": ["runs", "chunk_indices_counted"],
