@@ -3,6 +3,7 @@
 Each group of comparisons is a function over the tally of `test.py`. What is right comes from the vectors, from a model or from arithmetic. Arrays of
 zarr-python 2 and the program `chunkplan` are compared with where they are there.
 """
+import dataclasses
 import inspect
 import io
 import itertools
@@ -26,13 +27,14 @@ from call_names import CALLS
 from chunk_grids import Grid as Model
 from chunk_grids import first_of, numbers_in, overlap
 from chunk_keys import Encoding as ModelKeys
+from chunk_plans import changed_chunks, fault_of_boxes
 from chunk_plans import share as share_of_lines
 from extensions import GREATEST, Refused, grid_metadata, regular
 from faults import seen_parts
 from memory import at_most, used
 from odd_values import Index, Lying, Raising, Whole, misaligned
 from random_arrays import Generator
-from zarrs_chunks import Box, Copies, Counted, Counts, Encoding, Grid, Located, RegionCopies, Source, __main__, _boxes, _questions
+from zarrs_chunks import Box, ChangedChunks, Copies, Counted, Counts, Encoding, Grid, Located, RegionCopies, Source, __main__, _boxes, _questions
 
 PACKAGE = pathlib.Path(zarrs_chunks.__file__).parent
 REGULAR = regular(2, 3)
@@ -58,6 +60,8 @@ def plain(value):
     if isinstance(value, (Copies, RegionCopies)):
         whole = {"whole": value.whole} if isinstance(value, RegionCopies) else {}
         return {"from": plain(value.sources), "to": {"chunk": plain(value.chunk), "key": value.key}, **whole}
+    if isinstance(value, ChangedChunks):
+        return {what: plain(getattr(value, what)) for what in ("delete", "keep", "new", "rewrite")}
     if isinstance(value, dict):
         return {name: plain(part) for name, part in value.items()}
     return [plain(part) for part in value] if isinstance(value, (list, tuple)) else value
@@ -187,6 +191,7 @@ METHODS = {
     "counts": counted,
     "copies_of_region": copied_of_region,
     "counts_of_region": counted_of_region,
+    "changed_chunks": lambda asked: grid_in(asked).changed_chunks(asked["resize"]),
     "iter_chunk_indices": walked,
     "iter_chunk_subsets": walked,
     "iter_chunk_indices_and_subsets": walked,
@@ -761,6 +766,83 @@ def arrays_of_zarr(tally, room):
         tally.raises("chunks of no elements", ValueError, words, lambda: Grid.of(given))
 
 
+# ---- resizes
+
+
+def padded(array, edges):
+    """An array as chunks with these edges, by their numbers: 0 stands in the places past the array."""
+    counts = [-(-size // edge) for size, edge in zip(array.shape, edges)]
+    whole = np.zeros([count * edge for count, edge in zip(counts, edges)], array.dtype)
+    whole[tuple(map(slice, array.shape))] = array
+    places = itertools.product(*map(range, counts))
+    return {chunk: whole[tuple(slice(c * edge, (c + 1) * edge) for c, edge in zip(chunk, edges))] for chunk in places}
+
+
+def changed(tally):
+    """Which chunks change: of arrays that numpy holds, in which no element that stays or goes is -1 or 0, and one that comes is -1; of
+    all kinds of grids beside the model, which goes element by element; at the greatest numbers; and what is taken and refused."""
+    rng, generator = np.random.default_rng(13), Generator(13, longest_edge=4)
+    for _ in range(100):
+        shape, resized, edges = np.array([rng.integers(0, 9, 3), rng.integers(0, 9, 3), rng.integers(1, 5, 3)])[:, : rng.integers(0, 4)].tolist()
+        array, other, both = rng.integers(1, 1000, shape), np.full(resized, -1), tuple(slice(min(pair)) for pair in zip(shape, resized))
+        other[both] = array[both]
+        was, now = padded(array, edges), padded(other, edges)
+        right = {"delete": was.keys() - now.keys(), "keep": set(), "new": now.keys() - was.keys(), "rewrite": set()}
+        for chunk in was.keys() & now.keys():
+            right["keep" if np.array_equal(was[chunk], now[chunk]) else "rewrite"].add(chunk)
+        found, lists = Grid(shape, regular(*edges)).changed_chunks(resized), {what: [*map(list, chunks)] for what, chunks in right.items()}
+        tally.same(f"chunks of {edges} from {shape} to {resized}", fault_of_boxes(plain(found), lists, len(shape)), None)
+    for _ in range(200):
+        shape = [generator.number(9) for _ in range(generator.random.randint(0, 4))]
+        resized = [size if generator.one_in(2) else generator.number(9) for size in shape]
+        metadata = generator.grid_over(shape, generator.random.choice(["regular", "zarrs.regular_bounded", "rectangular", "rectilinear"]))
+        told, grid = f"changes of {metadata} from {shape} to {resized}", Grid(shape, metadata)
+        try:
+            right = changed_chunks(Model(metadata, shape), Model(metadata, resized))
+        except Refused as refused:
+            tally.raises(told, ValueError, f"field `resize`: {refused.text}", lambda: grid.changed_chunks(resized))
+            continue
+        tally.same(told, fault_of_boxes(plain(grid.changed_chunks(resized)), right, len(shape)), None)
+    great = Grid([GREATEST] * 2, regular(1, 1))
+    right = ChangedChunks(keep=[Box((0, 0), (7, GREATEST))], rewrite=[], delete=[Box((7, 0), (GREATEST - 7, GREATEST))], new=[])
+    for shape in ([7, GREATEST], (np.uint64(7), GREATEST), np.array([7, GREATEST], np.uint64), [Index(7), Whole(GREATEST)]):
+        tally.same(f"changes of very many chunks to {shape!r}", great.changed_chunks(shape), right)
+    kinds = {type(number) for box in (*right.keep, *great.changed_chunks([7, 7]).delete) for numbers in box for number in numbers}
+    tally.same("the types of boxes", (kinds, {type(box) for box in great.changed_chunks([7, 7]).delete}), ({int}, {Box}))
+    tally.same("changes are copied", pickle.loads(pickle.dumps(great.changed_chunks([7, GREATEST]))), right)
+    tally.raises("they don't change", dataclasses.FrozenInstanceError, "cannot assign to field 'keep'", lambda: setattr(right, "keep", []))
+    grid, bounds = Grid([5, 7], REGULAR), "shape: numbers are those from 0 to 18446744073709551615, and one is "
+    refused = "field `resize`: regular chunk shape and array shape have inconsistent dimensionality"
+    for shape in ([], [5], [5, 7, 1]):
+        tally.raises(f"a resize to {shape}", ValueError, refused, lambda: grid.changed_chunks(shape))
+    tally.raises("a new size below", ValueError, f"{bounds}below", lambda: grid.changed_chunks([5, -1]))
+    tally.raises("a new size above", ValueError, f"{bounds}above", lambda: grid.changed_chunks([5, 2**64]))
+    tally.raises("new sizes as floats", TypeError, "shape: whole numbers are wanted, and the array is of float64", lambda: grid.changed_chunks([5.0, 7]))
+    shaped = "shape: one list of numbers is wanted, and the array's shape is (1, 2)"
+    tally.raises("new sizes of two axes", ValueError, shaped, lambda: grid.changed_chunks([[5, 7]]))
+    for value in (3, None, Raising(IndexError("own")), [Raising(KeyError("own"))]):
+        tally.same(f"{value!r} as a new shape", outcome(lambda: grid.changed_chunks(value))[0] in (TypeError, ValueError), True)
+    changes_of_program(tally)
+
+
+def changes_of_program(tally):
+    """The chunks of the lines of `chunkplan`, where the program was built: a line for each chunk that either array uses."""
+    if not CHUNKPLAN.exists():
+        return
+    generator = Generator(14)
+    for _ in range(60):
+        shape = [generator.random.randrange(40) for _ in range(generator.random.randrange(4))]
+        resized = [generator.random.randrange(40) for _ in shape]
+        metadata = generator.grid_over([max(pair) for pair in zip(shape, resized)], generator.random.choice(["regular", "zarrs.regular_bounded", "rectilinear"]))
+        document = {"shape": shape, "chunk_grid": metadata, "chunk_key_encoding": "v2", "resize": resized, "keep": True}
+        ended = subprocess.run([CHUNKPLAN], input=json.dumps(document).encode(), capture_output=True)
+        lists = {what: [] for what in ("delete", "keep", "new", "rewrite")}
+        for line in map(json.loads, ended.stdout.splitlines()):
+            lists[line["what"]].append(line["chunk"])
+        found = plain(Grid(shape, metadata).changed_chunks(resized))
+        tally.same(f"changes of {document}", (ended.returncode, fault_of_boxes(found, lists, len(shape))), (0, None))
+
+
 # ---- the program
 
 
@@ -834,6 +916,9 @@ def typed(tally):
     for kind in filter(inspect.isclass, public):
         if issubclass(kind, tuple):
             tally.same(f"the fields of {kind.__name__}", typing.get_type_hints(kind).keys(), set(kind._fields))
+            continue
+        if dataclasses.is_dataclass(kind):
+            tally.same(f"the fields of {kind.__name__}", typing.get_type_hints(kind).keys(), {field.name for field in dataclasses.fields(kind)})
             continue
         for name, member in vars(kind).items():
             member = member.fget if isinstance(member, property) else getattr(member, "__func__", member)
@@ -930,5 +1015,5 @@ def little_memory(tally):
 
 
 def python_calls(tally):
-    for group in (by_methods, beside_models, pages, moved, shares, counts, selections, stored, program, typed, values, little_memory):
+    for group in (by_methods, beside_models, pages, moved, shares, counts, changed, selections, stored, program, typed, values, little_memory):
         group(tally)

@@ -30,10 +30,13 @@ ValueError, which say in which argument; and too little memory as a MemoryError,
 
 from ._answer import answer
 from ._boxes import Box
+from ._changed import ChangedChunks
 from ._copies import Copies, RegionCopies, Source
 from ._counts import Counts
 from ._encoding import Encoding
 from ._grid import Counted, Grid, Located, Parts
 from ._version import __version__
 
-__all__ = ["Box", "Copies", "Counted", "Counts", "Encoding", "Grid", "Located", "Parts", "RegionCopies", "Source", "__version__", "answer"]
+__all__ = [
+    "Box", "ChangedChunks", "Copies", "Counted", "Counts", "Encoding", "Grid", "Located", "Parts", "RegionCopies", "Source", "__version__", "answer",
+]  # fmt: skip

@@ -12,6 +12,7 @@ import numpy.typing as npt
 from . import _library, _questions
 from ._answer import refuse
 from ._boxes import Box, as_box, given_box, selected_box, slabs
+from ._changed import ChangedChunks, changed_of
 from ._copies import Copies, RegionCopies, copies_of, ends_of_share, given_share, region_copies_of
 from ._counts import Counts, counts_of
 from ._encoding import Encoding, keys_between, usual_length
@@ -542,6 +543,20 @@ class Grid:
         _check_grid("target", target)
         region = _given_region(subset, at)
         return counts_of(self._ask("counts_of_region", chunk_key_encoding=_ANY_ENCODING, target=target._array_text(_ANY_ENCODING), **region))
+
+    def changed_chunks(self, shape: npt.ArrayLike) -> ChangedChunks:
+        """What becomes of the chunks of the array where it gets another shape, and the `chunk_grid` stays: which are kept as they are stored, written
+        again, deleted or new, as boxes of chunks. They are few, however many chunks there are. Raises ValueError where the `chunk_grid` makes no grid of
+        that shape, as listed edges of another sum.
+
+        >>> grid = Grid([5, 7], {"name": "regular", "configuration": {"chunk_shape": [2, 3]}})
+        >>> changed = grid.changed_chunks([8, 4])
+        >>> changed.keep, changed.delete, changed.new
+        ([Box(start=(0, 0), shape=(2, 1))], [Box(start=(0, 2), shape=(3, 1))], [Box(start=(3, 0), shape=(1, 2))])
+        >>> sorted(changed.rewrite)
+        [Box(start=(0, 1), shape=(2, 1)), Box(start=(2, 0), shape=(1, 2))]
+        """
+        return changed_of(self._ask("changed_chunks", resize=list_of_numbers("shape", shape).tolist()))
 
     def _check_array_of(self, target: Grid) -> None:
         if target.array_shape != self.array_shape:
