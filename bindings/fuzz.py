@@ -30,7 +30,7 @@ HERE = pathlib.Path(__file__).resolve().parent
 sys.path[:0] = [str(HERE / "python"), str(HERE), str(HERE.parent / "tools")]
 sys.dont_write_bytecode = True
 from call_names import CALLS, OF_RECTILINEAR, WALKS  # noqa: E402
-from chunk_plans import share as share_of_lines  # noqa: E402
+from chunk_plans import changed_chunks_by_boxes, share as share_of_lines  # noqa: E402
 from extensions import GREATEST, Refused, grid_metadata, regular  # noqa: E402
 from memory import set_most, used  # noqa: E402
 
@@ -497,6 +497,20 @@ def ask_counts(rng):
         demand("counts", tuple(answer) if is_answered else repr(answer), right)
 
 
+def ask_changed(rng):
+    model, grid = rng.choice([model_of, rectilinear_model_of])(rng)
+    shape, drawn = draw_list(rng, [number_near(rng, size) for size in model.shape][: rng.choice([0, 1, 9, 9, 9])])
+    answer, is_answered = attempt(lambda: grid.changed_chunks(shape))
+
+    def right(resized):
+        try:
+            return [boxes for _what, boxes in sorted(changed_chunks_by_boxes(model, Model(model.metadata(), resized)).items())]
+        except Refused as refused:
+            raise Refused(f"field `resize`: {refused.text}") from refused
+
+    check_one([boxes for _what, boxes in sorted(vars(answer).items())] if is_answered else answer, is_answered, [drawn], right)
+
+
 def copies_of_model(copies):
     """What the package answers of a chunk of a target, as the model has it."""
     sources = [{name: as_lists(part) for name, part in source._asdict().items()} for source in copies.sources]
@@ -583,7 +597,7 @@ def ask_any_question(rng):
         "call": rng.choice(calls), "shape": model.shape, "chunk_grid": grid.metadata, "chunk_key_encoding": "default", "of": of,
         "items": rng.choice([0, 1, 100, GREATEST]), "dimensionality": rng.choice([0, 1, 2, GREATEST]),
         "target": {"chunk_grid": "regular", "chunk_key_encoding": "v2"} | ({"chunk_grid": grid.metadata} if rng.random() < 0.9 else {}),
-        "share": [rng.randrange(3), rng.choice([1, 2, 3, GREATEST])],
+        "share": [rng.randrange(3), rng.choice([1, 2, 3, GREATEST])], "resize": index,
     }  # fmt: skip
     question = {name: value if rng.random() < 0.9 else any_value(rng) for name, value in members.items() if rng.random() < 0.95}
     told, is_answered = attempt(lambda: answer(draw(rng, question)[0]))
@@ -593,7 +607,7 @@ def ask_any_question(rng):
 
 KINDS = (
     ask_of_grid, ask_of_grid, ask_covers, ask_parts, ask_keys, ask_chunks_of_keys, make_things, ask_any_question,
-    ask_of_one, ask_of_one, ask_runs, ask_walks, ask_copies, ask_counts, ask_box, ask_stored,
+    ask_of_one, ask_of_one, ask_runs, ask_walks, ask_copies, ask_counts, ask_changed, ask_box, ask_stored,
 )  # fmt: skip
 
 

@@ -27,10 +27,11 @@ import sys
 for folder in ("measure", "tools"):
     sys.path.insert(0, str(pathlib.Path(__file__).resolve().parent.parent / folder))
 from built import builds  # noqa: E402
-from call_names import CALLS, OF_BOX, OF_CHUNK, OF_INDEX, OF_KEYS, OF_RECTILINEAR, OF_REGION, OF_TARGET, WALKS, WITH_ENCODING  # noqa: E402
+from call_names import CALLS, OF_BOX, OF_CHUNK, OF_INDEX, OF_KEYS, OF_RECTILINEAR, OF_REGION, OF_RESIZE, OF_TARGET, WALKS, WITH_ENCODING  # noqa: E402
 from chunk_grids import MOST_ALONG, Grid, check_box, first_of  # noqa: E402
 from chunk_keys import Encoding  # noqa: E402
-from chunk_plans import counts as counts_by_element, counts_of_region, region, region_by_boxes  # noqa: E402
+from chunk_plans import changed_chunks, changed_chunks_by_boxes, fault_of_boxes, may_go_through, region, region_by_boxes  # noqa: E402
+from chunk_plans import counts as counts_by_element, counts_of_region  # noqa: E402
 from extensions import GREATEST, GRIDS, Refused, regular  # noqa: E402
 from random_arrays import EQUAL, Generator  # noqa: E402
 from runs import run  # noqa: E402
@@ -74,6 +75,8 @@ class Asking(Generator):
             question |= self.target(call, shape)
         if call in OF_REGION:
             question |= self.region(call, shape)
+        if call in OF_RESIZE:
+            question["resize"] = self.longer_or_shorter(shape) if self.one_in(12) else [self.resized(size) for size in shape]
         if call in WALKS or call in ("parts", "copies", "copies_of_region"):
             question["items"] = self.number(30)
         return self.with_fault(question) if self.one_in(10) else question
@@ -120,6 +123,11 @@ class Asking(Generator):
             of = self.random.choice([1, 2, 3, 7, GREATEST])
             members["share"] = [self.number(of - 1), of]
         return members
+
+    def resized(self, size):
+        """A size that the array gets along a dimension: mostly the same or one near to it, so that edges may be listed."""
+        near = min(max(size + self.random.choice([-9, -2, -1, 1, 2, 9]), 0), GREATEST)
+        return self.random.choice([size, size, size, near, self.number(size), self.size(size > 40)])
 
     def with_fault(self, question):
         call, of = question["call"], question.get("of")
@@ -213,6 +221,8 @@ def model_answer(question):
             return model_counts(grid, target, question.get("chunks"), question.get("share", [0, 1]))
         groups = grid.copies(*encoding, target, target_encoding, question.get("chunks"))
         return first_of(itertools.islice(groups, question.get("first", 0), None), question["items"])
+    if call in OF_RESIZE:
+        return model_resize(grid, question)
     if call in OF_REGION:
         return model_region(question, (grid, *encoding), model_target(question))
     arguments = of if call in OF_BOX else [of] if "of" in question else []
@@ -241,6 +251,20 @@ def model_region(question, source, target):
         by_element = [] if 0 in box[1] else [group_of(line) for line in region(source, target, box, at)]
         assert as_text(groups) == as_text(by_element), f"the models differ: {groups} and {by_element}"
     return first_of(iter(groups[question.get("first", 0) :]), question["items"])
+
+
+def model_resize(grid, question):
+    """Boxes of chunks, which have to have the chunks that are found element by element, where the arrays are small."""
+    shape = question["resize"]
+    try:
+        resized = Grid(question["chunk_grid"], shape)
+    except Refused as refusal:
+        raise Refused(refusal.text and f"field `resize`: {refusal.text}") from refusal
+    found = changed_chunks_by_boxes(grid, resized)
+    if may_go_through(grid) and may_go_through(resized):
+        fault = fault_of_boxes(found, changed_chunks(grid, resized), len(shape))
+        assert fault is None, f"the models differ: {fault}"
+    return found
 
 
 def group_of(line):

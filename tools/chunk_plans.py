@@ -248,6 +248,12 @@ def outside(inner, outer):
     return found
 
 
+def may_go_through(grid):
+    """Whether an array has few elements, and its chunks short edges, so that it can be gone through."""
+    edges = [edge for dimension in grid.dimensions for edge, _ in dimension.pairs]
+    return max([*grid.shape, *edges], default=0) <= 100 and math.prod(grid.shape) <= 2000
+
+
 def fault_of_boxes(boxes, chunks, dimensionality):
     """What is wrong with boxes that tell of some chunks, by what becomes of each, or None: in which order they come, and which
     boxes they are, is free, but none is empty, there are at most as many of a kind as dimensions, or one, and each chunk is

@@ -27,7 +27,8 @@ fn each_vector_is_answered() {
 }
 
 /// So many vectors at least are put to methods. The others are those whose question can't be read,
-/// walks over boxes from a number on, which counts chunks and not boxes, and copies of regions.
+/// walks over boxes from a number on, which counts chunks and not boxes, copies of regions, and
+/// resizes.
 const PUT: usize = 1130;
 
 #[test]
@@ -38,7 +39,7 @@ fn each_vector_that_a_method_can_be_asked_is_answered_by_it() {
             && !vector.line.starts_with("unreadable: there is no call `runs`")
             && !vector.line.starts_with("unreadable: there is no call `chunk_indices_counted`");
         let asked = Json(&vector.question);
-        if is_unread || is_box_walk_from_a_number(asked) || is_of_a_region(asked) {
+        if is_unread || is_box_walk_from_a_number(asked) || has_no_method(asked) {
             left += 1;
             continue;
         }
@@ -62,9 +63,10 @@ fn is_box_walk_from_a_number(asked: Json<'_>) -> bool {
     walks.contains(&asked.member("call").0) && asked.get("first").is_some()
 }
 
-/// There is no method for a copy of a region: its questions are put as text alone.
-fn is_of_a_region(asked: Json<'_>) -> bool {
-    ["\"copies_of_region\"", "\"counts_of_region\""].contains(&asked.member("call").0)
+/// There is no method for a copy of a region, or for a resize: their questions are put as text alone.
+fn has_no_method(asked: Json<'_>) -> bool {
+    let calls = ["\"copies_of_region\"", "\"counts_of_region\"", "\"changed_chunks\""];
+    calls.contains(&asked.member("call").0)
 }
 
 /// The answer of a method, by the line that answers the question.
