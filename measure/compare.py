@@ -10,8 +10,8 @@ There are two, and neither shares code with this repository:
   on `--documents` documents, over all grids and encodings, small arrays and those at the greatest numbers, with faults
   of each kind among them;
 - zarr-python 2 (Debian's `python3-zarr`, by Debian's own Python), on `--arrays` arrays with regular chunks and keys of
-  version 2: it writes the array, and a box of another one, to a store, and what is compared is what then lies in the
-  store under which key.
+  version 2: it writes the array, and a box of another one, to a store, and gives a third one another shape; what is
+  compared is what then lies in the store under which key.
 
 The programs are those that `rt run` built in their crates, if none are given. It prints how many answers were compared,
 by call, and each that differs, and ends with the status 1 where one did. A seed asks the same questions each time.
@@ -22,13 +22,14 @@ import itertools
 import json
 import math
 import pathlib
+import re
 import sys
 
 for folder in ("measure", "tools"):
     sys.path.insert(0, str(pathlib.Path(__file__).resolve().parent.parent / folder))
 from built import builds  # noqa: E402
 from call_names import CALLS, OF_BOX, OF_CHUNK, OF_INDEX, OF_KEYS, OF_RECTILINEAR, OF_REGION, OF_RESIZE, OF_TARGET, WALKS, WITH_ENCODING  # noqa: E402
-from chunk_grids import MOST_ALONG, Grid, check_box, first_of  # noqa: E402
+from chunk_grids import MOST_ALONG, Grid, check_box, first_of, numbers_in  # noqa: E402
 from chunk_keys import Encoding  # noqa: E402
 from chunk_plans import changed_chunks, changed_chunks_by_boxes, fault_of_boxes, may_go_through, region, region_by_boxes  # noqa: E402
 from chunk_plans import counts as counts_by_element, counts_of_region  # noqa: E402
@@ -462,6 +463,7 @@ def compare_with_zarr(arguments, tally):
         homes, told = whole_array(numpy, Written(zarr, shape, edges, separator), indices)
         compare_lines(arguments.where, {**array, "indices": indices}, homes, tally, source)
         told += box_of_array(draw, numpy, Written(zarr, shape, edges, separator))
+        told.append(resized_array(draw, Written(zarr, shape, edges, separator)))
         asked += [({**array, **question}, expected) for question, expected in told]
     for (question, expected), printed in zip(asked, ask(arguments.calls, [question for question, _ in asked])):
         told = f"{json.dumps(question)}\n  store    {expected}\n  found    {printed}"
@@ -544,6 +546,30 @@ def box_of_array(draw, numpy, written):
 
     yield {"call": "parts", "of": [start, sizes], "items": len(chunks) + 1}, is_read_back
     yield {"call": "chunks_in_array_subset", "of": [start, sizes]}, has_as_many
+
+
+def resized_array(draw, written):
+    """A question about an array that gets another shape: it is written whole before and after, so that the store then has each chunk
+    that is used."""
+    shape = [draw.choice([size, draw.randint(0, 12)]) for size in written.shape]
+
+    def chunks():
+        keys = [key for key in written.store if not key.startswith(".z")]
+        return {tuple(map(int, re.findall("[0-9]+", key))) if shape else () for key in keys}
+
+    written.array[...] = 1
+    before = chunks()
+    written.array.resize(*shape)
+    left = chunks()
+    written.array[...] = 2
+    after = chunks()
+
+    def is_as_stored(answer):
+        found = {what: [tuple(chunk) for box in boxes for chunk in numbers_in(*box)] for what, boxes in answer.items()}
+        both = found["keep"] + found["rewrite"]
+        return [sorted(both), sorted(found["delete"]), sorted(found["new"])] == [sorted(left), sorted(before - left), sorted(after - left)]
+
+    return {"call": "changed_chunks", "resize": shape}, is_as_stored
 
 
 def slices(box):
