@@ -1,4 +1,4 @@
-//! Rechunkings: what is copied into each chunk of the target.
+//! Rechunkings and copies of regions: what is copied into each chunk of the target.
 
 use std::fmt;
 use std::iter::FusedIterator;
@@ -12,6 +12,7 @@ use crate::memory::push;
 use crate::pages::{self, Pages};
 use crate::questions::{self, Member};
 use crate::reader::Reader;
+use crate::region::Region;
 use crate::subset::ArraySubset;
 
 /// So many bytes a page has at most as text, where it has more than one item; and for so many there
@@ -75,13 +76,16 @@ pub struct ChunkCopies {
     pub chunk: Vec<u64>,
     /// The key of the chunk.
     pub key: String,
-    /// What is copied from each chunk of the source that shares elements of the array with it, in
-    /// row-major order of these chunks.
+    /// What is copied from each chunk of the source that has some of the elements, in row-major
+    /// order of these chunks.
     pub sources: Vec<Source>,
+    /// Whether these are all elements of its array that the chunk holds, as in a rechunking they
+    /// always are. Where they aren't, the chunk has to be read before it is written.
+    pub whole: bool,
 }
 
-/// The rechunking of an array, chunk by chunk of the target, in row-major order of these chunks:
-/// [`Grid::copies`] makes it.
+/// The rechunking of an array, or the copy of a region, chunk by chunk of the target, in row-major
+/// order of these chunks: [`Grid::copies`] makes the one, and [`Grid::copies_of_region`] the other.
 ///
 /// It is read page by page, so whatever its length, there are at most some thousands of chunks in
 /// memory, and a page has at most 262144 bytes as text. A chunk with more has a page of its own,
@@ -113,8 +117,10 @@ pub struct ChunkCopies {
 /// ```
 #[derive(Clone)]
 pub struct Copies<'a> {
-    source: (&'a Grid, &'a Encoding),
-    target: (&'a Grid, &'a Encoding),
+    source: Stored<'a>,
+    target: Stored<'a>,
+    /// What is copied into these chunks, where that isn't the whole array.
+    region: Option<Region>,
     /// The target's chunks that are written.
     chunks: ArraySubset,
     pages: Pages,
@@ -122,12 +128,12 @@ pub struct Copies<'a> {
     page: vec::IntoIter<ChunkCopies>,
 }
 
+/// A grid and an encoding, by which an array is stored.
+type Stored<'a> = (&'a Grid, &'a Encoding);
+
 impl<'a> Copies<'a> {
     /// The whole rechunking. What is refused is refused here.
-    pub(crate) fn new(
-        source: (&'a Grid, &'a Encoding),
-        target: (&'a Grid, &'a Encoding),
-    ) -> Result<Copies<'a>> {
+    pub(crate) fn of_array(source: Stored<'a>, target: Stored<'a>) -> Result<Copies<'a>> {
         let shape = source.0.array_shape();
         if target.0.array_shape() != shape {
             return Err(Error::OtherShape);
@@ -135,20 +141,34 @@ impl<'a> Copies<'a> {
         let array = ArraySubset::of_array(shape)?;
         let chunks = target.0.chunks_in_array_subset(&array)?;
         let chunks = chunks.ok_or_else(|| Error::of_answer("an array that has no cover"))?;
-        let copies = Copies::of_chunks(source, target, chunks);
-        copies.read(0, 0)?;
-        Ok(copies)
+        page(source, target, What::Chunks(&chunks), (0, 0))?;
+        Ok(Copies::new(source, target, None, chunks))
     }
 
-    /// The rechunking of these chunks of the target.
-    fn of_chunks(
-        source: (&'a Grid, &'a Encoding),
-        target: (&'a Grid, &'a Encoding),
+    /// The whole copy of a region. What is refused is refused here.
+    pub(crate) fn of_region(
+        source: Stored<'a>,
+        target: Stored<'a>,
+        subset: &ArraySubset,
+        at: &[u64],
+    ) -> Result<Copies<'a>> {
+        page(source, target, What::Region(subset, at), (0, 0))?;
+        // So it lies in both arrays.
+        let region = Region::new(subset, at)?;
+        let chunks = region.chunks(target.0)?;
+        Ok(Copies::new(source, target, Some(region), chunks))
+    }
+
+    /// What is copied into these chunks of the target.
+    fn new(
+        source: Stored<'a>,
+        target: Stored<'a>,
+        region: Option<Region>,
         chunks: ArraySubset,
     ) -> Copies<'a> {
         let numbers = chunks.dimensionality().saturating_mul(6);
         let pages = Pages::new(pages::count_of(chunks.shape()), numbers);
-        Copies { source, target, chunks, pages, page: Vec::new().into_iter() }
+        Copies { source, target, region, chunks, pages, page: Vec::new().into_iter() }
     }
 
     /// What is copied into those chunks of the target that lie in a box of chunks, from the first
@@ -179,10 +199,16 @@ impl<'a> Copies<'a> {
         if given != wanted {
             return Err(Error::WrongLength { argument: "chunks", given, wanted });
         }
-        Ok(Copies::of_chunks(self.source, self.target, self.chunks.common(chunks)?))
+        let chunks = self.chunks.common(chunks)?;
+        let region = match self.region {
+            // Of no chunk there is nothing to ask.
+            Some(region) if !chunks.is_empty() => Some(region.within(self.target.0, &chunks)?),
+            region => region,
+        };
+        Ok(Copies::new(self.source, self.target, region, chunks))
     }
 
-    /// How many chunks of the target are left to give. Of a rechunking with more than
+    /// How many chunks of the target are left to give. Of a rechunking or a copy with more than
     /// 18446744073709551615 chunks so many are given; [`within`](Copies::within) reaches the
     /// others.
     ///
@@ -248,25 +274,16 @@ impl<'a> Copies<'a> {
 
     /// So many items from this one on, and how many bytes they have as text.
     fn read(&self, first: u64, wanted: usize) -> Result<(Vec<ChunkCopies>, usize)> {
-        let members = [
-            ("chunk_key_encoding", Member::Encoding(self.source.1)),
-            ("target", Member::Stored(self.target.0, self.target.1)),
-            ("chunks", Member::Box(&self.chunks)),
-            ("items", Member::Number(wanted as u64)),
-            ("first", Member::Number(first)),
-        ];
-        let usual = (wanted * USUAL_ITEM).clamp(USUAL, PAGE);
-        let room = (usual, if wanted > 1 { PAGE } else { LONGEST });
-        let line = questions::line_within(self.source.0, "copies", &members, room)?;
-        let mut page = Vec::new();
-        let (held, has_more) = Reader::read(&line, self.chunks.dimensionality(), |reader| {
-            reader.items(|reader| push(&mut page, chunk_copies(reader)?))
-        })?;
-        let behind = first.saturating_add(wanted as u64);
-        if held != wanted || has_more != (behind < pages::count_of(self.chunks.shape())) {
+        let what = match &self.region {
+            Some(region) => What::Region(&region.from, region.to.start()),
+            None => What::Chunks(&self.chunks),
+        };
+        let page = page(self.source, self.target, what, (first, wanted))?;
+        let has_more = first.saturating_add(wanted as u64) < self.pages.in_all();
+        if page.items.len() != wanted || page.has_more != has_more {
             return Err(Error::of_answer("another number of chunks than there are"));
         }
-        Ok((page, line.len()))
+        Ok((page.items, page.length))
     }
 }
 
@@ -306,12 +323,63 @@ impl fmt::Debug for Copies<'_> {
     fn fmt(&self, formatter: &mut fmt::Formatter<'_>) -> fmt::Result {
         let mut shown = formatter.debug_struct("Copies");
         shown.field("source", &self.source).field("target", &self.target);
+        if let Some(region) = &self.region {
+            shown.field("subset", &region.from).field("at", &region.to.start());
+        }
         shown.field("chunks", &self.chunks).field("len", &self.len()).finish()
     }
 }
 
-/// An item: `{"from":[..],"to":{"chunk":..,"key":..}}`.
-fn chunk_copies(reader: &mut Reader<'_>) -> Result<ChunkCopies> {
+/// What is copied, as a question tells it.
+#[derive(Clone, Copy)]
+enum What<'a> {
+    /// The whole array, into these chunks of the target.
+    Chunks(&'a ArraySubset),
+    /// A box of elements, to the target's array, where it begins at this index.
+    Region(&'a ArraySubset, &'a [u64]),
+}
+
+/// The library's answer: the items, whether more follow, and how many bytes it has.
+struct Page {
+    items: Vec<ChunkCopies>,
+    has_more: bool,
+    length: usize,
+}
+
+/// So many items at most, from this one on.
+fn page(
+    source: Stored<'_>,
+    target: Stored<'_>,
+    what: What<'_>,
+    (first, wanted): (u64, usize),
+) -> Result<Page> {
+    let usual = (wanted * USUAL_ITEM).clamp(USUAL, PAGE);
+    let room = (usual, if wanted > 1 { PAGE } else { LONGEST });
+    let encoding = ("chunk_key_encoding", Member::Encoding(source.1));
+    let (count, number) =
+        (("items", Member::Number(wanted as u64)), ("first", Member::Number(first)));
+    let line = match what {
+        What::Chunks(chunks) => {
+            let target = ("target", Member::Stored(target.0, target.1));
+            let members = [encoding, target, ("chunks", Member::Box(chunks)), count, number];
+            questions::line_within(source.0, "copies", &members, room)
+        }
+        What::Region(subset, at) => {
+            let target = ("target", Member::Array(target.0, target.1));
+            let (subset, at) = (("subset", Member::Box(subset)), ("at", Member::List(at)));
+            let members = [encoding, target, subset, at, count, number];
+            questions::line_within(source.0, "copies_of_region", &members, room)
+        }
+    }?;
+    let mut items = Vec::new();
+    let (_, has_more) = Reader::read(&line, source.0.dimensionality(), |reader| {
+        reader.items(|reader| push(&mut items, chunk_copies(reader, what)?))
+    })?;
+    Ok(Page { items, has_more, length: line.len() })
+}
+
+/// An item: `{"from":[..],"to":{"chunk":..,"key":..}}`, and of a region `whole` behind these two.
+fn chunk_copies(reader: &mut Reader<'_>, what: What<'_>) -> Result<ChunkCopies> {
     let mut sources = Vec::new();
     reader.expect("{\"from\":")?;
     reader.each(|reader| push(&mut sources, source(reader)?))?;
@@ -319,8 +387,16 @@ fn chunk_copies(reader: &mut Reader<'_>) -> Result<ChunkCopies> {
     let chunk = reader.list()?;
     reader.expect(",\"key\":")?;
     let key = reader.text()?;
-    reader.expect("}}")?;
-    Ok(ChunkCopies { chunk, key, sources })
+    reader.expect("}")?;
+    let whole = match what {
+        What::Chunks(_) => true,
+        What::Region(..) => {
+            reader.expect(",\"whole\":")?;
+            reader.truth()?
+        }
+    };
+    reader.expect("}")?;
+    Ok(ChunkCopies { chunk, key, sources, whole })
 }
 
 /// One of `from`: `{"chunk":..,"in_chunk":..,"in_target":..,"key":..}`.

@@ -1,4 +1,4 @@
-//! How much a rechunking copies.
+//! How much a rechunking or the copy of a region copies.
 
 use std::ops::Range;
 
@@ -9,7 +9,8 @@ use crate::questions::{self, Member};
 use crate::reader::Reader;
 use crate::subset::ArraySubset;
 
-/// How much a rechunking copies, and where a share of it lies: [`Grid::counts`] makes it.
+/// How much a rechunking or the copy of a region copies, and where a share of it lies:
+/// [`Grid::counts`] makes it of the one, and [`Grid::counts_of_region`] of the other.
 ///
 /// Each count is a list of factors, one for each dimension, and their product is the count. So it
 /// is told exactly, however large it is; the methods multiply. Where nothing is copied, some factor
@@ -50,8 +51,8 @@ pub struct Counts {
 }
 
 impl Counts {
-    /// The counts, and the share with this number, counted from 0, of so many.
-    pub(crate) fn new(
+    /// The counts of a rechunking, and the share with this number, counted from 0, of so many.
+    pub(crate) fn of_array(
         source: &Grid,
         target: &Grid,
         chunks: Option<&ArraySubset>,
@@ -66,9 +67,7 @@ impl Counts {
                 return Err(Error::WrongLength { argument: "chunks", given, wanted });
             }
         }
-        // Counts are alike whichever the encodings are.
-        let encoding = Encoding::new("\"default\"")?;
-        let share = [share.0, share.1];
+        let (encoding, share) = (any_encoding()?, [share.0, share.1]);
         let members = [
             ("chunk_key_encoding", Member::Encoding(&encoding)),
             ("target", Member::Stored(target, &encoding)),
@@ -78,6 +77,25 @@ impl Counts {
         ];
         let count = members.len() - usize::from(chunks.is_none());
         questions::ask(source, "counts", &members[..count], counts)
+    }
+
+    /// The counts of the copy of a region, and a share likewise.
+    pub(crate) fn of_region(
+        source: &Grid,
+        target: &Grid,
+        subset: &ArraySubset,
+        at: &[u64],
+        share: (u64, u64),
+    ) -> Result<Counts> {
+        let (encoding, share) = (any_encoding()?, [share.0, share.1]);
+        let members = [
+            ("chunk_key_encoding", Member::Encoding(&encoding)),
+            ("target", Member::Array(target, &encoding)),
+            ("subset", Member::Box(subset)),
+            ("at", Member::List(at)),
+            ("share", Member::List(&share)),
+        ];
+        questions::ask(source, "counts_of_region", &members, counts)
     }
 
     /// The product of the factors of [`copies`](Counts::copies); `None` where they aren't counted,
@@ -180,7 +198,7 @@ impl Counts {
     }
 
     /// The numbers of the share's chunks among those that are written; `None` where one of its two
-    /// ends is past 18446744073709551615. [`Grid::copies`] gives these chunks in this order.
+    /// ends is past 18446744073709551615. [`Copies`](crate::Copies) give these chunks in this order.
     ///
     /// # Example
     ///
@@ -205,6 +223,11 @@ impl Counts {
     pub fn share(&self) -> Option<Range<u64>> {
         Some(self.first?..self.end?)
     }
+}
+
+/// The encoding of both arrays. Counts are alike whichever the encodings are.
+fn any_encoding() -> Result<Encoding> {
+    Encoding::new("\"default\"")
 }
 
 /// The product of factors, where it has no more than 128 bits.

@@ -3,6 +3,7 @@
 use std::fmt;
 
 use crate::calls;
+use crate::changes::ChangedChunks;
 use crate::copies::Copies;
 use crate::counts::Counts;
 use crate::encoding::Encoding;
@@ -22,7 +23,7 @@ use crate::walks::{ChunkIndices, ChunkIndicesAndSubsets, ChunkSubsets};
 /// dimension. All numbers go from 0 to 18446744073709551615, and no sum or product wraps.
 ///
 /// A grid prepares itself once, as numbers: so no call reads JSON, but for each page of a plan, of
-/// a rechunking or of a walk, and for [questions](Grid#questions). It never changes, and any number
+/// copies or of a walk, and for [questions](Grid#questions). It never changes, and any number
 /// of threads may ask it at once. Two are equal that were made of the same shape and the same text.
 ///
 /// # Batches
@@ -781,7 +782,58 @@ impl Grid {
         target: &'a Grid,
         target_encoding: &'a Encoding,
     ) -> Result<Copies<'a>> {
-        Copies::new((self, encoding), (target, target_encoding))
+        Copies::of_array((self, encoding), (target, target_encoding))
+    }
+
+    /// What is copied of a region: `subset`, a box of this array's elements, goes to the array of
+    /// the target, which may have another shape, or be this array. It begins there at the index
+    /// `at`, and isn't clipped. An item for each chunk of the target that takes some of it, in
+    /// row-major order of these chunks; an empty box has none. This grid and the first encoding are
+    /// those by which the array is stored, the other two those of the target's array.
+    /// [`within`](Copies::within) leaves those chunks of the target that lie in a box.
+    ///
+    /// It is read page by page, so it takes little memory, however long it is.
+    ///
+    /// # Errors
+    ///
+    /// [`Error::Refused`] where the target, the box or the index has another number of dimensions
+    /// than the grid, where the box doesn't lie in this array, or where the target's array has no
+    /// room for it at the index; and where the texts nest too deep for [a question](Grid#questions),
+    /// in which those of the target stand one deeper than the others. [`Error::OutOfMemory`].
+    ///
+    /// # Example
+    ///
+    /// ```
+    /// use zarrs_chunks::{ArraySubset, Encoding, Grid};
+    ///
+    /// let three = r#"{"name":"regular","configuration":{"chunk_shape":[3]}}"#;
+    /// let five = r#"{"name":"regular","configuration":{"chunk_shape":[5]}}"#;
+    /// let (grid, target) = (Grid::new(&[7], three)?, Grid::new(&[12], five)?);
+    /// let encodings = [Encoding::new(r#""default""#)?, Encoding::new(r#""v2""#)?];
+    /// // The elements 1 to 6 go to the places 4 to 9.
+    /// let subset = ArraySubset::new_with_ranges(&[1..7])?;
+    /// let mut lines = Vec::new();
+    /// for copies in grid.copies_of_region(&encodings[0], &target, &encodings[1], &subset, &[4])? {
+    ///     let copies = copies?;
+    ///     // Of the first chunk one element is written, and the others have to stay as they are.
+    ///     let how = if copies.whole { "written" } else { "read and written" };
+    ///     for source in &copies.sources {
+    ///         lines.push(format!("{} is {how} from {}", copies.key, source.key));
+    ///     }
+    /// }
+    /// assert_eq!(lines[..2], ["0 is read and written from c/0", "1 is written from c/0"]);
+    /// assert_eq!(lines[2..], ["1 is written from c/1", "1 is written from c/2"]);
+    /// # Ok::<(), zarrs_chunks::Error>(())
+    /// ```
+    pub fn copies_of_region<'a>(
+        &'a self,
+        encoding: &'a Encoding,
+        target: &'a Grid,
+        target_encoding: &'a Encoding,
+        subset: &ArraySubset,
+        at: &[u64],
+    ) -> Result<Copies<'a>> {
+        Copies::of_region((self, encoding), (target, target_encoding), subset, at)
     }
 
     /// How much the rechunking to another grid of the same array copies, of which [`copies`] is the
@@ -824,7 +876,74 @@ impl Grid {
         chunks: Option<&ArraySubset>,
         share: (u64, u64),
     ) -> Result<Counts> {
-        Counts::new(self, target, chunks, share)
+        Counts::of_array(self, target, chunks, share)
+    }
+
+    /// How much is copied of a region, of which [`copies_of_region`] is the walk, and where a share
+    /// of it lies. What is said of time and of shares at [`counts`](Grid::counts) holds here too.
+    /// Where nothing is copied, the products are 0. It is [a question](Grid#questions).
+    ///
+    /// [`copies_of_region`]: Grid::copies_of_region
+    ///
+    /// # Errors
+    ///
+    /// Those of [`copies_of_region`]; and [`Error::Refused`] where the number of the share isn't
+    /// below how many there are.
+    ///
+    /// # Example
+    ///
+    /// ```
+    /// use zarrs_chunks::{ArraySubset, Grid};
+    ///
+    /// let three = r#"{"name":"regular","configuration":{"chunk_shape":[3]}}"#;
+    /// let five = r#"{"name":"regular","configuration":{"chunk_shape":[5]}}"#;
+    /// let (grid, target) = (Grid::new(&[7], three)?, Grid::new(&[12], five)?);
+    /// let subset = ArraySubset::new_with_ranges(&[1..7])?;
+    /// let counts = grid.counts_of_region(&target, &subset, &[4], (1, 2))?;
+    /// assert_eq!((counts.copies(), counts.elements(), counts.lines()), (Some(4), Some(6), Some(2)));
+    /// assert_eq!((counts.source_chunks(), counts.share()), (Some(3), Some(1..2)));
+    /// # Ok::<(), zarrs_chunks::Error>(())
+    /// ```
+    pub fn counts_of_region(
+        &self,
+        target: &Grid,
+        subset: &ArraySubset,
+        at: &[u64],
+        share: (u64, u64),
+    ) -> Result<Counts> {
+        Counts::of_region(self, target, subset, at, share)
+    }
+
+    /// What becomes of the chunks where the array gets another shape, in elements, under the same
+    /// `chunk_grid`: which are kept as they are stored, written again, deleted or new. An element
+    /// that both arrays have stays in its chunk, at its place there. It is
+    /// [a question](Grid#questions).
+    ///
+    /// # Errors
+    ///
+    /// [`Error::Refused`] where there is no grid of the new shape: one with another number of
+    /// dimensions, or one that listed edges don't fit, of which those of a `rectangular` grid add
+    /// up to the size, and those of a `rectilinear` one reach it. The library's words begin with
+    /// ``field `resize`: ``. [`Error::OutOfMemory`].
+    ///
+    /// # Example
+    ///
+    /// ```
+    /// use zarrs_chunks::{Encoding, Grid};
+    ///
+    /// let chunk_grid = r#"{"name":"regular","configuration":{"chunk_shape":[4]}}"#;
+    /// let (grid, encoding) = (Grid::new(&[10], chunk_grid)?, Encoding::new(r#""default""#)?);
+    /// let mut keys = Vec::new();
+    /// for chunks in grid.changed_chunks(&[5])?.delete {
+    ///     for chunk in chunks.ranges().next().unwrap() {
+    ///         keys.push(encoding.encode(&[chunk])?);
+    ///     }
+    /// }
+    /// assert_eq!(keys, ["c/2"]);
+    /// # Ok::<(), zarrs_chunks::Error>(())
+    /// ```
+    pub fn changed_chunks(&self, resize: &[u64]) -> Result<ChangedChunks> {
+        ChangedChunks::new(self, resize)
     }
 
     /// How many runs of equal edges the chunks of a `rectilinear` grid are along a dimension,

@@ -38,8 +38,10 @@
 //! [`Grid`] answers for elements, chunks and boxes of them, and [`Encoding`] for keys: of one list
 //! by methods with the names that zarrs has, of many lists at once in batches, which write into
 //! slices of the caller's. [`Grid::parts`] is the plan of reading a box, [`Grid::copies`] the
-//! rechunking of an array, and the three `iter_` methods walk over all chunks; they read page by
-//! page. [`Grid::counts`] tells how much a rechunking copies, and where a share of it lies.
+//! rechunking of an array, [`Grid::copies_of_region`] the copy of a box to another array, and the
+//! three `iter_` methods walk over all chunks; they read page by page. [`Grid::counts`] and
+//! [`Grid::counts_of_region`] tell how much is copied, and where a share of it lies;
+//! [`Grid::changed_chunks`] which chunks another shape of the array changes.
 //! [`answer`] takes any question of the library as text. Some methods ask so themselves, and
 //! [say so](Grid#questions).
 //!
@@ -77,6 +79,7 @@
 mod answers;
 #[allow(unsafe_code)]
 mod calls;
+mod changes;
 mod copies;
 mod counts;
 mod encoding;
@@ -90,10 +93,12 @@ mod pages;
 mod parts;
 mod questions;
 mod reader;
+mod region;
 mod subset;
 mod walks;
 
 pub use answers::answer;
+pub use changes::ChangedChunks;
 pub use copies::{ChunkCopies, Copies, Source};
 pub use counts::Counts;
 pub use encoding::Encoding;

@@ -29,6 +29,11 @@ impl Pages {
         Pages { in_all, behind: 0, held: 0, given: 0, room: FIRST_ITEMS.min(most), most }
     }
 
+    /// How many items there are in all.
+    pub(crate) fn in_all(&self) -> u64 {
+        self.in_all
+    }
+
     /// How many items are left to give.
     pub(crate) fn left(&self) -> u64 {
         (self.in_all - self.behind).saturating_add((self.held - self.given) as u64)

@@ -17,6 +17,8 @@ pub(crate) enum Member<'a> {
     Encoding(&'a Encoding),
     /// A grid and an encoding, by which an array is stored.
     Stored(&'a Grid, &'a Encoding),
+    /// The same, with the array's shape.
+    Array(&'a Grid, &'a Encoding),
 }
 
 /// What is read of the answer to a question about a grid. A call without an answer is told by the
@@ -76,12 +78,23 @@ fn add_member(text: &mut Text, member: Member<'_>) -> Result<()> {
             text.add(format_args!("]"))
         }
         Member::Encoding(encoding) => text.add(format_args!("{}", encoding.chunk_key_encoding())),
-        Member::Stored(grid, encoding) => text.add(format_args!(
-            "{{\"chunk_grid\":{},\"chunk_key_encoding\":{}}}",
-            grid.chunk_grid(),
-            encoding.chunk_key_encoding()
-        )),
+        Member::Stored(grid, encoding) => {
+            text.add(format_args!("{{"))?;
+            add_stored(text, grid, encoding)
+        }
+        Member::Array(grid, encoding) => {
+            text.add(format_args!("{{\"shape\":"))?;
+            text.add_list(grid.array_shape())?;
+            text.add(format_args!(","))?;
+            add_stored(text, grid, encoding)
+        }
     }
+}
+
+/// The members that say how an array is stored, and the end of the object.
+fn add_stored(text: &mut Text, grid: &Grid, encoding: &Encoding) -> Result<()> {
+    let (chunk_grid, encoding) = (grid.chunk_grid(), encoding.chunk_key_encoding());
+    text.add(format_args!("\"chunk_grid\":{chunk_grid},\"chunk_key_encoding\":{encoding}}}"))
 }
 
 #[cfg(test)]
@@ -105,12 +118,15 @@ mod tests {
             ("box", Member::Box(&subset)),
             ("encoding", Member::Encoding(&encoding)),
             ("stored", Member::Stored(&grid, &encoding)),
+            ("array", Member::Array(&grid, &encoding)),
         ];
         let expected = [
             r#"{"call":"any","shape":[5,7],"chunk_grid":"#,
             REGULAR,
             r#","number":18446744073709551615,"list":[],"box":[[1,3],[1,4]],"encoding": "v2""#,
             "\n,\"stored\":{\"chunk_grid\":",
+            REGULAR,
+            ",\"chunk_key_encoding\": \"v2\"\n},\"array\":{\"shape\":[5,7],\"chunk_grid\":",
             REGULAR,
             ",\"chunk_key_encoding\": \"v2\"\n}}",
         ];
