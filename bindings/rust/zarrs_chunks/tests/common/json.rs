@@ -1,7 +1,7 @@
 //! A tiny reader of JSON, which is to be well-formed, and what writes answers as the vectors have
 //! them.
 
-use zarrs_chunks::{ArraySubset, ChunkCopies, Counts, Part};
+use zarrs_chunks::{ArraySubset, ChangedChunks, ChunkCopies, Counts, Part};
 
 /// A value, as the text that it is.
 #[derive(Debug, Clone, Copy, PartialEq, Eq)]
@@ -103,7 +103,18 @@ pub fn written_part(part: &Part) -> String {
     )
 }
 
+/// An item of `copies`.
 pub fn written_copies(copies: &ChunkCopies) -> String {
+    assert!(copies.whole, "a rechunking fills each chunk");
+    format!("{{{}}}", written_from_and_to(copies))
+}
+
+/// An item of `copies_of_region`.
+pub fn written_region_copies(copies: &ChunkCopies) -> String {
+    format!(r#"{{{},"whole":{}}}"#, written_from_and_to(copies), copies.whole)
+}
+
+fn written_from_and_to(copies: &ChunkCopies) -> String {
     let source = |source: &zarrs_chunks::Source| {
         format!(
             r#"{{"chunk":{},"in_chunk":{},"in_target":{},"key":{}}}"#,
@@ -115,7 +126,7 @@ pub fn written_copies(copies: &ChunkCopies) -> String {
     };
     let sources: Vec<_> = copies.sources.iter().map(source).collect();
     format!(
-        r#"{{"from":[{}],"to":{{"chunk":{},"key":{}}}}}"#,
+        r#""from":[{}],"to":{{"chunk":{},"key":{}}}"#,
         sources.join(","),
         written(&copies.chunk),
         written_text(&copies.key)
@@ -139,6 +150,20 @@ pub fn written_counts(counts: &Counts) -> String {
         number(counts.first),
         number(counts.end),
         written(&counts.source_chunks)
+    )
+}
+
+pub fn written_changes(changes: &ChangedChunks) -> String {
+    let boxes = |boxes: &[ArraySubset]| {
+        let boxes: Vec<_> = boxes.iter().map(written_box).collect();
+        boxes.join(",")
+    };
+    format!(
+        r#"{{"delete":[{}],"keep":[{}],"new":[{}],"rewrite":[{}]}}"#,
+        boxes(&changes.delete),
+        boxes(&changes.keep),
+        boxes(&changes.new),
+        boxes(&changes.rewrite)
     )
 }
 
