@@ -140,6 +140,9 @@ fn questions_of_grids_are_answered_or_not() {
     let refused = Err(Error::Refused { words: "there is no call `runs`".to_owned() });
     assert_eq!(without_each(|| grid.runs(0)), refused);
     assert_eq!(without_each(|| grid.written_metadata()).as_deref(), Ok(REGULAR_WRITTEN));
+    let changed = without_each(|| grid.changed_chunks(&[6, 5])).unwrap();
+    assert_eq!((changed.keep.len(), changed.rewrite.len()), (1, 2));
+    assert_eq!((changed.delete.len(), changed.new.len()), (1, 0));
     let grid = Grid::new(&[45, 20], LISTED).unwrap();
     assert_eq!(without_each(|| grid.runs(0)), Ok(Some(9)));
     let counted = without_each(|| grid.chunk_indices_counted(&[44, 19])).unwrap();
@@ -202,6 +205,12 @@ fn walks_and_plans_are_gone_through_or_not() {
         count(copies)
     };
     assert_eq!(without_each(rest), Ok(8 - 3));
+    let (subset, at) = (ArraySubset::new_with_ranges(&[0..4, 1..36]).unwrap(), [1, 0]);
+    let copies = || grid.copies_of_region(&encoding, &target, &encoding, &subset, &at);
+    assert_eq!(without_each(|| count(copies()?)), Ok(2 * 9));
+    assert_eq!(without_each(|| count(copies()?.within(&chunks)?)), Ok(7));
+    let counts = without_each(|| grid.counts_of_region(&target, &subset, &at, (0, 1))).unwrap();
+    assert_eq!((counts.lines(), counts.elements()), (Some(2 * 9), Some(4 * 35)));
 }
 
 #[test]

@@ -179,9 +179,9 @@ fn regions_at_the_greatest_numbers() {
     let (source, target) = (regular(&[GREATEST], &[GREATEST]), regular(&[GREATEST], &[half]));
     let (grid, written) = (grid_of(&source), grid_of(&target));
     // All but the first element, to the front: the last chunk lacks one, and ends past all numbers.
-    let subset = ArraySubset::new_with_ranges(&[1..GREATEST]).unwrap();
+    let subset = subset_of(&[vec![1], vec![GREATEST - 1], vec![0]]);
     let copies = grid.copies_of_region(&encoding, &written, &encoding, &subset, &[0]).unwrap();
-    let second = ArraySubset::new_with_ranges(&[1..GREATEST]).unwrap();
+    let second = subset_of(&[vec![1], vec![1], vec![]]);
     for found in [all(copies.clone()).remove(1), all(copies.within(&second).unwrap()).remove(0)] {
         assert_eq!((&found.chunk[..], found.whole), (&[1][..], false));
         let boxed = |range| ArraySubset::new_with_ranges(&[range]).unwrap();
@@ -235,9 +235,9 @@ fn refusals_come_at_the_call() {
     let cases = [
         (
             &larger,
-            boxed(&[0..1]),
+            boxed(&[0..1, 0..1, 0..1]),
             &[0, 0][..],
-            "the region: incompatible dimensionality 1, expected 2",
+            "the region: incompatible dimensionality 3, expected 2",
         ),
         (
             &line,
