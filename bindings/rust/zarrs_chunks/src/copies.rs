@@ -76,11 +76,11 @@ pub struct ChunkCopies {
     pub chunk: Vec<u64>,
     /// The key of the chunk.
     pub key: String,
-    /// What is copied from each chunk of the source that has some of the elements, in row-major
+    /// What is copied from each chunk of the source that has some of what goes there, in row-major
     /// order of these chunks.
     pub sources: Vec<Source>,
-    /// Whether these are all elements of its array that the chunk holds, as in a rechunking they
-    /// always are. Where they aren't, the chunk has to be read before it is written.
+    /// Whether that is all that the chunk holds of its array, as it always is in a rechunking.
+    /// Where it isn't, the chunk has to be read before it is written.
     pub whole: bool,
 }
 
@@ -119,7 +119,7 @@ pub struct ChunkCopies {
 pub struct Copies<'a> {
     source: Stored<'a>,
     target: Stored<'a>,
-    /// What is copied into these chunks, where that isn't the whole array.
+    /// The part of the array that is copied into the chunks, where it is the copy of a region.
     region: Option<Region>,
     /// The target's chunks that are written.
     chunks: ArraySubset,
