@@ -198,7 +198,8 @@ impl Counts {
     }
 
     /// The numbers of the share's chunks among those that are written; `None` where one of its two
-    /// ends is past 18446744073709551615. [`Copies`](crate::Copies) give these chunks in this order.
+    /// ends is past 18446744073709551615. [`Copies`](crate::Copies) give these chunks in this
+    /// order.
     ///
     /// # Example
     ///

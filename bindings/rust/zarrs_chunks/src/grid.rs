@@ -798,8 +798,9 @@ impl Grid {
     ///
     /// [`Error::Refused`] where the target, the box or the index has another number of dimensions
     /// than the grid, where the box doesn't lie in this array, or where the target's array has no
-    /// room for it at the index; and where the texts nest too deep for [a question](Grid#questions),
-    /// in which those of the target stand one deeper than the others. [`Error::OutOfMemory`].
+    /// room for it at the index; and where the texts nest too deep for
+    /// [a question](Grid#questions), in which those of the target stand one deeper than the others.
+    /// [`Error::OutOfMemory`].
     ///
     /// # Example
     ///
@@ -900,8 +901,8 @@ impl Grid {
     /// let (grid, target) = (Grid::new(&[7], three)?, Grid::new(&[12], five)?);
     /// let subset = ArraySubset::new_with_ranges(&[1..7])?;
     /// let counts = grid.counts_of_region(&target, &subset, &[4], (1, 2))?;
-    /// assert_eq!((counts.copies(), counts.elements(), counts.lines()), (Some(4), Some(6), Some(2)));
-    /// assert_eq!((counts.source_chunks(), counts.share()), (Some(3), Some(1..2)));
+    /// assert_eq!((counts.copies(), counts.elements()), (Some(4), Some(6)));
+    /// assert_eq!((counts.lines(), counts.share()), (Some(2), Some(1..2)));
     /// # Ok::<(), zarrs_chunks::Error>(())
     /// ```
     pub fn counts_of_region(
