@@ -10,9 +10,10 @@ use crate::subset::ArraySubset;
 /// What becomes of the chunks of an array that gets another shape: [`Grid::changed_chunks`] makes
 /// it.
 ///
-/// Each list has boxes of chunk numbers, in no order that is promised. A chunk is in one box of one
-/// list, where one of the two arrays uses it: holds elements of it there. No box is empty, and a
-/// list has at most one for each dimension, or one where there are no dimensions.
+/// Each list has boxes of chunk numbers, in no order that is promised. A chunk that holds elements
+/// of one of the two arrays, and so is used by it, is in one box of one list; no other chunk is in
+/// any. No box is empty, and a list has at most one for each dimension, or one where there are no
+/// dimensions.
 ///
 /// # Example
 ///
