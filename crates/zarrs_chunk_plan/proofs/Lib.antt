@@ -5,6 +5,7 @@ pub mod BoxCounts
 pub mod BoxCover
 pub mod BoxesOfChanges
 pub mod ByNumber
+pub mod ByteRows
 pub mod ChunksChanged
 pub mod Clipped
 pub mod Copied

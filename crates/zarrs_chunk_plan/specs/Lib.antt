@@ -1,3 +1,4 @@
+pub mod Bytes
 pub mod Clip
 pub mod Counted
 pub mod Counts

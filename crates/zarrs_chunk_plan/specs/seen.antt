@@ -5,6 +5,7 @@ pub mod Copies
 pub mod Outside
 pub mod Parts
 pub mod ReadCounts
+pub mod Rows
 pub mod Shared
 pub mod Sources
 pub mod StoredChunks

@@ -37,6 +37,7 @@
 //! | `copies_error` | why a rechunking can't be planned |
 //! | `region_error` | why a region can't be copied |
 //! | `boxes_from_zero` | the box of all elements of an array, and that of all chunks of a grid |
+//! | `bytes` | `byte_ranges`: which bytes of an uncompressed chunk hold the elements of a box |
 //! | `clipping` | `clip`: a box of elements without those that the array doesn't have |
 //! | `share` | one of several shares of a plan |
 //! | `chunks_between` | the walk over the chunks of a share |
@@ -47,6 +48,7 @@
 #![tactic(auto)]
 
 mod boxes_from_zero;
+mod bytes;
 mod changed;
 mod chunk_changes;
 mod chunk_copies;
@@ -76,6 +78,7 @@ mod used;
 mod walk;
 
 pub use boxes_from_zero::{all_chunks, whole_array};
+pub use bytes::{ByteRanges, byte_ranges};
 pub use changed::{ChangedChunks, changed_chunks};
 pub use chunk_changes::Changes;
 pub use chunk_copies::{ChunkCopies, Copies};

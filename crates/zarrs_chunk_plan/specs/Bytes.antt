@@ -1,0 +1,39 @@
+-- Which bytes of a chunk's object hold the elements of a box, where the object is the chunk's elements one behind another, each in as many bytes.
+-- Sources: Zarr V3 core, `bytes` codec, which writes elements in lexicographical order of their indices; the ranges are this library's own.
+use Rattle.std.specs.Prelude.{◌↔◌, ℕ, zero, suc, ◌+◌, ◌*◌, ◌<◌, ◌≤◌, List, [], ◌∷◌, ◌++◌, map}
+use Rattle.std.specs.List.{AllPairs, Contains}
+use Rattle.zarrs_chunk_base.specs.ArraySubset.{AreWithin}
+use Rattle.zarrs_chunk_plan.specs.Counts.{product}
+
+-- how many elements of a chunk with these edges come before the one at these indices, in row-major order
+abbrev pub place : (edges index : List ℕ) → ℕ
+place (edge ∷ edges) (i ∷ index) = i * product edges + place edges index
+place _ _ = 0
+
+-- the byte is one of those in which the element at these indices is stored, each element in `item` bytes
+abbrev pub IsByteOf : (item : ℕ) (edges index : List ℕ) → ℕ → Type 0
+IsByteOf item edges index byte = (place edges index * item ≤ byte) × (byte < place edges index * item + item)
+
+-- the byte is one of those of some element of a box
+abbrev pub IsByteIn : (item : ℕ) (edges start shape : List ℕ) → ℕ → Type 0
+IsByteIn item edges start shape byte = (index : List ℕ) × AreWithin start shape index × IsByteOf item edges index byte
+
+-- so many times the same numbers, each time greater by a stride
+abbrev pub repeated : (count stride : ℕ) → List ℕ → List ℕ
+repeated zero stride numbers = []
+repeated (suc count) stride numbers = numbers ++ repeated count stride (map (λ n. n + stride) numbers)
+
+-- where ranges begin: the first one, and along each of some dimensions, the outermost first, so many, each by a stride behind the one before
+abbrev pub begins : (first : ℕ) (counts strides : List ℕ) → List ℕ
+begins first (count ∷ counts) (stride ∷ strides) = repeated count stride (begins first counts strides)
+begins first _ _ = first ∷ []
+
+-- a range that begins at one of these numbers, and is so long, has the byte
+abbrev pub HasByte : (length : ℕ) (numbers : List ℕ) → ℕ → Type 0
+HasByte length numbers byte = (n : ℕ) × Contains numbers n × (n ≤ byte) × (byte < n + length)
+
+-- The ranges, each so long, that begin at these numbers: together they have the bytes of the box's elements; and each begins past the end of those
+-- before it, so they come in order, no byte is in two of them, and no two can be joined.
+pub record AreRanges (item : ℕ) (edges start shape : List ℕ) (length : ℕ) (numbers : List ℕ) : Type 0 where
+  pub those : (byte : ℕ) → IsByteIn item edges start shape byte ↔ HasByte length numbers byte
+  pub apart : AllPairs (λ one later. one + length < later) numbers

@@ -1,0 +1,180 @@
+//! Which bytes of a chunk's object hold the elements of a box, where the chunk is stored uncompressed.
+ghost use Rattle.std.specs.Prelude.{◌≡◌, ◌≢◌, ◌⊎◌, ◌*◌, ◌+◌, ◌<◌, ◌≤◌, ◌∷◌, [], ℕ, IfErr, IfOk, List, MatchOption, OnOk, length, true, false, Contains};
+ghost use Rattle.std.specs.Int.NonZero.{non_zero_u64_get};
+ghost use Rattle.zarrs_chunk_base.specs.Greatest.{greatest};
+ghost use Rattle.zarrs_chunk_base.specs.Refusal.{OrMemory, TellsLengths};
+ghost use Rattle.zarrs_chunk_plan.specs.Bytes.{AreRanges, begins};
+ghost use Rattle.zarrs_chunk_plan.specs.Counts.{product};
+ghost use Rattle.zarrs_chunk_plan.specs.Region.{EndWithin};
+ghost use Rattle.zarrs_chunk_plan.specs.seen.Rows.{HasRanges};
+
+use crate::moved::lies_in;
+use std::alloc::{AllocError, Global};
+use std::num::NonZeroU64;
+use zarrs_chunk_base::{ArraySubset, IncompatibleDimensionalityError, Refusal};
+
+/// Ranges of bytes of one length. They are as many as the product of `counts`: along the dimension with the number `d` of these lists, the outermost
+/// first, `counts[d]` of them follow one another, and each begins `strides[d]` bytes behind the one before. Without dimensions there is one.
+#[derive(Debug, Drop)]
+pub struct ByteRanges {
+    /// Where the first range begins, counted from the object's first byte.
+    pub first: u64,
+    /// How many bytes each range has.
+    pub length: u64,
+    /// How many ranges there are along each dimension.
+    pub counts: Vec<u64>,
+    /// How many bytes two that follow one another along it are apart, from beginning to beginning.
+    pub strides: Vec<u64>,
+}
+
+/// Which bytes of a chunk's object hold the elements of a box of the chunk, whose indices are counted from the chunk's first element; `edges` are the
+/// chunk's. The object is the chunk's elements in row-major ("C") order, each in `item_size` bytes, as the codec `bytes` writes them.
+///
+/// The ranges come in order, no byte is in two of them, and no two can be joined. The bytes that they have, one range behind another, are the box's
+/// elements in row-major order. An empty box has no range. `None` is answered where the box doesn't lie in the chunk, or the object would be longer
+/// than 18446744073709551615 bytes.
+///
+/// # Errors
+/// The box has another number of dimensions than the chunk; or out of memory.
+pub fn byte_ranges(
+    alloc: Global,
+    edges: &[u64],
+    elements: &ArraySubset,
+    item_size: NonZeroU64,
+) -> Result<Option<ByteRanges>, Refusal<IncompatibleDimensionalityError>>
+    ensures found { IfOk result (λ found. MatchOption found
+        ((¬ EndWithin elements.now.start elements.now.shape edges.now)
+        ⊎ (greatest < product edges.now * non_zero_u64_get item_size))
+        (λ ranges. AreRanges (non_zero_u64_get item_size) edges.now elements.now.start
+        elements.now.shape ranges.length (begins ranges.first ranges.counts.items ranges.strides.items))) }
+    ensures refused { IfErr result (OrMemory (λ e.
+        (length elements.now.start ≢ length edges.now)
+        × TellsLengths (length elements.now.start) (length edges.now) e)) }
+{
+    if elements.dimensionality() != edges.len() {
+        return Err(Refusal::Refused(IncompatibleDimensionalityError::new(
+            elements.dimensionality(),
+            edges.len(),
+        )));
+    }
+    if !lies_in(elements.start(), elements.shape(), edges) {
+        return Ok(None);
+    }
+    if elements.is_empty() {
+        return Ok(Some(no_ranges(alloc)?));
+    }
+    let found = some_ranges(alloc, edges, elements.start(), elements.shape(), item_size)?;
+    Ok(found)
+}
+
+/// The byte ranges of a box that isn't empty and lies in the chunk; `None` where the chunk's object would be too long.
+///
+/// # Errors
+/// Out of memory.
+fn some_ranges(
+    alloc: Global,
+    edges: &[u64],
+    start: &[u64],
+    shape: &[u64],
+    item_size: NonZeroU64,
+) -> Result<Option<ByteRanges>, AllocError>
+    requires within { EndWithin start.now shape.now edges.now }
+    requires some { ¬ Contains shape.now 0 }
+    ensures { IfOk result (λ found. MatchOption found
+        (greatest < product edges.now * non_zero_u64_get item_size)
+        (λ ranges. AreRanges (non_zero_u64_get item_size) edges.now start.now shape.now
+        ranges.length (begins ranges.first ranges.counts.items ranges.strides.items))) }
+{
+    let mut rows = Rows::of_an_element(alloc, item_size);
+    for dimension in (0..edges.len()).rev() {
+        let is_counted = rows.go_out(start[dimension], shape[dimension], edges[dimension])?;
+        if !is_counted {
+            return Ok(None);
+        }
+    }
+    Ok(Some(ByteRanges {
+        first: rows.first,
+        length: rows.length,
+        counts: rows.counts,
+        strides: rows.strides,
+    }))
+}
+
+/// No ranges.
+///
+/// # Errors
+/// Out of memory.
+fn no_ranges(alloc: Global) -> Result<ByteRanges, AllocError>
+    ensures { IfOk result (λ ranges. begins ranges.first ranges.counts.items ranges.strides.items ≡ []) }
+{
+    let mut counts = Vec::with_capacity(alloc, 1)?;
+    counts.push(0)?;
+    let mut strides = Vec::with_capacity(alloc, 1)?;
+    strides.push(0)?;
+    Ok(ByteRanges {
+        first: 0,
+        length: 0,
+        counts,
+        strides,
+    })
+}
+
+/// The byte ranges of a box along some inner dimensions, in one row of the chunk along the next outer one.
+#[derive(Drop)]
+struct Rows {
+    first: u64,
+    length: u64,
+    counts: Vec<u64>,
+    strides: Vec<u64>,
+    /// How many bytes a row has.
+    row: u64,
+    /// Whether the box has all of the row.
+    whole: bool,
+}
+
+impl Rows {
+    /// The range of one element.
+    fn of_an_element(alloc: Global, item_size: NonZeroU64) -> Rows
+        ensures { HasRanges (non_zero_u64_get item_size) [] [] [] result }
+    {
+        Rows {
+            first: 0,
+            length: item_size.get(),
+            counts: Vec::new(alloc),
+            strides: Vec::new(alloc),
+            row: item_size.get(),
+            whole: true,
+        }
+    }
+
+    /// Goes to the next outer dimension, along which the box has so many rows from one on, and the chunk has so many in all. Tells whether the bytes of
+    /// these are counted by a number.
+    ///
+    /// # Errors
+    /// Out of memory.
+    fn go_out(&mut self, start: u64, count: u64, edge: u64) -> Result<bool, AllocError>
+        requires some { 0 < count }
+        requires within { start + count ≤ edge }
+        ensures outer { IfOk result (λ is_counted. is_counted ≡ true
+            → (item : ℕ) (edges starts shape : List ℕ) → HasRanges item edges starts shape self.old
+            → HasRanges item (edge ∷ edges) (start ∷ starts) (count ∷ shape) self.new) }
+        ensures too_long { IfOk result (λ is_counted. is_counted ≡ false
+            → greatest < edge * self.old.row) }
+    {
+        let Some(outer) = edge.checked_mul(self.row) else {
+            return Ok(false);
+        };
+        // No product and no sum is cut off, since none is past that of all rows.
+        let before = start.saturating_mul(self.row);
+        self.first = self.first.saturating_add(before);
+        if self.whole {
+            self.length = count.saturating_mul(self.row);
+            self.whole = count == edge;
+        } else {
+            self.counts.insert(0, count)?;
+            self.strides.insert(0, self.row)?;
+        }
+        self.row = outer;
+        Ok(true)
+    }
+}
