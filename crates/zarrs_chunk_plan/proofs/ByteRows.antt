@@ -15,6 +15,8 @@ use Rattle.zarrs_chunk_plan.specs.Bytes.{AreRanges, IsByteIn, begins, place, rep
 use Rattle.zarrs_chunk_plan.specs.Counts.{product}
 use Rattle.zarrs_chunk_plan.specs.Region.{EndWithin}
 use Rattle.zarrs_chunk_plan.specs.seen.Rows.{AreInRow}
+use Rattle.zarrs_chunk_plan.specs.declared.bytes.MemoryOrder.{MemoryOrder}
+use Rattle.zarrs_chunk_plan.specs.declared.bytes.MemoryOrder.TheVariants.{C}
 use Rattle.zarrs_chunk_plan.proofs.Joined.{pairs_of_both}
 
 -- ---- numbers that are repeated
@@ -102,12 +104,12 @@ begin_later a first (count ∷ counts) (stride ∷ strides) =
 module _ (item edge start count : ℕ) (edges starts shape : List ℕ) where
   -- the byte lies in one of the box's rows, where the box along the other dimensions has it
   abbrev InRow : ℕ → Type 0
-  InRow byte = (i : ℕ) × (b : ℕ) × (start ≤ i) × (i < start + count) × IsByteIn item edges starts shape b × (byte ≡ b + i * (product edges * item))
+  InRow byte = (i : ℕ) × (b : ℕ) × (start ≤ i) × (i < start + count) × IsByteIn item C edges starts shape b × (byte ≡ b + i * (product edges * item))
 
   bytes_before : (i : ℕ) (index : List ℕ) → place (edge ∷ edges) (i ∷ index) * item ≡ i * (product edges * item) + place edges index * item
   bytes_before i index = add-mul (i * product edges) (place edges index) item ∙ ap (λ n. n + place edges index * item) (mul_assoc i (product edges) item)
 
-  pub in_row : (byte : ℕ) → IsByteIn item (edge ∷ edges) (start ∷ starts) (count ∷ shape) byte ↔ InRow byte
+  pub in_row : (byte : ℕ) → IsByteIn item C (edge ∷ edges) (start ∷ starts) (count ∷ shape) byte ↔ InRow byte
   in_row byte = (
     λ (index, within, (from, below)). first index within from below,
     λ (i, b, from, less, (index, within, (low, high)), is).
@@ -119,7 +121,7 @@ module _ (item edge start count : ℕ) (edges starts shape : List ℕ) where
       first (i ∷ index) within from below =
           let (from_start, to_end, inside) = within in
           let before = bytes_before i index in
-          let inner : IsByteIn item edges starts shape (byte - i * (product edges * item)) = (index, inside, (omega arith, omega arith)) in
+          let inner : IsByteIn item C edges starts shape (byte - i * (product edges * item)) = (index, inside, (omega arith, omega arith)) in
           (i, byte - i * (product edges * item), from_start, to_end, inner, omega arith)
       first [] within from below = absurd within
 
@@ -323,9 +325,9 @@ within_at (_ ∷ _) [] edges d within below = absurd within
 within_at (_ ∷ _) (_ ∷ _) [] d within below = absurd within
 
 -- an empty box has no bytes
-pub no_bytes : (item : ℕ) (edges start shape : List ℕ) (length : ℕ) (numbers : List ℕ) → Contains shape 0 → numbers ≡ []
-    → AreRanges item edges start shape length numbers
-no_bytes item edges start shape long numbers empty none = record {
+pub no_bytes : (item : ℕ) (order : MemoryOrder) (edges start shape : List ℕ) (length : ℕ) (numbers : List ℕ) → Contains shape 0 → numbers ≡ []
+    → AreRanges item order edges start shape length numbers
+no_bytes item order edges start shape long numbers empty none = record {
   those = λ byte. (
     λ (index, within, _). absurd (nothing_within start shape index empty within),
     λ (n, among, _, _). absurd (no_number n (subst (λ xs. Contains xs n) none among)),

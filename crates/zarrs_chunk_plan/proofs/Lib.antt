@@ -38,6 +38,7 @@ pub mod Shares
 pub mod SomePlan
 pub mod SomeRegions
 pub mod SomeResizes
+pub mod StoredOrder
 pub mod Taken
 pub mod Walked
 pub mod Wholes

@@ -1,9 +1,17 @@
 -- Which bytes of a chunk's object hold the elements of a box, where the object is the chunk's elements one behind another, each in as many bytes.
--- Sources: Zarr V3 core, `bytes` codec, which writes elements in lexicographical order of their indices; the ranges are this library's own.
-use Rattle.std.specs.Prelude.{◌↔◌, ℕ, zero, suc, ◌+◌, ◌*◌, ◌<◌, ◌≤◌, List, [], ◌∷◌, ◌++◌, map}
+-- Sources: Zarr V3 core, `bytes` codec, which writes elements in lexicographical order of their indices, and `transpose` codec; Zarr V2, `order`; the
+-- ranges are this library's own.
+use Rattle.std.specs.Prelude.{◌↔◌, ℕ, zero, suc, ◌+◌, ◌*◌, ◌<◌, ◌≤◌, List, [], ◌∷◌, ◌++◌, map, reverse}
 use Rattle.std.specs.List.{AllPairs, Contains}
 use Rattle.zarrs_chunk_base.specs.ArraySubset.{AreWithin}
 use Rattle.zarrs_chunk_plan.specs.Counts.{product}
+use Rattle.zarrs_chunk_plan.specs.declared.bytes.MemoryOrder.{MemoryOrder}
+use Rattle.zarrs_chunk_plan.specs.declared.bytes.MemoryOrder.TheVariants.{C, F}
+
+-- a list of a number for each dimension, the outermost first: row-major ("C"), or column-major ("F"), where the first dimension is the innermost
+abbrev pub in_order : MemoryOrder → List ℕ → List ℕ
+in_order C numbers = numbers
+in_order F numbers = reverse numbers
 
 -- how many elements of a chunk with these edges come before the one at these indices, in row-major order
 abbrev pub place : (edges index : List ℕ) → ℕ
@@ -14,9 +22,10 @@ place _ _ = 0
 abbrev pub IsByteOf : (item : ℕ) (edges index : List ℕ) → ℕ → Type 0
 IsByteOf item edges index byte = (place edges index * item ≤ byte) × (byte < place edges index * item + item)
 
--- the byte is one of those of some element of a box
-abbrev pub IsByteIn : (item : ℕ) (edges start shape : List ℕ) → ℕ → Type 0
-IsByteIn item edges start shape byte = (index : List ℕ) × AreWithin start shape index × IsByteOf item edges index byte
+-- the byte is one of those of some element of a box, in a chunk that is stored in this order
+abbrev pub IsByteIn : (item : ℕ) → MemoryOrder → (edges start shape : List ℕ) → ℕ → Type 0
+IsByteIn item order edges start shape byte =
+    (index : List ℕ) × AreWithin start shape index × IsByteOf item (in_order order edges) (in_order order index) byte
 
 -- so many times the same numbers, each time greater by a stride
 abbrev pub repeated : (count stride : ℕ) → List ℕ → List ℕ
@@ -34,6 +43,6 @@ HasByte length numbers byte = (n : ℕ) × Contains numbers n × (n ≤ byte) ×
 
 -- The ranges, each so long, that begin at these numbers: together they have the bytes of the box's elements; and each begins past the end of those
 -- before it, so they come in order, no byte is in two of them, and no two can be joined.
-pub record AreRanges (item : ℕ) (edges start shape : List ℕ) (length : ℕ) (numbers : List ℕ) : Type 0 where
-  pub those : (byte : ℕ) → IsByteIn item edges start shape byte ↔ HasByte length numbers byte
+pub record AreRanges (item : ℕ) (order : MemoryOrder) (edges start shape : List ℕ) (length : ℕ) (numbers : List ℕ) : Type 0 where
+  pub those : (byte : ℕ) → IsByteIn item order edges start shape byte ↔ HasByte length numbers byte
   pub apart : AllPairs (λ one later. one + length < later) numbers

@@ -3,9 +3,10 @@ ghost use Rattle.std.specs.Prelude.{◌≡◌, ◌≢◌, ◌⊎◌, ◌*◌, �
 ghost use Rattle.std.specs.Int.NonZero.{non_zero_u64_get};
 ghost use Rattle.zarrs_chunk_base.specs.Greatest.{greatest};
 ghost use Rattle.zarrs_chunk_base.specs.Refusal.{OrMemory, TellsLengths};
-ghost use Rattle.zarrs_chunk_plan.specs.Bytes.{AreRanges, begins};
+ghost use Rattle.zarrs_chunk_plan.specs.Bytes.{AreRanges, begins, in_order};
 ghost use Rattle.zarrs_chunk_plan.specs.Counts.{product};
 ghost use Rattle.zarrs_chunk_plan.specs.Region.{EndWithin};
+ghost use Rattle.zarrs_chunk_plan.specs.declared.bytes.MemoryOrder.TheVariants.{C};
 ghost use Rattle.zarrs_chunk_plan.specs.seen.Rows.{HasRanges};
 
 use crate::moved::lies_in;
@@ -27,11 +28,21 @@ pub struct ByteRanges {
     pub strides: Vec<u64>,
 }
 
+/// In which order the elements of a chunk are stored.
+#[derive(Clone, Copy, Debug, PartialEq, Eq)]
+pub enum MemoryOrder {
+    /// Row-major: along the last dimension one element follows another. So the codec `bytes` writes a chunk.
+    C,
+    /// Column-major: along the first dimension one element follows another. So does `bytes` behind the codec `transpose` with all dimensions reversed,
+    /// and Zarr V2 where `order` is `F`.
+    F,
+}
+
 /// Which bytes of a chunk's object hold the elements of a box of the chunk, whose indices are counted from the chunk's first element; `edges` are the
-/// chunk's. The object is the chunk's elements in row-major ("C") order, each in `item_size` bytes, as the codec `bytes` writes them.
+/// chunk's. The object is the chunk's elements in this order, each in `item_size` bytes, and nothing else: it isn't compressed.
 ///
 /// The ranges come in order, no byte is in two of them, and no two can be joined. The bytes that they have, one range behind another, are the box's
-/// elements in row-major order. An empty box has no range. `None` is answered where the box doesn't lie in the chunk, or the object would be longer
+/// elements in the same order as the chunk's. An empty box has no range. `None` is answered where the box doesn't lie in the chunk, or the object would be longer
 /// than 18446744073709551615 bytes.
 ///
 /// # Errors
@@ -41,12 +52,14 @@ pub fn byte_ranges(
     edges: &[u64],
     elements: &ArraySubset,
     item_size: NonZeroU64,
+    order: MemoryOrder,
 ) -> Result<Option<ByteRanges>, Refusal<IncompatibleDimensionalityError>>
     ensures found { IfOk result (λ found. MatchOption found
         ((¬ EndWithin elements.now.start elements.now.shape edges.now)
         ⊎ (greatest < product edges.now * non_zero_u64_get item_size))
-        (λ ranges. AreRanges (non_zero_u64_get item_size) edges.now elements.now.start
-        elements.now.shape ranges.length (begins ranges.first ranges.counts.items ranges.strides.items))) }
+        (λ ranges. AreRanges (non_zero_u64_get item_size) order edges.now elements.now.start
+        elements.now.shape ranges.length
+        (begins ranges.first ranges.counts.items ranges.strides.items))) }
     ensures refused { IfErr result (OrMemory (λ e.
         (length elements.now.start ≢ length edges.now)
         × TellsLengths (length elements.now.start) (length edges.now) e)) }
@@ -63,11 +76,29 @@ pub fn byte_ranges(
     if elements.is_empty() {
         return Ok(Some(no_ranges(alloc)?));
     }
-    let found = some_ranges(alloc, edges, elements.start(), elements.shape(), item_size)?;
+    let edges = in_order(alloc, edges, order)?;
+    let start = in_order(alloc, elements.start(), order)?;
+    let shape = in_order(alloc, elements.shape(), order)?;
+    let found = some_ranges(alloc, &edges, &start, &shape, item_size)?;
     Ok(found)
 }
 
-/// The byte ranges of a box that isn't empty and lies in the chunk; `None` where the chunk's object would be too long.
+/// A list of a number for each dimension, the outermost in this order first.
+///
+/// # Errors
+/// Out of memory.
+fn in_order(alloc: Global, numbers: &[u64], order: MemoryOrder) -> Result<Vec<u64>, AllocError>
+    ensures { IfOk result (λ v. v.items ≡ in_order order numbers.now) }
+{
+    let mut numbers = Vec::from_slice(alloc, numbers)?;
+    match order {
+        MemoryOrder::C => {}
+        MemoryOrder::F => numbers.reverse(),
+    }
+    Ok(numbers)
+}
+
+/// The byte ranges of a box that isn't empty and lies in a row-major chunk; `None` where the chunk's object would be too long.
 ///
 /// # Errors
 /// Out of memory.
@@ -82,7 +113,7 @@ fn some_ranges(
     requires some { ¬ Contains shape.now 0 }
     ensures { IfOk result (λ found. MatchOption found
         (greatest < product edges.now * non_zero_u64_get item_size)
-        (λ ranges. AreRanges (non_zero_u64_get item_size) edges.now start.now shape.now
+        (λ ranges. AreRanges (non_zero_u64_get item_size) C edges.now start.now shape.now
         ranges.length (begins ranges.first ranges.counts.items ranges.strides.items))) }
 {
     let mut rows = Rows::of_an_element(alloc, item_size);

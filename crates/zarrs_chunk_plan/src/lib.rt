@@ -78,7 +78,7 @@ mod used;
 mod walk;
 
 pub use boxes_from_zero::{all_chunks, whole_array};
-pub use bytes::{ByteRanges, byte_ranges};
+pub use bytes::{ByteRanges, MemoryOrder, byte_ranges};
 pub use changed::{ChangedChunks, changed_chunks};
 pub use chunk_changes::Changes;
 pub use chunk_copies::{ChunkCopies, Copies};

@@ -74,7 +74,12 @@ fn the_chunks_of_a_resize_lie_in_boxes(rt: HostRuntime) -> Result<(), Fail> {
 #[test]
 fn boxes_of_a_resize_are_few_and_not_empty(rt: HostRuntime) -> Result<(), Fail> {
     let size = 1u64 << 40;
-    check_boxes(&rt, (&[size, size], &[size, size + 1]), &[1, 1], A_LARGE_ONE_GROWS)?;
+    check_boxes(
+        &rt,
+        (&[size, size], &[size, size + 1]),
+        &[1, 1],
+        A_LARGE_ONE_GROWS,
+    )?;
     check_boxes(&rt, (&[0], &[0]), &[3], "")?;
     check_boxes(&rt, (&[], &[]), &[], "keep [] []\n")
 }

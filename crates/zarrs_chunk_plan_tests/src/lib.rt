@@ -11,10 +11,13 @@
 //! | `stored_chunks` | which chunks of a plan a store has, by the keys that it lists |
 //! | `resizes` | what becomes of the chunks of an array that gets another shape, what refuses it, and the laws |
 //! | `changed_boxes` | the same in boxes of chunks |
+//! | `bytes` | which bytes of an uncompressed chunk hold the elements of a box |
 #![tactic(auto)]
 
 #[cfg(test)]
 mod arrays;
+#[cfg(test)]
+mod bytes;
 #[cfg(test)]
 mod changed_boxes;
 #[cfg(test)]

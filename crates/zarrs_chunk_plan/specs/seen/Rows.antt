@@ -3,14 +3,15 @@ use Rattle.std.specs.Prelude.{◌≡◌, ℕ, ◌+◌, ◌*◌, ◌<◌, ◌≤�
 use Rattle.std.specs.List.{Contains}
 use Rattle.zarrs_chunk_plan.specs.Bytes.{AreRanges, begins}
 use Rattle.zarrs_chunk_plan.specs.Counts.{product}
+use Rattle.zarrs_chunk_plan.specs.declared.bytes.MemoryOrder.TheVariants.{C}
 use Rattle.zarrs_chunk_plan.specs.declared.bytes.Rows.{Rows}
 
--- These are the ranges of a box along some inner dimensions: they lie from the first one on up to an end, in a row. Where the box has all of the row,
+-- These are the ranges of a box along some inner dimensions, in row-major order: they lie from the first one on up to an end, in a row. Where the box has all of the row,
 -- the one range is the row; where it hasn't, they reach less far than a row is long.
 pub record AreInRow (item : ℕ) (edges start shape : List ℕ) (first length : ℕ) (counts strides : List ℕ) (row : ℕ) (whole : Bool) : Type 0 where
   pub row_is : row ≡ product edges * item
   pub some : 0 < row
-  pub are_ranges : AreRanges item edges start shape length (begins first counts strides)
+  pub are_ranges : AreRanges item C edges start shape length (begins first counts strides)
   pub end : ℕ
   pub lie : (n : ℕ) → Contains (begins first counts strides) n → (first ≤ n) × (n + length ≤ end)
   pub from : first ≤ end

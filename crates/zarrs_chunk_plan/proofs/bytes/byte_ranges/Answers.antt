@@ -1,8 +1,38 @@
+use Rattle.std.proofs.Common.{◌∙◌, Contains, sym}
+use Rattle.std.proofs.lemmas.Bool.{true≢false}
 use Rattle.std.specs.Int.NonZero.{non_zero_u64_get}
 use Rattle.zarrs_chunk_plan.proofs.ByteRows.{no_bytes}
+use Rattle.zarrs_chunk_plan.proofs.StoredOrder.{ends_in_order, found_in_order, some_in_order}
 use Rattle.zarrs_chunk_plan.proofs.bytes.byte_ranges.Goals as goal
 
 pub returns-then-is_empty-clause-found : goal.returns-then-is_empty-clause-found
 returns-then-is_empty-clause-found c =
-    no_bytes (non_zero_u64_get c.args.item_size) c.args.edges.now c.args.elements.now.start c.args.elements.now.shape _ _
+    no_bytes (non_zero_u64_get c.args.item_size) c.args.order c.args.edges.now c.args.elements.now.start c.args.elements.now.shape _ _
     (c.is_empty.ensures.0 c.if-is_empty.true) c.in_ok-no_ranges.ensures
+
+pub some_ranges-requires-clause-within : goal.some_ranges-requires-clause-within
+some_ranges-requires-clause-within c =
+    rw (c.deref.ensures.value, c.in_ok-edges.ensures, c.deref-2.ensures.value, c.in_ok-start.ensures, c.deref-3.ensures.value, c.in_ok-shape.ensures)
+    (rw (c.start-2.ensures.value, c.shape-2.ensures.value)
+    (ends_in_order c.args.order c.args.elements.now.start c.args.elements.now.shape c.args.edges.now
+    (rw (c.start.ensures.value, c.shape.ensures.value) at (c.lies_in.ensures.lies.0 c.if-not-lies_in.false))))
+
+pub some_ranges-requires-clause-some : goal.some_ranges-requires-clause-some
+some_ranges-requires-clause-some c =
+    let some : ¬ Contains c.args.elements.now.shape 0 = λ has. true≢false (sym (c.is_empty.ensures.1 has) ∙ c.if-is_empty.false) in
+    rw (c.deref-3.ensures.value, c.in_ok-shape.ensures, c.shape-2.ensures.value) (some_in_order c.args.order c.args.elements.now.shape some)
+
+pub returns-clause-found : goal.returns-clause-found
+returns-clause-found c =
+    found_in_order (non_zero_u64_get c.args.item_size) c.args.order c.args.edges.now c.args.elements.now.start c.args.elements.now.shape
+    c.in_ok-found.found
+    (rw (
+      c.deref.ensures.value,
+      c.in_ok-edges.ensures,
+      c.deref-2.ensures.value,
+      c.in_ok-start.ensures,
+      c.start-2.ensures.value,
+      c.deref-3.ensures.value,
+      c.in_ok-shape.ensures,
+      c.shape-2.ensures.value,
+    ) at c.in_ok-found.ensures)

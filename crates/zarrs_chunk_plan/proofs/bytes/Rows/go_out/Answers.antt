@@ -21,7 +21,7 @@ returns-clause-outer c = λ _ item edges starts shape was.
     let before : c.saturating_mul-before.result ≡ start * row = omega arith in
     let first : c.saturating_add-self.result ≡ c.args.self.now.first + start * row = omega arith in
     elim c.if-self.branch [
-      then-self w ↦
+      | then-self w ↦
           let long : w.saturating_mul-self.result ≡ count * row = omega arith in
           rw (w.self-is, outer_is)
           (rw (first, long)
