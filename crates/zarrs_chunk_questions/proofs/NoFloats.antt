@@ -21,15 +21,17 @@ use Rattle.zarrs_chunk_plan.proofs.Plans.{empty_or_some}
 use Rattle.zarrs_chunk_plan.specs.Rechunking.{Group}
 use Rattle.zarrs_chunk_plan.specs.Region.{shifted}
 use Rattle.zarrs_chunk_plan.specs.Shares.{before_share}
+use Rattle.zarrs_chunk_plan.specs.declared.bytes.ByteRanges.{ByteRanges}
 use Rattle.zarrs_chunk_plan.specs.declared.counts.Counts.{Counts}
 use Rattle.zarrs_chunk_plan.specs.declared.numbered_parts.SomeParts.{SomeParts}
 use Rattle.zarrs_chunk_questions.specs.Answers.{IsAnswer, IsArrayAnswer, IsBoxAnswer, IsGridAnswer, IsNumbersAnswer, edges_tree, items_tree}
 use Rattle.zarrs_chunk_questions.specs.Answers.{located_tree}
+use Rattle.zarrs_chunk_questions.specs.Bytes.{ranges_tree}
 use Rattle.zarrs_chunk_questions.specs.Changed.{boxes_tree}
 use Rattle.zarrs_chunk_questions.specs.Counts.{count_tree, counts_tree, line_number_tree}
 use Rattle.zarrs_chunk_questions.specs.Pages.{chunks_from, first_of, group_tree, is_more, item_tree, item_trees, count_of, page_tree, part_tree}
 use Rattle.zarrs_chunk_questions.specs.Pages.{parts_tree, source_tree, walk_page}
-use Rattle.zarrs_chunk_questions.specs.Question.{Asked, Question, ShareAsked, changed_chunks, copies, copies_of_region, counted, counts, counts_of_region, decode}
+use Rattle.zarrs_chunk_questions.specs.Question.{Asked, Question, ShareAsked, byte_ranges, changed_chunks, copies, copies_of_region, counted, counts, counts_of_region, decode}
 use Rattle.zarrs_chunk_questions.specs.Question.{encode, located, of_array, of_box, of_grid, of_numbers, of_walk, parts, runs}
 use Rattle.zarrs_chunk_questions.specs.Regions.{moved_group_tree, moved_source_tree}
 use Rattle.zarrs_chunk_questions.specs.Trees.{box_of, box_tree, numbers_tree, or_null}
@@ -198,8 +200,12 @@ of_an_array shape own (changed_chunks resize) kind grid t is =
     ap has_float is.same
     ∙ rw (of_boxes changed.delete.items, of_boxes changed.keep.items, of_boxes changed.new.items, of_boxes changed.rewrite.items) refl
 
+of_ranges : (ranges : ByteRanges) → HasNone (ranges_tree ranges)
+of_ranges ranges = rw (no_float_in_numbers ranges.counts.items, no_float_in_numbers ranges.strides.items) refl
+
 pub no_float : (question : Question) (t : Data) → IsAnswer question t → has_float t ≡ false
 no_float (of_array shape tree asked) t (kind, grid, made, is) = of_an_array shape tree asked kind grid t is
 no_float (encode tree chunk) t (encoding, made, (key, is_key, is)) = ap has_float is
 no_float (decode tree key dimensionality) t (encoding, made, no_slash, (answer, is_decoded, is)) =
     of_says items_tree (λ v. no_float_in_numbers v.items) answer t is
+no_float (byte_ranges asked) t (is_box, (found, are, is)) = of_says ranges_tree of_ranges found t is

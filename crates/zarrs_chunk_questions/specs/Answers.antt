@@ -24,10 +24,11 @@ use Rattle.zarrs_chunks.specs.GridKinds.{GridKind, IsGridIn, grid_kind, rectilin
 use Rattle.zarrs_chunks.specs.Located.{IsLocated}
 use Rattle.zarrs_chunks.specs.Subsets.{AnswersChunksSubset, AnswersCover, AnswersEmptyCover, AnswersSubset, HasNoHome, LookedBox}
 use Rattle.zarrs_chunks.specs.declared.location.Located.{Located}
+use Rattle.zarrs_chunk_questions.specs.Bytes.{IsBytesAnswer}
 use Rattle.zarrs_chunk_questions.specs.Changed.{IsChangedAnswer}
 use Rattle.zarrs_chunk_questions.specs.Counts.{IsSomeCountsAnswer}
 use Rattle.zarrs_chunk_questions.specs.Pages.{IsSomeCopiesAnswer, IsSomePartsAnswer, walk_tree}
-use Rattle.zarrs_chunk_questions.specs.Question.{Asked, Question, changed_chunks, copies, copies_of_region, counted, counts, counts_of_region, decode, encode}
+use Rattle.zarrs_chunk_questions.specs.Question.{Asked, Question, byte_ranges, changed_chunks, copies, copies_of_region, counted, counts, counts_of_region, decode, encode}
 use Rattle.zarrs_chunk_questions.specs.Question.{located, of_array, of_box, of_grid, of_numbers, of_walk, parts, runs}
 use Rattle.zarrs_chunk_questions.specs.Regions.{IsSomeRegionCopiesAnswer, IsSomeRegionCountsAnswer}
 use Rattle.zarrs_chunk_questions.specs.Trees.{Says, box_of, box_tree, numbers_tree, or_null}
@@ -151,3 +152,4 @@ IsAnswer (of_array shape tree asked) t =
 IsAnswer (encode tree chunk) t = (encoding : Encoding) × IsEncodingIn tree encoding × IsKeyAnswer encoding chunk t
 IsAnswer (decode tree key dimensionality) t =
     (encoding : Encoding) × IsEncodingIn tree encoding × (¬ EndsInSlash key) × IsDecodedAnswer encoding key dimensionality t
+IsAnswer (byte_ranges asked) t = IsBytesAnswer asked t

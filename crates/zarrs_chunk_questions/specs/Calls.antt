@@ -1,6 +1,6 @@
 -- The calls that a question may name, one row a call.
 -- Source: the names are those of zarrs, but for `locate`, `parts`, `copies`, `counts`, `copies_of_region`, `counts_of_region`,
--- `changed_chunks`, `runs` and `chunk_indices_counted`, which are this library's own.
+-- `changed_chunks`, `byte_ranges`, `runs` and `chunk_indices_counted`, which are this library's own.
 use Rattle.std.specs.Prelude.{◌≡◌, ◌≢◌, ℕ, List, Option, Some, None, codes}
 use Rattle.zarrs_chunk_questions.specs.declared.call.Call.{Call}
 use Rattle.zarrs_chunk_questions.specs.declared.call.Call.TheVariants as call
@@ -66,6 +66,7 @@ abbrev pub name_of : Call → List ℕ
 name_of (call.OfArray c) = array_call c
 name_of call.Encode = codes "encode"
 name_of call.Decode = codes "decode"
+name_of call.ByteRanges = codes "byte_ranges"
 
 -- the call that a text names, if it names one
 abbrev pub IsNamed : Option (List ℕ) → Option Call → Type 0

@@ -1,9 +1,11 @@
 pub mod AnswerLine
 pub mod Answers
+pub mod Bytes
 pub mod Calls
 pub mod Changed
 pub mod Counts
 pub mod Line
+pub mod Order
 pub mod Pages
 pub mod Question
 pub mod Reading

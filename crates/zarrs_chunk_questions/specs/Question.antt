@@ -1,11 +1,14 @@
 -- What a line's tree asks.
 -- Source: Zarr V3 core, array metadata, for `shape`, `chunk_grid` and `chunk_key_encoding`; the other members are this library's own.
-use Rattle.std.specs.Prelude.{◌≡◌, ℕ, List, codes, cond, nat_lt, Option, Some, None, Ok, Err, option_and_then}
+use Rattle.std.specs.Prelude.{◌≡◌, ℕ, List, codes, cond, nat_lt, Option, Some, None, Ok, Err, option_and_then, unwrap_or}
 use Rattle.std.specs.Option.{ok_or}
 use Rattle.serde_json.specs.Data.{Data}
 use Rattle.serde_json.specs.Find.{as_object, as_str, get}
-use Rattle.zarrs_chunk_base.specs.Json.{list_of, pair_of, size_of}
+use Rattle.zarrs_chunk_base.specs.Json.{edge_of, list_of, pair_of, size_of}
+use Rattle.zarrs_chunk_plan.specs.declared.bytes.MemoryOrder.{MemoryOrder}
+use Rattle.zarrs_chunk_plan.specs.declared.bytes.MemoryOrder.TheVariants.{C}
 use Rattle.zarrs_chunk_questions.specs.Calls.{IsNamed}
+use Rattle.zarrs_chunk_questions.specs.Order.{order_in}
 use Rattle.zarrs_chunk_questions.specs.Reading.{Reading, in_form, missing, no_call, not_object, optional_in, required, required_in, then}
 use Rattle.zarrs_chunk_questions.specs.Reading.{wrong_value}
 use Rattle.zarrs_chunk_questions.specs.declared.call.Call.{Call}
@@ -45,6 +48,13 @@ pub record RegionAsked : Type 0 where
 abbrev pub ShareAsked : Type 0
 ShareAsked = ℕ × ℕ
 
+-- what is asked of a chunk's bytes: the chunk's edges, a box of its elements, how many bytes an element has, and in which order they are stored
+pub record BytesAsked : Type 0 where
+  pub edges : List ℕ
+  pub elements : Lists
+  pub item : ℕ
+  pub order : MemoryOrder
+
 -- what an array's grid is asked, by some calls with the tree of an encoding's metadata
 pub data Asked : Type 0 where
   of_grid : OfGrid → Asked
@@ -61,11 +71,12 @@ pub data Asked : Type 0 where
   counts_of_region : (encoding : Data) (target : TargetArray) (share : ShareAsked) (region : RegionAsked) → Asked
   changed_chunks : (resize : List ℕ) → Asked
 
--- what is asked: of the grid of an array with this shape, of which the tree is the metadata; the key of a chunk; or the chunk of a key
+-- what is asked: of the grid of an array with this shape, of which the tree is the metadata; the key of a chunk; the chunk of a key; or of a chunk's bytes
 pub data Question : Type 0 where
   of_array : (shape : List ℕ) (chunk_grid : Data) (asked : Asked) → Question
   encode : (encoding : Data) (chunk : List ℕ) → Question
   decode : (encoding : Data) (key : List ℕ) (dimensionality : ℕ) → Question
+  byte_ranges : (asked : BytesAsked) → Question
 
 -- ---- how it is read, and the first fault of a tree that asks nothing
 
@@ -197,10 +208,26 @@ decode_in d =
     then (required_in size_of (codes "dimensionality") d) (λ dimensionality.
     Ok (decode encoding key dimensionality))))
 
+-- the order in which a chunk is stored: `C`, where none is given
+abbrev pub order_or_c : Data → Reading MemoryOrder
+order_or_c d = then (optional_in order_in (codes "memory_order") d) (λ given. Ok (unwrap_or given C))
+
+abbrev pub bytes_in : Data → Reading BytesAsked
+bytes_in d =
+    then (required_in (list_of size_of) (codes "chunk_shape") d) (λ edges.
+    then (lists_in (codes "of") d) (λ elements.
+    then (required_in edge_of (codes "item_size") d) (λ item.
+    then (order_or_c d) (λ order.
+    Ok (record { edges = edges; elements = elements; item = item; order = order })))))
+
+abbrev pub byte_ranges_in : Data → Reading Question
+byte_ranges_in d = then (bytes_in d) (λ asked. Ok (byte_ranges asked))
+
 -- by the call that the object names
 abbrev pub named_in : Option Call → Data → Reading Question
 named_in (Some call.Encode) d = encode_in d
 named_in (Some call.Decode) d = decode_in d
+named_in (Some call.ByteRanges) d = byte_ranges_in d
 named_in (Some (call.OfArray c)) d = of_array_in (Some c) d
 named_in None d = of_array_in None d
 

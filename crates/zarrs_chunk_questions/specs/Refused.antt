@@ -20,7 +20,8 @@ use Rattle.zarrs_chunk_plan.specs.Region.{IsRegionFault}
 use Rattle.zarrs_chunk_plan.specs.seen.Copies.{IsCopiesFault}
 use Rattle.zarrs_chunk_questions.specs.Answers.{AnswersCoverOf}
 use Rattle.zarrs_chunk_questions.specs.Pages.{AnswersPartsOf, target_chunks}
-use Rattle.zarrs_chunk_questions.specs.Question.{Asked, Lists, Question, RegionAsked, Target, TargetArray, changed_chunks, copies, copies_of_region, counted}
+use Rattle.zarrs_chunk_questions.specs.Question.{Asked, BytesAsked, Lists, Question, RegionAsked, Target, TargetArray, byte_ranges, changed_chunks, copies}
+use Rattle.zarrs_chunk_questions.specs.Question.{copies_of_region, counted}
 use Rattle.zarrs_chunk_questions.specs.Question.{counts, counts_of_region, decode, encode, located, of_array, of_box, of_grid, of_numbers}
 use Rattle.zarrs_chunk_questions.specs.Question.{of_walk, parts, runs}
 use Rattle.zarrs_chunk_questions.specs.Regions.{begins_at}
@@ -181,6 +182,12 @@ IsArrayRefusal shape own (copies_of_region tree target items region) kind grid f
 IsArrayRefusal shape own (counts_of_region tree target share region) kind grid fault = IsSomeRegionRefusal tree target region grid fault
 IsArrayRefusal shape own (changed_chunks resize) kind grid fault = IsChangedRefusal own resize fault
 
+-- why nothing is told of a chunk's bytes: the start and the shape make no box; or the box has another number of dimensions than the chunk
+abbrev pub IsBytesRefusal : BytesAsked → LineFault → Type 0
+IsBytesRefusal asked fault =
+    IsNoBox (box_of asked.elements) fault
+    ⊎ (IsBox (box_of asked.elements) × IsLengthFault (length asked.elements.0) (length asked.edges) fault)
+
 -- Why a question has no answer.
 abbrev pub IsRefusal : Question → LineFault → Type 0
 IsRefusal (of_array shape tree asked) fault =
@@ -188,3 +195,4 @@ IsRefusal (of_array shape tree asked) fault =
 IsRefusal (encode tree chunk) fault = IsNoEncoding tree fault
 IsRefusal (decode tree key dimensionality) fault =
     IsNoEncoding tree fault ⊎ ((encoding : Encoding) × IsEncodingIn tree encoding × IsNoKey key fault)
+IsRefusal (byte_ranges asked) fault = IsBytesRefusal asked fault

@@ -8,6 +8,7 @@ ghost use Rattle.zarrs_chunk_questions.specs.Refused.{IsRefusal};
 ghost use Rattle.zarrs_chunk_questions.specs.seen.Read.{question_of};
 
 use crate::array_question::answer_asked;
+use crate::bytes::answer_bytes;
 use crate::extensions::{make_encoding, make_grid};
 use crate::key_answers::{answer_chunk, answer_key, key_of};
 use crate::line_fault::LineFault;
@@ -19,7 +20,7 @@ use zarrs_chunk_base::Refusal;
 /// The tree of the answer to a question; `None` where the items of a walk are longer than there is room for.
 ///
 /// # Errors
-/// The first that applies: the grid can't be made; a fault of [`answer_asked`]. Or one of [`key_of_chunk`] or [`chunk_of_key`]. Or out of memory.
+/// The first that applies: the grid can't be made; a fault of [`answer_asked`]. Or one of [`key_of_chunk`], [`chunk_of_key`] or [`answer_bytes`]. Or out of memory.
 pub(crate) fn answer_question(
     alloc: Global,
     question: Question<'_>,
@@ -41,6 +42,7 @@ pub(crate) fn answer_question(
             key,
             dimensionality,
         )?)),
+        Question::Bytes(asked) => Ok(Some(answer_bytes(alloc, asked)?)),
     }
 }
 

@@ -11,6 +11,8 @@ pub(crate) enum Call {
     Encode,
     /// The chunk of a key, in an encoding.
     Decode,
+    /// The bytes of a box of a chunk.
+    ByteRanges,
 }
 
 /// A call of an array's grid, by what it is asked of.
@@ -94,6 +96,7 @@ impl Call {
         let of_array = match name {
             "encode" => return Some(Call::Encode),
             "decode" => return Some(Call::Decode),
+            "byte_ranges" => return Some(Call::ByteRanges),
             "dimensionality" => OfArray::OfGrid(OfGrid::Dimensionality),
             "array_shape" => OfArray::OfGrid(OfGrid::ArrayShape),
             "grid_shape" => OfArray::OfGrid(OfGrid::GridShape),

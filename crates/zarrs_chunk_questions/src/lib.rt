@@ -28,6 +28,7 @@
 //! | `rechunking`, `regions` | a rechunking, and a region of an array, that a question is about, and what is copied |
 //! | `groups` | the groups of what is copied, from one of them on |
 //! | `counting` | how much is copied |
+//! | `bytes` | which bytes of an uncompressed chunk hold a box |
 //! | `changed` | what becomes of the chunks of an array that gets another shape |
 //! | `limits` | how many of them are given |
 //! | `trees`, `plan_trees` | the trees that answers are written as, and the parts of plans |
@@ -38,6 +39,7 @@ mod answer_line;
 mod answering;
 mod array_question;
 mod asked;
+mod bytes;
 mod call;
 mod changed;
 mod counting;

@@ -2,12 +2,13 @@
 ghost use Rattle.std.specs.Prelude.{Option, None, Some, codes};
 ghost use Rattle.serde_json.specs.View.{view};
 ghost use Rattle.zarrs_chunk_questions.specs.Calls.{IsNamed};
-ghost use Rattle.zarrs_chunk_questions.specs.Question.{IsReading, decode_in, encode_in, of_array_in, text_in};
+ghost use Rattle.zarrs_chunk_questions.specs.Question.{IsReading, byte_ranges_in, decode_in, encode_in, of_array_in, text_in};
 ghost use Rattle.zarrs_chunk_questions.specs.Reading.{Reading};
 ghost use Rattle.zarrs_chunk_questions.specs.Question as question;
 ghost use Rattle.zarrs_chunk_questions.specs.seen.Read.{IsRead, question_of};
 
 use crate::asked::{Asked, encoding, numbers};
+use crate::bytes::BytesAsked;
 use crate::call::{Call, OfArray};
 use crate::reading::{in_form, required, required_in};
 use crate::unreadable::Unreadable;
@@ -24,13 +25,15 @@ pub(crate) enum Question<'t> {
     Encode(&'t Value, Vec<u64>),
     /// The chunk with so many numbers that has a key, in the encoding of which the tree is the metadata.
     Decode(&'t Value, String, u64),
+    /// Which bytes of a chunk hold a box.
+    Bytes(BytesAsked),
 }
 
 impl<'t> Question<'t> {
     /// What a line's tree asks. What else it has says nothing.
     ///
     /// # Errors
-    /// The first that applies: the tree is no object; where the call is `encode` or `decode`, a member that it reads is missing or isn't of its
+    /// The first that applies: the tree is no object; where the call is `encode`, `decode` or `byte_ranges`, a member that it reads is missing or isn't of its
     /// form, in the order in which they are read; and else one of [`of_array`]. Or out of memory.
     pub(crate) fn from_tree(
         alloc: Global,
@@ -45,6 +48,7 @@ impl<'t> Question<'t> {
         match named_in(tree) {
             Some(Call::Encode) => encode(alloc, tree),
             Some(Call::Decode) => decode(alloc, tree),
+            Some(Call::ByteRanges) => bytes(alloc, tree),
             Some(Call::OfArray(call)) => of_array(alloc, Some(call), tree),
             None => of_array(alloc, None, tree),
         }
@@ -78,6 +82,14 @@ fn decode<'t>(alloc: Global, tree: &'t Value) -> Result<Question<'t>, Refusal<Un
     let key = required_in(alloc, "of", tree)?;
     let dimensionality = required_in(alloc, "dimensionality", tree)?;
     Ok(Question::Decode(encoding, key, dimensionality))
+}
+
+/// What `byte_ranges` is asked: the bytes of a box of a chunk.
+fn bytes<'t>(alloc: Global, tree: &'t Value) -> Result<Question<'t>, Refusal<Unreadable>>
+    ensures { IsRead question_of (byte_ranges_in (view tree.now)) result }
+{
+    let asked = BytesAsked::from_tree(alloc, tree)?;
+    Ok(Question::Bytes(asked))
 }
 
 /// What an array's grid is asked, by a call of its own, if the line names one.

@@ -1,5 +1,6 @@
 -- What values of the program stand for that hold a question, or why there is none.
 use Rattle.std.specs.Prelude.{◌≡◌, ℕ, option_map, Result, Ok, Err, Vec, MatchResult, string_bytes}
+use Rattle.std.specs.Int.NonZero.{non_zero_u64_get}
 use Rattle.std.specs.declared.alloc.Global.{Global}
 use Rattle.serde_json.specs.View.{view}
 use Rattle.zarrs_chunk_base.specs.Refusal.{OrMemory}
@@ -13,6 +14,7 @@ use Rattle.zarrs_chunk_questions.specs.declared.asked.Items.{Items}
 use Rattle.zarrs_chunk_questions.specs.declared.asked.RegionAsked.{RegionAsked}
 use Rattle.zarrs_chunk_questions.specs.declared.asked.Target.{Target}
 use Rattle.zarrs_chunk_questions.specs.declared.asked.TargetArray.{TargetArray}
+use Rattle.zarrs_chunk_questions.specs.declared.bytes.BytesAsked.{BytesAsked}
 use Rattle.zarrs_chunk_questions.specs.declared.question.Question.{Question}
 use Rattle.zarrs_chunk_questions.specs.declared.question.Question.TheVariants as asks
 use Rattle.zarrs_chunk_questions.specs.declared.unreadable.Unreadable.{Unreadable}
@@ -44,6 +46,14 @@ target_array_of target = record { shape = target.shape.items; stored = target_of
 abbrev pub region_of : RegionAsked → question.RegionAsked
 region_of region = record { elements = lists_of region.elements; at = option_map (λ at. at.items) region.at }
 
+abbrev pub bytes_of : BytesAsked → question.BytesAsked
+bytes_of asked = record {
+  edges = asked.edges.items;
+  elements = lists_of asked.elements;
+  item = non_zero_u64_get asked.item_size;
+  order = asked.order;
+}
+
 abbrev pub share_of : Share → question.ShareAsked
 share_of share = (share.number, share.of)
 
@@ -70,3 +80,4 @@ abbrev pub question_of : Question → question.Question
 question_of (asks.OfArray shape chunk_grid asked) = question.of_array shape.items (view chunk_grid.now) (asked_of asked)
 question_of (asks.Encode encoding chunk) = question.encode (view encoding.now) chunk.items
 question_of (asks.Decode encoding key dimensionality) = question.decode (view encoding.now) (string_bytes key) dimensionality
+question_of (asks.Bytes asked) = question.byte_ranges (bytes_of asked)

@@ -42,3 +42,4 @@ returns-in_default c = of where
   of (call.OfArray of_array.ChangedChunks) is = c.in_default.not-changed_chunks is
   of call.Encode is = c.in_default.not-encode is
   of call.Decode is = c.in_default.not-decode is
+  of call.ByteRanges is = c.in_default.not-byte_ranges is
