@@ -1,6 +1,7 @@
 #!/usr/bin/env python3
 """Sees that the vectors ask every call of every kind of grid at the ends of numbers, along a size of 0, without
-dimensions, and with a list of a wrong length, and that the answer is one of the call's. The calls are those of
+dimensions, and with a list of a wrong length, and that the answer is one of the call's; and so of a chunk's shape, which
+takes the place of grid and shape where bytes are asked for. The calls are those of
 `tools/call_names.py`, which it compares with those that the sources of `zarrs_chunk_questions` tell apart. It prints
 each call that is missing somewhere, and then ends with the status 1.
 """
@@ -11,7 +12,7 @@ import sys
 
 sys.path.insert(0, str(pathlib.Path(__file__).resolve().parent.parent / "tools"))
 from built import CRATES, vectors  # noqa: E402
-from call_names import CALLS, OF_BOX, OF_CHUNK, OF_INDEX, OF_NOTHING, OF_RECTILINEAR, OF_RESIZE, OF_TARGET, WALKS  # noqa: E402
+from call_names import CALLS, OF_BOX, OF_BYTES, OF_CHUNK, OF_INDEX, OF_NOTHING, OF_RECTILINEAR, OF_RESIZE, OF_TARGET, WALKS  # noqa: E402
 from extensions import GRIDS  # noqa: E402
 
 OF_A_LIST = OF_CHUNK + OF_INDEX
@@ -34,7 +35,7 @@ def is_list_of_lists(value):
 
 
 def has_a_wrong_length(call, of, shape):
-    lists = of if call in OF_LISTS else [of]
+    lists = of if call in OF_LISTS + OF_BYTES else [of]
     return is_list_of_lists(lists) and len(lists) > 0 and all(len(numbers) != len(shape) for numbers in lists)
 
 
@@ -45,7 +46,7 @@ def calls_of_sources():
 
 
 def questions():
-    """Each question to a grid, with its answer."""
+    """Each question to a grid, or of a chunk's shape, with its answer."""
     for line, answer in vectors():
         try:
             question = json.loads(line)
@@ -53,13 +54,15 @@ def questions():
             continue
         if not isinstance(question, dict):
             continue
-        if isinstance(question.get("chunk_grid"), dict) and isinstance(question.get("shape"), list):
+        is_of_grid = isinstance(question.get("chunk_grid"), dict) and isinstance(question.get("shape"), list)
+        if is_of_grid or question.get("call") in OF_BYTES and isinstance(question.get("chunk_shape"), list):
             yield question, answer
 
 
 def points(question, answer):
     """Where a question asks its call, if the answer is one of the call's."""
-    call, shape = question.get("call"), question["shape"]
+    call = question.get("call")
+    shape = question["chunk_shape" if call in OF_BYTES else "shape"]
     of = question.get("chunks" if call in OF_TARGET else "resize" if call in OF_RESIZE else "of")
     if has_a_wrong_length(call, of, shape) and answer.startswith(OF_LENGTH):
         yield LENGTH
@@ -81,17 +84,19 @@ def wanted():
             yield from ((grid, call, point) for point in (ENDS, ZERO, NONE))
             if call in OF_A_LIST + OF_LISTS + OF_RESIZE:
                 yield grid, call, LENGTH
+    yield from ((None, call, point) for call in OF_BYTES for point in (ENDS, ZERO, NONE, LENGTH))
 
 
 def main():
     asked = set()
     for question, answer in questions():
         call = str(question.get("call"))
-        asked.update((question["chunk_grid"].get("name"), call, point) for point in points(question, answer))
+        grid = None if call in OF_BYTES else question["chunk_grid"].get("name")
+        asked.update((grid, call, point) for point in points(question, answer))
     unknown = set(calls_of_sources()) ^ set(CALLS)
     missing = [row for row in wanted() if row not in asked]
     for grid, call, point in missing:
-        print(f"no vector asks `{call}` of a {grid} grid {point}")
+        print(f"no vector asks `{call}`{f' of a {grid} grid' if grid else ''} {point}")
     for call in sorted(unknown):
         where = "the sources" if call in CALLS else "tools/call_names.py"
         print(f"the call `{call}` isn't in {where}")

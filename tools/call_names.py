@@ -12,7 +12,9 @@ OF_REGION = ["copies_of_region", "counts_of_region"]
 # Of another shape that the array gets.
 OF_RESIZE = ["changed_chunks"]
 OF_KEYS = ["encode", "decode"]
-CALLS = [*OF_NOTHING, *OF_CHUNK, *OF_INDEX, *OF_BOX, *OF_TARGET, *OF_REGION, *OF_RESIZE, *WALKS, "runs", *OF_KEYS]
+# Of a chunk's shape and a box of its elements.
+OF_BYTES = ["byte_ranges"]
+CALLS = [*OF_NOTHING, *OF_CHUNK, *OF_INDEX, *OF_BOX, *OF_TARGET, *OF_REGION, *OF_RESIZE, *WALKS, "runs", *OF_KEYS, *OF_BYTES]
 # Those that a rectilinear grid alone has, and those that take an encoding besides a grid.
 OF_RECTILINEAR = ["runs", "chunk_indices_counted"]
 WITH_ENCODING = ["locate", "parts", *OF_TARGET, *OF_REGION]

@@ -14,14 +14,14 @@ import sys
 
 HERE = pathlib.Path(__file__).resolve().parent
 sys.path.insert(0, str(HERE.parent / "tools"))
-from call_names import OF_CHUNK, OF_INDEX, OF_RECTILINEAR, OF_REGION, OF_RESIZE, OF_TARGET, WALKS  # noqa: E402
+from call_names import OF_BYTES, OF_CHUNK, OF_INDEX, OF_KEYS, OF_RECTILINEAR, OF_REGION, OF_RESIZE, OF_TARGET, WALKS  # noqa: E402
 from chunk_grids import Grid  # noqa: E402
 from extensions import GREATEST  # noqa: E402
 
 # From the weakest on.
 OWN, ZARRS, STANDARD = "own", "zarrs", "standard"
 # Calls that zarrs hasn't, so that nobody else refuses them.
-NOT_IN_ZARRS = {"locate", "parts", *OF_TARGET, *OF_REGION, *OF_RESIZE, "decode", *OF_RECTILINEAR}
+NOT_IN_ZARRS = {"locate", "parts", *OF_TARGET, *OF_REGION, *OF_RESIZE, *OF_BYTES, "decode", *OF_RECTILINEAR}
 # Refusals in the words of zarrs; docs/DIFFERENCES.md says which texts this library has made itself.
 WORDS_OF_ZARRS = re.compile("incompatible dimensionality|(regular|`regular_bounded`) chunk shape and array shape have")
 BOUNDS = {"chunk_indices_inbounds", "array_indices_inbounds"}
@@ -36,7 +36,7 @@ class Row:
         self.is_object = isinstance(self.answer, dict)
         self.is_refused = self.is_object and "refused" in self.answer
         self.is_unreadable = self.is_object and "unreadable" in self.answer
-        is_of_grid = not (self.is_refused or self.is_unreadable) and self.call not in ("encode", "decode")
+        is_of_grid = not (self.is_refused or self.is_unreadable) and self.call not in OF_KEYS + OF_BYTES
         self.grid = Grid(vector["chunk_grid"], vector["shape"]) if is_of_grid else None
         self.dimensions = self.grid.dimensions if is_of_grid else []
 
@@ -93,6 +93,7 @@ REASONS = [
     (OWN, "`counts`: which numbers, as factors, and the shares", lambda row: row.call == "counts"),
     (OWN, "regions: what is asked of them, and the same", lambda row: row.call in OF_REGION),
     (OWN, "resizes: in which boxes chunks are told, and in which order", lambda row: row.call in OF_RESIZE),
+    (OWN, "`byte_ranges`: how the ranges are told, and where there are none", lambda row: row.call in OF_BYTES),
     (OWN, "`first`: a page of a walk", lambda row: "first" in row.vector),
     (OWN, "a chunk that begins or ends past the greatest number", lambda row: row.grid
      and row.is_past_the_greatest_number()),

@@ -33,6 +33,7 @@ SUBJECTS = {
     "counts": ["counts", "counts_of_region"],
     "resizes": ["changed_chunks"],
     "keys": ["encode", "decode"],
+    "bytes": ["byte_ranges"],
     "metadata": ["configuration", "metadata"],
     "runs": ["runs", "chunk_indices_counted"],
 }
