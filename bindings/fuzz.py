@@ -29,6 +29,7 @@ import time
 HERE = pathlib.Path(__file__).resolve().parent
 sys.path[:0] = [str(HERE / "python"), str(HERE), str(HERE.parent / "tools")]
 sys.dont_write_bytecode = True
+from byte_ranges import byte_ranges as model_ranges, great_boxes, small_boxes  # noqa: E402
 from call_names import CALLS, OF_RECTILINEAR, WALKS  # noqa: E402
 from chunk_plans import changed_chunks_by_boxes, share as share_of_lines  # noqa: E402
 from extensions import GREATEST, Refused, grid_metadata, regular  # noqa: E402
@@ -511,6 +512,24 @@ def ask_changed(rng):
     check_one([boxes for _what, boxes in sorted(vars(answer).items())] if is_answered else answer, is_answered, [drawn], right)
 
 
+def ask_bytes(rng):
+    """Bytes of small chunks and of such at the greatest numbers."""
+    edges, (start, shape), item_size, order = next(rng.choice([small_boxes, great_boxes])(rng.randrange(2**32), 1))
+    chunk_shape, drawn_edges = draw_list(rng, edges)
+    start, drawn_start = draw_list(rng, start)
+    shape, drawn_shape = draw_list(rng, shape)
+    (box, *is_box), size, memory = draw(rng, (start, shape)), draw(rng, rng.choice([int, Index])(item_size)), draw(rng, rng.choice([str, np.str_])(order))
+    answer, is_answered = attempt(lambda: byte_ranges(chunk_shape, box, size[0], memory[0]))
+    if not all([*is_box, size[1], memory[1]]):
+        return
+
+    def right(*lists):
+        found = model_ranges(lists[0], lists[1:], item_size, order)
+        return found and [found[name] for name in ByteRanges._fields]
+
+    check_one(answer, is_answered, [drawn_edges, drawn_start, drawn_shape], right)
+
+
 def copies_of_model(copies):
     """What the package answers of a chunk of a target, as the model has it."""
     sources = [{name: as_lists(part) for name, part in source._asdict().items()} for source in copies.sources]
@@ -598,6 +617,7 @@ def ask_any_question(rng):
         "items": rng.choice([0, 1, 100, GREATEST]), "dimensionality": rng.choice([0, 1, 2, GREATEST]),
         "target": {"chunk_grid": "regular", "chunk_key_encoding": "v2"} | ({"chunk_grid": grid.metadata} if rng.random() < 0.9 else {}),
         "share": [rng.randrange(3), rng.choice([1, 2, 3, GREATEST])], "resize": index,
+        "chunk_shape": model.shape, "item_size": rng.choice([1, 8, GREATEST]), "memory_order": rng.choice("CF"),
     }  # fmt: skip
     question = {name: value if rng.random() < 0.9 else any_value(rng) for name, value in members.items() if rng.random() < 0.95}
     told, is_answered = attempt(lambda: answer(draw(rng, question)[0]))
@@ -607,7 +627,7 @@ def ask_any_question(rng):
 
 KINDS = (
     ask_of_grid, ask_of_grid, ask_covers, ask_parts, ask_keys, ask_chunks_of_keys, make_things, ask_any_question,
-    ask_of_one, ask_of_one, ask_runs, ask_walks, ask_copies, ask_counts, ask_changed, ask_box, ask_stored,
+    ask_of_one, ask_of_one, ask_runs, ask_walks, ask_copies, ask_counts, ask_changed, ask_bytes, ask_box, ask_stored,
 )  # fmt: skip
 
 
@@ -678,5 +698,5 @@ if __name__ == "__main__":
         from chunk_keys import Encoding as ModelKeys
         from faults import DEFAULT, bounded, offsets_of, seen_parts
         from odd_values import Index, Lying, Raising, misaligned
-        from zarrs_chunks import Encoding, Grid, answer
+        from zarrs_chunks import ByteRanges, Encoding, Grid, answer, byte_ranges
     main()

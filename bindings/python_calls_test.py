@@ -23,6 +23,8 @@ import typing
 import numpy as np
 import zarrs_chunks
 from built import CRATES, vectors
+from byte_ranges import byte_ranges as model_ranges
+from byte_ranges import fault_of_ranges, great_boxes, small_boxes
 from call_names import CALLS
 from chunk_grids import Grid as Model
 from chunk_grids import first_of, numbers_in, overlap
@@ -34,7 +36,8 @@ from faults import seen_parts
 from memory import at_most, used
 from odd_values import Index, Lying, Raising, Whole, misaligned
 from random_arrays import Generator
-from zarrs_chunks import Box, ChangedChunks, Copies, Counted, Counts, Encoding, Grid, Located, RegionCopies, Source, __main__, _boxes, _questions
+from zarrs_chunks import Box, ByteRanges, ChangedChunks, Copies, Counted, Counts, Encoding, Grid, Located, RegionCopies, Source
+from zarrs_chunks import __main__, _boxes, _questions, byte_ranges
 
 PACKAGE = pathlib.Path(zarrs_chunks.__file__).parent
 REGULAR = regular(2, 3)
@@ -55,7 +58,7 @@ def plain(value):
         return {name: plain(part) for name, part in value._asdict().items()}
     if isinstance(value, Counted):
         return {"answer": plain(value.chunk), "comparisons": value.comparisons}
-    if isinstance(value, Source):
+    if isinstance(value, (ByteRanges, Source)):
         return {name: plain(part) for name, part in value._asdict().items()}
     if isinstance(value, (Copies, RegionCopies)):
         whole = {"whole": value.whole} if isinstance(value, RegionCopies) else {}
@@ -198,6 +201,7 @@ METHODS = {
     "runs": lambda asked: grid_in(asked).runs(asked["of"]),
     "encode": lambda asked: encoding_in(asked).encode(asked["of"]),
     "decode": decoded,
+    "byte_ranges": lambda asked: byte_ranges(asked["chunk_shape"], asked["of"], asked["item_size"], asked.get("memory_order", "C")),
 }
 # Those that refuse lists of another length in words of their own, since they take many lists.
 BATCHES = {"subset", "chunk_indices", "chunk_element_indices", "chunks_in_array_subset", "parts"}
@@ -245,7 +249,7 @@ def by_methods(tally):
         tally.same(question, found, expected)
         asked_of[asked["call"]] += 1
     tally.same("calls without a vector", [call for call, count in asked_of.items() if count < 10], [])
-    tally.same("the vectors are asked or left", (sum(asked_of.values()) + left, left < 130), (len(vectors()), True))
+    tally.same("the vectors are asked or left", (sum(asked_of.values()) + left, left < 150), (len(vectors()), True))
 
 
 # ---- the models
@@ -843,6 +847,79 @@ def changes_of_program(tally):
         tally.same(f"changes of {document}", (ended.returncode, fault_of_boxes(found, lists, len(shape))), (0, None))
 
 
+# ---- bytes of chunks
+
+
+def bytes_of_chunks(tally):
+    """Which bytes of a chunk a box has: beside the models; of chunks that numpy wrote to a file, whose box is read by the ranges; at the greatest
+    numbers, of very many ranges, of which some are looked at; and what is taken and refused."""
+    with tempfile.TemporaryDirectory() as folder:
+        path = pathlib.Path(folder, "chunk")
+        for edges, box, item_size, order in small_boxes(15, 400):
+            told, found = f"bytes of {box} in {edges}, {item_size} each, {order}", byte_ranges(edges, box, item_size, order)
+            tally.same(told, plain(found), model_ranges(edges, box, item_size, order))
+            if found is None:
+                continue
+            tally.same(f"{told}, by element", fault_of_ranges(plain(found), edges, box, item_size, order), None)
+            tally.same(f"{told}, from a file", *from_file(path, found, edges, box, item_size, order))
+    for edges, box, item_size, order in great_boxes(15, 400):
+        try:
+            right = model_ranges(edges, box, item_size, order)
+        except Refused as refused:
+            right = (ValueError, refused.text)
+        found = outcome(lambda: byte_ranges(edges, box, item_size, order))
+        tally.same(f"bytes of {box} in {edges}, {item_size} each, {order}", found, right)
+    many = byte_ranges([2**20, 2**20, 8], ([0, 1, 2], [2**20, 2**20 - 1, 3]), 2)
+    tally.same("ranges one after another", [*itertools.islice(many.ranges(), 2)], [(20, 26), (36, 42)])
+    tally.same("of very many dimensions", [*byte_ranges([1] * 2000, ([0] * 2000, [1] * 2000), 3).ranges()], [(0, 3)])
+    values_of_bytes(tally)
+
+
+def from_file(path, found, edges, box, item_size, order):
+    """What a file that numpy wrote a chunk to has in some ranges, one behind another, and the elements of the box in the same order."""
+    chunk = np.random.default_rng(item_size).integers(0, 256, math.prod(edges) * item_size, np.uint8).view(f"V{item_size}").reshape(edges)
+    path.write_bytes(chunk.tobytes(order))
+    written = np.fromfile(path, np.uint8)
+    return b"".join(written[begin:end].tobytes() for begin, end in found.ranges()), chunk[slices_of(box)].tobytes(order)
+
+
+def slices_of(box):
+    return tuple(slice(first, first + count) for first, count in zip(*box))
+
+
+def values_of_bytes(tally):
+    right = ByteRanges(20, 4, (2,), (12,))
+    for pair in ((2, 3), np.array([2, 3], np.uint64), [np.int8(2), Index(3)], np.array([2, 3], ">i2"), misaligned(np.array([2, 3], np.uint64))):
+        tally.same(f"a chunk of {pair!r}", byte_ranges([7, 3], Box((1, 2), (2, 1)), np.uint8(4)), right)
+        tally.same(f"a box of {pair!r}", byte_ranges(np.array([4, 6]), (pair, pair), Whole(1)), ByteRanges(15, 3, (2,), (6,)))
+        tally.same(f"a chunk of edges {pair!r}", byte_ranges(pair, ([0, 0], [2, 3]), 1, order=np.str_("F")), ByteRanges(0, 6, (), ()))
+    found = byte_ranges([7, 3], ([1, 2], [2, 1]), 4)
+    tally.same("the types of an answer", [type(part) for part in (*found, *found.counts, *found.strides)], [int, int, tuple, tuple, int, int])
+    tally.same("ranges are copied", pickle.loads(pickle.dumps(found)), found)
+    ranges = found.ranges()
+    tally.same("ranges are an iterator", (iter(ranges) is ranges, [*ranges], [*ranges]), (True, [(20, 24), (32, 36)], []))
+    asked = {"chunk_shape": [7, 3], "box": ([1, 2], [2, 1]), "item_size": 4}
+    call = lambda **more: byte_ranges(**{**asked, **more})
+    bounds = "numbers are those from 0 to 18446744073709551615, and one is "
+    for name, below, above in (("chunk_shape", [7, -1], [7, 2**64]), ("box", ([1, -1], [1, 1]), ([1, 1], [1, 2**64])), ("item_size", -1, 2**64)):
+        tally.raises(f"{name} below", ValueError, f"{name}: {bounds}below", lambda: call(**{name: below}))
+        tally.raises(f"{name} above", ValueError, f"{name}: {bounds}above", lambda: call(**{name: above}))
+    whole = "whole numbers are wanted, and the array is of float64"
+    tally.raises("edges as floats", TypeError, f"chunk_shape: {whole}", lambda: call(chunk_shape=[7.0, 3]))
+    tally.raises("a box of floats", TypeError, f"box: {whole}", lambda: call(box=([1.0, 2], [2, 1])))
+    tally.raises("a size as a float", TypeError, "item_size: 'float' object cannot be interpreted as an integer", lambda: call(item_size=4.0))
+    tally.raises("elements of no bytes", ValueError, "item_size: an element has one byte or more", lambda: call(item_size=0))
+    for order in ("A", "c", "", "CF", "C "):
+        tally.raises(f"the order {order!r}", ValueError, "order: it is `C` or `F`", lambda: call(order=order))
+    for order in (None, b"C", 0, ["C"]):
+        words = f"order: a text is wanted, and not a {type(order).__name__}"
+        tally.raises(f"the order {order!r}", TypeError, words, lambda: call(order=order))
+    for value in (3, None, [], [[0, 0]], "ab", Raising(IndexError("own")), [Raising(KeyError("own"))] * 2):
+        found = outcome(lambda: call(box=value))
+        tally.same(f"{value!r} as a box", (found[0] in (TypeError, ValueError), found[1].startswith("box: ")), (True, True))
+    tally.raises("a box of one dimension", ValueError, "incompatible dimensionality 1, expected 2", lambda: call(box=([0], [1])))
+
+
 # ---- the program
 
 
@@ -1015,5 +1092,5 @@ def little_memory(tally):
 
 
 def python_calls(tally):
-    for group in (by_methods, beside_models, pages, moved, shares, counts, changed, selections, stored, program, typed, values, little_memory):
+    for group in (by_methods, beside_models, pages, moved, shares, counts, changed, bytes_of_chunks, selections, stored, program, typed, values, little_memory):
         group(tally)

@@ -30,6 +30,7 @@ ValueError, which say in which argument; and too little memory as a MemoryError,
 
 from ._answer import answer
 from ._boxes import Box
+from ._bytes import ByteRanges, byte_ranges
 from ._changed import ChangedChunks
 from ._copies import Copies, RegionCopies, Source
 from ._counts import Counts
@@ -38,5 +39,6 @@ from ._grid import Counted, Grid, Located, Parts
 from ._version import __version__
 
 __all__ = [
-    "Box", "ChangedChunks", "Copies", "Counted", "Counts", "Encoding", "Grid", "Located", "Parts", "RegionCopies", "Source", "__version__", "answer",
+    "Box", "ByteRanges", "ChangedChunks", "Copies", "Counted", "Counts", "Encoding", "Grid", "Located", "Parts", "RegionCopies", "Source",
+    "__version__", "answer", "byte_ranges",
 ]  # fmt: skip

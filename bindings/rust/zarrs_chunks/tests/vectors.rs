@@ -27,7 +27,8 @@ fn each_vector_is_answered() {
 }
 
 /// So many vectors at least are put to methods, of so many calls. The others are those whose question
-/// can't be read, and walks over boxes from a number on, which counts chunks and not boxes.
+/// can't be read, walks over boxes from a number on, which counts chunks and not boxes, and bytes of
+/// chunks.
 const PUT: usize = 1315;
 const CALLS: usize = 29;
 
@@ -36,7 +37,7 @@ fn each_vector_that_a_method_can_be_asked_is_answered_by_it() {
     let (mut put, mut left, mut wrong) = (BTreeMap::new(), 0, Vec::new());
     for vector in vectors() {
         let asked = Json(&vector.question);
-        if is_unread(&vector.line) || is_box_walk_from_a_number(asked) {
+        if is_unread(&vector.line) || is_box_walk_from_a_number(asked) || has_no_method(asked) {
             left += 1;
             continue;
         }
@@ -66,6 +67,11 @@ fn is_unread(line: &str) -> bool {
 fn is_box_walk_from_a_number(asked: Json<'_>) -> bool {
     let walks = ["\"iter_chunk_subsets\"", "\"iter_chunk_indices_and_subsets\""];
     walks.contains(&asked.member("call").0) && asked.get("first").is_some()
+}
+
+/// There is no method for the bytes of a chunk: its questions are put as text alone.
+fn has_no_method(asked: Json<'_>) -> bool {
+    asked.member("call").0 == "\"byte_ranges\""
 }
 
 /// The answer of a method, by the line that answers the question.
