@@ -11,7 +11,7 @@ There are two, and neither shares code with this repository:
   of each kind among them;
 - zarr-python 2 (Debian's `python3-zarr`, by Debian's own Python), on `--arrays` arrays with regular chunks and keys of
   version 2: it writes the array, and a box of another one, to a store, and gives a third one another shape; what is
-  compared is what then lies in the store under which key.
+  compared is what then lies in the store under which key, and of a box of a chunk at which bytes.
 
 The programs are those that `rt run` built in their crates, if none are given. It prints how many answers were compared,
 by call, and each that differs, and ends with the status 1 where one did. A seed asks the same questions each time.
@@ -28,7 +28,9 @@ import sys
 for folder in ("measure", "tools"):
     sys.path.insert(0, str(pathlib.Path(__file__).resolve().parent.parent / folder))
 from built import builds  # noqa: E402
-from call_names import CALLS, OF_BOX, OF_CHUNK, OF_INDEX, OF_KEYS, OF_RECTILINEAR, OF_REGION, OF_RESIZE, OF_TARGET, WALKS, WITH_ENCODING  # noqa: E402
+from byte_ranges import byte_ranges, expanded, fault_of_ranges, great_boxes, small_boxes  # noqa: E402
+from call_names import CALLS, OF_BOX, OF_BYTES, OF_CHUNK, OF_INDEX, OF_KEYS, OF_RECTILINEAR, OF_REGION, OF_RESIZE  # noqa: E402
+from call_names import OF_TARGET, WALKS, WITH_ENCODING  # noqa: E402
 from chunk_grids import MOST_ALONG, Grid, check_box, first_of, numbers_in  # noqa: E402
 from chunk_keys import Encoding  # noqa: E402
 from chunk_plans import changed_chunks, changed_chunks_by_boxes, fault_of_boxes, may_go_through, region, region_by_boxes  # noqa: E402
@@ -50,6 +52,8 @@ class Asking(Generator):
 
     def question(self, call):
         """A question of a call, with a fault in one of ten."""
+        if call in OF_BYTES:
+            return self.of_bytes(call)
         metadata, shape = self.grid()
         while not self.may_ask(call, metadata, shape):
             metadata, shape = self.grid()
@@ -129,6 +133,13 @@ class Asking(Generator):
         """A size that the array gets along a dimension: mostly the same or one near to it, so that edges may be listed."""
         near = min(max(size + self.random.choice([-9, -2, -1, 1, 2, 9]), 0), GREATEST)
         return self.random.choice([size, size, size, near, self.number(size), self.size(size > 40)])
+
+    def of_bytes(self, call):
+        """A box of a chunk, small or at the greatest numbers, some of them with a fault; in row-major order, which isn't always said."""
+        boxes = self.random.choice([small_boxes, great_boxes])(self.random.randrange(2**32), 1)
+        chunk_shape, of, item_size, order = next(boxes)
+        question = {"call": call, "chunk_shape": chunk_shape, "of": of, "item_size": item_size}
+        return question if order == "C" and self.one_in(2) else {**question, "memory_order": order}
 
     def with_fault(self, question):
         call, of = question["call"], question.get("of")
@@ -216,6 +227,8 @@ def model_answer(question):
         if of.endswith("/"):
             raise Refused(f"invalid store key {of}")
         return encoding[0].chunk(of, question["dimensionality"])
+    if call in OF_BYTES:
+        return model_ranges(question)
     if call in OF_TARGET:
         target, target_encoding = model_target(question)
         if call == "counts":
@@ -229,6 +242,16 @@ def model_answer(question):
     arguments = of if call in OF_BOX else [of] if "of" in question else []
     found = getattr(grid, call)(*arguments, *encoding)
     return first_of(found, question["items"]) if "items" in question and found is not None else found
+
+
+def model_ranges(question):
+    """Ranges by products, which in small chunks have to be those of the elements."""
+    asked = question["chunk_shape"], question["of"], question["item_size"], question.get("memory_order", "C")
+    found = byte_ranges(*asked)
+    if found is not None and max(question["chunk_shape"], default=0) <= 5:
+        fault = fault_of_ranges(found, *asked)
+        assert fault is None, f"the models differ: {fault}"
+    return found
 
 
 def model_region(question, source, target):
@@ -425,12 +448,12 @@ def compare_documents(arguments, tally):
 class Written:
     """An array of zarr-python 2 and the store that it was written to."""
 
-    def __init__(self, zarr, shape, edges, separator):
+    def __init__(self, zarr, shape, edges, separator, order="C"):
         self.store = {}
         self.shape, self.edges = shape, edges
         self.array = zarr.create(
             shape=tuple(shape), chunks=tuple(edges), dtype="<u4", fill_value=0, compressor=None, filters=None,
-            order="C", dimension_separator=separator, store=self.store,
+            order=order, dimension_separator=separator, store=self.store,
         )  # fmt: skip
 
     def chunks(self, numpy):
@@ -464,6 +487,8 @@ def compare_with_zarr(arguments, tally):
         compare_lines(arguments.where, {**array, "indices": indices}, homes, tally, source)
         told += box_of_array(draw, numpy, Written(zarr, shape, edges, separator))
         told.append(resized_array(draw, Written(zarr, shape, edges, separator)))
+        order = draw.choice("CF")
+        told.append(bytes_of_chunk(draw, numpy, Written(zarr, shape, edges, separator, order), order))
         asked += [({**array, **question}, expected) for question, expected in told]
     for (question, expected), printed in zip(asked, ask(arguments.calls, [question for question, _ in asked])):
         told = f"{json.dumps(question)}\n  store    {expected}\n  found    {printed}"
@@ -570,6 +595,27 @@ def resized_array(draw, written):
         return [sorted(both), sorted(found["delete"]), sorted(found["new"])] == [sorted(left), sorted(before - left), sorted(after - left)]
 
     return {"call": "changed_chunks", "resize": shape}, is_as_stored
+
+
+def bytes_of_chunk(draw, numpy, written, order):
+    """A question about a box of a chunk of an array that is written whole: those bytes of the chunk have the box's elements."""
+    values = numpy.arange(1, numpy.prod(written.shape, dtype=int) + 1, dtype="<u4").reshape(written.shape)
+    written.array[...] = values
+    key = draw.choice(sorted(key for key in written.store if not key.startswith(".z")))
+    held, box, places = bytes(written.store[key]), [[], []], []
+    for number, edge, size in zip(re.findall("[0-9]+", key), written.edges, written.shape):
+        origin = int(number) * edge
+        start = draw.randrange(min(edge, size - origin))
+        count = draw.randint(1, min(edge, size - origin) - start)
+        box[0].append(start)
+        box[1].append(count)
+        places.append(slice(origin + start, origin + start + count))
+    right = values[tuple(places)].tobytes(order)
+
+    def has_the_elements(answer):
+        return b"".join(held[begin:end] for begin, end in expanded(answer)) == right
+
+    return {"call": "byte_ranges", "chunk_shape": written.edges, "of": box, "item_size": 4, "memory_order": order}, has_the_elements
 
 
 def slices(box):
