@@ -518,9 +518,10 @@ def ask_bytes(rng):
     chunk_shape, drawn_edges = draw_list(rng, edges)
     start, drawn_start = draw_list(rng, start)
     shape, drawn_shape = draw_list(rng, shape)
-    (box, *is_box), size, memory = draw(rng, (start, shape)), draw(rng, rng.choice([int, Index])(item_size)), draw(rng, rng.choice([str, np.str_])(order))
-    answer, is_answered = attempt(lambda: byte_ranges(chunk_shape, box, size[0], memory[0]))
-    if not all([*is_box, size[1], memory[1]]):
+    others = [(start, shape), rng.choice([int, Index])(item_size), rng.choice([str, np.str_])(order)]
+    given = [draw(rng, value) for value in others]
+    answer, is_answered = attempt(lambda: byte_ranges(chunk_shape, *(value for value, _good in given)))
+    if not all(good for _value, good in given):
         return
 
     def right(*lists):

@@ -1092,5 +1092,6 @@ def little_memory(tally):
 
 
 def python_calls(tally):
-    for group in (by_methods, beside_models, pages, moved, shares, counts, changed, bytes_of_chunks, selections, stored, program, typed, values, little_memory):
+    plans = moved, shares, counts, changed, bytes_of_chunks
+    for group in (by_methods, beside_models, pages, *plans, selections, stored, program, typed, values, little_memory):
         group(tally)

@@ -27,8 +27,8 @@ class ByteRanges(NamedTuple):
     """How many bytes two that follow one another along it are apart, from beginning to beginning."""
 
     def ranges(self) -> Iterator[tuple[int, int]]:
-        """Each range as its beginning and the end behind its last byte, one after another as they are asked for: they ascend, no byte is in two, and no
-        two can be joined.
+        """Each range as its beginning and the end behind its last byte, one after another as they are asked for: they ascend, no byte is in two, and
+        no two can be joined.
 
         >>> list(ByteRanges(first=5, length=2, counts=(2, 2), strides=(12, 4)).ranges())
         [(5, 7), (9, 11), (17, 19), (21, 23)]
@@ -47,12 +47,12 @@ class ByteRanges(NamedTuple):
 
 
 def byte_ranges(chunk_shape: npt.ArrayLike, box: Any, item_size: SupportsIndex, order: str = "C") -> ByteRanges | None:
-    """Which bytes of a chunk's object hold the elements of a box of the chunk, which is its start, counted from the chunk's first element, and its
-    shape. The object is the chunk's elements in this order, each in `item_size` bytes, and nothing else: it isn't compressed. `C` is row-major, as the
-    codec `bytes` writes a chunk; `F` is column-major, as `bytes` behind `transpose` with all dimensions reversed does, and format 2 where `order` is `F`.
+    """Which bytes of a chunk's object hold the elements of a box of the chunk: a start, counted from the chunk's first element, and a shape. The
+    object is the chunk's elements in this order, each in `item_size` bytes, and nothing else: it isn't compressed. `C` is row-major, as the codec
+    `bytes` writes a chunk; `F` is column-major, as `bytes` behind `transpose` with all dimensions reversed does, and format 2 where `order` is `F`.
 
-    The bytes of the ranges, one range behind another, are the box's elements in the same order. An empty box has no range. None where the box ends past the
-    chunk, or the object would be longer than 18446744073709551615 bytes.
+    The bytes of the ranges, one range behind another, are the box's elements in the same order. An empty box has no range. None where the box ends
+    past the chunk, or the object would be longer than 18446744073709551615 bytes.
 
     >>> found = byte_ranges([2, 3, 4], ([0, 1, 1], [2, 2, 2]), item_size=1)
     >>> found
