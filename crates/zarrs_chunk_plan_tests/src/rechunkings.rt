@@ -24,6 +24,14 @@ c/0/0/0/0/1 Some(0) c/0/0/0/0/1 Some(1) (Some(2), Some(2))
 c/0/0/0/0/1 Some(2) c/0/0/0/0/2 Some(0) (Some(1), Some(1))
 ";
 
+/// The same copies in the order of the source's chunks: of each the key of the target's chunk and the place there, and the same of the source.
+const COPIES_BY_SOURCE: &str = "\
+c/0/0/0/0/0 Some(0) c/0/0/0/0/0 Some(0) (Some(3), Some(3))
+c/0/0/0/0/1 Some(0) c/0/0/0/0/0 Some(3) (Some(1), Some(1))
+c/0/0/0/0/1 Some(1) c/0/0/0/0/1 Some(0) (Some(2), Some(2))
+c/0/0/0/0/2 Some(0) c/0/0/0/0/1 Some(2) (Some(1), Some(1))
+";
+
 /// Those into the second chunk of the target.
 const COPIES_INTO_THE_SECOND: &str = "\
 c/0/0/0/0/0 Some(3) c/0/0/0/0/1 Some(0) (Some(1), Some(1))
@@ -125,6 +133,34 @@ fn each_chunk_of_the_target_has_its_copies(rt: HostRuntime) -> Result<(), Fail> 
     let groups = all_groups(alloc, &source, &target, &all)?;
     let lines = lines_of(alloc, &groups)?;
     assert_eq!(rt; lines.as_str(), COPIES);
+    Ok(())
+}
+
+/// Whether all elements that a chunk of the target gets come from one chunk of the source, of each copy in the order of the source.
+fn one_writer(alloc: Global, groups: &[(Part, Vec<Part>)]) -> Result<Vec<bool>, AllocError> {
+    let mut one = Vec::new(alloc);
+    for (_, pieces) in groups {
+        for piece in pieces {
+            one.push(piece.whole)?;
+        }
+    }
+    Ok(one)
+}
+
+/// Source and target exchanged.
+#[test]
+fn copies_come_in_the_order_of_the_source(rt: HostRuntime) -> Result<(), Fail> {
+    let alloc = rt.alloc();
+    let (source, target) = (row(alloc, 7, 4)?, row(alloc, 7, 3)?);
+    let all = all_chunks(alloc, &source.grid)?;
+    let groups = all_groups(alloc, &target, &source, &all)?;
+    let lines = lines_of(alloc, &groups)?;
+    assert_eq!(rt; lines.as_str(), COPIES_BY_SOURCE);
+    let one = one_writer(alloc, &groups)?;
+    assert!(&rt;
+        one.as_slice() == [true, false, false, true].as_slice(),
+        "other writers"
+    );
     Ok(())
 }
 
