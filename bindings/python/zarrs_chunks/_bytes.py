@@ -14,17 +14,17 @@ from ._questions import ask, plain_text
 
 
 class ByteRanges(NamedTuple):
-    """Ranges of bytes, all of one length, as many as the product of `counts`: along the dimension with the number `d` of the two lists `counts[d]` of
-    them follow one another, and each begins `strides[d]` bytes behind the one before. Without dimensions there is one."""
+    """Ranges of bytes, all of one length, as many as the product of `counts`. For each list of numbers `k`, with `k[d]` below `counts[d]`, one begins
+    at `first` + `k[0]` * `strides[0]` + `k[1]` * `strides[1]` and so on. Where the lists are empty, there is one."""
 
     first: int
     """Where the first range begins, counted from the first byte of the chunk's object."""
     length: int
     """How many bytes each range has."""
     counts: tuple[int, ...]
-    """How many ranges there are along each dimension, the outermost first."""
+    """How many ranges follow one another along each dimension of ranges, the outermost first."""
     strides: tuple[int, ...]
-    """How many bytes two that follow one another along it are apart, from beginning to beginning."""
+    """As many numbers as `counts`: how many bytes there are from the beginning of one to that of the next along each of these dimensions."""
 
     def ranges(self) -> Iterator[tuple[int, int]]:
         """Each range as its beginning and the end behind its last byte, one after another as they are asked for: they ascend, no byte is in two, and
@@ -48,11 +48,13 @@ class ByteRanges(NamedTuple):
 
 def byte_ranges(chunk_shape: npt.ArrayLike, box: Any, item_size: SupportsIndex, order: str = "C") -> ByteRanges | None:
     """Which bytes of a chunk's object hold the elements of a box of the chunk: a start, counted from the chunk's first element, and a shape. The
-    object is the chunk's elements in this order, each in `item_size` bytes, and nothing else: it isn't compressed. `C` is row-major, as the codec
-    `bytes` writes a chunk; `F` is column-major, as `bytes` behind `transpose` with all dimensions reversed does, and format 2 where `order` is `F`.
+    object is the chunk's elements, stored in `order`, each in `item_size` bytes, and nothing else: it isn't compressed. `C` is row-major, as the
+    codec `bytes` writes a chunk; `F` is column-major, as `bytes` behind `transpose` with all dimensions reversed does, and format 2 where `order`
+    is `F`.
 
     The bytes of the ranges, one range behind another, are the box's elements in the same order. An empty box has no range. None where the box ends
-    past the chunk, or the object would be longer than 18446744073709551615 bytes.
+    past the chunk, or isn't empty and the object would be longer than 18446744073709551615 bytes. A ValueError where the box has another number of
+    dimensions than the chunk.
 
     >>> found = byte_ranges([2, 3, 4], ([0, 1, 1], [2, 2, 2]), item_size=1)
     >>> found

@@ -130,7 +130,7 @@ rows_after : (i n row : ℕ) → (i + n) * row ≡ i * row + n * row
 rows_after i n row = add-mul i n row
 
 module _ (item edge start count : ℕ) (edges starts shape : List ℕ) (first long : ℕ) (counts strides : List ℕ) (row : ℕ)
-    (some : 0 < count) (within : start + count ≤ edge) where
+    (some : 0 < count) (within : start + count ≤ edge) (counted : edge * row ≤ greatest) where
   row_of_all : row ≡ product edges * item → edge * row ≡ product (edge ∷ edges) * item
   row_of_all is = ap (λ n. edge * n) is ∙ sym (mul_assoc edge (product edges) item)
 
@@ -153,6 +153,9 @@ module _ (item edge start count : ℕ) (edges starts shape : List ℕ) (first lo
       record {
         row_is = row_of_all was.row_is;
         some = some_of_all was.some;
+        fits = counted;
+        long = let more = mul-le-mul_right {m = 1} {n = count} row (omega arith) in let single : 1 * row ≡ row = omega arith in omega arith;
+        lists = was.lists;
         are_ranges = record {
           those = λ byte. (
             λ has.
@@ -228,6 +231,9 @@ module _ (item edge start count : ℕ) (edges starts shape : List ℕ) (first lo
       record {
         row_is = row_of_all was.row_is;
         some = some_of_all was.some;
+        fits = counted;
+        long = was.long;
+        lists = ap suc was.lists;
         are_ranges = record {
           those = λ byte. (
             λ has.

@@ -1,11 +1,10 @@
 -- Lists that are read backwards: the dimensions of a chunk that is stored in column-major order.
-use Rattle.std.proofs.Common.{◌≡◌, ◌∙◌, ℕ, ◌+◌, ◌*◌, ◌<◌, ◌≤◌, List, [], ◌∷◌, ◌++◌, Contains, reverse, zero, suc, ap, refl, subst, sym, ⊎_elim, arith, ◌⊎◌, inr, MatchOption, Option, None, Some}
+use Rattle.std.proofs.Common.{◌≡◌, ◌∙◌, ℕ, ◌+◌, ◌*◌, ◌<◌, ◌≤◌, List, [], ◌∷◌, ◌++◌, Contains, reverse, zero, suc, ap, refl, subst, sym, ⊎_elim, arith, inr, Option, None, Some, inl}
 use Rattle.std.proofs.Math.Nat.{mul_assoc, mul_comm}
 use Rattle.std.proofs.lemmas.List.{reverse-append, reverse-reverse}
 use Rattle.std.proofs.lemmas.List.Elements.{Contains-append_cases}
 use Rattle.zarrs_chunk_base.specs.ArraySubset.{AreWithin}
-use Rattle.zarrs_chunk_base.specs.Greatest.{greatest}
-use Rattle.zarrs_chunk_plan.specs.Bytes.{AreRanges, begins, in_order}
+use Rattle.zarrs_chunk_plan.specs.Bytes.{AreRanges, FindsRanges, in_order}
 use Rattle.zarrs_chunk_plan.specs.Counts.{product}
 use Rattle.zarrs_chunk_plan.specs.Region.{EndWithin}
 use Rattle.zarrs_chunk_plan.specs.declared.bytes.ByteRanges.{ByteRanges}
@@ -112,12 +111,17 @@ ranges_in_order item F edges start shape long numbers are = record {
   apart = are.apart;
 }
 
--- what is found of the rows in that order holds of the box
-pub found_in_order : (item : ℕ) (order : MemoryOrder) (edges start shape : List ℕ) (found : Option ByteRanges)
-    → MatchOption found (greatest < product (in_order order edges) * item)
-    (λ ranges. AreRanges item C (in_order order edges) (in_order order start) (in_order order shape) ranges.length
-    (begins ranges.first ranges.counts.items ranges.strides.items))
-    → MatchOption found ((¬ EndWithin start shape edges) ⊎ (greatest < product edges * item))
-    (λ ranges. AreRanges item order edges start shape ranges.length (begins ranges.first ranges.counts.items ranges.strides.items))
-found_in_order item order edges start shape None past = inr (rw (product_in_order order edges) at past)
-found_in_order item order edges start shape (Some ranges) are = ranges_in_order item order edges start shape ranges.length _ are
+-- what is found of the rows in that order is found of the box
+pub found_in_order : (item : ℕ) (order : MemoryOrder) (edges start shape : List ℕ) → EndWithin start shape edges → (¬ Contains shape 0)
+    → (found : Option ByteRanges) → FindsRanges item C (in_order order edges) (in_order order start) (in_order order shape) found
+    → FindsRanges item order edges start shape found
+found_in_order item order edges start shape lies some None (inl out) = absurd (out (ends_in_order order start shape edges lies))
+found_in_order item order edges start shape lies some None (inr (any, past)) = inr (some, rw (product_in_order order edges) at past)
+found_in_order item order edges start shape lies some (Some ranges) are = record {
+  lies = lies;
+  counted = λ any. rw (product_in_order order edges) at (are.counted (some_in_order order shape any));
+  lists = are.lists;
+  none = λ empty. absurd (some empty);
+  some = λ any. are.some (some_in_order order shape any);
+  are_ranges = ranges_in_order item order edges start shape ranges.length _ are.are_ranges;
+}

@@ -1,10 +1,13 @@
 -- Which bytes of a chunk's object hold the elements of a box, where the object is the chunk's elements one behind another, each in as many bytes.
 -- Sources: Zarr V3 core, `bytes` codec, which writes elements in lexicographical order of their indices, and `transpose` codec; Zarr V2, `order`; the
 -- ranges are this library's own.
-use Rattle.std.specs.Prelude.{◌↔◌, ℕ, zero, suc, ◌+◌, ◌*◌, ◌<◌, ◌≤◌, List, [], ◌∷◌, ◌++◌, map, reverse}
+use Rattle.std.specs.Prelude.{◌≡◌, ◌↔◌, ℕ, zero, suc, ◌+◌, ◌*◌, ◌<◌, ◌≤◌, List, [], ◌∷◌, ◌++◌, map, reverse, ◌⊎◌, Option, MatchOption, length}
 use Rattle.std.specs.List.{AllPairs, Contains}
 use Rattle.zarrs_chunk_base.specs.ArraySubset.{AreWithin}
+use Rattle.zarrs_chunk_base.specs.Greatest.{greatest}
 use Rattle.zarrs_chunk_plan.specs.Counts.{product}
+use Rattle.zarrs_chunk_plan.specs.Region.{EndWithin}
+use Rattle.zarrs_chunk_plan.specs.declared.bytes.ByteRanges.{ByteRanges}
 use Rattle.zarrs_chunk_plan.specs.declared.bytes.MemoryOrder.{MemoryOrder}
 use Rattle.zarrs_chunk_plan.specs.declared.bytes.MemoryOrder.TheVariants.{C, F}
 
@@ -46,3 +49,19 @@ HasByte length numbers byte = (n : ℕ) × Contains numbers n × (n ≤ byte) ×
 pub record AreRanges (item : ℕ) (order : MemoryOrder) (edges start shape : List ℕ) (length : ℕ) (numbers : List ℕ) : Type 0 where
   pub those : (byte : ℕ) → IsByteIn item order edges start shape byte ↔ HasByte length numbers byte
   pub apart : AllPairs (λ one later. one + length < later) numbers
+
+-- The ranges that are found of a box: it lies in the chunk, and unless it is empty a number counts the chunk's bytes. There are as many counts as
+-- strides; an empty box has no range, and of another one each range has some byte.
+pub record AreRangesOf (item : ℕ) (order : MemoryOrder) (edges start shape : List ℕ) (ranges : ByteRanges) : Type 0 where
+  pub lies : EndWithin start shape edges
+  pub counted : (¬ Contains shape 0) → product edges * item ≤ greatest
+  pub lists : length ranges.counts.items ≡ length ranges.strides.items
+  pub none : Contains shape 0 → begins ranges.first ranges.counts.items ranges.strides.items ≡ []
+  pub some : (¬ Contains shape 0) → 0 < ranges.length
+  pub are_ranges : AreRanges item order edges start shape ranges.length (begins ranges.first ranges.counts.items ranges.strides.items)
+
+-- and none, where the box doesn't lie in the chunk, or isn't empty and no number counts the chunk's bytes
+abbrev pub FindsRanges : (item : ℕ) → MemoryOrder → (edges start shape : List ℕ) → Option ByteRanges → Type 0
+FindsRanges item order edges start shape found =
+    MatchOption found ((¬ EndWithin start shape edges) ⊎ ((¬ Contains shape 0) × (greatest < product edges * item)))
+    (AreRangesOf item order edges start shape)

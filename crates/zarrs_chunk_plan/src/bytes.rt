@@ -2,8 +2,8 @@
 ghost use Rattle.std.specs.Prelude.{◌≡◌, ◌≢◌, ◌⊎◌, ◌*◌, ◌+◌, ◌<◌, ◌≤◌, ◌∷◌, [], ℕ, IfErr, IfOk, List, MatchOption, OnOk, length, true, false, Contains};
 ghost use Rattle.std.specs.Int.NonZero.{non_zero_u64_get};
 ghost use Rattle.zarrs_chunk_base.specs.Greatest.{greatest};
-ghost use Rattle.zarrs_chunk_base.specs.Refusal.{OrMemory, TellsLengths};
-ghost use Rattle.zarrs_chunk_plan.specs.Bytes.{AreRanges, begins, in_order};
+ghost use Rattle.zarrs_chunk_base.specs.Refusal.{HasMemory, OrMemory, TellsLengths};
+ghost use Rattle.zarrs_chunk_plan.specs.Bytes.{FindsRanges, begins, in_order};
 ghost use Rattle.zarrs_chunk_plan.specs.Counts.{product};
 ghost use Rattle.zarrs_chunk_plan.specs.Region.{EndWithin};
 ghost use Rattle.zarrs_chunk_plan.specs.declared.bytes.MemoryOrder.TheVariants.{C};
@@ -14,17 +14,17 @@ use std::alloc::{AllocError, Global};
 use std::num::NonZeroU64;
 use zarrs_chunk_base::{ArraySubset, IncompatibleDimensionalityError, Refusal};
 
-/// Ranges of bytes of one length. They are as many as the product of `counts`: along the dimension with the number `d` of these lists, the outermost
-/// first, `counts[d]` of them follow one another, and each begins `strides[d]` bytes behind the one before. Without dimensions there is one.
+/// Ranges of bytes of one length, as many as the product of `counts`. For each list of numbers `k`, with `k[d]` below `counts[d]`, one begins at
+/// `first` + `k[0]` * `strides[0]` + `k[1]` * `strides[1]` and so on. Where the lists are empty, there is one.
 #[derive(Debug, Drop)]
 pub struct ByteRanges {
     /// Where the first range begins, counted from the object's first byte.
     pub first: u64,
     /// How many bytes each range has.
     pub length: u64,
-    /// How many ranges there are along each dimension.
+    /// How many ranges follow one another along each dimension of ranges, the outermost first.
     pub counts: Vec<u64>,
-    /// How many bytes two that follow one another along it are apart, from beginning to beginning.
+    /// As many numbers as `counts`: how many bytes there are from the beginning of one to that of the next along each of these dimensions.
     pub strides: Vec<u64>,
 }
 
@@ -39,11 +39,11 @@ pub enum MemoryOrder {
 }
 
 /// Which bytes of a chunk's object hold the elements of a box of the chunk, whose indices are counted from the chunk's first element; `edges` are the
-/// chunk's. The object is the chunk's elements in this order, each in `item_size` bytes, and nothing else: it isn't compressed.
+/// chunk's. The object is the chunk's elements, stored in `order`, each in `item_size` bytes, and nothing else: it isn't compressed.
 ///
 /// The ranges come in order, no byte is in two of them, and no two can be joined. The bytes that they have, one range behind another, are the box's
-/// elements in the same order as the chunk's. An empty box has no range. `None` is answered where the box doesn't lie in the chunk, or the object would be longer
-/// than 18446744073709551615 bytes.
+/// elements in the same order as the chunk's. An empty box has no range. `None` is answered exactly where the box doesn't lie in the chunk, or isn't
+/// empty and the object would be longer than 18446744073709551615 bytes.
 ///
 /// # Errors
 /// The box has another number of dimensions than the chunk; or out of memory.
@@ -54,12 +54,10 @@ pub fn byte_ranges(
     item_size: NonZeroU64,
     order: MemoryOrder,
 ) -> Result<Option<ByteRanges>, Refusal<IncompatibleDimensionalityError>>
-    ensures found { IfOk result (λ found. MatchOption found
-        ((¬ EndWithin elements.now.start elements.now.shape edges.now)
-        ⊎ (greatest < product edges.now * non_zero_u64_get item_size))
-        (λ ranges. AreRanges (non_zero_u64_get item_size) order edges.now elements.now.start
-        elements.now.shape ranges.length
-        (begins ranges.first ranges.counts.items ranges.strides.items))) }
+    ensures found { IfOk result (FindsRanges (non_zero_u64_get item_size) order edges.now
+        elements.now.start elements.now.shape) }
+    ensures lengths { IfOk result (λ _. length elements.now.start ≡ length edges.now) }
+    ensures lengths_first { length elements.now.start ≢ length edges.now → HasMemory result }
     ensures refused { IfErr result (OrMemory (λ e.
         (length elements.now.start ≢ length edges.now)
         × TellsLengths (length elements.now.start) (length edges.now) e)) }
@@ -111,10 +109,8 @@ fn some_ranges(
 ) -> Result<Option<ByteRanges>, AllocError>
     requires within { EndWithin start.now shape.now edges.now }
     requires some { ¬ Contains shape.now 0 }
-    ensures { IfOk result (λ found. MatchOption found
-        (greatest < product edges.now * non_zero_u64_get item_size)
-        (λ ranges. AreRanges (non_zero_u64_get item_size) C edges.now start.now shape.now
-        ranges.length (begins ranges.first ranges.counts.items ranges.strides.items))) }
+    ensures { IfOk result (FindsRanges (non_zero_u64_get item_size) C edges.now start.now
+        shape.now) }
 {
     let mut rows = Rows::of_an_element(alloc, item_size);
     for dimension in (0..edges.len()).rev() {
@@ -136,7 +132,9 @@ fn some_ranges(
 /// # Errors
 /// Out of memory.
 fn no_ranges(alloc: Global) -> Result<ByteRanges, AllocError>
-    ensures { IfOk result (λ ranges. begins ranges.first ranges.counts.items ranges.strides.items ≡ []) }
+    ensures lists { IfOk result (λ ranges. length ranges.counts.items
+        ≡ length ranges.strides.items) }
+    ensures none { IfOk result (λ ranges. begins ranges.first ranges.counts.items ranges.strides.items ≡ []) }
 {
     let mut counts = Vec::with_capacity(alloc, 1)?;
     counts.push(0)?;

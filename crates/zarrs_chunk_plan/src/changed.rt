@@ -23,8 +23,8 @@ pub struct ChangedChunks {
     pub new: Vec<ArraySubset>,
 }
 
-/// What becomes of the chunks of an array that gets another shape, in boxes: of the chunks that hold elements of the array as it was, by one grid, or as
-/// it is to be, by another one. [`changes`](crate::changes) walks over the same chunks, and tells of each what it holds.
+/// What becomes of the chunks of an array that gets another shape, in boxes: of the chunks that hold elements of the array as it was, by one grid, or
+/// as it is to be, by another one. [`changes`](crate::changes) walks over the same chunks, and tells of each what it holds.
 ///
 /// The grids are those that one configuration makes of the two array shapes, or others by which, along each dimension, an index below both
 /// array sizes lies in the same chunk; of other grids nothing is said. Which boxes these are, and their order, isn't promised.

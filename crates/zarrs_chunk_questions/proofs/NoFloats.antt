@@ -208,4 +208,4 @@ no_float (of_array shape tree asked) t (kind, grid, made, is) = of_an_array shap
 no_float (encode tree chunk) t (encoding, made, (key, is_key, is)) = ap has_float is
 no_float (decode tree key dimensionality) t (encoding, made, no_slash, (answer, is_decoded, is)) =
     of_says items_tree (λ v. no_float_in_numbers v.items) answer t is
-no_float (byte_ranges asked) t (is_box, (found, are, is)) = of_says ranges_tree of_ranges found t is
+no_float (byte_ranges asked) t is = of_says ranges_tree of_ranges is.found t is.same

@@ -71,7 +71,8 @@ pub data Asked : Type 0 where
   counts_of_region : (encoding : Data) (target : TargetArray) (share : ShareAsked) (region : RegionAsked) → Asked
   changed_chunks : (resize : List ℕ) → Asked
 
--- what is asked: of the grid of an array with this shape, of which the tree is the metadata; the key of a chunk; the chunk of a key; or of a chunk's bytes
+-- what is asked: of the grid of an array with this shape, of which the tree is the metadata; the key of a chunk; the chunk of a key; or of a chunk's
+-- bytes
 pub data Question : Type 0 where
   of_array : (shape : List ℕ) (chunk_grid : Data) (asked : Asked) → Question
   encode : (encoding : Data) (chunk : List ℕ) → Question

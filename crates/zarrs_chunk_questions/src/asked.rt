@@ -115,7 +115,11 @@ pub(crate) fn numbers(alloc: Global, tree: &Value) -> Result<Vec<u64>, Refusal<U
 }
 
 /// A member that is the start and the shape of a box.
-pub(crate) fn lists(alloc: Global, field: &'static str, tree: &Value) -> Result<Lists, Refusal<Unreadable>>
+pub(crate) fn lists(
+    alloc: Global,
+    field: &'static str,
+    tree: &Value,
+) -> Result<Lists, Refusal<Unreadable>>
     ensures { IsRead lists_of (lists_in field.now (view tree.now)) result }
 {
     required_in(alloc, field, tree)

@@ -69,8 +69,8 @@ impl BytesAsked {
     /// What a line asks of a chunk's bytes.
     ///
     /// # Errors
-    /// The first that applies: `chunk_shape` is missing, or no list of sizes; `of` is missing, or isn't two lists of sizes; `item_size` is missing, or
-    /// no size from 1 on; `memory_order` is neither `C` nor `F`. Or out of memory.
+    /// The first that applies: `chunk_shape` is missing, or no list of sizes; `of` is missing, or isn't two lists of sizes; `item_size` is missing,
+    /// or no size from 1 on; `memory_order` is neither `C` nor `F`. Or out of memory.
     pub(crate) fn from_tree(alloc: Global, tree: &Value) -> Result<BytesAsked, Refusal<Unreadable>>
         ensures { IsRead bytes_of (bytes_in (view tree.now)) result }
     {
@@ -98,7 +98,7 @@ fn memory_order(alloc: Global, tree: &Value) -> Result<Order, Refusal<Unreadable
     }
 }
 
-/// The byte ranges of the box that is asked for; `null`, where the box reaches past the chunk, or the chunk is too long.
+/// The byte ranges of the box that is asked for; `null`, where it ends past the chunk, or isn't empty and the chunk's object would be too long.
 ///
 /// # Errors
 /// The first that applies: the start and the shape make no box; the box has another number of dimensions than the chunk. Or out of memory.

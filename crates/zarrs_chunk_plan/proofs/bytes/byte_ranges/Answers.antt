@@ -7,8 +7,16 @@ use Rattle.zarrs_chunk_plan.proofs.bytes.byte_ranges.Goals as goal
 
 pub returns-then-is_empty-clause-found : goal.returns-then-is_empty-clause-found
 returns-then-is_empty-clause-found c =
-    no_bytes (non_zero_u64_get c.args.item_size) c.args.order c.args.edges.now c.args.elements.now.start c.args.elements.now.shape _ _
-    (c.is_empty.ensures.0 c.if-is_empty.true) c.in_ok-no_ranges.ensures
+    let empty = c.is_empty.ensures.0 c.if-is_empty.true in
+    record {
+      lies = rw (c.start.ensures.value, c.shape.ensures.value) at (c.lies_in.ensures.lies.0 c.if-not-lies_in.false);
+      counted = λ some. absurd (some empty);
+      lists = c.in_ok-no_ranges.ensures.lists;
+      none = λ _. c.in_ok-no_ranges.ensures.none;
+      some = λ some. absurd (some empty);
+      are_ranges = no_bytes (non_zero_u64_get c.args.item_size) c.args.order c.args.edges.now c.args.elements.now.start c.args.elements.now.shape _ _
+          empty c.in_ok-no_ranges.ensures.none;
+    }
 
 pub some_ranges-requires-clause-within : goal.some_ranges-requires-clause-within
 some_ranges-requires-clause-within c =
@@ -25,7 +33,8 @@ some_ranges-requires-clause-some c =
 pub returns-clause-found : goal.returns-clause-found
 returns-clause-found c =
     found_in_order (non_zero_u64_get c.args.item_size) c.args.order c.args.edges.now c.args.elements.now.start c.args.elements.now.shape
-    c.in_ok-found.found
+    (rw (c.start.ensures.value, c.shape.ensures.value) at (c.lies_in.ensures.lies.0 c.if-not-lies_in.false))
+    (λ has. true≢false (sym (c.is_empty.ensures.1 has) ∙ c.if-is_empty.false)) c.in_ok-found.found
     (rw (
       c.deref.ensures.value,
       c.in_ok-edges.ensures,

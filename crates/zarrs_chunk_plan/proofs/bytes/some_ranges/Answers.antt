@@ -1,4 +1,4 @@
-use Rattle.std.proofs.Common.{◌≡◌, ◌-◌, ◌≤◌, suc, arith, drop, length, subst}
+use Rattle.std.proofs.Common.{◌≡◌, ◌-◌, ◌≤◌, suc, arith, inr, drop, length, subst}
 use Rattle.std.proofs.Math.ListN.{drop_of_length-le}
 use Rattle.std.proofs.Math.Seq.{drop-cons}
 use Rattle.std.specs.Int.NonZero.{non_zero_u64_get}
@@ -40,8 +40,11 @@ pub returns-then-not-is_counted : goal.returns-then-not-is_counted
 returns-then-not-is_counted c =
     let left = c.loop-dimension.dimension - 1 in
     let is : c.loop-dimension.dimension ≡ suc left = omega arith in
-    too_long (non_zero_u64_get c.args.item_size) c.args.start.now c.args.shape.now c.args.edges.now c.requires.within c.requires.some left
-    c.loop-dimension.rows.row (omega arith) (rw is at c.loop-dimension.invariant.row_is) (c.in_ok-is_counted.ensures.too_long c.if-not-is_counted.true)
+    inr (
+      c.requires.some,
+      too_long (non_zero_u64_get c.args.item_size) c.args.start.now c.args.shape.now c.args.edges.now c.requires.within c.requires.some left
+          c.loop-dimension.rows.row (omega arith) (rw is at c.loop-dimension.invariant.row_is) (c.in_ok-is_counted.ensures.too_long c.if-not-is_counted.true),
+    )
 
 pub loop-dimension-preserved : goal.loop-dimension-preserved
 loop-dimension-preserved c =
@@ -60,5 +63,13 @@ loop-dimension-preserved c =
 pub returns : goal.returns
 returns c =
     let ended : c.loop-dimension.dimension ≡ 0 = omega arith in
-    (subst (λ d. HasRanges (non_zero_u64_get c.args.item_size) (drop d c.args.edges.now) (drop d c.args.start.now) (drop d c.args.shape.now)
-    c.loop-dimension.rows) ended c.loop-dimension.invariant).are_ranges
+    let all = subst (λ d. HasRanges (non_zero_u64_get c.args.item_size) (drop d c.args.edges.now) (drop d c.args.start.now) (drop d c.args.shape.now)
+    c.loop-dimension.rows) ended c.loop-dimension.invariant in
+    record {
+      lies = c.requires.within;
+      counted = λ _. rw all.row_is at all.fits;
+      lists = all.lists;
+      none = λ empty. absurd (c.requires.some empty);
+      some = λ _. all.long;
+      are_ranges = all.are_ranges;
+    }

@@ -26,10 +26,10 @@ returns-clause-outer c = λ _ item edges starts shape was.
           rw (w.self-is, outer_is)
           (rw (first, long)
           (all_of_rows item edge start count edges starts shape c.args.self.now.first c.args.self.now.length c.args.self.now.counts.items
-          c.args.self.now.strides.items row (omega arith) within _ (eqb-true count edge) (λ miss. false-eqb count edge (sym miss)) (rw w.if-self.true at was)))
+          c.args.self.now.strides.items row (omega arith) within (omega arith) _ (eqb-true count edge) (λ miss. false-eqb count edge (sym miss)) (rw w.if-self.true at was)))
       | else-self+in_ok-insert+in_ok-insert-2 w ↦
           rw (w.self-is, outer_is)
           (rw (first, w.in_ok-insert.ensures.items, w.in_ok-insert-2.ensures.items, w.if-self.false)
           (part_of_rows item edge start count edges starts shape c.args.self.now.first c.args.self.now.length c.args.self.now.counts.items
-          c.args.self.now.strides.items row (omega arith) within (rw w.if-self.false at was)))
+          c.args.self.now.strides.items row (omega arith) within (omega arith) (rw w.if-self.false at was)))
     ]
