@@ -33,8 +33,8 @@ pub struct ByteRanges {
 pub enum MemoryOrder {
     /// Row-major: along the last dimension one element follows another. So the codec `bytes` writes a chunk.
     C,
-    /// Column-major: along the first dimension one element follows another. So does `bytes` behind the codec `transpose` with all dimensions reversed,
-    /// and Zarr V2 where `order` is `F`.
+    /// Column-major: along the first dimension one element follows another. So does `bytes` behind the codec `transpose` with all dimensions
+    /// reversed, and Zarr V2 where `order` is `F`.
     F,
 }
 
@@ -176,8 +176,8 @@ impl Rows {
         }
     }
 
-    /// Goes to the next outer dimension, along which the box has so many rows from one on, and the chunk has so many in all. Tells whether the bytes of
-    /// these are counted by a number.
+    /// Goes to the next outer dimension, along which the box has so many rows from one on, and the chunk has so many in all. Tells whether the bytes
+    /// of these are counted by a number.
     ///
     /// # Errors
     /// Out of memory.

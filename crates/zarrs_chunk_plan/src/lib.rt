@@ -1,10 +1,10 @@
 //! Plans: which parts of which chunks a box of elements is made of, and what a rechunking copies from which chunk to which.
 //!
-//! [`parts`] takes a grid, an encoding and a box of elements, and gives a part for each chunk that holds some of the box, one after
-//! another. [`copies`] takes an array as it is stored and as it is to be stored, and gives for each chunk of the target the parts of the source's
-//! chunks that have its elements. [`copies_of_region`] does so of a box of elements that goes to another place, or to an array of another shape.
-//! [`changes`] tells what becomes of each chunk of an array that gets another shape, [`changed_chunks`] tells it in boxes of chunks. All ask grids and encodings by their traits alone, so these may be
-//! of other crates. `CALLING.md` has callers.
+//! [`parts`] takes a grid, an encoding and a box of elements, and gives a part for each chunk that holds some of the box, one after another.
+//! [`copies`] takes an array as it is stored and as it is to be stored, and gives for each chunk of the target the parts of the source's chunks that
+//! have its elements. [`copies_of_region`] does so of a box of elements that goes to another place, or to an array of another shape. [`changes`]
+//! tells what becomes of each chunk of an array that gets another shape, [`changed_chunks`] tells it in boxes of chunks. All ask grids and encodings
+//! by their traits alone, so these may be of other crates. `CALLING.md` has callers.
 //!
 //! ```text
 //! RegularChunkGrid, array shape [6, 6], chunk shape [4, 3], default keys with `/`, box [3..6, 2..4]

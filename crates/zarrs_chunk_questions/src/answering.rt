@@ -20,7 +20,8 @@ use zarrs_chunk_base::Refusal;
 /// The tree of the answer to a question; `None` where the items of a walk are longer than there is room for.
 ///
 /// # Errors
-/// The first that applies: the grid can't be made; a fault of [`answer_asked`]. Or one of [`key_of_chunk`], [`chunk_of_key`] or [`answer_bytes`]. Or out of memory.
+/// The first that applies: the grid can't be made; a fault of [`answer_asked`]. Or one of [`key_of_chunk`], [`chunk_of_key`] or [`answer_bytes`]. Or
+/// out of memory.
 pub(crate) fn answer_question(
     alloc: Global,
     question: Question<'_>,

@@ -16,8 +16,8 @@ use zarrs_chunk_keys::ChunkKeyEncodingTraits;
 use zarrs_chunk_plan::{ChunkCopies, Copies, Part, Parts};
 use zarrs_chunks::ChunkGridTraits;
 
-/// The tree of the groups of a walk that is at its beginning, from the one with this number on; `None` where their parts are longer than there is room
-/// for. A group is made at a time, and no more of its parts than there is room for.
+/// The tree of the groups of a walk that is at its beginning, from the one with this number on; `None` where their parts are longer than there is
+/// room for. A group is made at a time, and no more of its parts than there is room for.
 ///
 /// # Errors
 /// Out of memory.

@@ -33,8 +33,8 @@ impl<'t> Question<'t> {
     /// What a line's tree asks. What else it has says nothing.
     ///
     /// # Errors
-    /// The first that applies: the tree is no object; where the call is `encode`, `decode` or `byte_ranges`, a member that it reads is missing or isn't of its
-    /// form, in the order in which they are read; and else one of [`of_array`]. Or out of memory.
+    /// The first that applies: the tree is no object; where the call is `encode`, `decode` or `byte_ranges`, a member that it reads is missing or
+    /// isn't of its form, in the order in which they are read; and else one of [`of_array`]. Or out of memory.
     pub(crate) fn from_tree(
         alloc: Global,
         tree: &'t Value,
