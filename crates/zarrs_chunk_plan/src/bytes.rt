@@ -1,10 +1,9 @@
 //! Which bytes of a chunk's object hold the elements of a box, where the chunk is stored uncompressed.
-ghost use Rattle.std.specs.Prelude.{◌≡◌, ◌≢◌, ◌⊎◌, ◌*◌, ◌+◌, ◌<◌, ◌≤◌, ◌∷◌, [], ℕ, IfErr, IfOk, List, MatchOption, OnOk, length, true, false, Contains};
+ghost use Rattle.std.specs.Prelude.{◌≡◌, ◌≢◌, ◌*◌, ◌+◌, ◌<◌, ◌≤◌, ◌∷◌, [], ℕ, IfErr, IfOk, List, length, true, false, Contains};
 ghost use Rattle.std.specs.Int.NonZero.{non_zero_u64_get};
 ghost use Rattle.zarrs_chunk_base.specs.Greatest.{greatest};
 ghost use Rattle.zarrs_chunk_base.specs.Refusal.{HasMemory, OrMemory, TellsLengths};
 ghost use Rattle.zarrs_chunk_plan.specs.Bytes.{FindsRanges, begins, in_order};
-ghost use Rattle.zarrs_chunk_plan.specs.Counts.{product};
 ghost use Rattle.zarrs_chunk_plan.specs.Region.{EndWithin};
 ghost use Rattle.zarrs_chunk_plan.specs.declared.bytes.MemoryOrder.TheVariants.{C};
 ghost use Rattle.zarrs_chunk_plan.specs.seen.Rows.{HasRanges};
@@ -134,7 +133,8 @@ fn some_ranges(
 fn no_ranges(alloc: Global) -> Result<ByteRanges, AllocError>
     ensures lists { IfOk result (λ ranges. length ranges.counts.items
         ≡ length ranges.strides.items) }
-    ensures none { IfOk result (λ ranges. begins ranges.first ranges.counts.items ranges.strides.items ≡ []) }
+    ensures none { IfOk result (λ ranges.
+        begins ranges.first ranges.counts.items ranges.strides.items ≡ []) }
 {
     let mut counts = Vec::with_capacity(alloc, 1)?;
     counts.push(0)?;

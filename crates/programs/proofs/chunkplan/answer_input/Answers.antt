@@ -40,7 +40,7 @@ returns g c =
     in
     let read : (has_failed c.if-ended.reader ≡ false) × (g.R.Read.remaining (watched c.if-ended.reader) ≡ Some []) × (c.if-ended.input.items ≡ input) =
     elim c.if-ended.branch [
-      then-ended+in_ok-read_rest w ↦
+      | then-ended+in_ok-read_rest w ↦
           rw (w.reader-is, w.input-is) (
             w.in_ok-read_rest.ensures.failed ∙ c.in_ok-ended.ensures.failed ∙ not_read,
             rw behind at w.in_ok-read_rest.ensures.end,
