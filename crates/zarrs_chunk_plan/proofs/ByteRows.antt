@@ -27,7 +27,7 @@ mapped a (x ∷ numbers) n (suc k, within, is) =
     let (y, (j, below, has), same) = mapped a numbers n (k, omega arith, is) in (y, (suc j, omega arith, has), same)
 mapped a [] n (k, within, is) = absurd (omega arith)
 
-to_mapped : (a : ℕ) (numbers : List ℕ) (x : ℕ) → Contains numbers x → Contains (map (λ y. y + a) numbers) (x + a)
+pub to_mapped : (a : ℕ) (numbers : List ℕ) (x : ℕ) → Contains numbers x → Contains (map (λ y. y + a) numbers) (x + a)
 to_mapped a (y ∷ numbers) x (zero, within, is) = (zero, omega arith, ap (λ z. z + a) is)
 to_mapped a (y ∷ numbers) x (suc k, within, is) =
     let (j, below, has) = to_mapped a numbers x (k, omega arith, is) in (suc j, omega arith, has)

@@ -28,6 +28,7 @@ pub mod OutsideBoxes
 pub mod Overlaps
 pub mod Plans
 pub mod Products
+pub mod RangeStarts
 pub mod Ranks
 pub mod Rechunkings
 pub mod Regions

@@ -1,10 +1,10 @@
 -- Lists that are read backwards: the dimensions of a chunk that is stored in column-major order.
-use Rattle.std.proofs.Common.{◌≡◌, ◌∙◌, ℕ, ◌+◌, ◌*◌, ◌<◌, ◌≤◌, List, [], ◌∷◌, ◌++◌, Contains, reverse, zero, suc, ap, refl, subst, sym, ⊎_elim, arith, inr, Option, None, Some, inl}
-use Rattle.std.proofs.Math.Nat.{mul_assoc, mul_comm}
+use Rattle.std.proofs.Common.{◌≡◌, ◌∙◌, ℕ, ◌+◌, ◌*◌, ◌<◌, ◌≤◌, List, [], ◌∷◌, ◌++◌, Contains, length, reverse, zero, suc, ap, refl, subst, sym, ⊎_elim, arith, inr, IfSome, Option, None, Some, inl}
+use Rattle.std.proofs.Math.Nat.{add-mul, mul-le-mul_right, mul_assoc, mul_comm}
 use Rattle.std.proofs.lemmas.List.{reverse-append, reverse-reverse}
 use Rattle.std.proofs.lemmas.List.Elements.{Contains-append_cases}
 use Rattle.zarrs_chunk_base.specs.ArraySubset.{AreWithin}
-use Rattle.zarrs_chunk_plan.specs.Bytes.{AreRanges, FindsRanges, in_order}
+use Rattle.zarrs_chunk_plan.specs.Bytes.{AreRanges, AreRangesOf, FindsRanges, HasPast, begins, in_order, place}
 use Rattle.zarrs_chunk_plan.specs.Counts.{product}
 use Rattle.zarrs_chunk_plan.specs.Region.{EndWithin}
 use Rattle.zarrs_chunk_plan.specs.declared.bytes.ByteRanges.{ByteRanges}
@@ -125,3 +125,51 @@ found_in_order item order edges start shape lies some (Some ranges) are = record
   some = λ any. are.some (some_in_order order shape any);
   are_ranges = ranges_in_order item order edges start shape ranges.length _ are.are_ranges;
 }
+
+-- ---- no range begins past the greatest number
+
+-- an element within a box that lies in the chunk is one of the chunk's
+place_below : (start shape edges index : List ℕ) → EndWithin start shape edges → AreWithin start shape index → place edges index < product edges
+place_below [] [] [] [] lies within = omega arith
+place_below (s ∷ start) (n ∷ shape) (e ∷ edges) (i ∷ index) (ends, lies) (from, below, within) =
+    let inner = place_below start shape edges index lies within in
+    let rows = mul-le-mul_right {m = i + 1} {n = e} (product edges) (omega arith) in
+    let next = add-mul i 1 (product edges) in
+    let single : 1 * product edges ≡ product edges = omega arith in
+    omega arith
+place_below [] [] (_ ∷ _) index lies within = absurd lies
+place_below [] (_ ∷ _) edges index lies within = absurd lies
+place_below (_ ∷ _) [] edges index lies within = absurd lies
+place_below (_ ∷ _) (_ ∷ _) [] index lies within = absurd lies
+place_below (_ ∷ _) (_ ∷ _) (_ ∷ _) [] lies within = absurd within
+place_below [] [] [] (_ ∷ _) lies within = absurd within
+
+placed_below : (order : MemoryOrder) (start shape edges index : List ℕ) → EndWithin start shape edges → AreWithin start shape index
+    → place (in_order order edges) (in_order order index) < product edges
+placed_below C start shape edges index lies within = place_below start shape edges index lies within
+placed_below F start shape edges index lies within =
+    subst (λ p. place (reverse edges) (reverse index) < p) (product_reversed edges)
+    (place_below (reverse start) (reverse shape) (reverse edges) (reverse index) (ends_reversed start shape edges lies)
+    (inside_reversed start shape index within))
+
+pub none_past : (item : ℕ) (order : MemoryOrder) (edges start shape : List ℕ) (ranges : ByteRanges) → AreRangesOf item order edges start shape ranges
+    → ¬ HasPast (begins ranges.first ranges.counts.items ranges.strides.items)
+none_past item order edges start shape ranges are (n, among, past) =
+    let some : ¬ Contains shape 0 = λ empty. nothing (begins ranges.first ranges.counts.items ranges.strides.items) n (are.none empty) among in
+    let long = are.some some in
+    let (index, within, (low, high)) = (are.are_ranges.those n).1 (n, among, omega arith, omega arith) in
+    let below = placed_below order start shape edges index are.lies within in
+    let counted = are.counted some in
+    let bytes = mul-le-mul_right {m = place (in_order order edges) (in_order order index) + 1} {n = product edges} item (omega arith) in
+    let next = add-mul (place (in_order order edges) (in_order order index)) 1 item in
+    let single : 1 * item ≡ item = omega arith in
+    omega arith
+  where
+    nothing : (numbers : List ℕ) (n : ℕ) → numbers ≡ [] → ¬ Contains numbers n
+    nothing [] n none (k, small, is) = omega arith
+    nothing (_ ∷ _) n none has = omega (arith, ap length none)
+
+pub fit_of : (item : ℕ) (order : MemoryOrder) (edges start shape : List ℕ) (found : Option ByteRanges) → FindsRanges item order edges start shape found
+    → IfSome found (λ ranges. ¬ HasPast (begins ranges.first ranges.counts.items ranges.strides.items))
+fit_of item order edges start shape None is = tt
+fit_of item order edges start shape (Some ranges) are = none_past item order edges start shape ranges are

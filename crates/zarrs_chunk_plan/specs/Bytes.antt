@@ -40,6 +40,10 @@ abbrev pub begins : (first : ℕ) (counts strides : List ℕ) → List ℕ
 begins first (count ∷ counts) (stride ∷ strides) = repeated count stride (begins first counts strides)
 begins first _ _ = first ∷ []
 
+-- one of the numbers is past the greatest one
+abbrev pub HasPast : List ℕ → Type 0
+HasPast numbers = (n : ℕ) × Contains numbers n × (greatest < n)
+
 -- a range that begins at one of these numbers, and is so long, has the byte
 abbrev pub HasByte : (length : ℕ) (numbers : List ℕ) → ℕ → Type 0
 HasByte length numbers byte = (n : ℕ) × Contains numbers n × (n ≤ byte) × (byte < n + length)

@@ -1,9 +1,9 @@
 //! Which bytes of a chunk's object hold the elements of a box, where the chunk is stored uncompressed.
-ghost use Rattle.std.specs.Prelude.{◌≡◌, ◌≢◌, ◌*◌, ◌+◌, ◌<◌, ◌≤◌, ◌∷◌, [], ℕ, IfErr, IfOk, List, length, true, false, Contains};
+ghost use Rattle.std.specs.Prelude.{◌≡◌, ◌≢◌, ◌*◌, ◌+◌, ◌<◌, ◌≤◌, ◌∷◌, [], ℕ, IfErr, IfOk, IfSome, List, length, true, false, Contains};
 ghost use Rattle.std.specs.Int.NonZero.{non_zero_u64_get};
 ghost use Rattle.zarrs_chunk_base.specs.Greatest.{greatest};
 ghost use Rattle.zarrs_chunk_base.specs.Refusal.{HasMemory, OrMemory, TellsLengths};
-ghost use Rattle.zarrs_chunk_plan.specs.Bytes.{FindsRanges, begins, in_order};
+ghost use Rattle.zarrs_chunk_plan.specs.Bytes.{FindsRanges, HasPast, begins, in_order};
 ghost use Rattle.zarrs_chunk_plan.specs.Region.{EndWithin};
 ghost use Rattle.zarrs_chunk_plan.specs.declared.bytes.MemoryOrder.TheVariants.{C};
 ghost use Rattle.zarrs_chunk_plan.specs.seen.Rows.{HasRanges};
@@ -55,6 +55,8 @@ pub fn byte_ranges(
 ) -> Result<Option<ByteRanges>, Refusal<IncompatibleDimensionalityError>>
     ensures found { IfOk result (FindsRanges (non_zero_u64_get item_size) order edges.now
         elements.now.start elements.now.shape) }
+    ensures fit { IfOk result (λ found. IfSome found (λ ranges.
+        ¬ HasPast (begins ranges.first ranges.counts.items ranges.strides.items))) }
     ensures lengths { IfOk result (λ _. length elements.now.start ≡ length edges.now) }
     ensures lengths_first { length elements.now.start ≢ length edges.now → HasMemory result }
     ensures refused { IfErr result (OrMemory (λ e.

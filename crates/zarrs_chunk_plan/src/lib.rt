@@ -38,6 +38,7 @@
 //! | `region_error` | why a region can't be copied |
 //! | `boxes_from_zero` | the box of all elements of an array, and that of all chunks of a grid |
 //! | `bytes` | `byte_ranges`: which bytes of an uncompressed chunk hold the elements of a box |
+//! | `range_starts` | where byte ranges begin, one after another |
 //! | `clipping` | `clip`: a box of elements without those that the array doesn't have |
 //! | `share` | one of several shares of a plan |
 //! | `chunks_between` | the walk over the chunks of a share |
@@ -65,6 +66,7 @@ mod outside;
 mod overlap;
 mod part;
 mod plan;
+mod range_starts;
 mod rechunking;
 mod region;
 mod region_error;

@@ -2,7 +2,7 @@ use Rattle.std.proofs.Common.{◌∙◌, Contains, sym}
 use Rattle.std.proofs.lemmas.Bool.{true≢false}
 use Rattle.std.specs.Int.NonZero.{non_zero_u64_get}
 use Rattle.zarrs_chunk_plan.proofs.ByteRows.{no_bytes}
-use Rattle.zarrs_chunk_plan.proofs.StoredOrder.{ends_in_order, found_in_order, some_in_order}
+use Rattle.zarrs_chunk_plan.proofs.StoredOrder.{ends_in_order, fit_of, found_in_order, none_past, some_in_order}
 use Rattle.zarrs_chunk_plan.proofs.bytes.byte_ranges.Goals as goal
 
 pub returns-then-is_empty-clause-found : goal.returns-then-is_empty-clause-found
@@ -45,3 +45,9 @@ returns-clause-found c =
       c.in_ok-shape.ensures,
       c.shape-2.ensures.value,
     ) at c.in_ok-found.ensures)
+
+pub returns-then-is_empty-clause-fit : goal.returns-then-is_empty-clause-fit
+returns-then-is_empty-clause-fit c = none_past _ _ _ _ _ _ (returns-then-is_empty-clause-found c)
+
+pub returns-clause-fit : goal.returns-clause-fit
+returns-clause-fit c = fit_of _ _ _ _ _ c.in_ok-found.found (returns-clause-found c)
