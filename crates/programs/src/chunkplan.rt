@@ -9,6 +9,7 @@
 //! | `boxes` | a box as a document writes it |
 //! | `flag` | a flag as a document writes it |
 //! | `share` | a share of a plan as a document writes it |
+//! | `order` | the order of the lines as a document writes it |
 //! | `plan` | the plan that a document asks for |
 //! | `copying` | the lines of a plan, sent as they are made |
 //! | `line` | one line |
@@ -41,6 +42,7 @@ mod keys;
 mod known_members;
 mod line;
 mod missing;
+mod order;
 mod plan;
 mod product;
 mod run_fault;

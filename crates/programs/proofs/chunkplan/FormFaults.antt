@@ -1,17 +1,17 @@
 -- What the members of a tree say of its first fault.
-use Rattle.std.proofs.Common.{◌≡◌, ℕ, List, [], ◌∷◌, IsSome, None, Some, codes}
+use Rattle.std.proofs.Common.{◌≡◌, ℕ, List, [], ◌∷◌, None, Some, codes}
 use Rattle.serde_json.specs.Data.{Data}
 use Rattle.serde_json.specs.Find.{get}
 use Rattle.zarrs_chunk_base.specs.First.{IsFirst}
 use Rattle.programs.specs.Document.{IsMissingFault, IsShapeFault}
 use Rattle.programs.specs.declared.chunkplan.run_fault.RunFault.{RunFault}
-use Rattle.programs.specs.declared.chunkplan.run_fault.RunFault.TheVariants.{KeepOfNoResize, KeysOfCounts, KeysOfNoTarget, NotOfResize}
-use Rattle.programs.specs.declared.chunkplan.run_fault.RunFault.TheVariants.{ShareOfCounts}
+use Rattle.programs.specs.declared.chunkplan.run_fault.RunFault.TheVariants.{KeepOfNoResize, KeysOfCounts, KeysOfNoTarget, NotOfOrder, NotOfResize}
+use Rattle.programs.specs.declared.chunkplan.run_fault.RunFault.TheVariants.{OrderOfNoTarget, ShareOfCounts}
 use Rattle.programs.specs.declared.document_fault.DocumentFault.{DocumentFault}
 use Rattle.programs.specs.declared.document_fault.DocumentFault.TheVariants.{Missing, WrongValue}
 use Rattle.programs.proofs.Members.{has_more, is_there, no_more}
-use Rattle.programs.specs.chunkplan.Document.{Fit, FitResize, FitTask, not_of_resize}
-use Rattle.programs.specs.chunkplan.DocumentFault.{HasMembers, IsFormFault, IsKeysMisfit, IsMisfit, IsTaskMisfit, TellsFirst, document_members}
+use Rattle.programs.specs.chunkplan.Document.{Fit, FitKeys, FitResize, FitTask}
+use Rattle.programs.specs.chunkplan.DocumentFault.{HasMembers, IsFormFault, IsKeysMisfit, IsMisfit, IsOrderMisfit, IsTaskMisfit, document_members}
 use Rattle.programs.specs.chunkplan.DocumentFault.{misformed_shape, missing}
 use Rattle.programs.specs.chunkplan.Known.{HasOnly, known_members}
 use Rattle.programs.specs.chunkplan.RunFault.{of_document}
@@ -44,6 +44,8 @@ task_misfit d (NotOfResize _) fit is = absurd is
 task_misfit d KeepOfNoResize fit is = absurd is
 task_misfit d KeysOfNoTarget fit is = absurd is
 task_misfit d KeysOfCounts fit is = absurd is
+task_misfit d OrderOfNoTarget fit is = absurd is
+task_misfit d (NotOfOrder _) fit is = absurd is
 task_misfit d _ fit is = (fit, is)
 
 -- then `keys`, where they don't go with the others
@@ -52,7 +54,8 @@ keys_misfit d KeysOfNoTarget resize task is = (resize, task, is)
 keys_misfit d KeysOfCounts resize task is = (resize, task, is)
 keys_misfit d _ resize task is = absurd is
 
--- a member that doesn't go with a resize comes first
-pub resize_misfit : (d : Data) (fault : RunFault) → IsSome (get (codes "resize") d) → TellsFirst not_of_resize d fault → IsMisfit d fault
-resize_misfit d (NotOfResize told) some is = (some, is)
-resize_misfit d _ some is = absurd is
+-- and `order`
+pub order_misfit : (d : Data) (fault : RunFault) → FitResize d → FitTask d → FitKeys d → IsOrderMisfit d fault → IsMisfit d fault
+order_misfit d OrderOfNoTarget resize task keys is = (resize, task, keys, is)
+order_misfit d (NotOfOrder _) resize task keys is = (resize, task, keys, is)
+order_misfit d _ resize task keys is = absurd is

@@ -1,5 +1,5 @@
 -- What a document before keys asks for.
-use Rattle.std.proofs.Common.{◌≡◌, ◌⊎◌, ◌∙◌, ℕ, true, IsSome, List, Option, None, Some, ap, codes, inl, inr, is_some, refl, sym, true≢false}
+use Rattle.std.proofs.Common.{◌≡◌, ◌⊎◌, ◌∙◌, ℕ, Bool, true, false, IsSome, List, Option, None, Some, ap, codes, inl, inr, is_some, refl, sym, true≢false}
 use Rattle.std.proofs.lemmas.Option.{none-some, same_Some}
 use Rattle.serde_json.specs.Data.{Data}
 use Rattle.serde_json.specs.Find.{get}
@@ -8,8 +8,10 @@ use Rattle.zarrs_chunk_base.specs.Json.{IsJsonOf}
 use Rattle.zarrs_chunk_plan.specs.declared.share.Share.{Share}
 use Rattle.programs.specs.Stored.{Stored}
 use Rattle.programs.specs.chunkplan.Document.{Document, HasFlag, HasWanted, AsksForLinesOfCopy, IsDocument, IsTask, Task, Wanted, copy_to, counts_wanted}
-use Rattle.programs.specs.chunkplan.Document.{lines_wanted, read_of, rechunk_to, resize_to}
+use Rattle.programs.specs.chunkplan.Document.{HasOrder, lines_wanted, read_of, rechunk_by_source, rechunk_to, resize_to}
 use Rattle.programs.specs.chunkplan.Keys.{HasKeysBehind}
+use Rattle.programs.specs.declared.chunkplan.line.Order.{Order}
+use Rattle.programs.specs.declared.chunkplan.line.Order.TheVariants.{Source, Target}
 
 -- a flag that is true is there
 flag_is_there : (d : Data) (field : List ℕ) → HasFlag d field true → (m : Data) × (get field d ≡ Some m)
@@ -20,18 +22,28 @@ flag_is_there d field (inr (m, there, is)) = (m, there)
 not_missing : (d m : Data) (field : List ℕ) → get field d ≡ Some m → ¬ (get field d ≡ None)
 not_missing d m field there none = none-some m (sym none ∙ there)
 
+source_is_there : (d : Data) → HasOrder d Source → IsSome (get (codes "order") d)
+source_is_there d (inl (none, never)) = absurd (true≢false (sym (ap is_target never)))
+  where
+    is_target : Order → Bool
+    is_target Target = true
+    is_target Source = false
+source_is_there d (inr (m, there, is)) = ap is_some there
+
 are_lines : (d : Data) (wanted : Wanted) → HasWanted d wanted → get (codes "counts") d ≡ None → (share : Share) × (wanted ≡ lines_wanted share)
 are_lines d (lines_wanted share) has none = (share, refl)
 are_lines d counts_wanted has none = let (m, there) = flag_is_there d (codes "counts") has in absurd (not_missing d m (codes "counts") there none)
 
 is_copy : (d : Data) (task : Task) → IsTask d task → IsSome (get (codes "target") d)
-    → (IsSome (get (codes "resize") d) → get (codes "target") d ≡ None)
+    → (IsSome (get (codes "resize") d) → get (codes "target") d ≡ None) → (¬ IsSome (get (codes "order") d))
     → ((stored : Stored) × (chunks : Option Box) × (task ≡ rechunk_to stored chunks))
     ⊎ ((shape : List ℕ) × (stored : Stored) × (region : Box) × (at : Option (List ℕ)) × (task ≡ copy_to shape stored region at))
-is_copy d (read_of subset clip) is some no_resize = absurd (true≢false (sym some ∙ ap is_some is.1.0))
-is_copy d (rechunk_to stored chunks) is some no_resize = inl (stored, chunks, refl)
-is_copy d (copy_to shape stored region at) is some no_resize = inr (shape, stored, region, at, refl)
-is_copy d (resize_to shape keep) is some no_resize =
+is_copy d (read_of subset clip) is some no_resize no_order = absurd (true≢false (sym some ∙ ap is_some is.1.0))
+is_copy d (rechunk_to stored chunks) is some no_resize no_order = inl (stored, chunks, refl)
+is_copy d (rechunk_by_source stored) is some no_resize no_order =
+    let (m, there, (_, _, _, order)) = is.1 in absurd (no_order (source_is_there d order))
+is_copy d (copy_to shape stored region at) is some no_resize no_order = inr (shape, stored, region, at, refl)
+is_copy d (resize_to shape keep) is some no_resize no_order =
     let (m, there, _) = is.0 in
     absurd (true≢false (sym some ∙ ap is_some (no_resize (ap is_some there))))
 
@@ -43,5 +55,6 @@ copy_of_lines line d document json stands (other, also, flag) =
     let some = ap is_some there in
     let fitting = stands.fitting in (
       are_lines d document.wanted stands.wanted (fitting.keys.of_lines some),
-      is_copy d document.task stands.task (fitting.keys.of_target some) (λ resized. (fitting.resize.of_resize resized).0),
+      is_copy d document.task stands.task (fitting.keys.of_target some) (λ resized. (fitting.resize.of_resize resized).0)
+          (λ ordered. not_missing d m (codes "keys") there (fitting.order.of_lines ordered).1.1.1.0),
     )

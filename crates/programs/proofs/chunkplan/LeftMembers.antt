@@ -8,11 +8,13 @@ use Rattle.zarrs_chunk_base.specs.Json.{list_of, size_of}
 use Rattle.programs.specs.declared.chunkplan.run_fault.RunFault.{RunFault}
 use Rattle.programs.specs.declared.chunkplan.run_fault.RunFault.TheVariants.{OtherDataType, OtherShape, UnknownOfTarget}
 use Rattle.programs.specs.chunkplan.Document.{HasBox, HasFlag, HasNumbers, IsBoxIn, IsCopying, IsOfArray, IsOfType, IsTask, IsTaskTo, Task, copy_to}
-use Rattle.programs.specs.chunkplan.Document.{read_of, rechunk_to, resize_to}
+use Rattle.programs.specs.chunkplan.Document.{HasOrder, order_of, read_of, rechunk_by_source, rechunk_to, resize_to}
 use Rattle.programs.specs.chunkplan.DocumentFault.{HasBoxFault, HasFlagFault, HasNumbersFault, IsCopyingFault, IsTargetMisfit, IsTaskFault}
-use Rattle.programs.specs.chunkplan.DocumentFault.{IsTaskToFault, IsTypeMisfit, of_at, of_chunks, of_clip, of_copying, of_keep, of_misfit, of_region}
-use Rattle.programs.specs.chunkplan.DocumentFault.{of_region_stored, of_resize, of_shape, of_subset, of_target, of_target_stored, of_task, of_type}
+use Rattle.programs.specs.chunkplan.DocumentFault.{HasOrderFault, IsTaskToFault, IsTypeMisfit, of_at, of_chunks, of_clip, of_copying, of_keep, of_misfit}
+use Rattle.programs.specs.chunkplan.DocumentFault.{of_order, of_region, of_region_stored, of_resize, of_shape, of_subset, of_target, of_target_stored, of_task, of_type}
 use Rattle.programs.specs.chunkplan.Known.{Agree, Differ}
+use Rattle.programs.specs.declared.chunkplan.line.Order.{Order}
+use Rattle.programs.specs.declared.chunkplan.line.Order.TheVariants.{Source, Target}
 
 -- ---- one member
 
@@ -39,6 +41,14 @@ has_numbers d left field numbers same =
 pub has_numbers_fault : (d left : Data) (field : List ℕ) (fault : RunFault) → get field left ≡ get field d → HasNumbersFault left field fault
     → HasNumbersFault d field fault
 has_numbers_fault d left field fault same (m, there, none, tells) = (m, sym same ∙ there, none, tells)
+
+pub has_order : (d left : Data) (order : Order) → get (codes "order") left ≡ get (codes "order") d → HasOrder left order → HasOrder d order
+has_order d left order same =
+    subst (λ found. ((found ≡ None) × (order ≡ Target)) ⊎ ((m : Data) × (found ≡ Some m) × (order_of m ≡ Some order))) same
+
+pub has_order_fault : (d left : Data) (fault : RunFault) → get (codes "order") left ≡ get (codes "order") d → HasOrderFault left fault
+    → HasOrderFault d fault
+has_order_fault d left fault same (m, there, none, tells) = (m, sym same ∙ there, none, tells)
 
 -- ---- a target of the array
 
@@ -82,15 +92,23 @@ pub record AskAlike (d left : Data) : Type 0 where
   pub subset : get (codes "subset") left ≡ get (codes "subset") d
   pub chunks : get (codes "chunks") left ≡ get (codes "chunks") d
   pub at : get (codes "at") left ≡ get (codes "at") d
+  pub order : get (codes "order") left ≡ get (codes "order") d
 
 module _ (d left m : Data) (same : AskAlike d left) where
   pub is_task_to : (task : Task) → IsTaskTo left m task → IsTaskTo d m task
   is_task_to (read_of b clip) is = absurd is
-  is_task_to (rechunk_to stored b) (none, of_array, has, box) = (
+  is_task_to (rechunk_to stored b) (none, of_array, has, order, box) = (
     sym same.subset ∙ none,
     is_of_array d left m same.shape same.data_type of_array,
     has,
+    has_order d left Target same.order order,
     has_box d left (codes "chunks") b same.chunks box,
+  )
+  is_task_to (rechunk_by_source stored) (none, of_array, has, order) = (
+    sym same.subset ∙ none,
+    is_of_array d left m same.shape same.data_type of_array,
+    has,
+    has_order d left Source same.order order,
   )
   is_task_to (copy_to shape stored region at) (typed, sizes, has, box, numbers) = (
     is_of_type d left m same.data_type typed,
@@ -109,9 +127,12 @@ module _ (d left m : Data) (same : AskAlike d left) where
       of_misfit (sym same.subset ∙ none) (is_target_misfit d left m same.shape same.data_type fault is)
   is_task_to_fault fault (of_target_stored told none of_array is told_so) =
       of_target_stored told (sym same.subset ∙ none) (is_of_array d left m same.shape same.data_type of_array) is told_so
-  is_task_to_fault fault (of_chunks stored none of_array has is) =
+  is_task_to_fault fault (of_order stored none of_array has is) =
+      of_order stored (sym same.subset ∙ none) (is_of_array d left m same.shape same.data_type of_array) has
+      (has_order_fault d left fault same.order is)
+  is_task_to_fault fault (of_chunks stored none of_array has order is) =
       of_chunks stored (sym same.subset ∙ none) (is_of_array d left m same.shape same.data_type of_array) has
-      (has_box_fault d left (codes "chunks") fault same.chunks is)
+      (has_order d left Target same.order order) (has_box_fault d left (codes "chunks") fault same.chunks is)
   is_task_to_fault fault (of_type some is) = of_type (some_subset some) (is_type_misfit d left m same.data_type fault is)
   is_task_to_fault fault (of_shape told some type is told_so) =
       of_shape told (some_subset some) (is_of_type d left m same.data_type type) is told_so
@@ -127,6 +148,7 @@ module _ (d left m : Data) (same : AskAlike d left) where
 pub with_target : (d m : Data) (task : Task) → get (codes "target") d ≡ Some m → IsTaskTo d m task → IsCopying d task
 with_target d m (read_of b clip) there is = absurd is
 with_target d m (rechunk_to stored b) there is = (m, there, is)
+with_target d m (rechunk_by_source stored) there is = (m, there, is)
 with_target d m (copy_to shape stored region at) there is = (m, there, is)
 with_target d m (resize_to shape keep) there is = absurd is
 
@@ -134,6 +156,7 @@ with_target d m (resize_to shape keep) there is = absurd is
 pub without_resize : (d : Data) (task : Task) → get (codes "resize") d ≡ None → IsCopying d task → IsTask d task
 without_resize d (read_of b clip) none is = (none, is)
 without_resize d (rechunk_to stored b) none is = (none, is)
+without_resize d (rechunk_by_source stored) none is = (none, is)
 without_resize d (copy_to shape stored region at) none is = (none, is)
 without_resize d (resize_to shape keep) none (m, there, is) = absurd is
 
@@ -154,6 +177,7 @@ module _ (d left : Data) (are_left : AreLeft d left) where
     subset = short (codes "subset") (omega arith);
     chunks = short (codes "chunks") (omega arith);
     at = short (codes "at") (omega arith);
+    order = short (codes "order") (omega arith);
   }
 
   is_copying : (task : Task) → IsCopying left task → IsCopying d task
@@ -164,6 +188,8 @@ module _ (d left : Data) (are_left : AreLeft d left) where
   )
   is_copying (rechunk_to stored b) (m, there, is) =
       (m, sym (short (codes "target") (omega arith)) ∙ there, is_task_to d left m ask_alike (rechunk_to stored b) is)
+  is_copying (rechunk_by_source stored) (m, there, is) =
+      (m, sym (short (codes "target") (omega arith)) ∙ there, is_task_to d left m ask_alike (rechunk_by_source stored) is)
   is_copying (copy_to shape stored region at) (m, there, is) =
       (m, sym (short (codes "target") (omega arith)) ∙ there, is_task_to d left m ask_alike (copy_to shape stored region at) is)
   is_copying (resize_to shape keep) (m, there, is) = absurd is
@@ -175,6 +201,8 @@ module _ (d left : Data) (are_left : AreLeft d left) where
   )
   is_task (read_of b clip) (none, is) = (sym (short (codes "resize") (omega arith)) ∙ none, is_copying (read_of b clip) is)
   is_task (rechunk_to stored b) (none, is) = (sym (short (codes "resize") (omega arith)) ∙ none, is_copying (rechunk_to stored b) is)
+  is_task (rechunk_by_source stored) (none, is) =
+      (sym (short (codes "resize") (omega arith)) ∙ none, is_copying (rechunk_by_source stored) is)
   is_task (copy_to shape stored region at) (none, is) =
       (sym (short (codes "resize") (omega arith)) ∙ none, is_copying (copy_to shape stored region at) is)
 
@@ -216,3 +244,6 @@ clip_is_no_target same = let first : 99 ≡ 116 = ap (λ name. get_or name 0 0) 
 
 pub at_is_no_target : codes "at" ≢ codes "target"
 at_is_no_target same = let first : 97 ≡ 116 = ap (λ name. get_or name 0 0) same in absurd (omega (arith, first))
+
+pub order_is_no_target : codes "order" ≢ codes "target"
+order_is_no_target same = let first : 111 ≡ 116 = ap (λ name. get_or name 0 0) same in absurd (omega (arith, first))

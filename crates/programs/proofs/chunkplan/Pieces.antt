@@ -4,16 +4,18 @@ use Rattle.std.proofs.Common.{◌∷◌, ◌++◌, codes, Option, append_assoc, 
 use Rattle.std.proofs.lemmas.Grind.{fold-append}
 use Rattle.std.specs.List.{fold}
 use Rattle.json.specs.Json.{Json, null, boolean, number, string, array, object, Items, no_items, item, Members, no_members, member}
-use Rattle.json.specs.Print.{ends, escape_byte, print, print_from}
-use Rattle.json.specs.Token.{Token, end_array}
+use Rattle.json.specs.Print.{begins, ends, print, print_from}
+use Rattle.json.specs.Token.{Token, begin_array, begin_object, end_array, end_object, key}
 use Rattle.json.specs.Tree.{items_tokens, json_tokens, members_tokens}
 use Rattle.json.proofs.Printed.Tokens.{print_from-append}
 use Rattle.std.proofs.lemmas.Bool.{cases_lt, le-leb, lt-leb}
 use Rattle.zarrs_chunk_base.specs.Greatest.{greatest}
 use Rattle.zarrs_chunk_plan.specs.Counted.{counted}
 use Rattle.zarrs_chunk_plan.specs.declared.part.Part.{Part}
-use Rattle.programs.specs.chunkplan.Line.{end_members, group_line, lines_from, source_json, sources_items}
-use Rattle.programs.specs.chunkplan.seen.Pieces.{comma_before, end_of_line, source_text}
+use Rattle.programs.specs.chunkplan.Line.{chunk_json, count_json, end_members, group_json, group_line, lines_from, piece_json, pieces_items}
+use Rattle.programs.specs.chunkplan.seen.Pieces.{begin_of_line, begin_tokens, comma_before, end_of_line, end_tokens, piece_text}
+use Rattle.programs.specs.declared.chunkplan.line.Order.{Order}
+use Rattle.programs.specs.declared.chunkplan.line.Order.TheVariants.{Source, Target}
 
 -- whether a value has just ended behind these tokens
 abbrev ended : Bool → List Token → Bool
@@ -48,36 +50,75 @@ comma_behind n =
     ⊎_elim (λ (past : greatest < suc n). rw (lt-leb (suc n) greatest past) refl)
     (λ (fits : suc n ≤ greatest). rw (le-leb (suc n) greatest fits) refl) (cases_lt greatest (suc n))
 
-module _ (to : Part) where
-  source_printed : (n : ℕ) (from : Part)
-      → print_from (some_came n) (json_tokens (source_json to.in_chunk.start from)) ≡ source_text to (counted n) from
-  unfolding print_from counted
-  source_printed zero from = refl
-  source_printed (suc n) from =
-      ap (λ comma. comma ++ print (json_tokens (source_json to.in_chunk.start from))) (sym (comma_behind n))
+first_printed : (ts : List Token) (n : ℕ) → (t : Token) → (begins t ≡ true)
+    → print_from (some_came n) (t ∷ ts) ≡ comma_before (counted n) ++ print (t ∷ ts)
+unfolding print_from counted
+first_printed ts zero t begins_value = refl
+first_printed ts (suc n) t begins_value =
+    rw begins_value (ap (λ comma. comma ++ print (t ∷ ts)) (sym (comma_behind n)))
 
-  sources_texts : (n : ℕ) (from : List Part) (ts : List Token)
-      → print_from (some_came n) (items_tokens (sources_items to.in_chunk.start from) ++ ts)
-      ≡ lines_from (λ n. source_text to (counted n)) n from ++ print_from false (end_array ∷ ts)
+-- behind these tokens no value has ended, where that is so behind others before them
+begun_again : (b : Bool) (ts us : List Token) → ((c : Bool) → ended c us ≡ false) → ended b (ts ++ us) ≡ false
+begun_again b ts us none = fold-append (λ _ t. ends t) b ts us ∙ none (ended b ts)
+
+module _ (of : Part) where
+  piece_printed : (order : Order) (n : ℕ) (part : Part)
+      → print_from (some_came n) (json_tokens (piece_json order of.in_chunk.start part)) ≡ piece_text order of (counted n) part
+  piece_printed Target n part = first_printed _ n begin_object refl
+  piece_printed Source n part = first_printed _ n begin_object refl
+
+  pieces_texts : (order : Order) (n : ℕ) (parts : List Part) (ts : List Token)
+      → print_from (some_came n) (items_tokens (pieces_items order of.in_chunk.start parts) ++ ts)
+      ≡ lines_from (λ n. piece_text order of (counted n)) n parts ++ print_from false (end_array ∷ ts)
   unfolding print_from
-  sources_texts zero [] ts = refl
-  sources_texts (suc n) [] ts = refl
-  sources_texts n (from ∷ others) ts =
-      let js = json_tokens (source_json to.in_chunk.start from) in
-      let rest = items_tokens (sources_items to.in_chunk.start others) in
+  pieces_texts order zero [] ts = refl
+  pieces_texts order (suc n) [] ts = refl
+  pieces_texts order n (part ∷ others) ts =
+      let json = piece_json order of.in_chunk.start part in
+      let js = json_tokens json in
+      let rest = items_tokens (pieces_items order of.in_chunk.start others) in
       ap (print_from (some_came n)) (append_assoc js rest ts)
       ∙ print_from-append (some_came n) js (rest ++ ts)
-      ∙ rw (json_ends (some_came n) (source_json to.in_chunk.start from), source_printed n from)
-      (ap (λ text. source_text to (counted n) from ++ text) (sources_texts (suc n) others ts))
-      ∙ sym (append_assoc (source_text to (counted n) from) _ _)
+      ∙ rw (json_ends (some_came n) json, piece_printed order n part)
+      (ap (λ text. piece_text order of (counted n) part ++ text) (pieces_texts order (suc n) others ts))
+      ∙ sym (append_assoc (piece_text order of (counted n) part) _ _)
 
-  pub in_pieces : (at of : Option ℕ) (from : List Part)
-      → group_line at of (to, from)
-      ≡ (codes "{\"from\":[" ++ lines_from (λ n. source_text to (counted n)) 0 from) ++ end_of_line at of to
-  unfolding print_from escape_byte
-  in_pieces at of from =
-      let texts = lines_from (λ n. source_text to (counted n)) 0 from in
-      let last = print (end_array ∷ members_tokens (end_members at of to)) in
-      ap (λ text. (codes "{\"from\":[" ++ text) ++ codes "\n") (sources_texts 0 from (members_tokens (end_members at of to)))
-      ∙ ap (λ text. text ++ codes "\n") (sym (append_assoc (codes "{\"from\":[") texts last))
-      ∙ append_assoc (codes "{\"from\":[" ++ texts) last (codes "\n")
+  -- the tokens of a line: those before its pieces, the pieces, and those behind them
+  line_tokens : (order : Order) (at all : Option ℕ) (parts : List Part) → (ts : List Token)
+      × (json_tokens (group_json order at all (of, parts))
+      ≡ begin_tokens order at all of ++ (items_tokens (pieces_items order of.in_chunk.start parts) ++ ts))
+      × (end_tokens order at all of ≡ end_array ∷ ts) × (ended false (begin_tokens order at all of) ≡ false)
+  line_tokens Target at all parts = (members_tokens (end_members at all of), refl, refl, refl)
+  line_tokens Source at all parts =
+      let chunk = json_tokens (chunk_json of) in
+      let number = json_tokens (count_json at) in
+      let count = json_tokens (count_json all) in
+      let pieces = items_tokens (pieces_items Source of.in_chunk.start parts) in
+      let last : List Token = key (codes "to") ∷ begin_array ∷ [] in
+      let third : List Token = key (codes "of") ∷ (count ++ last) in
+      let second : List Token = key (codes "number") ∷ (number ++ third) in
+      let rest : List Token = pieces ++ end_object ∷ [] in (
+        end_object ∷ [],
+        ap (λ ts. begin_object ∷ key (codes "from") ∷ ts)
+            (ap (λ ts. chunk ++ key (codes "number") ∷ ts)
+            (ap (λ ts. number ++ key (codes "of") ∷ ts) (sym (append_assoc count last rest)) ∙ sym (append_assoc number third rest))
+            ∙ sym (append_assoc chunk second rest)),
+        refl,
+        begun_again false chunk second (λ _. begun_again false number third (λ _. begun_again false count last (λ _. refl))),
+      )
+
+  pub in_pieces : (order : Order) (at all : Option ℕ) (parts : List Part)
+      → group_line order at all (of, parts)
+      ≡ (begin_of_line order at all of ++ lines_from (λ n. piece_text order of (counted n)) 0 parts) ++ end_of_line order at all of
+  in_pieces order at all parts =
+      let texts = lines_from (λ n. piece_text order of (counted n)) 0 parts in
+      let first = begin_tokens order at all of in
+      let (ts, tokens, last, begun) = line_tokens order at all parts in
+      let pieces = items_tokens (pieces_items order of.in_chunk.start parts) in
+      let rest : print_from (ended false first) (pieces ++ ts) ≡ texts ++ print (end_tokens order at all of) =
+      ap (λ b. print_from b (pieces ++ ts)) begun ∙ pieces_texts order 0 parts ts ∙ ap (λ us. texts ++ print us) (sym last)
+      in
+      ap (λ text. text ++ codes "\n")
+      (ap print tokens ∙ print_from-append false first (pieces ++ ts) ∙ ap (λ text. print first ++ text) rest
+      ∙ sym (append_assoc (print first) texts (print (end_tokens order at all of))))
+      ∙ append_assoc (print first ++ texts) (print (end_tokens order at all of)) (codes "\n")

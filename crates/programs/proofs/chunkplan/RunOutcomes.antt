@@ -13,13 +13,13 @@ use Rattle.programs.specs.chunkplan.DocumentFault.{HasBoxFault, HasWantedFault, 
 use Rattle.programs.specs.chunkplan.DocumentFault.{misfit, misformed_keys, misformed_shape, misformed_stored, misformed_task, misformed_wanted, missing}
 use Rattle.programs.specs.chunkplan.DocumentFault.{no_object, not_of_form}
 use Rattle.programs.specs.chunkplan.DocumentFault.{IsTaskFault, IsTaskToFault, IsTypeMisfit, IsUnknownFault, TellsMissing, TellsWrongValue, of_at}
-use Rattle.programs.specs.chunkplan.DocumentFault.{of_clip, of_copying, of_keep, of_misfit, of_region_stored, of_shape, of_target_stored, of_task}
-use Rattle.programs.specs.chunkplan.DocumentFault.{of_resize as of_resize_form, of_type, unknown}
+use Rattle.programs.specs.chunkplan.DocumentFault.{of_clip, of_copying, of_keep, of_misfit, of_order, of_region_stored, of_shape, of_target_stored}
+use Rattle.programs.specs.chunkplan.DocumentFault.{of_resize as of_resize_form, of_task, of_type, unknown}
 use Rattle.programs.specs.chunkplan.DocumentFault.{of_chunks as of_chunks_box, of_region as of_region_box, of_subset as of_subset_box}
 use Rattle.programs.specs.chunkplan.DocumentFault.{of_target as of_target_tree}
 use Rattle.programs.specs.chunkplan.PlanFault.{IsChunksFault, IsCopyFault, IsFaultBeside, IsFirstFault, IsPlanFault, IsReadFault, IsResizeFault, IsTargetFault}
 use Rattle.programs.specs.chunkplan.PlanFault.{beside_keys, long_document, no_document, no_first_document, of_keys, of_plan}
-use Rattle.programs.specs.chunkplan.PlanFault.{no_plan, of_chunks, of_region, of_region_target, of_resize, of_source, of_subset, of_target}
+use Rattle.programs.specs.chunkplan.PlanFault.{no_plan, of_chunks, of_region, of_region_target, of_resize, of_source, of_subset, of_takers, of_target}
 use Rattle.programs.specs.chunkplan.Keys.{IsKeysFault, first_line}
 use Rattle.programs.specs.chunkplan.Planned.{IsPlanOf, begins_at}
 use Rattle.programs.specs.chunkplan.Run.{HasBegunPlan, RunLeaves}
@@ -74,7 +74,8 @@ box_still d field fault (m, _, is) = still (IsBoxFormFault m field) (λ h. h) (�
 target_still : (d target : Data) (fault : RunFault) → IsTaskToFault d target fault → moves fault ≡ false
 target_still d target fault (of_misfit _ is) = still (IsTargetMisfit d target) (λ h. h) (λ h. h) fault is
 target_still d target fault (of_target_stored told _ _ _ same) = ap moves same ∙ of_document_still told
-target_still d target fault (of_chunks_box _ _ _ _ is) = box_still d (codes "chunks") fault is
+target_still d target fault (of_order _ _ _ _ (_, _, _, is)) = still (TellsWrongValue (codes "order")) (λ h. h) (λ h. h) fault is
+target_still d target fault (of_chunks_box _ _ _ _ _ is) = box_still d (codes "chunks") fault is
 target_still d target fault (of_type _ is) = still (IsTypeMisfit d target) (λ h. h) (λ h. h) fault is
 target_still d target fault (of_shape told _ _ _ same) = ap moves same ∙ of_document_still told
 target_still d target fault (of_region_stored told _ _ _ _ same) = ap moves same ∙ of_document_still told
@@ -118,6 +119,7 @@ plan_still document fault (of_subset subset clip grid _ _ _ is) =
 plan_still document fault (of_target stored _ _ _ _ _ is) = still (IsTargetFault stored document.shape) (λ h. h) (λ h. h) fault is
 plan_still document fault (of_chunks _ chunks _ target _ _ _ _ _ is) =
     still (IsChunksFault target.dimensions (unwrap_or chunks (all_chunks_box target.dimensions))) (λ h. h) (λ h. h) fault is
+plan_still document fault (of_takers stored _ _ _ _ is) = still (IsTargetFault stored document.shape) (λ h. h) (λ h. h) fault is
 plan_still document fault (of_region_target shape stored _ _ _ _ _ _ is) = still (IsTargetFault stored shape) (λ h. h) (λ h. h) fault is
 plan_still document fault (of_region _ _ region at source target _ _ _ _ _ is) =
     copy_still source.dimensions target.dimensions region (begins_at region at) fault is

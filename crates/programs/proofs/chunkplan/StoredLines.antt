@@ -15,6 +15,7 @@ use Rattle.zarrs_chunk_plan.specs.seen.Copies.{AreMovesToCome}
 use Rattle.zarrs_chunk_plan.specs.seen.StoredChunks.{Knows, is_stored}
 use Rattle.zarrs_chunk_plan.proofs.ByNumber.{counted_cases}
 use Rattle.programs.specs.chunkplan.Keys.{AsStoreKey, IsKeysFault, IsMissingText, TellsThere}
+use Rattle.programs.specs.declared.chunkplan.line.Order.TheVariants.{Target}
 use Rattle.programs.specs.declared.chunkplan.run_fault.RunFault.{RunFault}
 use Rattle.programs.specs.chunkplan.seen.Missing.{HaveMarked, HaveNoted, is_left_out, share_unless_stored}
 
@@ -71,7 +72,7 @@ module _ (target : List Dimension) (IsKeyOf : List ℕ → List ℕ → Type 0) 
         )
 
   pub missing_text : (foreign : List ℕ) (noted : HaveNoted target IsKeyOf targets keys stored foreign) (share : Share)
-      → IsMissingText target IsKeyOf keys share groups (share_unless_stored (Some stored) share groups ++ foreign)
+      → IsMissingText target IsKeyOf keys share groups (share_unless_stored Target (Some stored) share groups ++ foreign)
   missing_text foreign noted share =
       let long = AllZip-long IsGroupOf targets groups are in
       record {
@@ -81,7 +82,7 @@ module _ (target : List Dimension) (IsKeyOf : List ℕ → List ℕ → Type 0) 
         tells = tells noted.marked;
         foreign = noted.foreign;
         are_foreign = noted.are_foreign;
-        text_is = ap (λ text. share_unless_stored (Some stored) share groups ++ text) noted.text_is;
+        text_is = ap (λ text. share_unless_stored Target (Some stored) share groups ++ text) noted.text_is;
       }
 
 -- ---- what is sent of a walk, and why it stops

@@ -1,31 +1,37 @@
 -- The program's document: a JSON object with the members `shape`, `chunk_grid` and `chunk_key_encoding`. Besides it has, for a read, `subset` and `clip`,
--- if they are wanted; for a rechunking, `target`, and `chunks` if it is wanted; for the copy of a region, `target` and `subset`, and `at` if it is wanted.
+-- if they are wanted; for a rechunking, `target`, and `chunks` or `order` if it is wanted; for the copy of a region, `target` and `subset`, and `at` if it
+-- is wanted.
 -- `share` or `counts` says what is wanted of the plan, if not all lines; beside a target, `keys` that keys of its store stand behind the document. For a
 -- resize it has `resize`, and `keep` if it is wanted, and none of these.
 -- What else an array's `zarr.json` has may stand in it and in the target.
-use Rattle.std.specs.Prelude.{◌≡◌, ◌⊎◌, ℕ, Bool, true, false, List, [], ◌∷◌, Option, Some, None, IsSome, codes, MatchOption, option_map}
+use Rattle.std.specs.Prelude.{◌≡◌, ◌⊎◌, ℕ, Bool, true, false, if◌then◌else◌, List, [], ◌∷◌, Option, Some, None, IsSome, bytes_eq, codes, MatchOption}
+use Rattle.std.specs.Prelude.{option_and_then, option_map}
 use Rattle.std.specs.List.{AllByRecursion}
 use Rattle.serde_json.specs.Data.{Data}
-use Rattle.serde_json.specs.Find.{as_bool, get}
+use Rattle.serde_json.specs.Find.{as_bool, as_str, get}
 use Rattle.zarrs_chunk_base.specs.ArraySubset.{Box, IsBox}
 use Rattle.zarrs_chunk_base.specs.Json.{size_of, list_of, pair_of}
 use Rattle.zarrs_chunk_plan.specs.declared.share.Share.{Share}
 use Rattle.programs.specs.Document.{HasStored, shape_in}
 use Rattle.programs.specs.Stored.{Stored, stored_of}
 use Rattle.programs.specs.chunkplan.Known.{Agree, HasOnly, known_members, zarr_json_members}
+use Rattle.programs.specs.declared.chunkplan.line.Order.{Order}
+use Rattle.programs.specs.declared.chunkplan.line.Order.TheVariants.{Source, Target}
 use Rattle.programs.specs.declared.chunkplan.document.Document.{Document as DocumentValue}
 use Rattle.programs.specs.declared.chunkplan.document.Task.{Task as TaskValue}
 use Rattle.programs.specs.declared.chunkplan.document.Task.TheVariants.{Copy as CopyValue, Read as ReadValue, Rechunk as RechunkValue}
-use Rattle.programs.specs.declared.chunkplan.document.Task.TheVariants.{Resize as ResizeValue}
+use Rattle.programs.specs.declared.chunkplan.document.Task.TheVariants.{RechunkBySource as RechunkBySourceValue, Resize as ResizeValue}
 use Rattle.programs.specs.declared.chunkplan.document.Wanted.{Wanted as WantedValue}
 use Rattle.programs.specs.declared.chunkplan.document.Wanted.TheVariants.{Counts as CountsValue, Lines as LinesValue}
 
--- What is asked for: a read of a box of elements, or of all, as it is or clipped to the array; a rechunking into chunks of a box, or into all;
+-- What is asked for: a read of a box of elements, or of all, as it is or clipped to the array; a rechunking into chunks of a box, or into all; one in
+-- the order of the source, a line for each of its chunks;
 -- the copy of a region, a box of elements, to an array of a shape that is stored in some way, to begin there at an index, where one is given; or a
 -- resize of the array to another shape, and whether the chunks are wanted too that stay as they are stored.
 pub data Task : Type 0 where
   read_of : Option Box → (clip : Bool) → Task
   rechunk_to : Stored → Option Box → Task
+  rechunk_by_source : Stored → Task
   copy_to : (shape : List ℕ) → Stored → (region : Box) → (at : Option (List ℕ)) → Task
   resize_to : (shape : List ℕ) → (keep : Bool) → Task
 
@@ -46,6 +52,7 @@ pub record Document : Type 0 where
 abbrev pub task_of : TaskValue → Task
 task_of (ReadValue subset clip) = read_of subset clip
 task_of (RechunkValue target chunks) = rechunk_to (stored_of target) chunks
+task_of (RechunkBySourceValue target) = rechunk_by_source (stored_of target)
 task_of (CopyValue shape target region at) = copy_to shape.items (stored_of target) region (option_map (λ v. v.items) at)
 task_of (ResizeValue shape keep) = resize_to shape.items keep
 
@@ -75,6 +82,16 @@ abbrev pub HasFlag : Data → List ℕ → Bool → Type 0
 HasFlag d field flag =
     ((get field d ≡ None) × (flag ≡ false)) ⊎ ((m : Data) × (get field d ≡ Some m) × (as_bool m ≡ Some flag))
 
+-- the order that a text names: that of the target or of the source
+abbrev pub order_of : Data → Option Order
+order_of d = option_and_then (λ text. if bytes_eq text (codes "target") then Some Target
+    else (if bytes_eq text (codes "source") then Some Source else None)) (as_str d)
+
+-- The member `order` names the order of the lines; where it is absent, they are in that of the target.
+abbrev pub HasOrder : Data → Order → Type 0
+HasOrder d order =
+    ((get (codes "order") d ≡ None) × (order ≡ Target)) ⊎ ((m : Data) × (get (codes "order") d ≡ Some m) × (order_of m ≡ Some order))
+
 -- The member `share` is a list of the share's number, counted from 0, and how many shares there are, which is greater, as of any `Share`; where it
 -- is absent, the share is the one that is the whole plan.
 abbrev pub HasShare : Data → Share → Type 0
@@ -98,12 +115,14 @@ pub record IsOfArray (d target : Data) : Type 0 where
   pub same_shape : Agree (codes "shape") d target
   pub same_data_type : Agree (codes "data_type") d target
 
--- What is asked for with this target: where there is no `subset`, a rechunking, with the target's own two members, and `chunks`; and else the copy of
--- a region, with the target's `shape` too, and `at`.
+-- What is asked for with this target: where there is no `subset`, a rechunking, with the target's own two members, and `order`, and in that of the
+-- target `chunks`; and else the copy of a region, with the target's `shape` too, and `at`.
 abbrev pub IsTaskTo : (d target : Data) → Task → Type 0
 IsTaskTo d target (read_of subset clip) = ⊥
 IsTaskTo d target (rechunk_to stored chunks) =
-    (get (codes "subset") d ≡ None) × IsOfArray d target × HasStored target stored × HasBox d (codes "chunks") chunks
+    (get (codes "subset") d ≡ None) × IsOfArray d target × HasStored target stored × HasOrder d Target × HasBox d (codes "chunks") chunks
+IsTaskTo d target (rechunk_by_source stored) =
+    (get (codes "subset") d ≡ None) × IsOfArray d target × HasStored target stored × HasOrder d Source
 IsTaskTo d target (copy_to shape stored region at) = IsOfType d target × (shape_in target ≡ Some shape) × HasStored target stored
     × HasBox d (codes "subset") (Some region) × HasNumbers d (codes "at") at
 IsTaskTo d target (resize_to shape keep) = ⊥
@@ -129,7 +148,7 @@ pub record FitTask (d : Data) : Type 0 where
 abbrev pub not_of_resize : List (List ℕ)
 not_of_resize =
     codes "target" ∷ codes "subset" ∷ codes "clip" ∷ codes "chunks" ∷ codes "at" ∷ codes "share" ∷ codes "counts" ∷ codes "keys"
-    ∷ []
+    ∷ codes "order" ∷ []
 
 -- none of these members is there
 abbrev pub HasNone : List (List ℕ) → Data → Type 0
@@ -145,11 +164,21 @@ pub record FitKeys (d : Data) : Type 0 where
   pub of_target : IsSome (get (codes "keys") d) → IsSome (get (codes "target") d)
   pub of_lines : IsSome (get (codes "keys") d) → get (codes "counts") d ≡ None
 
+-- the members that stand beside no `order`
+abbrev pub not_of_order : List (List ℕ)
+not_of_order = codes "subset" ∷ codes "chunks" ∷ codes "counts" ∷ codes "keys" ∷ []
+
+-- `order` stands beside a target, and beside none of those
+pub record FitOrder (d : Data) : Type 0 where
+  pub of_target : IsSome (get (codes "order") d) → IsSome (get (codes "target") d)
+  pub of_lines : IsSome (get (codes "order") d) → HasNone not_of_order d
+
 -- and `share` beside no `counts`
 pub record Fit (d : Data) : Type 0 where
   pub resize : FitResize d
   pub task : FitTask d
   pub keys : FitKeys d
+  pub order : FitOrder d
   pub of_counts : IsSome (get (codes "counts") d) → get (codes "share") d ≡ None
 
 -- the lines of a rechunking, or of the copy of a region, are asked for

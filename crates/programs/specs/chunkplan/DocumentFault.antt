@@ -9,14 +9,15 @@ use Rattle.zarrs_chunk_base.specs.Json.{size_of, list_of, pair_of}
 use Rattle.programs.specs.Document.{HasAll, HasStored, IsObjectOf, IsShapeFault, IsStoredFault, IsTextFault, shape_in}
 use Rattle.programs.specs.Stored.{Stored}
 use Rattle.programs.specs.chunkplan.Document.{Fit, FitKeys, FitResize, FitTask, HasBox, HasFlag, HasNumbers, HasWanted, IsOfArray, IsOfType, Wanted}
-use Rattle.programs.specs.chunkplan.Document.{not_of_resize}
+use Rattle.programs.specs.chunkplan.Document.{FitOrder, HasOrder, not_of_order, not_of_resize, order_of}
 use Rattle.programs.specs.chunkplan.Known.{Agree, Differ, HasOnly, IsFirstUnknown, known_members, zarr_json_members}
 use Rattle.programs.specs.chunkplan.RunFault.{of_document}
 use Rattle.programs.specs.declared.chunkplan.run_fault.RunFault.{RunFault}
 use Rattle.programs.specs.declared.chunkplan.run_fault.RunFault.TheVariants.{AtOfNoRegion, Box, ChunksOfNoTarget, ChunksOfRegion, ClipOfTarget}
 use Rattle.programs.specs.declared.chunkplan.run_fault.RunFault.TheVariants.{KeepOfNoResize, KeysOfCounts, KeysOfNoTarget, Missing, NotOfResize}
-use Rattle.programs.specs.declared.chunkplan.run_fault.RunFault.TheVariants.{OtherDataType, OtherShape, ShareOfCounts, Unknown, UnknownOfTarget}
-use Rattle.programs.specs.declared.chunkplan.run_fault.RunFault.TheVariants.{WrongValue}
+use Rattle.programs.specs.declared.chunkplan.run_fault.RunFault.TheVariants.{NotOfOrder, OrderOfNoTarget, OtherDataType, OtherShape, ShareOfCounts}
+use Rattle.programs.specs.declared.chunkplan.run_fault.RunFault.TheVariants.{Unknown, UnknownOfTarget, WrongValue}
+use Rattle.programs.specs.declared.chunkplan.line.Order.TheVariants.{Target}
 use Rattle.programs.specs.declared.document_fault.DocumentFault.{DocumentFault}
 
 -- the fault says that the member of this name is missing, or isn't of its form
@@ -69,10 +70,9 @@ IsTaskMisfit d AtOfNoRegion =
     × IsSome (get (codes "at") d)
 IsTaskMisfit d _ = ⊥
 
--- the fault says which of these members is the first that is there, where none is to be
-abbrev pub TellsFirst : List (List ℕ) → Data → RunFault → Type 0
-TellsFirst members d (NotOfResize told) = IsFirst (λ name. IsSome (get name d)) members told.now
-TellsFirst members d _ = ⊥
+-- this member is the first of some that is there, where none is to be
+abbrev pub IsFirstThere : List (List ℕ) → Data → List ℕ → Type 0
+IsFirstThere members d = IsFirst (λ name. IsSome (get name d)) members
 
 -- the fault says that there are `keys`, and no target, or counts; the first of these
 abbrev pub IsKeysMisfit : Data → RunFault → Type 0
@@ -80,14 +80,23 @@ IsKeysMisfit d KeysOfNoTarget = IsSome (get (codes "keys") d) × (get (codes "ta
 IsKeysMisfit d KeysOfCounts = IsSome (get (codes "keys") d) × IsSome (get (codes "target") d) × IsSome (get (codes "counts") d)
 IsKeysMisfit d _ = ⊥
 
+-- the fault says that there is `order`, and no target, or one of the members that don't go with it; the first of these
+abbrev pub IsOrderMisfit : Data → RunFault → Type 0
+IsOrderMisfit d OrderOfNoTarget = IsSome (get (codes "order") d) × (get (codes "target") d ≡ None)
+IsOrderMisfit d (NotOfOrder told) =
+    IsSome (get (codes "order") d) × IsSome (get (codes "target") d) × IsFirstThere not_of_order d told.now
+IsOrderMisfit d _ = ⊥
+
 -- The first member that doesn't go with the others: with `resize`, the first of `not_of_resize`; without it, `keep`; then as of the task; then `keys`;
--- last, a share beside counts.
+-- then `order`; last, a share beside counts.
 abbrev pub IsMisfit : Data → RunFault → Type 0
-IsMisfit d (NotOfResize told) = IsSome (get (codes "resize") d) × TellsFirst not_of_resize d (NotOfResize told)
+IsMisfit d (NotOfResize told) = IsSome (get (codes "resize") d) × IsFirstThere not_of_resize d told.now
 IsMisfit d KeepOfNoResize = (get (codes "resize") d ≡ None) × IsSome (get (codes "keep") d)
 IsMisfit d KeysOfNoTarget = FitResize d × FitTask d × IsKeysMisfit d KeysOfNoTarget
 IsMisfit d KeysOfCounts = FitResize d × FitTask d × IsKeysMisfit d KeysOfCounts
-IsMisfit d ShareOfCounts = FitResize d × FitTask d × FitKeys d × IsSome (get (codes "counts") d) × IsSome (get (codes "share") d)
+IsMisfit d OrderOfNoTarget = FitResize d × FitTask d × FitKeys d × IsOrderMisfit d OrderOfNoTarget
+IsMisfit d (NotOfOrder told) = FitResize d × FitTask d × FitKeys d × IsOrderMisfit d (NotOfOrder told)
+IsMisfit d ShareOfCounts = FitResize d × FitTask d × FitKeys d × FitOrder d × IsSome (get (codes "counts") d) × IsSome (get (codes "share") d)
 IsMisfit d fault = FitResize d × IsTaskMisfit d fault
 
 -- the fault says why a member's value is no box: it is no list of two lists of sizes, or these make no box
@@ -119,17 +128,23 @@ HasWantedFault d fault = HasFlagFault d (codes "counts") fault ⊎ (HasFlag d (c
 abbrev pub HasNumbersFault : Data → List ℕ → RunFault → Type 0
 HasNumbersFault d field fault = (m : Data) × (get field d ≡ Some m) × (list_of size_of m ≡ None) × TellsWrongValue field fault
 
+-- the order is none
+abbrev pub HasOrderFault : Data → RunFault → Type 0
+HasOrderFault d fault = (m : Data) × (get (codes "order") d ≡ Some m) × (order_of m ≡ None) × TellsWrongValue (codes "order") fault
+
 -- how the target says that it is stored, by the names that a fault calls its members
 abbrev pub IsTargetStoredFault : Data → DocumentFault → Type 0
 IsTargetStoredFault target = IsStoredFault target (codes "target.chunk_grid") (codes "target.chunk_key_encoding")
 
--- The first fault of what is asked for with this target. Of a rechunking: the target isn't of the array; its own two members; `chunks`. Of the copy
--- of a region: the target isn't of the array's type; its shape; its own two members; `subset`; `at`.
+-- The first fault of what is asked for with this target. Of a rechunking: the target isn't of the array; its own two members; `order`; `chunks`. Of the
+-- copy of a region: the target isn't of the array's type; its shape; its own two members; `subset`; `at`.
 pub data IsTaskToFault (d target : Data) (fault : RunFault) : Type 0 where
   of_misfit : get (codes "subset") d ≡ None → IsTargetMisfit d target fault → IsTaskToFault d target fault
   of_target_stored : (told : DocumentFault) → get (codes "subset") d ≡ None → IsOfArray d target → IsTargetStoredFault target told
       → fault ≡ of_document told → IsTaskToFault d target fault
-  of_chunks : (stored : Stored) → get (codes "subset") d ≡ None → IsOfArray d target → HasStored target stored
+  of_order : (stored : Stored) → get (codes "subset") d ≡ None → IsOfArray d target → HasStored target stored → HasOrderFault d fault
+      → IsTaskToFault d target fault
+  of_chunks : (stored : Stored) → get (codes "subset") d ≡ None → IsOfArray d target → HasStored target stored → HasOrder d Target
       → HasBoxFault d (codes "chunks") fault → IsTaskToFault d target fault
   of_type : IsSome (get (codes "subset") d) → IsTypeMisfit d target fault → IsTaskToFault d target fault
   of_shape : (told : DocumentFault) → IsSome (get (codes "subset") d) → IsOfType d target → IsShapeFault target (codes "target.shape") told

@@ -17,6 +17,7 @@ use Rattle.zarrs_chunk_plan.specs.StoredChunks.{IsListed, IsOfArray}
 use Rattle.zarrs_chunk_plan.specs.declared.share.Share.{Share}
 use Rattle.programs.specs.chunkplan.Document.{HasFlag}
 use Rattle.programs.specs.chunkplan.Line.{group_line, line_of, lines_from}
+use Rattle.programs.specs.declared.chunkplan.line.Order.TheVariants.{Target}
 use Rattle.programs.specs.declared.chunkplan.run_fault.RunFault.{RunFault}
 use Rattle.programs.specs.declared.chunkplan.run_fault.RunFault.TheVariants.{KeyNotText, TooManyForKeys}
 
@@ -63,7 +64,7 @@ module _ (IsKeyOf : List ℕ → List ℕ → Type 0) (keys : List (List ℕ)) w
 -- the lines of a share of a plan, without those of the groups that are there
 abbrev pub missing_lines : (ℕ → Group → Bool) → Share → List Group → List ℕ
 missing_lines is_there share groups =
-    lines_from (λ n group. if is_there n group then [] else group_line (counted n) (counted (length groups)) group)
+    lines_from (λ n group. if is_there n group then [] else group_line Target (counted n) (counted (length groups)) group)
     (before_share share.number share.of (length groups)) (share_of share groups)
 
 -- ---- keys of others

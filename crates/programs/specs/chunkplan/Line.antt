@@ -15,6 +15,8 @@ use Rattle.zarrs_chunk_plan.specs.declared.resize.Change.TheVariants.{Delete, Ke
 use Rattle.zarrs_chunk_plan.specs.declared.resize.ChunkChange.{ChunkChange}
 use Rattle.zarrs_chunk_plan.specs.declared.resize.Held.{Held}
 use Rattle.zarrs_chunk_plan.specs.declared.share.Share.{Share}
+use Rattle.programs.specs.declared.chunkplan.line.Order.{Order}
+use Rattle.programs.specs.declared.chunkplan.line.Order.TheVariants.{Source, Target}
 
 -- a list of numbers
 abbrev pub numbers_items : List ℕ → Items
@@ -75,37 +77,60 @@ source_json first from =
     (member (codes "key") (string from.key)
     (member (codes "shape") (numbers_json from.shape.items) no_members)))))
 
-abbrev pub sources_items : (first : List ℕ) → List Part → Items
-sources_items first [] = no_items
-sources_items first (from ∷ parts) = item (source_json first from) (sources_items first parts)
-
--- a chunk of the target: its numbers, its key and its shape
-abbrev pub target_json : Part → Json
-target_json to =
+-- In the order of the source, what a chunk of the source gives to one of the target: that chunk, the box of it, and the box of the source's chunk that
+-- goes there, its key and its shape, and whether the box is all that it has of the array, so that nothing else writes it. What the source's chunk has of
+-- the array begins at `first` in it.
+abbrev pub taker_json : (first : List ℕ) → Part → Json
+taker_json first to =
     object (member (codes "chunk") (numbers_json to.chunk.items)
+    (member (codes "in_chunk") (box_json to.in_chunk)
+    (member (codes "in_source") (box_json (shifted first to.in_subset))
     (member (codes "key") (string to.key)
-    (member (codes "shape") (numbers_json to.shape.items) no_members)))
+    (member (codes "shape") (numbers_json to.shape.items)
+    (member (codes "whole") (boolean to.whole) no_members))))))
+
+-- a piece of a line in either order
+abbrev pub piece_json : Order → (first : List ℕ) → Part → Json
+piece_json Target first part = source_json first part
+piece_json Source first part = taker_json first part
+
+abbrev pub pieces_items : Order → (first : List ℕ) → List Part → Items
+pieces_items order first [] = no_items
+pieces_items order first (part ∷ parts) = item (piece_json order first part) (pieces_items order first parts)
+
+-- the chunk that a line is for: its numbers, its key and its shape
+abbrev pub chunk_json : Part → Json
+chunk_json part =
+    object (member (codes "chunk") (numbers_json part.chunk.items)
+    (member (codes "key") (string part.key)
+    (member (codes "shape") (numbers_json part.shape.items) no_members)))
 
 -- behind the sources of a chunk of the target: which line of how many it is, the chunk, and whether the boxes are all that it has of its array
 abbrev pub end_members : (at of : Option ℕ) → Part → Members
 end_members at of to =
     member (codes "number") (count_json at)
     (member (codes "of") (count_json of)
-    (member (codes "to") (target_json to)
+    (member (codes "to") (chunk_json to)
     (member (codes "whole") (boolean to.whole) no_members)))
 
--- all that is copied into a chunk of the target
-abbrev pub group_json : (at of : Option ℕ) → Group → Json
-group_json at of group =
-    object (member (codes "from") (array (sources_items group.0.in_chunk.start group.1)) (end_members at of group.0))
+-- all that is copied into a chunk of the target; or, in the order of the source, from one of the source
+abbrev pub group_json : Order → (at of : Option ℕ) → Group → Json
+group_json Target at of group =
+    object (member (codes "from") (array (pieces_items Target group.0.in_chunk.start group.1)) (end_members at of group.0))
+group_json Source at of group =
+    object (member (codes "from") (chunk_json group.0)
+    (member (codes "number") (count_json at)
+    (member (codes "of") (count_json of)
+    (member (codes "to") (array (pieces_items Source group.0.in_chunk.start group.1)) no_members))))
 
-abbrev pub group_line : (at of : Option ℕ) → Group → List ℕ
-group_line at of group = line_of (group_json at of group)
+abbrev pub group_line : Order → (at of : Option ℕ) → Group → List ℕ
+group_line order at of group = line_of (group_json order at of group)
 
 -- the lines of a share of a rechunking, or of the copy of a region
-abbrev pub rechunking_lines : Share → List Group → List ℕ
-rechunking_lines share groups =
-    lines_from (λ n. group_line (counted n) (counted (length groups))) (before_share share.number share.of (length groups)) (share_of share groups)
+abbrev pub rechunking_lines : Order → Share → List Group → List ℕ
+rechunking_lines order share groups =
+    lines_from (λ n. group_line order (counted n) (counted (length groups))) (before_share share.number share.of (length groups))
+    (share_of share groups)
 
 -- ---- a resize
 

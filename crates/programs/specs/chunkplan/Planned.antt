@@ -20,10 +20,12 @@ use Rattle.zarrs_chunk_plan.specs.declared.resize.ChunkChange.{ChunkChange}
 use Rattle.zarrs_chunk_plan.specs.declared.share.Share.{Share}
 use Rattle.programs.specs.Stored.{IsStored, Stored}
 use Rattle.programs.specs.chunkplan.CountsLine.{IsCountsLine}
-use Rattle.programs.specs.chunkplan.Document.{Document, IsDocument, Wanted, copy_to, counts_wanted, lines_wanted, read_of, rechunk_to}
-use Rattle.programs.specs.chunkplan.Document.{resize_to}
+use Rattle.programs.specs.chunkplan.Document.{Document, IsDocument, Wanted, copy_to, counts_wanted, lines_wanted, read_of}
+use Rattle.programs.specs.chunkplan.Document.{rechunk_by_source, rechunk_to, resize_to}
 use Rattle.programs.specs.chunkplan.Keys.{AreKeys, HasKeysBehind, IsMissingText, behind_first, first_line}
 use Rattle.programs.specs.chunkplan.Line.{read_lines, rechunking_lines, resize_lines}
+use Rattle.programs.specs.declared.chunkplan.line.Order.{Order}
+use Rattle.programs.specs.declared.chunkplan.line.Order.TheVariants.{Source, Target}
 
 -- the plan of reading a box of elements, which has as many dimensions as the grid; an empty box has no parts
 pub record IsReadPlan (ds : List Dimension) (IsKeyOf : List ℕ → List ℕ → Type 0) (subset : Box) (parts : List Part) : Type 0 where
@@ -42,9 +44,9 @@ IsReadText (lines_wanted share) asked parts text = text ≡ read_lines share par
 IsReadText counts_wanted asked parts text = (counts : Counts) × AreReadCounts asked parts counts × IsCountsLine counts text
 
 -- and of that of a rechunking into chunks of a box
-abbrev pub IsRechunkingText : Wanted → (source target : List Dimension) → (chunks : Box) → List Group → List ℕ → Type 0
-IsRechunkingText (lines_wanted share) source target chunks groups text = text ≡ rechunking_lines share groups
-IsRechunkingText counts_wanted source target chunks groups text = (targets : Box) × IsBox targets × AreTargets target chunks targets
+abbrev pub IsRechunkingText : Order → Wanted → (source target : List Dimension) → (chunks : Box) → List Group → List ℕ → Type 0
+IsRechunkingText order (lines_wanted share) source target chunks groups text = text ≡ rechunking_lines order share groups
+IsRechunkingText order counts_wanted source target chunks groups text = (targets : Box) × IsBox targets × AreTargets target chunks targets
     × ((counts : Counts) × AreRechunkingCounts source target targets groups counts × IsCountsLine counts text)
 
 -- the index in the target's array at which a region begins: 0 in each dimension, where none is given
@@ -65,12 +67,13 @@ pub record AreCountsOfRegion (source target : List Dimension) (region : Box) (at
 
 -- what is written of it: the lines of a share, or the line of its counts
 abbrev pub IsRegionText : Wanted → (source target : List Dimension) → (region : Box) → (at : List ℕ) → List Group → List ℕ → Type 0
-IsRegionText (lines_wanted share) source target region at groups text = text ≡ rechunking_lines share groups
+IsRegionText (lines_wanted share) source target region at groups text = text ≡ rechunking_lines Target share groups
 IsRegionText counts_wanted source target region at groups text =
     (counts : Counts) × AreCountsOfRegion source target region at groups counts × IsCountsLine counts text
 
 -- What a document wants of its plan, as text: of a read of a box of elements, or of all, or of a rechunking into the chunks of a box, or into all, or
--- of the copy of a region, or of a resize, whose two grids the same metadata make.
+-- of the copy of a region, or of a resize, whose two grids the same metadata make. In the order of the source, a rechunking is planned the other way
+-- round: for each chunk of the source as what is copied into it from those of the target, which is what it gives to them.
 pub data IsPlanned (document : Document) (text : List ℕ) : Type 0 where
   of_read : (subset : Option Box) (clip : Bool) (asked : Box) (grid : Grid) (encoding : Encoding) (parts : List Part)
       → document.task ≡ read_of subset clip → IsStored document.stored document.shape grid encoding
@@ -82,7 +85,13 @@ pub data IsPlanned (document : Document) (text : List ℕ) : Type 0 where
       → length (unwrap_or chunks (all_chunks_box target.dimensions)).start ≡ length target.dimensions
       → IsRechunking source.dimensions (IsKey source_encoding) target.dimensions (IsKey target_encoding)
       (unwrap_or chunks (all_chunks_box target.dimensions)) groups
-      → IsRechunkingText document.wanted source.dimensions target.dimensions (unwrap_or chunks (all_chunks_box target.dimensions)) groups text
+      → IsRechunkingText Target document.wanted source.dimensions target.dimensions (unwrap_or chunks (all_chunks_box target.dimensions)) groups text
+      → IsPlanned document text
+  of_source_order : (stored : Stored) (source target : Grid) (source_encoding target_encoding : Encoding) (groups : List Group)
+      → document.task ≡ rechunk_by_source stored → IsStored document.stored document.shape source source_encoding
+      → IsStored stored document.shape target target_encoding
+      → IsRechunking target.dimensions (IsKey target_encoding) source.dimensions (IsKey source_encoding) (all_chunks_box source.dimensions) groups
+      → IsRechunkingText Source document.wanted target.dimensions source.dimensions (all_chunks_box source.dimensions) groups text
       → IsPlanned document text
   of_region : (shape : List ℕ) (stored : Stored) (region : Box) (at : Option (List ℕ)) (source target : Grid)
       (source_encoding target_encoding : Encoding) (groups : List Group) → document.task ≡ copy_to shape stored region at

@@ -19,7 +19,7 @@ ghost use Rattle.programs.specs.chunkplan.seen.Steps.{StepLeaves};
 ghost use Rattle.programs.specs.seen.Sent.{output};
 
 use crate::chunkplan::RunFault;
-use crate::chunkplan::line::{Form, LINE_BEGIN, change_line, line_end, part_text};
+use crate::chunkplan::line::{Form, Order, change_line, line_begin, line_end, part_text};
 use crate::streams::send;
 use crate::watched::Watched;
 use std::alloc::Global;
@@ -59,8 +59,8 @@ pub(crate) fn write_parts<G: ChunkGridTraits, E: ChunkKeyEncodingTraits, W: Writ
     Ok(())
 }
 
-/// Sends a line for each chunk of the target into which a walk has something left to copy; the first one has the number `first`. The line of a chunk is
-/// left out that is known to be stored, and would be written whole.
+/// Sends a line for each chunk of which a walk has something left to copy; the first one has the number `first`. The line of a chunk is left out that
+/// is known to be stored, and would be written whole.
 ///
 /// # Errors
 /// As `write_parts`.
@@ -73,6 +73,7 @@ pub(crate) fn write_copies<
 >(
     alloc: Global,
     walk: Copies<'_, G, E, H, F>,
+    order: Order,
     first: Option<u64>,
     stored: Option<&StoredChunks>,
     held_back: &mut Vec<u8>,
@@ -87,8 +88,9 @@ pub(crate) fn write_copies<
     ensures { (begin : ℕ) → first ≡ counted begin → StepLeaves
         (λ text. (groups : List Group)
         × AreMovesToCome G.dimensions E.is_key H.dimensions F.is_key walk.entry groups
-        × (text ≡ lines_from (λ number. line_unless_stored (option_map (λ s. s.now) stored.entry)
-        (counted number) (counted (length (all_targets walk.entry)))) begin groups))
+        × (text ≡ lines_from (λ number. line_unless_stored order
+        (option_map (λ s. s.now) stored.entry) (counted number)
+        (counted (length (all_targets walk.entry)))) begin groups))
         (λ _. ⊥) result
         (output W.contents held_back.old.items writer.old)
         (output W.contents held_back.new.items writer.new) }
@@ -96,16 +98,19 @@ pub(crate) fn write_copies<
     let of = walk.in_all();
     let mut number = first;
     for group in walk {
-        write_unless_stored(alloc, group?, stored, number, of, held_back, writer)?;
+        write_unless_stored(
+            alloc, group?, order, stored, number, of, held_back, writer,
+        )?;
         number = following(number);
     }
     Ok(())
 }
 
-/// Sends the line of one chunk of the target, unless that is known to be stored, and would be written whole.
+/// Sends the line of one chunk, unless that is known to be stored, and would be written whole.
 fn write_unless_stored<G: ChunkGridTraits, E: ChunkKeyEncodingTraits, W: Write>(
     alloc: Global,
     group: ChunkCopies<'_, G, E>,
+    order: Order,
     stored: Option<&StoredChunks>,
     number: Option<u64>,
     of: Option<u64>,
@@ -118,7 +123,7 @@ fn write_unless_stored<G: ChunkGridTraits, E: ChunkKeyEncodingTraits, W: Write>(
     ensures { StepLeaves
         (λ text. (from : List PartValue)
         × ArePartsToCome G.dimensions E.is_key group.entry.from from
-        × (text ≡ line_unless_stored (option_map (λ s. s.now) stored.entry) number of
+        × (text ≡ line_unless_stored order (option_map (λ s. s.now) stored.entry) number of
         (group.entry.to, from)))
         (λ _. ⊥) result
         (output W.contents held_back.old.items writer.old)
@@ -127,7 +132,7 @@ fn write_unless_stored<G: ChunkGridTraits, E: ChunkKeyEncodingTraits, W: Write>(
     if is_left_out(stored, number, &group.to) {
         return Ok(());
     }
-    write_group(alloc, group, number, of, held_back, writer)
+    write_group(alloc, group, order, number, of, held_back, writer)
 }
 
 /// Whether the line of a chunk of the target, which has this number, is left out: the chunk is stored, and would be written whole.
@@ -180,10 +185,11 @@ pub(crate) fn write_changes<
     Ok(())
 }
 
-/// Sends the line of one chunk of the target.
+/// Sends the line of one chunk.
 fn write_group<G: ChunkGridTraits, E: ChunkKeyEncodingTraits, W: Write>(
     alloc: Global,
     group: ChunkCopies<'_, G, E>,
+    order: Order,
     number: Option<u64>,
     of: Option<u64>,
     held_back: &mut Vec<u8>,
@@ -195,15 +201,17 @@ fn write_group<G: ChunkGridTraits, E: ChunkKeyEncodingTraits, W: Write>(
     ensures { StepLeaves
         (λ text. (from : List PartValue)
         × ArePartsToCome G.dimensions E.is_key group.entry.from from
-        × (text ≡ group_line number of (group.entry.to, from)))
+        × (text ≡ group_line order number of (group.entry.to, from)))
         (λ _. ⊥) result
         (output W.contents held_back.old.items writer.old)
         (output W.contents held_back.new.items writer.new) }
 {
     let ChunkCopies { to, from } = group;
-    send_text(LINE_BEGIN, held_back, writer)?;
-    write_parts(alloc, from, Form::Source(&to), Some(0), held_back, writer)?;
-    let end = line_end(alloc, &to, number, of)?;
+    let begin = line_begin(alloc, order, &to, number, of)?;
+    send_text(&begin, held_back, writer)?;
+    let form = Form::Piece(order, &to);
+    write_parts(alloc, from, form, Some(0), held_back, writer)?;
+    let end = line_end(alloc, order, &to, number, of)?;
     send_text(&end, held_back, writer)
 }
 

@@ -1,15 +1,15 @@
 //! The program's document.
-ghost use Rattle.std.specs.Prelude.{◌≡◌, ◌⊎◌, IsSome, MatchResult, None, Some, codes, map};
+ghost use Rattle.std.specs.Prelude.{◌≡◌, ◌⊎◌, IsSome, MatchOption, MatchResult, None, Some, codes, map};
 ghost use Rattle.serde_json.specs.Data.{Data};
 ghost use Rattle.serde_json.specs.Find.{get};
 ghost use Rattle.serde_json.specs.View.{view};
 ghost use Rattle.zarrs_chunk_base.specs.Json.{IsJsonOf};
 ghost use Rattle.programs.specs.Document.{HasStored};
 ghost use Rattle.programs.specs.Stored.{stored_of};
-ghost use Rattle.programs.specs.chunkplan.Document.{Fit, FitKeys, FitResize, FitTask, HasNone, HasWanted, IsCopying, IsDocument, IsOfArray, IsOfType, IsTask, IsTaskTo};
+ghost use Rattle.programs.specs.chunkplan.Document.{Fit, FitKeys, FitOrder, FitResize, FitTask, HasNone, HasWanted, IsCopying, IsDocument, IsOfArray, IsOfType, IsTask, IsTaskTo};
 ghost use Rattle.programs.specs.chunkplan.Document.{document_of, task_of, wanted_of};
-ghost use Rattle.programs.specs.chunkplan.DocumentFault.{HasWantedFault, IsCopyingFault, IsFormFault, IsInputFault, IsKeysMisfit, IsMisfit, IsTargetMisfit, IsTargetStoredFault};
-ghost use Rattle.programs.specs.chunkplan.DocumentFault.{IsTaskFault, IsTaskMisfit, IsTaskToFault, IsTypeMisfit, IsUnknownFault, TellsFirst};
+ghost use Rattle.programs.specs.chunkplan.DocumentFault.{HasWantedFault, IsCopyingFault, IsFirstThere, IsFormFault, IsInputFault, IsKeysMisfit, IsMisfit, IsOrderMisfit, IsTargetMisfit};
+ghost use Rattle.programs.specs.chunkplan.DocumentFault.{IsTargetStoredFault, IsTaskFault, IsTaskMisfit, IsTaskToFault, IsTypeMisfit, IsUnknownFault};
 ghost use Rattle.programs.specs.chunkplan.Known.{HasOnly, IsFirstUnknown, known_members, zarr_json_members};
 ghost use Rattle.programs.specs.declared.chunkplan.run_fault.RunFault.TheVariants.{Memory, UnknownOfTarget};
 ghost use Rattle.programs.specs.declared.document_fault.DocumentFault.TheVariants.{Memory as DocumentMemory};
@@ -18,6 +18,8 @@ use crate::chunkplan::RunFault;
 use crate::chunkplan::boxes::{member_box, member_numbers, read_box};
 use crate::chunkplan::flag::member_flag;
 use crate::chunkplan::known_members::{DOCUMENT, UnknownMember, ZARR_JSON, agree, check_known};
+use crate::chunkplan::line::Order;
+use crate::chunkplan::order::member_order;
 use crate::chunkplan::share::member_share;
 use crate::document::{read_object, read_shape, required_member, take_stored};
 use crate::document_fault::DocumentFault;
@@ -37,6 +39,8 @@ pub(crate) enum Task {
     },
     /// A rechunking into the chunks of a box of chunk numbers, or into all.
     Rechunk(Stored, Option<ArraySubset>),
+    /// A rechunking in the order of the source: a line for each of its chunks.
+    RechunkBySource(Stored),
     /// The copy of a region, a box of elements, to an array of this shape, to begin there at an index, or at 0.
     Copy {
         shape: Vec<u64>,
@@ -52,9 +56,12 @@ pub(crate) enum Task {
 }
 
 /// The members that don't go with a resize, in the order in which they are refused.
-const NOT_OF_RESIZE: [&str; 8] = [
-    "target", "subset", "clip", "chunks", "at", "share", "counts", "keys",
+const NOT_OF_RESIZE: [&str; 9] = [
+    "target", "subset", "clip", "chunks", "at", "share", "counts", "keys", "order",
 ];
+
+/// The members that don't go with an order of the lines, in the order in which they are refused.
+const NOT_OF_ORDER: [&str; 4] = ["subset", "chunks", "counts", "keys"];
 
 /// What is wanted of a plan.
 #[derive(Drop)]
@@ -80,8 +87,8 @@ pub(crate) struct Document {
 ///
 /// # Errors
 /// The first that applies: the input is no JSON, or no object; a member isn't known; one is missing; one doesn't go with the others; one isn't of its
-/// form, of `shape`, `counts`, `share`, `keys`, `chunk_grid`, `chunk_key_encoding`, and of `resize` and `keep`, of `subset` and `clip`, of `target` and `chunks`, or
-/// of `target`, `subset` and `at`; before its own members, the target has one that isn't known, or is of another array, or for a region of another data
+/// form, of `shape`, `counts`, `share`, `keys`, `chunk_grid`, `chunk_key_encoding`, and of `resize` and `keep`, of `subset` and `clip`, of `target`, `order` and `chunks`,
+/// or of `target`, `subset` and `at`; before its own members, the target has one that isn't known, or is of another array, or for a region of another data
 /// type. Or out of memory.
 pub(crate) fn parse(alloc: Global, input: &[u8]) -> Result<Document, RunFault>
     ensures { MatchResult result
@@ -148,6 +155,7 @@ fn check_fitting(tree: &Value) -> Result<(), RunFault>
     check_fitting_resize(tree)?;
     check_fitting_task(tree)?;
     check_fitting_keys(tree)?;
+    check_fitting_order(tree)?;
     if tree.get("counts").is_some() && tree.get("share").is_some() {
         return Err(RunFault::ShareOfCounts);
     }
@@ -160,23 +168,25 @@ fn check_fitting_resize(tree: &Value) -> Result<(), RunFault>
         (IsMisfit (view tree.now)) }
 {
     match tree.get("resize") {
-        Some(_) => refuse_each(tree, &NOT_OF_RESIZE),
+        Some(_) => match first_there(tree, &NOT_OF_RESIZE) {
+            Some(field) => Err(RunFault::NotOfResize(field)),
+            None => Ok(()),
+        },
         None => refuse(tree, "keep", RunFault::KeepOfNoResize),
     }
 }
 
-/// Refuses the first of some members that is there, since a resize has none of them.
-fn refuse_each(tree: &Value, fields: &[&'static str]) -> Result<(), RunFault>
-    ensures { MatchResult result
-        (λ _. HasNone (map (λ name. name.now) fields.now) (view tree.now))
-        (TellsFirst (map (λ name. name.now) fields.now) (view tree.now)) }
+/// The first of some members that is there.
+fn first_there(tree: &Value, fields: &[&'static str]) -> Option<&'static str>
+    ensures { MatchOption result (HasNone (map (λ name. name.now) fields.now) (view tree.now))
+        (λ name. IsFirstThere (map (λ name. name.now) fields.now) (view tree.now) name.now) }
 {
     for field in fields {
         if tree.get(*field).is_some() {
-            return Err(RunFault::NotOfResize(*field));
+            return Some(*field);
         }
     }
-    Ok(())
+    None
 }
 
 /// Refuses a member that doesn't go with what is asked for.
@@ -208,6 +218,23 @@ fn check_fitting_keys(tree: &Value) -> Result<(), RunFault>
         return Err(RunFault::KeysOfNoTarget);
     }
     refuse(tree, "counts", RunFault::KeysOfCounts)
+}
+
+/// Refuses `order` beside no target, and beside a member that doesn't go with it.
+fn check_fitting_order(tree: &Value) -> Result<(), RunFault>
+    ensures { MatchResult result (λ _. FitOrder (view tree.now))
+        (IsOrderMisfit (view tree.now)) }
+{
+    if tree.get("order").is_none() {
+        return Ok(());
+    }
+    if tree.get("target").is_none() {
+        return Err(RunFault::OrderOfNoTarget);
+    }
+    match first_there(tree, &NOT_OF_ORDER) {
+        Some(field) => Err(RunFault::NotOfOrder(field)),
+        None => Ok(()),
+    }
 }
 
 /// Refuses a member of this name, by this fault.
@@ -312,7 +339,10 @@ fn rechunking_to(alloc: Global, tree: &Value, mut target: Value) -> Result<Task,
 {
     check_target(alloc, tree, &target)?;
     let stored = take_target(alloc, &mut target)?;
-    Ok(Task::Rechunk(stored, member_box(alloc, tree, "chunks")?))
+    match member_order(tree)? {
+        Order::Target => Ok(Task::Rechunk(stored, member_box(alloc, tree, "chunks")?)),
+        Order::Source => Ok(Task::RechunkBySource(stored)),
+    }
 }
 
 /// The copy of a region that a tree asks for with this target, of which this is the `subset`.

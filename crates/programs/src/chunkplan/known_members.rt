@@ -26,7 +26,7 @@ pub(crate) const ZARR_JSON: [&str; 11] = [
 ];
 
 /// What a document may have.
-pub(crate) const DOCUMENT: [&str; 21] = [
+pub(crate) const DOCUMENT: [&str; 22] = [
     "attributes",
     "chunk_grid",
     "chunk_key_encoding",
@@ -44,6 +44,7 @@ pub(crate) const DOCUMENT: [&str; 21] = [
     "counts",
     "keep",
     "keys",
+    "order",
     "resize",
     "share",
     "subset",

@@ -1,13 +1,14 @@
 //! The text of a line of a plan.
 ghost use Rattle.std.specs.Prelude.{◌≡◌, [], ◌∷◌, ◌++◌, codes, IfOk, OnOk};
 ghost use Rattle.json.specs.Print.{print};
-ghost use Rattle.json.specs.Token.{boolean, key, null, string};
+ghost use Rattle.json.specs.Token.{begin_array, begin_object, boolean, end_array, end_object, key, null, string};
 ghost use Rattle.json.specs.Tree.{json_tokens};
 ghost use Rattle.programs.specs.chunkplan.Keys.{foreign_json};
 ghost use Rattle.programs.specs.chunkplan.Line.{box_json, change_line, change_word, count_json, held_json, held_shape_json, line_of, numbers_json};
-ghost use Rattle.programs.specs.chunkplan.Line.{part_json, source_json, target_json};
+ghost use Rattle.programs.specs.chunkplan.Line.{chunk_json, part_json, source_json, taker_json};
 ghost use Rattle.programs.specs.chunkplan.seen.Added.{Adds};
-ghost use Rattle.programs.specs.chunkplan.seen.Pieces.{comma_before, end_of_line, text_as};
+ghost use Rattle.programs.specs.chunkplan.seen.Pieces.{begin_of_line, comma_before, end_of_line, text_as};
+ghost use Rattle.programs.specs.declared.chunkplan.line.Order.TheVariants.{Source, Target};
 
 use json::{Token, Writer};
 use std::alloc::{AllocError, Global};
@@ -17,17 +18,23 @@ use zarrs_chunk_plan::{Change, ChunkChange, Held, Part, place_in_target};
 /// How many bytes a line is given room for at first.
 const LINE_LEN: usize = 192;
 
+/// Which chunks the lines of a rechunking are for.
+#[derive(Clone, Copy, Drop)]
+pub(crate) enum Order {
+    /// Those of the target: each line has all that its chunk gets.
+    Target,
+    /// Those of the source: each line has all that its chunk gives.
+    Source,
+}
+
 /// How a part is written.
 #[derive(Clone, Copy)]
 pub(crate) enum Form<'a> {
     /// As a line of a read, of so many lines.
     Line(Option<u64>),
-    /// As one of the sources of this part of a chunk of the target.
-    Source(&'a Part),
+    /// As a piece of the line of this part of a chunk.
+    Piece(Order, &'a Part),
 }
-
-/// How the line of a chunk of the target begins.
-pub(crate) const LINE_BEGIN: &[u8] = b"{\"from\":[";
 
 /// The text of a part, by its number in its walk.
 ///
@@ -43,7 +50,8 @@ pub(crate) fn part_text(
 {
     match form {
         Form::Line(of) => part_line(alloc, part, number, of),
-        Form::Source(to) => source_text(alloc, part, number, to),
+        Form::Piece(Order::Target, to) => source_text(alloc, part, number, to),
+        Form::Piece(Order::Source, from) => taker_text(alloc, part, number, from),
     }
 }
 
@@ -81,7 +89,7 @@ fn source_text(
         ++ print (json_tokens (source_json to.now.in_chunk.start part.now))) }
 {
     let place = place_in_target(alloc, to, part)?;
-    let mut json = Writer::new(begin_source(alloc, number)?);
+    let mut json = Writer::new(begin_piece(alloc, number)?);
     json.begin_object()?;
     write_numbers(&mut json, "chunk", part.chunk.as_slice())?;
     write_box(&mut json, "in_chunk", &part.in_chunk)?;
@@ -92,8 +100,31 @@ fn source_text(
     Ok(json.into_inner())
 }
 
-/// What stands before a source: a comma, where it isn't the first.
-fn begin_source(alloc: Global, number: Option<u64>) -> Result<Vec<u8>, AllocError>
+/// What a chunk of the source, of which this is the part that is copied, gives to one of the target, with a comma before it where it isn't the first.
+fn taker_text(
+    alloc: Global,
+    part: &Part,
+    number: Option<u64>,
+    from: &Part,
+) -> Result<Vec<u8>, AllocError>
+    ensures { IfOk result (λ text. text.items ≡ comma_before number
+        ++ print (json_tokens (taker_json from.now.in_chunk.start part.now))) }
+{
+    let place = place_in_target(alloc, from, part)?;
+    let mut json = Writer::new(begin_piece(alloc, number)?);
+    json.begin_object()?;
+    write_numbers(&mut json, "chunk", part.chunk.as_slice())?;
+    write_box(&mut json, "in_chunk", &part.in_chunk)?;
+    write_box(&mut json, "in_source", &place)?;
+    write_key(&mut json, &part.key)?;
+    write_numbers(&mut json, "shape", part.shape.as_slice())?;
+    write_whole(&mut json, part.whole)?;
+    json.end_object()?;
+    Ok(json.into_inner())
+}
+
+/// What stands before a piece of a line: a comma, where it isn't the first.
+fn begin_piece(alloc: Global, number: Option<u64>) -> Result<Vec<u8>, AllocError>
     ensures { IfOk result (λ text. text.items ≡ comma_before number) }
 {
     let mut text = Vec::with_capacity(alloc, LINE_LEN)?;
@@ -103,23 +134,100 @@ fn begin_source(alloc: Global, number: Option<u64>) -> Result<Vec<u8>, AllocErro
     Ok(text)
 }
 
-/// The end of the line of a chunk of the target, behind its sources.
+/// The beginning of the line of a chunk, before its pieces.
+///
+/// # Errors
+/// Out of memory.
+pub(crate) fn line_begin(
+    alloc: Global,
+    order: Order,
+    chunk: &Part,
+    number: Option<u64>,
+    of: Option<u64>,
+) -> Result<Vec<u8>, AllocError>
+    ensures { IfOk result (λ text. text.items ≡ begin_of_line order number of chunk.now) }
+{
+    match order {
+        Order::Target => begin_of_target(alloc),
+        Order::Source => begin_of_source(alloc, chunk, number, of),
+    }
+}
+
+/// The beginning of the line of a chunk of the target.
+fn begin_of_target(alloc: Global) -> Result<Vec<u8>, AllocError>
+    ensures { IfOk result (λ text. text.items
+        ≡ print (begin_object ∷ key (codes "from") ∷ begin_array ∷ [])) }
+{
+    let mut json = Writer::new(Vec::with_capacity(alloc, LINE_LEN)?);
+    json.begin_object()?;
+    json.key("from")?;
+    json.begin_array()?;
+    Ok(json.into_inner())
+}
+
+/// The beginning of the line of a chunk of the source.
+fn begin_of_source(
+    alloc: Global,
+    from: &Part,
+    number: Option<u64>,
+    of: Option<u64>,
+) -> Result<Vec<u8>, AllocError>
+    ensures { IfOk result (λ text. text.items ≡ begin_of_line Source number of from.now) }
+{
+    let mut json = Writer::new(Vec::with_capacity(alloc, LINE_LEN)?);
+    json.begin_object()?;
+    write_chunk(&mut json, "from", from)?;
+    write_count(&mut json, "number", number)?;
+    write_count(&mut json, "of", of)?;
+    json.key("to")?;
+    json.begin_array()?;
+    Ok(json.into_inner())
+}
+
+/// The end of the line of a chunk, behind its pieces.
 ///
 /// # Errors
 /// Out of memory.
 pub(crate) fn line_end(
     alloc: Global,
+    order: Order,
+    chunk: &Part,
+    number: Option<u64>,
+    of: Option<u64>,
+) -> Result<Vec<u8>, AllocError>
+    ensures { IfOk result (λ text. text.items ≡ end_of_line order number of chunk.now) }
+{
+    match order {
+        Order::Target => end_of_target(alloc, chunk, number, of),
+        Order::Source => end_of_source(alloc),
+    }
+}
+
+/// The end of the line of a chunk of the source.
+fn end_of_source(alloc: Global) -> Result<Vec<u8>, AllocError>
+    ensures { IfOk result (λ text. text.items ≡ print (end_array ∷ end_object ∷ [])
+        ++ codes "\n") }
+{
+    let mut json = Writer::new(Vec::with_capacity(alloc, LINE_LEN)?);
+    json.end_array()?;
+    json.end_object()?;
+    ended(json)
+}
+
+/// The end of the line of a chunk of the target.
+fn end_of_target(
+    alloc: Global,
     to: &Part,
     number: Option<u64>,
     of: Option<u64>,
 ) -> Result<Vec<u8>, AllocError>
-    ensures { IfOk result (λ text. text.items ≡ end_of_line number of to.now) }
+    ensures { IfOk result (λ text. text.items ≡ end_of_line Target number of to.now) }
 {
     let mut json = Writer::new(Vec::with_capacity(alloc, LINE_LEN)?);
     json.end_array()?;
     write_count(&mut json, "number", number)?;
     write_count(&mut json, "of", of)?;
-    write_target(&mut json, to)?;
+    write_chunk(&mut json, "to", to)?;
     write_whole(&mut json, to.whole)?;
     json.end_object()?;
     ended(json)
@@ -229,16 +337,16 @@ fn ended(json: Writer) -> Result<Vec<u8>, AllocError>
     Ok(line)
 }
 
-/// Writes the member `to`: a chunk of the target.
-fn write_target(json: &mut Writer, to: &Part) -> Result<(), AllocError>
-    ensures { OnOk result (Adds json.old json.new (key (codes "to")
-        ∷ json_tokens (target_json to.now))) }
+/// Writes a member of this name: the chunk that a line is for.
+fn write_chunk(json: &mut Writer, name: &str, part: &Part) -> Result<(), AllocError>
+    ensures { OnOk result (Adds json.old json.new (key name.now
+        ∷ json_tokens (chunk_json part.now))) }
 {
-    json.key("to")?;
+    json.key(name)?;
     json.begin_object()?;
-    write_numbers(json, "chunk", to.chunk.as_slice())?;
-    write_key(json, &to.key)?;
-    write_numbers(json, "shape", to.shape.as_slice())?;
+    write_numbers(json, "chunk", part.chunk.as_slice())?;
+    write_key(json, &part.key)?;
+    write_numbers(json, "shape", part.shape.as_slice())?;
     json.end_object()?;
     Ok(())
 }

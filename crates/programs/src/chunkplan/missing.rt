@@ -17,6 +17,7 @@ use crate::chunkplan::RunFault;
 use crate::chunkplan::copying::send_text;
 use crate::chunkplan::document::{Document, Task, Wanted};
 use crate::chunkplan::keys::note_keys;
+use crate::chunkplan::line::Order;
 use crate::chunkplan::plan::{open_target, or_all_chunks, or_zeros, write_share};
 use crate::lines::Lines;
 use crate::watched::Watched;
@@ -139,6 +140,14 @@ fn write_missing<
     };
     let mut foreign = Vec::new(alloc);
     note_keys(alloc, target, &mut stored, &mut foreign, lines, reader)?;
-    write_share(alloc, walk, share, Some(&stored), held_back, writer)?;
+    write_share(
+        alloc,
+        walk,
+        Order::Target,
+        share,
+        Some(&stored),
+        held_back,
+        writer,
+    )?;
     send_text(&foreign, held_back, writer)
 }

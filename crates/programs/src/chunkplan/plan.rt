@@ -20,6 +20,7 @@ ghost use Rattle.programs.specs.chunkplan.PlanFault.{IsChunksFault, IsCopyFault,
 ghost use Rattle.programs.specs.chunkplan.Planned.{IsAsked, IsPlanned, IsReadPlan, IsReadText, IsRechunkingText, IsRegionPlan, IsRegionText};
 ghost use Rattle.programs.specs.chunkplan.seen.Missing.{share_unless_stored};
 ghost use Rattle.programs.specs.chunkplan.seen.Steps.{StepLeaves};
+ghost use Rattle.programs.specs.declared.chunkplan.line.Order.TheVariants.{Target};
 ghost use Rattle.programs.specs.declared.chunkplan.run_fault.RunFault.TheVariants.{Memory};
 ghost use Rattle.programs.specs.seen.Sent.{output};
 
@@ -27,7 +28,7 @@ use crate::chunkplan::RunFault;
 use crate::chunkplan::copying::{send_text, write_changes, write_copies, write_parts};
 use crate::chunkplan::counting::counts_line;
 use crate::chunkplan::document::{Document, Task, Wanted};
-use crate::chunkplan::line::Form;
+use crate::chunkplan::line::{Form, Order};
 use crate::stored::{CreateFault, Stored};
 use crate::watched::Watched;
 use std::alloc::{AllocError, Global};
@@ -75,7 +76,19 @@ pub(crate) fn write_plan<W: Write>(
             drop(stored);
             let target = open_target(alloc, target, &shape)?;
             let chunks = or_all_chunks(alloc, chunks, &target.grid)?;
-            write_rechunking(alloc, &array, &target, &chunks, &wanted, held_back, writer)
+            let order = Order::Target;
+            write_rechunking(
+                alloc, &array, &target, &chunks, order, &wanted, held_back, writer,
+            )
+        }
+        Task::RechunkBySource(target) => {
+            drop(stored);
+            let target = open_target(alloc, target, &shape)?;
+            let chunks = all_chunks(alloc, &array.grid)?;
+            let order = Order::Source;
+            write_rechunking(
+                alloc, &target, &array, &chunks, order, &wanted, held_back, writer,
+            )
         }
         Task::Copy {
             shape,
@@ -328,7 +341,8 @@ fn write_counts<W: Write>(
     send_text(&line, held_back, writer)
 }
 
-/// Sends what is wanted of the plan of a rechunking into the chunks of a box.
+/// Sends what is wanted of the plan of a rechunking into the chunks of a box. In the order of the source, what is given as the source is the array as it
+/// is to be stored.
 fn write_rechunking<
     G: ChunkGridTraits,
     E: ChunkKeyEncodingTraits,
@@ -340,6 +354,7 @@ fn write_rechunking<
     source: &StoredArray<G, E>,
     target: &StoredArray<H, F>,
     chunks: &ArraySubset,
+    order: Order,
     wanted: &Wanted,
     held_back: &mut Vec<u8>,
     writer: &mut Watched<W>,
@@ -353,7 +368,7 @@ fn write_rechunking<
         × IsRechunking (G.dimensions source.now.grid) (E.is_key source.now.encoding)
         (H.dimensions target.now.grid) (F.is_key target.now.encoding) chunks.now groups
         × (length chunks.now.start ≡ length (H.dimensions target.now.grid))
-        × IsRechunkingText (wanted_of wanted.now) (G.dimensions source.now.grid)
+        × IsRechunkingText order (wanted_of wanted.now) (G.dimensions source.now.grid)
         (H.dimensions target.now.grid) chunks.now groups text)
         (IsChunksFault (H.dimensions target.now.grid) chunks.now) result
         (output W.contents held_back.old.items writer.old)
@@ -361,7 +376,9 @@ fn write_rechunking<
 {
     match wanted {
         Wanted::Lines(share) => {
-            write_groups(alloc, source, target, chunks, share, held_back, writer)
+            write_groups(
+                alloc, source, target, chunks, order, share, held_back, writer,
+            )
         }
         Wanted::Counts => {
             write_counts_of_groups(alloc, source, target, chunks, held_back, writer)
@@ -393,7 +410,7 @@ fn write_counts_of_groups<
         × IsRechunking (G.dimensions source.now.grid) (E.is_key source.now.encoding)
         (H.dimensions target.now.grid) (F.is_key target.now.encoding) chunks.now groups
         × (length chunks.now.start ≡ length (H.dimensions target.now.grid))
-        × IsRechunkingText counts_wanted (G.dimensions source.now.grid)
+        × IsRechunkingText Target counts_wanted (G.dimensions source.now.grid)
         (H.dimensions target.now.grid) chunks.now groups text)
         (IsChunksFault (H.dimensions target.now.grid) chunks.now) result
         (output W.contents held_back.old.items writer.old)
@@ -406,7 +423,7 @@ fn write_counts_of_groups<
     }
 }
 
-/// Sends a share of the plan of a rechunking into the chunks of a box.
+/// Sends a share of that plan.
 fn write_groups<
     G: ChunkGridTraits,
     E: ChunkKeyEncodingTraits,
@@ -418,6 +435,7 @@ fn write_groups<
     source: &StoredArray<G, E>,
     target: &StoredArray<H, F>,
     chunks: &ArraySubset,
+    order: Order,
     share: &Share,
     held_back: &mut Vec<u8>,
     writer: &mut Watched<W>,
@@ -431,13 +449,13 @@ fn write_groups<
         × IsRechunking (G.dimensions source.now.grid) (E.is_key source.now.encoding)
         (H.dimensions target.now.grid) (F.is_key target.now.encoding) chunks.now groups
         × (length chunks.now.start ≡ length (H.dimensions target.now.grid))
-        × (text ≡ rechunking_lines share.now groups))
+        × (text ≡ rechunking_lines order share.now groups))
         (IsChunksFault (H.dimensions target.now.grid) chunks.now) result
         (output W.contents held_back.old.items writer.old)
         (output W.contents held_back.new.items writer.new) }
 {
     match copies(alloc, source, target, chunks) {
-        Ok(walk) => write_share(alloc, walk, share, None, held_back, writer),
+        Ok(walk) => write_share(alloc, walk, order, share, None, held_back, writer),
         Err(Refusal::Refused(error)) => Err(RunFault::Copies(error)),
         Err(Refusal::Memory(_)) => Err(RunFault::Memory),
     }
@@ -454,6 +472,7 @@ pub(crate) fn write_share<
 >(
     alloc: Global,
     mut walk: Copies<'_, G, E, H, F>,
+    order: Order,
     share: &Share,
     stored: Option<&StoredChunks>,
     held_back: &mut Vec<u8>,
@@ -468,13 +487,14 @@ pub(crate) fn write_share<
     ensures { StepLeaves
         (λ text. (groups : List Group)
         × AreMovesToCome G.dimensions E.is_key H.dimensions F.is_key walk.entry groups
-        × (text ≡ share_unless_stored (option_map (λ s. s.now) stored.entry) share.now groups))
+        × (text ≡ share_unless_stored order (option_map (λ s. s.now) stored.entry) share.now
+        groups))
         (λ _. ⊥) result
         (output W.contents held_back.old.items writer.old)
         (output W.contents held_back.new.items writer.new) }
 {
     let first = walk.share(share)?;
-    write_copies(alloc, walk, first, stored, held_back, writer)
+    write_copies(alloc, walk, order, first, stored, held_back, writer)
 }
 
 /// Sends what is wanted of the plan of the copy of a region.
@@ -577,7 +597,7 @@ fn write_moves<
         (λ text. (groups : List Group)
         × IsRegionPlan (G.dimensions source.now.grid) (E.is_key source.now.encoding)
         (H.dimensions target.now.grid) (F.is_key target.now.encoding) region.now at.now groups
-        × (text ≡ rechunking_lines share.now groups))
+        × (text ≡ rechunking_lines Target share.now groups))
         (IsCopyFault (G.dimensions source.now.grid) (H.dimensions target.now.grid)
         region.now at.now) result
         (output W.contents held_back.old.items writer.old)
@@ -585,7 +605,7 @@ fn write_moves<
 {
     region.is_a_box();
     match copies_of_region(alloc, source, target, region, at) {
-        Ok(walk) => write_share(alloc, walk, share, None, held_back, writer),
+        Ok(walk) => write_share(alloc, walk, Order::Target, share, None, held_back, writer),
         Err(Refusal::Refused(error)) => Err(RunFault::from(error)),
         Err(Refusal::Memory(_)) => Err(RunFault::Memory),
     }

@@ -68,6 +68,12 @@ pub enum RunFault {
     /// The document says whether keys stand behind it, and asks for counts.
     #[error("field `keys` is for lines: leave out `counts`, or leave it out")]
     KeysOfCounts,
+    /// The document says in which order the lines come, and has no target.
+    #[error("field `order` is for a rechunking: give `target` too, or leave it out")]
+    OrderOfNoTarget,
+    /// The document has a member that doesn't go with an order of the lines.
+    #[error("field `{0}` doesn't go with `order`: leave out one of them")]
+    NotOfOrder(&'static str),
     /// The document says that keys stand behind it, and isn't the first line.
     #[error("field `keys`: the document is to be the first line, and each line behind it a key")]
     KeysOfLongDocument,

@@ -15,6 +15,7 @@ use Rattle.programs.specs.chunkplan.Keys.{AreForeign, AreKeys, foreign_lines}
 use Rattle.programs.specs.chunkplan.Line.{group_line, lines_from}
 use Rattle.programs.specs.chunkplan.seen.Steps.{HasBegun, HasSent}
 use Rattle.programs.specs.seen.Sent.{Output}
+use Rattle.programs.specs.declared.chunkplan.line.Order.{Order}
 use Rattle.programs.specs.declared.chunkplan.run_fault.RunFault.{RunFault}
 use Rattle.programs.specs.declared.chunkplan.run_fault.RunFault.TheVariants.{KeyNotText, Memory, Read, Write}
 
@@ -24,13 +25,13 @@ is_left_out (Some stored) (Some number) to = to.whole && is_stored stored number
 is_left_out _ _ _ = false
 
 -- the line, or nothing
-abbrev pub line_unless_stored : Option StoredChunks → (at of : Option ℕ) → Group → List ℕ
-line_unless_stored stored at of group = if is_left_out stored at group.0 then [] else group_line at of group
+abbrev pub line_unless_stored : Order → Option StoredChunks → (at of : Option ℕ) → Group → List ℕ
+line_unless_stored order stored at of group = if is_left_out stored at group.0 then [] else group_line order at of group
 
 -- the lines of a share of a plan, without those
-abbrev pub share_unless_stored : Option StoredChunks → Share → List Group → List ℕ
-share_unless_stored stored share groups =
-    lines_from (λ n. line_unless_stored stored (counted n) (counted (length groups))) (before_share share.number share.of (length groups))
+abbrev pub share_unless_stored : Order → Option StoredChunks → Share → List Group → List ℕ
+share_unless_stored order stored share groups =
+    lines_from (λ n. line_unless_stored order stored (counted n) (counted (length groups))) (before_share share.number share.of (length groups))
     (share_of share groups)
 
 -- of the chunks `targets` those are marked of which a key is among these

@@ -1,27 +1,44 @@
 -- A line in the pieces in which it is sent.
 use Rattle.std.specs.Prelude.{ℕ, zero, List, [], ◌∷◌, ◌++◌, codes, Option, Some}
 use Rattle.json.specs.Print.{print}
-use Rattle.json.specs.Token.{end_array}
+use Rattle.json.specs.Token.{Token, begin_array, begin_object, end_array, end_object, key}
 use Rattle.json.specs.Tree.{json_tokens, members_tokens}
 use Rattle.zarrs_chunk_plan.specs.declared.part.Part.{Part}
-use Rattle.programs.specs.chunkplan.Line.{end_members, line_of, part_json, source_json}
+use Rattle.programs.specs.chunkplan.Line.{chunk_json, count_json, end_members, line_of, part_json, piece_json}
 use Rattle.programs.specs.declared.chunkplan.line.Form.{Form}
-use Rattle.programs.specs.declared.chunkplan.line.Form.TheVariants.{Line, Source}
+use Rattle.programs.specs.declared.chunkplan.line.Form.TheVariants.{Line, Piece}
+use Rattle.programs.specs.declared.chunkplan.line.Order.{Order}
+use Rattle.programs.specs.declared.chunkplan.line.Order.TheVariants.{Source, Target}
 
 -- a comma, but before the first
 abbrev pub comma_before : Option ℕ → List ℕ
 comma_before (Some zero) = []
 comma_before _ = codes ","
 
--- the text of a source, by its number, of this part of a chunk of the target
-abbrev pub source_text : (to : Part) → Option ℕ → Part → List ℕ
-source_text to at from = comma_before at ++ print (json_tokens (source_json to.in_chunk.start from))
+-- the text of a piece, by its number, in the line of this part of a chunk
+abbrev pub piece_text : Order → (of : Part) → Option ℕ → Part → List ℕ
+piece_text order of at part = comma_before at ++ print (json_tokens (piece_json order of.in_chunk.start part))
 
--- the text of a part in one form, by its number: as a line of a read, or as a source in the line of a chunk of the target
+-- the text of a part in one form, by its number: as a line of a read, or as a piece of the line of a chunk
 abbrev pub text_as : Form → Option ℕ → Part → List ℕ
 text_as (Line of) at part = line_of (part_json at of part)
-text_as (Source to) at part = source_text to.now at part
+text_as (Piece order of) at part = piece_text order of.now at part
 
--- the end of the line of a chunk of the target
-abbrev pub end_of_line : (at of : Option ℕ) → Part → List ℕ
-end_of_line at of to = print (end_array ∷ members_tokens (end_members at of to)) ++ codes "\n"
+-- the tokens before the pieces of a line, and those behind them
+abbrev pub begin_tokens : Order → (at of : Option ℕ) → Part → List Token
+begin_tokens Target at of part = begin_object ∷ key (codes "from") ∷ begin_array ∷ []
+begin_tokens Source at of part =
+    begin_object ∷ key (codes "from") ∷ (json_tokens (chunk_json part)
+    ++ key (codes "number") ∷ (json_tokens (count_json at)
+    ++ key (codes "of") ∷ (json_tokens (count_json of) ++ key (codes "to") ∷ begin_array ∷ [])))
+
+abbrev pub end_tokens : Order → (at of : Option ℕ) → Part → List Token
+end_tokens Target at of part = end_array ∷ members_tokens (end_members at of part)
+end_tokens Source at of part = end_array ∷ end_object ∷ []
+
+-- the beginning of the line of a chunk, and its end
+abbrev pub begin_of_line : Order → (at of : Option ℕ) → Part → List ℕ
+begin_of_line order at of part = print (begin_tokens order at of part)
+
+abbrev pub end_of_line : Order → (at of : Option ℕ) → Part → List ℕ
+end_of_line order at of part = print (end_tokens order at of part) ++ codes "\n"

@@ -44,7 +44,7 @@ loop-group-preserved g c = λ begin is_first.
     let (text, (from, are, is), more, failed) = rw c.in_all-of.ensures at c.in_ok-write_unless_stored.ensures in (
       suc n,
       c.following-number.ensures n number_is,
-      way_goes_on (λ n. line_unless_stored (option_map (λ s. s.now) c.args.stored) (counted n) (counted (length (all_targets c.args.walk)))) begin
+      way_goes_on (λ n. line_unless_stored c.args.order (option_map (λ s. s.now) c.args.stored) (counted n) (counted (length (all_targets c.args.walk)))) begin
           (MovesHaveCome dimensions is_key also also_key c.args.walk c.loop-group.group-iterator)
           (MovesHaveCome dimensions is_key also also_key c.args.walk c.next.new.self) (λ _. ⊥)
           (λ y. (from : List Part) × ArePartsToCome dimensions is_key group.from from × (y ≡ (group.to, from))) n
@@ -58,7 +58,7 @@ loop-group-preserved g c = λ begin is_first.
             (
               (group.to, from),
               (from, are, refl),
-              is ∙ ap (λ number. line_unless_stored (option_map (λ s. s.now) c.args.stored) number (counted (length (all_targets c.args.walk))) (group.to, from)) number_is,
+              is ∙ ap (λ number. line_unless_stored c.args.order (option_map (λ s. s.now) c.args.stored) number (counted (length (all_targets c.args.walk))) (group.to, from)) number_is,
             ),
             more,
             failed,
@@ -88,7 +88,7 @@ returns-in_err-group g c = λ begin is_first.
     let p = err_from_is_err_and c.from_residual.result c.from_residual.ensures.1 in
     let (n, number_is, sent) = c.loop-group.invariant begin is_first in
     rw (p.1, p.2)
-    (way_memory (λ n. line_unless_stored (option_map (λ s. s.now) c.args.stored) (counted n) (counted (length (all_targets c.args.walk)))) begin _ _ n _ _ sent
+    (way_memory (λ n. line_unless_stored c.args.order (option_map (λ s. s.now) c.args.stored) (counted n) (counted (length (all_targets c.args.walk)))) begin _ _ n _ _ sent
     (moves_ahead g.G.ChunkGridTraits.dimensions g.E.ChunkKeyEncodingTraits.is_key g.H.ChunkGridTraits.dimensions g.F.ChunkKeyEncodingTraits.is_key
     c.args.walk (g.met.G.ChunkGridTraits.chained c.args.walk.source.now.grid) (g.met.H.ChunkGridTraits.chained c.args.walk.targets.grid.now)
     c.requires.keys c.requires.target_keys c.requires.is_box c.requires.region c.requires.can c.loop-group.group-iterator))
@@ -106,7 +106,7 @@ returns-in_err-write_unless_stored g c = λ begin is_first.
     let between : Output = output g.W.Write.contents c.loop-group.held_back.items c.loop-group.writer in
     let after : Output = output g.W.Write.contents c.write_unless_stored.new.held_back.items c.write_unless_stored.new.writer in
     let of = counted (length (all_targets c.args.walk)) in
-    let Line : ℕ → Group → List ℕ = λ n. line_unless_stored (option_map (λ s. s.now) c.args.stored) (counted n) of in
+    let Line : ℕ → Group → List ℕ = λ n. line_unless_stored c.args.order (option_map (λ s. s.now) c.args.stored) (counted n) of in
     let IsOne : Group → Type 0 = λ y. (from : List Part) × ArePartsToCome dimensions is_key group.from from × (y ≡ (group.to, from)) in
     let ahead = moves_ahead dimensions is_key also also_key c.args.walk (g.met.G.ChunkGridTraits.chained c.args.walk.source.now.grid)
     (g.met.H.ChunkGridTraits.chained c.args.walk.targets.grid.now) c.requires.keys c.requires.target_keys c.requires.is_box c.requires.region
@@ -122,14 +122,14 @@ returns-in_err-write_unless_stored g c = λ begin is_first.
     (λ text (from, are, is). (
       (group.to, from),
       (from, are, refl),
-      is ∙ ap (λ of. line_unless_stored (option_map (λ s. s.now) c.args.stored) c.loop-group.number of (group.to, from)) c.in_all-of.ensures
-          ∙ ap (λ number. line_unless_stored (option_map (λ s. s.now) c.args.stored) number of (group.to, from)) number_is,
+      is ∙ ap (λ of. line_unless_stored c.args.order (option_map (λ s. s.now) c.args.stored) c.loop-group.number of (group.to, from)) c.in_all-of.ensures
+          ∙ ap (λ number. line_unless_stored c.args.order (option_map (λ s. s.now) c.args.stored) number of (group.to, from)) number_is,
     ))
     (λ fault none. none) between after (Err _) c.in_err-write_unless_stored.ensures))
 
 pub returns : goal.returns
 returns g c = λ begin is_first.
     let (n, number_is, sent) = c.loop-group.invariant begin is_first in
-    way_ends (λ n. line_unless_stored (option_map (λ s. s.now) c.args.stored) (counted n) (counted (length (all_targets c.args.walk)))) begin _ _ n _ _ sent
+    way_ends (λ n. line_unless_stored c.args.order (option_map (λ s. s.now) c.args.stored) (counted n) (counted (length (all_targets c.args.walk)))) begin _ _ n _ _ sent
     (λ came have. last_move g.G.ChunkGridTraits.dimensions g.E.ChunkKeyEncodingTraits.is_key g.H.ChunkGridTraits.dimensions
     g.F.ChunkKeyEncodingTraits.is_key c.args.walk c.loop-group.group-iterator c.next.new.self came have c.in-None.ensures.steps)

@@ -13,7 +13,7 @@ abbrev pub invariant-loop-group : goal.invariant-loop-group
 invariant-loop-group g l =
     (begin : ℕ) → l.fn.first ≡ counted begin → (n : ℕ) × (l.number ≡ counted n)
     × HasSent
-    (Came (λ n. line_unless_stored (option_map (λ s. s.now) l.fn.stored) (counted n) (counted (length (all_targets l.fn.walk)))) begin
+    (Came (λ n. line_unless_stored l.fn.order (option_map (λ s. s.now) l.fn.stored) (counted n) (counted (length (all_targets l.fn.walk)))) begin
     (MovesHaveCome g.G.ChunkGridTraits.dimensions g.E.ChunkKeyEncodingTraits.is_key g.H.ChunkGridTraits.dimensions g.F.ChunkKeyEncodingTraits.is_key
     l.fn.walk l.group-iterator) n)
     (output g.W.Write.contents l.initial.held_back.items l.initial.writer) (output g.W.Write.contents l.held_back.items l.writer)

@@ -1,4 +1,4 @@
-use Rattle.std.proofs.Common.{◌≡◌, ◌∙◌, ℕ, List, [], ◌++◌, codes, Option, append_assoc, refl, sym}
+use Rattle.std.proofs.Common.{◌≡◌, ◌∙◌, ℕ, List, [], ◌++◌, Option, Err, append_assoc, inl, refl, sym}
 use Rattle.std.proofs.lemmas.Result.{err_from_is_err_and}
 use Rattle.std.specs.List.{AllByRecursion}
 use Rattle.zarrs_chunk_base.specs.ArraySubset.{IsBox}
@@ -9,102 +9,130 @@ use Rattle.zarrs_chunk_plan.specs.declared.walk.Parts.{Parts}
 use Rattle.zarrs_chunk_plan.specs.seen.Parts.{ArePartsToCome, HasKeys, MeetSubset}
 use Rattle.zarrs_chunk_plan.proofs.Walked.{at_first}
 use Rattle.programs.specs.chunkplan.Line.{group_line, lines_from}
-use Rattle.programs.specs.chunkplan.seen.Pieces.{end_of_line, source_text}
+use Rattle.programs.specs.chunkplan.seen.Pieces.{begin_of_line, end_of_line, piece_text}
+use Rattle.programs.specs.declared.chunkplan.line.Order.{Order}
 use Rattle.programs.specs.seen.Sent.{output}
 use Rattle.programs.proofs.chunkplan.Begun.{parts_ahead}
 use Rattle.programs.proofs.chunkplan.Behind.{Begins, Behind, ends_behind, memory_after, sent_behind, stops_behind, stops_whole}
 use Rattle.programs.proofs.chunkplan.Numbered.{IsTextOf, counted_first}
 use Rattle.programs.proofs.chunkplan.Pieces.{in_pieces}
+use Rattle.programs.proofs.chunkplan.Steps.{step_follows}
 use Rattle.programs.proofs.chunkplan.copying.write_group.Goals as goal
 
 -- ---- the line, as far as it was sent
 
-abbrev Head : List ℕ → Type 0
-Head text = text ≡ codes "{\"from\":["
+module _ (AreAll : List Part → Type 0) (order : Order) (of : Part) where
+  abbrev Pieces : List ℕ → Type 0
+  Pieces = IsTextOf (λ n. piece_text order of (counted n)) 0 AreAll
 
-module _ (AreAll : List Part → Type 0) (to : Part) where
-  abbrev Sources : List ℕ → Type 0
-  Sources = IsTextOf (λ n. source_text to (counted n)) 0 AreAll
+  module _ (at all : Option ℕ) where
+    abbrev Head : List ℕ → Type 0
+    Head text = text ≡ begin_of_line order at all of
 
-  module _ (at of : Option ℕ) where
     abbrev IsLine : List ℕ → Type 0
-    IsLine text = (from : List Part) × AreAll from × (text ≡ group_line at of (to, from))
+    IsLine text = (parts : List Part) × AreAll parts × (text ≡ group_line order at all (of, parts))
 
-    head_begins : (from : List Part) → AreAll from → Begins Head IsLine
-    head_begins from are text is = (
-      lines_from (λ n. source_text to (counted n)) 0 from ++ end_of_line at of to,
-      (
-        from,
-        are,
-        rw is (sym (append_assoc (codes "{\"from\":[") (lines_from (λ n. source_text to (counted n)) 0 from) (end_of_line at of to)))
-            ∙ sym (in_pieces to at of from),
-      ),
-    )
+    head_begins : (parts : List Part) → AreAll parts → Begins Head IsLine
+    head_begins parts are text is =
+        let pieces = lines_from (λ n. piece_text order of (counted n)) 0 parts in (
+          pieces ++ end_of_line order at all of,
+          (
+            parts,
+            are,
+            rw is (sym (append_assoc (begin_of_line order at all of) pieces (end_of_line order at all of))) ∙ sym (in_pieces of order at all parts),
+          ),
+        )
 
-    sources_begin : Begins (Behind Head Sources) IsLine
-    sources_begin text (head, sources, is, (from, are, lines), both) =
-        (end_of_line at of to, (from, are, rw (both, is, lines) (sym (in_pieces to at of from))))
+    pieces_begin : Begins (Behind Head Pieces) IsLine
+    pieces_begin text (head, pieces, is, (parts, are, lines), both) =
+        (end_of_line order at all of, (parts, are, rw (both, is, lines) (sym (in_pieces of order at all parts))))
 
-    is_line : (text : List ℕ) → Behind (Behind Head Sources) (λ text. text ≡ end_of_line at of to) text → IsLine text
-    is_line text (most, last, (head, sources, is, (from, are, lines), both), ends, all) =
-        (from, are, rw (all, ends, both, is, lines) (sym (in_pieces to at of from)))
+    is_line : (text : List ℕ) → Behind (Behind Head Pieces) (λ text. text ≡ end_of_line order at all of) text → IsLine text
+    is_line text (most, last, (head, pieces, is, (parts, are, lines), both), ends, whole) =
+        (parts, are, rw (whole, ends, both, is, lines) (sym (in_pieces of order at all parts)))
 
 -- what the walk would give from here on
 module _ {G E : Type 0} (dimensions : G → List Dimension) (is_key : E → List ℕ → List ℕ → Type 0) (walk : Parts G E)
     (chains : AllByRecursion IsChain (dimensions walk.grid.now)) (keys : HasKeys (is_key walk.encoding.now)) (is_box : IsBox walk.array_subset)
-    (meet : MeetSubset dimensions walk) (to : Part) (at of : Option ℕ) where
-  begun : Begins Head (IsLine (ArePartsToCome dimensions is_key walk) to at of)
-  begun =
-      let (from, are) = parts_ahead dimensions is_key walk chains keys is_box walk [] (at_first dimensions is_key walk walk [] refl refl meet) in
-      head_begins (ArePartsToCome dimensions is_key walk) to at of from are
+    (meet : MeetSubset dimensions walk) (order : Order) (of : Part) (at all : Option ℕ) where
+  some_line : (parts : List Part) × ArePartsToCome dimensions is_key walk parts
+  some_line = parts_ahead dimensions is_key walk chains keys is_box walk [] (at_first dimensions is_key walk walk [] refl refl meet)
+
+  begun : Begins (Head (ArePartsToCome dimensions is_key walk) order of at all) (IsLine (ArePartsToCome dimensions is_key walk) order of at all)
+  begun = head_begins (ArePartsToCome dimensions is_key walk) order of at all some_line.0 some_line.1
+
+pub returns-in_err-begin : goal.returns-in_err-begin
+returns-in_err-begin g c = let p = err_from_is_err_and c.from_residual.result c.from_residual.ensures.1 in rw (p.1, p.2) (refl, inl refl)
 
 pub returns-in_err-send_text : goal.returns-in_err-send_text
 returns-in_err-send_text g c =
-    let p = err_from_is_err_and c.from_residual.result c.from_residual.ensures.1 in
+    let p = err_from_is_err_and c.from_residual-in_err-send_text.result c.from_residual-in_err-send_text.ensures.1 in
     let group = c.args.group in
+    let dimensions = g.G.ChunkGridTraits.dimensions in
+    let is_key = g.E.ChunkKeyEncodingTraits.is_key in
+    let AreAll = ArePartsToCome dimensions is_key group.from in
+    let IsHead = Head AreAll c.args.order group.to c.args.number c.args.of in
+    let first = step_follows _ IsHead (λ _. ⊥) (λ _. ⊥) (λ text is. is ∙ c.deref.ensures.value ∙ c.in_ok-begin.ensures) (λ fault none. none)
+    (output g.W.Write.contents c.args.held_back.now.items c.args.writer.now)
+    (output g.W.Write.contents c.send_text.new.held_back.items c.send_text.new.writer) (Err _) c.in_err-send_text.ensures
+    in
     rw (p.1, p.2)
-    (stops_whole Head _
-    (begun g.G.ChunkGridTraits.dimensions g.E.ChunkKeyEncodingTraits.is_key group.from (g.met.G.ChunkGridTraits.chained group.from.grid.now)
-    c.requires.keys c.requires.is_box c.requires.meet group.to c.args.number c.args.of)
-    _ _ _ c.in_err-send_text.ensures)
+    (stops_whole IsHead _
+    (begun dimensions is_key group.from (g.met.G.ChunkGridTraits.chained group.from.grid.now) c.requires.keys c.requires.is_box c.requires.meet
+    c.args.order group.to c.args.number c.args.of)
+    _ _ _ first)
 
 pub returns-in_err-write_parts : goal.returns-in_err-write_parts
 returns-in_err-write_parts g c =
     let p = err_from_is_err_and c.from_residual-in_err-write_parts.result c.from_residual-in_err-write_parts.ensures.1 in
     let group = c.args.group in
-    let AreAll = ArePartsToCome g.G.ChunkGridTraits.dimensions g.E.ChunkKeyEncodingTraits.is_key group.from in
+    let dimensions = g.G.ChunkGridTraits.dimensions in
+    let is_key = g.E.ChunkKeyEncodingTraits.is_key in
+    let AreAll = ArePartsToCome dimensions is_key group.from in
+    let order = c.args.order in
+    let first = rw (c.deref.ensures.value, c.in_ok-begin.ensures) at c.in_ok-send_text.ensures in
     rw (p.1, p.2)
-    (stops_behind Head (Sources AreAll group.to) (IsLine AreAll group.to c.args.number c.args.of)
+    (stops_behind (Head AreAll order group.to c.args.number c.args.of) (Pieces AreAll order group.to)
+    (IsLine AreAll order group.to c.args.number c.args.of)
     (output g.W.Write.contents c.args.held_back.now.items c.args.writer.now)
     (output g.W.Write.contents c.send_text.new.held_back.items c.send_text.new.writer)
-    (output g.W.Write.contents c.write_parts.new.held_back.items c.write_parts.new.writer) c.in_ok-send_text.ensures
-    (begun g.G.ChunkGridTraits.dimensions g.E.ChunkKeyEncodingTraits.is_key group.from (g.met.G.ChunkGridTraits.chained group.from.grid.now)
-    c.requires.keys c.requires.is_box c.requires.meet group.to c.args.number c.args.of)
-    (sources_begin AreAll group.to c.args.number c.args.of) _ (c.in_err-write_parts.ensures 0 (sym counted_first)))
+    (output g.W.Write.contents c.write_parts.new.held_back.items c.write_parts.new.writer) first
+    (begun dimensions is_key group.from (g.met.G.ChunkGridTraits.chained group.from.grid.now) c.requires.keys c.requires.is_box c.requires.meet
+    order group.to c.args.number c.args.of)
+    (pieces_begin AreAll order group.to c.args.number c.args.of) _ (c.in_err-write_parts.ensures 0 (sym counted_first)))
 
 pub returns-in_err-end : goal.returns-in_err-end
 returns-in_err-end g c =
     let p = err_from_is_err_and c.from_residual-in_err-end.result c.from_residual-in_err-end.ensures.1 in
     let group = c.args.group in
     let AreAll = ArePartsToCome g.G.ChunkGridTraits.dimensions g.E.ChunkKeyEncodingTraits.is_key group.from in
+    let order = c.args.order in
     let before = output g.W.Write.contents c.args.held_back.now.items c.args.writer.now in
     let between = output g.W.Write.contents c.send_text.new.held_back.items c.send_text.new.writer in
     let now = output g.W.Write.contents c.write_parts.new.held_back.items c.write_parts.new.writer in
+    let IsHead = Head AreAll order group.to c.args.number c.args.of in
+    let ArePieces = Pieces AreAll order group.to in
+    let first = rw (c.deref.ensures.value, c.in_ok-begin.ensures) at c.in_ok-send_text.ensures in
     rw (p.1, p.2)
-    (memory_after (Behind Head (Sources AreAll group.to)) (IsLine AreAll group.to c.args.number c.args.of)
-    (sources_begin AreAll group.to c.args.number c.args.of) before now
-    (sent_behind Head (Sources AreAll group.to) (λ _. ⊥) before between now c.in_ok-send_text.ensures (c.in_ok-write_parts.ensures 0 (sym counted_first))))
+    (memory_after (Behind IsHead ArePieces) (IsLine AreAll order group.to c.args.number c.args.of)
+    (pieces_begin AreAll order group.to c.args.number c.args.of) before now
+    (sent_behind IsHead ArePieces (λ _. ⊥) before between now first (c.in_ok-write_parts.ensures 0 (sym counted_first))))
 
 pub returns : goal.returns
 returns g c =
     let group = c.args.group in
     let AreAll = ArePartsToCome g.G.ChunkGridTraits.dimensions g.E.ChunkKeyEncodingTraits.is_key group.from in
+    let order = c.args.order in
     let before = output g.W.Write.contents c.args.held_back.now.items c.args.writer.now in
     let between = output g.W.Write.contents c.send_text.new.held_back.items c.send_text.new.writer in
     let now = output g.W.Write.contents c.write_parts.new.held_back.items c.write_parts.new.writer in
-    let ends = rw (c.deref.ensures.value) at c.send_text-2.ensures in
-    ends_behind (Behind Head (Sources AreAll group.to)) (λ text. text ≡ c.in_ok-end.end.items) (IsLine AreAll group.to c.args.number c.args.of) before now _
-    (sent_behind Head (Sources AreAll group.to) (λ _. ⊥) before between now c.in_ok-send_text.ensures (c.in_ok-write_parts.ensures 0 (sym counted_first)))
-    (sources_begin AreAll group.to c.args.number c.args.of)
-    (λ text (most, last, both, is, all). is_line AreAll group.to c.args.number c.args.of text (most, last, both, is ∙ c.in_ok-end.ensures, all))
+    let IsHead = Head AreAll order group.to c.args.number c.args.of in
+    let ArePieces = Pieces AreAll order group.to in
+    let first = rw (c.deref.ensures.value, c.in_ok-begin.ensures) at c.in_ok-send_text.ensures in
+    let ends = rw (c.deref-2.ensures.value) at c.send_text-2.ensures in
+    ends_behind (Behind IsHead ArePieces) (λ text. text ≡ c.in_ok-end.end.items) (IsLine AreAll order group.to c.args.number c.args.of) before now _
+    (sent_behind IsHead ArePieces (λ _. ⊥) before between now first (c.in_ok-write_parts.ensures 0 (sym counted_first)))
+    (pieces_begin AreAll order group.to c.args.number c.args.of)
+    (λ text (most, last, both, is, all).
+    is_line AreAll order group.to c.args.number c.args.of text (most, last, both, is ∙ c.in_ok-end.ensures, all))
     c.send_text-2.result ends

@@ -16,7 +16,7 @@ returns-then-is_left_out g c =
     in
     let left = sym c.is_left_out.ensures ∙ c.if-is_left_out.true in (
       [],
-      (from, are, sym (ap (λ b. cond b [] (group_line c.args.number c.args.of (group.to, from))) left)),
+      (from, are, sym (ap (λ b. cond b [] (group_line c.args.order c.args.number c.args.of (group.to, from))) left)),
       sends_nothing (output g.W.Write.contents c.args.held_back.now.items c.args.writer.now),
       refl,
     )
@@ -29,7 +29,7 @@ returns g c =
     (λ text (from, are, is). (
       from,
       are,
-      is ∙ sym (ap (λ b. cond b [] (group_line c.args.number c.args.of (group.to, from))) written),
+      is ∙ sym (ap (λ b. cond b [] (group_line c.args.order c.args.number c.args.of (group.to, from))) written),
     ))
     (λ fault none. none)
     (output g.W.Write.contents c.args.held_back.now.items c.args.writer.now)

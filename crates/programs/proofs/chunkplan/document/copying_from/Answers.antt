@@ -6,7 +6,7 @@ use Rattle.programs.specs.chunkplan.DocumentFault.{of_clip, of_subset, of_target
 use Rattle.programs.specs.chunkplan.Document.{task_of}
 use Rattle.programs.specs.declared.chunkplan.run_fault.RunFault.{RunFault}
 use Rattle.programs.proofs.chunkplan.LeftMembers.{AskAlike, at_is_no_target, chunks_is_no_target, clip_is_no_target, data_type_is_no_target, has_box}
-use Rattle.programs.proofs.chunkplan.LeftMembers.{has_box_fault, has_flag_fault, is_task_to, is_task_to_fault, shape_is_no_target}
+use Rattle.programs.proofs.chunkplan.LeftMembers.{has_box_fault, has_flag_fault, is_task_to, is_task_to_fault, order_is_no_target, shape_is_no_target}
 use Rattle.programs.proofs.chunkplan.LeftMembers.{subset_is_no_target, with_target}
 use Rattle.programs.proofs.chunkplan.document.copying_from.Goals as goal
 
@@ -58,6 +58,7 @@ returns c =
       subset = others (codes "subset") subset_is_no_target;
       chunks = others (codes "chunks") chunks_is_no_target;
       at = others (codes "at") at_is_no_target;
+      order = others (codes "order") order_is_no_target;
     }
     in
     told c.task_to.result

@@ -13,4 +13,4 @@ returns c =
     (then _ _ _ _ _ place
     (then _ _ _ _ _ c.in_ok-write_key.ensures (then _ _ _ _ _ shape (wrote _ _ _ c.in_ok-end_object.ensures))))))
     in
-    rw (all.tokens, all.before, c.new-json.ensures.tokens, c.new-json.ensures.before, c.in_ok-begin_source.ensures) at c.into_inner.ensures.items
+    rw (all.tokens, all.before, c.new-json.ensures.tokens, c.new-json.ensures.before, c.in_ok-begin_piece.ensures) at c.into_inner.ensures.items

@@ -1,5 +1,5 @@
 use Rattle.programs.proofs.chunkplan.Tokens.{then, wrote}
-use Rattle.programs.proofs.chunkplan.line.write_target.Goals as goal
+use Rattle.programs.proofs.chunkplan.line.write_chunk.Goals as goal
 
 pub returns : goal.returns
 returns c =

@@ -15,6 +15,7 @@ use Rattle.zarrs_chunk_plan.specs.seen.StoredChunks.{Knows}
 use Rattle.zarrs_chunk_plan.proofs.Copied.{first_move}
 use Rattle.programs.specs.chunkplan.Keys.{IsMissingText}
 use Rattle.programs.specs.chunkplan.seen.Missing.{HaveNoted, share_unless_stored}
+use Rattle.programs.specs.declared.chunkplan.line.Order.TheVariants.{Target}
 use Rattle.programs.specs.seen.Sent.{Output, output}
 use Rattle.programs.proofs.chunkplan.Begun.{moves_ahead}
 use Rattle.programs.proofs.chunkplan.Behind.{Begins, Behind, ends_behind, stops_whole}
@@ -41,14 +42,14 @@ module _ {G E H F : Type 0} (dimensions : G → List Dimension) (is_key : E → 
     (stored : StoredChunks) (foreign : List ℕ) (noted : HaveNoted target IsKeyOf (all_targets walk) keys stored foreign) (share : Share) where
   abbrev AreLines : List ℕ → Type 0
   AreLines text = (groups : List Group) × AreMovesToCome dimensions is_key also also_key walk groups
-      × (text ≡ share_unless_stored (Some stored) share groups)
+      × (text ≡ share_unless_stored Target (Some stored) share groups)
 
   abbrev IsWhole : List ℕ → Type 0
   IsWhole text = (groups : List Group) × AreMovesToCome dimensions is_key also also_key walk groups
       × IsMissingText target IsKeyOf keys share groups text
 
   both : (groups : List Group) → AreMovesToCome dimensions is_key also also_key walk groups
-      → IsMissingText target IsKeyOf keys share groups (share_unless_stored (Some stored) share groups ++ foreign)
+      → IsMissingText target IsKeyOf keys share groups (share_unless_stored Target (Some stored) share groups ++ foreign)
   both groups moves =
       missing_text target IsKeyOf (all_targets walk) keys stored groups
       (AreMovedInto (dimensions walk.source.now.grid) (is_key walk.source.now.encoding) (also walk.targets.grid.now)

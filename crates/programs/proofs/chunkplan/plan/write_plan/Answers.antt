@@ -1,18 +1,24 @@
-use Rattle.std.proofs.Common.{◌≡◌, ap, inl, inr, length, option_map, rules, refl, subst, ⊎_elim}
+use Rattle.std.proofs.Common.{◌≡◌, List, ap, inl, inr, length, option_map, rules, refl, subst, ⊎_elim}
 use Rattle.std.proofs.lemmas.Result.{err_from_is_err_and}
+use Rattle.std.proofs.lemmas.List.{length-replicate}
+use Rattle.zarrs_chunk_base.specs.Dimension.{Dimension}
 use Rattle.zarrs_chunk_keys.specs.ChunkKey.{IsKey}
 use Rattle.zarrs_chunk_keys.specs.seen.Encodings.{encoding_in}
 use Rattle.zarrs_chunk_keys.proofs.OneKey.{has_key}
 use Rattle.zarrs_chunks.specs.seen.Grids.{grid_in}
-use Rattle.zarrs_chunk_plan.specs.Rechunking.{IsRechunking}
+use Rattle.zarrs_chunk_plan.specs.Rechunking.{IsRechunking, all_chunks_box}
+use Rattle.zarrs_chunk_plan.specs.declared.copies_error.CopiesError.TheVariants.{Chunks}
 use Rattle.zarrs_chunk_plan.proofs.OneConfiguration.{one_configuration}
 use Rattle.programs.specs.Stored.{stored_of}
 use Rattle.programs.specs.chunkplan.Document.{document_of, task_of}
 use Rattle.programs.specs.chunkplan.PlanFault.{IsChunksFault, IsCopyFault, IsPlanFault, IsReadFault, of_chunks, of_region_target, of_source, of_subset}
-use Rattle.programs.specs.chunkplan.PlanFault.{of_region as of_region_fault, of_resize as of_resize_fault, of_target}
+use Rattle.programs.specs.chunkplan.PlanFault.{of_region as of_region_fault, of_resize as of_resize_fault, of_takers, of_target}
 use Rattle.programs.specs.chunkplan.Planned.{IsAsked, IsPlanned, IsRechunkingText, IsRegionPlan, IsRegionText, begins_at, of_read, of_rechunking, of_region}
-use Rattle.programs.specs.chunkplan.Planned.{of_resize}
+use Rattle.programs.specs.chunkplan.Planned.{of_resize, of_source_order}
 use Rattle.programs.specs.chunkplan.RunFault.{of_create}
+use Rattle.programs.specs.declared.chunkplan.line.Order.TheVariants.{Source, Target}
+use Rattle.programs.specs.declared.chunkplan.run_fault.RunFault.{RunFault}
+use Rattle.programs.specs.declared.chunkplan.run_fault.RunFault.TheVariants.{Copies}
 use Rattle.programs.specs.seen.Sent.{output}
 use Rattle.programs.proofs.chunkplan.RunOutcomes.{no_failed_write}
 use Rattle.programs.proofs.chunkplan.Steps.{early, step_follows}
@@ -29,6 +35,12 @@ write_rechunking-requires-clause-keys g c = has_key (encoding_in c.in_ok-array.a
 pub write_rechunking-requires-clause-target_keys : goal.write_rechunking-requires-clause-target_keys
 write_rechunking-requires-clause-target_keys g c = has_key (encoding_in c.in_ok-target-in-Rechunk.target.encoding)
 
+pub write_rechunking-requires-in-RechunkBySource-clause-keys : goal.write_rechunking-requires-in-RechunkBySource-clause-keys
+write_rechunking-requires-in-RechunkBySource-clause-keys g c = has_key (encoding_in c.in_ok-target-in-RechunkBySource.target.encoding)
+
+pub write_rechunking-requires-in-RechunkBySource-clause-target_keys : goal.write_rechunking-requires-in-RechunkBySource-clause-target_keys
+write_rechunking-requires-in-RechunkBySource-clause-target_keys g c = has_key (encoding_in c.in_ok-array.array.encoding)
+
 pub write_region-requires-clause-keys : goal.write_region-requires-clause-keys
 write_region-requires-clause-keys g c = has_key (encoding_in c.in_ok-array.array.encoding)
 
@@ -44,6 +56,12 @@ pub write_resize-requires-clause-resized : goal.write_resize-requires-clause-res
 write_resize-requires-clause-resized g c =
     one_configuration (stored_of c.args.document.stored).chunk_grid _ _ (grid_in c.in_ok-array.array.grid) (grid_in c.in_ok-after-in-Resize.after)
     c.in_ok-array.ensures.made.is_grid c.in_ok-after-in-Resize.ensures.made
+
+-- ---- the box of all chunks has the grid's number of dimensions
+
+no_chunks_fault : (ds : List Dimension) (fault : RunFault) → ¬ IsChunksFault ds (all_chunks_box ds) fault
+no_chunks_fault ds (Copies (Chunks _)) (other, _) = other (length-replicate (length ds) 0)
+no_chunks_fault ds _ is = is
 
 -- ---- what is sent, and why it stops
 
@@ -106,12 +124,48 @@ returns-in-Rechunk g c =
     (subst (λ b. length b.start ≡ length target.dimensions) c.in_ok-chunks-in-Rechunk.ensures lengths)
     (subst (λ b. IsRechunking source.dimensions (IsKey source_encoding) target.dimensions
     (IsKey target_encoding) b groups) c.in_ok-chunks-in-Rechunk.ensures is)
-    (subst (λ b. IsRechunkingText document.wanted source.dimensions target.dimensions b groups text) c.in_ok-chunks-in-Rechunk.ensures lines))
+    (subst (λ b. IsRechunkingText Target document.wanted source.dimensions target.dimensions b groups text) c.in_ok-chunks-in-Rechunk.ensures lines))
     (λ fault is. of_chunks stored c.in-Rechunk.chunks source target source_encoding target_encoding (ap task_of c.in-Rechunk.is) made made_target
     (subst (λ b. IsChunksFault target.dimensions b fault) c.in_ok-chunks-in-Rechunk.ensures is))
     (output g.W.Write.contents c.args.held_back.now.items c.args.writer.now)
     (output g.W.Write.contents c.write_rechunking.new.held_back.items c.write_rechunking.new.writer)
     c.write_rechunking.result c.write_rechunking.ensures
+
+pub returns-in_err-target-in-RechunkBySource : goal.returns-in_err-target-in-RechunkBySource
+returns-in_err-target-in-RechunkBySource g c =
+    let p = err_from_is_err_and c.from_residual-in_err-target-in-RechunkBySource.result
+    c.from_residual-in_err-target-in-RechunkBySource.ensures.1 in
+    let made = rw c.deref.ensures.value at c.in_ok-array.ensures.made in
+    let document = document_of c.args.document in
+    let refused = rw c.deref-in-RechunkBySource.ensures.value at c.in_err-target-in-RechunkBySource.ensures.refused in
+    rw (p.1, p.2)
+    (early (IsPlanned document) (IsPlanFault document) _
+    (output g.W.Write.contents c.args.held_back.now.items c.args.writer.now)
+    (no_failed_write document)
+    (⊎_elim (λ memory. inl memory)
+    (λ is. inr (of_takers (stored_of c.in-RechunkBySource.target) (grid_in c.in_ok-array.array.grid) (encoding_in c.in_ok-array.array.encoding)
+    (ap task_of c.in-RechunkBySource.is) made is))
+    refused))
+
+pub returns-in-RechunkBySource : goal.returns-in-RechunkBySource
+returns-in-RechunkBySource g c =
+    let made = rw c.deref.ensures.value at c.in_ok-array.ensures.made in
+    let made_target = rw c.deref-in-RechunkBySource.ensures.value at c.in_ok-target-in-RechunkBySource.ensures.made in
+    let source = grid_in c.in_ok-array.array.grid in
+    let target = grid_in c.in_ok-target-in-RechunkBySource.target.grid in
+    let document = document_of c.args.document in
+    let chunks = c.in_ok-chunks-in-RechunkBySource.ensures.counted in
+    step_follows _ (IsPlanned document) (IsChunksFault source.dimensions c.in_ok-chunks-in-RechunkBySource.chunks) (IsPlanFault document)
+    (λ text (groups, is, lengths, lines). of_source_order (stored_of c.in-RechunkBySource.target) source target
+    (encoding_in c.in_ok-array.array.encoding) (encoding_in c.in_ok-target-in-RechunkBySource.target.encoding) groups
+    (ap task_of c.in-RechunkBySource.is) made made_target
+    (subst (λ b. IsRechunking target.dimensions (IsKey (encoding_in c.in_ok-target-in-RechunkBySource.target.encoding)) source.dimensions
+    (IsKey (encoding_in c.in_ok-array.array.encoding)) b groups) chunks is)
+    (subst (λ b. IsRechunkingText Source document.wanted target.dimensions source.dimensions b groups text) chunks lines))
+    (λ fault is. absurd (no_chunks_fault source.dimensions fault (subst (λ b. IsChunksFault source.dimensions b fault) chunks is)))
+    (output g.W.Write.contents c.args.held_back.now.items c.args.writer.now)
+    (output g.W.Write.contents c.write_rechunking-in-RechunkBySource.new.held_back.items c.write_rechunking-in-RechunkBySource.new.writer)
+    c.write_rechunking-in-RechunkBySource.result c.write_rechunking-in-RechunkBySource.ensures
 
 pub returns-in_err-target-in-Copy : goal.returns-in_err-target-in-Copy
 returns-in_err-target-in-Copy g c =

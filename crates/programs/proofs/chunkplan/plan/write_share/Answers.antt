@@ -39,10 +39,10 @@ returns g c =
       all,
       come_all,
       lines
-          ∙ ap (λ k. lines_from (λ n. line_unless_stored (option_map (λ s. s.now) c.args.stored) (counted n) (counted k)) (before_share share.number share.of (length (all_targets walk))) groups)
+          ∙ ap (λ k. lines_from (λ n. line_unless_stored c.args.order (option_map (λ s. s.now) c.args.stored) (counted n) (counted k)) (before_share share.number share.of (length (all_targets walk))) groups)
           (ap length shared.all ∙ count)
-          ∙ ap (λ k. lines_from (λ n. line_unless_stored (option_map (λ s. s.now) c.args.stored) (counted n) (counted (length all))) (before_share share.number share.of k) groups) count
-          ∙ ap (λ gs. lines_from (λ n. line_unless_stored (option_map (λ s. s.now) c.args.stored) (counted n) (counted (length all))) (before_share share.number share.of (length all)) gs)
+          ∙ ap (λ k. lines_from (λ n. line_unless_stored c.args.order (option_map (λ s. s.now) c.args.stored) (counted n) (counted (length all))) (before_share share.number share.of k) groups) count
+          ∙ ap (λ gs. lines_from (λ n. line_unless_stored c.args.order (option_map (λ s. s.now) c.args.stored) (counted n) (counted (length all))) (before_share share.number share.of (length all)) gs)
           (sym is_share),
     ))
     (λ fault none. none)

@@ -3,7 +3,7 @@ use Rattle.serde_json.specs.Find.{get}
 use Rattle.serde_json.specs.View.{view}
 use Rattle.zarrs_chunk_base.specs.First.{IsFirst}
 use Rattle.programs.specs.chunkplan.Document.{HasNone}
-use Rattle.programs.proofs.chunkplan.document.refuse_each.Given as goal
+use Rattle.programs.proofs.chunkplan.document.first_there.Given as goal
 
 -- The first that is there of the names that are left is the first of all; and where none of those is there, none of all is.
 abbrev pub invariant-loop-field : goal.invariant-loop-field
