@@ -1,6 +1,6 @@
 -- Byte ranges along one more dimension.
 use Rattle.std.proofs.Common.{◌≡◌, ◌≢◌, ◌↔◌, ◌∙◌, ℕ, zero, suc, ◌+◌, ◌-◌, ◌*◌, ◌/◌, ◌%◌, ◌<◌, ◌≤◌, List, [], ◌∷◌, ◌++◌, Contains, map, length, drop, get_or, Bool, true, false}
-use Rattle.std.proofs.Common.{refl, ap, ap₂, subst, sym, ⊎_elim, arith}
+use Rattle.std.proofs.Common.{◌&&◌, ◌==◌, refl, ap, ap₂, eq-eqb, ne_eqb, subst, sym, ⊎_elim, arith}
 use Rattle.std.proofs.Math.Nat.{add-mul, div-add-mod, mod-lt, mul-le-mul_right, mul_assoc, mul_comm}
 use Rattle.std.proofs.lemmas.List.{get_or-map, length-map, map-append}
 use Rattle.std.proofs.Math.Seq.{drop-cons}
@@ -14,6 +14,7 @@ use Rattle.zarrs_chunks.proofs.Covers.{head_some, tail_some}
 use Rattle.zarrs_chunk_plan.specs.Bytes.{AreRanges, IsByteIn, begins, place, repeated}
 use Rattle.zarrs_chunk_plan.specs.Counts.{product}
 use Rattle.zarrs_chunk_plan.specs.Region.{EndWithin}
+use Rattle.zarrs_chunk_plan.specs.Strided.{Strided, along, has_all, strided}
 use Rattle.zarrs_chunk_plan.specs.seen.Rows.{AreInRow}
 use Rattle.zarrs_chunk_plan.specs.declared.bytes.MemoryOrder.{MemoryOrder}
 use Rattle.zarrs_chunk_plan.specs.declared.bytes.MemoryOrder.TheVariants.{C}
@@ -125,6 +126,12 @@ module _ (item edge start count : ℕ) (edges starts shape : List ℕ) where
           (i, byte - i * (product edges * item), from_start, to_end, inner, omega arith)
       first [] within from below = absurd within
 
+-- the form along one more dimension
+form_along : (item : ℕ) (edges starts shape : List ℕ) (inner : Strided) (whole : Bool) (start count row : ℕ) → row ≡ product edges * item
+    → whole ≡ has_all edges shape → inner ≡ strided item edges starts shape
+    → along row start count whole inner ≡ along (product edges * item) start count (has_all edges shape) (strided item edges starts shape)
+form_along item edges starts shape inner whole start count row row_is whole_is is = rw (row_is, whole_is, is) refl
+
 -- a row after others, and as many bytes as so many rows
 rows_after : (i n row : ℕ) → (i + n) * row ≡ i * row + n * row
 rows_after i n row = add-mul i n row
@@ -156,6 +163,8 @@ module _ (item edge start count : ℕ) (edges starts shape : List ℕ) (first lo
         fits = counted;
         long = let more = mul-le-mul_right {m = 1} {n = count} row (omega arith) in let single : 1 * row ≡ row = omega arith in omega arith;
         lists = was.lists;
+        form = form_along item edges starts shape _ true start count row row_at was.whole_is was.form;
+        whole_is = equal_or_not whole same other ∙ ap (λ b. b && (count == edge)) was.whole_is;
         are_ranges = record {
           those = λ byte. (
             λ has.
@@ -207,6 +216,10 @@ module _ (item edge start count : ℕ) (edges starts shape : List ℕ) (first lo
             omega arith;
       }
     where
+      equal_or_not : (w : Bool) → (w ≡ true → count ≡ edge) → (w ≡ false → count ≢ edge) → w ≡ (count == edge)
+      equal_or_not true is isnt = sym (eq-eqb count edge (is refl))
+      equal_or_not false is isnt = sym (ne_eqb count edge (isnt refl))
+
       only : (m n : ℕ) → Contains (m ∷ []) n → n ≡ m
       only m n (zero, small, is) = sym is
       only m n (suc k, small, is) = absurd (omega arith)
@@ -234,6 +247,8 @@ module _ (item edge start count : ℕ) (edges starts shape : List ℕ) (first lo
         fits = counted;
         long = was.long;
         lists = ap suc was.lists;
+        form = form_along item edges starts shape _ false start count row was.row_is was.whole_is was.form;
+        whole_is = ap (λ b. b && (count == edge)) was.whole_is;
         are_ranges = record {
           those = λ byte. (
             λ has.

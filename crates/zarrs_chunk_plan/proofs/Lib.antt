@@ -40,6 +40,7 @@ pub mod SomePlan
 pub mod SomeRegions
 pub mod SomeResizes
 pub mod StoredOrder
+pub mod StridedForms
 pub mod Taken
 pub mod Walked
 pub mod Wholes

@@ -11,5 +11,6 @@ pub mod SomeChunks
 pub mod SomeCopies
 pub mod SomeParts
 pub mod StoredChunks
+pub mod Strided
 pub mod lemmas
 pub mod seen

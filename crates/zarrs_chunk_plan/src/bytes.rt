@@ -1,10 +1,11 @@
 //! Which bytes of a chunk's object hold the elements of a box, where the chunk is stored uncompressed.
-ghost use Rattle.std.specs.Prelude.{◌≡◌, ◌≢◌, ◌*◌, ◌+◌, ◌<◌, ◌≤◌, ◌∷◌, [], ℕ, IfErr, IfOk, IfSome, List, length, true, false, Contains};
+ghost use Rattle.std.specs.Prelude.{◌≡◌, ◌≢◌, ◌*◌, ◌+◌, ◌<◌, ◌≤◌, ◌∷◌, [], ℕ, IfErr, IfOk, IfSome, List, length, option_map, true, false, Contains};
 ghost use Rattle.std.specs.Int.NonZero.{non_zero_u64_get};
 ghost use Rattle.zarrs_chunk_base.specs.Greatest.{greatest};
 ghost use Rattle.zarrs_chunk_base.specs.Refusal.{HasMemory, OrMemory, TellsLengths};
 ghost use Rattle.zarrs_chunk_plan.specs.Bytes.{FindsRanges, HasPast, begins, in_order};
 ghost use Rattle.zarrs_chunk_plan.specs.Region.{EndWithin};
+ghost use Rattle.zarrs_chunk_plan.specs.Strided.{form_of, no_ranges, ranges_of, strided};
 ghost use Rattle.zarrs_chunk_plan.specs.declared.bytes.MemoryOrder.TheVariants.{C};
 ghost use Rattle.zarrs_chunk_plan.specs.seen.Rows.{HasRanges};
 
@@ -55,6 +56,9 @@ pub fn byte_ranges(
 ) -> Result<Option<ByteRanges>, Refusal<IncompatibleDimensionalityError>>
     ensures found { IfOk result (FindsRanges (non_zero_u64_get item_size) order edges.now
         elements.now.start elements.now.shape) }
+    ensures form { IfOk result (λ found. option_map form_of found
+        ≡ ranges_of (non_zero_u64_get item_size) order edges.now elements.now.start
+        elements.now.shape) }
     ensures fit { IfOk result (λ found. IfSome found (λ ranges.
         ¬ HasPast (begins ranges.first ranges.counts.items ranges.strides.items))) }
     ensures lengths { IfOk result (λ _. length elements.now.start ≡ length edges.now) }
@@ -110,8 +114,10 @@ fn some_ranges(
 ) -> Result<Option<ByteRanges>, AllocError>
     requires within { EndWithin start.now shape.now edges.now }
     requires some { ¬ Contains shape.now 0 }
-    ensures { IfOk result (FindsRanges (non_zero_u64_get item_size) C edges.now start.now
+    ensures found { IfOk result (FindsRanges (non_zero_u64_get item_size) C edges.now start.now
         shape.now) }
+    ensures form { IfOk result (λ found. IfSome found (λ ranges. form_of ranges
+        ≡ strided (non_zero_u64_get item_size) edges.now start.now shape.now)) }
 {
     let mut rows = Rows::of_an_element(alloc, item_size);
     for dimension in (0..edges.len()).rev() {
@@ -137,6 +143,7 @@ fn no_ranges(alloc: Global) -> Result<ByteRanges, AllocError>
         ≡ length ranges.strides.items) }
     ensures none { IfOk result (λ ranges.
         begins ranges.first ranges.counts.items ranges.strides.items ≡ []) }
+    ensures form { IfOk result (λ ranges. form_of ranges ≡ no_ranges) }
 {
     let mut counts = Vec::with_capacity(alloc, 1)?;
     counts.push(0)?;

@@ -20,9 +20,9 @@ use std::num::NonZeroU64;
 use zarrs_chunk_base::{Refusal, TreeForm, write_list};
 use zarrs_chunk_plan::{ByteRanges, MemoryOrder as Order, byte_ranges};
 
-/// The order in which a chunk is stored, as a line gives it: the text `C` or `F`.
+/// The order in which a chunk is stored, as a JSON text gives it: `C` or `F`.
 #[derive(Clone, Copy, Drop)]
-pub(crate) struct StoredIn(pub(crate) Order);
+pub struct StoredIn(pub Order);
 
 impl TreeForm for StoredIn {
     ghost Seen = { MemoryOrder };

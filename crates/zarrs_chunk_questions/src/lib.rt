@@ -61,3 +61,4 @@ mod unreadable;
 mod walk_items;
 
 pub use answer_line::{answer, answer_within};
+pub use bytes::StoredIn;

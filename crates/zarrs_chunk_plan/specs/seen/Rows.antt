@@ -4,6 +4,7 @@ use Rattle.std.specs.List.{Contains}
 use Rattle.zarrs_chunk_base.specs.Greatest.{greatest}
 use Rattle.zarrs_chunk_plan.specs.Bytes.{AreRanges, begins}
 use Rattle.zarrs_chunk_plan.specs.Counts.{product}
+use Rattle.zarrs_chunk_plan.specs.Strided.{has_all, strided}
 use Rattle.zarrs_chunk_plan.specs.declared.bytes.MemoryOrder.TheVariants.{C}
 use Rattle.zarrs_chunk_plan.specs.declared.bytes.Rows.{Rows}
 
@@ -15,6 +16,8 @@ pub record AreInRow (item : ℕ) (edges start shape : List ℕ) (first length : 
   pub fits : row ≤ greatest
   pub long : 0 < length
   pub lists : size counts ≡ size strides
+  pub form : record { first = first; length = length; counts = counts; strides = strides } ≡ strided item edges start shape
+  pub whole_is : whole ≡ has_all edges shape
   pub are_ranges : AreRanges item C edges start shape length (begins first counts strides)
   pub end : ℕ
   pub lie : (n : ℕ) → Contains (begins first counts strides) n → (first ≤ n) × (n + length ≤ end)

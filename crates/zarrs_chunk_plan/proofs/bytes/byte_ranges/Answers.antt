@@ -1,9 +1,20 @@
-use Rattle.std.proofs.Common.{◌∙◌, Contains, sym}
+use Rattle.std.proofs.Common.{◌≡◌, ◌∙◌, Contains, IfSome, None, Option, Some, inl, sym}
 use Rattle.std.proofs.lemmas.Bool.{true≢false}
 use Rattle.std.specs.Int.NonZero.{non_zero_u64_get}
+use Rattle.zarrs_chunk_plan.specs.Region.{EndWithin}
+use Rattle.zarrs_chunk_plan.specs.declared.bytes.ByteRanges.{ByteRanges}
 use Rattle.zarrs_chunk_plan.proofs.ByteRows.{no_bytes}
 use Rattle.zarrs_chunk_plan.proofs.StoredOrder.{ends_in_order, fit_of, found_in_order, none_past, some_in_order}
+use Rattle.zarrs_chunk_plan.proofs.StridedForms.{found_form}
 use Rattle.zarrs_chunk_plan.proofs.bytes.byte_ranges.Goals as goal
+
+for_some : (found : Option ByteRanges) (P : ByteRanges → Type 0) → ((ranges : ByteRanges) → P ranges) → IfSome found P
+for_some None P all = tt
+for_some (Some ranges) P all = all ranges
+
+if_some : (found : Option ByteRanges) (P Q : ByteRanges → Type 0) → ((ranges : ByteRanges) → P ranges → Q ranges) → IfSome found P → IfSome found Q
+if_some None P Q step is = tt
+if_some (Some ranges) P Q step is = step ranges is
 
 pub returns-then-is_empty-clause-found : goal.returns-then-is_empty-clause-found
 returns-then-is_empty-clause-found c =
@@ -44,10 +55,40 @@ returns-clause-found c =
       c.deref-3.ensures.value,
       c.in_ok-shape.ensures,
       c.shape-2.ensures.value,
-    ) at c.in_ok-found.ensures)
+    ) at c.in_ok-found.ensures.found)
 
 pub returns-then-is_empty-clause-fit : goal.returns-then-is_empty-clause-fit
 returns-then-is_empty-clause-fit c = none_past _ _ _ _ _ _ (returns-then-is_empty-clause-found c)
 
 pub returns-clause-fit : goal.returns-clause-fit
 returns-clause-fit c = fit_of _ _ _ _ _ c.in_ok-found.found (returns-clause-found c)
+
+pub returns-then-not-lies_in-clause-form : goal.returns-then-not-lies_in-clause-form
+returns-then-not-lies_in-clause-form c =
+    let out : ¬ EndWithin c.args.elements.now.start c.args.elements.now.shape c.args.edges.now =
+    λ lies. true≢false (sym (c.lies_in.ensures.lies.1 (rw (c.start.ensures.value, c.shape.ensures.value) lies)) ∙ c.if-not-lies_in.true)
+    in
+    found_form (non_zero_u64_get c.args.item_size) c.args.order c.args.edges.now c.args.elements.now.start c.args.elements.now.shape None (inl out) tt tt
+
+pub returns-then-is_empty-clause-form : goal.returns-then-is_empty-clause-form
+returns-then-is_empty-clause-form c =
+    found_form (non_zero_u64_get c.args.item_size) c.args.order c.args.edges.now c.args.elements.now.start c.args.elements.now.shape
+    (Some c.in_ok-no_ranges.field-0) (returns-then-is_empty-clause-found c) (λ _. c.in_ok-no_ranges.ensures.form)
+    (λ some. absurd (some (c.is_empty.ensures.0 c.if-is_empty.true)))
+
+pub returns-clause-form : goal.returns-clause-form
+returns-clause-form c =
+    let some : ¬ Contains c.args.elements.now.shape 0 = λ has. true≢false (sym (c.is_empty.ensures.1 has) ∙ c.if-is_empty.false) in
+    found_form (non_zero_u64_get c.args.item_size) c.args.order c.args.edges.now c.args.elements.now.start c.args.elements.now.shape
+    c.in_ok-found.found (returns-clause-found c) (for_some c.in_ok-found.found _ (λ ranges has. absurd (some has)))
+    (if_some c.in_ok-found.found _ _ (λ ranges is. λ _. is)
+    (rw (
+      c.deref.ensures.value,
+      c.in_ok-edges.ensures,
+      c.deref-2.ensures.value,
+      c.in_ok-start.ensures,
+      c.start-2.ensures.value,
+      c.deref-3.ensures.value,
+      c.in_ok-shape.ensures,
+      c.shape-2.ensures.value,
+    ) at c.in_ok-found.ensures.form))

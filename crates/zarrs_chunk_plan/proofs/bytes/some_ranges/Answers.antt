@@ -36,8 +36,8 @@ pub go_out-requires-clause-within : goal.go_out-requires-clause-within
 go_out-requires-clause-within c =
     within_at c.args.start.now c.args.shape.now c.args.edges.now (c.loop-dimension.dimension - 1) c.requires.within (omega arith)
 
-pub returns-then-not-is_counted : goal.returns-then-not-is_counted
-returns-then-not-is_counted c =
+pub returns-then-not-is_counted-clause-found : goal.returns-then-not-is_counted-clause-found
+returns-then-not-is_counted-clause-found c =
     let left = c.loop-dimension.dimension - 1 in
     let is : c.loop-dimension.dimension ≡ suc left = omega arith in
     inr (
@@ -60,8 +60,8 @@ loop-dimension-preserved c =
     rw (drop-cons edges left 0 (omega arith), drop-cons start left 0 (omega arith), drop-cons shape left 0 (omega arith))
     (c.in_ok-is_counted.ensures.outer c.if-not-is_counted.false item (drop (suc left) edges) (drop (suc left) start) (drop (suc left) shape) was)
 
-pub returns : goal.returns
-returns c =
+pub returns-clause-found : goal.returns-clause-found
+returns-clause-found c =
     let ended : c.loop-dimension.dimension ≡ 0 = omega arith in
     let all = subst (λ d. HasRanges (non_zero_u64_get c.args.item_size) (drop d c.args.edges.now) (drop d c.args.start.now) (drop d c.args.shape.now)
     c.loop-dimension.rows) ended c.loop-dimension.invariant in
@@ -73,3 +73,10 @@ returns c =
       some = λ _. all.long;
       are_ranges = all.are_ranges;
     }
+
+pub returns-clause-form : goal.returns-clause-form
+returns-clause-form c =
+    let ended : c.loop-dimension.dimension ≡ 0 = omega arith in
+    let all = subst (λ d. HasRanges (non_zero_u64_get c.args.item_size) (drop d c.args.edges.now) (drop d c.args.start.now) (drop d c.args.shape.now)
+    c.loop-dimension.rows) ended c.loop-dimension.invariant in
+    all.form
