@@ -10,9 +10,11 @@
 //! | `flag` | a flag as a document writes it |
 //! | `share` | a share of a plan as a document writes it |
 //! | `order` | the order of the lines as a document writes it |
+//! | `ranges` | the byte ranges that a document wants in the lines of a read |
 //! | `plan` | the plan that a document asks for |
 //! | `copying` | the lines of a plan, sent as they are made |
 //! | `line` | one line |
+//! | `part_ranges` | the byte ranges of a part, as a line has them |
 //! | `counting` | the counts of a plan, as one line |
 //! | `missing` | what is left of a plan beside keys |
 //! | `product` | products of numbers, in decimal digits |
@@ -43,8 +45,10 @@ mod known_members;
 mod line;
 mod missing;
 mod order;
+mod part_ranges;
 mod plan;
 mod product;
+mod ranges;
 mod run_fault;
 mod share;
 

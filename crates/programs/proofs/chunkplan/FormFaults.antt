@@ -5,14 +5,14 @@ use Rattle.serde_json.specs.Find.{get}
 use Rattle.zarrs_chunk_base.specs.First.{IsFirst}
 use Rattle.programs.specs.Document.{IsMissingFault, IsShapeFault}
 use Rattle.programs.specs.declared.chunkplan.run_fault.RunFault.{RunFault}
-use Rattle.programs.specs.declared.chunkplan.run_fault.RunFault.TheVariants.{KeepOfNoResize, KeysOfCounts, KeysOfNoTarget, NotOfOrder, NotOfResize}
-use Rattle.programs.specs.declared.chunkplan.run_fault.RunFault.TheVariants.{OrderOfNoTarget, ShareOfCounts}
+use Rattle.programs.specs.declared.chunkplan.run_fault.RunFault.TheVariants.{ItemSizeOfCounts, ItemSizeOfTarget, KeepOfNoResize, KeysOfCounts, KeysOfNoTarget}
+use Rattle.programs.specs.declared.chunkplan.run_fault.RunFault.TheVariants.{NoItemSize, NotOfOrder, NotOfResize, OrderOfNoTarget, ShareOfCounts}
 use Rattle.programs.specs.declared.document_fault.DocumentFault.{DocumentFault}
 use Rattle.programs.specs.declared.document_fault.DocumentFault.TheVariants.{Missing, WrongValue}
 use Rattle.programs.proofs.Members.{has_more, is_there, no_more}
-use Rattle.programs.specs.chunkplan.Document.{Fit, FitKeys, FitResize, FitTask}
-use Rattle.programs.specs.chunkplan.DocumentFault.{HasMembers, IsFormFault, IsKeysMisfit, IsMisfit, IsOrderMisfit, IsTaskMisfit, document_members}
-use Rattle.programs.specs.chunkplan.DocumentFault.{misformed_shape, missing}
+use Rattle.programs.specs.chunkplan.Document.{Fit, FitKeys, FitOrder, FitResize, FitTask}
+use Rattle.programs.specs.chunkplan.DocumentFault.{HasMembers, IsFormFault, IsKeysMisfit, IsMisfit, IsOrderMisfit, IsRangesMisfit, IsTaskMisfit}
+use Rattle.programs.specs.chunkplan.DocumentFault.{document_members, misformed_shape, missing}
 use Rattle.programs.specs.chunkplan.Known.{HasOnly, known_members}
 use Rattle.programs.specs.chunkplan.RunFault.{of_document}
 
@@ -46,6 +46,9 @@ task_misfit d KeysOfNoTarget fit is = absurd is
 task_misfit d KeysOfCounts fit is = absurd is
 task_misfit d OrderOfNoTarget fit is = absurd is
 task_misfit d (NotOfOrder _) fit is = absurd is
+task_misfit d ItemSizeOfTarget fit is = absurd is
+task_misfit d ItemSizeOfCounts fit is = absurd is
+task_misfit d (NoItemSize _) fit is = absurd is
 task_misfit d _ fit is = (fit, is)
 
 -- then `keys`, where they don't go with the others
@@ -59,3 +62,10 @@ pub order_misfit : (d : Data) (fault : RunFault) → FitResize d → FitTask d �
 order_misfit d OrderOfNoTarget resize task keys is = (resize, task, keys, is)
 order_misfit d (NotOfOrder _) resize task keys is = (resize, task, keys, is)
 order_misfit d _ resize task keys is = absurd is
+
+-- and byte ranges
+pub ranges_misfit : (d : Data) (fault : RunFault) → FitResize d → FitTask d → FitKeys d → FitOrder d → IsRangesMisfit d fault → IsMisfit d fault
+ranges_misfit d ItemSizeOfTarget resize task keys order is = (resize, task, keys, order, is)
+ranges_misfit d ItemSizeOfCounts resize task keys order is = (resize, task, keys, order, is)
+ranges_misfit d (NoItemSize _) resize task keys order is = (resize, task, keys, order, is)
+ranges_misfit d _ resize task keys order is = absurd is

@@ -38,7 +38,7 @@ is_copy : (d : Data) (task : Task) → IsTask d task → IsSome (get (codes "tar
     → (IsSome (get (codes "resize") d) → get (codes "target") d ≡ None) → (¬ IsSome (get (codes "order") d))
     → ((stored : Stored) × (chunks : Option Box) × (task ≡ rechunk_to stored chunks))
     ⊎ ((shape : List ℕ) × (stored : Stored) × (region : Box) × (at : Option (List ℕ)) × (task ≡ copy_to shape stored region at))
-is_copy d (read_of subset clip) is some no_resize no_order = absurd (true≢false (sym some ∙ ap is_some is.1.0))
+is_copy d (read_of subset clip ranges) is some no_resize no_order = absurd (true≢false (sym some ∙ ap is_some is.1.0))
 is_copy d (rechunk_to stored chunks) is some no_resize no_order = inl (stored, chunks, refl)
 is_copy d (rechunk_by_source stored) is some no_resize no_order =
     let (m, there, (_, _, _, order)) = is.1 in absurd (no_order (source_is_there d order))

@@ -4,16 +4,18 @@ use Rattle.std.proofs.Common.{arith, get_or}
 use Rattle.serde_json.specs.Data.{Data}
 use Rattle.serde_json.specs.Find.{as_bool, get}
 use Rattle.zarrs_chunk_base.specs.ArraySubset.{Box}
-use Rattle.zarrs_chunk_base.specs.Json.{list_of, size_of}
+use Rattle.zarrs_chunk_base.specs.Json.{edge_of, list_of, size_of}
+use Rattle.zarrs_chunk_plan.specs.declared.bytes.MemoryOrder.TheVariants.{C}
+use Rattle.zarrs_chunk_questions.specs.Order.{order_in}
 use Rattle.programs.specs.declared.chunkplan.run_fault.RunFault.{RunFault}
 use Rattle.programs.specs.declared.chunkplan.run_fault.RunFault.TheVariants.{OtherDataType, OtherShape, UnknownOfTarget}
-use Rattle.programs.specs.chunkplan.Document.{HasBox, HasFlag, HasNumbers, IsBoxIn, IsCopying, IsOfArray, IsOfType, IsTask, IsTaskTo, Task, copy_to}
-use Rattle.programs.specs.chunkplan.Document.{HasOrder, order_of, read_of, rechunk_by_source, rechunk_to, resize_to}
-use Rattle.programs.specs.chunkplan.DocumentFault.{HasBoxFault, HasFlagFault, HasNumbersFault, IsCopyingFault, IsTargetMisfit, IsTaskFault}
-use Rattle.programs.specs.chunkplan.DocumentFault.{HasOrderFault, IsTaskToFault, IsTypeMisfit, of_at, of_chunks, of_clip, of_copying, of_keep, of_misfit}
+use Rattle.programs.specs.chunkplan.Document.{HasBox, HasNumbers, HasOr, HasRanges, IsBoxIn, IsCopying, IsOfArray, IsOfType, IsTask, IsTaskTo, Task, copy_to}
+use Rattle.programs.specs.chunkplan.Document.{Ranges, order_of, read_of, rechunk_by_source, rechunk_to, resize_to}
+use Rattle.programs.specs.chunkplan.DocumentFault.{HasBoxFault, HasFormFault, HasRangesFault, IsCopyingFault, IsTargetMisfit, IsTaskFault}
+use Rattle.programs.specs.chunkplan.DocumentFault.{IsTaskToFault, of_item_size, of_max_ranges, of_memory_order, of_ranges}
+use Rattle.programs.specs.chunkplan.DocumentFault.{IsTypeMisfit, of_at, of_chunks, of_clip, of_copying, of_keep, of_misfit}
 use Rattle.programs.specs.chunkplan.DocumentFault.{of_order, of_region, of_region_stored, of_resize, of_shape, of_subset, of_target, of_target_stored, of_task, of_type}
 use Rattle.programs.specs.chunkplan.Known.{Agree, Differ}
-use Rattle.programs.specs.declared.chunkplan.line.Order.{Order}
 use Rattle.programs.specs.declared.chunkplan.line.Order.TheVariants.{Source, Target}
 
 -- ---- one member
@@ -25,30 +27,39 @@ pub has_box_fault : (d left : Data) (field : List ℕ) (fault : RunFault) → ge
     → HasBoxFault d field fault
 has_box_fault d left field fault same (m, there, is) = (m, sym same ∙ there, is)
 
-pub has_flag : (d left : Data) (field : List ℕ) (flag : Bool) → get field left ≡ get field d → HasFlag left field flag → HasFlag d field flag
-has_flag d left field flag same =
-    subst (λ found. ((found ≡ None) × (flag ≡ false)) ⊎ ((m : Data) × (found ≡ Some m) × (as_bool m ≡ Some flag))) same
+pub has_or : {X : Type 0} (form : Data → Option X) (absent : X) (d left : Data) (field : List ℕ) (x : X) → get field left ≡ get field d
+    → HasOr form absent left field x → HasOr form absent d field x
+has_or form absent d left field x same =
+    subst (λ found. ((found ≡ None) × (x ≡ absent)) ⊎ ((m : Data) × (found ≡ Some m) × (form m ≡ Some x))) same
 
-pub has_flag_fault : (d left : Data) (field : List ℕ) (fault : RunFault) → get field left ≡ get field d → HasFlagFault left field fault
-    → HasFlagFault d field fault
-has_flag_fault d left field fault same (m, there, none, tells) = (m, sym same ∙ there, none, tells)
+pub has_form_fault : {X : Type 0} (form : Data → Option X) (d left : Data) (field : List ℕ) (fault : RunFault) → get field left ≡ get field d
+    → HasFormFault form left field fault → HasFormFault form d field fault
+has_form_fault form d left field fault same (m, there, none, tells) = (m, sym same ∙ there, none, tells)
 
 pub has_numbers : (d left : Data) (field : List ℕ) (numbers : Option (List ℕ)) → get field left ≡ get field d → HasNumbers left field numbers
     → HasNumbers d field numbers
 has_numbers d left field numbers same =
     subst (λ found. MatchOption numbers (found ≡ None) (λ ns. (m : Data) × (found ≡ Some m) × (list_of size_of m ≡ Some ns))) same
 
-pub has_numbers_fault : (d left : Data) (field : List ℕ) (fault : RunFault) → get field left ≡ get field d → HasNumbersFault left field fault
-    → HasNumbersFault d field fault
-has_numbers_fault d left field fault same (m, there, none, tells) = (m, sym same ∙ there, none, tells)
+-- ---- byte ranges
 
-pub has_order : (d left : Data) (order : Order) → get (codes "order") left ≡ get (codes "order") d → HasOrder left order → HasOrder d order
-has_order d left order same =
-    subst (λ found. ((found ≡ None) × (order ≡ Target)) ⊎ ((m : Data) × (found ≡ Some m) × (order_of m ≡ Some order))) same
+module _ (d left : Data) (item : get (codes "item_size") left ≡ get (codes "item_size") d)
+    (order : get (codes "memory_order") left ≡ get (codes "memory_order") d) (most : get (codes "max_ranges") left ≡ get (codes "max_ranges") d) where
+  pub has_ranges : (ranges : Option Ranges) → HasRanges left ranges → HasRanges d ranges
+  has_ranges None none = sym item ∙ none
+  has_ranges (Some ranges) ((m, there, is), in_order, up_to) = (
+    (m, sym item ∙ there, is),
+    has_or order_in C d left (codes "memory_order") ranges.order order in_order,
+    has_or size_of 0 d left (codes "max_ranges") ranges.most most up_to,
+  )
 
-pub has_order_fault : (d left : Data) (fault : RunFault) → get (codes "order") left ≡ get (codes "order") d → HasOrderFault left fault
-    → HasOrderFault d fault
-has_order_fault d left fault same (m, there, none, tells) = (m, sym same ∙ there, none, tells)
+  pub has_ranges_fault : (fault : RunFault) → HasRangesFault left fault → HasRangesFault d fault
+  has_ranges_fault fault (of_item_size is) = of_item_size (has_form_fault edge_of d left (codes "item_size") fault item is)
+  has_ranges_fault fault (of_memory_order m n there size is) =
+      of_memory_order m n (sym item ∙ there) size (has_form_fault order_in d left (codes "memory_order") fault order is)
+  has_ranges_fault fault (of_max_ranges m n in_order there size has is) =
+      of_max_ranges m n in_order (sym item ∙ there) size (has_or order_in C d left (codes "memory_order") in_order order has)
+      (has_form_fault size_of d left (codes "max_ranges") fault most is)
 
 -- ---- a target of the array
 
@@ -96,19 +107,19 @@ pub record AskAlike (d left : Data) : Type 0 where
 
 module _ (d left m : Data) (same : AskAlike d left) where
   pub is_task_to : (task : Task) → IsTaskTo left m task → IsTaskTo d m task
-  is_task_to (read_of b clip) is = absurd is
+  is_task_to (read_of b clip ranges) is = absurd is
   is_task_to (rechunk_to stored b) (none, of_array, has, order, box) = (
     sym same.subset ∙ none,
     is_of_array d left m same.shape same.data_type of_array,
     has,
-    has_order d left Target same.order order,
+    has_or order_of Target d left (codes "order") Target same.order order,
     has_box d left (codes "chunks") b same.chunks box,
   )
   is_task_to (rechunk_by_source stored) (none, of_array, has, order) = (
     sym same.subset ∙ none,
     is_of_array d left m same.shape same.data_type of_array,
     has,
-    has_order d left Source same.order order,
+    has_or order_of Target d left (codes "order") Source same.order order,
   )
   is_task_to (copy_to shape stored region at) (typed, sizes, has, box, numbers) = (
     is_of_type d left m same.data_type typed,
@@ -129,10 +140,10 @@ module _ (d left m : Data) (same : AskAlike d left) where
       of_target_stored told (sym same.subset ∙ none) (is_of_array d left m same.shape same.data_type of_array) is told_so
   is_task_to_fault fault (of_order stored none of_array has is) =
       of_order stored (sym same.subset ∙ none) (is_of_array d left m same.shape same.data_type of_array) has
-      (has_order_fault d left fault same.order is)
+      (has_form_fault order_of d left (codes "order") fault same.order is)
   is_task_to_fault fault (of_chunks stored none of_array has order is) =
       of_chunks stored (sym same.subset ∙ none) (is_of_array d left m same.shape same.data_type of_array) has
-      (has_order d left Target same.order order) (has_box_fault d left (codes "chunks") fault same.chunks is)
+      (has_or order_of Target d left (codes "order") Target same.order order) (has_box_fault d left (codes "chunks") fault same.chunks is)
   is_task_to_fault fault (of_type some is) = of_type (some_subset some) (is_type_misfit d left m same.data_type fault is)
   is_task_to_fault fault (of_shape told some type is told_so) =
       of_shape told (some_subset some) (is_of_type d left m same.data_type type) is told_so
@@ -142,11 +153,11 @@ module _ (d left m : Data) (same : AskAlike d left) where
       of_region stored (is_of_type d left m same.data_type type) sizes has (has_box_fault d left (codes "subset") fault same.subset is)
   is_task_to_fault fault (of_at stored region type sizes has box is) =
       of_at stored region (is_of_type d left m same.data_type type) sizes has (has_box d left (codes "subset") (Some region) same.subset box)
-      (has_numbers_fault d left (codes "at") fault same.at is)
+      (has_form_fault (list_of size_of) d left (codes "at") fault same.at is)
 
 -- what is asked for with the target that there is
 pub with_target : (d m : Data) (task : Task) → get (codes "target") d ≡ Some m → IsTaskTo d m task → IsCopying d task
-with_target d m (read_of b clip) there is = absurd is
+with_target d m (read_of b clip ranges) there is = absurd is
 with_target d m (rechunk_to stored b) there is = (m, there, is)
 with_target d m (rechunk_by_source stored) there is = (m, there, is)
 with_target d m (copy_to shape stored region at) there is = (m, there, is)
@@ -154,7 +165,7 @@ with_target d m (resize_to shape keep) there is = absurd is
 
 -- what is copied, where there is no resize
 pub without_resize : (d : Data) (task : Task) → get (codes "resize") d ≡ None → IsCopying d task → IsTask d task
-without_resize d (read_of b clip) none is = (none, is)
+without_resize d (read_of b clip ranges) none is = (none, is)
 without_resize d (rechunk_to stored b) none is = (none, is)
 without_resize d (rechunk_by_source stored) none is = (none, is)
 without_resize d (copy_to shape stored region at) none is = (none, is)
@@ -170,6 +181,12 @@ module _ (d left : Data) (are_left : AreLeft d left) where
   short : (name : List ℕ) → length name < 10 → get name left ≡ get name d
   short name less = are_left name (λ same. absurd (omega (arith, less, ap length same))) (λ same. absurd (omega (arith, less, ap length same)))
 
+  lettered : (name : List ℕ) → get_or name 0 0 ≢ 99 → get name left ≡ get name d
+  lettered name other = are_left name (λ same. other (ap (λ n. get_or n 0 0) same)) (λ same. other (ap (λ n. get_or n 0 0) same))
+
+  m_is_no_c : ◌≢◌ {A = ℕ} 109 99
+  m_is_no_c same = omega (arith, same)
+
   ask_alike : AskAlike d left
   ask_alike = record {
     shape = short (codes "shape") (omega arith);
@@ -181,10 +198,12 @@ module _ (d left : Data) (are_left : AreLeft d left) where
   }
 
   is_copying : (task : Task) → IsCopying left task → IsCopying d task
-  is_copying (read_of b clip) (none, box, has) = (
+  is_copying (read_of b clip ranges) (none, box, has, wanted) = (
     sym (short (codes "target") (omega arith)) ∙ none,
     has_box d left (codes "subset") b (short (codes "subset") (omega arith)) box,
-    has_flag d left (codes "clip") clip (short (codes "clip") (omega arith)) has,
+    has_or as_bool false d left (codes "clip") clip (short (codes "clip") (omega arith)) has,
+    has_ranges d left (short (codes "item_size") (omega arith)) (lettered (codes "memory_order") m_is_no_c) (lettered (codes "max_ranges") m_is_no_c) ranges
+        wanted,
   )
   is_copying (rechunk_to stored b) (m, there, is) =
       (m, sym (short (codes "target") (omega arith)) ∙ there, is_task_to d left m ask_alike (rechunk_to stored b) is)
@@ -197,9 +216,9 @@ module _ (d left : Data) (are_left : AreLeft d left) where
   pub is_task : (task : Task) → IsTask left task → IsTask d task
   is_task (resize_to shape keep) (numbers, has) = (
     has_numbers d left (codes "resize") (Some shape) (short (codes "resize") (omega arith)) numbers,
-    has_flag d left (codes "keep") keep (short (codes "keep") (omega arith)) has,
+    has_or as_bool false d left (codes "keep") keep (short (codes "keep") (omega arith)) has,
   )
-  is_task (read_of b clip) (none, is) = (sym (short (codes "resize") (omega arith)) ∙ none, is_copying (read_of b clip) is)
+  is_task (read_of b clip ranges) (none, is) = (sym (short (codes "resize") (omega arith)) ∙ none, is_copying (read_of b clip ranges) is)
   is_task (rechunk_to stored b) (none, is) = (sym (short (codes "resize") (omega arith)) ∙ none, is_copying (rechunk_to stored b) is)
   is_task (rechunk_by_source stored) (none, is) =
       (sym (short (codes "resize") (omega arith)) ∙ none, is_copying (rechunk_by_source stored) is)
@@ -213,16 +232,22 @@ module _ (d left : Data) (are_left : AreLeft d left) where
   is_copying_fault fault (of_clip b none box is) =
       of_clip b (sym (short (codes "target") (omega arith)) ∙ none)
       (has_box d left (codes "subset") b (short (codes "subset") (omega arith)) box)
-      (has_flag_fault d left (codes "clip") fault (short (codes "clip") (omega arith)) is)
+      (has_form_fault as_bool d left (codes "clip") fault (short (codes "clip") (omega arith)) is)
+  is_copying_fault fault (of_ranges b clip none box has is) =
+      of_ranges b clip (sym (short (codes "target") (omega arith)) ∙ none)
+      (has_box d left (codes "subset") b (short (codes "subset") (omega arith)) box)
+      (has_or as_bool false d left (codes "clip") clip (short (codes "clip") (omega arith)) has)
+      (has_ranges_fault d left (short (codes "item_size") (omega arith)) (lettered (codes "memory_order") m_is_no_c)
+      (lettered (codes "max_ranges") m_is_no_c) fault is)
   is_copying_fault fault (of_target m there none tells) = of_target m (sym (short (codes "target") (omega arith)) ∙ there) none tells
   is_copying_fault fault (of_task m there object is) =
       of_task m (sym (short (codes "target") (omega arith)) ∙ there) object (is_task_to_fault d left m ask_alike fault is)
 
   pub is_task_fault : (fault : RunFault) → IsTaskFault left fault → IsTaskFault d fault
-  is_task_fault fault (of_resize is) = of_resize (has_numbers_fault d left (codes "resize") fault (short (codes "resize") (omega arith)) is)
+  is_task_fault fault (of_resize is) = of_resize (has_form_fault (list_of size_of) d left (codes "resize") fault (short (codes "resize") (omega arith)) is)
   is_task_fault fault (of_keep shape numbers is) =
       of_keep shape (has_numbers d left (codes "resize") (Some shape) (short (codes "resize") (omega arith)) numbers)
-      (has_flag_fault d left (codes "keep") fault (short (codes "keep") (omega arith)) is)
+      (has_form_fault as_bool d left (codes "keep") fault (short (codes "keep") (omega arith)) is)
   is_task_fault fault (of_copying none is) = of_copying (sym (short (codes "resize") (omega arith)) ∙ none) (is_copying_fault fault is)
 
 -- ---- names of another letter
@@ -247,3 +272,12 @@ at_is_no_target same = let first : 97 ≡ 116 = ap (λ name. get_or name 0 0) sa
 
 pub order_is_no_target : codes "order" ≢ codes "target"
 order_is_no_target same = let first : 111 ≡ 116 = ap (λ name. get_or name 0 0) same in absurd (omega (arith, first))
+
+pub item_size_is_no_target : codes "item_size" ≢ codes "target"
+item_size_is_no_target same = let first : 105 ≡ 116 = ap (λ name. get_or name 0 0) same in absurd (omega (arith, first))
+
+pub memory_order_is_no_target : codes "memory_order" ≢ codes "target"
+memory_order_is_no_target same = let first : 109 ≡ 116 = ap (λ name. get_or name 0 0) same in absurd (omega (arith, first))
+
+pub max_ranges_is_no_target : codes "max_ranges" ≢ codes "target"
+max_ranges_is_no_target same = let first : 109 ≡ 116 = ap (λ name. get_or name 0 0) same in absurd (omega (arith, first))

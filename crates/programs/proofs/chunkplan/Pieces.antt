@@ -1,19 +1,22 @@
 -- A line in the pieces in which it is sent is the line.
 use Rattle.std.proofs.Common.{◌≡◌, ◌∙◌, ℕ, zero, suc, ◌<◌, ◌≤◌, Bool, true, false, List, []}
-use Rattle.std.proofs.Common.{◌∷◌, ◌++◌, codes, Option, append_assoc, ap, refl, sym, ⊎_elim}
+use Rattle.std.proofs.Common.{◌∷◌, ◌++◌, codes, Option, None, Some, append_assoc, ap, refl, sym, ⊎_elim}
 use Rattle.std.proofs.lemmas.Grind.{fold-append}
 use Rattle.std.specs.List.{fold}
-use Rattle.json.specs.Json.{Json, null, boolean, number, string, array, object, Items, no_items, item, Members, no_members, member}
+use Rattle.json.specs.Json.{Json, null, boolean as boolean_json, number, string as string_json, array, object, Items, no_items, item, Members, no_members}
+use Rattle.json.specs.Json.{member}
 use Rattle.json.specs.Print.{begins, ends, print, print_from}
-use Rattle.json.specs.Token.{Token, begin_array, begin_object, end_array, end_object, key}
+use Rattle.json.specs.Token.{Token, begin_array, begin_object, boolean, end_array, end_object, key, string}
 use Rattle.json.specs.Tree.{items_tokens, json_tokens, members_tokens}
 use Rattle.json.proofs.Printed.Tokens.{print_from-append}
 use Rattle.std.proofs.lemmas.Bool.{cases_lt, le-leb, lt-leb}
 use Rattle.zarrs_chunk_base.specs.Greatest.{greatest}
 use Rattle.zarrs_chunk_plan.specs.Counted.{counted}
 use Rattle.zarrs_chunk_plan.specs.declared.part.Part.{Part}
-use Rattle.programs.specs.chunkplan.Line.{chunk_json, count_json, end_members, group_json, group_line, lines_from, piece_json, pieces_items}
-use Rattle.programs.specs.chunkplan.seen.Pieces.{begin_of_line, begin_tokens, comma_before, end_of_line, end_tokens, piece_text}
+use Rattle.programs.specs.chunkplan.Document.{Ranges}
+use Rattle.programs.specs.chunkplan.Line.{box_json, chunk_json, count_json, end_members, group_json, group_line, lines_from, numbers_json, part_json}
+use Rattle.programs.specs.chunkplan.Line.{piece_json, pieces_items}
+use Rattle.programs.specs.chunkplan.seen.Pieces.{begin_of_line, begin_tokens, comma_before, end_of_line, end_tokens, piece_text, ranges_tokens}
 use Rattle.programs.specs.declared.chunkplan.line.Order.{Order}
 use Rattle.programs.specs.declared.chunkplan.line.Order.TheVariants.{Source, Target}
 
@@ -24,9 +27,9 @@ ended = fold (λ _ t. ends t)
 mutual
   json_ends : (b : Bool) (j : Json) → ended b (json_tokens j) ≡ true
   json_ends b null = refl
-  json_ends b (boolean x) = refl
+  json_ends b (boolean_json x) = refl
   json_ends b (number s) = refl
-  json_ends b (string s) = refl
+  json_ends b (string_json s) = refl
   json_ends b (array js) = items_end false js
   json_ends b (object ms) = members_end false ms
 
@@ -122,3 +125,15 @@ module _ (of : Part) where
       (ap print tokens ∙ print_from-append false first (pieces ++ ts) ∙ ap (λ text. print first ++ text) rest
       ∙ sym (append_assoc (print first) texts (print (end_tokens order at all of))))
       ∙ append_assoc (print first ++ texts) (print (end_tokens order at all of)) (codes "\n")
+
+-- the tokens of a part of a read
+pub part_tokens : (at of : Option ℕ) (wanted : Option Ranges) (part : Part) → json_tokens (part_json at of wanted part)
+    ≡ begin_object ∷ key (codes "chunk") ∷ (json_tokens (numbers_json part.chunk.items)
+    ++ key (codes "in_chunk") ∷ (json_tokens (box_json part.in_chunk)
+    ++ key (codes "in_subset") ∷ (json_tokens (box_json part.in_subset)
+    ++ key (codes "key") ∷ string part.key ∷ key (codes "number") ∷ (json_tokens (count_json at)
+    ++ key (codes "of") ∷ (json_tokens (count_json of)
+    ++ (ranges_tokens wanted part ++ key (codes "shape") ∷ (json_tokens (numbers_json part.shape.items)
+    ++ key (codes "whole") ∷ boolean part.whole ∷ end_object ∷ [])))))))
+part_tokens at of None part = refl
+part_tokens at of (Some wanted) part = refl

@@ -14,7 +14,7 @@ use Rattle.programs.specs.chunkplan.DocumentFault.{misfit, misformed_keys, misfo
 use Rattle.programs.specs.chunkplan.DocumentFault.{no_object, not_of_form}
 use Rattle.programs.specs.chunkplan.DocumentFault.{IsTaskFault, IsTaskToFault, IsTypeMisfit, IsUnknownFault, TellsMissing, TellsWrongValue, of_at}
 use Rattle.programs.specs.chunkplan.DocumentFault.{of_clip, of_copying, of_keep, of_misfit, of_order, of_region_stored, of_shape, of_target_stored}
-use Rattle.programs.specs.chunkplan.DocumentFault.{of_resize as of_resize_form, of_task, of_type, unknown}
+use Rattle.programs.specs.chunkplan.DocumentFault.{HasRangesFault, of_item_size, of_max_ranges, of_memory_order, of_ranges, of_resize as of_resize_form, of_task, of_type, unknown}
 use Rattle.programs.specs.chunkplan.DocumentFault.{of_chunks as of_chunks_box, of_region as of_region_box, of_subset as of_subset_box}
 use Rattle.programs.specs.chunkplan.DocumentFault.{of_target as of_target_tree}
 use Rattle.programs.specs.chunkplan.PlanFault.{IsChunksFault, IsCopyFault, IsFaultBeside, IsFirstFault, IsPlanFault, IsReadFault, IsResizeFault, IsTargetFault}
@@ -82,9 +82,15 @@ target_still d target fault (of_region_stored told _ _ _ _ same) = ap moves same
 target_still d target fault (of_region_box _ _ _ _ is) = box_still d (codes "subset") fault is
 target_still d target fault (of_at _ _ _ _ _ _ (_, _, _, is)) = still (TellsWrongValue (codes "at")) (λ h. h) (λ h. h) fault is
 
+ranges_still : (d : Data) (fault : RunFault) → HasRangesFault d fault → moves fault ≡ false
+ranges_still d fault (of_item_size (_, _, _, is)) = still (TellsWrongValue (codes "item_size")) (λ h. h) (λ h. h) fault is
+ranges_still d fault (of_memory_order _ _ _ _ (_, _, _, is)) = still (TellsWrongValue (codes "memory_order")) (λ h. h) (λ h. h) fault is
+ranges_still d fault (of_max_ranges _ _ _ _ _ _ (_, _, _, is)) = still (TellsWrongValue (codes "max_ranges")) (λ h. h) (λ h. h) fault is
+
 copying_still : (d : Data) (fault : RunFault) → IsCopyingFault d fault → moves fault ≡ false
 copying_still d fault (of_subset_box _ is) = box_still d (codes "subset") fault is
 copying_still d fault (of_clip _ _ _ (_, _, _, is)) = still (TellsWrongValue (codes "clip")) (λ h. h) (λ h. h) fault is
+copying_still d fault (of_ranges _ _ _ _ _ is) = ranges_still d fault is
 copying_still d fault (of_target_tree _ _ _ is) = still (TellsWrongValue (codes "target")) (λ h. h) (λ h. h) fault is
 copying_still d fault (of_task target _ _ is) = target_still d target fault is
 
@@ -114,7 +120,7 @@ copy_still source target region at fault (told, _, same) = ap moves same ∙ of_
 
 plan_still : (document : Document) (fault : RunFault) → IsPlanFault document fault → moves fault ≡ false
 plan_still document fault (of_source told _ same) = ap moves same ∙ of_create_still told
-plan_still document fault (of_subset subset clip grid _ _ _ is) =
+plan_still document fault (of_subset subset clip _ grid _ _ _ is) =
     still (IsReadFault clip grid.dimensions (unwrap_or subset (array_box grid.dimensions))) (λ h. h) (λ h. h) fault is
 plan_still document fault (of_target stored _ _ _ _ _ is) = still (IsTargetFault stored document.shape) (λ h. h) (λ h. h) fault is
 plan_still document fault (of_chunks _ chunks _ target _ _ _ _ _ is) =

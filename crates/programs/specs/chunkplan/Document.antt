@@ -1,22 +1,27 @@
 -- The program's document: a JSON object with the members `shape`, `chunk_grid` and `chunk_key_encoding`. Besides it has, for a read, `subset` and `clip`,
--- if they are wanted; for a rechunking, `target`, and `chunks` or `order` if it is wanted; for the copy of a region, `target` and `subset`, and `at` if it
+-- if they are wanted, and `item_size`, if byte ranges are, with `memory_order` and `max_ranges`; for a rechunking, `target`, and `chunks` or `order` if it is wanted; for the copy of a region, `target` and `subset`, and `at` if it
 -- is wanted.
 -- `share` or `counts` says what is wanted of the plan, if not all lines; beside a target, `keys` that keys of its store stand behind the document. For a
 -- resize it has `resize`, and `keep` if it is wanted, and none of these.
 -- What else an array's `zarr.json` has may stand in it and in the target.
 use Rattle.std.specs.Prelude.{◌≡◌, ◌⊎◌, ℕ, Bool, true, false, if◌then◌else◌, List, [], ◌∷◌, Option, Some, None, IsSome, bytes_eq, codes, MatchOption}
 use Rattle.std.specs.Prelude.{option_and_then, option_map}
+use Rattle.std.specs.Int.NonZero.{non_zero_u64_get}
 use Rattle.std.specs.List.{AllByRecursion}
 use Rattle.serde_json.specs.Data.{Data}
 use Rattle.serde_json.specs.Find.{as_bool, as_str, get}
 use Rattle.zarrs_chunk_base.specs.ArraySubset.{Box, IsBox}
-use Rattle.zarrs_chunk_base.specs.Json.{size_of, list_of, pair_of}
+use Rattle.zarrs_chunk_base.specs.Json.{edge_of, list_of, pair_of, size_of}
+use Rattle.zarrs_chunk_plan.specs.declared.bytes.MemoryOrder.{MemoryOrder}
+use Rattle.zarrs_chunk_plan.specs.declared.bytes.MemoryOrder.TheVariants.{C}
 use Rattle.zarrs_chunk_plan.specs.declared.share.Share.{Share}
+use Rattle.zarrs_chunk_questions.specs.Order.{order_in}
 use Rattle.programs.specs.Document.{HasStored, shape_in}
 use Rattle.programs.specs.Stored.{Stored, stored_of}
 use Rattle.programs.specs.chunkplan.Known.{Agree, HasOnly, known_members, zarr_json_members}
 use Rattle.programs.specs.declared.chunkplan.line.Order.{Order}
 use Rattle.programs.specs.declared.chunkplan.line.Order.TheVariants.{Source, Target}
+use Rattle.programs.specs.declared.chunkplan.ranges.RangesAsked.{RangesAsked}
 use Rattle.programs.specs.declared.chunkplan.document.Document.{Document as DocumentValue}
 use Rattle.programs.specs.declared.chunkplan.document.Task.{Task as TaskValue}
 use Rattle.programs.specs.declared.chunkplan.document.Task.TheVariants.{Copy as CopyValue, Read as ReadValue, Rechunk as RechunkValue}
@@ -24,12 +29,18 @@ use Rattle.programs.specs.declared.chunkplan.document.Task.TheVariants.{RechunkB
 use Rattle.programs.specs.declared.chunkplan.document.Wanted.{Wanted as WantedValue}
 use Rattle.programs.specs.declared.chunkplan.document.Wanted.TheVariants.{Counts as CountsValue, Lines as LinesValue}
 
--- What is asked for: a read of a box of elements, or of all, as it is or clipped to the array; a rechunking into chunks of a box, or into all; one in
+-- how byte ranges are wanted in lines: of how many bytes an element is, in which order a chunk's elements are stored, and up to how many are listed
+pub record Ranges : Type 0 where
+  pub item : ℕ
+  pub order : MemoryOrder
+  pub most : ℕ
+
+-- What is asked for: a read of a box of elements, or of all, as it is or clipped to the array, and whether byte ranges are wanted; a rechunking into chunks of a box, or into all; one in
 -- the order of the source, a line for each of its chunks;
 -- the copy of a region, a box of elements, to an array of a shape that is stored in some way, to begin there at an index, where one is given; or a
 -- resize of the array to another shape, and whether the chunks are wanted too that stay as they are stored.
 pub data Task : Type 0 where
-  read_of : Option Box → (clip : Bool) → Task
+  read_of : Option Box → (clip : Bool) → Option Ranges → Task
   rechunk_to : Stored → Option Box → Task
   rechunk_by_source : Stored → Task
   copy_to : (shape : List ℕ) → Stored → (region : Box) → (at : Option (List ℕ)) → Task
@@ -49,8 +60,11 @@ pub record Document : Type 0 where
   pub task : Task
 
 -- what a value of the program stands for
+abbrev pub ranges_in : RangesAsked → Ranges
+ranges_in asked = record { item = non_zero_u64_get asked.item_size; order = asked.order; most = asked.most }
+
 abbrev pub task_of : TaskValue → Task
-task_of (ReadValue subset clip) = read_of subset clip
+task_of (ReadValue subset clip ranges) = read_of subset clip (option_map ranges_in ranges)
 task_of (RechunkValue target chunks) = rechunk_to (stored_of target) chunks
 task_of (RechunkBySourceValue target) = rechunk_by_source (stored_of target)
 task_of (CopyValue shape target region at) = copy_to shape.items (stored_of target) region (option_map (λ v. v.items) at)
@@ -77,10 +91,14 @@ HasBox d field subset = MatchOption subset (get field d ≡ None) (λ b. (m : Da
 abbrev pub HasNumbers : Data → List ℕ → Option (List ℕ) → Type 0
 HasNumbers d field numbers = MatchOption numbers (get field d ≡ None) (λ ns. (m : Data) × (get field d ≡ Some m) × (list_of size_of m ≡ Some ns))
 
+-- the member is of a form, and says this; where it is absent, this is what it says then
+abbrev pub HasOr : {X : Type 0} → (form : Data → Option X) (absent : X) → Data → List ℕ → X → Type 0
+HasOr form absent d field x =
+    ((get field d ≡ None) × (x ≡ absent)) ⊎ ((m : Data) × (get field d ≡ Some m) × (form m ≡ Some x))
+
 -- the member is true or false; where it is absent, as where it is false
 abbrev pub HasFlag : Data → List ℕ → Bool → Type 0
-HasFlag d field flag =
-    ((get field d ≡ None) × (flag ≡ false)) ⊎ ((m : Data) × (get field d ≡ Some m) × (as_bool m ≡ Some flag))
+HasFlag = HasOr as_bool false
 
 -- the order that a text names: that of the target or of the source
 abbrev pub order_of : Data → Option Order
@@ -89,8 +107,13 @@ order_of d = option_and_then (λ text. if bytes_eq text (codes "target") then So
 
 -- The member `order` names the order of the lines; where it is absent, they are in that of the target.
 abbrev pub HasOrder : Data → Order → Type 0
-HasOrder d order =
-    ((get (codes "order") d ≡ None) × (order ≡ Target)) ⊎ ((m : Data) × (get (codes "order") d ≡ Some m) × (order_of m ≡ Some order))
+HasOrder d = HasOr order_of Target d (codes "order")
+
+-- The member `item_size` is a size from 1 on, and `memory_order` and `max_ranges` say the rest; where it is absent, no ranges are wanted.
+abbrev pub HasRanges : Data → Option Ranges → Type 0
+HasRanges d None = get (codes "item_size") d ≡ None
+HasRanges d (Some ranges) = ((m : Data) × (get (codes "item_size") d ≡ Some m) × (edge_of m ≡ Some ranges.item))
+    × HasOr order_in C d (codes "memory_order") ranges.order × HasOr size_of 0 d (codes "max_ranges") ranges.most
 
 -- The member `share` is a list of the share's number, counted from 0, and how many shares there are, which is greater, as of any `Share`; where it
 -- is absent, the share is the one that is the whole plan.
@@ -118,7 +141,7 @@ pub record IsOfArray (d target : Data) : Type 0 where
 -- What is asked for with this target: where there is no `subset`, a rechunking, with the target's own two members, and `order`, and in that of the
 -- target `chunks`; and else the copy of a region, with the target's `shape` too, and `at`.
 abbrev pub IsTaskTo : (d target : Data) → Task → Type 0
-IsTaskTo d target (read_of subset clip) = ⊥
+IsTaskTo d target (read_of subset clip ranges) = ⊥
 IsTaskTo d target (rechunk_to stored chunks) =
     (get (codes "subset") d ≡ None) × IsOfArray d target × HasStored target stored × HasOrder d Target × HasBox d (codes "chunks") chunks
 IsTaskTo d target (rechunk_by_source stored) =
@@ -129,7 +152,8 @@ IsTaskTo d target (resize_to shape keep) = ⊥
 
 -- `subset` and `clip`, where there is no target, or what is asked for with it
 abbrev pub IsCopying : Data → Task → Type 0
-IsCopying d (read_of subset clip) = (get (codes "target") d ≡ None) × HasBox d (codes "subset") subset × HasFlag d (codes "clip") clip
+IsCopying d (read_of subset clip ranges) =
+    (get (codes "target") d ≡ None) × HasBox d (codes "subset") subset × HasFlag d (codes "clip") clip × HasRanges d ranges
 IsCopying d task = (m : Data) × (get (codes "target") d ≡ Some m) × IsTaskTo d m task
 
 -- a resize, where there is `resize`, the array's new shape; and else what is copied
@@ -148,7 +172,7 @@ pub record FitTask (d : Data) : Type 0 where
 abbrev pub not_of_resize : List (List ℕ)
 not_of_resize =
     codes "target" ∷ codes "subset" ∷ codes "clip" ∷ codes "chunks" ∷ codes "at" ∷ codes "share" ∷ codes "counts" ∷ codes "keys"
-    ∷ codes "order" ∷ []
+    ∷ codes "order" ∷ codes "item_size" ∷ codes "memory_order" ∷ codes "max_ranges" ∷ []
 
 -- none of these members is there
 abbrev pub HasNone : List (List ℕ) → Data → Type 0
@@ -173,12 +197,23 @@ pub record FitOrder (d : Data) : Type 0 where
   pub of_target : IsSome (get (codes "order") d) → IsSome (get (codes "target") d)
   pub of_lines : IsSome (get (codes "order") d) → HasNone not_of_order d
 
+-- the members that stand beside `item_size` alone
+abbrev pub of_item_size : List (List ℕ)
+of_item_size = codes "memory_order" ∷ codes "max_ranges" ∷ []
+
+-- `item_size` stands beside no target and no `counts`, and those beside it
+pub record FitRanges (d : Data) : Type 0 where
+  pub of_read : IsSome (get (codes "item_size") d) → get (codes "target") d ≡ None
+  pub of_lines : IsSome (get (codes "item_size") d) → get (codes "counts") d ≡ None
+  pub of_item : get (codes "item_size") d ≡ None → HasNone of_item_size d
+
 -- and `share` beside no `counts`
 pub record Fit (d : Data) : Type 0 where
   pub resize : FitResize d
   pub task : FitTask d
   pub keys : FitKeys d
   pub order : FitOrder d
+  pub ranges : FitRanges d
   pub of_counts : IsSome (get (codes "counts") d) → get (codes "share") d ≡ None
 
 -- the lines of a rechunking, or of the copy of a region, are asked for

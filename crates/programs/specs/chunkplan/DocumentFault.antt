@@ -5,18 +5,22 @@ use Rattle.serde_json.specs.Find.{as_bool, as_object, get}
 use Rattle.zarrs_chunk_base.specs.ArraySubset.{Box as ElementBox}
 use Rattle.zarrs_chunk_base.specs.ArraySubsetError.{IsBoxFault}
 use Rattle.zarrs_chunk_base.specs.First.{IsFirst}
-use Rattle.zarrs_chunk_base.specs.Json.{size_of, list_of, pair_of}
+use Rattle.zarrs_chunk_base.specs.Json.{edge_of, list_of, pair_of, size_of}
+use Rattle.zarrs_chunk_plan.specs.declared.bytes.MemoryOrder.{MemoryOrder}
+use Rattle.zarrs_chunk_plan.specs.declared.bytes.MemoryOrder.TheVariants.{C}
+use Rattle.zarrs_chunk_questions.specs.Order.{order_in}
 use Rattle.programs.specs.Document.{HasAll, HasStored, IsObjectOf, IsShapeFault, IsStoredFault, IsTextFault, shape_in}
 use Rattle.programs.specs.Stored.{Stored}
 use Rattle.programs.specs.chunkplan.Document.{Fit, FitKeys, FitResize, FitTask, HasBox, HasFlag, HasNumbers, HasWanted, IsOfArray, IsOfType, Wanted}
-use Rattle.programs.specs.chunkplan.Document.{FitOrder, HasOrder, not_of_order, not_of_resize, order_of}
+use Rattle.programs.specs.chunkplan.Document.{FitOrder, FitRanges, HasOr, HasOrder, Ranges, not_of_order, not_of_resize, of_item_size as members_of_item_size, order_of}
 use Rattle.programs.specs.chunkplan.Known.{Agree, Differ, HasOnly, IsFirstUnknown, known_members, zarr_json_members}
 use Rattle.programs.specs.chunkplan.RunFault.{of_document}
 use Rattle.programs.specs.declared.chunkplan.run_fault.RunFault.{RunFault}
 use Rattle.programs.specs.declared.chunkplan.run_fault.RunFault.TheVariants.{AtOfNoRegion, Box, ChunksOfNoTarget, ChunksOfRegion, ClipOfTarget}
-use Rattle.programs.specs.declared.chunkplan.run_fault.RunFault.TheVariants.{KeepOfNoResize, KeysOfCounts, KeysOfNoTarget, Missing, NotOfResize}
-use Rattle.programs.specs.declared.chunkplan.run_fault.RunFault.TheVariants.{NotOfOrder, OrderOfNoTarget, OtherDataType, OtherShape, ShareOfCounts}
-use Rattle.programs.specs.declared.chunkplan.run_fault.RunFault.TheVariants.{Unknown, UnknownOfTarget, WrongValue}
+use Rattle.programs.specs.declared.chunkplan.run_fault.RunFault.TheVariants.{ItemSizeOfCounts, ItemSizeOfTarget, KeepOfNoResize, KeysOfCounts}
+use Rattle.programs.specs.declared.chunkplan.run_fault.RunFault.TheVariants.{KeysOfNoTarget, Missing, NoItemSize, NotOfOrder, NotOfResize, OrderOfNoTarget}
+use Rattle.programs.specs.declared.chunkplan.run_fault.RunFault.TheVariants.{OtherDataType, OtherShape, ShareOfCounts, Unknown, UnknownOfTarget}
+use Rattle.programs.specs.declared.chunkplan.run_fault.RunFault.TheVariants.{WrongValue}
 use Rattle.programs.specs.declared.chunkplan.line.Order.TheVariants.{Target}
 use Rattle.programs.specs.declared.document_fault.DocumentFault.{DocumentFault}
 
@@ -87,8 +91,16 @@ IsOrderMisfit d (NotOfOrder told) =
     IsSome (get (codes "order") d) × IsSome (get (codes "target") d) × IsFirstThere not_of_order d told.now
 IsOrderMisfit d _ = ⊥
 
+-- the fault says that there is `item_size`, and a target or counts, or that one of the members is there that go with it alone; the first of these
+abbrev pub IsRangesMisfit : Data → RunFault → Type 0
+IsRangesMisfit d ItemSizeOfTarget = IsSome (get (codes "item_size") d) × IsSome (get (codes "target") d)
+IsRangesMisfit d ItemSizeOfCounts =
+    IsSome (get (codes "item_size") d) × (get (codes "target") d ≡ None) × IsSome (get (codes "counts") d)
+IsRangesMisfit d (NoItemSize told) = (get (codes "item_size") d ≡ None) × IsFirstThere members_of_item_size d told.now
+IsRangesMisfit d _ = ⊥
+
 -- The first member that doesn't go with the others: with `resize`, the first of `not_of_resize`; without it, `keep`; then as of the task; then `keys`;
--- then `order`; last, a share beside counts.
+-- then `order`; then as of byte ranges; last, a share beside counts.
 abbrev pub IsMisfit : Data → RunFault → Type 0
 IsMisfit d (NotOfResize told) = IsSome (get (codes "resize") d) × IsFirstThere not_of_resize d told.now
 IsMisfit d KeepOfNoResize = (get (codes "resize") d ≡ None) × IsSome (get (codes "keep") d)
@@ -96,7 +108,10 @@ IsMisfit d KeysOfNoTarget = FitResize d × FitTask d × IsKeysMisfit d KeysOfNoT
 IsMisfit d KeysOfCounts = FitResize d × FitTask d × IsKeysMisfit d KeysOfCounts
 IsMisfit d OrderOfNoTarget = FitResize d × FitTask d × FitKeys d × IsOrderMisfit d OrderOfNoTarget
 IsMisfit d (NotOfOrder told) = FitResize d × FitTask d × FitKeys d × IsOrderMisfit d (NotOfOrder told)
-IsMisfit d ShareOfCounts = FitResize d × FitTask d × FitKeys d × FitOrder d × IsSome (get (codes "counts") d) × IsSome (get (codes "share") d)
+IsMisfit d ItemSizeOfTarget = FitResize d × FitTask d × FitKeys d × FitOrder d × IsRangesMisfit d ItemSizeOfTarget
+IsMisfit d ItemSizeOfCounts = FitResize d × FitTask d × FitKeys d × FitOrder d × IsRangesMisfit d ItemSizeOfCounts
+IsMisfit d (NoItemSize told) = FitResize d × FitTask d × FitKeys d × FitOrder d × IsRangesMisfit d (NoItemSize told)
+IsMisfit d ShareOfCounts = FitResize d × FitTask d × FitKeys d × FitOrder d × FitRanges d × IsSome (get (codes "counts") d) × IsSome (get (codes "share") d)
 IsMisfit d fault = FitResize d × IsTaskMisfit d fault
 
 -- the fault says why a member's value is no box: it is no list of two lists of sizes, or these make no box
@@ -111,9 +126,13 @@ IsBoxFormFault _ _ _ = ⊥
 abbrev pub HasBoxFault : Data → List ℕ → RunFault → Type 0
 HasBoxFault d field fault = (m : Data) × (get field d ≡ Some m) × IsBoxFormFault m field fault
 
--- the member is there, and neither true nor false
+-- the member is there, and not of its form
+abbrev pub HasFormFault : {X : Type 0} → (form : Data → Option X) → Data → List ℕ → RunFault → Type 0
+HasFormFault form d field fault = (m : Data) × (get field d ≡ Some m) × (form m ≡ None) × TellsWrongValue field fault
+
+-- it is neither true nor false
 abbrev pub HasFlagFault : Data → List ℕ → RunFault → Type 0
-HasFlagFault d field fault = (m : Data) × (get field d ≡ Some m) × (as_bool m ≡ None) × TellsWrongValue field fault
+HasFlagFault = HasFormFault as_bool
 
 -- the share is no list of two sizes, or its number isn't below how many there are
 abbrev pub HasShareFault : Data → RunFault → Type 0
@@ -124,13 +143,21 @@ HasShareFault d fault = (m : Data) × (get (codes "share") d ≡ Some m) × Tell
 abbrev pub HasWantedFault : Data → RunFault → Type 0
 HasWantedFault d fault = HasFlagFault d (codes "counts") fault ⊎ (HasFlag d (codes "counts") false × HasShareFault d fault)
 
--- the member is there and no list of sizes
+-- it is no list of sizes
 abbrev pub HasNumbersFault : Data → List ℕ → RunFault → Type 0
-HasNumbersFault d field fault = (m : Data) × (get field d ≡ Some m) × (list_of size_of m ≡ None) × TellsWrongValue field fault
+HasNumbersFault = HasFormFault (list_of size_of)
 
 -- the order is none
 abbrev pub HasOrderFault : Data → RunFault → Type 0
-HasOrderFault d fault = (m : Data) × (get (codes "order") d ≡ Some m) × (order_of m ≡ None) × TellsWrongValue (codes "order") fault
+HasOrderFault d = HasFormFault order_of d (codes "order")
+
+-- The first fault of how byte ranges are wanted: `item_size` is no size from 1 on; then `memory_order` is no such order; then `max_ranges` no size.
+pub data HasRangesFault (d : Data) (fault : RunFault) : Type 0 where
+  of_item_size : HasFormFault edge_of d (codes "item_size") fault → HasRangesFault d fault
+  of_memory_order : (m : Data) (item : ℕ) → get (codes "item_size") d ≡ Some m → edge_of m ≡ Some item
+      → HasFormFault order_in d (codes "memory_order") fault → HasRangesFault d fault
+  of_max_ranges : (m : Data) (item : ℕ) (order : MemoryOrder) → get (codes "item_size") d ≡ Some m → edge_of m ≡ Some item
+      → HasOr order_in C d (codes "memory_order") order → HasFormFault size_of d (codes "max_ranges") fault → HasRangesFault d fault
 
 -- how the target says that it is stored, by the names that a fault calls its members
 abbrev pub IsTargetStoredFault : Data → DocumentFault → Type 0
@@ -156,11 +183,14 @@ pub data IsTaskToFault (d target : Data) (fault : RunFault) : Type 0 where
   of_at : (stored : Stored) (region : ElementBox) → IsOfType d target → IsSome (shape_in target) → HasStored target stored
       → HasBox d (codes "subset") (Some region) → HasNumbersFault d (codes "at") fault → IsTaskToFault d target fault
 
--- The first fault of what is copied: its `subset` and its `clip`, where there is no target; and else the target, and what is asked for with it.
+-- The first fault of what is copied: its `subset`, its `clip` and its byte ranges, where there is no target; and else the target, and what is asked for
+-- with it.
 pub data IsCopyingFault (d : Data) (fault : RunFault) : Type 0 where
   of_subset : get (codes "target") d ≡ None → HasBoxFault d (codes "subset") fault → IsCopyingFault d fault
   of_clip : (subset : Option ElementBox) → get (codes "target") d ≡ None → HasBox d (codes "subset") subset → HasFlagFault d (codes "clip") fault
       → IsCopyingFault d fault
+  of_ranges : (subset : Option ElementBox) (clip : Bool) → get (codes "target") d ≡ None → HasBox d (codes "subset") subset
+      → HasFlag d (codes "clip") clip → HasRangesFault d fault → IsCopyingFault d fault
   of_target : (target : Data) → get (codes "target") d ≡ Some target → as_object target ≡ None → TellsWrongValue (codes "target") fault
       → IsCopyingFault d fault
   of_task : (target : Data) → get (codes "target") d ≡ Some target → IsSome (as_object target) → IsTaskToFault d target fault

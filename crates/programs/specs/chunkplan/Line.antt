@@ -1,20 +1,23 @@
 -- The lines of a plan: compact JSON, an object a line.
 -- Source: RFC 8259, and JSON Lines; the members are this program's own.
-use Rattle.std.specs.Prelude.{ℕ, suc, List, [], ◌∷◌, ◌++◌, length, codes, decimal, Option, Some, None}
+use Rattle.std.specs.Prelude.{ℕ, suc, List, [], ◌∷◌, ◌++◌, length, codes, cond, decimal, nat_le, Option, Some, None}
 use Rattle.json.specs.Json.{Json, null, boolean, number, string, array, object, Items, no_items, item, Members, no_members, member}
 use Rattle.json.specs.Print.{print}
 use Rattle.json.specs.Tree.{json_tokens}
 use Rattle.zarrs_chunk_base.specs.ArraySubset.{Box}
+use Rattle.zarrs_chunk_plan.specs.Bytes.{begins}
 use Rattle.zarrs_chunk_plan.specs.Counted.{counted}
 use Rattle.zarrs_chunk_plan.specs.Rechunking.{Group}
 use Rattle.zarrs_chunk_plan.specs.Region.{shifted}
 use Rattle.zarrs_chunk_plan.specs.Shares.{before_share, share_of}
+use Rattle.zarrs_chunk_plan.specs.Strided.{Strided, ranges_of}
 use Rattle.zarrs_chunk_plan.specs.declared.part.Part.{Part}
 use Rattle.zarrs_chunk_plan.specs.declared.resize.Change.{Change}
 use Rattle.zarrs_chunk_plan.specs.declared.resize.Change.TheVariants.{Delete, Keep, New, Rewrite}
 use Rattle.zarrs_chunk_plan.specs.declared.resize.ChunkChange.{ChunkChange}
 use Rattle.zarrs_chunk_plan.specs.declared.resize.Held.{Held}
 use Rattle.zarrs_chunk_plan.specs.declared.share.Share.{Share}
+use Rattle.programs.specs.chunkplan.Document.{Ranges}
 use Rattle.programs.specs.declared.chunkplan.line.Order.{Order}
 use Rattle.programs.specs.declared.chunkplan.line.Order.TheVariants.{Source, Target}
 
@@ -46,24 +49,54 @@ lines_from line first (x ∷ xs) = line first x ++ lines_from line (suc first) x
 
 -- ---- a read
 
--- a part of a read: its chunk, the two boxes, the key, which line of how many it is, the chunk's shape, and whether all that the
--- chunk has of the array is read
-abbrev pub part_json : (at of : Option ℕ) → Part → Json
-part_json at of part =
+-- byte ranges, each as where it begins and how long it is
+abbrev pub range_items : (length : ℕ) → (starts : List ℕ) → Items
+range_items long [] = no_items
+range_items long (start ∷ starts) = item (numbers_json (start ∷ long ∷ [])) (range_items long starts)
+
+-- the list of them, where they are at most so many, and else null
+abbrev pub list_json : (most length : ℕ) → (starts : List ℕ) → Json
+list_json most long starts = cond (nat_le (length starts) most) (array (range_items long starts)) null
+
+-- byte ranges in their strided form, and the list of them; null, where there are none
+abbrev pub strided_json : (most : ℕ) → Option Strided → Json
+strided_json most (Some s) =
+    object (member (codes "counts") (numbers_json s.counts)
+    (member (codes "first") (number (decimal s.first))
+    (member (codes "length") (number (decimal s.length))
+    (member (codes "list") (list_json most s.length (begins s.first s.counts s.strides))
+    (member (codes "strides") (numbers_json s.strides) no_members)))))
+strided_json most None = null
+
+-- the byte ranges of a part's box in its chunk, as they are wanted
+abbrev pub part_ranges_json : Ranges → Part → Json
+part_ranges_json wanted part =
+    strided_json wanted.most (ranges_of wanted.item wanted.order part.shape.items part.in_chunk.start part.in_chunk.shape)
+
+-- a member for them, where they are wanted, before others
+abbrev pub with_ranges : Option Ranges → Part → Members → Members
+with_ranges None part others = others
+with_ranges (Some wanted) part others = member (codes "ranges") (part_ranges_json wanted part) others
+
+-- a part of a read: its chunk, the two boxes, the key, which line of how many it is, its byte ranges if they are wanted, the chunk's shape, and
+-- whether all that the chunk has of the array is read
+abbrev pub part_json : (at of : Option ℕ) → Option Ranges → Part → Json
+part_json at of wanted part =
     object (member (codes "chunk") (numbers_json part.chunk.items)
     (member (codes "in_chunk") (box_json part.in_chunk)
     (member (codes "in_subset") (box_json part.in_subset)
     (member (codes "key") (string part.key)
     (member (codes "number") (count_json at)
     (member (codes "of") (count_json of)
+    (with_ranges wanted part
     (member (codes "shape") (numbers_json part.shape.items)
-    (member (codes "whole") (boolean part.whole) no_members))))))))
+    (member (codes "whole") (boolean part.whole) no_members)))))))))
 
 -- The lines of a share of a read, of which these are all parts: each by its number among all.
-abbrev pub read_lines : Share → List Part → List ℕ
-read_lines share parts =
-    lines_from (λ n part. line_of (part_json (counted n) (counted (length parts)) part)) (before_share share.number share.of (length parts))
-    (share_of share parts)
+abbrev pub read_lines : Option Ranges → Share → List Part → List ℕ
+read_lines wanted share parts =
+    lines_from (λ n part. line_of (part_json (counted n) (counted (length parts)) wanted part))
+    (before_share share.number share.of (length parts)) (share_of share parts)
 
 -- ---- a rechunking, and the copy of a region
 

@@ -20,7 +20,7 @@ use Rattle.zarrs_chunk_plan.specs.declared.resize.ChunkChange.{ChunkChange}
 use Rattle.zarrs_chunk_plan.specs.declared.share.Share.{Share}
 use Rattle.programs.specs.Stored.{IsStored, Stored}
 use Rattle.programs.specs.chunkplan.CountsLine.{IsCountsLine}
-use Rattle.programs.specs.chunkplan.Document.{Document, IsDocument, Wanted, copy_to, counts_wanted, lines_wanted, read_of}
+use Rattle.programs.specs.chunkplan.Document.{Document, IsDocument, Ranges, Wanted, copy_to, counts_wanted, lines_wanted, read_of}
 use Rattle.programs.specs.chunkplan.Document.{rechunk_by_source, rechunk_to, resize_to}
 use Rattle.programs.specs.chunkplan.Keys.{AreKeys, HasKeysBehind, IsMissingText, behind_first, first_line}
 use Rattle.programs.specs.chunkplan.Line.{read_lines, rechunking_lines, resize_lines}
@@ -39,9 +39,9 @@ IsAsked false ds b asked = asked ≡ b
 IsAsked true ds b asked = IsClipped ds b asked
 
 -- what is written of the plan of a read: the lines of a share, or the line of its counts
-abbrev pub IsReadText : Wanted → Box → List Part → List ℕ → Type 0
-IsReadText (lines_wanted share) asked parts text = text ≡ read_lines share parts
-IsReadText counts_wanted asked parts text = (counts : Counts) × AreReadCounts asked parts counts × IsCountsLine counts text
+abbrev pub IsReadText : Wanted → Option Ranges → Box → List Part → List ℕ → Type 0
+IsReadText (lines_wanted share) ranges asked parts text = text ≡ read_lines ranges share parts
+IsReadText counts_wanted ranges asked parts text = (counts : Counts) × AreReadCounts asked parts counts × IsCountsLine counts text
 
 -- and of that of a rechunking into chunks of a box
 abbrev pub IsRechunkingText : Order → Wanted → (source target : List Dimension) → (chunks : Box) → List Group → List ℕ → Type 0
@@ -75,10 +75,10 @@ IsRegionText counts_wanted source target region at groups text =
 -- of the copy of a region, or of a resize, whose two grids the same metadata make. In the order of the source, a rechunking is planned the other way
 -- round: for each chunk of the source as what is copied into it from those of the target, which is what it gives to them.
 pub data IsPlanned (document : Document) (text : List ℕ) : Type 0 where
-  of_read : (subset : Option Box) (clip : Bool) (asked : Box) (grid : Grid) (encoding : Encoding) (parts : List Part)
-      → document.task ≡ read_of subset clip → IsStored document.stored document.shape grid encoding
+  of_read : (subset : Option Box) (clip : Bool) (ranges : Option Ranges) (asked : Box) (grid : Grid) (encoding : Encoding) (parts : List Part)
+      → document.task ≡ read_of subset clip ranges → IsStored document.stored document.shape grid encoding
       → IsAsked clip grid.dimensions (unwrap_or subset (array_box grid.dimensions)) asked
-      → IsReadPlan grid.dimensions (IsKey encoding) asked parts → IsReadText document.wanted asked parts text → IsPlanned document text
+      → IsReadPlan grid.dimensions (IsKey encoding) asked parts → IsReadText document.wanted ranges asked parts text → IsPlanned document text
   of_rechunking : (stored : Stored) (chunks : Option Box) (source target : Grid) (source_encoding target_encoding : Encoding) (groups : List Group)
       → document.task ≡ rechunk_to stored chunks → IsStored document.stored document.shape source source_encoding
       → IsStored stored document.shape target target_encoding

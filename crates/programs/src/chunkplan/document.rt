@@ -6,9 +6,9 @@ ghost use Rattle.serde_json.specs.View.{view};
 ghost use Rattle.zarrs_chunk_base.specs.Json.{IsJsonOf};
 ghost use Rattle.programs.specs.Document.{HasStored};
 ghost use Rattle.programs.specs.Stored.{stored_of};
-ghost use Rattle.programs.specs.chunkplan.Document.{Fit, FitKeys, FitOrder, FitResize, FitTask, HasNone, HasWanted, IsCopying, IsDocument, IsOfArray, IsOfType, IsTask, IsTaskTo};
+ghost use Rattle.programs.specs.chunkplan.Document.{Fit, FitKeys, FitOrder, FitRanges, FitResize, FitTask, HasNone, HasWanted, IsCopying, IsDocument, IsOfArray, IsOfType, IsTask, IsTaskTo};
 ghost use Rattle.programs.specs.chunkplan.Document.{document_of, task_of, wanted_of};
-ghost use Rattle.programs.specs.chunkplan.DocumentFault.{HasWantedFault, IsCopyingFault, IsFirstThere, IsFormFault, IsInputFault, IsKeysMisfit, IsMisfit, IsOrderMisfit, IsTargetMisfit};
+ghost use Rattle.programs.specs.chunkplan.DocumentFault.{HasWantedFault, IsCopyingFault, IsFirstThere, IsFormFault, IsInputFault, IsKeysMisfit, IsMisfit, IsOrderMisfit, IsRangesMisfit, IsTargetMisfit};
 ghost use Rattle.programs.specs.chunkplan.DocumentFault.{IsTargetStoredFault, IsTaskFault, IsTaskMisfit, IsTaskToFault, IsTypeMisfit, IsUnknownFault};
 ghost use Rattle.programs.specs.chunkplan.Known.{HasOnly, IsFirstUnknown, known_members, zarr_json_members};
 ghost use Rattle.programs.specs.declared.chunkplan.run_fault.RunFault.TheVariants.{Memory, UnknownOfTarget};
@@ -20,6 +20,7 @@ use crate::chunkplan::flag::member_flag;
 use crate::chunkplan::known_members::{DOCUMENT, UnknownMember, ZARR_JSON, agree, check_known};
 use crate::chunkplan::line::Order;
 use crate::chunkplan::order::member_order;
+use crate::chunkplan::ranges::{RangesAsked, member_ranges};
 use crate::chunkplan::share::member_share;
 use crate::document::{read_object, read_shape, required_member, take_stored};
 use crate::document_fault::DocumentFault;
@@ -32,10 +33,11 @@ use zarrs_chunk_plan::Share;
 /// What a document asks for.
 #[derive(Drop)]
 pub(crate) enum Task {
-    /// A read of a box of elements, or of the whole array, and whether the box is clipped to the array.
+    /// A read of a box of elements, or of the whole array, whether the box is clipped to the array, and the byte ranges that are wanted.
     Read {
         subset: Option<ArraySubset>,
         clip: bool,
+        ranges: Option<RangesAsked>,
     },
     /// A rechunking into the chunks of a box of chunk numbers, or into all.
     Rechunk(Stored, Option<ArraySubset>),
@@ -56,12 +58,26 @@ pub(crate) enum Task {
 }
 
 /// The members that don't go with a resize, in the order in which they are refused.
-const NOT_OF_RESIZE: [&str; 9] = [
-    "target", "subset", "clip", "chunks", "at", "share", "counts", "keys", "order",
+const NOT_OF_RESIZE: [&str; 12] = [
+    "target",
+    "subset",
+    "clip",
+    "chunks",
+    "at",
+    "share",
+    "counts",
+    "keys",
+    "order",
+    "item_size",
+    "memory_order",
+    "max_ranges",
 ];
 
 /// The members that don't go with an order of the lines, in the order in which they are refused.
 const NOT_OF_ORDER: [&str; 4] = ["subset", "chunks", "counts", "keys"];
+
+/// The members that go with `item_size` alone, in the order in which they are refused.
+const OF_ITEM_SIZE: [&str; 2] = ["memory_order", "max_ranges"];
 
 /// What is wanted of a plan.
 #[derive(Drop)]
@@ -87,7 +103,7 @@ pub(crate) struct Document {
 ///
 /// # Errors
 /// The first that applies: the input is no JSON, or no object; a member isn't known; one is missing; one doesn't go with the others; one isn't of its
-/// form, of `shape`, `counts`, `share`, `keys`, `chunk_grid`, `chunk_key_encoding`, and of `resize` and `keep`, of `subset` and `clip`, of `target`, `order` and `chunks`,
+/// form, of `shape`, `counts`, `share`, `keys`, `chunk_grid`, `chunk_key_encoding`, and of `resize` and `keep`, of `subset`, `clip` and byte ranges, of `target`, `order` and `chunks`,
 /// or of `target`, `subset` and `at`; before its own members, the target has one that isn't known, or is of another array, or for a region of another data
 /// type. Or out of memory.
 pub(crate) fn parse(alloc: Global, input: &[u8]) -> Result<Document, RunFault>
@@ -156,6 +172,7 @@ fn check_fitting(tree: &Value) -> Result<(), RunFault>
     check_fitting_task(tree)?;
     check_fitting_keys(tree)?;
     check_fitting_order(tree)?;
+    check_fitting_ranges(tree)?;
     if tree.get("counts").is_some() && tree.get("share").is_some() {
         return Err(RunFault::ShareOfCounts);
     }
@@ -237,6 +254,21 @@ fn check_fitting_order(tree: &Value) -> Result<(), RunFault>
     }
 }
 
+/// Refuses `item_size` beside a target, and beside counts, and what goes with it alone where there is none.
+fn check_fitting_ranges(tree: &Value) -> Result<(), RunFault>
+    ensures { MatchResult result (λ _. FitRanges (view tree.now))
+        (IsRangesMisfit (view tree.now)) }
+{
+    if tree.get("item_size").is_none() {
+        return match first_there(tree, &OF_ITEM_SIZE) {
+            Some(field) => Err(RunFault::NoItemSize(field)),
+            None => Ok(()),
+        };
+    }
+    refuse(tree, "target", RunFault::ItemSizeOfTarget)?;
+    refuse(tree, "counts", RunFault::ItemSizeOfCounts)
+}
+
 /// Refuses a member of this name, by this fault.
 fn refuse(tree: &Value, field: &str, fault: RunFault) -> Result<(), RunFault>
     ensures { MatchResult result (λ _. get field.now (view tree.now) ≡ None)
@@ -310,7 +342,12 @@ fn copying_from(alloc: Global, mut tree: Value) -> Result<Task, RunFault>
     let Some(target) = take_member(&mut tree, "target") else {
         let subset = member_box(alloc, &tree, "subset")?;
         let clip = member_flag(&tree, "clip")?;
-        return Ok(Task::Read { subset, clip });
+        let ranges = member_ranges(alloc, &tree)?;
+        return Ok(Task::Read {
+            subset,
+            clip,
+            ranges,
+        });
     };
     if !target.is_object() {
         return Err(RunFault::WrongValue("target"));

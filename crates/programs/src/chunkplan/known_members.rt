@@ -26,7 +26,7 @@ pub(crate) const ZARR_JSON: [&str; 11] = [
 ];
 
 /// What a document may have.
-pub(crate) const DOCUMENT: [&str; 22] = [
+pub(crate) const DOCUMENT: [&str; 25] = [
     "attributes",
     "chunk_grid",
     "chunk_key_encoding",
@@ -42,8 +42,11 @@ pub(crate) const DOCUMENT: [&str; 22] = [
     "chunks",
     "clip",
     "counts",
+    "item_size",
     "keep",
     "keys",
+    "max_ranges",
+    "memory_order",
     "order",
     "resize",
     "share",

@@ -1,15 +1,18 @@
 //! The text of a line of a plan.
-ghost use Rattle.std.specs.Prelude.{◌≡◌, [], ◌∷◌, ◌++◌, codes, IfOk, OnOk};
+ghost use Rattle.std.specs.Prelude.{◌≡◌, [], ◌∷◌, ◌++◌, codes, option_map, IfOk, OnOk};
 ghost use Rattle.json.specs.Print.{print};
 ghost use Rattle.json.specs.Token.{begin_array, begin_object, boolean, end_array, end_object, key, null, string};
 ghost use Rattle.json.specs.Tree.{json_tokens};
+ghost use Rattle.programs.specs.chunkplan.Document.{ranges_in};
 ghost use Rattle.programs.specs.chunkplan.Keys.{foreign_json};
 ghost use Rattle.programs.specs.chunkplan.Line.{box_json, change_line, change_word, count_json, held_json, held_shape_json, line_of, numbers_json};
 ghost use Rattle.programs.specs.chunkplan.Line.{chunk_json, part_json, source_json, taker_json};
 ghost use Rattle.programs.specs.chunkplan.seen.Added.{Adds};
-ghost use Rattle.programs.specs.chunkplan.seen.Pieces.{begin_of_line, comma_before, end_of_line, text_as};
+ghost use Rattle.programs.specs.chunkplan.seen.Pieces.{begin_of_line, comma_before, end_of_line, ranges_tokens, text_as};
 ghost use Rattle.programs.specs.declared.chunkplan.line.Order.TheVariants.{Source, Target};
 
+use crate::chunkplan::part_ranges::write_ranges;
+use crate::chunkplan::ranges::RangesAsked;
 use json::{Token, Writer};
 use std::alloc::{AllocError, Global};
 use zarrs_chunk_base::{ArraySubset, StoreKey};
@@ -30,8 +33,8 @@ pub(crate) enum Order {
 /// How a part is written.
 #[derive(Clone, Copy)]
 pub(crate) enum Form<'a> {
-    /// As a line of a read, of so many lines.
-    Line(Option<u64>),
+    /// As a line of a read, of so many lines, with the byte ranges that are wanted.
+    Line(Option<u64>, Option<RangesAsked>),
     /// As a piece of the line of this part of a chunk.
     Piece(Order, &'a Part),
 }
@@ -49,7 +52,7 @@ pub(crate) fn part_text(
     ensures { IfOk result (λ text. text.items ≡ text_as form.entry number part.now) }
 {
     match form {
-        Form::Line(of) => part_line(alloc, part, number, of),
+        Form::Line(of, ranges) => part_line(alloc, part, number, of, &ranges),
         Form::Piece(Order::Target, to) => source_text(alloc, part, number, to),
         Form::Piece(Order::Source, from) => taker_text(alloc, part, number, from),
     }
@@ -61,8 +64,10 @@ fn part_line(
     part: &Part,
     number: Option<u64>,
     of: Option<u64>,
+    ranges: &Option<RangesAsked>,
 ) -> Result<Vec<u8>, AllocError>
-    ensures { IfOk result (λ line. line.items ≡ line_of (part_json number of part.now)) }
+    ensures { IfOk result (λ line. line.items ≡ line_of (part_json number of
+        (option_map ranges_in ranges.now) part.now)) }
 {
     let mut json = Writer::new(Vec::with_capacity(alloc, LINE_LEN)?);
     json.begin_object()?;
@@ -72,10 +77,27 @@ fn part_line(
     write_key(&mut json, &part.key)?;
     write_count(&mut json, "number", number)?;
     write_count(&mut json, "of", of)?;
+    write_wanted(alloc, &mut json, ranges, part)?;
     write_numbers(&mut json, "shape", part.shape.as_slice())?;
     write_whole(&mut json, part.whole)?;
     json.end_object()?;
     ended(json)
+}
+
+/// Writes the member `ranges`, where it is wanted.
+fn write_wanted(
+    alloc: Global,
+    json: &mut Writer,
+    wanted: &Option<RangesAsked>,
+    part: &Part,
+) -> Result<(), AllocError>
+    ensures { OnOk result (Adds json.old json.new
+        (ranges_tokens (option_map ranges_in wanted.now) part.now)) }
+{
+    match wanted {
+        Some(wanted) => write_ranges(alloc, json, wanted, part),
+        None => Ok(()),
+    }
 }
 
 /// What a chunk of the target, of which this is the part that is written, gets of one of the source, with a comma before it where it isn't the first.
@@ -298,7 +320,7 @@ fn write_held_shape(json: &mut Writer, name: &str, held: &Option<Held>) -> Resul
 }
 
 /// Writes a member of this name: `null`.
-fn write_null(json: &mut Writer, name: &str) -> Result<(), AllocError>
+pub(crate) fn write_null(json: &mut Writer, name: &str) -> Result<(), AllocError>
     ensures { OnOk result (Adds json.old json.new (key name.now ∷ null ∷ [])) }
 {
     json.key(name)?;
@@ -352,7 +374,7 @@ fn write_chunk(json: &mut Writer, name: &str, part: &Part) -> Result<(), AllocEr
 }
 
 /// Writes a member of this name: how many there are, or `null` where no number says it.
-fn write_count(json: &mut Writer, name: &str, count: Option<u64>) -> Result<(), AllocError>
+pub(crate) fn write_count(json: &mut Writer, name: &str, count: Option<u64>) -> Result<(), AllocError>
     ensures { OnOk result (Adds json.old json.new (key name.now ∷ json_tokens (count_json count))) }
 {
     json.key(name)?;
@@ -394,7 +416,7 @@ fn write_box(json: &mut Writer, name: &str, subset: &ArraySubset) -> Result<(), 
 }
 
 /// Writes a member of this name: a list of numbers.
-fn write_numbers(json: &mut Writer, name: &str, numbers: &[u64]) -> Result<(), AllocError>
+pub(crate) fn write_numbers(json: &mut Writer, name: &str, numbers: &[u64]) -> Result<(), AllocError>
     ensures { OnOk result (Adds json.old json.new (key name.now
         ∷ json_tokens (numbers_json numbers.now))) }
 {
@@ -404,7 +426,7 @@ fn write_numbers(json: &mut Writer, name: &str, numbers: &[u64]) -> Result<(), A
 }
 
 /// Writes a list of numbers.
-fn write_list(json: &mut Writer, numbers: &[u64]) -> Result<(), AllocError>
+pub(crate) fn write_list(json: &mut Writer, numbers: &[u64]) -> Result<(), AllocError>
     ensures { OnOk result (Adds json.old json.new (json_tokens (numbers_json numbers.now))) }
 {
     json.begin_array()?;

@@ -1,5 +1,5 @@
 //! The plan that a document asks for.
-ghost use Rattle.std.specs.Prelude.{◌≡◌, ◌⊎◌, false, IfErr, IfOk, List, length, option_map, replicate, unwrap_or};
+ghost use Rattle.std.specs.Prelude.{◌≡◌, ◌⊎◌, false, IfErr, IfOk, List, None, length, option_map, replicate, unwrap_or};
 ghost use Rattle.zarrs_chunk_base.specs.ArraySubset.{Box, IsBox};
 ghost use Rattle.zarrs_chunk_base.specs.Dimension.{array_sizes};
 ghost use Rattle.zarrs_chunk_base.specs.Greatest.{AllFit};
@@ -14,7 +14,7 @@ ghost use Rattle.zarrs_chunk_plan.specs.seen.Copies.{AreMovesToCome, CanMove, al
 ghost use Rattle.zarrs_chunk_plan.specs.seen.Parts.{HasKeys};
 ghost use Rattle.programs.specs.Stored.{IsStored, stored_of};
 ghost use Rattle.programs.specs.chunkplan.CountsLine.{IsCountsLine};
-ghost use Rattle.programs.specs.chunkplan.Document.{counts_wanted, document_of, wanted_of};
+ghost use Rattle.programs.specs.chunkplan.Document.{counts_wanted, document_of, ranges_in, wanted_of};
 ghost use Rattle.programs.specs.chunkplan.Line.{read_lines, rechunking_lines, resize_lines};
 ghost use Rattle.programs.specs.chunkplan.PlanFault.{IsChunksFault, IsCopyFault, IsPlanFault, IsReadFault, IsResizeFault, IsTargetFault};
 ghost use Rattle.programs.specs.chunkplan.Planned.{IsAsked, IsPlanned, IsReadPlan, IsReadText, IsRechunkingText, IsRegionPlan, IsRegionText};
@@ -29,6 +29,7 @@ use crate::chunkplan::copying::{send_text, write_changes, write_copies, write_pa
 use crate::chunkplan::counting::counts_line;
 use crate::chunkplan::document::{Document, Task, Wanted};
 use crate::chunkplan::line::{Form, Order};
+use crate::chunkplan::ranges::RangesAsked;
 use crate::stored::{CreateFault, Stored};
 use crate::watched::Watched;
 use std::alloc::{AllocError, Global};
@@ -67,10 +68,16 @@ pub(crate) fn write_plan<W: Write>(
     } = document;
     let array = stored.array(alloc, &shape)?;
     match task {
-        Task::Read { subset, clip } => {
+        Task::Read {
+            subset,
+            clip,
+            ranges,
+        } => {
             drop(stored);
             let subset = or_whole_array(alloc, subset, &array.grid)?;
-            write_read(alloc, &array, subset, clip, &wanted, held_back, writer)
+            write_read(
+                alloc, &array, subset, clip, &ranges, &wanted, held_back, writer,
+            )
         }
         Task::Rechunk(target, chunks) => {
             drop(stored);
@@ -198,6 +205,7 @@ fn write_read<G: ChunkGridTraits, E: ChunkKeyEncodingTraits, W: Write>(
     array: &StoredArray<G, E>,
     subset: ArraySubset,
     clip: bool,
+    ranges: &Option<RangesAsked>,
     wanted: &Wanted,
     held_back: &mut Vec<u8>,
     writer: &mut Watched<W>,
@@ -207,13 +215,13 @@ fn write_read<G: ChunkGridTraits, E: ChunkKeyEncodingTraits, W: Write>(
         (λ text. (asked : Box) × (parts : List PartValue)
         × IsAsked clip (G.dimensions array.now.grid) subset asked
         × IsReadPlan (G.dimensions array.now.grid) (E.is_key array.now.encoding) asked parts
-        × IsReadText (wanted_of wanted.now) asked parts text)
+        × IsReadText (wanted_of wanted.now) (option_map ranges_in ranges.now) asked parts text)
         (IsReadFault clip (G.dimensions array.now.grid) subset) result
         (output W.contents held_back.old.items writer.old)
         (output W.contents held_back.new.items writer.new) }
 {
     let asked = asked_box(alloc, &array.grid, subset, clip)?;
-    write_asked(alloc, array, &asked, wanted, held_back, writer)
+    write_asked(alloc, array, &asked, ranges, wanted, held_back, writer)
 }
 
 /// The box that is read for a box of elements: it itself, or what it has of the array, where it is clipped.
@@ -242,6 +250,7 @@ fn write_asked<G: ChunkGridTraits, E: ChunkKeyEncodingTraits, W: Write>(
     alloc: Global,
     array: &StoredArray<G, E>,
     subset: &ArraySubset,
+    ranges: &Option<RangesAsked>,
     wanted: &Wanted,
     held_back: &mut Vec<u8>,
     writer: &mut Watched<W>,
@@ -250,7 +259,8 @@ fn write_asked<G: ChunkGridTraits, E: ChunkKeyEncodingTraits, W: Write>(
     ensures { StepLeaves
         (λ text. (parts : List PartValue)
         × IsReadPlan (G.dimensions array.now.grid) (E.is_key array.now.encoding) subset.now parts
-        × IsReadText (wanted_of wanted.now) subset.now parts text)
+        × IsReadText (wanted_of wanted.now) (option_map ranges_in ranges.now) subset.now parts
+        text)
         (IsReadFault false (G.dimensions array.now.grid) subset.now) result
         (output W.contents held_back.old.items writer.old)
         (output W.contents held_back.new.items writer.new) }
@@ -262,7 +272,9 @@ fn write_asked<G: ChunkGridTraits, E: ChunkKeyEncodingTraits, W: Write>(
         return Err(RunFault::SubsetDimensionality(error));
     }
     match wanted {
-        Wanted::Lines(share) => write_parts_of(alloc, array, subset, share, held_back, writer),
+        Wanted::Lines(share) => {
+            write_parts_of(alloc, array, subset, ranges, share, held_back, writer)
+        }
         Wanted::Counts => write_counts_of(alloc, array, subset, held_back, writer),
     }
 }
@@ -272,6 +284,7 @@ fn write_parts_of<G: ChunkGridTraits, E: ChunkKeyEncodingTraits, W: Write>(
     alloc: Global,
     array: &StoredArray<G, E>,
     subset: &ArraySubset,
+    ranges: &Option<RangesAsked>,
     share: &Share,
     held_back: &mut Vec<u8>,
     writer: &mut Watched<W>,
@@ -281,7 +294,7 @@ fn write_parts_of<G: ChunkGridTraits, E: ChunkKeyEncodingTraits, W: Write>(
     ensures { StepLeaves
         (λ text. (parts : List PartValue)
         × IsReadPlan (G.dimensions array.now.grid) (E.is_key array.now.encoding) subset.now parts
-        × (text ≡ read_lines share.now parts))
+        × (text ≡ read_lines (option_map ranges_in ranges.now) share.now parts))
         (IsReadFault false (G.dimensions array.now.grid) subset.now) result
         (output W.contents held_back.old.items writer.old)
         (output W.contents held_back.new.items writer.new) }
@@ -289,7 +302,7 @@ fn write_parts_of<G: ChunkGridTraits, E: ChunkKeyEncodingTraits, W: Write>(
     subset.is_a_box();
     match parts(alloc, &array.grid, &array.encoding, subset) {
         Ok(Some(mut walk)) => {
-            let form = Form::Line(walk.in_all());
+            let form = Form::Line(walk.in_all(), *ranges);
             let first = walk.share(share)?;
             write_parts(alloc, walk, form, first, held_back, writer)
         }
@@ -312,7 +325,7 @@ fn write_counts_of<G: ChunkGridTraits, E: ChunkKeyEncodingTraits, W: Write>(
     ensures { StepLeaves
         (λ text. (parts : List PartValue)
         × IsReadPlan (G.dimensions array.now.grid) (E.is_key array.now.encoding) subset.now parts
-        × IsReadText counts_wanted subset.now parts text)
+        × IsReadText counts_wanted None subset.now parts text)
         (IsReadFault false (G.dimensions array.now.grid) subset.now) result
         (output W.contents held_back.old.items writer.old)
         (output W.contents held_back.new.items writer.new) }

@@ -74,6 +74,15 @@ pub enum RunFault {
     /// The document has a member that doesn't go with an order of the lines.
     #[error("field `{0}` doesn't go with `order`: leave out one of them")]
     NotOfOrder(&'static str),
+    /// The document asks for byte ranges, and has a target.
+    #[error("field `item_size` is for a read: leave out `target`, or leave it out")]
+    ItemSizeOfTarget,
+    /// The document asks for byte ranges, and for counts.
+    #[error("field `item_size` is for lines: leave out `counts`, or leave it out")]
+    ItemSizeOfCounts,
+    /// The document says how byte ranges are wanted, and not how long an element is.
+    #[error("field `{0}` is for byte ranges: give `item_size` too, or leave it out")]
+    NoItemSize(&'static str),
     /// The document says that keys stand behind it, and isn't the first line.
     #[error("field `keys`: the document is to be the first line, and each line behind it a key")]
     KeysOfLongDocument,

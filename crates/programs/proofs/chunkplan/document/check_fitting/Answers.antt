@@ -1,6 +1,6 @@
 use Rattle.std.proofs.lemmas.Result.{err_from_is_err_and}
 use Rattle.serde_json.specs.View.{view}
-use Rattle.programs.proofs.chunkplan.FormFaults.{keys_misfit, order_misfit, task_misfit}
+use Rattle.programs.proofs.chunkplan.FormFaults.{keys_misfit, order_misfit, ranges_misfit, task_misfit}
 use Rattle.programs.proofs.chunkplan.document.check_fitting.Goals as goal
 
 pub returns-in_err-check_fitting_task : goal.returns-in_err-check_fitting_task
@@ -23,3 +23,10 @@ returns-in_err-check_fitting_order c =
     rw (p.1, p.2)
     (order_misfit (view c.args.tree.now) c.in_err-check_fitting_order.field-0.0 c.in_ok-check_fitting_resize.ensures
     c.in_ok-check_fitting_task.ensures c.in_ok-check_fitting_keys.ensures c.in_err-check_fitting_order.ensures)
+
+pub returns-in_err-check_fitting_ranges : goal.returns-in_err-check_fitting_ranges
+returns-in_err-check_fitting_ranges c =
+    let p = err_from_is_err_and c.from_residual-in_err-check_fitting_ranges.result c.from_residual-in_err-check_fitting_ranges.ensures.1 in
+    rw (p.1, p.2)
+    (ranges_misfit (view c.args.tree.now) c.in_err-check_fitting_ranges.field-0.0 c.in_ok-check_fitting_resize.ensures
+    c.in_ok-check_fitting_task.ensures c.in_ok-check_fitting_keys.ensures c.in_ok-check_fitting_order.ensures c.in_err-check_fitting_ranges.ensures)

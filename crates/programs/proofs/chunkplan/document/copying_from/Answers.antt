@@ -1,13 +1,14 @@
-use Rattle.std.proofs.Common.{◌≡◌, ◌∙◌, None, IsSome, MatchResult, Result, Ok, Err, ap, inl, inr, option_map, codes, refl, sym, rules, ⊎_elim}
+use Rattle.std.proofs.Common.{◌≡◌, ◌∙◌, false, None, IsSome, MatchResult, Result, Ok, Err, ap, inl, inr, option_map, codes, refl, sym, rules, ⊎_elim}
 use Rattle.std.proofs.lemmas.Result.{err_from_is_err_and}
-use Rattle.serde_json.specs.Find.{as_object, get}
+use Rattle.serde_json.specs.Find.{as_bool, as_object, get}
 use Rattle.serde_json.specs.View.{view}
-use Rattle.programs.specs.chunkplan.DocumentFault.{of_clip, of_subset, of_target, of_task}
+use Rattle.programs.specs.chunkplan.DocumentFault.{of_clip, of_ranges, of_subset, of_target, of_task}
 use Rattle.programs.specs.chunkplan.Document.{task_of}
 use Rattle.programs.specs.declared.chunkplan.run_fault.RunFault.{RunFault}
 use Rattle.programs.proofs.chunkplan.LeftMembers.{AskAlike, at_is_no_target, chunks_is_no_target, clip_is_no_target, data_type_is_no_target, has_box}
-use Rattle.programs.proofs.chunkplan.LeftMembers.{has_box_fault, has_flag_fault, is_task_to, is_task_to_fault, order_is_no_target, shape_is_no_target}
-use Rattle.programs.proofs.chunkplan.LeftMembers.{subset_is_no_target, with_target}
+use Rattle.programs.proofs.chunkplan.LeftMembers.{has_box_fault, has_form_fault, has_or, has_ranges, has_ranges_fault, is_task_to, is_task_to_fault}
+use Rattle.programs.proofs.chunkplan.LeftMembers.{item_size_is_no_target, max_ranges_is_no_target, memory_order_is_no_target, order_is_no_target}
+use Rattle.programs.proofs.chunkplan.LeftMembers.{shape_is_no_target, subset_is_no_target, with_target}
 use Rattle.programs.proofs.chunkplan.document.copying_from.Goals as goal
 
 -- what is said of a task and of a fault, each in other words
@@ -42,7 +43,35 @@ returns-in_err-clip c =
     rw (p.1, p.2)
     (inr (of_clip c.in_ok-subset.subset none
     (has_box tree left (codes "subset") _ (c.take_member.ensures.others (codes "subset") subset_is_no_target) c.in_ok-subset.ensures)
-    (has_flag_fault tree left (codes "clip") _ (c.take_member.ensures.others (codes "clip") clip_is_no_target) c.in_err-clip.ensures)))
+    (has_form_fault as_bool tree left (codes "clip") _ (c.take_member.ensures.others (codes "clip") clip_is_no_target) c.in_err-clip.ensures)))
+
+pub returns-in_err-ranges : goal.returns-in_err-ranges
+returns-in_err-ranges c =
+    let p = err_from_is_err_and c.from_residual-in_err-ranges.result c.from_residual-in_err-ranges.ensures.1 in
+    let tree = view c.args.tree in
+    let left = view c.take_member.new.tree in
+    let none : get (codes "target") tree ≡ None = sym c.take_member.ensures.taken ∙ ap (option_map view) c.in_default.is in
+    let others = c.take_member.ensures.others in
+    rw (p.1, p.2)
+    (⊎_elim (λ memory. inl memory)
+    (λ is. inr (of_ranges c.in_ok-subset.subset c.in_ok-clip.clip none
+    (has_box tree left (codes "subset") _ (others (codes "subset") subset_is_no_target) c.in_ok-subset.ensures)
+    (has_or as_bool false tree left (codes "clip") _ (others (codes "clip") clip_is_no_target) c.in_ok-clip.ensures)
+    (has_ranges_fault tree left (others (codes "item_size") item_size_is_no_target) (others (codes "memory_order") memory_order_is_no_target)
+    (others (codes "max_ranges") max_ranges_is_no_target) _ is)))
+    c.in_err-ranges.ensures)
+
+pub returns-in_default : goal.returns-in_default
+returns-in_default c =
+    let tree = view c.args.tree in
+    let left = view c.take_member.new.tree in
+    let others = c.take_member.ensures.others in (
+      sym c.take_member.ensures.taken ∙ ap (option_map view) c.in_default.is,
+      has_box tree left (codes "subset") _ (others (codes "subset") subset_is_no_target) c.in_ok-subset.ensures,
+      has_or as_bool false tree left (codes "clip") _ (others (codes "clip") clip_is_no_target) c.in_ok-clip.ensures,
+      has_ranges tree left (others (codes "item_size") item_size_is_no_target) (others (codes "memory_order") memory_order_is_no_target)
+          (others (codes "max_ranges") max_ranges_is_no_target) _ c.in_ok-ranges.ensures,
+    )
 
 pub returns : goal.returns
 returns c =

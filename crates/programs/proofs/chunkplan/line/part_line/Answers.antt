@@ -1,4 +1,6 @@
-use Rattle.std.proofs.Common.{◌∙◌}
+use Rattle.std.proofs.Common.{◌∙◌, option_map}
+use Rattle.programs.specs.chunkplan.Document.{ranges_in}
+use Rattle.programs.proofs.chunkplan.Pieces.{part_tokens}
 use Rattle.programs.proofs.chunkplan.Tokens.{then, wrote}
 use Rattle.programs.proofs.chunkplan.line.part_line.Goals as goal
 
@@ -12,8 +14,9 @@ ended-requires c =
     (then _ _ _ _ _ c.in_ok-write_key.ensures
     (then _ _ _ _ _ c.in_ok-write_count.ensures
     (then _ _ _ _ _ c.in_ok-write_count-2.ensures
+    (then _ _ _ _ _ c.in_ok-write_wanted.ensures
     (then _ _ _ _ _ c.in_ok-write_numbers-2.ensures
-    (then _ _ _ _ _ c.in_ok-write_whole.ensures (wrote _ _ _ c.in_ok-end_object.ensures)))))))))
+    (then _ _ _ _ _ c.in_ok-write_whole.ensures (wrote _ _ _ c.in_ok-end_object.ensures))))))))))
     in
     all.before ∙ c.new-json.ensures.before ∙ c.in_ok-with_capacity.ensures.items
 
@@ -29,7 +32,9 @@ returns c =
     (then _ _ _ _ _ c.in_ok-write_key.ensures
     (then _ _ _ _ _ c.in_ok-write_count.ensures
     (then _ _ _ _ _ c.in_ok-write_count-2.ensures
+    (then _ _ _ _ _ c.in_ok-write_wanted.ensures
     (then _ _ _ _ _ shape
-    (then _ _ _ _ _ c.in_ok-write_whole.ensures (wrote _ _ _ c.in_ok-end_object.ensures)))))))))
+    (then _ _ _ _ _ c.in_ok-write_whole.ensures (wrote _ _ _ c.in_ok-end_object.ensures))))))))))
     in
-    rw (all.tokens, c.new-json.ensures.tokens) at c.ended.ensures
+    rw (part_tokens c.args.number c.args.of (option_map ranges_in c.args.ranges.now) c.args.part.now)
+    (rw (all.tokens, c.new-json.ensures.tokens) at c.ended.ensures)
