@@ -14,6 +14,7 @@ pub mod CountedCopies
 pub mod CountedGroups
 pub mod CountedParts
 pub mod CountedRegions
+pub mod Exchanged
 pub mod FromNumber
 pub mod HeldBoxes
 pub mod InPlace

@@ -77,7 +77,7 @@ starts_there (o ∷ origin) [] shape within = absurd (omega (arith, within_lengt
 
 module _ (ds : List Dimension) (IsKey : List ℕ → List ℕ → Type 0) (chunk : List ℕ) (to : Part) (is : IsPart ds IsKey (array_box ds) chunk to)
     (meets : Meets ds (array_box ds) chunk) where
-  shared_start : is.boxes.shared.start ≡ to.in_subset.start
+  pub shared_start : is.boxes.shared.start ≡ to.in_subset.start
   shared_start =
       let (index, box, inside) = meets in
       let long = all_long ds IsKey (array_box ds) chunk to index is (box, inside) in

@@ -1,6 +1,6 @@
 -- What a rechunking copies: for each chunk of the target the elements that it takes, and the parts of the source's chunks that have them.
 -- Sources: Zarr V3 core, chunk grids and chunk key encodings; the plan is this library's own.
-use Rattle.std.specs.Prelude.{◌↔◌, ℕ, List, length, map, replicate}
+use Rattle.std.specs.Prelude.{◌≡◌, ◌↔◌, ℕ, List, length, map, replicate}
 use Rattle.std.specs.List.{AllPairs, AllZip, Contains, flat_map}
 use Rattle.zarrs_chunk_base.specs.ArraySubset.{Box, IsBox, IsInside}
 use Rattle.zarrs_chunk_base.specs.Dimension.{Dimension, InBox, IsPlace, array_sizes, grid_sizes}
@@ -50,6 +50,16 @@ pub record Moves (source target : List Dimension) (copy : Part × Part) (steps i
   pub from : IsPlace source copy.0.chunk.items index (counted_from copy.0.in_chunk.start steps)
   pub in_target : InBox target copy.1.chunk.items index
   pub to : IsPlace target copy.1.chunk.items index (counted_from copy.0.in_subset.start steps)
+
+-- The other copy is the same the other way round: between the same two chunks, and the same box of each. Counted from the first element of its chunk, a
+-- copy has the box of the source's chunk as the `in_chunk` of its part; that of the target's begins where the target's part does in its chunk, and then as
+-- the `in_subset` of its part says.
+pub record IsExchanged (copy other : Part × Part) : Type 0 where
+  pub source_chunk : other.1.chunk.items ≡ copy.0.chunk.items
+  pub target_chunk : other.0.chunk.items ≡ copy.1.chunk.items
+  pub in_source : counted_from other.1.in_chunk.start other.0.in_subset.start ≡ copy.0.in_chunk.start
+  pub in_target : other.0.in_chunk.start ≡ counted_from copy.1.in_chunk.start copy.0.in_subset.start
+  pub shape : other.0.in_chunk.shape ≡ copy.0.in_chunk.shape
 
 -- Boxes of chunk numbers share the chunks out that hold elements of the array: each lies in one of the boxes, and in no other.
 pub record ShareOut (target : List Dimension) (boxes : List Box) : Type 0 where

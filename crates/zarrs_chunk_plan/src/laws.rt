@@ -10,6 +10,7 @@
 //! | Shares of a plan are together the plan | [`shares_are_together_the_plan`] |
 //! | What a walk that `copies` answers gives, one group after another, is a rechunking | [`the_walk_gives_the_rechunking`] |
 //! | Each element whose target chunk is asked for is moved, place to place, by exactly one copy | [`each_element_is_copied_once`] |
+//! | A rechunking the other way round has the same copies | [`the_other_way_round_has_the_same_copies`] |
 //! | Rechunkings that share the target's chunks out are together the whole one | [`rechunkings_that_share_out_are_the_whole_one`] |
 //! | What a walk that `copies_of_region` answers gives, one group after another, is the copy of the region | [`the_walk_gives_the_region`] |
 //! | Each element of a region is moved, place to place, by exactly one copy | [`each_element_of_a_region_is_copied_once`] |
@@ -33,7 +34,7 @@ ghost use Rattle.zarrs_chunks.specs.GridKinds.{IsGrid};
 ghost use Rattle.zarrs_chunks.specs.Subsets.{IsCover};
 ghost use Rattle.zarrs_chunks.specs.Walks.{chunks_in, counted_from};
 ghost use Rattle.zarrs_chunk_plan.specs.Plan.{HasElement, IsPart, IsPlan};
-ghost use Rattle.zarrs_chunk_plan.specs.Rechunking.{AreTargets, Group, IsRechunking, Moves, ShareOut, array_box, copies_of};
+ghost use Rattle.zarrs_chunk_plan.specs.Rechunking.{AreTargets, Group, IsExchanged, IsRechunking, Moves, ShareOut, all_chunks_box, array_box, copies_of};
 ghost use Rattle.zarrs_chunk_plan.specs.Region.{IsRegionCopy, MovesTo, moved};
 ghost use Rattle.zarrs_chunk_plan.specs.Resize.{AreChanged, AreResized, HasElementOf, IsAsked, IsChange, IsChanged, IsKept, IsResizePlan, IsUsed};
 ghost use Rattle.zarrs_chunk_plan.specs.declared.resize.Change.TheVariants.{Delete, Keep, New, Rewrite};
@@ -197,6 +198,26 @@ pub fn each_element_is_copied_once<
         (E.is_key source.now.encoding) (H.dimensions target.now.grid) (F.is_key target.now.encoding)
         chunks groups → (copy : Part × Part) → Contains (copies_of groups) copy
         → copy.0.in_chunk.shape ≡ copy.0.in_subset.shape }
+{}
+
+/// A rechunking the other way round, into all chunks of the source, has each copy of the rechunking: between the same two chunks and the same box of
+/// each. So the plan in the order of the source, which has a group for each of its chunks, copies what the plan in the order of the target does; and as
+/// this holds of any two arrays, it copies nothing else.
+pub fn the_other_way_round_has_the_same_copies<
+    G: ChunkGridTraits,
+    E: ChunkKeyEncodingTraits,
+    H: ChunkGridTraits,
+    F: ChunkKeyEncodingTraits,
+>(source: &StoredArray<G, E>, target: &StoredArray<H, F>)
+    ensures { array_sizes (G.dimensions source.now.grid)
+        ≡ array_sizes (H.dimensions target.now.grid) → (chunks : Box) (groups others : List Group)
+        → IsRechunking (G.dimensions source.now.grid) (E.is_key source.now.encoding)
+        (H.dimensions target.now.grid) (F.is_key target.now.encoding) chunks groups
+        → IsRechunking (H.dimensions target.now.grid) (F.is_key target.now.encoding)
+        (G.dimensions source.now.grid) (E.is_key source.now.encoding)
+        (all_chunks_box (G.dimensions source.now.grid)) others
+        → (copy : Part × Part) → Contains (copies_of groups) copy
+        → (other : Part × Part) × Contains (copies_of others) other × IsExchanged copy other }
 {}
 
 /// Rechunkings into boxes of chunks that share the target's chunks out are together the whole one: each element of the array is moved by exactly

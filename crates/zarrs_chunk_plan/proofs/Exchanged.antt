@@ -1,0 +1,131 @@
+-- A rechunking the other way round has the same copies.
+use Rattle.std.proofs.Common.{◌≡◌, ◌↔◌, ◌∙◌, ℕ, List, [], ◌∷◌, Contains, ap, ap₂, refl, subst, sym, arith}
+use Rattle.std.specs.List.{AllByRecursion}
+use Rattle.zarrs_chunk_base.specs.ArraySubset.{Box, IsInside}
+use Rattle.zarrs_chunk_base.specs.Dimension.{Dimension, InBox, IsChain, IsOrigin, StartsAt, array_sizes}
+use Rattle.zarrs_chunk_base.proofs.InEach.{length_values}
+use Rattle.zarrs_chunk_axes.specs.InBounds.{AreBelow}
+use Rattle.zarrs_chunks.specs.Walks.{chunks_in, counted_from}
+use Rattle.zarrs_chunks.proofs.ChunksInBoxes.{are_those_inside}
+use Rattle.zarrs_chunks.proofs.Meeting.{cover_meets}
+use Rattle.zarrs_chunk_plan.specs.Plan.{IsPart, Meets}
+use Rattle.zarrs_chunk_plan.specs.Rechunking.{AreCopiesInto, Group, IsExchanged, IsRechunking, all_chunks_box, array_box, copies_of}
+use Rattle.zarrs_chunk_plan.specs.declared.part.Part.{Part}
+use Rattle.zarrs_chunk_plan.proofs.CopyLists.{copy_in, copy_of}
+use Rattle.zarrs_chunk_plan.proofs.Plans.{added, all_long, counted_once, length_counted, not_empty, pair_of, source_of}
+use Rattle.zarrs_chunk_plan.proofs.Rechunkings.{in_array, is_counted, shared_start, those_are}
+use Rattle.zarrs_chunk_plan.proofs.SameBoxes.{same_box_of}
+
+-- a chunk has one origin
+one_origin : (ds : List Dimension) (chunk one other : List ℕ) → IsOrigin ds chunk one → IsOrigin ds chunk other → one ≡ other
+one_origin [] [] [] [] is also = refl
+one_origin (d ∷ ds) (c ∷ chunk) (o ∷ one) (p ∷ other) is also =
+    ap₂ (λ x xs. x ∷ xs) (sym is.0.start ∙ also.0.start) (one_origin ds chunk one other is.1 also.1)
+one_origin [] [] [] (_ ∷ _) is also = absurd also
+one_origin (_ ∷ _) (_ ∷ _) (_ ∷ _) [] is also = absurd also
+one_origin _ _ _ _ is also = absurd is
+
+-- two chunks share one box of elements: what each begins with in it
+module _ (source : List Dimension) (IsSourceKey : List ℕ → List ℕ → Type 0) (target : List Dimension) (IsTargetKey : List ℕ → List ℕ → Type 0)
+    (chains : AllByRecursion IsChain source) (also_chains : AllByRecursion IsChain target) (one_array : array_sizes source ≡ array_sizes target) where
+  both_arrays : (index : List ℕ) → IsInside (array_box source) index ↔ IsInside (array_box target) index
+  both_arrays index = (
+    λ inside. (in_array target index).0 (subst (λ sizes. AreBelow sizes index) one_array ((in_array source index).1 inside)),
+    λ inside. (in_array source index).0 (subst (λ sizes. AreBelow sizes index) (sym one_array) ((in_array target index).1 inside)),
+  )
+
+  -- the part of chunk s in what chunk t takes, and that of chunk t in what chunk s gives
+  module _ (s t : List ℕ) (to from next back : Part) (meets : Meets target (array_box target) t) (also_meets : Meets source (array_box source) s)
+      (is_to : IsPart target IsTargetKey (array_box target) t to) (is_from : IsPart source IsSourceKey to.in_subset s from)
+      (is_next : IsPart source IsSourceKey (array_box source) s next) (is_back : IsPart target IsTargetKey next.in_subset t back)
+      (index : List ℕ) (in_source : InBox source s index) (in_subset : IsInside to.in_subset index) where
+    same_elements : (x : List ℕ) → IsInside is_from.boxes.shared x ↔ IsInside is_back.boxes.shared x
+    same_elements x = (
+      λ inside.
+          let (box, within) = (is_from.boxes.elements x).0 inside in
+          let (also, in_all) = (those_are target IsTargetKey t to is_to meets x).0 within in
+          (is_back.boxes.elements x).1 (also, (those_are source IsSourceKey s next is_next also_meets x).1 (box, (both_arrays x).1 in_all)),
+      λ inside.
+          let (also, within) = (is_back.boxes.elements x).0 inside in
+          let (box, in_all) = (those_are source IsSourceKey s next is_next also_meets x).0 within in
+          (is_from.boxes.elements x).1 (box, (those_are target IsTargetKey t to is_to meets x).1 (also, (both_arrays x).0 in_all)),
+    )
+
+    one_box : is_from.boxes.shared ≡ is_back.boxes.shared
+    one_box =
+        same_box_of is_from.boxes.shared is_back.boxes.shared index ((is_from.boxes.elements index).1 (in_source, in_subset)) same_elements
+
+    -- counted from the first element of either chunk
+    begins_in_source : counted_from is_from.boxes.origin from.in_chunk.start
+        ≡ counted_from is_next.boxes.origin (counted_from next.in_chunk.start back.in_subset.start)
+    begins_in_source =
+        sym is_from.boxes.from_chunk.start ∙ ap (λ b. b.start) one_box ∙ is_back.boxes.from_subset.start
+        ∙ ap (λ start. counted_from start back.in_subset.start)
+        (sym (shared_start source IsSourceKey s next is_next also_meets) ∙ is_next.boxes.from_chunk.start)
+        ∙ sym (added is_next.boxes.origin next.in_chunk.start back.in_subset.start)
+
+    begins_in_target : counted_from is_back.boxes.origin back.in_chunk.start
+        ≡ counted_from is_to.boxes.origin (counted_from to.in_chunk.start from.in_subset.start)
+    begins_in_target =
+        sym is_back.boxes.from_chunk.start ∙ sym (ap (λ b. b.start) one_box) ∙ is_from.boxes.from_subset.start
+        ∙ ap (λ start. counted_from start from.in_subset.start)
+        (sym (shared_start target IsTargetKey t to is_to meets) ∙ is_to.boxes.from_chunk.start)
+        ∙ sym (added is_to.boxes.origin to.in_chunk.start from.in_subset.start)
+
+    exchanged : IsExchanged (from, to) (back, next)
+    exchanged =
+        let in_all = (those_are target IsTargetKey t to is_to meets index).0 in_subset in
+        let in_next = (those_are source IsSourceKey s next is_next also_meets index).1 (in_source, (both_arrays index).1 in_all.1) in
+        let long = all_long source IsSourceKey to.in_subset s from index is_from (in_source, in_subset) in
+        let next_long = all_long source IsSourceKey (array_box source) s next index is_next (in_source, (both_arrays index).1 in_all.1) in
+        let to_long = all_long target IsTargetKey (array_box target) t to index is_to in_all in
+        let back_long = all_long target IsTargetKey next.in_subset t back index is_back (in_all.0, in_next) in
+        let origin = length_values StartsAt source s is_next.boxes.origin is_next.boxes.is_origin in
+        let also_origin = length_values StartsAt target t is_to.boxes.origin is_to.boxes.is_origin in
+        let first = one_origin source s is_from.boxes.origin is_next.boxes.origin is_from.boxes.is_origin is_next.boxes.is_origin in
+        let also_first = one_origin target t is_back.boxes.origin is_to.boxes.origin is_back.boxes.is_origin is_to.boxes.is_origin in
+        let counted = length_counted next.in_chunk.start back.in_subset.start (omega arith) in
+        let also_counted = length_counted to.in_chunk.start from.in_subset.start (omega arith) in
+        record {
+          source_chunk = is_next.numbers ∙ sym is_from.numbers;
+          target_chunk = is_back.numbers ∙ sym is_to.numbers;
+          in_source = sym (counted_once is_next.boxes.origin from.in_chunk.start (counted_from next.in_chunk.start back.in_subset.start) (omega arith)
+              (omega arith) (subst (λ o. counted_from o from.in_chunk.start ≡ _) first begins_in_source));
+          in_target = counted_once is_to.boxes.origin back.in_chunk.start (counted_from to.in_chunk.start from.in_subset.start) (omega arith)
+              (omega arith) (subst (λ o. counted_from o back.in_chunk.start ≡ _) also_first begins_in_target);
+          shape = sym is_back.boxes.from_chunk.shape ∙ sym (ap (λ b. b.shape) one_box) ∙ is_from.boxes.from_chunk.shape;
+        }
+
+  -- each copy of a rechunking is one of the rechunking the other way round
+  pub other_way_round : (chunks : Box) (groups others : List Group) → IsRechunking source IsSourceKey target IsTargetKey chunks groups
+      → IsRechunking target IsTargetKey source IsSourceKey (all_chunks_box source) others → (copy : Part × Part) → Contains (copies_of groups) copy
+      → (other : Part × Part) × Contains (copies_of others) other × IsExchanged copy other
+  other_way_round chunks groups others plan back_plan copy among =
+      let (t, parts, counted, into, in_parts) =
+      copy_of (AreCopiesInto source IsSourceKey target IsTargetKey) (chunks_in plan.targets) groups plan.are_groups copy among in
+      let (inside, meets) = (plan.are_targets t).0 ((are_those_inside plan.targets plan.is_box t).0 counted) in
+      let (s, in_cover, is_from) =
+      source_of (IsPart source IsSourceKey copy.1.in_subset) (chunks_in into.from.cover) parts into.from.are_parts copy.0 in_parts in
+      let some = not_empty target IsTargetKey (array_box target) t copy.1 into.to meets in
+      let (index, box, within) = (cover_meets source copy.1.in_subset into.from.cover chains into.to.boxes.from_subset.is_box some into.from.is_cover s).0
+      ((are_those_inside into.from.cover into.from.is_cover.is_box s).0 in_cover)
+      in
+      let (also, in_all) = (those_are target IsTargetKey t copy.1 into.to meets index).0 within in
+      let also_meets : Meets source (array_box source) s = (index, box, (both_arrays index).1 in_all) in
+      let in_targets = (are_those_inside back_plan.targets back_plan.is_box s).1
+      ((back_plan.are_targets s).1 (is_counted source chains s also_meets, also_meets))
+      in
+      let (group, in_groups, gives) =
+      pair_of (AreCopiesInto target IsTargetKey source IsSourceKey) (chunks_in back_plan.targets) others back_plan.are_groups s in_targets in
+      let there = (those_are source IsSourceKey s group.0 gives.to also_meets index).1 (box, (both_arrays index).1 in_all) in
+      let any = not_empty source IsSourceKey (array_box source) s group.0 gives.to also_meets in
+      let t_meets = (cover_meets target group.0.in_subset gives.from.cover also_chains gives.to.boxes.from_subset.is_box any gives.from.is_cover t).1
+      (index, also, there)
+      in
+      let (back, in_back, is_back) = pair_of (IsPart target IsTargetKey group.0.in_subset) (chunks_in gives.from.cover) group.1 gives.from.are_parts t
+      ((are_those_inside gives.from.cover gives.from.is_cover.is_box t).1 t_meets)
+      in (
+        (back, group.0),
+        copy_in others group back in_groups in_back,
+        exchanged s t copy.1 copy.0 group.0 back meets also_meets into.to is_from gives.to is_back index box within,
+      )
