@@ -86,6 +86,52 @@ const SHARE_OF_RESIZE: &[u8] =
 const WRONG_KEEP: &[u8] =
     br#"{"shape":[4],"chunk_grid":"regular","chunk_key_encoding":"v2","resize":[5],"keep":1}"#;
 
+/// The same array, which is rechunked into chunks of two, in the order of the source.
+const BY_SOURCE: &[u8] =
+    br#"{"shape":[4],"chunk_grid":{"name":"regular","configuration":{"chunk_shape":[3]}},"chunk_key_encoding":"v2","order":"source","target":{"chunk_grid":{"name":"regular","configuration":{"chunk_shape":[2]}},"chunk_key_encoding":"v2"}}"#;
+
+const LINES_BY_SOURCE: &[u8] =
+    br#"{"from":{"chunk":[0],"key":"0","shape":[3]},"number":0,"of":2,"to":[{"chunk":[0],"in_chunk":[[0],[2]],"in_source":[[0],[2]],"key":"0","shape":[2],"whole":true},{"chunk":[1],"in_chunk":[[0],[1]],"in_source":[[2],[1]],"key":"1","shape":[2],"whole":false}]}
+{"from":{"chunk":[1],"key":"1","shape":[3]},"number":1,"of":2,"to":[{"chunk":[1],"in_chunk":[[1],[1]],"in_source":[[0],[1]],"key":"1","shape":[2],"whole":false}]}
+"#;
+
+const ORDER_OF_NO_TARGET: &[u8] =
+    br#"{"shape":[4],"chunk_grid":"","chunk_key_encoding":"","order":"source"}"#;
+
+const CHUNKS_OF_ORDER: &[u8] =
+    br#"{"shape":[4],"chunk_grid":"","chunk_key_encoding":"","order":"source","chunks":1,"target":{}}"#;
+
+const WRONG_ORDER: &[u8] = br#"{"shape":[4],"chunk_grid":"regular","chunk_key_encoding":"v2","order":"sources","target":{"chunk_grid":"regular","chunk_key_encoding":"v2"}}"#;
+
+/// The same array, of two bytes an element, of which a box is read by byte ranges; one range of a chunk is listed.
+const RANGED: &[u8] =
+    br#"{"shape":[4],"chunk_grid":{"name":"regular","configuration":{"chunk_shape":[3]}},"chunk_key_encoding":"v2","subset":[[1],[3]],"item_size":2,"max_ranges":1}"#;
+
+const RANGED_LINES: &[u8] =
+    br#"{"chunk":[0],"in_chunk":[[1],[2]],"in_subset":[[0],[2]],"key":"0","number":0,"of":2,"ranges":{"counts":[],"first":2,"length":4,"list":[[2,4]],"strides":[]},"shape":[3],"whole":false}
+{"chunk":[1],"in_chunk":[[0],[1]],"in_subset":[[2],[1]],"key":"1","number":1,"of":2,"ranges":{"counts":[],"first":0,"length":2,"list":[[0,2]],"strides":[]},"shape":[3],"whole":true}
+"#;
+
+/// A box of two rows of a matrix, of which no range is listed.
+const UNLISTED: &[u8] =
+    br#"{"shape":[4,5],"chunk_grid":{"name":"regular","configuration":{"chunk_shape":[4,5]}},"chunk_key_encoding":"v2","subset":[[1,2],[2,3]],"item_size":2,"memory_order":"F","max_ranges":2}"#;
+
+const UNLISTED_LINE: &[u8] =
+    br#"{"chunk":[0,0],"in_chunk":[[1,2],[2,3]],"in_subset":[[0,0],[2,3]],"key":"0.0","number":0,"of":1,"ranges":{"counts":[3],"first":18,"length":4,"list":null,"strides":[8]},"shape":[4,5],"whole":false}
+"#;
+
+const ITEM_SIZE_OF_TARGET: &[u8] =
+    br#"{"shape":[4],"chunk_grid":"","chunk_key_encoding":"","item_size":1,"target":{}}"#;
+
+const ITEM_SIZE_OF_COUNTS: &[u8] =
+    br#"{"shape":[4],"chunk_grid":"","chunk_key_encoding":"","item_size":1,"counts":true}"#;
+
+const NO_ITEM_SIZE: &[u8] =
+    br#"{"shape":[4],"chunk_grid":"","chunk_key_encoding":"","memory_order":"C"}"#;
+
+const WRONG_ITEM_SIZE: &[u8] =
+    br#"{"shape":[4],"chunk_grid":"regular","chunk_key_encoding":"v2","item_size":0}"#;
+
 /// A reader of a document that fails after so many reads is told, and nothing is written then; the lines are, where it doesn't fail.
 fn check_read(
     rt: &(impl Abort + AllocGlobal),
@@ -258,4 +304,56 @@ fn a_resize_is_planned(rt: HostRuntime) {
         "chunkplan: field `share` isn't for a resize: leave it out, or leave out `resize`\n",
     );
     check_fault(&rt, WRONG_KEEP, "chunkplan: wrong value in field `keep`\n");
+}
+
+#[test]
+fn a_rechunking_is_planned_in_the_order_of_the_source(rt: HostRuntime) {
+    let enough = BY_SOURCE.len().div_ceil(16) + 1;
+    let asked = (BY_SOURCE, LINES_BY_SOURCE);
+    check_read(&rt, asked, enough, ErrorKind::Other, true);
+    check_writes(&rt, BY_SOURCE, LINES_BY_SOURCE);
+    check_fault(
+        &rt,
+        ORDER_OF_NO_TARGET,
+        "chunkplan: field `order` is for a rechunking: give `target` too, or leave it out\n",
+    );
+    check_fault(
+        &rt,
+        CHUNKS_OF_ORDER,
+        "chunkplan: field `chunks` doesn't go with `order`: leave out one of them\n",
+    );
+    check_fault(
+        &rt,
+        WRONG_ORDER,
+        "chunkplan: wrong value in field `order`\n",
+    );
+}
+
+#[test]
+fn byte_ranges_are_in_the_lines_of_a_read(rt: HostRuntime) {
+    let enough = RANGED.len().div_ceil(16) + 1;
+    check_read(&rt, (RANGED, RANGED_LINES), enough, ErrorKind::Other, true);
+    let enough = UNLISTED.len().div_ceil(16) + 1;
+    let asked = (UNLISTED, UNLISTED_LINE);
+    check_read(&rt, asked, enough, ErrorKind::Other, true);
+    check_fault(
+        &rt,
+        ITEM_SIZE_OF_TARGET,
+        "chunkplan: field `item_size` is for a read: leave out `target`, or leave it out\n",
+    );
+    check_fault(
+        &rt,
+        ITEM_SIZE_OF_COUNTS,
+        "chunkplan: field `item_size` is for lines: leave out `counts`, or leave it out\n",
+    );
+    check_fault(
+        &rt,
+        NO_ITEM_SIZE,
+        "chunkplan: field `memory_order` is for byte ranges: give `item_size` too, or leave it out\n",
+    );
+    check_fault(
+        &rt,
+        WRONG_ITEM_SIZE,
+        "chunkplan: wrong value in field `item_size`\n",
+    );
 }

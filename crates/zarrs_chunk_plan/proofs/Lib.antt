@@ -40,6 +40,7 @@ pub mod Shares
 pub mod SomePlan
 pub mod SomeRegions
 pub mod SomeResizes
+pub mod Stages
 pub mod StoredOrder
 pub mod StridedForms
 pub mod Taken

@@ -51,6 +51,17 @@ pub record Moves (source target : List Dimension) (copy : Part × Part) (steps i
   pub in_target : InBox target copy.1.chunk.items index
   pub to : IsPlace target copy.1.chunk.items index (counted_from copy.0.in_subset.start steps)
 
+-- Some copy of a rechunking moves the element at an index: from a place in a chunk of the source to a place in a chunk of the target.
+pub record Goes (source target : List Dimension) (groups : List Group) (index chunk place to_chunk to_place : List ℕ) : Type 0 where
+  pub copy : Part × Part
+  pub among : Contains (copies_of groups) copy
+  pub steps : List ℕ
+  pub moves : Moves source target copy steps index
+  pub from_chunk : copy.0.chunk.items ≡ chunk
+  pub from_place : counted_from copy.0.in_chunk.start steps ≡ place
+  pub into_chunk : copy.1.chunk.items ≡ to_chunk
+  pub into_place : counted_from copy.0.in_subset.start steps ≡ to_place
+
 -- The other copy is the same the other way round: between the same two chunks, and the same box of each. Counted from the first element of its chunk, a
 -- copy has the box of the source's chunk as the `in_chunk` of its part; that of the target's begins where the target's part does in its chunk, and then as
 -- the `in_subset` of its part says.

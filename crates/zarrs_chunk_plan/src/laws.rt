@@ -11,6 +11,7 @@
 //! | What a walk that `copies` answers gives, one group after another, is a rechunking | [`the_walk_gives_the_rechunking`] |
 //! | Each element whose target chunk is asked for is moved, place to place, by exactly one copy | [`each_element_is_copied_once`] |
 //! | A rechunking the other way round has the same copies | [`the_other_way_round_has_the_same_copies`] |
+//! | Two rechunkings, the second of what the first one leaves, are together one | [`two_stages_are_together_one`] |
 //! | Rechunkings that share the target's chunks out are together the whole one | [`rechunkings_that_share_out_are_the_whole_one`] |
 //! | What a walk that `copies_of_region` answers gives, one group after another, is the copy of the region | [`the_walk_gives_the_region`] |
 //! | Each element of a region is moved, place to place, by exactly one copy | [`each_element_of_a_region_is_copied_once`] |
@@ -34,7 +35,7 @@ ghost use Rattle.zarrs_chunks.specs.GridKinds.{IsGrid};
 ghost use Rattle.zarrs_chunks.specs.Subsets.{IsCover};
 ghost use Rattle.zarrs_chunks.specs.Walks.{chunks_in, counted_from};
 ghost use Rattle.zarrs_chunk_plan.specs.Plan.{HasElement, IsPart, IsPlan};
-ghost use Rattle.zarrs_chunk_plan.specs.Rechunking.{AreTargets, Group, IsExchanged, IsRechunking, Moves, ShareOut, all_chunks_box, array_box, copies_of};
+ghost use Rattle.zarrs_chunk_plan.specs.Rechunking.{AreTargets, Goes, Group, IsExchanged, IsRechunking, Moves, ShareOut, all_chunks_box, array_box, copies_of};
 ghost use Rattle.zarrs_chunk_plan.specs.Region.{IsRegionCopy, MovesTo, moved};
 ghost use Rattle.zarrs_chunk_plan.specs.Resize.{AreChanged, AreResized, HasElementOf, IsAsked, IsChange, IsChanged, IsKept, IsResizePlan, IsUsed};
 ghost use Rattle.zarrs_chunk_plan.specs.declared.resize.Change.TheVariants.{Delete, Keep, New, Rewrite};
@@ -218,6 +219,36 @@ pub fn the_other_way_round_has_the_same_copies<
         (all_chunks_box (G.dimensions source.now.grid)) others
         → (copy : Part × Part) → Contains (copies_of groups) copy
         → (other : Part × Part) × Contains (copies_of others) other × IsExchanged copy other }
+{}
+
+/// Two rechunkings, the second of what the first one leaves, are together one: an element goes from a place in a chunk of the source to a place in a
+/// chunk of the target exactly where the first takes it to some place in some chunk between, and the second takes it from there. As each element is
+/// moved by exactly one copy of each of the three, it is moved once to where it is read once.
+pub fn two_stages_are_together_one<
+    G: ChunkGridTraits,
+    E: ChunkKeyEncodingTraits,
+    B: ChunkGridTraits,
+    K: ChunkKeyEncodingTraits,
+    H: ChunkGridTraits,
+    F: ChunkKeyEncodingTraits,
+>(source: &StoredArray<G, E>, between: &StoredArray<B, K>, target: &StoredArray<H, F>)
+    ensures { array_sizes (B.dimensions between.now.grid)
+        ≡ array_sizes (H.dimensions target.now.grid)
+        → (chunks : Box) (first second groups : List Group)
+        → IsRechunking (G.dimensions source.now.grid) (E.is_key source.now.encoding)
+        (B.dimensions between.now.grid) (K.is_key between.now.encoding)
+        (all_chunks_box (B.dimensions between.now.grid)) first
+        → IsRechunking (B.dimensions between.now.grid) (K.is_key between.now.encoding)
+        (H.dimensions target.now.grid) (F.is_key target.now.encoding) chunks second
+        → IsRechunking (G.dimensions source.now.grid) (E.is_key source.now.encoding)
+        (H.dimensions target.now.grid) (F.is_key target.now.encoding) chunks groups
+        → (index s from t to : List ℕ)
+        → Goes (G.dimensions source.now.grid) (H.dimensions target.now.grid) groups index s from t to
+        ↔ ((chunk : List ℕ) × (place : List ℕ)
+        × Goes (G.dimensions source.now.grid) (B.dimensions between.now.grid) first index s from
+        chunk place
+        × Goes (B.dimensions between.now.grid) (H.dimensions target.now.grid) second index chunk
+        place t to) }
 {}
 
 /// Rechunkings into boxes of chunks that share the target's chunks out are together the whole one: each element of the array is moved by exactly

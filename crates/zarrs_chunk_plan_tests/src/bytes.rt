@@ -86,6 +86,28 @@ fn a_box_may_be_empty_or_have_no_dimensions(rt: HostRuntime) -> Result<(), Fail>
     check_ranges(&rt, (MemoryOrder::F, &[]), (&[], &[]), 8, "0 8 [] []")
 }
 
+/// Where the ranges of a box begin, if they are at most so many.
+fn starts_of(alloc: Global, elements: Sizes<'_>, most: u64) -> Result<Option<Vec<u64>>, Fail> {
+    let found = ranges_of(alloc, MemoryOrder::C, &[2, 3, 4], elements, 1)?;
+    let ranges = found.ok_or("no ranges")?;
+    Ok(ranges.starts(alloc, most)?)
+}
+
+/// The ranges are listed one after another, where they are no more than asked for; those of an empty box are none.
+#[test]
+fn ranges_are_listed_up_to_a_number(rt: HostRuntime) -> Result<(), Fail> {
+    let four = (&[0, 1, 1].as_slice(), &[2, 2, 2].as_slice());
+    let starts = starts_of(rt.alloc(), (four.0, four.1), 4)?.ok_or("not listed")?;
+    assert!(&rt; starts.as_slice() == [5, 9, 17, 21].as_slice(), "other ranges");
+    let starts = starts_of(rt.alloc(), (four.0, four.1), 3)?;
+    assert!(&rt; starts.is_none(), "more than asked for");
+    let starts = starts_of(rt.alloc(), (&[0, 1, 1], &[2, 0, 2]), 0)?.ok_or("not listed")?;
+    assert!(&rt; starts.is_empty(), "a range of an empty box");
+    let starts = starts_of(rt.alloc(), (&[0, 0, 0], &[2, 3, 4]), 0)?;
+    assert!(&rt; starts.is_none(), "more than none");
+    Ok(())
+}
+
 /// A box that ends past the chunk has no ranges, and a chunk of 2^64 bytes none either.
 #[test]
 fn a_box_past_the_chunk_is_none(rt: HostRuntime) -> Result<(), Fail> {
