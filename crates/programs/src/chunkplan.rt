@@ -1,5 +1,5 @@
-//! `chunkplan` writes what a read, a rechunking or the copy of a region of a Zarr array copies, a line for each chunk that is read or written, or what
-//! of that a store hasn't; or what a resize changes, a line for each chunk that has to be written, written again or deleted.
+//! `chunkplan` writes what a read, a rechunking or the copy of a region of a Zarr array copies, a line for each chunk that is read or written, or
+//! what of that a store hasn't; or what a resize changes, a line for each chunk that has to be written, written again or deleted.
 //!
 //! | Module | What it holds |
 //! |---|---|

@@ -55,8 +55,8 @@ pub record AreRechunkingCounts (source target : List Dimension) (targets : Box) 
   pub source_chunks : AreMany (λ chunk. (copy : Part × Part) × Contains (copies_of groups) copy × (copy.0.chunk.items ≡ chunk))
       (product counts.source_chunks.items)
 
--- The counts of the copy of a region, where these chunks of the target take some of it, and these are the groups: each group is a line. Where the chunks
--- aren't few, there is no count of copies, and none of those of the longest line.
+-- The counts of the copy of a region, where these chunks of the target take some of it, and these are the groups: each group is a line. Where the
+-- chunks aren't few, there is no count of copies, and none of those of the longest line.
 pub record AreRegionCounts (source target : List Dimension) (region targets : Box) (groups : List Group) (counts : Counts) : Type 0 where
   pub lines : product counts.lines.items ≡ length groups
   pub copies : MatchOption counts.copies (¬ AreFew targets)

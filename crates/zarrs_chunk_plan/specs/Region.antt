@@ -1,7 +1,7 @@
 -- The copy of a region: a box of elements of one array goes to a box of the same shape in another array, or in the same one. For each chunk of the
--- target that meets the moved box, the elements that it takes, and the parts of the source's chunks that have them. What is said of the copy is said of
--- a region that isn't empty; that it lies in both arrays is `CanBeMoved`.
--- Sources: Zarr V3 core, chunk grids and chunk key encodings; the copy of a region is this library's own.
+-- target that meets the moved box, the elements that it takes, and the parts of the source's chunks that have them. What is said of the copy is said
+-- of a region that isn't empty; that it lies in both arrays is `CanBeMoved`. Sources: Zarr V3 core, chunk grids and chunk key encodings; the copy of
+-- a region is this library's own.
 use Rattle.std.specs.Prelude.{◌≡◌, ◌≢◌, ℕ, ◌+◌, ◌≤◌, List, [], ◌∷◌, length}
 use Rattle.std.specs.List.{AllZip}
 use Rattle.zarrs_chunk_base.specs.ArraySubset.{Box}
@@ -67,9 +67,9 @@ module _ (source : List Dimension) (IsSourceKey : List ℕ → List ℕ → Type
     pub is_cover : IsCover target (moved at region) cover
     pub are_groups : AllZip AreMovedInto (chunks_in cover) groups
 
--- A copy moves the element at an index of the source's array to an index of the target's: so many steps after the first element of the source's box lies
--- the one, and as many after the first of where this box goes the other. Where it goes is `in_subset` of the source's part, counted from the first
--- element of `in_chunk` of the target's.
+-- A copy moves the element at an index of the source's array to an index of the target's: so many steps after the first element of the source's box
+-- lies the one, and as many after the first of where this box goes the other. Where it goes is `in_subset` of the source's part, counted from the
+-- first element of `in_chunk` of the target's.
 pub record MovesTo (source target : List Dimension) (copy : Part × Part) (steps index to : List ℕ) : Type 0 where
   pub below : AreBelow copy.0.in_chunk.shape steps
   pub in_source : InBox source copy.0.chunk.items index

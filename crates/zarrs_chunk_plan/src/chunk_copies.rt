@@ -98,8 +98,8 @@ impl<'a, G, E, H: ChunkGridTraits, F: ChunkKeyEncodingTraits> Copies<'a, G, E, H
         self.targets.share(share)
     }
 
-    /// Goes to the chunk with this number, counted from 0 among all these chunks, wherever the walk is; nothing is left where there are no more. Those
-    /// before it take no time.
+    /// Goes to the chunk with this number, counted from 0 among all these chunks, wherever the walk is; nothing is left where there are no more.
+    /// Those before it take no time.
     ///
     /// # Errors
     /// Out of memory. The walk is as it was then.

@@ -202,8 +202,8 @@ pub fn each_element_is_copied_once<
 {}
 
 /// A rechunking the other way round, into all chunks of the source, has each copy of the rechunking: between the same two chunks and the same box of
-/// each. So the plan in the order of the source, which has a group for each of its chunks, copies what the plan in the order of the target does; and as
-/// this holds of any two arrays, it copies nothing else.
+/// each. So the plan in the order of the source, which has a group for each of its chunks, copies what the plan in the order of the target does; and
+/// as this holds of any two arrays, it copies nothing else.
 pub fn the_other_way_round_has_the_same_copies<
     G: ChunkGridTraits,
     E: ChunkKeyEncodingTraits,

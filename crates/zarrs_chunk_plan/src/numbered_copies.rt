@@ -32,10 +32,10 @@ use zarrs_chunks::{ArrayIndicesTinyVec, ChunkGridTraits};
 pub struct SomeCopies {
     /// How many chunks of the target something is copied into in all; 18446744073709551615 means that many or more.
     pub in_all: u64,
-    /// What is copied into those that were asked for, in row-major order of these chunks: the chunk of the target, with the elements that it takes as a
-    /// box of the chunk and as a box that is counted from the first element that is copied, so for a rechunking as a box of the array; and all parts of
-    /// the source's chunks that have these elements. Each part goes to the box that it has as `in_subset`, which is counted from the first element of
-    /// the target's `in_chunk`; for a rechunking that is the chunk's first one.
+    /// What is copied into those that were asked for, in row-major order of these chunks: the chunk of the target, with the elements that it takes as
+    /// a box of the chunk and as a box that is counted from the first element that is copied, so for a rechunking as a box of the array; and all
+    /// parts of the source's chunks that have these elements. Each part goes to the box that it has as `in_subset`, which is counted from the first
+    /// element of the target's `in_chunk`; for a rechunking that is the chunk's first one.
     pub groups: Vec<(Part, Vec<Part>)>,
 }
 
@@ -81,9 +81,9 @@ pub fn some_copies<
     Ok(some_groups(alloc, source, target, &array, &array, &targets, asked)?)
 }
 
-/// Of the groups that [`copies_of_region`](crate::copies_of_region) gives the one with the number `first`, counted from 0, and those after it, at most
-/// `most` in all, each with all of its parts. Those before it aren't made, so the copy of a region can be taken a page at a time, or shared out. The parts
-/// of a group are held at once, however many they are. An empty region has no groups.
+/// Of the groups that [`copies_of_region`](crate::copies_of_region) gives the one with the number `first`, counted from 0, and those after it, at
+/// most `most` in all, each with all of its parts. Those before it aren't made, so the copy of a region can be taken a page at a time, or shared out.
+/// The parts of a group are held at once, however many they are. An empty region has no groups.
 ///
 /// Only groups whose number is below 18446744073709551615 can be asked for.
 ///
@@ -126,8 +126,8 @@ pub fn some_copies_of_region<
     Ok(some_groups(alloc, source, target, region, &moved, &targets, asked)?)
 }
 
-/// How many chunks lie in a box of chunk numbers, and what goes into some of them: from the one with a number on, at most so many. Each takes some of a
-/// box of elements, which goes from the source's array to the target's.
+/// How many chunks lie in a box of chunk numbers, and what goes into some of them: from the one with a number on, at most so many. Each takes some of
+/// a box of elements, which goes from the source's array to the target's.
 ///
 /// # Errors
 /// Out of memory.

@@ -136,8 +136,8 @@ fn fit_together<G: ChunkGridTraits, H: ChunkGridTraits>(
     Ok(())
 }
 
-/// The box of a chunk of the target that a part of the source goes to, of one group of a walk: `in_subset` of the part is counted from the first element
-/// of `in_chunk` of the target's, and this box from the chunk's first one.
+/// The box of a chunk of the target that a part of the source goes to, of one group of a walk: `in_subset` of the part is counted from the first
+/// element of `in_chunk` of the target's, and this box from the chunk's first one.
 ///
 /// # Errors
 /// Out of memory; or the box would end past 18446744073709551615, which that of two parts of one group doesn't.

@@ -41,7 +41,8 @@
 //! rechunking of an array, [`Grid::copies_of_region`] the copy of a box to another array, and the
 //! three `iter_` methods walk over all chunks; they read page by page. [`Grid::counts`] and
 //! [`Grid::counts_of_region`] tell how much is copied, and where a share of it lies;
-//! [`Grid::changed_chunks`] which chunks another shape of the array changes.
+//! [`Grid::changed_chunks`] which chunks another shape of the array changes; [`byte_ranges`] which
+//! bytes of an uncompressed chunk hold a part.
 //! [`answer`] takes any question of the library as text. Some methods ask so themselves, and
 //! [say so](Grid#questions).
 //!
@@ -77,6 +78,7 @@
 #![warn(missing_debug_implementations)]
 
 mod answers;
+mod bytes;
 #[allow(unsafe_code)]
 mod calls;
 mod changes;
@@ -98,6 +100,7 @@ mod subset;
 mod walks;
 
 pub use answers::answer;
+pub use bytes::{byte_ranges, ByteRanges, MemoryOrder, Ranges};
 pub use changes::ChangedChunks;
 pub use copies::{ChunkCopies, Copies, Source};
 pub use counts::Counts;

@@ -44,7 +44,16 @@ pub(crate) fn line_within(
     members: &[(&str, Member<'_>)],
     room: (usize, usize),
 ) -> Result<String> {
-    let line = answers::line_within(question(grid, call, members)?.as_str(), room)?;
+    answered(answers::line_within(question(grid, call, members)?.as_str(), room)?)
+}
+
+/// The answer to a question that is no grid's.
+pub(crate) fn answer_to(question: &str) -> Result<String> {
+    answered(answers::line_within(question, (answers::USUAL, answers::LONGEST))?)
+}
+
+/// The line, or the words of a call without an answer.
+fn answered(line: String) -> Result<String> {
     for beginning in ["refused: ", "unreadable: "] {
         if let Some(words) = line.strip_prefix(beginning) {
             return Err(Error::Refused { words: text_of(words)? });

@@ -105,6 +105,13 @@ impl Reader<'_> {
         Ok(())
     }
 
+    /// A list of any length.
+    pub(crate) fn numbers(&mut self) -> Result<Vec<u64>> {
+        let mut numbers = Vec::new();
+        self.each(|reader| push(&mut numbers, reader.number()?))?;
+        Ok(numbers)
+    }
+
     pub(crate) fn number(&mut self) -> Result<u64> {
         let end = self.rest.find(|letter: char| !letter.is_ascii_digit());
         let (digits, rest) = self.rest.split_at(end.unwrap_or(self.rest.len()));

@@ -4,6 +4,7 @@
 mod common;
 
 use std::collections::BTreeMap;
+use std::num::NonZeroU64;
 
 use common::json::{
     written, written_box, written_changes, written_copies, written_counts, written_items,
@@ -11,7 +12,7 @@ use common::json::{
 };
 use common::vectors::vectors;
 use common::GREATEST;
-use zarrs_chunks::{answer, ArraySubset, Encoding, Error, Grid};
+use zarrs_chunks::{answer, byte_ranges, ArraySubset, Encoding, Error, Grid, MemoryOrder};
 
 #[test]
 fn each_vector_is_answered() {
@@ -27,17 +28,16 @@ fn each_vector_is_answered() {
 }
 
 /// So many vectors at least are put to methods, of so many calls. The others are those whose question
-/// can't be read, walks over boxes from a number on, which counts chunks and not boxes, and bytes of
-/// chunks.
+/// can't be read, and walks over boxes from a number on, which counts chunks and not boxes.
 const PUT: usize = 1315;
-const CALLS: usize = 29;
+const CALLS: usize = 30;
 
 #[test]
 fn each_vector_that_a_method_can_be_asked_is_answered_by_it() {
     let (mut put, mut left, mut wrong) = (BTreeMap::new(), 0, Vec::new());
     for vector in vectors() {
         let asked = Json(&vector.question);
-        if is_unread(&vector.line) || is_box_walk_from_a_number(asked) || has_no_method(asked) {
+        if is_unread(&vector.line) || is_box_walk_from_a_number(asked) {
             left += 1;
             continue;
         }
@@ -67,11 +67,6 @@ fn is_unread(line: &str) -> bool {
 fn is_box_walk_from_a_number(asked: Json<'_>) -> bool {
     let walks = ["\"iter_chunk_subsets\"", "\"iter_chunk_indices_and_subsets\""];
     walks.contains(&asked.member("call").0) && asked.get("first").is_some()
-}
-
-/// There is no method for the bytes of a chunk: its questions are put as text alone.
-fn has_no_method(asked: Json<'_>) -> bool {
-    asked.member("call").0 == "\"byte_ranges\""
 }
 
 /// The answer of a method, by the line that answers the question.
@@ -104,6 +99,9 @@ fn expected(call: &str, asked: Json<'_>, line: String) -> String {
 
 /// What a method answers, as the vectors have it, or the words of its error.
 fn by_method(call: &str, asked: Json<'_>) -> Result<String, String> {
+    if call == "byte_ranges" {
+        return ranges_of(asked);
+    }
     let of = asked.get("of").unwrap_or(Json("[]"));
     if call == "encode" || call == "decode" {
         let encoding = encoding_in(asked)?;
@@ -211,6 +209,23 @@ fn by_method(call: &str, asked: Json<'_>) -> Result<String, String> {
         }
         _ => panic!("no method for the call {call}"),
     }
+}
+
+/// The byte ranges of a box, as the vectors have them.
+fn ranges_of(asked: Json<'_>) -> Result<String, String> {
+    let order = match asked.get("memory_order").map(Json::text).as_deref() {
+        Some("F") => MemoryOrder::F,
+        _ => MemoryOrder::C,
+    };
+    let item_size = NonZeroU64::new(asked.member("item_size").number()).unwrap();
+    let elements = box_of(asked.member("of"))?;
+    let edges = asked.member("chunk_shape").list();
+    let found = told(byte_ranges(&edges, &elements, item_size, order))?;
+    Ok(or_null(found, |ranges| {
+        let (counts, strides) = (written(&ranges.counts), written(&ranges.strides));
+        let (first, length) = (ranges.first, ranges.length);
+        format!(r#"{{"counts":{counts},"first":{first},"length":{length},"strides":{strides}}}"#)
+    }))
 }
 
 fn grid_in(array: Json<'_>, stored: Json<'_>) -> Result<Grid, String> {

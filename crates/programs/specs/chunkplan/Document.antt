@@ -1,9 +1,8 @@
--- The program's document: a JSON object with the members `shape`, `chunk_grid` and `chunk_key_encoding`. Besides it has, for a read, `subset` and `clip`,
--- if they are wanted, and `item_size`, if byte ranges are, with `memory_order` and `max_ranges`; for a rechunking, `target`, and `chunks` or `order` if it is wanted; for the copy of a region, `target` and `subset`, and `at` if it
--- is wanted.
--- `share` or `counts` says what is wanted of the plan, if not all lines; beside a target, `keys` that keys of its store stand behind the document. For a
--- resize it has `resize`, and `keep` if it is wanted, and none of these.
--- What else an array's `zarr.json` has may stand in it and in the target.
+-- The program's document: a JSON object with the members `shape`, `chunk_grid` and `chunk_key_encoding`. Besides it has, for a read, `subset` and
+-- `clip`, if they are wanted, and `item_size`, if byte ranges are, with `memory_order` and `max_ranges`; for a rechunking, `target`, and `chunks` or
+-- `order` if it is wanted; for the copy of a region, `target` and `subset`, and `at` if it is wanted. `share` or `counts` says what is wanted of the
+-- plan, if not all lines; beside a target, `keys` that keys of its store stand behind the document. For a resize it has `resize`, and `keep` if it is
+-- wanted, and none of these. What else an array's `zarr.json` has may stand in it and in the target.
 use Rattle.std.specs.Prelude.{◌≡◌, ◌⊎◌, ℕ, Bool, true, false, if◌then◌else◌, List, [], ◌∷◌, Option, Some, None, IsSome, bytes_eq, codes, MatchOption}
 use Rattle.std.specs.Prelude.{option_and_then, option_map}
 use Rattle.std.specs.Int.NonZero.{non_zero_u64_get}
@@ -35,10 +34,10 @@ pub record Ranges : Type 0 where
   pub order : MemoryOrder
   pub most : ℕ
 
--- What is asked for: a read of a box of elements, or of all, as it is or clipped to the array, and whether byte ranges are wanted; a rechunking into chunks of a box, or into all; one in
--- the order of the source, a line for each of its chunks;
--- the copy of a region, a box of elements, to an array of a shape that is stored in some way, to begin there at an index, where one is given; or a
--- resize of the array to another shape, and whether the chunks are wanted too that stay as they are stored.
+-- What is asked for: a read of a box of elements, or of all, as it is or clipped to the array, and whether byte ranges are wanted; a rechunking into
+-- chunks of a box, or into all; one in the order of the source, a line for each of its chunks; the copy of a region, a box of elements, to an array
+-- of a shape that is stored in some way, to begin there at an index, where one is given; or a resize of the array to another shape, and whether the
+-- chunks are wanted too that stay as they are stored.
 pub data Task : Type 0 where
   read_of : Option Box → (clip : Bool) → Option Ranges → Task
   rechunk_to : Stored → Option Box → Task

@@ -99,8 +99,8 @@ IsRangesMisfit d ItemSizeOfCounts =
 IsRangesMisfit d (NoItemSize told) = (get (codes "item_size") d ≡ None) × IsFirstThere members_of_item_size d told.now
 IsRangesMisfit d _ = ⊥
 
--- The first member that doesn't go with the others: with `resize`, the first of `not_of_resize`; without it, `keep`; then as of the task; then `keys`;
--- then `order`; then as of byte ranges; last, a share beside counts.
+-- The first member that doesn't go with the others: with `resize`, the first of `not_of_resize`; without it, `keep`; then as of the task; then
+-- `keys`; then `order`; then as of byte ranges; last, a share beside counts.
 abbrev pub IsMisfit : Data → RunFault → Type 0
 IsMisfit d (NotOfResize told) = IsSome (get (codes "resize") d) × IsFirstThere not_of_resize d told.now
 IsMisfit d KeepOfNoResize = (get (codes "resize") d ≡ None) × IsSome (get (codes "keep") d)
@@ -163,8 +163,8 @@ pub data HasRangesFault (d : Data) (fault : RunFault) : Type 0 where
 abbrev pub IsTargetStoredFault : Data → DocumentFault → Type 0
 IsTargetStoredFault target = IsStoredFault target (codes "target.chunk_grid") (codes "target.chunk_key_encoding")
 
--- The first fault of what is asked for with this target. Of a rechunking: the target isn't of the array; its own two members; `order`; `chunks`. Of the
--- copy of a region: the target isn't of the array's type; its shape; its own two members; `subset`; `at`.
+-- The first fault of what is asked for with this target. Of a rechunking: the target isn't of the array; its own two members; `order`; `chunks`. Of
+-- the copy of a region: the target isn't of the array's type; its shape; its own two members; `subset`; `at`.
 pub data IsTaskToFault (d target : Data) (fault : RunFault) : Type 0 where
   of_misfit : get (codes "subset") d ≡ None → IsTargetMisfit d target fault → IsTaskToFault d target fault
   of_target_stored : (told : DocumentFault) → get (codes "subset") d ≡ None → IsOfArray d target → IsTargetStoredFault target told
@@ -183,8 +183,8 @@ pub data IsTaskToFault (d target : Data) (fault : RunFault) : Type 0 where
   of_at : (stored : Stored) (region : ElementBox) → IsOfType d target → IsSome (shape_in target) → HasStored target stored
       → HasBox d (codes "subset") (Some region) → HasNumbersFault d (codes "at") fault → IsTaskToFault d target fault
 
--- The first fault of what is copied: its `subset`, its `clip` and its byte ranges, where there is no target; and else the target, and what is asked for
--- with it.
+-- The first fault of what is copied: its `subset`, its `clip` and its byte ranges, where there is no target; and else the target, and what is asked
+-- for with it.
 pub data IsCopyingFault (d : Data) (fault : RunFault) : Type 0 where
   of_subset : get (codes "target") d ≡ None → HasBoxFault d (codes "subset") fault → IsCopyingFault d fault
   of_clip : (subset : Option ElementBox) → get (codes "target") d ≡ None → HasBox d (codes "subset") subset → HasFlagFault d (codes "clip") fault

@@ -110,9 +110,9 @@ source_json first from =
     (member (codes "key") (string from.key)
     (member (codes "shape") (numbers_json from.shape.items) no_members)))))
 
--- In the order of the source, what a chunk of the source gives to one of the target: that chunk, the box of it, and the box of the source's chunk that
--- goes there, its key and its shape, and whether the box is all that it has of the array, so that nothing else writes it. What the source's chunk has of
--- the array begins at `first` in it.
+-- In the order of the source, what a chunk of the source gives to one of the target: that chunk, the box of it, and the box of the source's chunk
+-- that goes there, its key and its shape, and whether the box is all that it has of the array, so that nothing else writes it. What the source's
+-- chunk has of the array begins at `first` in it.
 abbrev pub taker_json : (first : List ℕ) → Part → Json
 taker_json first to =
     object (member (codes "chunk") (numbers_json to.chunk.items)

@@ -88,8 +88,8 @@ pub data IsFaultBeside (document : Document) (keys : List (List ℕ)) (fault : R
   of_keys : (target : ChunkGrid) (encoding : KeyEncoding) (groups : List Group) → ArePlanned document target encoding groups
       → IsKeysFault groups keys fault → IsFaultBeside document keys fault
 
--- The first fault of an input that has no plan: it is no document; or `keys` is true in a document that is more than the first line; or the document has
--- no plan. Where keys stand behind it: the first line is no document; or of it and the keys.
+-- The first fault of an input that has no plan: it is no document; or `keys` is true in a document that is more than the first line; or the document
+-- has no plan. Where keys stand behind it: the first line is no document; or of it and the keys.
 pub data IsFirstFault (input : List ℕ) (fault : RunFault) : Type 0 where
   no_document : (¬ HasKeysBehind (first_line input)) → IsInputFault input fault → IsFirstFault input fault
   long_document : (tree : Data) (document : Document) → (¬ HasKeysBehind (first_line input)) → IsJsonOf input tree → IsDocument tree document

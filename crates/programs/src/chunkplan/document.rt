@@ -103,9 +103,9 @@ pub(crate) struct Document {
 ///
 /// # Errors
 /// The first that applies: the input is no JSON, or no object; a member isn't known; one is missing; one doesn't go with the others; one isn't of its
-/// form, of `shape`, `counts`, `share`, `keys`, `chunk_grid`, `chunk_key_encoding`, and of `resize` and `keep`, of `subset`, `clip` and byte ranges, of `target`, `order` and `chunks`,
-/// or of `target`, `subset` and `at`; before its own members, the target has one that isn't known, or is of another array, or for a region of another data
-/// type. Or out of memory.
+/// form, of `shape`, `counts`, `share`, `keys`, `chunk_grid`, `chunk_key_encoding`, and of `resize` and `keep`, of `subset`, `clip` and byte ranges,
+/// of `target`, `order` and `chunks`, or of `target`, `subset` and `at`; before its own members, the target has one that isn't known, or is of
+/// another array, or for a region of another data type. Or out of memory.
 pub(crate) fn parse(alloc: Global, input: &[u8]) -> Result<Document, RunFault>
     ensures { MatchResult result
         (λ document. (tree : Data) × IsJsonOf input.now tree

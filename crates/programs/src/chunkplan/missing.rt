@@ -32,8 +32,8 @@ use zarrs_chunks::ChunkGridTraits;
 /// key that is none of the target's.
 ///
 /// # Errors
-/// Those of a plan; the plan has too many lines; a read failed; a key is no text; a write failed; or out of memory. Nothing has been written where it is
-/// none of the last two.
+/// Those of a plan; the plan has too many lines; a read failed; a key is no text; a write failed; or out of memory. Nothing has been written where it
+/// is none of the last two.
 pub(crate) fn write_beside_keys<R: Read, W: Write>(
     alloc: Global,
     document: Document,
@@ -96,8 +96,8 @@ pub(crate) fn write_beside_keys<R: Read, W: Write>(
     }
 }
 
-/// Reads the keys in the lines that a reader has left, and sends the lines of a share of all that a walk gives which is at its beginning, without those
-/// of chunks that are stored under one of the keys, and would be written whole.
+/// Reads the keys in the lines that a reader has left, and sends the lines of a share of all that a walk gives which is at its beginning, without
+/// those of chunks that are stored under one of the keys, and would be written whole.
 fn write_missing<
     G: ChunkGridTraits,
     E: ChunkKeyEncodingTraits,

@@ -45,9 +45,9 @@ use zarrs_chunks::{ChunkGrid, ChunkGridTraits};
 /// Sends the plan that a document asks for, line by line.
 ///
 /// # Errors
-/// The grid or the encoding can't be made, or those of the target, or the grid of the new shape; the box has another number of dimensions, or no cover,
-/// where it isn't clipped; the region doesn't fit the two arrays; a write failed; or out of memory. Nothing has been written
-/// where it is none of the last two.
+/// The grid or the encoding can't be made, or those of the target, or the grid of the new shape; the box has another number of dimensions, or no
+/// cover, where it isn't clipped; the region doesn't fit the two arrays; a write failed; or out of memory. Nothing has been written where it is none
+/// of the last two.
 pub(crate) fn write_plan<W: Write>(
     alloc: Global,
     document: Document,
@@ -354,8 +354,8 @@ fn write_counts<W: Write>(
     send_text(&line, held_back, writer)
 }
 
-/// Sends what is wanted of the plan of a rechunking into the chunks of a box. In the order of the source, what is given as the source is the array as it
-/// is to be stored.
+/// Sends what is wanted of the plan of a rechunking into the chunks of a box. In the order of the source, what is given as the source is the array as
+/// it is to be stored.
 fn write_rechunking<
     G: ChunkGridTraits,
     E: ChunkKeyEncodingTraits,
