@@ -13,10 +13,11 @@ use Rattle.std.proofs.lemmas.Bool.{cases_lt, le-leb, lt-leb}
 use Rattle.zarrs_chunk_base.specs.Greatest.{greatest}
 use Rattle.zarrs_chunk_plan.specs.Counted.{counted}
 use Rattle.zarrs_chunk_plan.specs.declared.part.Part.{Part}
+use Rattle.zarrs_chunk_plan.specs.Region.{shifted}
 use Rattle.programs.specs.chunkplan.Document.{Ranges}
 use Rattle.programs.specs.chunkplan.Line.{box_json, chunk_json, count_json, end_members, group_json, group_line, lines_from, numbers_json, part_json}
-use Rattle.programs.specs.chunkplan.Line.{piece_json, pieces_items}
-use Rattle.programs.specs.chunkplan.seen.Pieces.{begin_of_line, begin_tokens, comma_before, end_of_line, end_tokens, piece_text, ranges_tokens}
+use Rattle.programs.specs.chunkplan.Line.{piece_json, pieces_items, place_name}
+use Rattle.programs.specs.chunkplan.seen.Pieces.{begin_of_line, begin_tokens, comma_before, end_of_line, end_tokens, piece_text, ranges_tokens, whole_tokens}
 use Rattle.programs.specs.declared.chunkplan.line.Order.{Order}
 use Rattle.programs.specs.declared.chunkplan.line.Order.TheVariants.{Source, Target}
 
@@ -67,8 +68,7 @@ begun_again b ts us none = fold-append (λ _ t. ends t) b ts us ∙ none (ended 
 module _ (of : Part) where
   piece_printed : (order : Order) (n : ℕ) (part : Part)
       → print_from (some_came n) (json_tokens (piece_json order of.in_chunk.start part)) ≡ piece_text order of (counted n) part
-  piece_printed Target n part = first_printed _ n begin_object refl
-  piece_printed Source n part = first_printed _ n begin_object refl
+  piece_printed order n part = first_printed _ n begin_object refl
 
   pieces_texts : (order : Order) (n : ℕ) (parts : List Part) (ts : List Token)
       → print_from (some_came n) (items_tokens (pieces_items order of.in_chunk.start parts) ++ ts)
@@ -137,3 +137,13 @@ pub part_tokens : (at of : Option ℕ) (wanted : Option Ranges) (part : Part) �
     ++ key (codes "whole") ∷ boolean part.whole ∷ end_object ∷ [])))))))
 part_tokens at of None part = refl
 part_tokens at of (Some wanted) part = refl
+
+-- the tokens of a piece
+pub piece_tokens : (order : Order) (first : List ℕ) (part : Part) → json_tokens (piece_json order first part)
+    ≡ begin_object ∷ key (codes "chunk") ∷ (json_tokens (numbers_json part.chunk.items)
+    ++ key (codes "in_chunk") ∷ (json_tokens (box_json part.in_chunk)
+    ++ key (place_name order) ∷ (json_tokens (box_json (shifted first part.in_subset))
+    ++ key (codes "key") ∷ string part.key ∷ key (codes "shape") ∷ (json_tokens (numbers_json part.shape.items)
+    ++ (whole_tokens order part ++ end_object ∷ [])))))
+piece_tokens Target first part = refl
+piece_tokens Source first part = refl

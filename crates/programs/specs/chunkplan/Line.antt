@@ -100,32 +100,25 @@ read_lines wanted share parts =
 
 -- ---- a rechunking, and the copy of a region
 
--- What a chunk of the target gets of one of the source: the chunk, a box of it, the box of the target's chunk that it goes to, the key and the shape.
--- What the chunk gets in all begins at `first` in it.
-abbrev pub source_json : (first : List ℕ) → Part → Json
-source_json first from =
-    object (member (codes "chunk") (numbers_json from.chunk.items)
-    (member (codes "in_chunk") (box_json from.in_chunk)
-    (member (codes "in_target") (box_json (shifted first from.in_subset))
-    (member (codes "key") (string from.key)
-    (member (codes "shape") (numbers_json from.shape.items) no_members)))))
+-- how the box of the line's chunk is called in a piece of the line
+abbrev pub place_name : Order → List ℕ
+place_name Target = codes "in_target"
+place_name Source = codes "in_source"
 
--- In the order of the source, what a chunk of the source gives to one of the target: that chunk, the box of it, and the box of the source's chunk
--- that goes there, its key and its shape, and whether the box is all that it has of the array, so that nothing else writes it. What the source's
--- chunk has of the array begins at `first` in it.
-abbrev pub taker_json : (first : List ℕ) → Part → Json
-taker_json first to =
-    object (member (codes "chunk") (numbers_json to.chunk.items)
-    (member (codes "in_chunk") (box_json to.in_chunk)
-    (member (codes "in_source") (box_json (shifted first to.in_subset))
-    (member (codes "key") (string to.key)
-    (member (codes "shape") (numbers_json to.shape.items)
-    (member (codes "whole") (boolean to.whole) no_members))))))
+-- in the order of the source, whether a piece is all that its chunk of the target has of the array, so that nothing else writes it
+abbrev pub whole_members : Order → Part → Members
+whole_members Target part = no_members
+whole_members Source part = member (codes "whole") (boolean part.whole) no_members
 
--- a piece of a line in either order
+-- What the chunk of a line shares with one of the other array: that one, the box of it, the box of the line's chunk, its key and its shape. In the order
+-- of the target, the line's chunk gets it; in that of the source, it gives it. What the line's chunk has in all begins at `first` in it.
 abbrev pub piece_json : Order → (first : List ℕ) → Part → Json
-piece_json Target first part = source_json first part
-piece_json Source first part = taker_json first part
+piece_json order first part =
+    object (member (codes "chunk") (numbers_json part.chunk.items)
+    (member (codes "in_chunk") (box_json part.in_chunk)
+    (member (place_name order) (box_json (shifted first part.in_subset))
+    (member (codes "key") (string part.key)
+    (member (codes "shape") (numbers_json part.shape.items) (whole_members order part))))))
 
 abbrev pub pieces_items : Order → (first : List ℕ) → List Part → Items
 pieces_items order first [] = no_items

@@ -6,9 +6,9 @@ ghost use Rattle.json.specs.Tree.{json_tokens};
 ghost use Rattle.programs.specs.chunkplan.Document.{ranges_in};
 ghost use Rattle.programs.specs.chunkplan.Keys.{foreign_json};
 ghost use Rattle.programs.specs.chunkplan.Line.{box_json, change_line, change_word, count_json, held_json, held_shape_json, line_of, numbers_json};
-ghost use Rattle.programs.specs.chunkplan.Line.{chunk_json, part_json, source_json, taker_json};
+ghost use Rattle.programs.specs.chunkplan.Line.{chunk_json, part_json, place_name};
 ghost use Rattle.programs.specs.chunkplan.seen.Added.{Adds};
-ghost use Rattle.programs.specs.chunkplan.seen.Pieces.{begin_of_line, comma_before, end_of_line, ranges_tokens, text_as};
+ghost use Rattle.programs.specs.chunkplan.seen.Pieces.{begin_of_line, comma_before, end_of_line, piece_text, ranges_tokens, text_as, whole_tokens};
 ghost use Rattle.programs.specs.declared.chunkplan.line.Order.TheVariants.{Source, Target};
 
 use crate::chunkplan::part_ranges::write_ranges;
@@ -53,8 +53,7 @@ pub(crate) fn part_text(
 {
     match form {
         Form::Line(of, ranges) => part_line(alloc, part, number, of, &ranges),
-        Form::Piece(Order::Target, to) => source_text(alloc, part, number, to),
-        Form::Piece(Order::Source, from) => taker_text(alloc, part, number, from),
+        Form::Piece(order, of) => piece_text(alloc, part, number, order, of),
     }
 }
 
@@ -100,49 +99,47 @@ fn write_wanted(
     }
 }
 
-/// What a chunk of the target, of which this is the part that is written, gets of one of the source, with a comma before it where it isn't the first.
-fn source_text(
+/// A piece of the line of a chunk, of which `of` is the part that the line is about, with a comma before it where it isn't the first.
+fn piece_text(
     alloc: Global,
     part: &Part,
     number: Option<u64>,
-    to: &Part,
+    order: Order,
+    of: &Part,
 ) -> Result<Vec<u8>, AllocError>
-    ensures { IfOk result (λ text. text.items ≡ comma_before number
-        ++ print (json_tokens (source_json to.now.in_chunk.start part.now))) }
+    ensures { IfOk result (λ text. text.items ≡ piece_text order of.now number part.now) }
 {
-    let place = place_in_target(alloc, to, part)?;
+    let place = place_in_target(alloc, of, part)?;
     let mut json = Writer::new(begin_piece(alloc, number)?);
     json.begin_object()?;
     write_numbers(&mut json, "chunk", part.chunk.as_slice())?;
     write_box(&mut json, "in_chunk", &part.in_chunk)?;
-    write_box(&mut json, "in_target", &place)?;
+    write_box(&mut json, place_name(order), &place)?;
     write_key(&mut json, &part.key)?;
     write_numbers(&mut json, "shape", part.shape.as_slice())?;
+    write_whole_of_piece(&mut json, order, part)?;
     json.end_object()?;
     Ok(json.into_inner())
 }
 
-/// What a chunk of the source, of which this is the part that is copied, gives to one of the target, with a comma before it where it isn't the first.
-fn taker_text(
-    alloc: Global,
-    part: &Part,
-    number: Option<u64>,
-    from: &Part,
-) -> Result<Vec<u8>, AllocError>
-    ensures { IfOk result (λ text. text.items ≡ comma_before number
-        ++ print (json_tokens (taker_json from.now.in_chunk.start part.now))) }
+/// How the box of the line's chunk is called in a piece of the line.
+fn place_name(order: Order) -> &'static str
+    ensures { result.now ≡ place_name order }
 {
-    let place = place_in_target(alloc, from, part)?;
-    let mut json = Writer::new(begin_piece(alloc, number)?);
-    json.begin_object()?;
-    write_numbers(&mut json, "chunk", part.chunk.as_slice())?;
-    write_box(&mut json, "in_chunk", &part.in_chunk)?;
-    write_box(&mut json, "in_source", &place)?;
-    write_key(&mut json, &part.key)?;
-    write_numbers(&mut json, "shape", part.shape.as_slice())?;
-    write_whole(&mut json, part.whole)?;
-    json.end_object()?;
-    Ok(json.into_inner())
+    match order {
+        Order::Target => "in_target",
+        Order::Source => "in_source",
+    }
+}
+
+/// Writes the member `whole` of a piece, which it has in the order of the source.
+fn write_whole_of_piece(json: &mut Writer, order: Order, part: &Part) -> Result<(), AllocError>
+    ensures { OnOk result (Adds json.old json.new (whole_tokens order part.now)) }
+{
+    match order {
+        Order::Target => Ok(()),
+        Order::Source => write_whole(json, part.whole),
+    }
 }
 
 /// What stands before a piece of a line: a comma, where it isn't the first.

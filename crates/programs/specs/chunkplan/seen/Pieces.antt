@@ -1,7 +1,7 @@
 -- A line in the pieces in which it is sent.
 use Rattle.std.specs.Prelude.{ℕ, zero, List, [], ◌∷◌, ◌++◌, codes, Option, None, Some, option_map}
 use Rattle.json.specs.Print.{print}
-use Rattle.json.specs.Token.{Token, begin_array, begin_object, end_array, end_object, key}
+use Rattle.json.specs.Token.{Token, begin_array, begin_object, boolean, end_array, end_object, key}
 use Rattle.json.specs.Tree.{json_tokens, members_tokens}
 use Rattle.zarrs_chunk_plan.specs.declared.part.Part.{Part}
 use Rattle.programs.specs.chunkplan.Document.{Ranges, ranges_in}
@@ -29,6 +29,11 @@ text_as (Piece order of) at part = piece_text order of.now at part
 abbrev pub ranges_tokens : Option Ranges → Part → List Token
 ranges_tokens None part = []
 ranges_tokens (Some wanted) part = key (codes "ranges") ∷ json_tokens (part_ranges_json wanted part)
+
+-- the tokens of the last members of a piece
+abbrev pub whole_tokens : Order → Part → List Token
+whole_tokens Target part = []
+whole_tokens Source part = key (codes "whole") ∷ boolean part.whole ∷ []
 
 -- the tokens before the pieces of a line, and those behind them
 abbrev pub begin_tokens : Order → (at of : Option ℕ) → Part → List Token

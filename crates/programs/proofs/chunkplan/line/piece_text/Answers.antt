@@ -1,0 +1,23 @@
+use Rattle.std.proofs.Common.{◌++◌, ap}
+use Rattle.json.specs.Print.{print}
+use Rattle.programs.specs.chunkplan.seen.Pieces.{comma_before}
+use Rattle.programs.proofs.chunkplan.Pieces.{piece_tokens}
+use Rattle.programs.proofs.chunkplan.Tokens.{then, wrote}
+use Rattle.programs.proofs.chunkplan.line.piece_text.Goals as goal
+
+pub returns : goal.returns
+returns c =
+    let chunk = rw c.as_slice.ensures at c.in_ok-write_numbers.ensures in
+    let shape = rw c.as_slice-2.ensures at c.in_ok-write_numbers-2.ensures in
+    let place = rw (c.in_ok-place.ensures, c.place_name.ensures) at c.in_ok-write_box-2.ensures in
+    let all =
+    then _ _ _ _ _ (wrote _ _ _ c.in_ok-begin_object.ensures)
+    (then _ _ _ _ _ chunk
+    (then _ _ _ _ _ c.in_ok-write_box.ensures
+    (then _ _ _ _ _ place
+    (then _ _ _ _ _ c.in_ok-write_key.ensures
+    (then _ _ _ _ _ shape
+    (then _ _ _ _ _ c.in_ok-write_whole_of_piece.ensures (wrote _ _ _ c.in_ok-end_object.ensures)))))))
+    in
+    rw (piece_tokens c.args.order c.args.of.now.in_chunk.start c.args.part.now)
+    (rw (all.tokens, all.before, c.new-json.ensures.tokens, c.new-json.ensures.before, c.in_ok-begin_piece.ensures) at c.into_inner.ensures.items)
