@@ -16,13 +16,14 @@
 //! | What a walk that `copies_of_region` answers gives, one group after another, is the copy of the region | [`the_walk_gives_the_region`] |
 //! | Each element of a region is moved, place to place, by exactly one copy | [`each_element_of_a_region_is_copied_once`] |
 //! | Each chunk that takes some of a region has one group; one that is whole is written whole | [`each_chunk_of_a_region_has_one_group`] |
+//! | Byte ranges of the form that is answered have the bytes of the box's elements, and no other | [`byte_ranges_have_the_bytes_of_the_box`] |
 //! | Grids that one configuration makes of two array shapes share their chunks | [`grids_of_one_configuration_share_their_chunks`] |
 //! | What a walk that `changes` answers gives, one after another, is the plan of the resize | [`the_walk_gives_the_resize`] |
 //! | Each chunk of which a change is asked for has one, and no two are under one key | [`each_chunk_has_one_change`] |
 //! | A chunk that is kept holds each element at the place where it held it | [`a_kept_chunk_is_as_it_was`] |
 //! | An element that both arrays have stays in its chunk, at its place; its chunk is kept or written again | [`each_element_stays_in_its_chunk`] |
 //! | The chunk of an element that leaves is written again or deleted, that of one that comes is written again or new | [`each_element_that_leaves_or_comes_changes_its_chunk`] |
-ghost use Rattle.std.specs.Prelude.{◌≡◌, ◌≢◌, ◌↔◌, ◌⊎◌, ◌<◌, ℕ, [], Bool, IsTrue, true, false, List, Ok, Some, length, map};
+ghost use Rattle.std.specs.Prelude.{◌≡◌, ◌≢◌, ◌↔◌, ◌⊎◌, ◌<◌, ℕ, [], Bool, IsTrue, true, false, List, Ok, Option, Some, length, map, option_map};
 ghost use Rattle.std.specs.Iterator.{Drains};
 ghost use Rattle.std.specs.List.{AllPairs, AllZip, Contains, flat_map, range_with_len};
 ghost use Rattle.zarrs_chunk_axes.specs.InBounds.{AreBelow};
@@ -34,12 +35,16 @@ ghost use Rattle.zarrs_chunk_base.specs.Metadata.{Extension};
 ghost use Rattle.zarrs_chunks.specs.GridKinds.{IsGrid};
 ghost use Rattle.zarrs_chunks.specs.Subsets.{IsCover};
 ghost use Rattle.zarrs_chunks.specs.Walks.{chunks_in, counted_from};
+ghost use Rattle.zarrs_chunk_plan.specs.Bytes.{FindsRanges};
 ghost use Rattle.zarrs_chunk_plan.specs.Plan.{HasElement, IsPart, IsPlan};
 ghost use Rattle.zarrs_chunk_plan.specs.Rechunking.{AreTargets, Goes, Group, IsExchanged, IsRechunking, Moves, ShareOut, all_chunks_box, array_box, copies_of};
 ghost use Rattle.zarrs_chunk_plan.specs.Region.{IsRegionCopy, MovesTo, moved};
 ghost use Rattle.zarrs_chunk_plan.specs.Resize.{AreChanged, AreResized, HasElementOf, IsAsked, IsChange, IsChanged, IsKept, IsResizePlan, IsUsed};
 ghost use Rattle.zarrs_chunk_plan.specs.declared.resize.Change.TheVariants.{Delete, Keep, New, Rewrite};
 ghost use Rattle.zarrs_chunk_plan.specs.Shares.{numbered_share};
+ghost use Rattle.zarrs_chunk_plan.specs.Strided.{form_of, ranges_of};
+ghost use Rattle.zarrs_chunk_plan.specs.declared.bytes.ByteRanges.{ByteRanges as ByteRangesValue};
+ghost use Rattle.zarrs_chunk_plan.specs.declared.bytes.MemoryOrder.{MemoryOrder as MemoryOrderValue};
 ghost use Rattle.zarrs_chunk_plan.specs.seen.Changes.{AreChangesToCome, CanChange, GivesChange, IsAboutResize, changes_to_come};
 ghost use Rattle.zarrs_chunk_plan.specs.seen.Copies.{AreGroupsToCome, AreMovesToCome, CanCopy, CanMove, GivesCopies, HasAllParts, IsAboutCopies, first_of, targets_to_come};
 ghost use Rattle.zarrs_chunk_plan.specs.seen.Parts.{AnswersNoParts, AnswersParts, ArePartsToCome, GivesPart, IsAbout, MeetSubset};
@@ -506,4 +511,14 @@ pub fn each_element_that_leaves_or_comes_changes_its_chunk<G: ChunkGridTraits, H
         → (¬ HasElementOf (G.dimensions before.now) chunk index) → (what : Change)
         → IsChanged (G.dimensions before.now) (H.dimensions after.now) chunk what
         → (what ≡ Rewrite) ⊎ (what ≡ New) }
+{}
+
+/// Byte ranges of the form that is answered of a box of a chunk, by its edges, have the bytes of the box's elements and no other: they ascend, no byte is
+/// in two, and no two can be joined. None are answered exactly where the box doesn't lie in the chunk, or isn't empty and no number counts the chunk's
+/// bytes.
+pub fn byte_ranges_have_the_bytes_of_the_box()
+    ensures { (item : ℕ) → 0 < item → (order : MemoryOrderValue) → (edges start shape : List ℕ)
+        → (found : Option ByteRangesValue) → option_map form_of found
+        ≡ ranges_of item order edges start shape
+        → FindsRanges item order edges start shape found }
 {}

@@ -4,6 +4,7 @@ use std::num::NonZeroU64;
 use std::process::Abort;
 use std::test::Fail;
 use zarrs_chunk_base::{ArraySubset, Refusal};
+use zarrs_chunk_plan::laws::byte_ranges_have_the_bytes_of_the_box;
 use zarrs_chunk_plan::{ByteRanges, MemoryOrder, byte_ranges};
 
 /// A box, as its start and its shape.
@@ -105,6 +106,7 @@ fn ranges_are_listed_up_to_a_number(rt: HostRuntime) -> Result<(), Fail> {
     assert!(&rt; starts.is_empty(), "a range of an empty box");
     let starts = starts_of(rt.alloc(), (&[0, 0, 0], &[2, 3, 4]), 0)?;
     assert!(&rt; starts.is_none(), "more than none");
+    byte_ranges_have_the_bytes_of_the_box();
     Ok(())
 }
 
