@@ -1,18 +1,19 @@
 -- A rechunking the other way round has the same copies.
-use Rattle.std.proofs.Common.{◌≡◌, ◌↔◌, ◌∙◌, ℕ, List, [], ◌∷◌, Contains, ap, ap₂, refl, subst, sym, arith}
-use Rattle.std.specs.List.{AllByRecursion}
+use Rattle.std.proofs.Common.{◌≡◌, ◌↔◌, ◌⊎◌, ◌∙◌, ℕ, List, [], ◌∷◌, Contains, ap, ap₂, IsTrue, refl, subst, sym, arith, ⊎_elim}
+use Rattle.std.specs.List.{AllByRecursion, AllPairs}
 use Rattle.zarrs_chunk_base.specs.ArraySubset.{Box, IsInside}
 use Rattle.zarrs_chunk_base.specs.Dimension.{Dimension, InBox, IsChain, IsOrigin, StartsAt, array_sizes}
 use Rattle.zarrs_chunk_base.proofs.InEach.{length_values}
 use Rattle.zarrs_chunk_axes.specs.InBounds.{AreBelow}
 use Rattle.zarrs_chunks.specs.Walks.{chunks_in, counted_from}
-use Rattle.zarrs_chunks.proofs.ChunksInBoxes.{are_those_inside}
+use Rattle.zarrs_chunks.proofs.Chains.{same_box}
+use Rattle.zarrs_chunks.proofs.ChunksInBoxes.{are_those_inside, chunks_once}
 use Rattle.zarrs_chunks.proofs.Meeting.{cover_meets}
 use Rattle.zarrs_chunk_plan.specs.Plan.{IsPart, Meets}
 use Rattle.zarrs_chunk_plan.specs.Rechunking.{AreCopiesInto, Group, IsExchanged, IsRechunking, all_chunks_box, array_box, copies_of}
 use Rattle.zarrs_chunk_plan.specs.declared.part.Part.{Part}
-use Rattle.zarrs_chunk_plan.proofs.CopyLists.{copy_in, copy_of}
-use Rattle.zarrs_chunk_plan.proofs.Plans.{added, all_long, counted_once, length_counted, not_empty, pair_of, source_of}
+use Rattle.zarrs_chunk_plan.proofs.CopyLists.{Differ, copies_differ, copy_in, copy_of, pairs_follow}
+use Rattle.zarrs_chunk_plan.proofs.Plans.{added, all_long, counted_once, length_counted, not_empty, pair_of, parts_differ, source_of}
 use Rattle.zarrs_chunk_plan.proofs.Rechunkings.{in_array, is_counted, shared_start, those_are}
 use Rattle.zarrs_chunk_plan.proofs.SameBoxes.{same_box_of}
 
@@ -24,6 +25,37 @@ one_origin (d ∷ ds) (c ∷ chunk) (o ∷ one) (p ∷ other) is also =
 one_origin [] [] [] (_ ∷ _) is also = absurd also
 one_origin (_ ∷ _) (_ ∷ _) (_ ∷ _) [] is also = absurd also
 one_origin _ _ _ _ is also = absurd is
+
+-- ---- what a copy is of
+
+module _ (source : List Dimension) (IsSourceKey : List ℕ → List ℕ → Type 0) (target : List Dimension) (IsTargetKey : List ℕ → List ℕ → Type 0)
+    (chains : AllByRecursion IsChain source) where
+  -- its chunk of the target and its part of it, its chunk of the source and its part of that, and an element that both hold
+  pub record IsOf (chunks : Box) (copy : Part × Part) : Type 0 where
+    pub t : List ℕ
+    pub meets : Meets target (array_box target) t
+    pub is_to : IsPart target IsTargetKey (array_box target) t copy.1
+    pub s : List ℕ
+    pub is_from : IsPart source IsSourceKey copy.1.in_subset s copy.0
+    pub index : List ℕ
+    pub in_source : InBox source s index
+    pub within : IsInside copy.1.in_subset index
+
+  pub what_it_is_of : (chunks : Box) (groups : List Group) → IsRechunking source IsSourceKey target IsTargetKey chunks groups → (copy : Part × Part)
+      → Contains (copies_of groups) copy → IsOf chunks copy
+  what_it_is_of chunks groups plan copy among =
+      let (t, parts, counted, into, in_parts) =
+      copy_of (AreCopiesInto source IsSourceKey target IsTargetKey) (chunks_in plan.targets) groups plan.are_groups copy among in
+      let (inside, meets) = (plan.are_targets t).0 ((are_those_inside plan.targets plan.is_box t).0 counted) in
+      let (s, in_cover, is_from) =
+      source_of (IsPart source IsSourceKey copy.1.in_subset) (chunks_in into.from.cover) parts into.from.are_parts copy.0 in_parts in
+      let some = not_empty target IsTargetKey (array_box target) t copy.1 into.to meets in
+      let (index, box, within) = (cover_meets source copy.1.in_subset into.from.cover chains into.to.boxes.from_subset.is_box some into.from.is_cover s).0
+      ((are_those_inside into.from.cover into.from.is_cover.is_box s).0 in_cover)
+      in
+      record { t = t; meets = meets; is_to = into.to; s = s; is_from = is_from; index = index; in_source = box; within = within }
+
+-- ---- the other way round
 
 -- two chunks share one box of elements: what each begins with in it
 module _ (source : List Dimension) (IsSourceKey : List ℕ → List ℕ → Type 0) (target : List Dimension) (IsTargetKey : List ℕ → List ℕ → Type 0)
@@ -101,16 +133,12 @@ module _ (source : List Dimension) (IsSourceKey : List ℕ → List ℕ → Type
       → IsRechunking target IsTargetKey source IsSourceKey (all_chunks_box source) others → (copy : Part × Part) → Contains (copies_of groups) copy
       → (other : Part × Part) × Contains (copies_of others) other × IsExchanged copy other
   other_way_round chunks groups others plan back_plan copy among =
-      let (t, parts, counted, into, in_parts) =
-      copy_of (AreCopiesInto source IsSourceKey target IsTargetKey) (chunks_in plan.targets) groups plan.are_groups copy among in
-      let (inside, meets) = (plan.are_targets t).0 ((are_those_inside plan.targets plan.is_box t).0 counted) in
-      let (s, in_cover, is_from) =
-      source_of (IsPart source IsSourceKey copy.1.in_subset) (chunks_in into.from.cover) parts into.from.are_parts copy.0 in_parts in
-      let some = not_empty target IsTargetKey (array_box target) t copy.1 into.to meets in
-      let (index, box, within) = (cover_meets source copy.1.in_subset into.from.cover chains into.to.boxes.from_subset.is_box some into.from.is_cover s).0
-      ((are_those_inside into.from.cover into.from.is_cover.is_box s).0 in_cover)
-      in
-      let (also, in_all) = (those_are target IsTargetKey t copy.1 into.to meets index).0 within in
+      let of = what_it_is_of source IsSourceKey target IsTargetKey chains chunks groups plan copy among in
+      let t = of.t in
+      let s = of.s in
+      let index = of.index in
+      let box = of.in_source in
+      let (also, in_all) = (those_are target IsTargetKey t copy.1 of.is_to of.meets index).0 of.within in
       let also_meets : Meets source (array_box source) s = (index, box, (both_arrays index).1 in_all) in
       let in_targets = (are_those_inside back_plan.targets back_plan.is_box s).1
       ((back_plan.are_targets s).1 (is_counted source chains s also_meets, also_meets))
@@ -127,5 +155,37 @@ module _ (source : List Dimension) (IsSourceKey : List ℕ → List ℕ → Type
       in (
         (back, group.0),
         copy_in others group back in_groups in_back,
-        exchanged s t copy.1 copy.0 group.0 back meets also_meets into.to is_from gives.to is_back index box within,
+        exchanged s t copy.1 copy.0 group.0 back of.meets also_meets of.is_to of.is_from gives.to is_back index box of.within,
       )
+
+-- ---- a part that is whole
+
+module _ (source : List Dimension) (IsSourceKey : List ℕ → List ℕ → Type 0) (target : List Dimension) (IsTargetKey : List ℕ → List ℕ → Type 0)
+    (chains : AllByRecursion IsChain source) (also_chains : AllByRecursion IsChain target) (one_array : array_sizes source ≡ array_sizes target)
+    (chunks : Box) where
+  -- each copy of the chunk is of the same chunk of the target
+  whole_alone : (copy other : Part × Part) → IsOf source IsSourceKey target IsTargetKey chains chunks copy
+      → IsOf source IsSourceKey target IsTargetKey chains chunks other → copy.0.chunk.items ≡ other.0.chunk.items → IsTrue copy.0.whole
+      → copy.1.chunk.items ≡ other.1.chunk.items
+  whole_alone copy other of other_of same whole =
+      let one_chunk : other_of.s ≡ of.s = sym other_of.is_from.numbers ∙ sym same ∙ of.is_from.numbers in
+      let (in_target, in_all) = (those_are target IsTargetKey other_of.t other.1 other_of.is_to other_of.meets other_of.index).0 other_of.within in
+      let in_source = subst (λ s. InBox source s other_of.index) one_chunk other_of.in_source in
+      let below = subst (λ sizes. AreBelow sizes other_of.index) (sym one_array) ((in_array target other_of.index).1 in_all) in
+      let within = of.is_from.whole.0 whole other_of.index in_source below in
+      let here = ((those_are target IsTargetKey of.t copy.1 of.is_to of.meets other_of.index).0 within).0 in
+      of.is_to.numbers ∙ same_box target of.t other_of.t other_of.index also_chains here in_target ∙ sym other_of.is_to.numbers
+  pub one_of_its_chunk : (groups : List Group) → IsRechunking source IsSourceKey target IsTargetKey chunks groups
+      → AllPairs (λ copy other. copy.0.chunk.items ≡ other.0.chunk.items → IsTrue copy.0.whole ⊎ IsTrue other.0.whole → ⊥) (copies_of groups)
+  one_of_its_chunk groups plan =
+      pairs_follow Differ (λ copy other. copy.0.chunk.items ≡ other.0.chunk.items → IsTrue copy.0.whole ⊎ IsTrue other.0.whole → ⊥) (copies_of groups)
+      (copies_differ (AreCopiesInto source IsSourceKey target IsTargetKey) (chunks_in plan.targets) groups plan.are_groups
+      (chunks_once plan.targets plan.is_box) (λ chunk group into. into.to.numbers)
+      (λ chunk group into. parts_differ source IsSourceKey group.0.in_subset group.1 into.from))
+      (λ copy other among also differ same whole.
+      let of = what_it_is_of source IsSourceKey target IsTargetKey chains chunks groups plan copy among in
+      let other_of = what_it_is_of source IsSourceKey target IsTargetKey chains chunks groups plan other also in
+      let one_target = ⊎_elim (λ first. whole_alone copy other of other_of same first)
+      (λ second. sym (whole_alone other copy other_of of (sym same) second)) whole
+      in
+      ⊎_elim (λ apart. apart same) (λ apart. apart one_target) differ)

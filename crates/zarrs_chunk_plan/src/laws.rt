@@ -10,6 +10,7 @@
 //! | Shares of a plan are together the plan | [`shares_are_together_the_plan`] |
 //! | What a walk that `copies` answers gives, one group after another, is a rechunking | [`the_walk_gives_the_rechunking`] |
 //! | Each element whose target chunk is asked for is moved, place to place, by exactly one copy | [`each_element_is_copied_once`] |
+//! | A copy whose part of the source is whole is the only one of that chunk | [`a_whole_part_is_the_only_one_of_its_chunk`] |
 //! | A rechunking the other way round has the same copies | [`the_other_way_round_has_the_same_copies`] |
 //! | Two rechunkings, the second of what the first one leaves, are together one | [`two_stages_are_together_one`] |
 //! | Rechunkings that share the target's chunks out are together the whole one | [`rechunkings_that_share_out_are_the_whole_one`] |
@@ -204,6 +205,22 @@ pub fn each_element_is_copied_once<
         (E.is_key source.now.encoding) (H.dimensions target.now.grid) (F.is_key target.now.encoding)
         chunks groups → (copy : Part × Part) → Contains (copies_of groups) copy
         → copy.0.in_chunk.shape ≡ copy.0.in_subset.shape }
+{}
+
+/// A copy whose part of the source is whole, so that it has all elements of the array which that chunk holds, is the only one of this chunk. In a
+/// rechunking the other way round, as the order of the source is planned, that is a chunk of the target: nothing else writes it.
+pub fn a_whole_part_is_the_only_one_of_its_chunk<
+    G: ChunkGridTraits,
+    E: ChunkKeyEncodingTraits,
+    H: ChunkGridTraits,
+    F: ChunkKeyEncodingTraits,
+>(source: &StoredArray<G, E>, target: &StoredArray<H, F>)
+    ensures { array_sizes (G.dimensions source.now.grid)
+        ≡ array_sizes (H.dimensions target.now.grid) → (chunks : Box) (groups : List Group)
+        → IsRechunking (G.dimensions source.now.grid) (E.is_key source.now.encoding)
+        (H.dimensions target.now.grid) (F.is_key target.now.encoding) chunks groups
+        → AllPairs (λ copy other. copy.0.chunk.items ≡ other.0.chunk.items
+        → IsTrue copy.0.whole ⊎ IsTrue other.0.whole → ⊥) (copies_of groups) }
 {}
 
 /// A rechunking the other way round, into all chunks of the source, has each copy of the rechunking: between the same two chunks and the same box of
