@@ -1,13 +1,15 @@
 -- Where byte ranges begin, dimension by dimension.
 use Rattle.std.proofs.Common.{◌≡◌, ◌∙◌, ℕ, zero, suc, ◌+◌, ◌-◌, ◌*◌, ◌<◌, ◌≤◌, List, [], ◌∷◌, ◌++◌, Contains, drop, get_or, length, length-append, map}
 use Rattle.std.proofs.Common.{ap, ap₂, append-nil, append_assoc, arith, refl, subst, sym}
-use Rattle.std.proofs.Math.Nat.{add-mul, mul-le-mul_right}
+use Rattle.std.proofs.Math.ListN.{drop_of_length-le}
+use Rattle.std.proofs.Math.Nat.{add-mul, mul-le-mul_right, mul_assoc, mul_comm}
 use Rattle.std.proofs.Math.Seq.{drop-cons}
 use Rattle.std.proofs.lemmas.List.{length-map}
 use Rattle.std.proofs.lemmas.List.Elements.{Contains-append_left, Contains-append_right}
 use Rattle.zarrs_chunk_base.specs.Greatest.{greatest}
 use Rattle.zarrs_chunks.proofs.Covers.{head_some, tail_some}
 use Rattle.zarrs_chunk_plan.specs.Bytes.{HasPast, begins, repeated}
+use Rattle.zarrs_chunk_plan.specs.Counts.{product}
 use Rattle.zarrs_chunk_plan.proofs.ByteRows.{to_mapped, to_repeated}
 
 -- ---- one dimension
@@ -88,7 +90,7 @@ no_begins first (count ∷ counts) (stride ∷ strides) same (zero, small, is) =
 no_begins first (count ∷ counts) (stride ∷ strides) same (suc k, small, is) =
     ap (repeated count stride) (no_begins first counts strides (omega arith) (k, omega arith, is)) ∙ nothing_repeated stride count
 
--- where some are too many along the inner dimensions, or one of them is past the greatest number, so it is of all
+-- where one of those along the inner dimensions is past the greatest number, one of all is
 module _ (first : ℕ) where
   abbrev Inner : ℕ → List ℕ → List ℕ → List ℕ
   Inner d counts strides = begins first (drop d counts) (drop d strides)
@@ -106,22 +108,54 @@ module _ (first : ℕ) where
       let is : n + 0 * stride ≡ n = omega arith in
       subst (λ m. Contains (repeated count stride (begins first counts strides)) m) is here
 
-  pub inner_fewer : (counts strides : List ℕ) (d : ℕ) → (¬ Contains counts 0) → length counts ≡ length strides
-      → length (Inner d counts strides) ≤ length (begins first counts strides)
-  inner_fewer counts strides zero some same = omega arith
-  inner_fewer [] [] (suc d) some same = omega arith
-  inner_fewer [] (stride ∷ strides) (suc d) some same = absurd (omega arith)
-  inner_fewer (count ∷ counts) [] (suc d) some same = absurd (omega arith)
-  inner_fewer (count ∷ counts) (stride ∷ strides) (suc d) some same =
-      let any = head_some count counts some in
-      let inner = inner_fewer counts strides d (tail_some count counts some) (omega arith) in
-      let many = repeated_length stride count (begins first counts strides) in
-      let more = mul-le-mul_right {m = 1} {n = count} (length (begins first counts strides)) any in
-      let single : 1 * length (begins first counts strides) ≡ length (begins first counts strides) = omega arith in
-      omega arith
-
   -- along one more dimension
   pub one_more_dimension : (counts strides : List ℕ) (d : ℕ) → length counts ≡ length strides → d < length counts
       → Inner d counts strides ≡ repeated (get_or counts d 0) (get_or strides d 0) (Inner (suc d) counts strides)
   one_more_dimension counts strides d same within =
       ap₂ (λ cs ss. begins first cs ss) (drop-cons counts d 0 within) (drop-cons strides d 0 (omega arith))
+
+-- ---- how many there are
+
+pub begins_length : (first : ℕ) (counts strides : List ℕ) → length counts ≡ length strides → length (begins first counts strides) ≡ product counts
+begins_length first [] [] same = refl
+begins_length first [] (_ ∷ _) same = absurd (omega arith)
+begins_length first (_ ∷ _) [] same = absurd (omega arith)
+begins_length first (count ∷ counts) (stride ∷ strides) same =
+    repeated_length stride count (begins first counts strides) ∙ ap (λ n. count * n) (begins_length first counts strides (omega arith))
+
+some_product : (counts : List ℕ) → (¬ Contains counts 0) → 1 ≤ product counts
+some_product [] some = omega arith
+some_product (count ∷ counts) some =
+    let any = head_some count counts some in
+    let rest = some_product counts (tail_some count counts some) in
+    let more = mul-le-mul_right {m = 1} {n = count} (product counts) any in
+    let single : 1 * product counts ≡ product counts = omega arith in
+    omega arith
+
+some_dropped : (counts : List ℕ) (d : ℕ) → (¬ Contains counts 0) → ¬ Contains (drop d counts) 0
+some_dropped counts zero some = some
+some_dropped [] (suc d) some = some
+some_dropped (count ∷ counts) (suc d) some = some_dropped counts d (tail_some count counts some)
+
+module _ (counts : List ℕ) (i many : ℕ) (kept : many * product (drop i counts) ≡ product counts) where
+  pub one_more_count : i < length counts → many * get_or counts i 0 * product (drop (i + 1) counts) ≡ product counts
+  one_more_count within =
+      let next : drop (i + 1) counts ≡ drop (suc i) counts = ap (λ k. drop k counts) (let same : i + 1 ≡ suc i = omega arith in same) in
+      ap (λ ns. many * get_or counts i 0 * product ns) next
+      ∙ mul_assoc many (get_or counts i 0) (product (drop (suc i) counts)) ∙ ap (λ ns. many * product ns) (sym (drop-cons counts i 0 within)) ∙ kept
+
+  -- no fewer than along the dimensions so far
+  pub too_many : (¬ Contains counts 0) → i < length counts → many * get_or counts i 0 ≤ product counts
+  too_many some within =
+      let rest = some_product (drop (i + 1) counts) (some_dropped counts (i + 1) some) in
+      let more = mul-le-mul_right {m = 1} {n = product (drop (i + 1) counts)} (many * get_or counts i 0) rest in
+      let single : 1 * (many * get_or counts i 0) ≡ many * get_or counts i 0 = omega arith in
+      let other = mul_comm (product (drop (i + 1) counts)) (many * get_or counts i 0) in
+      let all = one_more_count within in
+      omega arith
+
+  pub all_are : length counts ≤ i → many ≡ product counts
+  all_are past =
+      let none : drop i counts ≡ [] = drop_of_length-le counts past in
+      let one : many * 1 ≡ many = omega arith in
+      sym (ap (λ ns. many * product ns) none ∙ one) ∙ kept

@@ -1,13 +1,15 @@
 //! Where byte ranges begin, one after another.
-ghost use Rattle.std.specs.Prelude.{◌≡◌, ◌≢◌, ◌↔◌, ◌+◌, ◌*◌, ◌<◌, ◌≤◌, ◌⊎◌, Contains, IfOk, IfSome, IsTrue, MatchOption, None, length, map};
+ghost use Rattle.std.specs.Prelude.{◌≡◌, ◌≢◌, ◌↔◌, ◌+◌, ◌<◌, ◌≤◌, ◌⊎◌, Contains, IfOk, IfSome, IsTrue, MatchOption, None, length, map};
 ghost use Rattle.zarrs_chunk_plan.specs.Bytes.{HasPast, begins, repeated};
+ghost use Rattle.zarrs_chunk_plan.specs.Counts.{product};
 
 use crate::bytes::ByteRanges;
 use std::alloc::{AllocError, Global};
 
 impl ByteRanges {
     /// Where each range begins, in order, if there are at most so many. `None` is answered exactly where there are more, where `counts` and `strides`
-    /// differ in length, or where one begins past 18446744073709551615; of ranges that [`byte_ranges`](crate::byte_ranges) answers only the first.
+    /// differ in length, or where one begins past 18446744073709551615: of those that [`byte_ranges`](crate::byte_ranges) answers, only where there are
+    /// more.
     ///
     /// # Errors
     /// Out of memory.
@@ -28,11 +30,36 @@ impl ByteRanges {
         if has_zero(&self.counts) {
             return Ok(Some(Vec::new(alloc)));
         }
-        some_starts(alloc, self.first, &self.counts, &self.strides, most)
+        if !are_few(&self.counts, most) {
+            return Ok(None);
+        }
+        some_starts(alloc, self.first, &self.counts, &self.strides)
     }
 }
 
-/// Where each of some ranges begins, if there are at most so many; `None` where there are more, or one begins past 18446744073709551615.
+/// Whether one of the numbers is 0.
+fn has_zero(numbers: &[u64]) -> bool
+    ensures { IsTrue result ↔ Contains numbers.now 0 }
+{
+    numbers.contains(&0)
+}
+
+/// Whether the product of the numbers is at most `most`.
+fn are_few(counts: &[u64], most: u64) -> bool
+    requires { ¬ Contains counts.now 0 }
+    ensures { IsTrue result ↔ (product counts.now ≤ most) }
+{
+    let mut many: u64 = 1;
+    for count in counts {
+        let Some(more) = many.checked_mul(*count) else {
+            return false;
+        };
+        many = more;
+    }
+    many <= most
+}
+
+/// Where each of some ranges begins; `None` where one begins past 18446744073709551615.
 ///
 /// # Errors
 /// Out of memory.
@@ -41,24 +68,16 @@ fn some_starts(
     first: u64,
     counts: &[u64],
     strides: &[u64],
-    most: u64,
 ) -> Result<Option<Vec<u64>>, AllocError>
     requires lists { length counts.now ≡ length strides.now }
     requires some { ¬ Contains counts.now 0 }
-    ensures starts { IfOk result (λ found. IfSome found (λ starts.
-        starts.items ≡ begins first counts.now strides.now)) }
-    ensures few { IfOk result (λ found. IfSome found (λ starts. length starts.items ≤ most)) }
-    ensures none { IfOk result (λ found. found ≡ None
-        → (most < length (begins first counts.now strides.now))
-        ⊎ HasPast (begins first counts.now strides.now)) }
+    ensures { IfOk result (λ found. MatchOption found (HasPast (begins first counts.now strides.now))
+        (λ starts. starts.items ≡ begins first counts.now strides.now)) }
 {
-    if most == 0 {
-        return Ok(None);
-    }
     let mut starts = Vec::with_capacity(alloc, 1)?;
     starts.push(first)?;
     for dimension in (0..counts.len()).rev() {
-        match repeated(alloc, counts[dimension], strides[dimension], starts, most)? {
+        match repeated(alloc, counts[dimension], strides[dimension], starts)? {
             Some(all) => starts = all,
             None => return Ok(None),
         }
@@ -66,8 +85,7 @@ fn some_starts(
     Ok(Some(starts))
 }
 
-/// The numbers, so many times, each time greater by a stride than before, if there are at most so many in all; `None` where there are more, or one is
-/// past 18446744073709551615.
+/// The numbers, so many times, each time greater by a stride than before; `None` where one is past 18446744073709551615.
 ///
 /// # Errors
 /// Out of memory.
@@ -76,19 +94,12 @@ fn repeated(
     count: u64,
     stride: u64,
     numbers: Vec<u64>,
-    most: u64,
 ) -> Result<Option<Vec<u64>>, AllocError>
     requires { 0 < count }
-    ensures all { IfOk result (λ found. IfSome found (λ all.
-        all.items ≡ repeated count stride numbers.items)) }
-    ensures few { IfOk result (λ found. IfSome found (λ all. length all.items ≤ most)) }
-    ensures none { IfOk result (λ found. found ≡ None
-        → (most < length (repeated count stride numbers.items))
-        ⊎ HasPast (repeated count stride numbers.items)) }
+    ensures { IfOk result (λ found. MatchOption found
+        (HasPast (repeated count stride numbers.items))
+        (λ all. all.items ≡ repeated count stride numbers.items)) }
 {
-    if !are_few(count, numbers.len() as u64, most) {
-        return Ok(None);
-    }
     let mut all = Vec::from_slice(alloc, &numbers)?;
     let mut last = numbers;
     for _ in 1..count {
@@ -99,23 +110,6 @@ fn repeated(
         all.extend_from_slice(&last)?;
     }
     Ok(Some(all))
-}
-
-/// Whether one of the numbers is 0.
-fn has_zero(numbers: &[u64]) -> bool
-    ensures { IsTrue result ↔ Contains numbers.now 0 }
-{
-    numbers.contains(&0)
-}
-
-/// Whether so many times so many are at most `most`.
-fn are_few(count: u64, each: u64, most: u64) -> bool
-    ensures { IsTrue result ↔ (count * each ≤ most) }
-{
-    match count.checked_mul(each) {
-        Some(in_all) => in_all <= most,
-        None => false,
-    }
 }
 
 /// Each number, greater by a stride; `None` where one is past 18446744073709551615.
