@@ -40,7 +40,7 @@ abbrev pub begins : (first : ℕ) (counts strides : List ℕ) → List ℕ
 begins first (count ∷ counts) (stride ∷ strides) = repeated count stride (begins first counts strides)
 begins first _ _ = first ∷ []
 
--- one of the numbers is past the greatest one
+-- one of the numbers is past the greatest that the program has
 abbrev pub HasPast : List ℕ → Type 0
 HasPast numbers = (n : ℕ) × Contains numbers n × (greatest < n)
 

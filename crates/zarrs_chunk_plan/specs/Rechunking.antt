@@ -63,8 +63,8 @@ pub record Goes (source target : List Dimension) (groups : List Group) (index ch
   pub into_place : counted_from copy.0.in_subset.start steps ≡ to_place
 
 -- The other copy is the same the other way round: between the same two chunks, and the same box of each. Counted from the first element of its chunk,
--- a copy has the box of the source's chunk as the `in_chunk` of its part; that of the target's begins where the target's part does in its chunk, and
--- then as the `in_subset` of its part says.
+-- a copy has the box of the source's chunk as the `in_chunk` of its part; that of the target's begins where the target's part does in its chunk, which is
+-- 0 in a rechunking, and then as the `in_subset` of its part says.
 pub record IsExchanged (copy other : Part × Part) : Type 0 where
   pub source_chunk : other.1.chunk.items ≡ copy.0.chunk.items
   pub target_chunk : other.0.chunk.items ≡ copy.1.chunk.items

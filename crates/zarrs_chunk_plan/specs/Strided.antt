@@ -1,5 +1,5 @@
 -- The strided form of byte ranges, which is the one that is answered: ranges of one length, so many along each of some dimensions, by a stride.
--- That these are the bytes of the box's elements is what `Bytes` says. Source: this library's own.
+-- That these are the bytes of the box's elements is the law `byte_ranges_have_the_bytes_of_the_box`. Source: this library's own.
 use Rattle.std.specs.Prelude.{ℕ, ◌+◌, ◌*◌, ◌==◌, ◌&&◌, Bool, true, false, cond, nat_le, List, [], ◌∷◌, Option, Some, None}
 use Rattle.zarrs_chunk_base.specs.Greatest.{greatest}
 use Rattle.zarrs_chunk_plan.specs.Bytes.{in_order}
@@ -41,7 +41,7 @@ strided item _ _ _ = record { first = 0; length = item; counts = []; strides = [
 abbrev pub no_ranges : Strided
 no_ranges = record { first = 0; length = 0; counts = 0 ∷ []; strides = 0 ∷ [] }
 
--- whether a box lies in a chunk, and whether it is empty
+-- whether a box lies in a chunk, and whether it is empty, as tests
 abbrev pub lies_in : (start shape edges : List ℕ) → Bool
 lies_in [] [] [] = true
 lies_in (s ∷ start) (n ∷ shape) (edge ∷ edges) = cond (nat_le (s + n) edge) (lies_in start shape edges) false
@@ -51,7 +51,7 @@ abbrev pub has_zero : List ℕ → Bool
 has_zero [] = false
 has_zero (n ∷ numbers) = cond (n == 0) true (has_zero numbers)
 
--- The ranges that are answered of a box: none, where it doesn't lie in the chunk, or isn't empty and no number counts the chunk's bytes.
+-- The ranges that are answered of a box: `None`, where it doesn't lie in the chunk, or isn't empty and no number counts the chunk's bytes.
 abbrev pub ranges_of : (item : ℕ) → MemoryOrder → (edges start shape : List ℕ) → Option Strided
 ranges_of item order edges start shape =
     cond (lies_in start shape edges)

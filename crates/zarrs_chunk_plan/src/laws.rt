@@ -55,8 +55,7 @@ use zarrs_chunk_base::ArraySubset;
 use zarrs_chunk_keys::ChunkKeyEncodingTraits;
 use zarrs_chunks::ChunkGridTraits;
 
-/// What a walk over a box gives up to its end is its parts to come. Of a walk that `parts` answers these are a plan of the box: one for
-/// each chunk of
+/// What a walk over a box gives up to its end is its parts to come. Of a walk that `parts` answers these are a plan of the box: one for each chunk of
 /// its cover, in order; of an empty box there are none.
 pub fn the_walk_gives_the_plan<G: ChunkGridTraits, E: ChunkKeyEncodingTraits>(
     grid: &G,
@@ -224,8 +223,8 @@ pub fn a_whole_part_is_the_only_one_of_its_chunk<
 {}
 
 /// A rechunking the other way round, into all chunks of the source, has each copy of the rechunking: between the same two chunks and the same box of
-/// each. So the plan in the order of the source, which has a group for each of its chunks, copies what the plan in the order of the target does; and
-/// as this holds of any two arrays, it copies nothing else.
+/// each. So the plan in the order of the source, which has a group for each of its chunks, copies what a plan in the order of the target does; and,
+/// as this holds of any two arrays, nothing else, where that is into all chunks of the target.
 pub fn the_other_way_round_has_the_same_copies<
     G: ChunkGridTraits,
     E: ChunkKeyEncodingTraits,
@@ -245,7 +244,7 @@ pub fn the_other_way_round_has_the_same_copies<
 
 /// Two rechunkings, the second of what the first one leaves, are together one: an element goes from a place in a chunk of the source to a place in a
 /// chunk of the target exactly where the first takes it to some place in some chunk between, and the second takes it from there. As each element is
-/// moved by exactly one copy of each of the three, it is moved once to where it is read once.
+/// moved by exactly one copy of each of the three, it is written once and read once between the stages.
 pub fn two_stages_are_together_one<
     G: ChunkGridTraits,
     E: ChunkKeyEncodingTraits,
@@ -264,13 +263,14 @@ pub fn two_stages_are_together_one<
         (H.dimensions target.now.grid) (F.is_key target.now.encoding) chunks second
         → IsRechunking (G.dimensions source.now.grid) (E.is_key source.now.encoding)
         (H.dimensions target.now.grid) (F.is_key target.now.encoding) chunks groups
-        → (index s from t to : List ℕ)
-        → Goes (G.dimensions source.now.grid) (H.dimensions target.now.grid) groups index s from t to
-        ↔ ((chunk : List ℕ) × (place : List ℕ)
-        × Goes (G.dimensions source.now.grid) (B.dimensions between.now.grid) first index s from
-        chunk place
-        × Goes (B.dimensions between.now.grid) (H.dimensions target.now.grid) second index chunk
-        place t to) }
+        → (index chunk place to_chunk to_place : List ℕ)
+        → Goes (G.dimensions source.now.grid) (H.dimensions target.now.grid) groups index chunk
+        place to_chunk to_place
+        ↔ ((mid_chunk : List ℕ) × (mid_place : List ℕ)
+        × Goes (G.dimensions source.now.grid) (B.dimensions between.now.grid) first index chunk
+        place mid_chunk mid_place
+        × Goes (B.dimensions between.now.grid) (H.dimensions target.now.grid) second index
+        mid_chunk mid_place to_chunk to_place) }
 {}
 
 /// Rechunkings into boxes of chunks that share the target's chunks out are together the whole one: each element of the array is moved by exactly
@@ -298,8 +298,7 @@ pub fn rechunkings_that_share_out_are_the_whole_one<
         (flat_map copies_of plans) }
 {}
 
-/// What a walk over a region gives up to its end, each group with all of its parts, is its groups to come. Of a walk that
-/// `copies_of_region` answers
+/// What a walk over a region gives up to its end, each group with all of its parts, is its groups to come. Of a walk that `copies_of_region` answers
 /// these are the copy of the region; of an empty region there are none.
 pub fn the_walk_gives_the_region<
     G: ChunkGridTraits,
@@ -376,8 +375,7 @@ pub fn each_element_of_a_region_is_copied_once<
         → copy.0.in_chunk.shape ≡ copy.0.in_subset.shape }
 {}
 
-/// Of the copy of a region no two groups are under one key, so each chunk of the target is written once. Where a chunk is whole, each
-/// element of the
+/// Of the copy of a region no two groups are under one key, so each chunk of the target is written once. Where a chunk is whole, each element of the
 /// target's array that it holds is written.
 pub fn each_chunk_of_a_region_has_one_group<
     G: ChunkGridTraits,
@@ -399,9 +397,8 @@ pub fn each_chunk_of_a_region_has_one_group<
         × MovesTo (G.dimensions source.now.grid) (H.dimensions target.now.grid) copy steps from index) }
 {}
 
-/// Grids that one configuration makes of two array shapes, of whatever kind it is, hold each index that both arrays have in the same chunk.
-/// So they may
-/// be the grids of a resize.
+/// Grids that one configuration makes of two array shapes, of whatever kind it is, hold each index that both arrays have in the same chunk. So they
+/// may be the grids of a resize.
 pub fn grids_of_one_configuration_share_their_chunks()
     ensures { (e : Extension) (shape other : List ℕ) (before after : Grid)
         → IsGrid e shape before → IsGrid e other after
@@ -484,9 +481,8 @@ pub fn a_kept_chunk_is_as_it_was<G: ChunkGridTraits, H: ChunkGridTraits>(before:
         ↔ IsPlace (H.dimensions after.now) chunk index place }
 {}
 
-/// An element that the array has before and after a resize lies in the same chunk, at the same place. That chunk is kept or written again;
-/// so an element
-/// is never to be moved from one chunk to another.
+/// An element that the array has before and after a resize lies in the same chunk, at the same place. That chunk is kept or written again; so an
+/// element is never to be moved from one chunk to another.
 pub fn each_element_stays_in_its_chunk<G: ChunkGridTraits, H: ChunkGridTraits>(
     before: &G,
     after: &H,
@@ -530,8 +526,8 @@ pub fn each_element_that_leaves_or_comes_changes_its_chunk<G: ChunkGridTraits, H
         → (what ≡ Rewrite) ⊎ (what ≡ New) }
 {}
 
-/// Byte ranges of the form that is answered of a box of a chunk, by its edges, have the bytes of the box's elements and no other: they ascend, no byte is
-/// in two, and no two can be joined. None are answered exactly where the box doesn't lie in the chunk, or isn't empty and no number counts the chunk's
+/// The byte ranges that are answered of a box, in their strided form, have the bytes of the box's elements and no other: they ascend, no byte is in
+/// two, and no two can be joined. `None` is answered exactly where the box doesn't lie in the chunk, or isn't empty and no number counts the chunk's
 /// bytes.
 pub fn byte_ranges_have_the_bytes_of_the_box()
     ensures { (item : ℕ) → 0 < item → (order : MemoryOrderValue) → (edges start shape : List ℕ)

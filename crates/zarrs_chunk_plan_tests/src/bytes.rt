@@ -87,25 +87,31 @@ fn a_box_may_be_empty_or_have_no_dimensions(rt: HostRuntime) -> Result<(), Fail>
     check_ranges(&rt, (MemoryOrder::F, &[]), (&[], &[]), 8, "0 8 [] []")
 }
 
-/// Where the ranges of a box begin, if they are at most so many.
-fn starts_of(alloc: Global, elements: Sizes<'_>, most: u64) -> Result<Option<Vec<u64>>, Fail> {
+/// The ranges of a box of a chunk of 2 x 3 x 4 elements begin here, if they are at most so many.
+fn check_starts(
+    rt: &(impl Abort + AllocGlobal),
+    elements: Sizes<'_>,
+    most: u64,
+    expected: &str,
+) -> Result<(), Fail> {
+    let alloc = rt.alloc();
     let found = ranges_of(alloc, MemoryOrder::C, &[2, 3, 4], elements, 1)?;
     let ranges = found.ok_or("no ranges")?;
-    Ok(ranges.starts(alloc, most)?)
+    let text = match ranges.starts(alloc, most)? {
+        Some(starts) => format!(in alloc; "{:?}", starts.as_slice())?,
+        None => String::from_str(alloc, "none")?,
+    };
+    assert!(rt; text.as_str() == expected, "others than {expected}");
+    Ok(())
 }
 
 /// The ranges are listed one after another, where they are no more than asked for; those of an empty box are none.
 #[test]
 fn ranges_are_listed_up_to_a_number(rt: HostRuntime) -> Result<(), Fail> {
-    let four = (&[0, 1, 1].as_slice(), &[2, 2, 2].as_slice());
-    let starts = starts_of(rt.alloc(), (four.0, four.1), 4)?.ok_or("not listed")?;
-    assert!(&rt; starts.as_slice() == [5, 9, 17, 21].as_slice(), "other ranges");
-    let starts = starts_of(rt.alloc(), (four.0, four.1), 3)?;
-    assert!(&rt; starts.is_none(), "more than asked for");
-    let starts = starts_of(rt.alloc(), (&[0, 1, 1], &[2, 0, 2]), 0)?.ok_or("not listed")?;
-    assert!(&rt; starts.is_empty(), "a range of an empty box");
-    let starts = starts_of(rt.alloc(), (&[0, 0, 0], &[2, 3, 4]), 0)?;
-    assert!(&rt; starts.is_none(), "more than none");
+    check_starts(&rt, (&[0, 1, 1], &[2, 2, 2]), 4, "[5, 9, 17, 21]")?;
+    check_starts(&rt, (&[0, 1, 1], &[2, 2, 2]), 3, "none")?;
+    check_starts(&rt, (&[0, 1, 1], &[2, 0, 2]), 0, "[]")?;
+    check_starts(&rt, (&[0, 0, 0], &[2, 3, 4]), 0, "none")?;
     byte_ranges_have_the_bytes_of_the_box();
     Ok(())
 }

@@ -8,9 +8,9 @@ use std::test::Fail;
 use zarrs_chunk_base::{ArraySubset, Refusal};
 use zarrs_chunk_keys::DefaultChunkKeyEncoding;
 use zarrs_chunk_plan::laws::{
-    each_element_is_copied_once, rechunkings_that_share_out_are_the_whole_one,
-    the_other_way_round_has_the_same_copies, the_walk_gives_the_rechunking,
-    two_stages_are_together_one,
+    a_whole_part_is_the_only_one_of_its_chunk, each_element_is_copied_once,
+    rechunkings_that_share_out_are_the_whole_one, the_other_way_round_has_the_same_copies,
+    the_walk_gives_the_rechunking, two_stages_are_together_one,
 };
 use zarrs_chunk_plan::{
     CopiesError, Counts, Part, StoredArray, all_chunks, copies, counts_of_read,
@@ -355,6 +355,7 @@ fn the_groups_are_a_rechunking(rt: HostRuntime) -> Result<(), Fail> {
     assert_eq!(rt; all_groups(alloc, &source, &target, &last)?.len(), 1);
     the_walk_gives_the_rechunking(&source, &target);
     each_element_is_copied_once(&source, &target);
+    a_whole_part_is_the_only_one_of_its_chunk(&source, &target);
     the_other_way_round_has_the_same_copies(&source, &target);
     two_stages_are_together_one(&source, &target, &source);
     rechunkings_that_share_out_are_the_whole_one(&source, &target);

@@ -1,4 +1,4 @@
--- The order in which a chunk's elements are stored, as a question gives it.
+-- The order in which a chunk's elements are stored, as a question or a document gives it.
 -- Source: Zarr V2, `order`, for the texts.
 use Rattle.std.specs.Prelude.{ℕ, if◌then◌else◌, List, Option, Some, None, bytes_eq, codes, option_and_then}
 use Rattle.serde_json.specs.Data.{Data, string}

@@ -56,5 +56,5 @@ copy_of_lines line d document json stands (other, also, flag) =
     let fitting = stands.fitting in (
       are_lines d document.wanted stands.wanted (fitting.keys.of_lines some),
       is_copy d document.task stands.task (fitting.keys.of_target some) (λ resized. (fitting.resize.of_resize resized).0)
-          (λ ordered. not_missing d m (codes "keys") there (fitting.order.of_lines ordered).1.1.1.0),
+          (λ ordered. not_missing d m (codes "keys") there (fitting.order.alone ordered).1.1.1.0),
     )

@@ -10,7 +10,7 @@ use Rattle.zarrs_chunk_questions.specs.Order.{order_in}
 use Rattle.programs.specs.declared.chunkplan.run_fault.RunFault.{RunFault}
 use Rattle.programs.specs.declared.chunkplan.run_fault.RunFault.TheVariants.{OtherDataType, OtherShape, UnknownOfTarget}
 use Rattle.programs.specs.chunkplan.Document.{HasBox, HasNumbers, HasOr, HasRanges, IsBoxIn, IsCopying, IsOfArray, IsOfType, IsTask, IsTaskTo, Task, copy_to}
-use Rattle.programs.specs.chunkplan.Document.{Ranges, order_of, read_of, rechunk_by_source, rechunk_to, resize_to}
+use Rattle.programs.specs.chunkplan.Document.{RangesWanted, line_order_in, read_of, rechunk_by_source, rechunk_to, resize_to}
 use Rattle.programs.specs.chunkplan.DocumentFault.{HasBoxFault, HasFormFault, HasRangesFault, IsCopyingFault, IsTargetMisfit, IsTaskFault}
 use Rattle.programs.specs.chunkplan.DocumentFault.{IsTaskToFault, of_item_size, of_max_ranges, of_memory_order, of_ranges}
 use Rattle.programs.specs.chunkplan.DocumentFault.{IsTypeMisfit, of_at, of_chunks, of_clip, of_copying, of_keep, of_misfit}
@@ -45,7 +45,7 @@ has_numbers d left field numbers same =
 
 module _ (d left : Data) (item : get (codes "item_size") left ≡ get (codes "item_size") d)
     (order : get (codes "memory_order") left ≡ get (codes "memory_order") d) (most : get (codes "max_ranges") left ≡ get (codes "max_ranges") d) where
-  pub has_ranges : (ranges : Option Ranges) → HasRanges left ranges → HasRanges d ranges
+  pub has_ranges : (ranges : Option RangesWanted) → HasRanges left ranges → HasRanges d ranges
   has_ranges None none = sym item ∙ none
   has_ranges (Some ranges) ((m, there, is), in_order, up_to) = (
     (m, sym item ∙ there, is),
@@ -112,14 +112,14 @@ module _ (d left m : Data) (same : AskAlike d left) where
     sym same.subset ∙ none,
     is_of_array d left m same.shape same.data_type of_array,
     has,
-    has_or order_of Target d left (codes "order") Target same.order order,
+    has_or line_order_in Target d left (codes "order") Target same.order order,
     has_box d left (codes "chunks") b same.chunks box,
   )
   is_task_to (rechunk_by_source stored) (none, of_array, has, order) = (
     sym same.subset ∙ none,
     is_of_array d left m same.shape same.data_type of_array,
     has,
-    has_or order_of Target d left (codes "order") Source same.order order,
+    has_or line_order_in Target d left (codes "order") Source same.order order,
   )
   is_task_to (copy_to shape stored region at) (typed, sizes, has, box, numbers) = (
     is_of_type d left m same.data_type typed,
@@ -140,10 +140,10 @@ module _ (d left m : Data) (same : AskAlike d left) where
       of_target_stored told (sym same.subset ∙ none) (is_of_array d left m same.shape same.data_type of_array) is told_so
   is_task_to_fault fault (of_order stored none of_array has is) =
       of_order stored (sym same.subset ∙ none) (is_of_array d left m same.shape same.data_type of_array) has
-      (has_form_fault order_of d left (codes "order") fault same.order is)
+      (has_form_fault line_order_in d left (codes "order") fault same.order is)
   is_task_to_fault fault (of_chunks stored none of_array has order is) =
       of_chunks stored (sym same.subset ∙ none) (is_of_array d left m same.shape same.data_type of_array) has
-      (has_or order_of Target d left (codes "order") Target same.order order) (has_box_fault d left (codes "chunks") fault same.chunks is)
+      (has_or line_order_in Target d left (codes "order") Target same.order order) (has_box_fault d left (codes "chunks") fault same.chunks is)
   is_task_to_fault fault (of_type some is) = of_type (some_subset some) (is_type_misfit d left m same.data_type fault is)
   is_task_to_fault fault (of_shape told some type is told_so) =
       of_shape told (some_subset some) (is_of_type d left m same.data_type type) is told_so

@@ -14,7 +14,7 @@ use Rattle.zarrs_chunk_base.specs.Greatest.{greatest}
 use Rattle.zarrs_chunk_plan.specs.Counted.{counted}
 use Rattle.zarrs_chunk_plan.specs.declared.part.Part.{Part}
 use Rattle.zarrs_chunk_plan.specs.Region.{shifted}
-use Rattle.programs.specs.chunkplan.Document.{Ranges}
+use Rattle.programs.specs.chunkplan.Document.{RangesWanted}
 use Rattle.programs.specs.chunkplan.Line.{box_json, chunk_json, count_json, end_members, group_json, group_line, lines_from, numbers_json, part_json}
 use Rattle.programs.specs.chunkplan.Line.{piece_json, pieces_items, place_name}
 use Rattle.programs.specs.chunkplan.seen.Pieces.{begin_of_line, begin_tokens, comma_before, end_of_line, end_tokens, piece_text, ranges_tokens, whole_tokens}
@@ -127,7 +127,7 @@ module _ (of : Part) where
       ∙ append_assoc (print first ++ texts) (print (end_tokens order at all of)) (codes "\n")
 
 -- the tokens of a part of a read
-pub part_tokens : (at of : Option ℕ) (wanted : Option Ranges) (part : Part) → json_tokens (part_json at of wanted part)
+pub part_tokens : (at of : Option ℕ) (wanted : Option RangesWanted) (part : Part) → json_tokens (part_json at of wanted part)
     ≡ begin_object ∷ key (codes "chunk") ∷ (json_tokens (numbers_json part.chunk.items)
     ++ key (codes "in_chunk") ∷ (json_tokens (box_json part.in_chunk)
     ++ key (codes "in_subset") ∷ (json_tokens (box_json part.in_subset)

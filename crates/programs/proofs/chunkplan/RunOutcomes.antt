@@ -19,7 +19,7 @@ use Rattle.programs.specs.chunkplan.DocumentFault.{of_chunks as of_chunks_box, o
 use Rattle.programs.specs.chunkplan.DocumentFault.{of_target as of_target_tree}
 use Rattle.programs.specs.chunkplan.PlanFault.{IsChunksFault, IsCopyFault, IsFaultBeside, IsFirstFault, IsPlanFault, IsReadFault, IsResizeFault, IsTargetFault}
 use Rattle.programs.specs.chunkplan.PlanFault.{beside_keys, long_document, no_document, no_first_document, of_keys, of_plan}
-use Rattle.programs.specs.chunkplan.PlanFault.{no_plan, of_chunks, of_region, of_region_target, of_resize, of_source, of_subset, of_takers, of_target}
+use Rattle.programs.specs.chunkplan.PlanFault.{no_plan, of_chunks, of_region, of_region_target, of_resize, of_source, of_subset, of_source_order_target, of_target}
 use Rattle.programs.specs.chunkplan.Keys.{IsKeysFault, first_line}
 use Rattle.programs.specs.chunkplan.Planned.{IsPlanOf, begins_at}
 use Rattle.programs.specs.chunkplan.Run.{HasBegunPlan, RunLeaves}
@@ -125,7 +125,7 @@ plan_still document fault (of_subset subset clip _ grid _ _ _ is) =
 plan_still document fault (of_target stored _ _ _ _ _ is) = still (IsTargetFault stored document.shape) (λ h. h) (λ h. h) fault is
 plan_still document fault (of_chunks _ chunks _ target _ _ _ _ _ is) =
     still (IsChunksFault target.dimensions (unwrap_or chunks (all_chunks_box target.dimensions))) (λ h. h) (λ h. h) fault is
-plan_still document fault (of_takers stored _ _ _ _ is) = still (IsTargetFault stored document.shape) (λ h. h) (λ h. h) fault is
+plan_still document fault (of_source_order_target stored _ _ _ _ is) = still (IsTargetFault stored document.shape) (λ h. h) (λ h. h) fault is
 plan_still document fault (of_region_target shape stored _ _ _ _ _ _ is) = still (IsTargetFault stored shape) (λ h. h) (λ h. h) fault is
 plan_still document fault (of_region _ _ region at source target _ _ _ _ _ is) =
     copy_still source.dimensions target.dimensions region (begins_at region at) fault is

@@ -29,7 +29,7 @@ use Rattle.programs.specs.declared.chunkplan.document.Wanted.{Wanted as WantedVa
 use Rattle.programs.specs.declared.chunkplan.document.Wanted.TheVariants.{Counts as CountsValue, Lines as LinesValue}
 
 -- how byte ranges are wanted in lines: of how many bytes an element is, in which order a chunk's elements are stored, and up to how many are listed
-pub record Ranges : Type 0 where
+pub record RangesWanted : Type 0 where
   pub item : ℕ
   pub order : MemoryOrder
   pub most : ℕ
@@ -39,7 +39,7 @@ pub record Ranges : Type 0 where
 -- of a shape that is stored in some way, to begin there at an index, where one is given; or a resize of the array to another shape, and whether the
 -- chunks are wanted too that stay as they are stored.
 pub data Task : Type 0 where
-  read_of : Option Box → (clip : Bool) → Option Ranges → Task
+  read_of : Option Box → (clip : Bool) → Option RangesWanted → Task
   rechunk_to : Stored → Option Box → Task
   rechunk_by_source : Stored → Task
   copy_to : (shape : List ℕ) → Stored → (region : Box) → (at : Option (List ℕ)) → Task
@@ -59,11 +59,11 @@ pub record Document : Type 0 where
   pub task : Task
 
 -- what a value of the program stands for
-abbrev pub ranges_in : RangesAsked → Ranges
-ranges_in asked = record { item = non_zero_u64_get asked.item_size; order = asked.order; most = asked.most }
+abbrev pub ranges_asked_of : RangesAsked → RangesWanted
+ranges_asked_of asked = record { item = non_zero_u64_get asked.item_size; order = asked.order; most = asked.most }
 
 abbrev pub task_of : TaskValue → Task
-task_of (ReadValue subset clip ranges) = read_of subset clip (option_map ranges_in ranges)
+task_of (ReadValue subset clip ranges) = read_of subset clip (option_map ranges_asked_of ranges)
 task_of (RechunkValue target chunks) = rechunk_to (stored_of target) chunks
 task_of (RechunkBySourceValue target) = rechunk_by_source (stored_of target)
 task_of (CopyValue shape target region at) = copy_to shape.items (stored_of target) region (option_map (λ v. v.items) at)
@@ -90,7 +90,7 @@ HasBox d field subset = MatchOption subset (get field d ≡ None) (λ b. (m : Da
 abbrev pub HasNumbers : Data → List ℕ → Option (List ℕ) → Type 0
 HasNumbers d field numbers = MatchOption numbers (get field d ≡ None) (λ ns. (m : Data) × (get field d ≡ Some m) × (list_of size_of m ≡ Some ns))
 
--- the member is of a form, and says this; where it is absent, this is what it says then
+-- the member is of a form and says x; or it is absent, and x is what that stands for
 abbrev pub HasOr : {X : Type 0} → (form : Data → Option X) (absent : X) → Data → List ℕ → X → Type 0
 HasOr form absent d field x =
     ((get field d ≡ None) × (x ≡ absent)) ⊎ ((m : Data) × (get field d ≡ Some m) × (form m ≡ Some x))
@@ -100,16 +100,16 @@ abbrev pub HasFlag : Data → List ℕ → Bool → Type 0
 HasFlag = HasOr as_bool false
 
 -- the order that a text names: that of the target or of the source
-abbrev pub order_of : Data → Option Order
-order_of d = option_and_then (λ text. if bytes_eq text (codes "target") then Some Target
+abbrev pub line_order_in : Data → Option Order
+line_order_in d = option_and_then (λ text. if bytes_eq text (codes "target") then Some Target
     else (if bytes_eq text (codes "source") then Some Source else None)) (as_str d)
 
 -- The member `order` names the order of the lines; where it is absent, they are in that of the target.
 abbrev pub HasOrder : Data → Order → Type 0
-HasOrder d = HasOr order_of Target d (codes "order")
+HasOrder d = HasOr line_order_in Target d (codes "order")
 
 -- The member `item_size` is a size from 1 on, and `memory_order` and `max_ranges` say the rest; where it is absent, no ranges are wanted.
-abbrev pub HasRanges : Data → Option Ranges → Type 0
+abbrev pub HasRanges : Data → Option RangesWanted → Type 0
 HasRanges d None = get (codes "item_size") d ≡ None
 HasRanges d (Some ranges) = ((m : Data) × (get (codes "item_size") d ≡ Some m) × (edge_of m ≡ Some ranges.item))
     × HasOr order_in C d (codes "memory_order") ranges.order × HasOr size_of 0 d (codes "max_ranges") ranges.most
@@ -149,7 +149,7 @@ IsTaskTo d target (copy_to shape stored region at) = IsOfType d target × (shape
     × HasBox d (codes "subset") (Some region) × HasNumbers d (codes "at") at
 IsTaskTo d target (resize_to shape keep) = ⊥
 
--- `subset` and `clip`, where there is no target, or what is asked for with it
+-- `subset`, `clip` and byte ranges, where there is no target, or what is asked for with it
 abbrev pub IsCopying : Data → Task → Type 0
 IsCopying d (read_of subset clip ranges) =
     (get (codes "target") d ≡ None) × HasBox d (codes "subset") subset × HasFlag d (codes "clip") clip × HasRanges d ranges
@@ -187,24 +187,24 @@ pub record FitKeys (d : Data) : Type 0 where
   pub of_target : IsSome (get (codes "keys") d) → IsSome (get (codes "target") d)
   pub of_lines : IsSome (get (codes "keys") d) → get (codes "counts") d ≡ None
 
--- the members that stand beside no `order`
+-- the members that don't go with `order`
 abbrev pub not_of_order : List (List ℕ)
 not_of_order = codes "subset" ∷ codes "chunks" ∷ codes "counts" ∷ codes "keys" ∷ []
 
 -- `order` stands beside a target, and beside none of those
 pub record FitOrder (d : Data) : Type 0 where
   pub of_target : IsSome (get (codes "order") d) → IsSome (get (codes "target") d)
-  pub of_lines : IsSome (get (codes "order") d) → HasNone not_of_order d
+  pub alone : IsSome (get (codes "order") d) → HasNone not_of_order d
 
 -- the members that stand beside `item_size` alone
-abbrev pub of_item_size : List (List ℕ)
-of_item_size = codes "memory_order" ∷ codes "max_ranges" ∷ []
+abbrev pub only_with_item_size : List (List ℕ)
+only_with_item_size = codes "memory_order" ∷ codes "max_ranges" ∷ []
 
--- `item_size` stands beside no target and no `counts`, and those beside it
+-- `item_size` stands beside no target and no `counts`, and those two beside it alone
 pub record FitRanges (d : Data) : Type 0 where
   pub of_read : IsSome (get (codes "item_size") d) → get (codes "target") d ≡ None
   pub of_lines : IsSome (get (codes "item_size") d) → get (codes "counts") d ≡ None
-  pub of_item : get (codes "item_size") d ≡ None → HasNone of_item_size d
+  pub of_item : get (codes "item_size") d ≡ None → HasNone only_with_item_size d
 
 -- and `share` beside no `counts`
 pub record Fit (d : Data) : Type 0 where
@@ -215,7 +215,7 @@ pub record Fit (d : Data) : Type 0 where
   pub ranges : FitRanges d
   pub of_counts : IsSome (get (codes "counts") d) → get (codes "share") d ≡ None
 
--- the lines of a rechunking, or of the copy of a region, are asked for
+-- the lines of a rechunking in the order of the target, or of the copy of a region, are asked for
 abbrev pub AsksForLinesOfCopy : Document → Type 0
 AsksForLinesOfCopy document = ((share : Share) × (document.wanted ≡ lines_wanted share))
     × (((stored : Stored) × (chunks : Option Box) × (document.task ≡ rechunk_to stored chunks))

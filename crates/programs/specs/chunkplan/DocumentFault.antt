@@ -12,7 +12,7 @@ use Rattle.zarrs_chunk_questions.specs.Order.{order_in}
 use Rattle.programs.specs.Document.{HasAll, HasStored, IsObjectOf, IsShapeFault, IsStoredFault, IsTextFault, shape_in}
 use Rattle.programs.specs.Stored.{Stored}
 use Rattle.programs.specs.chunkplan.Document.{Fit, FitKeys, FitResize, FitTask, HasBox, HasFlag, HasNumbers, HasWanted, IsOfArray, IsOfType, Wanted}
-use Rattle.programs.specs.chunkplan.Document.{FitOrder, FitRanges, HasOr, HasOrder, Ranges, not_of_order, not_of_resize, of_item_size as members_of_item_size, order_of}
+use Rattle.programs.specs.chunkplan.Document.{FitOrder, FitRanges, HasOr, HasOrder, not_of_order, not_of_resize, only_with_item_size, line_order_in}
 use Rattle.programs.specs.chunkplan.Known.{Agree, Differ, HasOnly, IsFirstUnknown, known_members, zarr_json_members}
 use Rattle.programs.specs.chunkplan.RunFault.{of_document}
 use Rattle.programs.specs.declared.chunkplan.run_fault.RunFault.{RunFault}
@@ -96,7 +96,7 @@ abbrev pub IsRangesMisfit : Data → RunFault → Type 0
 IsRangesMisfit d ItemSizeOfTarget = IsSome (get (codes "item_size") d) × IsSome (get (codes "target") d)
 IsRangesMisfit d ItemSizeOfCounts =
     IsSome (get (codes "item_size") d) × (get (codes "target") d ≡ None) × IsSome (get (codes "counts") d)
-IsRangesMisfit d (NoItemSize told) = (get (codes "item_size") d ≡ None) × IsFirstThere members_of_item_size d told.now
+IsRangesMisfit d (NoItemSize told) = (get (codes "item_size") d ≡ None) × IsFirstThere only_with_item_size d told.now
 IsRangesMisfit d _ = ⊥
 
 -- The first member that doesn't go with the others: with `resize`, the first of `not_of_resize`; without it, `keep`; then as of the task; then
@@ -130,7 +130,7 @@ HasBoxFault d field fault = (m : Data) × (get field d ≡ Some m) × IsBoxFormF
 abbrev pub HasFormFault : {X : Type 0} → (form : Data → Option X) → Data → List ℕ → RunFault → Type 0
 HasFormFault form d field fault = (m : Data) × (get field d ≡ Some m) × (form m ≡ None) × TellsWrongValue field fault
 
--- it is neither true nor false
+-- the member is there, and neither true nor false
 abbrev pub HasFlagFault : Data → List ℕ → RunFault → Type 0
 HasFlagFault = HasFormFault as_bool
 
@@ -143,13 +143,13 @@ HasShareFault d fault = (m : Data) × (get (codes "share") d ≡ Some m) × Tell
 abbrev pub HasWantedFault : Data → RunFault → Type 0
 HasWantedFault d fault = HasFlagFault d (codes "counts") fault ⊎ (HasFlag d (codes "counts") false × HasShareFault d fault)
 
--- it is no list of sizes
+-- the member is there, and no list of sizes
 abbrev pub HasNumbersFault : Data → List ℕ → RunFault → Type 0
 HasNumbersFault = HasFormFault (list_of size_of)
 
--- the order is none
+-- `order` names no order
 abbrev pub HasOrderFault : Data → RunFault → Type 0
-HasOrderFault d = HasFormFault order_of d (codes "order")
+HasOrderFault d = HasFormFault line_order_in d (codes "order")
 
 -- The first fault of how byte ranges are wanted: `item_size` is no size from 1 on; then `memory_order` is no such order; then `max_ranges` no size.
 pub data HasRangesFault (d : Data) (fault : RunFault) : Type 0 where

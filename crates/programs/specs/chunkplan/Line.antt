@@ -17,7 +17,7 @@ use Rattle.zarrs_chunk_plan.specs.declared.resize.Change.TheVariants.{Delete, Ke
 use Rattle.zarrs_chunk_plan.specs.declared.resize.ChunkChange.{ChunkChange}
 use Rattle.zarrs_chunk_plan.specs.declared.resize.Held.{Held}
 use Rattle.zarrs_chunk_plan.specs.declared.share.Share.{Share}
-use Rattle.programs.specs.chunkplan.Document.{Ranges}
+use Rattle.programs.specs.chunkplan.Document.{RangesWanted}
 use Rattle.programs.specs.declared.chunkplan.line.Order.{Order}
 use Rattle.programs.specs.declared.chunkplan.line.Order.TheVariants.{Source, Target}
 
@@ -58,7 +58,7 @@ range_items long (start ∷ starts) = item (numbers_json (start ∷ long ∷ [])
 abbrev pub list_json : (most length : ℕ) → (starts : List ℕ) → Json
 list_json most long starts = cond (nat_le (length starts) most) (array (range_items long starts)) null
 
--- byte ranges in their strided form, and the list of them; null, where there are none
+-- byte ranges in their strided form, and the list of them; null for `None`
 abbrev pub strided_json : (most : ℕ) → Option Strided → Json
 strided_json most (Some s) =
     object (member (codes "counts") (numbers_json s.counts)
@@ -69,18 +69,18 @@ strided_json most (Some s) =
 strided_json most None = null
 
 -- the byte ranges of a part's box in its chunk, as they are wanted
-abbrev pub part_ranges_json : Ranges → Part → Json
+abbrev pub part_ranges_json : RangesWanted → Part → Json
 part_ranges_json wanted part =
     strided_json wanted.most (ranges_of wanted.item wanted.order part.shape.items part.in_chunk.start part.in_chunk.shape)
 
 -- a member for them, where they are wanted, before others
-abbrev pub with_ranges : Option Ranges → Part → Members → Members
+abbrev pub with_ranges : Option RangesWanted → Part → Members → Members
 with_ranges None part others = others
 with_ranges (Some wanted) part others = member (codes "ranges") (part_ranges_json wanted part) others
 
 -- a part of a read: its chunk, the two boxes, the key, which line of how many it is, its byte ranges if they are wanted, the chunk's shape, and
 -- whether all that the chunk has of the array is read
-abbrev pub part_json : (at of : Option ℕ) → Option Ranges → Part → Json
+abbrev pub part_json : (at of : Option ℕ) → Option RangesWanted → Part → Json
 part_json at of wanted part =
     object (member (codes "chunk") (numbers_json part.chunk.items)
     (member (codes "in_chunk") (box_json part.in_chunk)
@@ -93,14 +93,14 @@ part_json at of wanted part =
     (member (codes "whole") (boolean part.whole) no_members)))))))))
 
 -- The lines of a share of a read, of which these are all parts: each by its number among all.
-abbrev pub read_lines : Option Ranges → Share → List Part → List ℕ
+abbrev pub read_lines : Option RangesWanted → Share → List Part → List ℕ
 read_lines wanted share parts =
     lines_from (λ n part. line_of (part_json (counted n) (counted (length parts)) wanted part))
     (before_share share.number share.of (length parts)) (share_of share parts)
 
 -- ---- a rechunking, and the copy of a region
 
--- how the box of the line's chunk is called in a piece of the line
+-- what the box of the line's chunk is called in a piece of the line
 abbrev pub place_name : Order → List ℕ
 place_name Target = codes "in_target"
 place_name Source = codes "in_source"
@@ -110,8 +110,8 @@ abbrev pub whole_members : Order → Part → Members
 whole_members Target part = no_members
 whole_members Source part = member (codes "whole") (boolean part.whole) no_members
 
--- What the chunk of a line shares with one of the other array: that one, the box of it, the box of the line's chunk, its key and its shape. In the order
--- of the target, the line's chunk gets it; in that of the source, it gives it. What the line's chunk has in all begins at `first` in it.
+-- What the chunk of a line shares with a chunk of the other grid: that chunk, the box of it, the box of the line's chunk, and the other chunk's key and
+-- shape. In the order of the target, the line's chunk gets it; in that of the source, it gives it. What the line's chunk has in all begins at `first`.
 abbrev pub piece_json : Order → (first : List ℕ) → Part → Json
 piece_json order first part =
     object (member (codes "chunk") (numbers_json part.chunk.items)

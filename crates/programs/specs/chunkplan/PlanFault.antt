@@ -14,7 +14,7 @@ use Rattle.zarrs_chunk_plan.specs.Region.{IsRegionFault}
 use Rattle.zarrs_chunk_plan.specs.declared.copies_error.CopiesError.TheVariants.{Chunks}
 use Rattle.zarrs_chunk_plan.specs.declared.region_error.RegionError.{RegionError}
 use Rattle.programs.specs.Stored.{IsCreateFault, IsStored, Stored}
-use Rattle.programs.specs.chunkplan.Document.{Document, IsDocument, Ranges, copy_to, read_of, rechunk_by_source, rechunk_to}
+use Rattle.programs.specs.chunkplan.Document.{Document, IsDocument, RangesWanted, copy_to, read_of, rechunk_by_source, rechunk_to}
 use Rattle.programs.specs.chunkplan.Document.{resize_to}
 use Rattle.programs.specs.chunkplan.DocumentFault.{IsInputFault}
 use Rattle.programs.specs.chunkplan.Keys.{AreKeys, HasKeysBehind, IsKeysFault, behind_first, first_line}
@@ -60,7 +60,7 @@ IsResizeFault stored shape _ = ⊥
 -- grid and the encoding of the target, and then the box of its chunks, or the region; of a resize, the grid of the new shape.
 pub data IsPlanFault (document : Document) (fault : RunFault) : Type 0 where
   of_source : (told : CreateFault) → IsCreateFault document.stored document.shape told → fault ≡ of_create told → IsPlanFault document fault
-  of_subset : (subset : Option Box) (clip : Bool) (ranges : Option Ranges) (grid : ChunkGrid) (encoding : KeyEncoding)
+  of_subset : (subset : Option Box) (clip : Bool) (ranges : Option RangesWanted) (grid : ChunkGrid) (encoding : KeyEncoding)
       → document.task ≡ read_of subset clip ranges
       → IsStored document.stored document.shape grid encoding
       → IsReadFault clip grid.dimensions (unwrap_or subset (array_box grid.dimensions)) fault → IsPlanFault document fault
@@ -70,7 +70,7 @@ pub data IsPlanFault (document : Document) (fault : RunFault) : Type 0 where
       → document.task ≡ rechunk_to stored chunks → IsStored document.stored document.shape source source_encoding
       → IsStored stored document.shape target target_encoding
       → IsChunksFault target.dimensions (unwrap_or chunks (all_chunks_box target.dimensions)) fault → IsPlanFault document fault
-  of_takers : (stored : Stored) (grid : ChunkGrid) (encoding : KeyEncoding) → document.task ≡ rechunk_by_source stored
+  of_source_order_target : (stored : Stored) (grid : ChunkGrid) (encoding : KeyEncoding) → document.task ≡ rechunk_by_source stored
       → IsStored document.stored document.shape grid encoding → IsTargetFault stored document.shape fault → IsPlanFault document fault
   of_region_target : (shape : List ℕ) (stored : Stored) (region : Box) (at : Option (List ℕ)) (grid : ChunkGrid) (encoding : KeyEncoding)
       → document.task ≡ copy_to shape stored region at → IsStored document.stored document.shape grid encoding → IsTargetFault stored shape fault

@@ -20,7 +20,7 @@ use Rattle.zarrs_chunk_plan.specs.declared.resize.ChunkChange.{ChunkChange}
 use Rattle.zarrs_chunk_plan.specs.declared.share.Share.{Share}
 use Rattle.programs.specs.Stored.{IsStored, Stored}
 use Rattle.programs.specs.chunkplan.CountsLine.{IsCountsLine}
-use Rattle.programs.specs.chunkplan.Document.{Document, IsDocument, Ranges, Wanted, copy_to, counts_wanted, lines_wanted, read_of}
+use Rattle.programs.specs.chunkplan.Document.{Document, IsDocument, RangesWanted, Wanted, copy_to, counts_wanted, lines_wanted, read_of}
 use Rattle.programs.specs.chunkplan.Document.{rechunk_by_source, rechunk_to, resize_to}
 use Rattle.programs.specs.chunkplan.Keys.{AreKeys, HasKeysBehind, IsMissingText, behind_first, first_line}
 use Rattle.programs.specs.chunkplan.Line.{read_lines, rechunking_lines, resize_lines}
@@ -39,7 +39,7 @@ IsAsked false ds b asked = asked ≡ b
 IsAsked true ds b asked = IsClipped ds b asked
 
 -- what is written of the plan of a read: the lines of a share, or the line of its counts
-abbrev pub IsReadText : Wanted → Option Ranges → Box → List Part → List ℕ → Type 0
+abbrev pub IsReadText : Wanted → Option RangesWanted → Box → List Part → List ℕ → Type 0
 IsReadText (lines_wanted share) ranges asked parts text = text ≡ read_lines ranges share parts
 IsReadText counts_wanted ranges asked parts text = (counts : Counts) × AreReadCounts asked parts counts × IsCountsLine counts text
 
@@ -73,9 +73,9 @@ IsRegionText counts_wanted source target region at groups text =
 
 -- What a document wants of its plan, as text: of a read of a box of elements, or of all, or of a rechunking into the chunks of a box, or into all, or
 -- of the copy of a region, or of a resize, whose two grids the same metadata make. In the order of the source, a rechunking is planned the other way
--- round: for each chunk of the source as what is copied into it from those of the target, which is what it gives to them.
+-- round: for each chunk of the source as what is copied into it from those of the target, which is what it gives to them. No document asks for its counts.
 pub data IsPlanned (document : Document) (text : List ℕ) : Type 0 where
-  of_read : (subset : Option Box) (clip : Bool) (ranges : Option Ranges) (asked : Box) (grid : Grid) (encoding : Encoding) (parts : List Part)
+  of_read : (subset : Option Box) (clip : Bool) (ranges : Option RangesWanted) (asked : Box) (grid : Grid) (encoding : Encoding) (parts : List Part)
       → document.task ≡ read_of subset clip ranges → IsStored document.stored document.shape grid encoding
       → IsAsked clip grid.dimensions (unwrap_or subset (array_box grid.dimensions)) asked
       → IsReadPlan grid.dimensions (IsKey encoding) asked parts → IsReadText document.wanted ranges asked parts text → IsPlanned document text
@@ -102,7 +102,7 @@ pub data IsPlanned (document : Document) (text : List ℕ) : Type 0 where
       → document.task ≡ resize_to shape keep → IsStored document.stored document.shape before encoding → IsGrid document.stored.chunk_grid shape after
       → IsResizePlan before.dimensions after.dimensions (IsKey encoding) keep changes → text ≡ resize_lines changes → IsPlanned document text
 
--- The plan of a rechunking or of the copy of a region, which a document asks for: its groups, and how the target's array is stored.
+-- The plan of a rechunking in the order of the target or of the copy of a region, which a document asks for: its groups, and how the target's array is stored.
 pub data ArePlanned (document : Document) (target : Grid) (encoding : Encoding) (groups : List Group) : Type 0 where
   of_rechunking : (stored : Stored) (chunks : Option Box) (source : Grid) (source_encoding : Encoding) → document.task ≡ rechunk_to stored chunks
       → IsStored document.stored document.shape source source_encoding → IsStored stored document.shape target encoding

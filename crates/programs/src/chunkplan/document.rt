@@ -254,7 +254,7 @@ fn check_fitting_order(tree: &Value) -> Result<(), RunFault>
     }
 }
 
-/// Refuses `item_size` beside a target, and beside counts, and what goes with it alone where there is none.
+/// Refuses `item_size` beside a target, and beside counts, and what goes with it alone where there is no `item_size`.
 fn check_fitting_ranges(tree: &Value) -> Result<(), RunFault>
     ensures { MatchResult result (λ _. FitRanges (view tree.now))
         (IsRangesMisfit (view tree.now)) }

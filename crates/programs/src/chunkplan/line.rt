@@ -3,7 +3,7 @@ ghost use Rattle.std.specs.Prelude.{◌≡◌, [], ◌∷◌, ◌++◌, codes, o
 ghost use Rattle.json.specs.Print.{print};
 ghost use Rattle.json.specs.Token.{begin_array, begin_object, boolean, end_array, end_object, key, null, string};
 ghost use Rattle.json.specs.Tree.{json_tokens};
-ghost use Rattle.programs.specs.chunkplan.Document.{ranges_in};
+ghost use Rattle.programs.specs.chunkplan.Document.{ranges_asked_of};
 ghost use Rattle.programs.specs.chunkplan.Keys.{foreign_json};
 ghost use Rattle.programs.specs.chunkplan.Line.{box_json, change_line, change_word, count_json, held_json, held_shape_json, line_of, numbers_json};
 ghost use Rattle.programs.specs.chunkplan.Line.{chunk_json, part_json, place_name};
@@ -66,7 +66,7 @@ fn part_line(
     ranges: &Option<RangesAsked>,
 ) -> Result<Vec<u8>, AllocError>
     ensures { IfOk result (λ line. line.items ≡ line_of (part_json number of
-        (option_map ranges_in ranges.now) part.now)) }
+        (option_map ranges_asked_of ranges.now) part.now)) }
 {
     let mut json = Writer::new(Vec::with_capacity(alloc, LINE_LEN)?);
     json.begin_object()?;
@@ -91,7 +91,7 @@ fn write_wanted(
     part: &Part,
 ) -> Result<(), AllocError>
     ensures { OnOk result (Adds json.old json.new
-        (ranges_tokens (option_map ranges_in wanted.now) part.now)) }
+        (ranges_tokens (option_map ranges_asked_of wanted.now) part.now)) }
 {
     match wanted {
         Some(wanted) => write_ranges(alloc, json, wanted, part),
@@ -122,7 +122,7 @@ fn piece_text(
     Ok(json.into_inner())
 }
 
-/// How the box of the line's chunk is called in a piece of the line.
+/// What the box of the line's chunk is called in a piece of the line.
 fn place_name(order: Order) -> &'static str
     ensures { result.now ≡ place_name order }
 {

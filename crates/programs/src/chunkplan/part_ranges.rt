@@ -6,7 +6,7 @@ ghost use Rattle.json.specs.Token.{key};
 ghost use Rattle.json.specs.Tree.{json_tokens};
 ghost use Rattle.zarrs_chunk_plan.specs.Bytes.{HasPast, begins};
 ghost use Rattle.zarrs_chunk_plan.specs.Strided.{form_of, ranges_of};
-ghost use Rattle.programs.specs.chunkplan.Document.{ranges_in};
+ghost use Rattle.programs.specs.chunkplan.Document.{ranges_asked_of};
 ghost use Rattle.programs.specs.chunkplan.Line.{list_json, part_ranges_json, range_items, strided_json};
 ghost use Rattle.programs.specs.chunkplan.seen.Added.{Adds};
 
@@ -28,7 +28,7 @@ pub(crate) fn write_ranges(
     part: &Part,
 ) -> Result<(), AllocError>
     ensures { OnOk result (Adds json.old json.new (key (codes "ranges")
-        ∷ json_tokens (part_ranges_json (ranges_in wanted.now) part.now))) }
+        ∷ json_tokens (part_ranges_json (ranges_asked_of wanted.now) part.now))) }
 {
     match part_ranges(alloc, wanted, part)? {
         Some(ranges) => write_strided(alloc, json, &ranges, wanted.most),
@@ -56,7 +56,7 @@ fn part_ranges(
     let edges = part.shape.as_slice();
     match byte_ranges(alloc, edges, &part.in_chunk, wanted.item_size, wanted.order) {
         Ok(found) => Ok(found),
-        // Never: a part's box has the chunk's dimensions.
+        // A box of other dimensions has no ranges either; a part's box has the chunk's.
         Err(Refusal::Refused(_)) => Ok(None),
         Err(Refusal::Memory(error)) => Err(error),
     }

@@ -14,7 +14,7 @@ ghost use Rattle.zarrs_chunk_plan.specs.seen.Copies.{AreMovesToCome, CanMove, al
 ghost use Rattle.zarrs_chunk_plan.specs.seen.Parts.{HasKeys};
 ghost use Rattle.programs.specs.Stored.{IsStored, stored_of};
 ghost use Rattle.programs.specs.chunkplan.CountsLine.{IsCountsLine};
-ghost use Rattle.programs.specs.chunkplan.Document.{counts_wanted, document_of, ranges_in, wanted_of};
+ghost use Rattle.programs.specs.chunkplan.Document.{counts_wanted, document_of, ranges_asked_of, wanted_of};
 ghost use Rattle.programs.specs.chunkplan.Line.{read_lines, rechunking_lines, resize_lines};
 ghost use Rattle.programs.specs.chunkplan.PlanFault.{IsChunksFault, IsCopyFault, IsPlanFault, IsReadFault, IsResizeFault, IsTargetFault};
 ghost use Rattle.programs.specs.chunkplan.Planned.{IsAsked, IsPlanned, IsReadPlan, IsReadText, IsRechunkingText, IsRegionPlan, IsRegionText};
@@ -215,7 +215,7 @@ fn write_read<G: ChunkGridTraits, E: ChunkKeyEncodingTraits, W: Write>(
         (λ text. (asked : Box) × (parts : List PartValue)
         × IsAsked clip (G.dimensions array.now.grid) subset asked
         × IsReadPlan (G.dimensions array.now.grid) (E.is_key array.now.encoding) asked parts
-        × IsReadText (wanted_of wanted.now) (option_map ranges_in ranges.now) asked parts text)
+        × IsReadText (wanted_of wanted.now) (option_map ranges_asked_of ranges.now) asked parts text)
         (IsReadFault clip (G.dimensions array.now.grid) subset) result
         (output W.contents held_back.old.items writer.old)
         (output W.contents held_back.new.items writer.new) }
@@ -259,7 +259,7 @@ fn write_asked<G: ChunkGridTraits, E: ChunkKeyEncodingTraits, W: Write>(
     ensures { StepLeaves
         (λ text. (parts : List PartValue)
         × IsReadPlan (G.dimensions array.now.grid) (E.is_key array.now.encoding) subset.now parts
-        × IsReadText (wanted_of wanted.now) (option_map ranges_in ranges.now) subset.now parts
+        × IsReadText (wanted_of wanted.now) (option_map ranges_asked_of ranges.now) subset.now parts
         text)
         (IsReadFault false (G.dimensions array.now.grid) subset.now) result
         (output W.contents held_back.old.items writer.old)
@@ -294,7 +294,7 @@ fn write_parts_of<G: ChunkGridTraits, E: ChunkKeyEncodingTraits, W: Write>(
     ensures { StepLeaves
         (λ text. (parts : List PartValue)
         × IsReadPlan (G.dimensions array.now.grid) (E.is_key array.now.encoding) subset.now parts
-        × (text ≡ read_lines (option_map ranges_in ranges.now) share.now parts))
+        × (text ≡ read_lines (option_map ranges_asked_of ranges.now) share.now parts))
         (IsReadFault false (G.dimensions array.now.grid) subset.now) result
         (output W.contents held_back.old.items writer.old)
         (output W.contents held_back.new.items writer.new) }

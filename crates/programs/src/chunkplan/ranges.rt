@@ -4,7 +4,7 @@ ghost use Rattle.serde_json.specs.View.{view};
 ghost use Rattle.zarrs_chunk_base.specs.Json.{size_of};
 ghost use Rattle.zarrs_chunk_plan.specs.declared.bytes.MemoryOrder.TheVariants.{C};
 ghost use Rattle.zarrs_chunk_questions.specs.Order.{order_in};
-ghost use Rattle.programs.specs.chunkplan.Document.{HasOr, HasRanges, ranges_in};
+ghost use Rattle.programs.specs.chunkplan.Document.{HasOr, HasRanges, ranges_asked_of};
 ghost use Rattle.programs.specs.chunkplan.DocumentFault.{HasFormFault, HasRangesFault};
 ghost use Rattle.programs.specs.declared.chunkplan.run_fault.RunFault.TheVariants.{Memory};
 
@@ -30,7 +30,7 @@ pub(crate) struct RangesAsked {
 /// How a document wants byte ranges, if it does.
 pub(crate) fn member_ranges(alloc: Global, tree: &Value) -> Result<Option<RangesAsked>, RunFault>
     ensures { MatchResult result
-        (λ asked. HasRanges (view tree.now) (option_map ranges_in asked))
+        (λ asked. HasRanges (view tree.now) (option_map ranges_asked_of asked))
         (λ fault. (fault ≡ Memory) ⊎ HasRangesFault (view tree.now) fault) }
 {
     let Some(member) = tree.get("item_size") else {

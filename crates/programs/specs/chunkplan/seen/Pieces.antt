@@ -4,7 +4,7 @@ use Rattle.json.specs.Print.{print}
 use Rattle.json.specs.Token.{Token, begin_array, begin_object, boolean, end_array, end_object, key}
 use Rattle.json.specs.Tree.{json_tokens, members_tokens}
 use Rattle.zarrs_chunk_plan.specs.declared.part.Part.{Part}
-use Rattle.programs.specs.chunkplan.Document.{Ranges, ranges_in}
+use Rattle.programs.specs.chunkplan.Document.{RangesWanted, ranges_asked_of}
 use Rattle.programs.specs.chunkplan.Line.{chunk_json, count_json, end_members, line_of, part_json, part_ranges_json, piece_json}
 use Rattle.programs.specs.declared.chunkplan.line.Form.{Form}
 use Rattle.programs.specs.declared.chunkplan.line.Form.TheVariants.{Line, Piece}
@@ -22,15 +22,15 @@ piece_text order of at part = comma_before at ++ print (json_tokens (piece_json 
 
 -- the text of a part in one form, by its number: as a line of a read, or as a piece of the line of a chunk
 abbrev pub text_as : Form → Option ℕ → Part → List ℕ
-text_as (Line of ranges) at part = line_of (part_json at of (option_map ranges_in ranges) part)
+text_as (Line of ranges) at part = line_of (part_json at of (option_map ranges_asked_of ranges) part)
 text_as (Piece order of) at part = piece_text order of.now at part
 
 -- the tokens of the byte ranges of a part, where they are wanted
-abbrev pub ranges_tokens : Option Ranges → Part → List Token
+abbrev pub ranges_tokens : Option RangesWanted → Part → List Token
 ranges_tokens None part = []
 ranges_tokens (Some wanted) part = key (codes "ranges") ∷ json_tokens (part_ranges_json wanted part)
 
--- the tokens of the last members of a piece
+-- the tokens of the last member of a piece, where it has it
 abbrev pub whole_tokens : Order → Part → List Token
 whole_tokens Target part = []
 whole_tokens Source part = key (codes "whole") ∷ boolean part.whole ∷ []

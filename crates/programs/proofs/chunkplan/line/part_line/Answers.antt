@@ -1,5 +1,5 @@
 use Rattle.std.proofs.Common.{◌∙◌, option_map}
-use Rattle.programs.specs.chunkplan.Document.{ranges_in}
+use Rattle.programs.specs.chunkplan.Document.{ranges_asked_of}
 use Rattle.programs.proofs.chunkplan.Pieces.{part_tokens}
 use Rattle.programs.proofs.chunkplan.Tokens.{then, wrote}
 use Rattle.programs.proofs.chunkplan.line.part_line.Goals as goal
@@ -36,5 +36,5 @@ returns c =
     (then _ _ _ _ _ shape
     (then _ _ _ _ _ c.in_ok-write_whole.ensures (wrote _ _ _ c.in_ok-end_object.ensures))))))))))
     in
-    rw (part_tokens c.args.number c.args.of (option_map ranges_in c.args.ranges.now) c.args.part.now)
+    rw (part_tokens c.args.number c.args.of (option_map ranges_asked_of c.args.ranges.now) c.args.part.now)
     (rw (all.tokens, c.new-json.ensures.tokens) at c.ended.ensures)

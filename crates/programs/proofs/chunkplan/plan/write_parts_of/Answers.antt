@@ -3,7 +3,7 @@ use Rattle.std.proofs.lemmas.Result.{err_from_is_err_and}
 use Rattle.zarrs_chunk_plan.specs.Counted.{counted}
 use Rattle.zarrs_chunk_plan.specs.Shares.{before_share, share_of}
 use Rattle.zarrs_chunk_plan.specs.seen.Parts.{all_chunks}
-use Rattle.programs.specs.chunkplan.Document.{ranges_in}
+use Rattle.programs.specs.chunkplan.Document.{ranges_asked_of}
 use Rattle.programs.specs.chunkplan.Line.{line_of, lines_from, part_json}
 use Rattle.programs.specs.chunkplan.PlanFault.{IsReadFault}
 use Rattle.programs.specs.seen.Sent.{output}
@@ -49,11 +49,11 @@ returns-in_ok-first-in-Ok-Some g c =
           c.is_a_box.ensures many about (rw is at said.empty) (rw is at said.answers) are_all,
       lines
           ∙ ap
-          (λ of. lines_from (λ n part. line_of (part_json (counted n) of (option_map ranges_in c.args.ranges.now) part)) (before_share share.number share.of (length (all_chunks walk))) parts)
+          (λ of. lines_from (λ n part. line_of (part_json (counted n) of (option_map ranges_asked_of c.args.ranges.now) part)) (before_share share.number share.of (length (all_chunks walk))) parts)
           c.in_all.ensures
-          ∙ ap (λ k. lines_from (λ n part. line_of (part_json (counted n) (counted k) (option_map ranges_in c.args.ranges.now) part)) (before_share share.number share.of k) parts) count
+          ∙ ap (λ k. lines_from (λ n part. line_of (part_json (counted n) (counted k) (option_map ranges_asked_of c.args.ranges.now) part)) (before_share share.number share.of k) parts) count
           ∙ ap
-          (λ ps. lines_from (λ n part. line_of (part_json (counted n) (counted (length all)) (option_map ranges_in c.args.ranges.now) part))
+          (λ ps. lines_from (λ n part. line_of (part_json (counted n) (counted (length all)) (option_map ranges_asked_of c.args.ranges.now) part))
           (before_share share.number share.of (length all)) ps)
           (sym is_share),
     ))

@@ -10,9 +10,9 @@ use Rattle.zarrs_chunk_plan.specs.Rechunking.{IsRechunking, all_chunks_box}
 use Rattle.zarrs_chunk_plan.specs.declared.copies_error.CopiesError.TheVariants.{Chunks}
 use Rattle.zarrs_chunk_plan.proofs.OneConfiguration.{one_configuration}
 use Rattle.programs.specs.Stored.{stored_of}
-use Rattle.programs.specs.chunkplan.Document.{document_of, ranges_in, task_of}
+use Rattle.programs.specs.chunkplan.Document.{document_of, ranges_asked_of, task_of}
 use Rattle.programs.specs.chunkplan.PlanFault.{IsChunksFault, IsCopyFault, IsPlanFault, IsReadFault, of_chunks, of_region_target, of_source, of_subset}
-use Rattle.programs.specs.chunkplan.PlanFault.{of_region as of_region_fault, of_resize as of_resize_fault, of_takers, of_target}
+use Rattle.programs.specs.chunkplan.PlanFault.{of_region as of_region_fault, of_resize as of_resize_fault, of_source_order_target, of_target}
 use Rattle.programs.specs.chunkplan.Planned.{IsAsked, IsPlanned, IsRechunkingText, IsRegionPlan, IsRegionText, begins_at, of_read, of_rechunking, of_region}
 use Rattle.programs.specs.chunkplan.Planned.{of_resize, of_source_order}
 use Rattle.programs.specs.chunkplan.RunFault.{of_create}
@@ -83,10 +83,10 @@ returns-in-Read g c =
     let document = document_of c.args.document in
     let clip = c.in-Read.clip in
     step_follows _ (IsPlanned document) (IsReadFault clip grid.dimensions c.in_ok-subset-in-Read.subset) (IsPlanFault document)
-    (λ text (asked, parts, meant, is, lines). of_read c.in-Read.subset clip (option_map ranges_in c.in-Read.ranges) asked grid encoding parts (ap task_of c.in-Read.is)
+    (λ text (asked, parts, meant, is, lines). of_read c.in-Read.subset clip (option_map ranges_asked_of c.in-Read.ranges) asked grid encoding parts (ap task_of c.in-Read.is)
     made
     (subst (λ b. IsAsked clip grid.dimensions b asked) c.in_ok-subset-in-Read.ensures meant) is lines)
-    (λ fault is. of_subset c.in-Read.subset clip (option_map ranges_in c.in-Read.ranges) grid encoding (ap task_of c.in-Read.is) made
+    (λ fault is. of_subset c.in-Read.subset clip (option_map ranges_asked_of c.in-Read.ranges) grid encoding (ap task_of c.in-Read.is) made
     (subst (λ b. IsReadFault clip grid.dimensions b fault) c.in_ok-subset-in-Read.ensures is))
     (output g.W.Write.contents c.args.held_back.now.items c.args.writer.now)
     (output g.W.Write.contents c.write_read.new.held_back.items c.write_read.new.writer)
@@ -144,7 +144,7 @@ returns-in_err-target-in-RechunkBySource g c =
     (output g.W.Write.contents c.args.held_back.now.items c.args.writer.now)
     (no_failed_write document)
     (⊎_elim (λ memory. inl memory)
-    (λ is. inr (of_takers (stored_of c.in-RechunkBySource.target) (grid_in c.in_ok-array.array.grid) (encoding_in c.in_ok-array.array.encoding)
+    (λ is. inr (of_source_order_target (stored_of c.in-RechunkBySource.target) (grid_in c.in_ok-array.array.grid) (encoding_in c.in_ok-array.array.encoding)
     (ap task_of c.in-RechunkBySource.is) made is))
     refused))
 
