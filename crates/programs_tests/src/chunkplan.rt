@@ -101,7 +101,8 @@ const ORDER_OF_NO_TARGET: &[u8] =
 const CHUNKS_OF_ORDER: &[u8] =
     br#"{"shape":[4],"chunk_grid":"","chunk_key_encoding":"","order":"source","chunks":1,"target":{}}"#;
 
-const WRONG_ORDER: &[u8] = br#"{"shape":[4],"chunk_grid":"regular","chunk_key_encoding":"v2","order":"sources","target":{"chunk_grid":"regular","chunk_key_encoding":"v2"}}"#;
+const WRONG_ORDER: &[u8] =
+    br#"{"shape":[4],"chunk_grid":"regular","chunk_key_encoding":"v2","order":"sources","target":{"chunk_grid":"regular","chunk_key_encoding":"v2"}}"#;
 
 /// The same array, of two bytes an element, of which a box is read by byte ranges; one range of a chunk is listed.
 const RANGED: &[u8] =

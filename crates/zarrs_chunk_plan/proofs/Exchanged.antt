@@ -175,6 +175,7 @@ module _ (source : List Dimension) (IsSourceKey : List ℕ → List ℕ → Type
       let within = of.is_from.whole.0 whole other_of.index in_source below in
       let here = ((those_are target IsTargetKey of.t copy.1 of.is_to of.meets other_of.index).0 within).0 in
       of.is_to.numbers ∙ same_box target of.t other_of.t other_of.index also_chains here in_target ∙ sym other_of.is_to.numbers
+
   pub one_of_its_chunk : (groups : List Group) → IsRechunking source IsSourceKey target IsTargetKey chunks groups
       → AllPairs (λ copy other. copy.0.chunk.items ≡ other.0.chunk.items → IsTrue copy.0.whole ⊎ IsTrue other.0.whole → ⊥) (copies_of groups)
   one_of_its_chunk groups plan =

@@ -31,25 +31,31 @@ module _ (source target : List Dimension) (chains : AllByRecursion IsChain sourc
   pub same_from : (into : List Dimension) → Moves source target copy steps index → Moves source into other also index
       → (copy.0.chunk.items ≡ other.0.chunk.items) × (counted_from copy.0.in_chunk.start steps ≡ counted_from other.0.in_chunk.start also)
   same_from into moved again =
-      let chunk = same_box source copy.0.chunk.items other.0.chunk.items index chains moved.in_source again.in_source in
-      (chunk, one_place source other.0.chunk.items index _ _
-      (subst (λ c. IsPlace source c index (counted_from copy.0.in_chunk.start steps)) chunk moved.from) again.from)
+      let chunk = same_box source copy.0.chunk.items other.0.chunk.items index chains moved.in_source again.in_source in (
+        chunk,
+        one_place source other.0.chunk.items index _ _
+            (subst (λ c. IsPlace source c index (counted_from copy.0.in_chunk.start steps)) chunk moved.from) again.from,
+      )
 
   -- and to where it does, where both are into one
   pub same_to : (from : List Dimension) → Moves source target copy steps index → Moves from target other also index
       → (copy.1.chunk.items ≡ other.1.chunk.items) × (counted_from copy.0.in_subset.start steps ≡ counted_from other.0.in_subset.start also)
   same_to from moved again =
-      let chunk = same_box target copy.1.chunk.items other.1.chunk.items index also_chains moved.in_target again.in_target in
-      (chunk, one_place target other.1.chunk.items index _ _
-      (subst (λ c. IsPlace target c index (counted_from copy.0.in_subset.start steps)) chunk moved.to) again.to)
+      let chunk = same_box target copy.1.chunk.items other.1.chunk.items index also_chains moved.in_target again.in_target in (
+        chunk,
+        one_place target other.1.chunk.items index _ _
+            (subst (λ c. IsPlace target c index (counted_from copy.0.in_subset.start steps)) chunk moved.to) again.to,
+      )
 
   -- what the other one moves into it, the other way round
   pub same_between : (from : List Dimension) → Moves from source copy steps index → Moves source target other also index
       → (copy.1.chunk.items ≡ other.0.chunk.items) × (counted_from copy.0.in_subset.start steps ≡ counted_from other.0.in_chunk.start also)
   same_between from moved again =
-      let chunk = same_box source copy.1.chunk.items other.0.chunk.items index chains moved.in_target again.in_source in
-      (chunk, one_place source other.0.chunk.items index _ _
-      (subst (λ c. IsPlace source c index (counted_from copy.0.in_subset.start steps)) chunk moved.to) again.from)
+      let chunk = same_box source copy.1.chunk.items other.0.chunk.items index chains moved.in_target again.in_source in (
+        chunk,
+        one_place source other.0.chunk.items index _ _
+            (subst (λ c. IsPlace source c index (counted_from copy.0.in_subset.start steps)) chunk moved.to) again.from,
+      )
 
 -- an element that is moved is one of the array
 moved_below : (source : List Dimension) (IsSourceKey : List ℕ → List ℕ → Type 0) (target : List Dimension) (IsTargetKey : List ℕ → List ℕ → Type 0)

@@ -98,9 +98,7 @@ pub(crate) fn write_copies<
     let of = walk.in_all();
     let mut number = first;
     for group in walk {
-        write_unless_stored(
-            alloc, group?, order, stored, number, of, held_back, writer,
-        )?;
+        write_unless_stored(alloc, group?, order, stored, number, of, held_back, writer)?;
         number = following(number);
     }
     Ok(())

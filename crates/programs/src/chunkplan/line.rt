@@ -371,7 +371,11 @@ fn write_chunk(json: &mut Writer, name: &str, part: &Part) -> Result<(), AllocEr
 }
 
 /// Writes a member of this name: how many there are, or `null` where no number says it.
-pub(crate) fn write_count(json: &mut Writer, name: &str, count: Option<u64>) -> Result<(), AllocError>
+pub(crate) fn write_count(
+    json: &mut Writer,
+    name: &str,
+    count: Option<u64>,
+) -> Result<(), AllocError>
     ensures { OnOk result (Adds json.old json.new (key name.now ∷ json_tokens (count_json count))) }
 {
     json.key(name)?;
@@ -413,7 +417,11 @@ fn write_box(json: &mut Writer, name: &str, subset: &ArraySubset) -> Result<(), 
 }
 
 /// Writes a member of this name: a list of numbers.
-pub(crate) fn write_numbers(json: &mut Writer, name: &str, numbers: &[u64]) -> Result<(), AllocError>
+pub(crate) fn write_numbers(
+    json: &mut Writer,
+    name: &str,
+    numbers: &[u64],
+) -> Result<(), AllocError>
     ensures { OnOk result (Adds json.old json.new (key name.now
         ∷ json_tokens (numbers_json numbers.now))) }
 {
