@@ -1,4 +1,4 @@
-use Rattle.std.proofs.Common.{◌≡◌, ◌∙◌, Contains, IfSome, None, Option, Some, inl, sym}
+use Rattle.std.proofs.Common.{◌∙◌, Contains, IfSome, None, Option, Some, inl, sym}
 use Rattle.std.proofs.lemmas.Bool.{true≢false}
 use Rattle.std.specs.Int.NonZero.{non_zero_u64_get}
 use Rattle.zarrs_chunk_plan.specs.Region.{EndWithin}
