@@ -1,5 +1,5 @@
 -- What was taken out of a document leaves the other members.
-use Rattle.std.proofs.Common.{◌≡◌, ◌≢◌, ◌⊎◌, ℕ, ◌<◌, Bool, false, List, Option, Some, None, IsSome, MatchOption, ◌∙◌, ap, sym, subst, codes, length}
+use Rattle.std.proofs.Common.{◌≡◌, ◌≢◌, ◌⊎◌, ℕ, ◌<◌, false, List, Option, Some, None, IsSome, MatchOption, ◌∙◌, ap, sym, subst, codes, length}
 use Rattle.std.proofs.Common.{arith, get_or}
 use Rattle.serde_json.specs.Data.{Data}
 use Rattle.serde_json.specs.Find.{as_bool, get}

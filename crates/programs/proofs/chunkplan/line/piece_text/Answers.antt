@@ -1,6 +1,3 @@
-use Rattle.std.proofs.Common.{◌++◌, ap}
-use Rattle.json.specs.Print.{print}
-use Rattle.programs.specs.chunkplan.seen.Pieces.{comma_before}
 use Rattle.programs.proofs.chunkplan.Pieces.{piece_tokens}
 use Rattle.programs.proofs.chunkplan.Tokens.{then, wrote}
 use Rattle.programs.proofs.chunkplan.line.piece_text.Goals as goal

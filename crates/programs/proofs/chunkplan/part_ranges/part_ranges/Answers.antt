@@ -1,4 +1,3 @@
-use Rattle.std.proofs.Common.{◌≡◌, ap, length}
 use Rattle.std.specs.Int.NonZero.{non_zero_u64_get}
 use Rattle.zarrs_chunk_plan.proofs.MovedBoxes.{within_starts}
 use Rattle.zarrs_chunk_plan.proofs.StridedForms.{none_where_out}
