@@ -1,5 +1,5 @@
 """Plans of reads, rechunkings, copies of regions and resizes, element by element: each element is asked for its chunk and
-its place there. Copies of regions and resizes of arrays that have too many are found by boxes, too.
+its place there. Reads, copies of regions and resizes of arrays that have too many are found by boxes, too.
 
     python3 tools/chunk_plans.py [SEED]
 
@@ -88,6 +88,19 @@ def read(grid, encoding, start, shape, clip=False):
     ])  # fmt: skip
 
 
+def read_by_boxes(grid, encoding, start, shape):
+    """The plan that reads a box of elements of the array, by what each chunk and the box have in common: for arrays of any
+    size."""
+
+    def held(chunk):
+        return [min(d.end(c), d.size) - d.start(c) for d, c in zip(grid.dimensions, chunk)]
+
+    return numbered([
+        {**part, "shape": grid.chunk_shape(part["chunk"]), "whole": part["in_chunk"][1] == held(part["chunk"])}
+        for part in grid.parts(start, shape, encoding)
+    ])  # fmt: skip
+
+
 def rechunk(source, target, chunks=None):
     """The plan that moves an array from one grid with its encoding to another, into the chunks of a box or into all."""
     whole = [0] * len(source[0].shape)
@@ -124,6 +137,27 @@ def copied(source, target, box, at, chunks=None):
         to = {"chunk": list(written), "key": target_encoding.key(written), "shape": written_shape[written]}
         given = sum(math.prod(source["in_target"][1]) for source in sources)
         lines.append({"from": sources, "to": to, "whole": given == held[written]})
+    return numbered(lines)
+
+
+def rechunk_by_source(source, target):
+    """The plan that moves an array in the order of the source: a line for each of its chunks, with what each chunk of the
+    target gets of it. One that gets all its elements of the array from one chunk is written whole by that one's line."""
+    (grid, encoding), (target_grid, target_encoding) = source, target
+    places = [(home(grid, index), home(target_grid, index)) for index in elements(grid.shape)]
+    givers = collections.defaultdict(set)
+    for (read, _), (written, _) in places:
+        givers[written].add(read)
+    copies = boxes(((read, written), in_source, in_target) for (read, in_source), (written, in_target) in places)
+    read_shape, written_shape = shapes(grid, [read for (read, _), *_ in copies]), shapes(target_grid, list(givers))
+    lines = []
+    for read, group in itertools.groupby(copies, key=lambda copy: copy[0][0]):
+        takers = [
+            {"chunk": list(written), "in_chunk": in_target, "in_source": in_source, "key": target_encoding.key(written),
+             "shape": written_shape[written], "whole": givers[written] == {read}}
+            for (_, written), in_source, in_target in group
+        ]  # fmt: skip
+        lines.append({"from": {"chunk": list(read), "key": encoding.key(read), "shape": read_shape[read]}, "to": takers})
     return numbered(lines)
 
 

@@ -1,11 +1,12 @@
 #!/usr/bin/env python3
 """Sees that each chunk of the target of a rechunking, or of a region, was done, by what `copy_chunks.py` printed or appended.
 
-    check_done.py TARGET FILE.. [--subset START SHAPE [--at INDEX]]
+    check_done.py TARGET FILE.. [--subset START SHAPE [--at INDEX] | --by-source SOURCE]
 
 The files have the lines of one plan, in any order, some perhaps twice. Where one is missing, or says another number of
 lines than there are chunks to write, or where a chunk isn't stored, it says which, and ends with the status 1. How many
-there are it finds in the target's metadata, not in the lines.
+there are it finds in the target's metadata, not in the lines. With --by-source the lines are those of the chunks of SOURCE,
+and each chunk of the target has to be stored.
 """
 import argparse
 import itertools
@@ -22,21 +23,35 @@ def main():
     parser.add_argument("target", metavar="TARGET")
     parser.add_argument("files", metavar="FILE", nargs="+")
     add_region(parser)
+    parser.add_argument("--by-source", metavar="SOURCE", help="the lines are those of the chunks of this array")
     words = parser.parse_args()
     target = open_array(words.target)
     start, shape = words.subset or ([0] * len(target.shape), target.shape)
     region = Region(start, shape, words.at or [0] * len(target.shape))
-    count = region.count(target)
-    done = set().union(*map(done_in, words.files))
+    counted, order = (open_array(words.by_source), "source") if words.by_source else (target, "target")
+    count = region.count(counted)
+    done = set().union(*(done_in(file, order) for file in words.files))
     if {of for _, of in done} - {count}:
-        raise Refused(f"lines of a plan of another length than {count}, which is how many chunks of {target.folder} are written")
+        what = "are read" if words.by_source else "are written"
+        raise Refused(f"lines of a plan of another length than {count}, which is how many chunks of {counted.folder} {what}")
     numbers = {number for number, _ in done}
-    chunks = enumerate(itertools.product(*(range(first, first + size) for first, size in zip(*region.chunks(target)))))
-    missing = [target.key(chunk) for number, chunk in chunks if number not in numbers or not target.path(chunk).exists()]
+    lost = {chunk for chunk in chunks_of(target, region) if not target.path(chunk).exists()}
+    gone = set() if words.by_source else lost
+    missing = [counted.key(chunk) for number, chunk in enumerate(chunks_of(counted, region)) if number not in numbers or chunk in gone]
     if missing:
-        named = ", ".join(missing[:NAMED]) + (", .." if len(missing) > NAMED else "")
-        raise Refused(f"{len(missing)} of {count} chunks weren't done: {named}")
+        raise Refused(f"{len(missing)} of {count} chunks weren't done: {named(missing)}")
+    if words.by_source and lost:
+        raise Refused(f"{len(lost)} chunks of {target.folder} aren't stored: {named(sorted(map(target.key, lost)))}")
     print(f"all {count} chunks were done")
+
+
+def chunks_of(array, region):
+    """The chunks of an array that a region meets, in row-major order."""
+    return itertools.product(*(range(first, first + size) for first, size in zip(*region.chunks(array))))
+
+
+def named(keys):
+    return ", ".join(keys[:NAMED]) + (", .." if len(keys) > NAMED else "")
 
 
 ended_by(main)

@@ -2,18 +2,25 @@
 """Writes chunks of the target of a rechunking, or of the copy of a region, by the lines that `chunkplan` wrote, from
 standard input.
 
-    copy_chunks.py SOURCE TARGET [--subset START SHAPE [--at INDEX]] [--done FILE] [--resume FILE] [--cache MB] [--no-sync]
+    copy_chunks.py SOURCE TARGET [--subset START SHAPE [--at INDEX]] [--alone] [--done FILE] [--resume FILE] [--cache MB] [--no-sync]
 
 SOURCE and TARGET are folders of Zarr arrays, of format 2 or 3; --subset and --at tell the region, as for `document_of.py`.
 A chunk of the target that holds elements beside the region is read first, and keeps them: two plans that give something
 to one chunk have to run one after the other.
 
-When a line's chunk is in its place, the line's `number` and `of` are printed, as JSON. --done appends the same to a file;
---resume passes over the lines that a file has and whose chunk is stored, and may name the same one. --cache bounds the
-decoded chunks of the source that are kept.
+Lines of a rechunking in the order of the source are taken, too. The chunk of the source is read once, and each chunk of the
+target that gets all its elements from it is written. One that gets some from others is read, or begun with the fill value,
+and written again, but only with --alone, since two workers that do so at once lose elements: a second worker with --alone is
+refused. Without it such a line is refused before anything of it is written.
+
+When a line's chunks are in their places, the line's `number` and `of` are printed, as JSON, in the order of the source with
+`"order":"source"`. --done appends the same to a file; --resume passes over the lines that a file has and whose chunks are
+stored, and may name the same one. --cache bounds the decoded chunks of the source that are kept, for lines in the order of
+the target.
 
 Numbers are said when the disk has the chunks too, some hundred at a time or once a second. With --no-sync they are said
-at once: then chunks that were done may be lost where the machine crashes, but not where a process does.
+at once: then chunks that were done may be lost where the machine crashes, but not where a process does. In the order of the
+source begin anew then, without --resume: a chunk that is there may lack what a line gave it.
 
 A line that isn't one of these two arrays is refused, and so is a chunk of the source that can't be read whole. It ends
 with the status 1 then, and a message that names the line or the chunk.
@@ -21,6 +28,7 @@ with the status 1 then, and a message that names the line or the chunk.
 import argparse
 import collections
 import ctypes
+import fcntl
 import json
 import math
 import os
@@ -51,14 +59,18 @@ class Sources:
             elements, uses = self.kept.pop(numbers)
             self.size -= elements.nbytes
         else:
-            elements, uses = self.source.read(numbers), self.region.uses(numbers, self.source, self.target)
-            self.decoded += 1
+            elements, uses = self.once(numbers), self.region.uses(numbers, self.source, self.target)
         if uses > 1:
             self.kept[numbers] = elements, uses - 1
             self.size += elements.nbytes
         while self.size > self.most:
             self.size -= self.kept.popitem(last=False)[1][0].nbytes
         return elements
+
+    def once(self, numbers):
+        """A chunk that isn't kept."""
+        self.decoded += 1
+        return self.source.read(numbers)
 
 
 def is_box(box, dimensions):
@@ -125,11 +137,56 @@ def fault_of(line, source, target, region):
     return None
 
 
+def fault_by_source(line, source, target, region):
+    """The same of a line in the order of the source. Where nothing is wrong, its boxes have each element once that the
+    source's chunk holds: they lie in different chunks of the target, and have as many elements together."""
+    giver, pieces = line["from"], line["to"]
+    if not source.shape == target.shape == region.shape:
+        return "it is one of the whole array, and not of a region"
+    if not is_chunk(source, giver):
+        return f"{giver['key']} isn't a chunk of the source"
+    if not all(type(line[name]) is int for name in ("number", "of")):
+        return "a number that is none of the plan's"
+    if (line["number"], line["of"]) != (region.number_of(giver["chunk"], source), region.count(source)):
+        return f"{giver['key']} has another number in the plan"
+    held = source.held(giver["chunk"])
+    for piece in pieces:
+        if not is_chunk(target, piece):
+            return f"{piece['key']} isn't a chunk of the target"
+        if not all(is_box(piece[box], len(target.shape)) for box in ("in_chunk", "in_source")):
+            return f"a box of {piece['key']} isn't one of the array"
+        here, there = in_array(source, giver["chunk"], piece["in_source"]), in_array(target, piece["chunk"], piece["in_chunk"])
+        if not (is_within(here, held) and is_within(there, target.held(piece["chunk"])) and here == there):
+            return f"a box of {piece['key']} isn't the same elements in both chunks"
+        if piece["whole"] is not (there == target.held(piece["chunk"])):
+            return f"`whole` doesn't say whether {piece['key']} gets elements from other lines, which would be lost"
+    if len({tuple(piece["chunk"]) for piece in pieces}) != len(pieces):
+        return "it names a chunk of the target twice"
+    if sum(math.prod(piece["in_source"][1]) for piece in pieces) != math.prod(held[1]):
+        return "its boxes haven't each element that the source's chunk holds"
+    return None
+
+
+def order_of(line):
+    """In which order the plan is that a line is of: its chunk is one of the target, or of the source."""
+    return "source" if isinstance(line["to"], list) else "target"
+
+
+def written_by(line):
+    """The chunks of the target that a line writes."""
+    return line["to"] if order_of(line) == "source" else [line["to"]]
+
+
+def is_shared(to):
+    """Whether other lines of the plan write a chunk, too."""
+    return not to.get("whole", True)
+
+
 def line_of(text, source, target, region):
     """A line of a plan, checked against both arrays."""
     try:
         line = json.loads(text)
-        fault = fault_of(line, source, target, region)
+        fault = (fault_by_source if order_of(line) == "source" else fault_of)(line, source, target, region)
     except (ValueError, KeyError, TypeError) as error:
         raise Refused(f"this is no line of a plan: {text[:60]!r}: {error!r}") from error
     if fault:
@@ -145,10 +202,37 @@ def assemble(chunk, line, sources, target):
     """Gives a chunk the elements that a line tells of."""
     if not line["whole"]:  # what it has besides stays as it is
         chunk[...] = target.read(line["to"]["chunk"])
-    elif target.held(line["to"]["chunk"])[1] != target.chunk_shape:  # beyond the array it has the fill value
-        chunk[...] = numpy.zeros((), target.dtype) if target.fill is None else target.fill
+    else:
+        begin(chunk, line["to"]["chunk"], target)
     for part in line["from"]:
         chunk[slices(part["in_target"])] = sources.chunk(part["chunk"])[slices(part["in_chunk"])]
+
+
+def begin(chunk, numbers, target, some=False):
+    """Gives a chunk the fill value beyond the array, and where it gets but some of its elements, everywhere."""
+    if some or target.held(numbers)[1] != target.chunk_shape:
+        chunk[...] = numpy.zeros((), target.dtype) if target.fill is None else target.fill
+
+
+def put_piece(chunk, piece, elements, target):
+    """Gives a chunk what a line in the order of the source gives it. What it has of other lines stays as it is."""
+    if is_shared(piece) and target.path(piece["chunk"]).exists():
+        chunk[...] = target.read(piece["chunk"])
+    else:
+        begin(chunk, piece["chunk"], target, some=is_shared(piece))
+    chunk[slices(piece["in_chunk"])] = elements[slices(piece["in_source"])]
+
+
+def filled(chunk, line, sources, target):
+    """Makes each chunk of the target that a line writes, one after another in the same memory, and tells which one it is."""
+    if order_of(line) == "target":
+        assemble(chunk, line, sources, target)
+        yield line["to"]
+        return
+    elements = sources.once(line["from"]["chunk"])
+    for piece in line["to"]:
+        put_piece(chunk, piece, elements, target)
+        yield piece
 
 
 class Store:
@@ -158,7 +242,8 @@ class Store:
         self.array, self.unfinished = array, array.folder / UNFINISHED
         self.beginning = f".{socket.gethostname()}.{os.getpid()}"
 
-    def put(self, numbers, chunk):
+    def put(self, numbers, chunk, lasting=False):
+        """With `lasting`, what stood under the key before stays there until the disk has the chunk."""
         path = self.array.path(numbers)
         path.parent.mkdir(parents=True, exist_ok=True)
         self.unfinished.mkdir(exist_ok=True)
@@ -166,10 +251,22 @@ class Store:
         try:
             with open(unfinished, "xb") as file:
                 file.write(self.array.encode(chunk))
+                if lasting:
+                    file.flush()
+                    os.fsync(file.fileno())
             unfinished.rename(path)
         except BaseException:
             unfinished.unlink(missing_ok=True)
             raise
+
+    def lock(self):
+        """Keeps other workers from changing chunks that several lines give elements to, until this one ends."""
+        self.unfinished.mkdir(exist_ok=True)
+        self.locked = open(self.unfinished / "alone", "w")
+        try:
+            fcntl.flock(self.locked, fcntl.LOCK_EX | fcntl.LOCK_NB)
+        except OSError as error:
+            raise Refused(f"{self.array.folder} can't be written alone, another worker with --alone may run: {error}") from error
 
 
 class Record:
@@ -183,7 +280,8 @@ class Record:
         self.waiting, self.last = [], time.monotonic()
 
     def add(self, line):
-        self.waiting.append({"number": line["number"], "of": line["of"]})
+        order = {"order": "source"} if order_of(line) == "source" else {}
+        self.waiting.append({"number": line["number"], "of": line["of"], **order})
         if not self.sync or len(self.waiting) >= self.MOST or time.monotonic() - self.last > self.SECONDS:
             self.say_all()
 
@@ -221,20 +319,41 @@ def say(descriptor, text):
         raise OSError(f"the disk is full: {text.decode().strip()} was written in part")
 
 
-def done_in(file):
-    """The `number` and `of` of each line that was done, by the lines of a file. One that was cut off isn't counted."""
+def done_in(file, order="target"):
+    """The `number` and `of` of each line in an order that was done, by the lines of a file. One that was cut off isn't counted."""
     done = set()
     try:
         with open(file) as lines:
             for text in lines:
                 try:
                     line = json.loads(text)
-                    done.add((line["number"], line["of"]))
-                except (ValueError, KeyError, TypeError):
+                    if line.get("order", "target") == order:
+                        done.add((line["number"], line["of"]))
+                except (ValueError, KeyError, TypeError, AttributeError):
                     continue
     except FileNotFoundError:
         pass
     return done
+
+
+class Resumed:
+    """Which lines were done before, by a file, and whether their chunks are still there."""
+
+    def __init__(self, file, target):
+        self.target, self.begun = target, set()
+        self.done = {order: done_in(file, order) if file else set() for order in ("target", "source")}
+
+    def passes_over(self, line):
+        """Whether a line needn't be done again. Where a chunk is lost that several lines write, all of them have to be."""
+        gone = [to for to in written_by(line) if to["key"] in self.begun or not self.target.path(to["chunk"]).exists()]
+        if (line["number"], line["of"]) not in self.done[order_of(line)]:
+            if self.done["source"]:
+                self.begun |= {to["key"] for to in gone if is_shared(to)}
+            return False
+        for to in gone:
+            if is_shared(to):
+                raise Refused(f"chunk {to['key']} of {self.target.folder} was lost since line {line['number']} was done: do all lines again, without --resume")
+        return not gone
 
 
 class Progress:
@@ -253,9 +372,11 @@ def copy(lines, source, target, region, words):
     """Does each line of a plan."""
     sources, store, progress = Sources(source, target, region, words.cache * 10**6), Store(target), Progress()
     record = Record(target.folder, words.done, not words.no_sync)
-    passed_over = done_in(words.resume) if words.resume else set()
+    resumed = Resumed(words.resume, target)
+    if words.alone:
+        store.lock()
     chunk = target.new_chunk()  # the same memory for all of them
-    written, of = 0, 0
+    done, written, of = 0, 0, 0
     try:
         for text in lines:
             if text.startswith(FOREIGN):
@@ -263,19 +384,23 @@ def copy(lines, source, target, region, words):
                 continue
             line = line_of(text, source, target, region)
             of = line["of"]
-            if (line["number"], of) in passed_over and target.path(line["to"]["chunk"]).exists():
+            if resumed.passes_over(line):
                 continue
-            assemble(chunk, line, sources, target)
-            try:
-                store.put(line["to"]["chunk"], chunk)
-            except OSError as error:
-                raise Refused(f"chunk {line['to']['key']} of {target.folder} can't be written: {error}") from error
+            shared = [to["key"] for to in written_by(line) if is_shared(to)]
+            if shared and not words.alone:
+                raise Refused(f"line {line['number']}: other lines write chunk {shared[0]}, too: one worker has to do them all, with --alone")
+            for to in filled(chunk, line, sources, target):
+                try:
+                    store.put(to["chunk"], chunk, lasting=is_shared(to) and not words.no_sync)
+                except OSError as error:
+                    raise Refused(f"chunk {to['key']} of {target.folder} can't be written: {error}") from error
+                written += 1
             record.add(line)
-            written += 1
-            progress.show(written, of)
+            done += 1
+            progress.show(done, of)
     finally:
         record.say_all()  # of a run that fails too, what was done stays done
-    progress.show(written, of, now=True)
+    progress.show(done, of, now=True)
     if words.verbose:
         print(f"{written} chunks written, {sources.decoded} read", file=sys.stderr)
 
@@ -285,6 +410,7 @@ def main():
     parser.add_argument("source", metavar="SOURCE")
     parser.add_argument("target", metavar="TARGET")
     add_region(parser)
+    parser.add_argument("--alone", action="store_true", help="also change chunks that several lines give elements to: no other worker does")
     parser.add_argument("--done", metavar="FILE", help="append the number of each line that is done")
     parser.add_argument("--resume", metavar="FILE", help="pass over the lines that were done, by such a file")
     parser.add_argument("--cache", metavar="MB", type=int, default=256, help="of decoded chunks of the source (256)")

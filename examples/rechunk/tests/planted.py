@@ -27,7 +27,7 @@ PLANTED = [
         "a number is said to be done before its chunk is in its place",
         [
             ("copy_chunks.py", "            record.add(line)\n", ""),
-            ("copy_chunks.py", "            assemble(chunk, ", "            record.add(line)\n            assemble(chunk, "),
+            ("copy_chunks.py", "            for to in filled(", "            record.add(line)\n            for to in filled("),
         ],
         "faults.py full_disk",
     ),
@@ -44,7 +44,7 @@ PLANTED = [
     ),
     (
         "what was done is passed over though it isn't stored",
-        [("copy_chunks.py", ' and target.path(line["to"]["chunk"]).exists()', "")],
+        [("copy_chunks.py", "        return not gone\n", "        return True\n")],
         "moves.py worker",
     ),
     ("what is unfinished is left", [("copy_chunks.py", "            unfinished.unlink(missing_ok=True)\n", "")], "moves.py worker"),
@@ -88,6 +88,13 @@ PLANTED = [
     ("elements that left stay in a chunk at the border", [("resize_array.py", "    chunk[kept] = elements[kept]\n", "    chunk[...] = elements\n")], "resizes.py resizes"),
     ("a chunk that is new keeps what was there", [("resize_array.py", 'in ("delete", "new")', 'in ("delete",)'), ("resize_array.py", '    else:\n        raise', '    elif line["what"] != "new":\n        raise')], "resizes.py faults"),
     ("an array only shrinks", [("resize_array.py", "    if shape != smaller:", "    if False:")], "resizes.py resizes"),
+    ("what other lines gave a chunk is lost", [("copy_chunks.py", '        chunk[...] = target.read(piece["chunk"])\n', "        chunk[...] = 0\n")], "by_source.py kinds"),
+    ("a chunk that was lost and begun anew is taken for whole", [("copy_chunks.py", "                self.begun |= {", "                {")], "by_source.py worker"),
+    ("several workers may change one chunk", [("copy_chunks.py", "    if shared and not words.alone:", "    if False:")], "by_source.py worker"),
+    ("two workers are alone", [("copy_chunks.py", "    if words.alone:\n", "    if False:\n")], "by_source.py worker"),
+    ("`whole` of a piece is taken as it is", [("copy_chunks.py", 'if piece["whole"] is not (', 'if piece["whole"] is None and (')], "by_source.py lines"),
+    ("a piece that is left out isn't missed", [("copy_chunks.py", "!= math.prod(held[1])", "> math.prod(held[1])")], "by_source.py lines"),
+    ("what was done in one order is done in the other", [("copy_chunks.py", 'if line.get("order", "target") == order:', "if order:")], "by_source.py worker"),
     ("the cache has no bound", [("copy_chunks.py", "while self.size > self.most:", "while False:")], "moves.py worker"),
 ]
 
