@@ -1,7 +1,7 @@
 -- The counts of a rechunking are those of its groups.
-use Rattle.std.proofs.Common.{◌≡◌, ◌↔◌, ℕ, List, Contains, length, refl, subst, sym}
+use Rattle.std.proofs.Common.{◌≡◌, ◌↔◌, ◌∙◌, ℕ, List, Contains, ap, arith, length, map, refl, subst, sym}
 use Rattle.std.proofs.lemmas.List.{length-map}
-use Rattle.std.specs.List.{AllByRecursion, AllZip}
+use Rattle.std.specs.List.{AllByRecursion, AllZip, sum}
 use Rattle.zarrs_chunk_base.specs.ArraySubset.{Box, IsBox, IsInside}
 use Rattle.zarrs_chunk_base.specs.Dimension.{Dimension, InBox, IsChain, array_sizes}
 use Rattle.zarrs_chunk_axes.specs.InBounds.{AreBelow}
@@ -15,12 +15,14 @@ use Rattle.zarrs_chunk_plan.specs.Rechunking.{AreCopiesInto, AreTargets, Group, 
 use Rattle.zarrs_chunk_plan.specs.Region.{EndWithin}
 use Rattle.zarrs_chunk_plan.specs.declared.counts.Counts.{Counts}
 use Rattle.zarrs_chunk_plan.specs.declared.part.Part.{Part}
-use Rattle.zarrs_chunk_plan.specs.seen.Sources.{AreTaking, counters}
+use Rattle.zarrs_chunk_plan.specs.seen.Sources.{AreTaking, counters, met_in}
 use Rattle.zarrs_chunk_plan.specs.seen.TargetCounts.{AreTargetCounts}
 use Rattle.zarrs_chunk_plan.proofs.CopyLists.{copy_of}
-use Rattle.zarrs_chunk_plan.proofs.CountedGroups.{copies_are, each_meets, largest_is, lines_are, many_same}
+use Rattle.zarrs_chunk_plan.proofs.CountedGroups.{copies_are, copies_each, copies_of_all, each_meets, largest_is, lines_are, many_same}
+use Rattle.zarrs_chunk_plan.proofs.MetCovers.{as_many_counters}
 use Rattle.zarrs_chunk_plan.proofs.MovedBoxes.{whole_within}
 use Rattle.zarrs_chunk_plan.proofs.Plans.{not_empty, source_of}
+use Rattle.zarrs_chunk_plan.proofs.Products.{met_by_all, sum_of_products}
 use Rattle.zarrs_chunk_plan.proofs.Rechunkings.{in_array, origin_of, some_copy, those_are}
 use Rattle.zarrs_chunk_plan.proofs.SameBoxes.{chunks_of_same}
 use Rattle.zarrs_chunk_plan.proofs.SomeRegions.{all_moved}
@@ -95,6 +97,22 @@ module _ (source : List Dimension) (IsSourceKey : List ℕ → List ℕ → Type
       in
       let (in_chunk, in_all) = (those_are target IsTargetKey chunk copy.1 into.to meets index).0 in_subset in
       (index, subst (λ c. InBox source c index) (sym is_from.numbers) box, ((in_array target index).1 in_all, (chunk, inside, in_chunk)))
+
+  -- all copies are as many as what is found dimension by dimension makes
+  pub copies_many : length (copies_of groups)
+      ≡ product (map sum (met_in (counters source target (array_box target) (array_box target)) targets.start targets.shape))
+  copies_many =
+      let at = (array_box target).start in
+      let all = counters source target (array_box target) (array_box target) in
+      let met = met_in all targets.start targets.shape in
+      let many = as_many_counters source target (array_box target) (array_box target) targets chains taking in
+      let is_box = taking.is_box in
+      let meet = each_meets source IsSourceKey target IsTargetKey (array_box target) at chains targets taking in
+      let moves = all_moved source IsSourceKey target IsTargetKey (chunks_in targets) groups meet are_groups in
+      copies_of_all groups
+      ∙ ap sum (copies_each source IsSourceKey target IsTargetKey (array_box target) at chains targets taking (chunks_in targets) groups meet moves)
+      ∙ ap sum (met_by_all all targets.start targets.shape (omega (arith, taking.long, many)) (omega (arith, taking.long, many, is_box.lengths)))
+      ∙ sum_of_products met
 
   pub counts_are : (elements : Box) (counts : Counts) → ((index : List ℕ) → IsInside elements index ↔ IsWritten target targets index)
       → AreTargetCounts source (counters source target (array_box target) (array_box target)) elements targets counts

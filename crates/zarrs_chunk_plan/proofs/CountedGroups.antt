@@ -32,7 +32,7 @@ many_same P Q many same are = record {
 }
 
 -- the copies of all groups are as many as those of each together
-copies_of_all : (groups : List Group) → length (copies_of groups) ≡ sum (map (λ (group : Group). length group.1) groups)
+pub copies_of_all : (groups : List Group) → length (copies_of groups) ≡ sum (map (λ (group : Group). length group.1) groups)
 copies_of_all [] = refl
 copies_of_all (group ∷ groups) =
     let here = length-map group.1 (λ (from : Part). (from, group.0)) in
@@ -63,7 +63,7 @@ module _ (source : List Dimension) (IsSourceKey : List ℕ → List ℕ → Type
       AllZip-long (IsPart source IsSourceKey (shifted region.start group.0.in_subset)) (chunks_in plan.cover) group.1 plan.are_parts
       ∙ in_box_many plan.cover ∙ ap product met
 
-  copies_each : (chunks : List (List ℕ)) (groups : List Group) → AllByRecursion (Meets target (moved at region)) chunks → AllZip Into chunks groups
+  pub copies_each : (chunks : List (List ℕ)) (groups : List Group) → AllByRecursion (Meets target (moved at region)) chunks → AllZip Into chunks groups
       → map (λ (group : Group). length group.1) groups ≡ map (λ chunk. product (met_by met_with chunk)) chunks
   copies_each [] [] meet are = refl
   copies_each (chunk ∷ chunks) (group ∷ groups) meet are =

@@ -28,7 +28,7 @@ counted_from_zeros (suc n) (x ∷ xs) same = let here : 0 + x ≡ x = omega arit
 counted_from_zeros _ _ same = absurd (omega arith)
 
 -- what is below sizes lies in the box of them that begins at 0, and the other way round
-from_zero : (f : Dimension → ℕ) (ds : List Dimension) (index : List ℕ)
+pub from_zero : (f : Dimension → ℕ) (ds : List Dimension) (index : List ℕ)
     → AreBelow (map f ds) index ↔ AreWithin (replicate (length ds) 0) (map f ds) index
 from_zero f [] [] = (λ _. tt, λ _. tt)
 from_zero f (d ∷ ds) (i ∷ index) =

@@ -66,7 +66,7 @@ zero_reversed (n ∷ numbers) has =
     here (zero, small, is) = (zero, omega arith, is)
     here (suc k, small, is) = absurd (omega arith)
 
-product_last : (numbers : List ℕ) (n : ℕ) → product (numbers ++ n ∷ []) ≡ n * product numbers
+pub product_last : (numbers : List ℕ) (n : ℕ) → product (numbers ++ n ∷ []) ≡ n * product numbers
 product_last [] n = refl
 product_last (m ∷ numbers) n =
     ap (λ p. m * p) (product_last numbers n) ∙ sym (mul_assoc m n (product numbers)) ∙ ap (λ p. p * product numbers) (mul_comm m n)

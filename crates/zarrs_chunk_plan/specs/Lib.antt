@@ -10,6 +10,7 @@ pub mod Shares
 pub mod SomeChunks
 pub mod SomeCopies
 pub mod SomeParts
+pub mod Stages
 pub mod StoredChunks
 pub mod Strided
 pub mod lemmas

@@ -2,12 +2,14 @@ pub mod Between
 pub mod Changes
 pub mod ChunksBetween
 pub mod Copies
+pub mod Ends
 pub mod Outside
 pub mod Parts
 pub mod ReadCounts
 pub mod Rows
 pub mod Shared
 pub mod Sources
+pub mod Stages
 pub mod StoredChunks
 pub mod TargetCounts
 pub mod Used

@@ -193,7 +193,7 @@ pub fn counts_of_region<
 const MOST_ALONG: u64 = 1 << 24;
 
 /// Whether the chunks in a box are few enough to go through along each dimension.
-fn are_few(chunks: &ArraySubset) -> bool
+pub(crate) fn are_few(chunks: &ArraySubset) -> bool
     ensures { IsTrue result ↔ AreFew chunks.now }
 {
     chunks.is_empty() || are_at_most(chunks.shape(), MOST_ALONG)

@@ -13,6 +13,7 @@
 //! | A copy whose part of the source is whole is the only one of that chunk | [`a_whole_part_is_the_only_one_of_its_chunk`] |
 //! | A rechunking the other way round has the same copies | [`the_other_way_round_has_the_same_copies`] |
 //! | Two rechunkings, the second of what the first one leaves, are together one | [`two_stages_are_together_one`] |
+//! | Where a largest chunk of either array holds few enough elements together with one of the other, so do the two chunks of each copy | [`each_line_holds_at_most`] |
 //! | Rechunkings that share the target's chunks out are together the whole one | [`rechunkings_that_share_out_are_the_whole_one`] |
 //! | What a walk that `copies_of_region` answers gives, one group after another, is the copy of the region | [`the_walk_gives_the_region`] |
 //! | Each element of a region is moved, place to place, by exactly one copy | [`each_element_of_a_region_is_copied_once`] |
@@ -27,9 +28,10 @@
 ghost use Rattle.std.specs.Prelude.{◌≡◌, ◌≢◌, ◌↔◌, ◌⊎◌, ◌<◌, ℕ, [], Bool, IsTrue, true, false, List, Ok, Option, Some, length, map, option_map};
 ghost use Rattle.std.specs.Iterator.{Drains};
 ghost use Rattle.std.specs.List.{AllPairs, AllZip, Contains, flat_map, range_with_len};
+ghost use Rattle.zarrs_chunk_axes.specs.EqualEdges.{AreEqualEdges};
 ghost use Rattle.zarrs_chunk_axes.specs.InBounds.{AreBelow};
 ghost use Rattle.zarrs_chunk_base.specs.ArraySubset.{Box, IsBox, IsEmptyBox, IsInside};
-ghost use Rattle.zarrs_chunk_base.specs.Dimension.{InBox, IsPlace, array_sizes};
+ghost use Rattle.zarrs_chunk_base.specs.Dimension.{Dimension, InBox, IsPlace, array_sizes};
 ghost use Rattle.zarrs_chunk_base.specs.Greatest.{AllFit};
 ghost use Rattle.zarrs_chunk_base.specs.Grid.{Grid};
 ghost use Rattle.zarrs_chunk_base.specs.Metadata.{Extension};
@@ -43,6 +45,7 @@ ghost use Rattle.zarrs_chunk_plan.specs.Region.{IsRegionCopy, MovesTo, moved};
 ghost use Rattle.zarrs_chunk_plan.specs.Resize.{AreChanged, AreResized, HasElementOf, IsAsked, IsChange, IsChanged, IsKept, IsResizePlan, IsUsed};
 ghost use Rattle.zarrs_chunk_plan.specs.declared.resize.Change.TheVariants.{Delete, Keep, New, Rewrite};
 ghost use Rattle.zarrs_chunk_plan.specs.Shares.{numbered_share};
+ghost use Rattle.zarrs_chunk_plan.specs.Stages.{HoldAtMost, NoneIsLonger};
 ghost use Rattle.zarrs_chunk_plan.specs.Strided.{form_of, ranges_of};
 ghost use Rattle.zarrs_chunk_plan.specs.declared.bytes.ByteRanges.{ByteRanges as ByteRangesValue};
 ghost use Rattle.zarrs_chunk_plan.specs.declared.bytes.MemoryOrder.{MemoryOrder as MemoryOrderValue};
@@ -271,6 +274,28 @@ pub fn two_stages_are_together_one<
         place mid_chunk mid_place
         × Goes (B.dimensions between.now.grid) (H.dimensions target.now.grid) second index
         mid_chunk mid_place to_chunk to_place) }
+{}
+
+/// Where a largest chunk of the source and a largest one of the target have together at most so many elements, so do the two chunks of each copy. So a
+/// worker holds at most as many who makes a chunk of the target and reads those of the source one after another. Of an array whose chunks are all of one
+/// shape none is longer than that, which tells it of either stage by an array between whose shape fits.
+pub fn each_line_holds_at_most<
+    G: ChunkGridTraits,
+    E: ChunkKeyEncodingTraits,
+    H: ChunkGridTraits,
+    F: ChunkKeyEncodingTraits,
+>(source: &StoredArray<G, E>, target: &StoredArray<H, F>)
+    ensures held { array_sizes (G.dimensions source.now.grid)
+        ≡ array_sizes (H.dimensions target.now.grid) → (most : ℕ) (largest other : List ℕ)
+        → NoneIsLonger (G.dimensions source.now.grid) largest
+        → NoneIsLonger (H.dimensions target.now.grid) other
+        → HoldAtMost most largest other → (chunks : Box) (groups : List Group)
+        → IsRechunking (G.dimensions source.now.grid) (E.is_key source.now.encoding)
+        (H.dimensions target.now.grid) (F.is_key target.now.encoding) chunks groups
+        → (copy : Part × Part) → Contains (copies_of groups) copy
+        → HoldAtMost most copy.0.shape.items copy.1.shape.items }
+    ensures equal { (between : List Dimension) (sizes shape : List ℕ)
+        → AreEqualEdges between sizes shape → NoneIsLonger between shape }
 {}
 
 /// Rechunkings into boxes of chunks that share the target's chunks out are together the whole one: each element of the array is moved by exactly

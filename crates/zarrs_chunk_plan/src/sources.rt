@@ -74,7 +74,7 @@ pub(crate) fn sources_along_each<G: ChunkGridTraits, H: ChunkGridTraits>(
 ///
 /// # Errors
 /// Out of memory.
-fn sources_along<G: ChunkGridTraits, H: ChunkGridTraits>(
+pub(crate) fn sources_along<G: ChunkGridTraits, H: ChunkGridTraits>(
     alloc: Global,
     copied: &Move<G, H>,
     targets: &ArraySubset,
@@ -138,7 +138,7 @@ fn sources_at<G: ChunkGridTraits, H: ChunkGridTraits>(
 ///
 /// # Errors
 /// Out of memory.
-fn chunk_along(
+pub(crate) fn chunk_along(
     alloc: Global,
     first: &[u64],
     dimension: usize,

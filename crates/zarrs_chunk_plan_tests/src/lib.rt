@@ -8,6 +8,7 @@
 //! | `plans` | the parts of a box of elements, and the laws |
 //! | `rechunkings` | what a rechunking copies, what refuses it, the counts of it and of a read, and the laws |
 //! | `regions` | what is copied of a region, the counts of it, what refuses it, and the laws |
+//! | `stages` | the array between of a rechunking in two stages, what refuses it, and the law of it |
 //! | `stored_chunks` | which chunks of a plan a store has, by the keys that it lists |
 //! | `resizes` | what becomes of the chunks of an array that gets another shape, what refuses it, and the laws |
 //! | `changed_boxes` | the same in boxes of chunks |
@@ -28,5 +29,7 @@ mod rechunkings;
 mod regions;
 #[cfg(test)]
 mod resizes;
+#[cfg(test)]
+mod stages;
 #[cfg(test)]
 mod stored_chunks;

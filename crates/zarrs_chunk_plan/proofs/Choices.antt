@@ -1,0 +1,197 @@
+-- A choice of one edge from each of some rows that takes the fewest reads.
+use Rattle.std.proofs.Common.{◌≡◌, ◌∙◌, ℕ, zero, suc, ◌+◌, ◌*◌, ◌/◌, ◌<◌, ◌≤◌, List, [], ◌∷◌, ◌++◌, Contains, IfSome, MatchOption, Option, Some, None}
+use Rattle.std.proofs.Common.{ap, arith, le-div_iff_mul-le, map, min, mul_assoc, mul_comm, refl, subst, sym, ⊎_elim}
+use Rattle.std.proofs.lemmas.Bool.{cases_lt, le-ltb, lt-ltb}
+use Rattle.std.proofs.lemmas.List.{reverse-append}
+use Rattle.std.proofs.lemmas.List.Elements.{Contains-append_cases, Contains-append_left, Contains-append_right}
+use Rattle.std.specs.Int.NonZero.{non_zero_u64_get}
+use Rattle.std.specs.declared.num.NonZeroU64.{NonZeroU64}
+use Rattle.zarrs_chunk_base.specs.Greatest.{greatest}
+use Rattle.zarrs_chunk_plan.specs.Counts.{product}
+use Rattle.zarrs_chunk_plan.specs.declared.fewest.Chosen.{Chosen}
+use Rattle.zarrs_chunk_plan.specs.declared.fewest.Edge.{Edge}
+use Rattle.zarrs_chunk_plan.specs.seen.Stages.{FindsFewest, IsChoice, IsFewest, better_of, edge_of, held, reads_of}
+
+-- ---- products up to the greatest number
+
+-- a factor that is cut at the greatest number makes no difference where what comes of it is cut, too
+capped : (x p rest : ℕ) → min greatest (min (x) greatest * p + rest) ≡ min greatest (x * p + rest)
+capped x p rest =
+    ⊎_elim
+    (λ (more : greatest < x). past p more)
+    (λ (le : x ≤ greatest). let same : min x greatest ≡ x = omega arith in rw same refl)
+    (cases_lt greatest x) where
+      past : (p : ℕ) → greatest < x → min greatest (min x greatest * p + rest) ≡ min greatest (x * p + rest)
+      past zero more = omega arith
+      past (suc p) more = let same : min x greatest ≡ greatest = omega arith in rw same (omega arith)
+
+both_capped : (x p y q : ℕ) → min greatest (min x greatest * p + min y greatest * q) ≡ min greatest (x * p + y * q)
+both_capped x p y q =
+    let swap : x * p + min y greatest * q ≡ min y greatest * q + x * p = omega arith in
+    let back : y * q + x * p ≡ x * p + y * q = omega arith in
+    capped x p (min y greatest * q) ∙ ap (min greatest) swap ∙ capped y q (x * p) ∙ ap (min greatest) back
+
+-- what a choice takes, with an edge before it
+pub reads_with : (first second : ℕ) (e : Edge) (choice : List Edge)
+    → reads_of (min (first * e.first) greatest) (min (second * e.second) greatest) choice ≡ reads_of first second (e ∷ choice)
+reads_with first second e choice =
+    let p = product (map (λ (other : Edge). other.first) choice) in
+    let q = product (map (λ (other : Edge). other.second) choice) in
+    both_capped (first * e.first) p (second * e.second) q
+    ∙ rw (mul_assoc first e.first p, mul_assoc second e.second q) refl
+
+-- a choice fits in what an edge before it leaves where both fit
+pub fits_with : (room : ℕ) (e : Edge) (choice : List Edge) → 0 < edge_of e → held (e ∷ choice) ≤ room → held choice ≤ room / edge_of e
+fits_with room e choice some fits = (le-div_iff_mul-le some).1 (let swap = mul_comm (edge_of e) (held choice) in omega (arith, swap))
+
+pub with_fits : (room : ℕ) (e : Edge) (choice : List Edge) → 0 < edge_of e → held choice ≤ room / edge_of e → held (e ∷ choice) ≤ room
+with_fits room e choice some fits = let swap = mul_comm (edge_of e) (held choice) in omega (arith, swap, (le-div_iff_mul-le some).0 fits)
+
+-- ---- rows
+
+-- what is found with an edge is what was found, with the edge behind it
+pub data IsWith (e : Edge) (found with : Option Chosen) : Type 0 where
+  with_none : found ≡ None → with ≡ None → IsWith e found with
+  with_some : (before after : Chosen) → found ≡ Some before → with ≡ Some after
+      → map non_zero_u64_get after.edges.items ≡ map non_zero_u64_get before.edges.items ++ edge_of e ∷ [] → after.reads ≡ before.reads
+      → IsWith e found with
+
+pub is_with : (e : Edge) (found with : Option Chosen) → (found ≡ None → with ≡ None)
+    → IfSome found (λ before. MatchOption with ⊥ (λ after. (after.edges.items ≡ before.edges.items ++ e.edge ∷ []) × (after.reads ≡ before.reads)))
+    → IsWith e found with
+is_with e None with of_none of_some = with_none refl (of_none refl)
+is_with e (Some before) None of_none of_some = absurd of_some
+is_with e (Some before) (Some after) of_none (edges, reads) =
+    with_some before after refl refl (ap (map non_zero_u64_get) edges ∙ pushed before.edges.items) reads where
+      pushed : (xs : List NonZeroU64) → map non_zero_u64_get (xs ++ e.edge ∷ []) ≡ map non_zero_u64_get xs ++ edge_of e ∷ []
+      pushed [] = refl
+      pushed (x ∷ xs) = ap (λ ns. non_zero_u64_get x ∷ ns) (pushed xs)
+
+-- a choice from some edges of a row is one from more of them
+on_left : (rows : List (List Edge)) (xs ys choice : List Edge) → IsChoice (xs ∷ rows) choice → IsChoice ((xs ++ ys) ∷ rows) choice
+on_left rows xs ys [] chosen = absurd chosen
+on_left rows xs ys (c ∷ choice) (in_row, chosen) = (Contains-append_left xs ys c in_row, chosen)
+
+on_right : (rows : List (List Edge)) (xs ys choice : List Edge) → IsChoice (ys ∷ rows) choice → IsChoice ((xs ++ ys) ∷ rows) choice
+on_right rows xs ys [] chosen = absurd chosen
+on_right rows xs ys (c ∷ choice) (in_row, chosen) = (Contains-append_right xs ys c in_row, chosen)
+
+only : (e c : Edge) → Contains (e ∷ []) c → c ≡ e
+only e c (zero, within, is) = sym is
+only e c (suc k, within, is) = absurd (omega arith)
+
+module _ (rows : List (List Edge)) (room first second : ℕ) where
+  -- of no edges
+  pub of_none : FindsFewest ([] ∷ rows) room first second None
+  of_none [] chosen = absurd chosen
+  of_none (c ∷ choice) ((k, within, is), chosen) = absurd (omega arith)
+
+  -- of a row of one edge
+  pub of_one : (e : Edge) (found with : Option Chosen) → 0 < edge_of e
+      → FindsFewest rows (room / edge_of e) (min (first * e.first) greatest) (min (second * e.second) greatest) found
+      → IsWith e found with → FindsFewest ((e ∷ []) ∷ rows) room first second with
+  of_one e found with positive finds is = elim is [
+    | with_none was now ↦ rw now (λ choice chosen. none_fits choice chosen (rw was at finds))
+    | with_some before after was now edges reads ↦ rw now (extended before after edges reads (rw was at finds))
+  ] where
+    none_fits : (choice : List Edge) → IsChoice ((e ∷ []) ∷ rows) choice
+        → ((others : List Edge) → IsChoice rows others → room / edge_of e < held others) → room < held choice
+    none_fits [] chosen none = absurd chosen
+    none_fits (c ∷ choice) (in_row, chosen) none =
+        let less = none choice chosen in
+        ⊎_elim
+        (λ (more : room < held (c ∷ choice)). more)
+        (λ (le : held (c ∷ choice) ≤ room).
+        let is : c ≡ e = only e c in_row in
+        let within = fits_with room e choice positive (subst (λ x. held (x ∷ choice) ≤ room) is le) in
+        absurd (omega arith))
+        (cases_lt room (held (c ∷ choice)))
+
+    extended : (before after : Chosen) → map non_zero_u64_get after.edges.items ≡ map non_zero_u64_get before.edges.items ++ edge_of e ∷ []
+        → after.reads ≡ before.reads
+        → IsFewest rows (room / edge_of e) (min (first * e.first) greatest) (min (second * e.second) greatest) (map non_zero_u64_get before.edges.items) before.reads
+        → IsFewest ((e ∷ []) ∷ rows) room first second (map non_zero_u64_get after.edges.items) after.reads
+    extended before after edges reads was = record {
+      choice = e ∷ was.choice;
+      is_choice = ((0, omega arith, refl), was.is_choice);
+      are_edges = edges ∙ ap (λ xs. xs ++ edge_of e ∷ []) was.are_edges ∙ sym (reverse-append (edge_of e ∷ []) (map edge_of was.choice));
+      fits = with_fits room e was.choice positive was.fits;
+      are_reads = reads ∙ was.are_reads ∙ reads_with first second e was.choice;
+      least = λ other is_choice fits. least other is_choice fits;
+    } where
+      least : (other : List Edge) → IsChoice ((e ∷ []) ∷ rows) other → held other ≤ room → after.reads ≤ reads_of first second other
+      least [] chosen fits = absurd chosen
+      least (c ∷ choice) (in_row, chosen) fits =
+          let is : c ≡ e = only e c in_row in
+          let here = subst (λ x. held (x ∷ choice) ≤ room) is fits in
+          let at_most = was.least choice chosen (fits_with room e choice positive here) in
+          let with = reads_with first second e choice in
+          let same = ap (λ x. reads_of first second (x ∷ choice)) is in
+          omega (arith, reads, same, with, at_most)
+
+  -- of a row and more of it
+  pub of_both : (xs ys : List Edge) (best other : Option Chosen) → FindsFewest (xs ∷ rows) room first second best
+      → FindsFewest (ys ∷ rows) room first second other → FindsFewest ((xs ++ ys) ∷ rows) room first second (better_of best other)
+  of_both xs ys None None finds also = none where
+    none : (choice : List Edge) → IsChoice ((xs ++ ys) ∷ rows) choice → room < held choice
+    none [] chosen = absurd chosen
+    none (c ∷ choice) (in_row, chosen) =
+        ⊎_elim (λ here. finds (c ∷ choice) (here, chosen)) (λ there. also (c ∷ choice) (there, chosen)) (Contains-append_cases xs ys c in_row)
+  of_both xs ys (Some best) None finds also = record {
+    choice = finds.choice;
+    is_choice = on_left rows xs ys finds.choice finds.is_choice;
+    are_edges = finds.are_edges;
+    fits = finds.fits;
+    are_reads = finds.are_reads;
+    least = least;
+  } where
+    least : (choice : List Edge) → IsChoice ((xs ++ ys) ∷ rows) choice → held choice ≤ room → best.reads ≤ reads_of first second choice
+    least [] chosen fits = absurd chosen
+    least (c ∷ choice) (in_row, chosen) fits =
+        ⊎_elim (λ here. finds.least (c ∷ choice) (here, chosen) fits)
+        (λ there. let more = also (c ∷ choice) (there, chosen) in absurd (omega arith)) (Contains-append_cases xs ys c in_row)
+  of_both xs ys None (Some other) finds also = record {
+    choice = also.choice;
+    is_choice = on_right rows xs ys also.choice also.is_choice;
+    are_edges = also.are_edges;
+    fits = also.fits;
+    are_reads = also.are_reads;
+    least = least;
+  } where
+    least : (choice : List Edge) → IsChoice ((xs ++ ys) ∷ rows) choice → held choice ≤ room → other.reads ≤ reads_of first second choice
+    least [] chosen fits = absurd chosen
+    least (c ∷ choice) (in_row, chosen) fits =
+        ⊎_elim (λ here. let more = finds (c ∷ choice) (here, chosen) in absurd (omega arith))
+        (λ there. also.least (c ∷ choice) (there, chosen) fits) (Contains-append_cases xs ys c in_row)
+  of_both xs ys (Some best) (Some other) finds also =
+      ⊎_elim
+      (λ (less : other.reads < best.reads). rw (lt-ltb other.reads best.reads less) (record {
+        choice = also.choice;
+        is_choice = on_right rows xs ys also.choice also.is_choice;
+        are_edges = also.are_edges;
+        fits = also.fits;
+        are_reads = also.are_reads;
+        least = λ choice chosen fits. least_other less choice chosen fits;
+      }))
+      (λ (le : best.reads ≤ other.reads). rw (le-ltb other.reads best.reads le) (record {
+        choice = finds.choice;
+        is_choice = on_left rows xs ys finds.choice finds.is_choice;
+        are_edges = finds.are_edges;
+        fits = finds.fits;
+        are_reads = finds.are_reads;
+        least = λ choice chosen fits. least_best le choice chosen fits;
+      }))
+      (cases_lt other.reads best.reads) where
+        least_other : other.reads < best.reads → (choice : List Edge) → IsChoice ((xs ++ ys) ∷ rows) choice → held choice ≤ room
+            → other.reads ≤ reads_of first second choice
+        least_other less [] chosen fits = absurd chosen
+        least_other less (c ∷ choice) (in_row, chosen) fits =
+            ⊎_elim (λ here. let at_most = finds.least (c ∷ choice) (here, chosen) fits in omega arith)
+            (λ there. also.least (c ∷ choice) (there, chosen) fits) (Contains-append_cases xs ys c in_row)
+
+        least_best : best.reads ≤ other.reads → (choice : List Edge) → IsChoice ((xs ++ ys) ∷ rows) choice → held choice ≤ room
+            → best.reads ≤ reads_of first second choice
+        least_best le [] chosen fits = absurd chosen
+        least_best le (c ∷ choice) (in_row, chosen) fits =
+            ⊎_elim (λ here. finds.least (c ∷ choice) (here, chosen) fits)
+            (λ there. let at_most = also.least (c ∷ choice) (there, chosen) fits in omega arith) (Contains-append_cases xs ys c in_row)

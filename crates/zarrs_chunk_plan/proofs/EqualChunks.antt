@@ -1,0 +1,136 @@
+-- Dimensions of equal edges: they are chains, each chunk that they count holds an element of the array, and none is longer than the edges.
+use Rattle.std.proofs.Common.{◌≡◌, ◌∙◌, ℕ, zero, suc, ◌+◌, ◌*◌, ◌/◌, ◌<◌, ◌≤◌, List, [], ◌∷◌, Contains, length, replicate}
+use Rattle.std.proofs.Common.{ap, ap₂, arith, div-lt_iff_lt-mul, div-mul-le_self, mul-le-mul_right, refl, sym, ⊎_elim}
+use Rattle.std.proofs.lemmas.Bool.{cases_lt}
+use Rattle.std.proofs.lemmas.List.{length-map}
+use Rattle.std.specs.List.{AllByRecursion, AllZip}
+use Rattle.zarrs_chunk_base.specs.ArraySubset.{IsEmptyBox, IsInside}
+use Rattle.zarrs_chunk_base.specs.Dimension.{Dimension, Holds, InBox, IsChain, IsShape, array_sizes, grid_sizes}
+use Rattle.zarrs_chunk_axes.specs.EqualEdges.{AreEqualEdges, IsEqualEdges}
+use Rattle.zarrs_chunk_axes.specs.InBounds.{AreBelow}
+use Rattle.zarrs_chunk_plan.specs.Plan.{Meets}
+use Rattle.zarrs_chunk_plan.specs.Rechunking.{all_chunks_box, array_box}
+use Rattle.zarrs_chunk_plan.specs.Stages.{NoneIsLonger}
+use Rattle.zarrs_chunk_plan.proofs.Rechunkings.{from_zero, in_array}
+
+-- ---- one dimension
+
+is_chain : (d : Dimension) (size edge : ℕ) → IsEqualEdges d size edge → 0 < edge → IsChain d
+is_chain d size edge is some = record {
+  from_zero = λ _. is.start 0 ∙ omega arith;
+  not_empty = λ c _. let start = is.start c in let end = is.end c in omega (arith, start, end, some);
+  no_gap = λ c _. (is.chunks c, is.start (c + 1) ∙ sym (is.end c));
+  counted = λ c _. is.chunks c;
+  reaches = λ i within.
+      let from : (i / edge) * edge ≤ i = div-mul-le_self i edge in
+      let below : i < (i / edge + 1) * edge = (div-lt_iff_lt-mul some).0 (omega arith) in
+      (i / edge, counted i within from, record { chunk = is.chunks (i / edge); from = rw (is.start (i / edge)) from; below = rw (is.end (i / edge)) below });
+} where
+  counted : (i : ℕ) → i < d.array_size → (i / edge) * edge ≤ i → i / edge < d.grid_size
+  counted i within from =
+      ⊎_elim (λ (less : i / edge < d.grid_size). less)
+      (λ (le : d.grid_size ≤ i / edge).
+      let covers : size ≤ d.grid_size * edge = is.covers in
+      let far : d.grid_size * edge ≤ (i / edge) * edge = mul-le-mul_right edge le in
+      let same = is.array_size in
+      absurd (omega (arith, same, covers, far)))
+      (cases_lt (i / edge) d.grid_size)
+
+-- a chunk that is counted holds an element of the array
+first_held : (d : Dimension) (size edge c : ℕ) → IsEqualEdges d size edge → c < d.grid_size → 0 < d.array_size
+    → (i : ℕ) × Holds d c i × (i < d.array_size)
+first_held d size zero c is counted some =
+    let covers : size ≤ d.grid_size * 0 = is.covers in
+    let same = is.array_size in
+    absurd (omega (arith, same, covers))
+first_held d size (suc e) c is counted some =
+    let start : d.start c ≡ c * suc e = is.start c in
+    let end : d.end c ≡ (c + 1) * suc e = is.end c in
+    let same = is.array_size in
+    let within : c * suc e < size =
+    ⊎_elim (λ (less : c * suc e < size). less)
+    (λ (le : size ≤ c * suc e). let few = is.least c le in absurd (omega arith)) (cases_lt (c * suc e) size)
+    in
+    (c * suc e, record { chunk = is.chunks c; from = omega arith; below = omega arith }, omega (arith, same))
+
+-- ---- each dimension
+
+pub are_chains : (ds : List Dimension) (sizes edges : List ℕ) → AreEqualEdges ds sizes edges → AllByRecursion (λ e. 0 < e) edges
+    → AllByRecursion IsChain ds
+are_chains [] [] [] are some = tt
+are_chains (d ∷ ds) (n ∷ sizes) (e ∷ edges) are some = (is_chain d n e are.0 some.0, are_chains ds sizes edges are.1 some.1)
+are_chains [] [] (_ ∷ _) are some = absurd are
+are_chains [] (_ ∷ _) _ are some = absurd are
+are_chains (_ ∷ _) [] _ are some = absurd are
+are_chains (_ ∷ _) (_ ∷ _) [] are some = absurd are
+
+pub sizes_are : (ds : List Dimension) (sizes edges : List ℕ) → AreEqualEdges ds sizes edges → array_sizes ds ≡ sizes
+sizes_are [] [] [] are = refl
+sizes_are (d ∷ ds) (n ∷ sizes) (e ∷ edges) are = let here = are.0 in ap₂ (λ x xs. x ∷ xs) here.array_size (sizes_are ds sizes edges are.1)
+sizes_are [] [] (_ ∷ _) are = absurd are
+sizes_are [] (_ ∷ _) _ are = absurd are
+sizes_are (_ ∷ _) [] _ are = absurd are
+sizes_are (_ ∷ _) (_ ∷ _) [] are = absurd are
+
+pub edges_long : (ds : List Dimension) (sizes edges : List ℕ) → AreEqualEdges ds sizes edges → length edges ≡ length ds
+edges_long [] [] [] are = refl
+edges_long (d ∷ ds) (n ∷ sizes) (e ∷ edges) are = ap suc (edges_long ds sizes edges are.1)
+edges_long [] [] (_ ∷ _) are = absurd are
+edges_long [] (_ ∷ _) _ are = absurd are
+edges_long (_ ∷ _) [] _ are = absurd are
+edges_long (_ ∷ _) (_ ∷ _) [] are = absurd are
+
+all_held : (ds : List Dimension) (sizes edges chunk : List ℕ) → AreEqualEdges ds sizes edges → AreBelow (grid_sizes ds) chunk
+    → (¬ Contains (array_sizes ds) 0) → (index : List ℕ) × InBox ds chunk index × AreBelow (array_sizes ds) index
+all_held [] [] [] [] are below some = ([], tt, tt)
+all_held (d ∷ ds) (n ∷ sizes) (e ∷ edges) (c ∷ chunk) are below some =
+    let not_zero : 0 < d.array_size =
+    ⊎_elim (λ (more : 0 < d.array_size). more) (λ (le : d.array_size ≤ 0). absurd (some (0, omega arith, none_there d.array_size (omega arith))))
+    (cases_lt 0 d.array_size)
+    in
+    let (i, held, within) = first_held d n e c are.0 below.0 not_zero in
+    let (index, box, all) = all_held ds sizes edges chunk are.1 below.1 (λ (k, less, is). some (suc k, omega arith, is)) in
+    (i ∷ index, (held, box), (within, all)) where
+      none_there : (m : ℕ) → m ≡ 0 → m ≡ 0
+      none_there m is = is
+all_held [] [] [] (_ ∷ _) are below some = absurd below
+all_held [] [] (_ ∷ _) _ are below some = absurd are
+all_held [] (_ ∷ _) _ _ are below some = absurd are
+all_held (_ ∷ _) [] _ _ are below some = absurd are
+all_held (_ ∷ _) (_ ∷ _) [] _ are below some = absurd are
+all_held (_ ∷ _) (_ ∷ _) (_ ∷ _) [] are below some = absurd below
+
+pub counted_meet : (ds : List Dimension) (sizes edges : List ℕ) → AreEqualEdges ds sizes edges → (¬ IsEmptyBox (array_box ds))
+    → (chunk : List ℕ) → IsInside (all_chunks_box ds) chunk → Meets ds (array_box ds) chunk
+counted_meet ds sizes edges are some chunk inside =
+    let (index, box, below) = all_held ds sizes edges chunk are ((from_zero (λ d. d.grid_size) ds chunk).1 inside) some in
+    (index, box, (in_array ds index).0 below)
+
+-- each chunk is as long as the edges
+shape_is : (ds : List Dimension) (sizes edges chunk shape : List ℕ) → AreEqualEdges ds sizes edges → IsShape ds chunk shape → AllZip ◌≤◌ shape edges
+shape_is [] [] [] [] [] are is = tt
+shape_is (d ∷ ds) (n ∷ sizes) (e ∷ edges) (c ∷ chunk) (s ∷ shape) are is =
+    let here = are.0 in
+    let this = is.0 in
+    let start : d.start c ≡ c * e = here.start c in
+    let end : d.end c ≡ (c + 1) * e = here.end c in
+    let long : d.start c + s ≡ d.end c = this.edge in
+    (omega arith, shape_is ds sizes edges chunk shape are.1 is.1)
+shape_is [] [] [] [] (_ ∷ _) are is = absurd is
+shape_is [] [] [] (_ ∷ _) _ are is = absurd is
+shape_is [] [] (_ ∷ _) _ _ are is = absurd are
+shape_is [] (_ ∷ _) _ _ _ are is = absurd are
+shape_is (_ ∷ _) [] _ _ _ are is = absurd are
+shape_is (_ ∷ _) (_ ∷ _) [] _ _ are is = absurd are
+shape_is (_ ∷ _) (_ ∷ _) (_ ∷ _) [] _ are is = absurd is
+shape_is (_ ∷ _) (_ ∷ _) (_ ∷ _) (_ ∷ _) [] are is = absurd is
+
+pub none_longer : (ds : List Dimension) (sizes edges : List ℕ) → AreEqualEdges ds sizes edges → NoneIsLonger ds edges
+none_longer ds sizes edges are chunk shape meets is = shape_is ds sizes edges chunk shape are is
+
+-- arrays of one shape have one box of all elements
+pub one_box : (ds es : List Dimension) → array_sizes ds ≡ array_sizes es → array_box ds ≡ array_box es
+one_box ds es same =
+    let here : length (array_sizes ds) ≡ length ds = length-map ds (λ (d : Dimension). d.array_size) in
+    let there : length (array_sizes es) ≡ length es = length-map es (λ (d : Dimension). d.array_size) in
+    ap₂ (λ (n : ℕ) (sizes : List ℕ). record { start = replicate n 0; shape = sizes }) (sym here ∙ ap length same ∙ there) same

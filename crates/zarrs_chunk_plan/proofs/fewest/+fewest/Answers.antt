@@ -1,0 +1,37 @@
+use Rattle.std.proofs.Common.{◌<◌, ◌∷◌, [], arith, sym, take}
+use Rattle.std.proofs.lemmas.List.{take_all, take_more}
+use Rattle.zarrs_chunk_plan.specs.seen.Stages.{edge_of, rows_of}
+use Rattle.zarrs_chunk_plan.proofs.Choices.{is_with, of_both, of_none, of_one}
+use Rattle.zarrs_chunk_plan.proofs.fewest.+fewest.Goals as goal
+
+pub loop-edge-init : goal.loop-edge-init
+loop-edge-init t c = of_none (rows_of c.in-Some.rows.now) c.args.room c.args.first c.args.second
+
+pub fewest-requires : goal.fewest-requires
+fewest-requires t c = (omega (arith, c.decreases, (c.in-Some.ensures {u = tt}).cases), tt)
+
+pub loop-edge-preserved : goal.loop-edge-preserved
+loop-edge-preserved t c =
+    let e = c.edge-item.result in
+    let rows = rows_of c.in-Some.rows.now in
+    let row = c.deref-edge-items.result.now in
+    let k = c.loop-edge.edge-index in
+    let before = take k row in
+    let found = c.in_ok-found.found in
+    let with = is_with e found c.in_ok-with_edge.field-0 (c.in_ok-with_edge.ensures {u = tt}).none (c.in_ok-with_edge.ensures {u = tt}).some in
+    let here = c.in_ok-found.ensures {u = tt} in
+    let get = c.get.ensures in
+    let positive : 0 < edge_of e = omega (arith, get.value, get.nonzero) in
+    let one =
+    of_one rows c.args.room c.args.first c.args.second e found c.in_ok-with_edge.field-0 positive
+    (rw (get.value, c.saturating_mul-in_first.ensures, c.saturating_mul-in_second.ensures) at here) with
+    in
+    let more = take_more row k e c.loop-edge-test.true in
+    rw (c.better-best.ensures, more, sym c.edge-item.is)
+    (of_both rows c.args.room c.args.first c.args.second before (e ∷ []) c.loop-edge.best c.in_ok-with_edge.field-0 c.loop-edge.invariant one)
+
+pub returns : goal.returns
+returns t c =
+    let row = c.deref-edge-items.result.now in
+    let whole = take_all c.loop-edge.edge-index row (omega (arith, c.loop-edge-test.false)) in
+    rw ((c.in-Some.ensures {u = tt}).cases.0) (rw (whole, c.deref-edge-items.ensures.value) at c.loop-edge.invariant)

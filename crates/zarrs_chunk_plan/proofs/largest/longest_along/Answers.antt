@@ -1,0 +1,59 @@
+use Rattle.std.proofs.Common.{◌≡◌, ◌<◌, ◌≤◌, List, ℕ, arith, inl, inr, refl, slice_index_or, subst, ⊎_elim}
+use Rattle.std.proofs.lemmas.Bool.{cases_lt}
+use Rattle.zarrs_chunk_plan.specs.seen.Stages.{HasEdgeAlong}
+use Rattle.zarrs_chunk_plan.proofs.LargestChunks.{one_edge}
+use Rattle.zarrs_chunk_plan.proofs.largest.longest_along.Goals as goal
+use Rattle.zarrs_chunk_plan.proofs.largest.longest_along.Goals.{else-edge-greatest, then-edge-greatest}
+
+pub loop-chunk-init : goal.loop-chunk-init
+loop-chunk-init g c = (inl refl, λ edge has. omega arith, λ other edge less has. absurd (omega arith))
+
+pub loop-chunk-preserved : goal.loop-chunk-preserved
+loop-chunk-preserved g c =
+    let ds = g.G.ChunkGridTraits.dimensions c.args.grid.now in
+    let k = c.args.dimension in
+    let chunk = c.loop-chunk.chunk in
+    let has = c.in_ok-edge.ensures {u = tt} in
+    let (among, at_least, at_most) = c.loop-chunk.invariant in
+    let this = λ (edge : ℕ) (is : HasEdgeAlong ds k chunk edge). one_edge ds k chunk edge c.in_ok-edge.edge is has in
+    elim c.if-edge-greatest.branch [
+      | then-edge-greatest w ↦
+          let longer : c.loop-chunk.greatest < c.in_ok-edge.edge = w.if-edge-greatest.true in
+          rw (w.longest-is, w.greatest-is) (
+            inr (omega arith),
+            λ edge is. let same = this edge is in omega arith,
+            λ other edge less is. ⊎_elim (λ (before : other < chunk). let le = at_most other edge before is in omega arith)
+                (λ (last : chunk ≤ other). let here : other ≡ chunk = omega arith in
+                let same = this edge (subst (λ n. HasEdgeAlong ds k n edge) here is) in omega arith) (cases_lt other chunk),
+          )
+      | else-edge-greatest w ↦
+          let shorter : c.in_ok-edge.edge ≤ c.loop-chunk.greatest = w.if-edge-greatest.false in
+          rw (w.longest-is, w.greatest-is) (
+            ⊎_elim (λ is. inl is) (λ less. inr (omega arith)) among,
+            at_least,
+            λ other edge less is. ⊎_elim (λ (before : other < chunk). at_most other edge before is)
+                (λ (last : chunk ≤ other). let here : other ≡ chunk = omega arith in
+                let same = this edge (subst (λ n. HasEdgeAlong ds k n edge) here is) in omega arith) (cases_lt other chunk),
+          )
+    ]
+
+pub returns-clause-below : goal.returns-clause-below
+returns-clause-below g c =
+    let (among, _, _) = c.loop-chunk.invariant in
+    let end = rw c.shape.ensures.value at c.loop-chunk.auto.chunk-end in
+    let shape = c.args.chunks.now.shape in
+    let size = slice_index_or shape c.args.dimension 0 in
+    let some : 0 < size =
+    ⊎_elim (λ (some : 0 < size). some)
+    (λ (none : size ≤ 0). absurd (c.requires.some (c.args.dimension, omega (arith, c.requires.long, c.requires.dimension), none_at shape c.args.dimension (omega arith))))
+    (cases_lt 0 size)
+    in
+    ⊎_elim (λ (first : c.loop-chunk.longest ≡ 0). omega arith) (λ (less : c.loop-chunk.longest < c.loop-chunk.chunk). omega arith) among where
+      none_at : (shape : List ℕ) (k : ℕ) → slice_index_or shape k 0 ≡ 0 → slice_index_or shape k 0 ≡ 0
+      none_at shape k is = is
+
+pub returns-clause-longest : goal.returns-clause-longest
+returns-clause-longest g c =
+    let (among, at_least, at_most) = c.loop-chunk.invariant in
+    let ended = rw c.shape.ensures.value at c.loop-chunk-test.false in
+    λ other edge its less has is. let one = at_least its is in let two = at_most other edge (omega arith) has in omega arith

@@ -1,0 +1,34 @@
+use Rattle.std.proofs.Common.{◌∙◌, ◌<◌, ◌++◌, ◌∷◌, [], ap₂, arith, refl, sym}
+use Rattle.std.proofs.lemmas.List.{map-append, take_all, take_more}
+use Rattle.zarrs_chunk_plan.specs.declared.fewest.Edge.{Edge}
+use Rattle.zarrs_chunk_plan.specs.seen.Stages.{edge_of}
+use Rattle.zarrs_chunk_plan.proofs.StageReads.{and_one, each_at}
+use Rattle.zarrs_chunk_plan.proofs.stages.row_along.Goals as goal
+
+pub loop-edge-init : goal.loop-edge-init
+loop-edge-init g c = rw (c.in_ok-row.ensures {u = tt}).items (refl, λ some. tt)
+
+pub non_zero-edge-requires : goal.non_zero-edge-requires
+non_zero-edge-requires g c =
+    let positive = each_at (λ edge. 0 < edge) c.args.edges.now c.loop-edge.edge-index c.requires.positive c.loop-edge-test.true in
+    λ none. absurd (omega (arith, positive, none))
+
+pub loop-edge-preserved : goal.loop-edge-preserved
+loop-edge-preserved g c =
+    let edges = c.args.edges.now in
+    let k = c.loop-edge.edge-index in
+    let items = (c.in_ok-push.ensures {u = tt}).items in
+    let e : Edge = record { edge = c.non_zero-edge.result; first = c.in_ok-first.first; second = c.in_ok-first.second } in
+    let more = take_more edges k 0 c.loop-edge-test.true in
+    rw items (
+      map-append edge_of c.loop-edge.row.items (e ∷ [])
+          ∙ ap₂ (λ xs x. xs ++ x ∷ []) c.loop-edge.invariant.0 c.non_zero-edge.ensures ∙ sym more,
+      λ some. and_one _ c.loop-edge.row.items e (c.loop-edge.invariant.1 some) ((c.in_ok-first.ensures {u = tt}) some),
+    )
+
+pub returns-clause-edges : goal.returns-clause-edges
+returns-clause-edges g c =
+    c.loop-edge.invariant.0 ∙ take_all c.loop-edge.edge-index c.args.edges.now c.loop-edge-test.false
+
+pub returns-clause-reads : goal.returns-clause-reads
+returns-clause-reads g c = c.loop-edge.invariant.1

@@ -1,0 +1,144 @@
+use Rattle.std.proofs.Common.{Global, Vec, ℕ, ◌∙◌, ap, arith, length, map, subst, sym}
+use Rattle.std.specs.Int.NonZero.{non_zero_u64_get}
+use Rattle.std.proofs.lemmas.List.{length-map}
+use Rattle.zarrs_chunk_base.specs.Dimension.{Dimension, array_sizes}
+use Rattle.zarrs_chunk_plan.specs.Stages.{IsChosen}
+use Rattle.zarrs_chunk_plan.specs.seen.Stages.{rows_of}
+use Rattle.zarrs_chunk_plan.proofs.ChosenShapes.{is_chosen, map_reversed, shape_long, largest_long, largest_positive, none_fits}
+use Rattle.zarrs_chunk_plan.proofs.EdgesTried.{all_positive, tried_long}
+use Rattle.zarrs_chunk_plan.proofs.StageReads.{length_of}
+use Rattle.zarrs_chunk_plan.proofs.stages.shape_between.Goals as goal
+
+pub all_tried-requires-clause-shape : goal.all_tried-requires-clause-shape
+all_tried-requires-clause-shape g c =
+    let source = g.G.ChunkGridTraits.dimensions c.args.source.now in
+    let target = g.H.ChunkGridTraits.dimensions c.args.target.now in
+    let sizes = array_sizes source in
+    let largest = c.in_ok-largest.largest.items in
+    let other = c.in_ok-largest.other.items in
+    let both = c.in_ok-largest.ensures {u = tt} in
+    let sizes_long = length-map source (λ (d : Dimension). d.array_size) in
+    let one_long = largest_long source largest both.largest in
+    let two_long = largest_long target other both.other in
+    let also_long = length_of source target both.one_array in
+    rw (c.array_shape.ensures, c.deref.ensures.value) (omega (arith, sizes_long, one_long))
+
+pub all_tried-requires-clause-other : goal.all_tried-requires-clause-other
+all_tried-requires-clause-other g c =
+    let source = g.G.ChunkGridTraits.dimensions c.args.source.now in
+    let target = g.H.ChunkGridTraits.dimensions c.args.target.now in
+    let sizes = array_sizes source in
+    let largest = c.in_ok-largest.largest.items in
+    let other = c.in_ok-largest.other.items in
+    let both = c.in_ok-largest.ensures {u = tt} in
+    let sizes_long = length-map source (λ (d : Dimension). d.array_size) in
+    let one_long = largest_long source largest both.largest in
+    let two_long = largest_long target other both.other in
+    let also_long = length_of source target both.one_array in
+    rw (c.array_shape.ensures, c.deref-2.ensures.value) (omega (arith, sizes_long, two_long, also_long))
+
+pub all_rows-requires-clause-positive : goal.all_rows-requires-clause-positive
+all_rows-requires-clause-positive g c =
+    let source = g.G.ChunkGridTraits.dimensions c.args.source.now in
+    let target = g.H.ChunkGridTraits.dimensions c.args.target.now in
+    let sizes = array_sizes source in
+    let largest = c.in_ok-largest.largest.items in
+    let other = c.in_ok-largest.other.items in
+    let both = c.in_ok-largest.ensures {u = tt} in
+    let tried = rw (c.array_shape.ensures, c.deref.ensures.value, c.deref-2.ensures.value) at c.in_ok-tried.ensures in
+    rw (c.deref-4.ensures.value, tried)
+    (all_positive sizes largest other (largest_positive source largest (g.met.G.ChunkGridTraits.chained c.args.source.now) both.largest)
+    (largest_positive target other (g.met.H.ChunkGridTraits.chained c.args.target.now) both.other))
+
+pub all_rows-requires-clause-long : goal.all_rows-requires-clause-long
+all_rows-requires-clause-long g c =
+    let source = g.G.ChunkGridTraits.dimensions c.args.source.now in
+    let target = g.H.ChunkGridTraits.dimensions c.args.target.now in
+    let sizes = array_sizes source in
+    let largest = c.in_ok-largest.largest.items in
+    let other = c.in_ok-largest.other.items in
+    let both = c.in_ok-largest.ensures {u = tt} in
+    let tried = rw (c.array_shape.ensures, c.deref.ensures.value, c.deref-2.ensures.value) at c.in_ok-tried.ensures in
+    let sizes_long = length-map source (λ (d : Dimension). d.array_size) in
+    let one_long = largest_long source largest both.largest in
+    let two_long = largest_long target other both.other in
+    let also_long = length_of source target both.one_array in
+    let long = tried_long sizes largest other (omega (arith, sizes_long, one_long)) (omega (arith, sizes_long, two_long, also_long)) in
+    rw c.deref-4.ensures.value
+    (sym (length-map c.in_ok-tried.tried.items (λ (row : Vec ℕ Global). row.items)) ∙ ap length tried ∙ long ∙ sizes_long)
+
+pub returns-in-Some-clause-found : goal.returns-in-Some-clause-found
+returns-in-Some-clause-found g c =
+    let source = g.G.ChunkGridTraits.dimensions c.args.source.now in
+    let target = g.H.ChunkGridTraits.dimensions c.args.target.now in
+    let sizes = array_sizes source in
+    let largest = c.in_ok-largest.largest.items in
+    let other = c.in_ok-largest.other.items in
+    let both = c.in_ok-largest.ensures {u = tt} in
+    let tried = rw (c.array_shape.ensures, c.deref.ensures.value, c.deref-2.ensures.value) at c.in_ok-tried.ensures in
+    let rows = rw c.deref-4.ensures.value at c.in_ok-rows.ensures in
+    let are = rows.edges ∙ tried in
+    let few = rw (c.deref-3.ensures.value, tried) at c.shapes_of.ensures in
+    let found = rw (
+      c.deref-7.ensures.value,
+      c.saturating_sub.ensures,
+      c.max-held.ensures,
+      c.saturating_product.ensures,
+      c.saturating_product-2.ensures,
+      c.deref-5.ensures.value,
+      c.deref-6.ensures.value,
+    ) at c.in_ok-chosen.ensures in
+    let best = rw c.in-Some.is at found in
+    record {
+      largest = largest;
+      is_largest = both.largest;
+      other = other;
+      is_other = both.other;
+      few = omega (arith, few, c.if-shapes_of-gt-MOST_SHAPES.false);
+      finds =
+          subst (IsChosen source target c.args.most largest other)
+          (sym (ap (map non_zero_u64_get) c.reversed.ensures ∙ map_reversed c.in-Some.chosen.edges.items))
+          (is_chosen source target (g.met.G.ChunkGridTraits.chained c.args.source.now) (g.met.H.ChunkGridTraits.chained c.args.target.now) both.one_array rows.is_box
+          c.args.most (omega (arith, c.ranges.most.fits)) largest other (rows_of c.in_ok-rows.rows.items) are rows.reads
+          (map non_zero_u64_get c.in-Some.chosen.edges.items) c.in-Some.chosen.reads best);
+    }
+
+pub returns-in-Some-clause-long : goal.returns-in-Some-clause-long
+returns-in-Some-clause-long g c =
+    let source = g.G.ChunkGridTraits.dimensions c.args.source.now in
+    let target = g.H.ChunkGridTraits.dimensions c.args.target.now in
+    let both = c.in_ok-largest.ensures {u = tt} in
+    sym (length-map c.reversed.result.items non_zero_u64_get)
+    ∙ shape_long source target c.args.most (map non_zero_u64_get c.reversed.result.items) both.one_array (returns-in-Some-clause-found g c)
+
+pub returns-clause-found : goal.returns-clause-found
+returns-clause-found g c =
+    let source = g.G.ChunkGridTraits.dimensions c.args.source.now in
+    let target = g.H.ChunkGridTraits.dimensions c.args.target.now in
+    let sizes = array_sizes source in
+    let largest = c.in_ok-largest.largest.items in
+    let other = c.in_ok-largest.other.items in
+    let both = c.in_ok-largest.ensures {u = tt} in
+    let tried = rw (c.array_shape.ensures, c.deref.ensures.value, c.deref-2.ensures.value) at c.in_ok-tried.ensures in
+    let rows = rw c.deref-4.ensures.value at c.in_ok-rows.ensures in
+    let are = rows.edges ∙ tried in
+    let few = rw (c.deref-3.ensures.value, tried) at c.shapes_of.ensures in
+    let found = rw (
+      c.deref-7.ensures.value,
+      c.saturating_sub.ensures,
+      c.max-held.ensures,
+      c.saturating_product.ensures,
+      c.saturating_product-2.ensures,
+      c.deref-5.ensures.value,
+      c.deref-6.ensures.value,
+    ) at c.in_ok-chosen.ensures in
+    let none = rw c.in-None.is at found in
+    record {
+      largest = largest;
+      is_largest = both.largest;
+      other = other;
+      is_other = both.other;
+      few = omega (arith, few, c.if-shapes_of-gt-MOST_SHAPES.false);
+      finds = none_fits source target (g.met.G.ChunkGridTraits.chained c.args.source.now) (g.met.H.ChunkGridTraits.chained c.args.target.now) both.one_array rows.is_box
+          c.args.most (omega (arith, c.ranges.most.fits)) largest other (rows_of c.in_ok-rows.rows.items) are rows.reads none;
+    }

@@ -1,0 +1,332 @@
+//! A rechunking in two stages, by an array between: its chunk shape, under a bound of how much a line of either stage holds.
+//!
+//! ```text
+//! array    8760 x 720 x 1440
+//! source   [1, 720, 1440]      a chunk an hour; at most 2^28 elements are held at once
+//! between  [2048, 80, 1440]    first stage: 45 lines, each reads 2048 chunks of the source or fewer
+//! target   [8760, 10, 10]      second stage: 10368 lines, each reads 5 chunks of the array between
+//! ```
+ghost use Rattle.std.specs.Prelude.{◌≡◌, ◌≢◌, ◌↔◌, ◌<◌, ℕ, IfErr, IfOk, IfSome, IsTrue, List, length, map, min, option_map, replicate, reverse};
+ghost use Rattle.std.specs.Int.NonZero.{non_zero_u64_get};
+ghost use Rattle.std.specs.List.{AllByRecursion};
+ghost use Rattle.zarrs_chunk_axes.specs.EqualEdges.{AreEqualEdges};
+ghost use Rattle.zarrs_chunk_base.specs.ArraySubset.{Box, IsBox, IsEmptyBox, IsInside};
+ghost use Rattle.zarrs_chunk_base.specs.Dimension.{array_sizes};
+ghost use Rattle.zarrs_chunk_base.specs.Greatest.{greatest};
+ghost use Rattle.zarrs_chunk_base.specs.Refusal.{HasMemory, OrMemory};
+ghost use Rattle.zarrs_chunks.specs.seen.Grids.{regular_of};
+ghost use Rattle.zarrs_chunk_plan.specs.Counts.{product};
+ghost use Rattle.zarrs_chunk_plan.specs.Plan.{Meets};
+ghost use Rattle.zarrs_chunk_plan.specs.Rechunking.{array_box};
+ghost use Rattle.zarrs_chunk_plan.specs.Stages.{FindsShape, HasFewChunks, HoldAtMost, IsLargest, IsLargestFault, IsStagesFault, shapes_tried};
+ghost use Rattle.zarrs_chunk_plan.specs.seen.Ends.{AreEnds};
+ghost use Rattle.zarrs_chunk_plan.specs.seen.Stages.{AreRead, AreRows, edge_of, numbers_of, rows_of};
+
+use crate::boxes_from_zero::{all_chunks, whole_array};
+use crate::fewest::{Edge, fewest};
+use crate::largest::largest_chunk;
+use crate::rechunking::chunks_of_array;
+use crate::sources::{Move, sources_along};
+use crate::stages_error::StagesError;
+use crate::tried::{all_tried, saturating_product};
+use std::alloc::{AllocError, Global};
+use std::num::NonZeroU64;
+use zarrs_chunk_base::{ArrayShape, ArraySubset, ChunkShape, Refusal};
+use zarrs_chunks::{ChunkGridTraits, RegularChunkGrid};
+
+/// How many shapes are tried, at most.
+const MOST_SHAPES: u64 = 1 << 20;
+
+/// Whether a chunk of the one grid and a chunk of the other have together at most so many elements, whichever two it is that hold elements of the
+/// array. That is what a worker holds who makes a chunk of the target and reads the chunks of the source one after another.
+///
+/// It takes the time of a look-up for each chunk along each dimension by itself.
+///
+/// # Errors
+/// The grids are of arrays of different shapes; one of them has more than 2^24 chunks along some dimension; or out of memory.
+pub fn hold_at_most<G: ChunkGridTraits, H: ChunkGridTraits>(
+    alloc: Global,
+    source: &G,
+    target: &H,
+    most: u64,
+) -> Result<bool, Refusal<StagesError>>
+    ensures held { IfOk result (λ fits. (largest other : List ℕ)
+        × IsLargest (G.dimensions source.now) largest × IsLargest (H.dimensions target.now) other
+        × (IsTrue fits ↔ HoldAtMost most largest other)) }
+    ensures one_array { IfOk result (λ _. array_sizes (G.dimensions source.now)
+        ≡ array_sizes (H.dimensions target.now)) }
+    ensures few_of_source { IfOk result (λ _. HasFewChunks (G.dimensions source.now)) }
+    ensures few_of_target { IfOk result (λ _. HasFewChunks (H.dimensions target.now)) }
+    ensures refused { IfErr result (OrMemory (IsLargestFault (G.dimensions source.now)
+        (H.dimensions target.now))) }
+    ensures shapes_first { array_sizes (G.dimensions source.now)
+        ≢ array_sizes (H.dimensions target.now) → HasMemory result }
+{
+    let (largest, other) = largest_of_both(alloc, source, target)?;
+    Ok(are_at_most(&largest, &other, most))
+}
+
+/// Whether a chunk of one shape and one of the other have together at most so many elements.
+fn are_at_most(shape: &[u64], other: &[u64], most: u64) -> bool
+    requires shape { 0 < product shape.now }
+    requires other { 0 < product other.now }
+    ensures { IsTrue result ↔ HoldAtMost most shape.now other.now }
+{
+    let held = saturating_product(shape).checked_add(saturating_product(other));
+    match held {
+        Some(held) => held <= most,
+        None => false,
+    }
+}
+
+/// The chunk shape of an array between, by which a rechunking in two stages reads the fewest chunks, of the shapes that are tried. Both stages
+/// together move each element as the one rechunking does ([`two_stages_are_together_one`](crate::laws::two_stages_are_together_one)).
+///
+/// - Along each dimension the edges tried are the lesser of the two arrays' greatest edges, doubled as long as it stays below the greater one, and
+///   that; none is longer than the array.
+/// - A shape is tried for each choice of one edge along each dimension.
+/// - It fits where one chunk of this shape and any chunk of the source together have at most `most` elements, and so with any chunk of the target.
+/// - Of those that fit, it is one by which both stages together read the fewest chunks, with repeats: a chunk that is in several lines counts in
+///   each.
+///
+/// `None` where none fits.
+///
+/// It takes the time of a look-up for each chunk along each dimension by itself, of the source, the target and each array that has an edge that is
+/// tried; and that of some multiplications for each shape.
+///
+/// # Errors The grids are of arrays of different shapes; one of them has more than 2^24 chunks along some dimension; there are more than 2^20 shapes
+/// to try; or out of memory.
+pub fn shape_between<G: ChunkGridTraits, H: ChunkGridTraits>(
+    alloc: Global,
+    source: &G,
+    target: &H,
+    most: u64,
+) -> Result<Option<ChunkShape>, Refusal<StagesError>>
+    ensures found { IfOk result (λ found. FindsShape (G.dimensions source.now)
+        (H.dimensions target.now) most
+        (option_map (λ shape. map non_zero_u64_get shape.items) found)) }
+    ensures one_array { IfOk result (λ _. array_sizes (G.dimensions source.now)
+        ≡ array_sizes (H.dimensions target.now)) }
+    ensures long { IfOk result (λ found. IfSome found (λ shape. length shape.items
+        ≡ length (G.dimensions source.now))) }
+    ensures few_of_source { IfOk result (λ _. HasFewChunks (G.dimensions source.now)) }
+    ensures few_of_target { IfOk result (λ _. HasFewChunks (H.dimensions target.now)) }
+    ensures refused { IfErr result (OrMemory (IsStagesFault (G.dimensions source.now)
+        (H.dimensions target.now))) }
+    ensures shapes_first { array_sizes (G.dimensions source.now)
+        ≢ array_sizes (H.dimensions target.now) → HasMemory result }
+{
+    let (largest, other) = largest_of_both(alloc, source, target)?;
+    let tried = all_tried(alloc, source.array_shape(), &largest, &other)?;
+    if shapes_of(&tried) > MOST_SHAPES {
+        return Err(Refusal::Refused(StagesError::ManyShapes));
+    }
+    let rows = all_rows(alloc, source, target, &tried)?;
+    let held = saturating_product(&largest).max(saturating_product(&other));
+    match fewest(alloc, &rows, most.saturating_sub(held), 1, 1)? {
+        Some(chosen) => Ok(Some(reversed(chosen.edges))),
+        None => Ok(None),
+    }
+}
+
+/// The numbers in the opposite order.
+fn reversed(mut edges: ChunkShape) -> ChunkShape
+    ensures { result.items ≡ reverse edges.items }
+{
+    edges.reverse();
+    edges
+}
+
+/// How many shapes are tried, as far as a number of 64 bits counts them.
+fn shapes_of(tried: &[Vec<u64>]) -> u64
+    ensures { result ≡ min greatest (shapes_tried (numbers_of tried.now)) }
+{
+    let mut shapes = 1u64;
+    for row in tried {
+        shapes = shapes.saturating_mul(row.as_slice().len() as u64);
+    }
+    shapes
+}
+
+/// The shapes of the largest chunks of two grids.
+///
+/// # Errors
+/// As of `hold_at_most`.
+fn largest_of_both<G: ChunkGridTraits, H: ChunkGridTraits>(
+    alloc: Global,
+    source: &G,
+    target: &H,
+) -> Result<(ArrayShape, ArrayShape), Refusal<StagesError>>
+    ensures largest { IfOk result (λ both. IsLargest (G.dimensions source.now) both.0.items) }
+    ensures other { IfOk result (λ both. IsLargest (H.dimensions target.now) both.1.items) }
+    ensures one_array { IfOk result (λ _. array_sizes (G.dimensions source.now)
+        ≡ array_sizes (H.dimensions target.now)) }
+    ensures few_of_source { IfOk result (λ _. HasFewChunks (G.dimensions source.now)) }
+    ensures few_of_target { IfOk result (λ _. HasFewChunks (H.dimensions target.now)) }
+    ensures refused { IfErr result (OrMemory (IsLargestFault (G.dimensions source.now)
+        (H.dimensions target.now))) }
+    ensures shapes_first { array_sizes (G.dimensions source.now)
+        ≢ array_sizes (H.dimensions target.now) → HasMemory result }
+{
+    if source.array_shape() != target.array_shape() {
+        return Err(Refusal::Refused(StagesError::ArrayShapes));
+    }
+    let Some(largest) = largest_chunk(alloc, source)? else {
+        return Err(Refusal::Refused(StagesError::ManyChunks));
+    };
+    let Some(other) = largest_chunk(alloc, target)? else {
+        return Err(Refusal::Refused(StagesError::ManyChunks));
+    };
+    Ok((largest, other))
+}
+
+/// What the two stages are between, with what is needed again and again.
+#[derive(Drop)]
+struct Ends<'a, G, H> {
+    source: &'a G,
+    target: &'a H,
+    /// All elements of the array.
+    array: &'a ArraySubset,
+    /// The chunks of the target that hold some of them.
+    chunks: &'a ArraySubset,
+}
+
+/// For each dimension the edges that are tried, with what is read by them.
+///
+/// # Errors
+/// Out of memory.
+fn all_rows<G: ChunkGridTraits, H: ChunkGridTraits>(
+    alloc: Global,
+    source: &G,
+    target: &H,
+    tried: &[Vec<u64>],
+) -> Result<Vec<Vec<Edge>>, AllocError>
+    requires one_array { array_sizes (G.dimensions source.now)
+        ≡ array_sizes (H.dimensions target.now) }
+    requires positive { AllByRecursion (AllByRecursion (λ edge. 0 < edge)) (numbers_of tried.now) }
+    requires long { length tried.now ≡ length (G.dimensions source.now) }
+    ensures is_box { IfOk result (λ _. IsBox (array_box (H.dimensions target.now))) }
+    ensures edges { IfOk result (λ rows. map (map edge_of) (rows_of rows.items)
+        ≡ numbers_of tried.now) }
+    ensures reads { (¬ IsEmptyBox (array_box (H.dimensions target.now)))
+        → IfOk result (λ rows. (chunks : Box) × IsBox chunks
+        × (length chunks.start ≡ length (H.dimensions target.now))
+        × ((chunk : List ℕ) → IsInside chunks chunk ↔ Meets (H.dimensions target.now)
+        (array_box (H.dimensions target.now)) chunk)
+        × AreRows (G.dimensions source.now) (H.dimensions target.now) chunks 0
+        (rows_of rows.items)) }
+{
+    let array = whole_array(alloc, target)?;
+    let chunks = chunks_of_array(alloc, target, &array)?;
+    chunks.is_a_box();
+    let ends = Ends {
+        source,
+        target,
+        array: &array,
+        chunks: &chunks,
+    };
+    let mut rows = Vec::with_capacity(alloc, tried.len())?;
+    for (dimension, edges) in tried.iter().enumerate() {
+        rows.push(row_along(alloc, &ends, dimension, edges)?)?;
+    }
+    Ok(rows)
+}
+
+/// The edges that are tried along a dimension, with what is read by them.
+///
+/// # Errors
+/// Out of memory.
+fn row_along<G: ChunkGridTraits, H: ChunkGridTraits>(
+    alloc: Global,
+    ends: &Ends<G, H>,
+    dimension: usize,
+    edges: &[u64],
+) -> Result<Vec<Edge>, AllocError>
+    requires ends { AreEnds G.dimensions H.dimensions ends.now }
+    requires dimension { dimension < length (G.dimensions ends.now.source.now) }
+    requires positive { AllByRecursion (λ edge. 0 < edge) edges.now }
+    ensures edges { IfOk result (λ row. map edge_of row.items ≡ edges.now) }
+    ensures reads { (¬ IsEmptyBox ends.now.array.now) → IfOk result (λ row.
+        AllByRecursion (λ e. AreRead (G.dimensions ends.now.source.now)
+        (H.dimensions ends.now.target.now) ends.now.chunks.now dimension
+        (edge_of e) e.first e.second) row.items) }
+{
+    let mut row = Vec::with_capacity(alloc, edges.len())?;
+    for edge in edges {
+        let edge = non_zero(*edge);
+        let (first, second) = reads_along(alloc, ends, dimension, edge)?;
+        row.push(Edge {
+            edge,
+            first,
+            second,
+        })?;
+    }
+    Ok(row)
+}
+
+/// A number that isn't 0.
+fn non_zero(number: u64) -> NonZeroU64
+    requires { number ≢ 0 }
+    ensures { non_zero_u64_get result ≡ number }
+{
+    match NonZeroU64::new(number) {
+        Some(number) => number,
+        None => unreachable!(),
+    }
+}
+
+/// How many chunks each stage reads along a dimension by an edge there: as where the array between has it along each. Where the array has no
+/// elements, none.
+///
+/// # Errors
+/// Out of memory.
+fn reads_along<G: ChunkGridTraits, H: ChunkGridTraits>(
+    alloc: Global,
+    ends: &Ends<G, H>,
+    dimension: usize,
+    edge: NonZeroU64,
+) -> Result<(u64, u64), AllocError>
+    requires ends { AreEnds G.dimensions H.dimensions ends.now }
+    requires dimension { dimension < length (G.dimensions ends.now.source.now) }
+    ensures { (¬ IsEmptyBox ends.now.array.now) → IfOk result (λ reads.
+        AreRead (G.dimensions ends.now.source.now) (H.dimensions ends.now.target.now)
+        ends.now.chunks.now dimension (non_zero_u64_get edge) reads.0 reads.1) }
+{
+    if ends.array.is_empty() {
+        return Ok((0, 0));
+    }
+    let between = cubes(alloc, ends.source.array_shape(), edge)?;
+    let chunks = all_chunks(alloc, &between)?;
+    chunks.is_a_box();
+    let into = Move {
+        source: ends.source,
+        target: &between,
+        region: ends.array,
+        moved: ends.array,
+    };
+    let (first, _) = sources_along(alloc, &into, &chunks, dimension)?;
+    let from = Move {
+        source: &between,
+        target: ends.target,
+        region: ends.array,
+        moved: ends.array,
+    };
+    let (second, _) = sources_along(alloc, &from, ends.chunks, dimension)?;
+    Ok((first, second))
+}
+
+/// The grid of an array of this shape whose chunks have the same edge along each dimension.
+///
+/// # Errors
+/// Out of memory.
+fn cubes(alloc: Global, shape: &[u64], edge: NonZeroU64) -> Result<RegularChunkGrid, AllocError>
+    ensures { IfOk result (λ grid. AreEqualEdges (regular_of grid).dimensions shape.now
+        (replicate (length shape.now) (non_zero_u64_get edge))) }
+{
+    let mut edges = Vec::with_capacity(alloc, shape.len())?;
+    edges.resize(shape.len(), edge)?;
+    match RegularChunkGrid::new(alloc, Vec::from_slice(alloc, shape)?, edges) {
+        Ok(grid) => Ok(grid),
+        Err(_) => Err(AllocError),
+    }
+}

@@ -1,0 +1,16 @@
+//! Why no two stages can be looked for.
+use thiserror::Error;
+
+/// The two grids don't fit together, or there is too much to go through.
+#[derive(Clone, Copy, Debug, PartialEq, Eq, Error)]
+pub enum StagesError {
+    /// The grids are of arrays of different shapes.
+    #[error("the source and the target have different array shapes")]
+    ArrayShapes,
+    /// The source or the target has too many chunks to go through.
+    #[error("the source or the target has more than 16777216 chunks along a dimension, too many to go through")]
+    ManyChunks,
+    /// There are too many chunk shapes to try.
+    #[error("there are more than 1048576 chunk shapes to try for the array between")]
+    ManyShapes,
+}
