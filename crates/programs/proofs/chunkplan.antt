@@ -1,3 +1,4 @@
+pub mod Appended
 pub mod Asked
 pub mod Begun
 pub mod Behind

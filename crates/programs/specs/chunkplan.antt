@@ -8,4 +8,5 @@ pub mod PlanFault
 pub mod Planned
 pub mod Run
 pub mod RunFault
+pub mod StagesLine
 pub mod seen

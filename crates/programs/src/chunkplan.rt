@@ -10,12 +10,16 @@
 //! | `flag` | a flag as a document writes it |
 //! | `share` | a share of a plan as a document writes it |
 //! | `order` | the order of the lines as a document writes it |
+//! | `stage` | how much a worker may hold, and which stage is wanted, as a document writes them |
 //! | `ranges` | the byte ranges that a document wants in the lines of a read |
 //! | `plan` | the plan that a document asks for |
+//! | `within` | the plan of a rechunking of which a worker holds at most so many elements |
+//! | `between` | the array between, by which a rechunking goes in two stages |
 //! | `copying` | the lines of a plan, sent as they are made |
 //! | `line` | one line |
 //! | `part_ranges` | the byte ranges of a part, as a line has them |
 //! | `counting` | the counts of a plan, as one line |
+//! | `stages_line` | the counts of a rechunking and of its two stages, as one line |
 //! | `missing` | what is left of a plan beside keys |
 //! | `product` | products of numbers, in decimal digits |
 //! | `run_fault` | why a run stops |
@@ -35,6 +39,7 @@ ghost use Rattle.programs.specs.chunkplan.Run.{RunEndsWith, RunLeaves};
 ghost use Rattle.programs.specs.chunkplan.seen.Steps.{InputStepLeaves, StepLeaves};
 ghost use Rattle.programs.specs.seen.Sent.{output};
 
+mod between;
 mod boxes;
 mod copying;
 mod counting;
@@ -51,6 +56,9 @@ mod product;
 mod ranges;
 mod run_fault;
 mod share;
+mod stage;
+mod stages_line;
+mod within;
 
 pub use crate::Watched;
 use crate::lines::Lines;
@@ -95,9 +103,9 @@ pub fn run_to_status<R: Read, W: Write, E: Write>(
 /// The first fault: a failed read; a text that is no JSON, or no object; a member that isn't known, then one that is missing, then one that
 /// doesn't go with the others, then one that isn't of its form; a grid or an encoding that can't be made, then those of the target; a box with
 /// another number of dimensions; a box of elements that has no cover, where it isn't clipped to the array; a region that doesn't lie in the array, or
-/// in the target's; a grid of the new shape that can't be made. Where keys stand behind the document, behind its own faults more lines than there are
-/// bits for, a failed read, and a key that is no text. Nothing has been written then. After a
-/// failed write, or where memory runs out, a beginning of the plan may have been written.
+/// in the target's; lines of one stage that would hold too many elements, no array between, or too much to go through for either; a grid of the new
+/// shape that can't be made. Where keys stand behind the document, behind its own faults more lines than there are bits for, a failed read, and a key
+/// that is no text. Nothing has been written then. After a failed write, or where memory runs out, a beginning of the plan may have been written.
 pub fn run<R: Read, W: Write>(
     alloc: Global,
     reader: &mut Watched<R>,

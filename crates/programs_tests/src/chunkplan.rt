@@ -1,9 +1,12 @@
-//! What no contract says: readers and writers that fail, that a beginning of the plan is written then, and how a wrong `clip`, `counts` or `keep` is told.
+//! What no contract says: readers and writers that fail, that a beginning of the plan is written then, and how a wrong `clip`, `counts` or `keep` is told;
+//! and the plans where a worker holds few elements.
 use crate::ended::{check_bytes, check_ending, check_that};
 use crate::failing::{FailingReader, FailingWriter};
 use programs::chunkplan::{Watched, run_to_status};
+use std::alloc::{AllocError, Global};
 use std::io::ErrorKind;
 use std::process::Abort;
+use std::test::Fail;
 
 const DOCUMENT: &[u8] =
     br#"{"shape":[4],"chunk_grid":{"name":"regular","configuration":{"chunk_shape":[3]}},"chunk_key_encoding":"v2"}"#;
@@ -132,6 +135,102 @@ const NO_ITEM_SIZE: &[u8] =
 
 const WRONG_ITEM_SIZE: &[u8] =
     br#"{"shape":[4],"chunk_grid":"regular","chunk_key_encoding":"v2","item_size":0}"#;
+
+/// An array of six elements in chunks of two, which is rechunked into one chunk, where a worker holds at most so many elements: the number stands
+/// behind this, and what else is asked for.
+const BOUNDED: &[u8] =
+    br#"{"shape":[6],"chunk_grid":{"name":"regular","configuration":{"chunk_shape":[2]}},"chunk_key_encoding":"v2","target":{"chunk_grid":{"name":"regular","configuration":{"chunk_shape":[6]}},"chunk_key_encoding":"v2"},"max_elements":"#;
+
+/// What is written for each bound that this array's rechunking has a plan of. The edges 2, 4 and 6 are tried: up to 9 elements 2 alone fits, by 10 and
+/// 11 the edge 4 takes the fewest reads, and by 12 the edge 6.
+const PLANS_WITHIN: [(&[u8], &[u8]); 8] = [
+    (
+        br#"8}"#,
+        br#"{"from":[{"chunk":[0],"in_chunk":[[0],[2]],"in_target":[[0],[2]],"key":"0","shape":[2]},{"chunk":[1],"in_chunk":[[0],[2]],"in_target":[[2],[2]],"key":"1","shape":[2]},{"chunk":[2],"in_chunk":[[0],[2]],"in_target":[[4],[2]],"key":"2","shape":[2]}],"number":0,"of":1,"to":{"chunk":[0],"key":"0","shape":[6]},"whole":true}
+"#,
+    ),
+    (
+        br#"8,"counts":false}"#,
+        br#"{"from":[{"chunk":[0],"in_chunk":[[0],[2]],"in_target":[[0],[2]],"key":"0","shape":[2]},{"chunk":[1],"in_chunk":[[0],[2]],"in_target":[[2],[2]],"key":"1","shape":[2]},{"chunk":[2],"in_chunk":[[0],[2]],"in_target":[[4],[2]],"key":"2","shape":[2]}],"number":0,"of":1,"to":{"chunk":[0],"key":"0","shape":[6]},"whole":true}
+"#,
+    ),
+    (
+        br#"8,"stage":1,"share":[1,3]}"#,
+        br#"{"from":[{"chunk":[1],"in_chunk":[[0],[2]],"in_target":[[0],[2]],"key":"1","shape":[2]}],"number":1,"of":3,"to":{"chunk":[1],"key":"c/1","shape":[2]},"whole":true}
+"#,
+    ),
+    (
+        br#"10,"stage":1}"#,
+        br#"{"from":[{"chunk":[0],"in_chunk":[[0],[2]],"in_target":[[0],[2]],"key":"0","shape":[2]},{"chunk":[1],"in_chunk":[[0],[2]],"in_target":[[2],[2]],"key":"1","shape":[2]}],"number":0,"of":2,"to":{"chunk":[0],"key":"c/0","shape":[4]},"whole":true}
+{"from":[{"chunk":[2],"in_chunk":[[0],[2]],"in_target":[[0],[2]],"key":"2","shape":[2]}],"number":1,"of":2,"to":{"chunk":[1],"key":"c/1","shape":[4]},"whole":true}
+"#,
+    ),
+    (
+        br#"10,"stage":2}"#,
+        br#"{"from":[{"chunk":[0],"in_chunk":[[0],[4]],"in_target":[[0],[4]],"key":"c/0","shape":[4]},{"chunk":[1],"in_chunk":[[0],[2]],"in_target":[[4],[2]],"key":"c/1","shape":[4]}],"number":0,"of":1,"to":{"chunk":[0],"key":"0","shape":[6]},"whole":true}
+"#,
+    ),
+    (
+        br#"10,"stage":1,"counts":true}"#,
+        br#"{"copies":3,"elements":6,"largest_line":2,"lines":2,"source_chunks":3}
+"#,
+    ),
+    (
+        br#"10,"counts":true}"#,
+        br#"{"between":[4],"fits":true,"one_stage":{"copies":3,"elements":6,"largest_line":3,"lines":1,"source_chunks":3},"stages":[{"copies":3,"elements":6,"largest_line":2,"lines":2,"source_chunks":3},{"copies":2,"elements":6,"largest_line":2,"lines":1,"source_chunks":2}]}
+"#,
+    ),
+    (
+        br#"7,"counts":true}"#,
+        br#"{"between":null,"fits":false,"one_stage":{"copies":3,"elements":6,"largest_line":3,"lines":1,"source_chunks":3},"stages":null}
+"#,
+    ),
+];
+
+/// The fault of each bound that this array's rechunking has none of.
+const FAULTS_WITHIN: [(&[u8], &str); 6] = [
+    (
+        br#"7}"#,
+        "chunkplan: a line of one stage would hold more than `max_elements` elements: ask for `stage` 1 and then for `stage` 2, or for their `counts`\n",
+    ),
+    (
+        br#"7,"stage":1}"#,
+        "chunkplan: no chunk shape that is tried for an array between holds few enough elements for `max_elements`: ask for more\n",
+    ),
+    (
+        br#"7,"stage":2,"counts":true}"#,
+        "chunkplan: no chunk shape that is tried for an array between holds few enough elements for `max_elements`: ask for more\n",
+    ),
+    (
+        br#"-1}"#,
+        "chunkplan: wrong value in field `max_elements`\n",
+    ),
+    (
+        br#"8,"stage":3}"#,
+        "chunkplan: wrong value in field `stage`\n",
+    ),
+    (
+        br#"8,"order":"source"}"#,
+        "chunkplan: field `order` doesn't go with `max_elements`: leave out one of them\n",
+    ),
+];
+
+const BOUND_OF_NO_TARGET: &[u8] =
+    br#"{"shape":[4],"chunk_grid":"","chunk_key_encoding":"","max_elements":1}"#;
+
+const STAGE_OF_NO_BOUND: &[u8] =
+    br#"{"shape":[4],"chunk_grid":"","chunk_key_encoding":"","stage":1,"target":{}}"#;
+
+const BOUND_OF_RESIZE: &[u8] =
+    br#"{"shape":[4],"chunk_grid":"","chunk_key_encoding":"","max_elements":1,"stage":1,"resize":[5]}"#;
+
+/// More chunks than are gone through along a dimension.
+const MANY_CHUNKS: &[u8] =
+    br#"{"shape":[16777217],"chunk_grid":{"name":"regular","configuration":{"chunk_shape":[1]}},"chunk_key_encoding":"v2","target":{"chunk_grid":{"name":"regular","configuration":{"chunk_shape":[2]}},"chunk_key_encoding":"v2"},"max_elements":3}"#;
+
+/// More shapes than are tried: two edges along each of 21 dimensions.
+const MANY_SHAPES: &[u8] =
+    br#"{"shape":[2,2,2,2,2,2,2,2,2,2,2,2,2,2,2,2,2,2,2,2,2],"chunk_grid":{"name":"regular","configuration":{"chunk_shape":[1,1,1,1,1,1,1,1,1,1,1,1,1,1,1,1,1,1,1,1,1]}},"chunk_key_encoding":"v2","target":{"chunk_grid":{"name":"regular","configuration":{"chunk_shape":[2,2,2,2,2,2,2,2,2,2,2,2,2,2,2,2,2,2,2,2,2]}},"chunk_key_encoding":"v2"},"max_elements":3,"stage":1}"#;
 
 /// A reader of a document that fails after so many reads is told, and nothing is written then; the lines are, where it doesn't fail.
 fn check_read(
@@ -357,4 +456,58 @@ fn byte_ranges_are_in_the_lines_of_a_read(rt: HostRuntime) {
         WRONG_ITEM_SIZE,
         "chunkplan: wrong value in field `item_size`\n",
     );
+}
+
+/// The document of that rechunking with this bound, and what else is asked for.
+fn bounded(alloc: Global, bound: &[u8]) -> Result<Vec<u8>, AllocError> {
+    let mut document = Vec::new(alloc);
+    document.extend_from_slice(BOUNDED)?;
+    document.extend_from_slice(bound)?;
+    Ok(document)
+}
+
+/// More reads than any such document takes.
+const AMPLE: usize = 64;
+
+#[test]
+fn a_rechunking_is_planned_where_a_worker_holds_few_elements(rt: HostRuntime) -> Result<(), Fail> {
+    for (bound, lines) in &PLANS_WITHIN {
+        let document = bounded(rt.alloc(), bound)?;
+        check_read(&rt, (&document, lines), AMPLE, ErrorKind::Other, true);
+    }
+    Ok(())
+}
+
+#[test]
+fn what_has_no_plan_where_a_worker_holds_few_elements_is_told(rt: HostRuntime) -> Result<(), Fail> {
+    for (bound, line) in &FAULTS_WITHIN {
+        let document = bounded(rt.alloc(), bound)?;
+        check_fault(&rt, &document, line);
+    }
+    check_fault(
+        &rt,
+        BOUND_OF_NO_TARGET,
+        "chunkplan: field `max_elements` is for a rechunking: give `target` too, or leave it out\n",
+    );
+    check_fault(
+        &rt,
+        STAGE_OF_NO_BOUND,
+        "chunkplan: field `stage` is for a rechunking in two stages: give `max_elements` too, or leave it out\n",
+    );
+    check_fault(
+        &rt,
+        BOUND_OF_RESIZE,
+        "chunkplan: field `max_elements` isn't for a resize: leave it out, or leave out `resize`\n",
+    );
+    check_fault(
+        &rt,
+        MANY_CHUNKS,
+        "chunkplan: the source or the target has more than 16777216 chunks along a dimension, too many to go through\n",
+    );
+    check_fault(
+        &rt,
+        MANY_SHAPES,
+        "chunkplan: there are more than 1048576 chunk shapes to try for the array between\n",
+    );
+    Ok(())
 }

@@ -1,16 +1,18 @@
 -- A choice of one edge from each of some rows that takes the fewest reads.
 use Rattle.std.proofs.Common.{◌≡◌, ◌∙◌, ℕ, zero, suc, ◌+◌, ◌*◌, ◌/◌, ◌<◌, ◌≤◌, List, [], ◌∷◌, ◌++◌, Contains, IfSome, MatchOption, Option, Some, None}
-use Rattle.std.proofs.Common.{ap, arith, le-div_iff_mul-le, map, min, mul_assoc, mul_comm, refl, subst, sym, ⊎_elim}
+use Rattle.std.proofs.Common.{ap, arith, le-div_iff_mul-le, length, map, min, mul_assoc, mul_comm, refl, slice_index_or, subst, sym, take, ⊎_elim}
+use Rattle.std.specs.List.{AllByRecursion}
 use Rattle.std.proofs.lemmas.Bool.{cases_lt, le-ltb, lt-ltb}
-use Rattle.std.proofs.lemmas.List.{reverse-append}
+use Rattle.std.proofs.lemmas.List.{length-map, reverse-append}
 use Rattle.std.proofs.lemmas.List.Elements.{Contains-append_cases, Contains-append_left, Contains-append_right}
 use Rattle.std.specs.Int.NonZero.{non_zero_u64_get}
 use Rattle.std.specs.declared.num.NonZeroU64.{NonZeroU64}
 use Rattle.zarrs_chunk_base.specs.Greatest.{greatest}
+use Rattle.zarrs_chunk_axes.specs.RowMajor.{IsBefore}
 use Rattle.zarrs_chunk_plan.specs.Counts.{product}
 use Rattle.zarrs_chunk_plan.specs.declared.fewest.Chosen.{Chosen}
 use Rattle.zarrs_chunk_plan.specs.declared.fewest.Edge.{Edge}
-use Rattle.zarrs_chunk_plan.specs.seen.Stages.{FindsFewest, IsChoice, IsFewest, better_of, edge_of, held, reads_of}
+use Rattle.zarrs_chunk_plan.specs.seen.Stages.{Ascend, FindsFewest, IsChoice, IsFewest, better_of, edge_of, held, reads_of}
 
 -- ---- products up to the greatest number
 
@@ -49,6 +51,29 @@ with_fits room e choice some fits = let swap = mul_comm (edge_of e) (held choice
 
 -- ---- rows
 
+edge_at : (row : List Edge) (k : ℕ) (e : Edge) → k < length row → e ≡ slice_index_or row k e → slice_index_or (map edge_of row) k 0 ≡ edge_of e
+edge_at [] k e within is = absurd (omega arith)
+edge_at (r ∷ row) zero e within is = ap edge_of (sym is)
+edge_at (r ∷ row) (suc k) e within is = edge_at row k e (omega arith) is
+
+less_at : (n : ℕ) (numbers : List ℕ) (k : ℕ) → AllByRecursion (λ m. n < m) numbers → k < length numbers → n < slice_index_or numbers k 0
+less_at n [] k all within = absurd (omega arith)
+less_at n (m ∷ numbers) zero all within = all.0
+less_at n (m ∷ numbers) (suc k) all within = less_at n numbers k all.1 (omega arith)
+
+-- in a row that ascends each edge of those so far is less than the next
+pub below_next : (row : List Edge) (k : ℕ) (e : Edge) → Ascend (map edge_of row) → k < length row → e ≡ slice_index_or row k e
+    → (x : Edge) → Contains (take k row) x → edge_of x < edge_of e
+below_next row zero e up within is x (j, less, same) = absurd (omega arith)
+below_next [] (suc k) e up within is x among = absurd (omega arith)
+below_next (r ∷ row) (suc k) e up within is x (zero, less, same) =
+    let long = length-map row edge_of in
+    let at = less_at (edge_of r) (map edge_of row) k up.0 (omega (arith, long)) in
+    let there : slice_index_or (map edge_of row) k 0 ≡ edge_of e = edge_at row k e (omega arith) is in
+    let here : edge_of r ≡ edge_of x = ap edge_of same in
+    omega (arith, at, there, here)
+below_next (r ∷ row) (suc k) e up within is x (suc j, less, same) = below_next row k e up.1 (omega arith) is x (j, omega arith, same)
+
 -- what is found with an edge is what was found, with the edge behind it
 pub data IsWith (e : Edge) (found with : Option Chosen) : Type 0 where
   with_none : found ≡ None → with ≡ None → IsWith e found with
@@ -76,7 +101,7 @@ on_right : (rows : List (List Edge)) (xs ys choice : List Edge) → IsChoice (ys
 on_right rows xs ys [] chosen = absurd chosen
 on_right rows xs ys (c ∷ choice) (in_row, chosen) = (Contains-append_right xs ys c in_row, chosen)
 
-only : (e c : Edge) → Contains (e ∷ []) c → c ≡ e
+pub only : (e c : Edge) → Contains (e ∷ []) c → c ≡ e
 only e c (zero, within, is) = sym is
 only e c (suc k, within, is) = absurd (omega arith)
 
@@ -118,7 +143,20 @@ module _ (rows : List (List Edge)) (room first second : ℕ) where
       fits = with_fits room e was.choice positive was.fits;
       are_reads = reads ∙ was.are_reads ∙ reads_with first second e was.choice;
       least = λ other is_choice fits. least other is_choice fits;
+      earliest = earliest;
     } where
+      earliest : (other : List Edge) → IsChoice ((e ∷ []) ∷ rows) other → held other ≤ room → reads_of first second other ≡ after.reads
+          → ¬ IsBefore (map edge_of other) (map edge_of (e ∷ was.choice))
+      earliest [] chosen fits as_few before = absurd chosen
+      earliest (c ∷ choice) (in_row, chosen) fits as_few before =
+          let is : c ≡ e = only e c in_row in
+          let edge = ap edge_of is in
+          let here = subst (λ x. held (x ∷ choice) ≤ room) is fits in
+          let with = reads_with first second e choice in
+          let same = ap (λ x. reads_of first second (x ∷ choice)) is in
+          ⊎_elim (λ (less : edge_of c < edge_of e). absurd (omega (arith, edge)))
+          (λ both. was.earliest choice chosen (fits_with room e choice positive here) (omega (arith, reads, as_few, same, with)) both.1) before
+
       least : (other : List Edge) → IsChoice ((e ∷ []) ∷ rows) other → held other ≤ room → after.reads ≤ reads_of first second other
       least [] chosen fits = absurd chosen
       least (c ∷ choice) (in_row, chosen) fits =
@@ -130,40 +168,57 @@ module _ (rows : List (List Edge)) (room first second : ℕ) where
           omega (arith, reads, same, with, at_most)
 
   -- of a row and more of it
-  pub of_both : (xs ys : List Edge) (best other : Option Chosen) → FindsFewest (xs ∷ rows) room first second best
+  pub of_both : (xs ys : List Edge) (best other : Option Chosen)
+      → ((x y : Edge) → Contains xs x → Contains ys y → edge_of x < edge_of y) → FindsFewest (xs ∷ rows) room first second best
       → FindsFewest (ys ∷ rows) room first second other → FindsFewest ((xs ++ ys) ∷ rows) room first second (better_of best other)
-  of_both xs ys None None finds also = none where
+  of_both xs ys None None up finds also = none where
     none : (choice : List Edge) → IsChoice ((xs ++ ys) ∷ rows) choice → room < held choice
     none [] chosen = absurd chosen
     none (c ∷ choice) (in_row, chosen) =
         ⊎_elim (λ here. finds (c ∷ choice) (here, chosen)) (λ there. also (c ∷ choice) (there, chosen)) (Contains-append_cases xs ys c in_row)
-  of_both xs ys (Some best) None finds also = record {
+  of_both xs ys (Some best) None up finds also = record {
     choice = finds.choice;
     is_choice = on_left rows xs ys finds.choice finds.is_choice;
     are_edges = finds.are_edges;
     fits = finds.fits;
     are_reads = finds.are_reads;
     least = least;
+    earliest = earliest;
   } where
+    earliest : (choice : List Edge) → IsChoice ((xs ++ ys) ∷ rows) choice → held choice ≤ room → reads_of first second choice ≡ best.reads
+        → ¬ IsBefore (map edge_of choice) (map edge_of finds.choice)
+    earliest [] chosen fits as_few = absurd chosen
+    earliest (c ∷ choice) (in_row, chosen) fits as_few =
+        ⊎_elim (λ here. finds.earliest (c ∷ choice) (here, chosen) fits as_few)
+        (λ there. let more = also (c ∷ choice) (there, chosen) in absurd (omega arith)) (Contains-append_cases xs ys c in_row)
+
     least : (choice : List Edge) → IsChoice ((xs ++ ys) ∷ rows) choice → held choice ≤ room → best.reads ≤ reads_of first second choice
     least [] chosen fits = absurd chosen
     least (c ∷ choice) (in_row, chosen) fits =
         ⊎_elim (λ here. finds.least (c ∷ choice) (here, chosen) fits)
         (λ there. let more = also (c ∷ choice) (there, chosen) in absurd (omega arith)) (Contains-append_cases xs ys c in_row)
-  of_both xs ys None (Some other) finds also = record {
+  of_both xs ys None (Some other) up finds also = record {
     choice = also.choice;
     is_choice = on_right rows xs ys also.choice also.is_choice;
     are_edges = also.are_edges;
     fits = also.fits;
     are_reads = also.are_reads;
     least = least;
+    earliest = earliest;
   } where
+    earliest : (choice : List Edge) → IsChoice ((xs ++ ys) ∷ rows) choice → held choice ≤ room → reads_of first second choice ≡ other.reads
+        → ¬ IsBefore (map edge_of choice) (map edge_of also.choice)
+    earliest [] chosen fits as_few = absurd chosen
+    earliest (c ∷ choice) (in_row, chosen) fits as_few =
+        ⊎_elim (λ here. let more = finds (c ∷ choice) (here, chosen) in absurd (omega arith))
+        (λ there. also.earliest (c ∷ choice) (there, chosen) fits as_few) (Contains-append_cases xs ys c in_row)
+
     least : (choice : List Edge) → IsChoice ((xs ++ ys) ∷ rows) choice → held choice ≤ room → other.reads ≤ reads_of first second choice
     least [] chosen fits = absurd chosen
     least (c ∷ choice) (in_row, chosen) fits =
         ⊎_elim (λ here. let more = finds (c ∷ choice) (here, chosen) in absurd (omega arith))
         (λ there. also.least (c ∷ choice) (there, chosen) fits) (Contains-append_cases xs ys c in_row)
-  of_both xs ys (Some best) (Some other) finds also =
+  of_both xs ys (Some best) (Some other) up finds also =
       ⊎_elim
       (λ (less : other.reads < best.reads). rw (lt-ltb other.reads best.reads less) (record {
         choice = also.choice;
@@ -172,6 +227,7 @@ module _ (rows : List (List Edge)) (room first second : ℕ) where
         fits = also.fits;
         are_reads = also.are_reads;
         least = λ choice chosen fits. least_other less choice chosen fits;
+        earliest = λ choice chosen fits. earliest_other less choice chosen fits;
       }))
       (λ (le : best.reads ≤ other.reads). rw (le-ltb other.reads best.reads le) (record {
         choice = finds.choice;
@@ -180,6 +236,7 @@ module _ (rows : List (List Edge)) (room first second : ℕ) where
         fits = finds.fits;
         are_reads = finds.are_reads;
         least = λ choice chosen fits. least_best le choice chosen fits;
+        earliest = λ choice chosen fits. earliest_best le choice chosen fits;
       }))
       (cases_lt other.reads best.reads) where
         least_other : other.reads < best.reads → (choice : List Edge) → IsChoice ((xs ++ ys) ∷ rows) choice → held choice ≤ room
@@ -195,3 +252,25 @@ module _ (rows : List (List Edge)) (room first second : ℕ) where
         least_best le (c ∷ choice) (in_row, chosen) fits =
             ⊎_elim (λ here. finds.least (c ∷ choice) (here, chosen) fits)
             (λ there. let at_most = also.least (c ∷ choice) (there, chosen) fits in omega arith) (Contains-append_cases xs ys c in_row)
+
+        earliest_other : other.reads < best.reads → (choice : List Edge) → IsChoice ((xs ++ ys) ∷ rows) choice → held choice ≤ room
+            → reads_of first second choice ≡ other.reads → ¬ IsBefore (map edge_of choice) (map edge_of also.choice)
+        earliest_other less [] chosen fits as_few = absurd chosen
+        earliest_other less (c ∷ choice) (in_row, chosen) fits as_few =
+            ⊎_elim (λ here. let at_most = finds.least (c ∷ choice) (here, chosen) fits in absurd (omega (arith, as_few)))
+            (λ there. also.earliest (c ∷ choice) (there, chosen) fits as_few) (Contains-append_cases xs ys c in_row)
+
+        -- what begins with an edge of the second row comes behind what begins with one of the first
+        not_before : (found : List Edge) → IsChoice (xs ∷ rows) found → (c : Edge) (choice : List Edge) → Contains ys c
+            → ¬ IsBefore (map edge_of (c ∷ choice)) (map edge_of found)
+        not_before [] is c choice there before = absurd is
+        not_before (x ∷ found) is c choice there before =
+            let less = up x c is.0 there in
+            ⊎_elim (λ (earlier : edge_of c < edge_of x). absurd (omega arith)) (λ both. let same = both.0 in absurd (omega (arith, same))) before
+
+        earliest_best : best.reads ≤ other.reads → (choice : List Edge) → IsChoice ((xs ++ ys) ∷ rows) choice → held choice ≤ room
+            → reads_of first second choice ≡ best.reads → ¬ IsBefore (map edge_of choice) (map edge_of finds.choice)
+        earliest_best le [] chosen fits as_few = absurd chosen
+        earliest_best le (c ∷ choice) (in_row, chosen) fits as_few =
+            ⊎_elim (λ here. finds.earliest (c ∷ choice) (here, chosen) fits as_few)
+            (λ there. not_before finds.choice finds.is_choice c choice there) (Contains-append_cases xs ys c in_row)

@@ -1,6 +1,6 @@
 -- A choice that takes the fewest reads is the shape of an array between by which two stages do.
 use Rattle.std.proofs.Common.{◌≡◌, ◌↔◌, ◌∙◌, ℕ, zero, suc, ◌+◌, ◌-◌, ◌<◌, ◌≤◌, List, [], ◌∷◌, ◌++◌, Contains, Some, length, map, max, min}
-use Rattle.std.proofs.Common.{ap, ap₂, arith, mul-pos, refl, reverse, subst, sym, ⊎_elim}
+use Rattle.std.proofs.Common.{ap, ap₂, arith, mul-pos, refl, replicate, reverse, subst, sym, ⊎_elim}
 use Rattle.std.proofs.lemmas.List.{length-map, length-replicate, map-append, reverse-append, reverse-reverse}
 use Rattle.std.proofs.lemmas.Slice.Zip.{AllZip-long}
 use Rattle.std.specs.Int.NonZero.{non_zero_u64_get}
@@ -9,6 +9,7 @@ use Rattle.std.specs.declared.num.NonZeroU64.{NonZeroU64}
 use Rattle.zarrs_chunk_base.specs.ArraySubset.{Box, IsBox, IsEmptyBox, IsInside}
 use Rattle.zarrs_chunk_base.specs.Dimension.{Dimension, HasEdge, IsChain, IsShape, array_sizes}
 use Rattle.zarrs_chunk_base.specs.Greatest.{greatest}
+use Rattle.zarrs_chunk_axes.specs.RowMajor.{IsBefore}
 use Rattle.zarrs_chunk_base.proofs.InEach.{length_values}
 use Rattle.zarrs_chunks.specs.Walks.{chunks_in, counted_from}
 use Rattle.zarrs_chunk_plan.specs.Counts.{product}
@@ -16,8 +17,8 @@ use Rattle.zarrs_chunk_plan.specs.Plan.{Meets}
 use Rattle.zarrs_chunk_plan.specs.Rechunking.{AreCopiesInto, Group, IsRechunking, all_chunks_box, array_box, copies_of}
 use Rattle.zarrs_chunk_plan.specs.Stages.{AnyKey, AreStages, FindsShape, Fits, IsChosen, IsLargest, IsTried, all_tried}
 use Rattle.zarrs_chunk_plan.specs.declared.fewest.Edge.{Edge}
-use Rattle.zarrs_chunk_plan.specs.seen.Stages.{AreRows, IsChoice, IsFewest, edge_of, held, reads_of}
-use Rattle.zarrs_chunk_plan.proofs.EdgesTried.{tried_long}
+use Rattle.zarrs_chunk_plan.specs.seen.Stages.{AllAscend, AreRows, Ascend, IsChoice, IsFewest, edge_of, held, reads_of}
+use Rattle.zarrs_chunk_plan.proofs.EdgesTried.{only_ones, tried_long}
 use Rattle.zarrs_chunk_plan.proofs.EqualChunks.{one_box, sizes_are}
 use Rattle.zarrs_chunk_plan.proofs.Plans.{empty_or_some, not_empty_if_inside}
 use Rattle.zarrs_chunk_plan.proofs.Between.{none_below}
@@ -46,14 +47,14 @@ shape_positive (_ ∷ _) (_ ∷ _) [] chains is = absurd is
 pub largest_positive : (ds : List Dimension) (shape : List ℕ) → AllByRecursion IsChain ds → IsLargest ds shape → AllByRecursion (λ e. 0 < e) shape
 largest_positive ds shape chains is =
     ⊎_elim
-    (λ empty. subst (AllByRecursion (λ e. 0 < e)) (sym (is.none empty)) (all_alike (length ds) 1 (omega arith)))
-    (λ some. let (chunk, meets, shaped) = is.some some in shape_positive ds chunk shape chains shaped)
+    (λ empty. subst (AllByRecursion (λ e. 0 < e)) (sym (is.of_no_elements empty)) (all_alike (length ds) 1 (omega arith)))
+    (λ some. let (chunk, meets, shaped) = is.is_one some in shape_positive ds chunk shape chains shaped)
     (empty_or_some (array_box ds).shape)
 
 pub largest_long : (ds : List Dimension) (shape : List ℕ) → IsLargest ds shape → length shape ≡ length ds
 largest_long ds shape is =
-    ⊎_elim (λ empty. ap length (is.none empty) ∙ length-replicate (length ds) 1)
-    (λ some. let (chunk, meets, shaped) = is.some some in length_values HasEdge ds chunk shape shaped) (empty_or_some (array_box ds).shape)
+    ⊎_elim (λ empty. ap length (is.of_no_elements empty) ∙ length-replicate (length ds) 1)
+    (λ some. let (chunk, meets, shaped) = is.is_one some in length_values HasEdge ds chunk shape shaped) (empty_or_some (array_box ds).shape)
 
 -- a chunk fits beside two others where it does in what both leave
 pub fits_in : (most held one two : ℕ) → most ≤ greatest → 0 < held
@@ -145,11 +146,32 @@ shape_long source target most shape one_array found =
     let long = tried_long (array_sizes source) found.largest found.other (omega (arith, sizes_long, one_long)) (omega (arith, sizes_long, two_long, also_long)) in
     AllZip-long Contains (all_tried (array_sizes source) found.largest found.other) shape fits.tried ∙ long ∙ sizes_long
 
+-- no list comes before itself
+not_itself : (one other : List ℕ) → one ≡ other → ¬ IsBefore one other
+not_itself [] other same before = absurd before
+not_itself (m ∷ one) [] same before = absurd before
+not_itself (m ∷ one) (n ∷ other) same before =
+    let head : m ≡ n = ap (λ xs. first_or xs) same in
+    ⊎_elim (λ (less : m < n). absurd (omega arith)) (λ both. not_itself one other (ap (λ xs. rest_of xs) same) both.1) before
+  where
+    first_or : List ℕ → ℕ
+    first_or [] = 0
+    first_or (x ∷ xs) = x
+
+    rest_of : List ℕ → List ℕ
+    rest_of [] = []
+    rest_of (x ∷ xs) = xs
+
+-- rows of edges that ascend
+pub rows_ascend : (rows : List (List Edge)) → AllByRecursion Ascend (map (map edge_of) rows) → AllAscend rows
+rows_ascend [] up = tt
+rows_ascend (row ∷ rows) up = (up.0, rows_ascend rows up.1)
+
 -- ---- the shape
 
 module _ (source target : List Dimension) (chains : AllByRecursion IsChain source) (target_chains : AllByRecursion IsChain target)
     (one_array : array_sizes source ≡ array_sizes target) (is_array : IsBox (array_box target)) (most : ℕ) (fits : most ≤ greatest)
-    (largest other : List ℕ) (rows : List (List Edge)) (are : map (map edge_of) rows ≡ all_tried (array_sizes source) largest other)
+    (largest other : List ℕ) (is_largest : IsLargest source largest) (is_other : IsLargest target other) (rows : List (List Edge)) (are : map (map edge_of) rows ≡ all_tried (array_sizes source) largest other)
     (reads : (¬ IsEmptyBox (array_box target)) → (chunks : Box) × IsBox chunks × (length chunks.start ≡ length target)
     × ((chunk : List ℕ) → IsInside chunks chunk ↔ Meets target (array_box target) chunk) × AreRows source target chunks 0 rows) where
   abbrev room : ℕ
@@ -184,6 +206,17 @@ module _ (source target : List Dimension) (chains : AllByRecursion IsChain sourc
       (chosen_from source target chunks 0 rows choice row_reads chosen) (edges_positive choice) many stages in
       ap (min greatest) (is ∙ omega arith)
 
+  -- of an array without elements one shape alone is tried
+  only_shape : IsEmptyBox (array_box target) → (one two : List ℕ) → Fits (array_sizes source) most largest other one
+      → Fits (array_sizes source) most largest other two → one ≡ two
+  only_shape empty one two first second =
+      let same : array_box source ≡ array_box target = one_box source target one_array in
+      let of_source = is_largest.of_no_elements (subst IsEmptyBox (sym same) empty) in
+      let many = length-map source (λ (d : Dimension). d.array_size) in
+      let of_target = is_other.of_no_elements empty ∙ ap (λ n. replicate n 1) (sym (length_of source target one_array)) in
+      only_ones (array_sizes source) (length source) one many (rw (of_source, of_target) at first.tried)
+      ∙ sym (only_ones (array_sizes source) (length source) two many (rw (of_source, of_target) at second.tried))
+
   pub none_fits : ((choice : List Edge) → IsChoice rows choice → room < held choice) → (shape : List ℕ)
       → ¬ Fits (array_sizes source) most largest other shape
   none_fits none shape it = let (choice, chosen, same, less) = choice_fits shape it in let more = none choice chosen in absurd (omega arith)
@@ -202,5 +235,17 @@ module _ (source target : List Dimension) (chains : AllByRecursion IsChain sourc
             let second = told choice chosen some two (subst (λ s. AreStages source target s two) (sym also) others) in
             let least = found.least choice chosen less in
             omega (arith, first, second, least, found.are_reads))
+            (empty_or_some (array_box target).shape);
+        earliest = λ another it one two stages others as_few.
+            ⊎_elim
+            (λ empty. not_itself another (reverse edges)
+            (only_shape empty another (reverse edges) it
+            (subst (Fits (array_sizes source) most largest other) same (shape_fits found.choice found.is_choice found.fits))))
+            (λ some.
+            let (choice, chosen, also, less) = choice_fits another it in
+            let first = told found.choice found.is_choice some one (subst (λ s. AreStages source target s one) (sym same) stages) in
+            let second = told choice chosen some two (subst (λ s. AreStages source target s two) (sym also) others) in
+            let none = found.earliest choice chosen less (omega (arith, first, second, as_few, found.are_reads)) in
+            λ before. none (subst (λ s. IsBefore s (map edge_of found.choice)) (sym also) (subst (IsBefore another) (sym same) before)))
             (empty_or_some (array_box target).shape);
       }

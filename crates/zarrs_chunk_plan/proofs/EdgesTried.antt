@@ -1,11 +1,12 @@
 -- The edges that are tried: an edge that is doubled as long as it is below another; for each dimension; and how many that are.
 use Rattle.std.proofs.Common.{◌≡◌, ◌∙◌, ℕ, zero, suc, ◌+◌, ◌*◌, ◌-◌, ◌<◌, ◌≤◌, List, [], ◌∷◌, ◌++◌, ap, append_assoc, arith, length, max, min, mul_comm}
-use Rattle.std.proofs.Common.{refl, slice_index_or, sym, ⊎_elim}
+use Rattle.std.proofs.Common.{Contains, ap₂, refl, replicate, slice_index_or, subst, sym, ⊎_elim}
 use Rattle.std.proofs.lemmas.Bool.{cases_lt, le-ltb, lt-ltb}
 use Rattle.std.specs.List.{AllByRecursion}
 use Rattle.zarrs_chunk_base.specs.Greatest.{greatest}
 use Rattle.zarrs_chunk_plan.specs.Counts.{product}
-use Rattle.zarrs_chunk_plan.specs.Stages.{all_tried, doubled, edges_tried}
+use Rattle.zarrs_chunk_plan.specs.Stages.{IsTried, all_tried, doubled, edges_tried}
+use Rattle.zarrs_chunk_plan.specs.seen.Stages.{Ascend}
 use Rattle.zarrs_chunk_plan.proofs.StoredOrder.{product_last}
 
 pub not_at_all : (edge last : ℕ) → doubled 0 edge last ≡ last ∷ []
@@ -59,6 +60,54 @@ all_positive (n ∷ sizes) [] other some also = tt
 all_positive (n ∷ sizes) (e ∷ shape) [] some also = tt
 all_positive (n ∷ sizes) (e ∷ shape) (f ∷ other) (some, rest) (also, others) =
     (positive 64 (min (max n 1) (min e f)) (min (max n 1) (max e f)) (omega arith) (omega arith), all_positive sizes shape other rest others)
+
+-- they ascend
+above : (n times edge last : ℕ) → n < edge → n < last → AllByRecursion (λ e. n < e) (doubled times edge last)
+unfolding doubled
+above n zero edge last less also = (also, tt)
+above n (suc times) edge last less also =
+    ⊎_elim (λ (below : edge < last). rw (lt-ltb edge last below) (less, above n times (edge + edge) last (omega arith) also))
+    (λ (le : last ≤ edge). rw (le-ltb edge last le) (also, tt)) (cases_lt edge last)
+
+ascend : (times edge last : ℕ) → 0 < edge → edge ≤ last → Ascend (doubled times edge last)
+ascend zero edge last some le = rw (not_at_all edge last) (tt, tt)
+ascend (suc times) edge last some le =
+    ⊎_elim
+    (λ (below : edge < last).
+    rw (once_more times edge last below) (
+      above edge times (edge + edge) last (omega arith) below,
+      ⊎_elim (λ (past : last < edge + edge). rw (no_more times (edge + edge) last (omega arith)) (tt, tt))
+          (λ (within : edge + edge ≤ last). ascend times (edge + edge) last (omega arith) within) (cases_lt last (edge + edge)),
+    ))
+    (λ (end : last ≤ edge). rw (no_more (suc times) edge last end) (tt, tt)) (cases_lt edge last)
+
+pub all_ascend : (sizes shape other : List ℕ) → AllByRecursion (λ e. 0 < e) shape → AllByRecursion (λ e. 0 < e) other
+    → AllByRecursion Ascend (all_tried sizes shape other)
+all_ascend [] shape other some also = tt
+all_ascend (n ∷ sizes) [] other some also = tt
+all_ascend (n ∷ sizes) (e ∷ shape) [] some also = tt
+all_ascend (n ∷ sizes) (e ∷ shape) (f ∷ other) (some, rest) (also, others) =
+    (ascend 64 (min (max n 1) (min e f)) (min (max n 1) (max e f)) (omega arith) (omega arith), all_ascend sizes shape other rest others)
+
+-- where both shapes are 1 along each dimension, that is the only one that is tried
+ones_tried : (size : ℕ) → edges_tried size 1 1 ≡ 1 ∷ []
+ones_tried size =
+    let one : min (max size 1) (min 1 1) ≡ 1 = omega arith in
+    let last : min (max size 1) (max 1 1) ≡ 1 = omega arith in
+    ap₂ (λ edge most. doubled 64 edge most) one last ∙ no_more 64 1 1 (omega arith)
+
+pub only_ones : (sizes : List ℕ) (many : ℕ) (shape : List ℕ) → length sizes ≡ many
+    → IsTried (all_tried sizes (replicate many 1) (replicate many 1)) shape → shape ≡ replicate many 1
+only_ones [] zero [] long is = refl
+only_ones (n ∷ sizes) (suc many) (e ∷ shape) long is =
+    ap₂ (λ x xs. x ∷ xs) (one (subst (λ row. Contains row e) (ones_tried n) is.0)) (only_ones sizes many shape (omega arith) is.1) where
+      one : Contains (1 ∷ []) e → e ≡ 1
+      one (zero, within, same) = sym same
+      one (suc k, within, same) = absurd (omega arith)
+only_ones [] zero (_ ∷ _) long is = absurd is
+only_ones [] (suc many) _ long is = absurd (omega arith)
+only_ones (_ ∷ _) zero _ long is = absurd (omega arith)
+only_ones (_ ∷ _) (suc many) [] long is = absurd is
 
 pub tried_long : (sizes shape other : List ℕ) → length shape ≡ length sizes → length other ≡ length sizes
     → length (all_tried sizes shape other) ≡ length sizes

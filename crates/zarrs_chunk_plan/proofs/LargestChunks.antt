@@ -107,8 +107,8 @@ some_chunks ds chunks chains some named empty =
 pub largest_of_none : (ds : List Dimension) → IsEmptyBox (array_box ds) → IsLargest ds (replicate (length ds) 1)
 largest_of_none ds empty = record {
   none_longer = λ chunk shape meets is. absurd (not_empty_if_inside _ _ meets.0 (let (index, box, inside) = meets in inside) empty);
-  some = λ some. absurd (some empty);
-  none = λ _. refl;
+  is_one = λ some. absurd (some empty);
+  of_no_elements = λ _. refl;
 }
 
 -- the chunk that is a longest one along each dimension
@@ -128,8 +128,8 @@ is_largest ds chunks chunk shape some start long meets named many below longest 
       longest k (slice_index_or other k 0) (slice_index_or sides k 0) (slice_index_or shape k 0) (omega (arith, long))
       (inside_below (length ds) chunks.shape other k inside within) (edge_along ds other sides k are within)
       (edge_along ds chunk shape k is within));
-  some = λ _. (chunk, meets chunk inside, is);
-  none = λ empty. absurd (some empty);
+  is_one = λ _. (chunk, meets chunk inside, is);
+  of_no_elements = λ empty. absurd (some empty);
 } where
   inside : IsInside chunks chunk
   inside = rw start (below_inside (length ds) chunks.shape chunk long (omega (arith, many, long)) (λ k within. below k (omega (arith, long))))

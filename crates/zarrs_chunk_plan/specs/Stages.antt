@@ -1,12 +1,14 @@
--- A rechunking in two stages, by an array between that is cut into chunks of one shape: which shapes are tried, and which of them is chosen.
+-- A rechunking in two stages, by an array between that is cut into chunks of one shape: which shapes are tried, and which of them is chosen. The
+-- field calls it the intermediate array.
 -- Source: this library's own; rechunking in two stages under a bound of memory is the field's practice.
 use Rattle.std.specs.Prelude.{◌≡◌, ◌≢◌, ◌↔◌, ◌⊎◌, ◌+◌, ◌<◌, ◌≤◌, ◌^◌, ℕ, zero, suc, List, [], ◌∷◌, MatchOption, Option}
 use Rattle.std.specs.Prelude.{cond, length, map, max, min, nat_lt, replicate}
 use Rattle.std.specs.List.{AllZip, Contains}
-use Rattle.zarrs_chunk_base.specs.ArraySubset.{Box, IsEmptyBox, IsInside}
+use Rattle.zarrs_chunk_base.specs.ArraySubset.{Box, IsBox, IsEmptyBox, IsInside}
 use Rattle.zarrs_chunk_base.specs.Dimension.{Dimension, IsShape, array_sizes}
 use Rattle.zarrs_chunk_base.specs.Greatest.{greatest}
 use Rattle.zarrs_chunk_axes.specs.EqualEdges.{AreEqualEdges}
+use Rattle.zarrs_chunk_axes.specs.RowMajor.{IsBefore}
 use Rattle.zarrs_chunk_plan.specs.Counts.{AreFew, product}
 use Rattle.zarrs_chunk_plan.specs.Plan.{Meets}
 use Rattle.zarrs_chunk_plan.specs.Rechunking.{Group, IsRechunking, all_chunks_box, array_box, copies_of}
@@ -21,15 +23,21 @@ NoneIsLonger ds edges = (chunk shape : List ℕ) → Meets ds (array_box ds) chu
 -- along each.
 pub record IsLargest (ds : List Dimension) (shape : List ℕ) : Type 0 where
   pub none_longer : NoneIsLonger ds shape
-  pub some : (¬ IsEmptyBox (array_box ds)) → (chunk : List ℕ) × Meets ds (array_box ds) chunk × IsShape ds chunk shape
-  pub none : IsEmptyBox (array_box ds) → shape ≡ replicate (length ds) 1
+  pub is_one : (¬ IsEmptyBox (array_box ds)) → (chunk : List ℕ) × Meets ds (array_box ds) chunk × IsShape ds chunk shape
+  pub of_no_elements : IsEmptyBox (array_box ds) → shape ≡ replicate (length ds) 1
 
--- whether the chunks that hold an element of the array are few enough to go through along each dimension by itself: at most 2 ^ 24 along each
+-- the chunks that hold an element of the array, as a box of chunk numbers
+pub record AreUsed (ds : List Dimension) (chunks : Box) : Type 0 where
+  pub is_box : IsBox chunks
+  pub are_those : (chunk : List ℕ) → IsInside chunks chunk ↔ Meets ds (array_box ds) chunk
+
+-- they are few enough to go through along each dimension by itself: none, or along each at most 2 ^ 24
 abbrev pub HasFewChunks : List Dimension → Type 0
-HasFewChunks ds = (chunks : Box) × ((chunk : List ℕ) → IsInside chunks chunk ↔ Meets ds (array_box ds) chunk) × AreFew chunks
+HasFewChunks ds = (chunks : Box) × AreUsed ds chunks × AreFew chunks
 
+-- or too many
 abbrev pub HasManyChunks : List Dimension → Type 0
-HasManyChunks ds = (chunks : Box) × ((chunk : List ℕ) → IsInside chunks chunk ↔ Meets ds (array_box ds) chunk) × ¬ AreFew chunks
+HasManyChunks ds = (chunks : Box) × AreUsed ds chunks × ¬ AreFew chunks
 
 -- a chunk of one shape and one of the other have together at most so many elements
 abbrev pub HoldAtMost : ℕ → List ℕ → List ℕ → Type 0
@@ -40,12 +48,12 @@ unfoldable pub doubled : (times edge last : ℕ) → List ℕ
 doubled zero edge last = last ∷ []
 doubled (suc times) edge last = cond (nat_lt edge last) (edge ∷ doubled times (edge + edge) last) (last ∷ [])
 
--- The edges that are tried along a dimension: the lesser of the two arrays' greatest edges, doubled as long as it stays below the greater one, and
--- that. None is longer than the array. (After 64 times no number of 64 bits is left to double.)
+-- The edges that are tried along a dimension: the lesser of the two arrays' greatest edges, each cut to the size of the array, and to 1 where that is 0,
+-- doubled as long as it stays below the greater one; and that. (After 64 times no number of 64 bits is left to double.)
 abbrev pub edges_tried : (size edge other : ℕ) → List ℕ
 edges_tried size edge other = doubled 64 (min (max size 1) (min edge other)) (min (max size 1) (max edge other))
 
--- for each dimension
+-- for each dimension of three lists of one length
 abbrev pub all_tried : (sizes shape other : List ℕ) → List (List ℕ)
 all_tried (n ∷ sizes) (e ∷ shape) (f ∷ other) = edges_tried n e f ∷ all_tried sizes shape other
 all_tried _ _ _ = []
@@ -62,8 +70,8 @@ shapes_tried tried = product (map length tried)
 abbrev pub AnyKey : List ℕ → List ℕ → Type 0
 AnyKey numbers key = Unit {0}
 
--- The plans of two stages, by an array of the same shape between that is cut into chunks of one shape, and how many chunks both read together. A
--- chunk that is in several lines is read in each.
+-- The plans of two stages, by an array between, of the same shape and in chunks of one shape, and how many chunks both read together. A chunk that is in
+-- several lines is read in each.
 pub record AreStages (source target : List Dimension) (shape : List ℕ) (reads : ℕ) : Type 0 where
   pub between : List Dimension
   pub chunks : AreEqualEdges between (array_sizes source) shape
@@ -79,11 +87,15 @@ pub record Fits (sizes : List ℕ) (most : ℕ) (largest other shape : List ℕ)
   pub first : HoldAtMost most largest shape
   pub second : HoldAtMost most shape other
 
--- The shape fits, and no other that does takes fewer reads, as far as a number of 64 bits counts them.
+-- The shape fits, and no other that does takes fewer reads, as far as a number of 64 bits counts them. Of those that take as few it is the first one in
+-- row-major order: there is one such shape, so whoever asks for either stage has the same.
 pub record IsChosen (source target : List Dimension) (most : ℕ) (largest other shape : List ℕ) : Type 0 where
   pub fits : Fits (array_sizes source) most largest other shape
-  pub fewest : (another : List ℕ) → Fits (array_sizes source) most largest other another → (reads others : ℕ)
-      → AreStages source target shape reads → AreStages source target another others → min greatest reads ≤ min greatest others
+  pub fewest : (another : List ℕ) → Fits (array_sizes source) most largest other another → (reads its_reads : ℕ)
+      → AreStages source target shape reads → AreStages source target another its_reads → min greatest reads ≤ min greatest its_reads
+  pub earliest : (another : List ℕ) → Fits (array_sizes source) most largest other another → (reads its_reads : ℕ)
+      → AreStages source target shape reads → AreStages source target another its_reads → min greatest its_reads ≡ min greatest reads
+      → ¬ IsBefore another shape
 
 -- What is found: of at most 2 ^ 20 shapes that are tried the one that is chosen, and none where none fits.
 pub record FindsShape (source target : List Dimension) (most : ℕ) (found : Option (List ℕ)) : Type 0 where
@@ -96,14 +108,14 @@ pub record FindsShape (source target : List Dimension) (most : ℕ) (found : Opt
       (IsChosen source target most largest other)
 
 -- The fault says that the grids are of arrays of different shapes; or that one of them has too many chunks.
-abbrev pub IsLargestFault : (source target : List Dimension) → StagesError → Type 0
-IsLargestFault source target ArrayShapes = array_sizes source ≢ array_sizes target
-IsLargestFault source target ManyChunks = (array_sizes source ≡ array_sizes target) × (HasManyChunks source ⊎ HasManyChunks target)
-IsLargestFault source target ManyShapes = ⊥
+abbrev pub IsBoundFault : (source target : List Dimension) → StagesError → Type 0
+IsBoundFault source target ArrayShapes = array_sizes source ≢ array_sizes target
+IsBoundFault source target ManyChunks = (array_sizes source ≡ array_sizes target) × (HasManyChunks source ⊎ HasManyChunks target)
+IsBoundFault source target ManyShapes = ⊥
 
 -- It says one of these, or that there are too many shapes to try.
 abbrev pub IsStagesFault : (source target : List Dimension) → StagesError → Type 0
 IsStagesFault source target ManyShapes =
-    (array_sizes source ≡ array_sizes target) × ((largest other : List ℕ) × IsLargest source largest × IsLargest target other
-    × (2 ^ 20 < shapes_tried (all_tried (array_sizes source) largest other)))
-IsStagesFault source target fault = IsLargestFault source target fault
+    (array_sizes source ≡ array_sizes target) × HasFewChunks source × HasFewChunks target
+    × ((largest other : List ℕ) × IsLargest source largest × IsLargest target other × (2 ^ 20 < shapes_tried (all_tried (array_sizes source) largest other)))
+IsStagesFault source target fault = IsBoundFault source target fault

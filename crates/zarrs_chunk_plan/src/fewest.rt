@@ -1,6 +1,6 @@
 //! A choice of one edge for each dimension, by which the fewest chunks are read.
 ghost use Rattle.std.specs.Prelude.{◌≡◌, ◌++◌, ℕ, [], ◌∷◌, None, IfOk, IfSome, MatchOption, Some, map};
-ghost use Rattle.zarrs_chunk_plan.specs.seen.Stages.{FindsFewest, better_of, rows_of};
+ghost use Rattle.zarrs_chunk_plan.specs.seen.Stages.{AllAscend, FindsFewest, better_of, rows_of};
 
 use std::alloc::{AllocError, Global};
 use std::num::NonZeroU64;
@@ -26,7 +26,7 @@ pub(crate) struct Chosen {
 }
 
 /// The choice of an edge from each row that takes the fewest reads, of those whose product is at most `room`, where the edges before them take so
-/// many in either stage. Of several it is the first, where the last row is gone through first. `None` where no product is that small.
+/// many in either stage; of several such, the first in row-major order. `None` where no product is that small.
 ///
 /// # Errors
 /// Out of memory.
@@ -37,6 +37,7 @@ pub(crate) fn fewest(
     first: u64,
     second: u64,
 ) -> Result<Option<Chosen>, AllocError>
+    requires { AllAscend (rows_of rows.now) }
     ensures { IfOk result (FindsFewest (rows_of rows.now) room first second) }
 {
     let Some((row, rows)) = rows.split_first() else {

@@ -34,13 +34,13 @@ pub fn largest_chunk<G: ChunkGridTraits>(
 {
     let array = whole_array(alloc, grid)?;
     let chunks = chunks_of_array(alloc, grid, &array)?;
+    chunks.is_a_box();
     if !are_few(&chunks) {
         return Ok(None);
     }
     if array.is_empty() {
         return Ok(Some(ones(alloc, grid.dimensionality())?));
     }
-    chunks.is_a_box();
     let chunk = longest_along_each(alloc, grid, &chunks)?;
     let shape = expect_answer(grid.chunk_shape_u64(alloc, &chunk))?;
     Ok(Some(shape))

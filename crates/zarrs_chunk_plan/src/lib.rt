@@ -34,6 +34,11 @@
 //! | `outside` | the chunks below one list of numbers and not below another, as boxes |
 //! | `counts` | how much a plan copies, without a walk over it |
 //! | `sources` | how many chunks of the source share elements with those of the target, along each dimension |
+//! | `stages` | `shape_between`: the chunk shape of an array between, by which a rechunking goes in two stages under a bound; `hold_at_most`: whether one does |
+//! | `largest` | `largest_chunk`: the shape of a largest chunk |
+//! | `tried` | the edges that are tried for an array between |
+//! | `fewest` | the choice of an edge for each dimension that reads the fewest chunks |
+//! | `stages_error` | why no array between is looked for |
 //! | `copies_error` | why a rechunking can't be planned |
 //! | `region_error` | why a region can't be copied |
 //! | `boxes_from_zero` | the box of all elements of an array, and that of all chunks of a grid |

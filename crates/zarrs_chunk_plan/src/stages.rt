@@ -18,7 +18,7 @@ ghost use Rattle.zarrs_chunks.specs.seen.Grids.{regular_of};
 ghost use Rattle.zarrs_chunk_plan.specs.Counts.{product};
 ghost use Rattle.zarrs_chunk_plan.specs.Plan.{Meets};
 ghost use Rattle.zarrs_chunk_plan.specs.Rechunking.{array_box};
-ghost use Rattle.zarrs_chunk_plan.specs.Stages.{FindsShape, HasFewChunks, HoldAtMost, IsLargest, IsLargestFault, IsStagesFault, shapes_tried};
+ghost use Rattle.zarrs_chunk_plan.specs.Stages.{FindsShape, HasFewChunks, HoldAtMost, IsLargest, IsBoundFault, IsStagesFault, shapes_tried};
 ghost use Rattle.zarrs_chunk_plan.specs.seen.Ends.{AreEnds};
 ghost use Rattle.zarrs_chunk_plan.specs.seen.Stages.{AreRead, AreRows, edge_of, numbers_of, rows_of};
 
@@ -57,7 +57,7 @@ pub fn hold_at_most<G: ChunkGridTraits, H: ChunkGridTraits>(
         ≡ array_sizes (H.dimensions target.now)) }
     ensures few_of_source { IfOk result (λ _. HasFewChunks (G.dimensions source.now)) }
     ensures few_of_target { IfOk result (λ _. HasFewChunks (H.dimensions target.now)) }
-    ensures refused { IfErr result (OrMemory (IsLargestFault (G.dimensions source.now)
+    ensures refused { IfErr result (OrMemory (IsBoundFault (G.dimensions source.now)
         (H.dimensions target.now))) }
     ensures shapes_first { array_sizes (G.dimensions source.now)
         ≢ array_sizes (H.dimensions target.now) → HasMemory result }
@@ -94,7 +94,8 @@ fn are_at_most(shape: &[u64], other: &[u64], most: u64) -> bool
 /// It takes the time of a look-up for each chunk along each dimension by itself, of the source, the target and each array that has an edge that is
 /// tried; and that of some multiplications for each shape.
 ///
-/// # Errors The grids are of arrays of different shapes; one of them has more than 2^24 chunks along some dimension; there are more than 2^20 shapes
+/// # Errors
+/// The grids are of arrays of different shapes; one of them has more than 2^24 chunks along some dimension; there are more than 2^20 shapes
 /// to try; or out of memory.
 pub fn shape_between<G: ChunkGridTraits, H: ChunkGridTraits>(
     alloc: Global,
@@ -163,7 +164,7 @@ fn largest_of_both<G: ChunkGridTraits, H: ChunkGridTraits>(
         ≡ array_sizes (H.dimensions target.now)) }
     ensures few_of_source { IfOk result (λ _. HasFewChunks (G.dimensions source.now)) }
     ensures few_of_target { IfOk result (λ _. HasFewChunks (H.dimensions target.now)) }
-    ensures refused { IfErr result (OrMemory (IsLargestFault (G.dimensions source.now)
+    ensures refused { IfErr result (OrMemory (IsBoundFault (G.dimensions source.now)
         (H.dimensions target.now))) }
     ensures shapes_first { array_sizes (G.dimensions source.now)
         ≢ array_sizes (H.dimensions target.now) → HasMemory result }

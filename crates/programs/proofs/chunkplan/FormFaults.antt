@@ -5,13 +5,17 @@ use Rattle.serde_json.specs.Find.{get}
 use Rattle.zarrs_chunk_base.specs.First.{IsFirst}
 use Rattle.programs.specs.Document.{IsMissingFault, IsShapeFault}
 use Rattle.programs.specs.declared.chunkplan.run_fault.RunFault.{RunFault}
-use Rattle.programs.specs.declared.chunkplan.run_fault.RunFault.TheVariants.{ItemSizeOfCounts, ItemSizeOfTarget, KeepOfNoResize, KeysOfCounts, KeysOfNoTarget}
-use Rattle.programs.specs.declared.chunkplan.run_fault.RunFault.TheVariants.{NoItemSize, NotOfOrder, NotOfResize, OrderOfNoTarget, ShareOfCounts}
+use Rattle.programs.specs.declared.chunkplan.run_fault.RunFault.TheVariants.{BoundOfNoTarget, ItemSizeOfCounts, ItemSizeOfTarget, KeepOfNoResize}
+use Rattle.programs.specs.declared.chunkplan.run_fault.RunFault.TheVariants.{KeysOfCounts}
+use Rattle.programs.specs.declared.chunkplan.run_fault.RunFault.TheVariants.{KeysOfNoTarget, NoItemSize, NotOfBound, NotOfOrder, NotOfResize}
+use Rattle.programs.specs.declared.chunkplan.run_fault.RunFault.TheVariants.{OrderOfNoTarget, ShareOfCounts}
+use Rattle.programs.specs.declared.chunkplan.run_fault.RunFault.TheVariants.{StageOfNoBound}
 use Rattle.programs.specs.declared.document_fault.DocumentFault.{DocumentFault}
 use Rattle.programs.specs.declared.document_fault.DocumentFault.TheVariants.{Missing, WrongValue}
 use Rattle.programs.proofs.Members.{has_more, is_there, no_more}
-use Rattle.programs.specs.chunkplan.Document.{Fit, FitKeys, FitOrder, FitResize, FitTask}
-use Rattle.programs.specs.chunkplan.DocumentFault.{HasMembers, IsFormFault, IsKeysMisfit, IsMisfit, IsOrderMisfit, IsRangesMisfit, IsTaskMisfit}
+use Rattle.programs.specs.chunkplan.Document.{Fit, FitKeys, FitOrder, FitRanges, FitResize, FitTask}
+use Rattle.programs.specs.chunkplan.DocumentFault.{HasMembers, IsBoundMisfit, IsFormFault, IsKeysMisfit, IsMisfit, IsOrderMisfit, IsRangesMisfit}
+use Rattle.programs.specs.chunkplan.DocumentFault.{IsTaskMisfit}
 use Rattle.programs.specs.chunkplan.DocumentFault.{document_members, misformed_shape, missing}
 use Rattle.programs.specs.chunkplan.Known.{HasOnly, known_members}
 use Rattle.programs.specs.chunkplan.RunFault.{of_document}
@@ -49,6 +53,9 @@ task_misfit d (NotOfOrder _) fit is = absurd is
 task_misfit d ItemSizeOfTarget fit is = absurd is
 task_misfit d ItemSizeOfCounts fit is = absurd is
 task_misfit d (NoItemSize _) fit is = absurd is
+task_misfit d BoundOfNoTarget fit is = absurd is
+task_misfit d (NotOfBound _) fit is = absurd is
+task_misfit d StageOfNoBound fit is = absurd is
 task_misfit d _ fit is = (fit, is)
 
 -- then `keys`, where they don't go with the others
@@ -69,3 +76,11 @@ ranges_misfit d ItemSizeOfTarget resize task keys order is = (resize, task, keys
 ranges_misfit d ItemSizeOfCounts resize task keys order is = (resize, task, keys, order, is)
 ranges_misfit d (NoItemSize _) resize task keys order is = (resize, task, keys, order, is)
 ranges_misfit d _ resize task keys order is = absurd is
+
+-- and a bound of how many elements a worker holds
+pub bound_misfit : (d : Data) (fault : RunFault) → FitResize d → FitTask d → FitKeys d → FitOrder d → FitRanges d → IsBoundMisfit d fault
+    → IsMisfit d fault
+bound_misfit d BoundOfNoTarget resize task keys order ranges is = (resize, task, keys, order, ranges, is)
+bound_misfit d (NotOfBound _) resize task keys order ranges is = (resize, task, keys, order, ranges, is)
+bound_misfit d StageOfNoBound resize task keys order ranges is = (resize, task, keys, order, ranges, is)
+bound_misfit d _ resize task keys order ranges is = absurd is

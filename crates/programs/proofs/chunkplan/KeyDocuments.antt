@@ -8,7 +8,7 @@ use Rattle.zarrs_chunk_base.specs.Json.{IsJsonOf}
 use Rattle.zarrs_chunk_plan.specs.declared.share.Share.{Share}
 use Rattle.programs.specs.Stored.{Stored}
 use Rattle.programs.specs.chunkplan.Document.{Document, HasFlag, HasWanted, AsksForLinesOfCopy, IsDocument, IsTask, Task, Wanted, copy_to, counts_wanted}
-use Rattle.programs.specs.chunkplan.Document.{HasOrder, lines_wanted, read_of, rechunk_by_source, rechunk_to, resize_to}
+use Rattle.programs.specs.chunkplan.Document.{HasOrder, lines_wanted, read_of, rechunk_by_source, rechunk_to, rechunk_within, resize_to}
 use Rattle.programs.specs.chunkplan.Keys.{HasKeysBehind}
 use Rattle.programs.specs.declared.chunkplan.line.Order.{Order}
 use Rattle.programs.specs.declared.chunkplan.line.Order.TheVariants.{Source, Target}
@@ -36,14 +36,17 @@ are_lines d counts_wanted has none = let (m, there) = flag_is_there d (codes "co
 
 is_copy : (d : Data) (task : Task) → IsTask d task → IsSome (get (codes "target") d)
     → (IsSome (get (codes "resize") d) → get (codes "target") d ≡ None) → (¬ IsSome (get (codes "order") d))
+    → (¬ IsSome (get (codes "max_elements") d))
     → ((stored : Stored) × (chunks : Option Box) × (task ≡ rechunk_to stored chunks))
     ⊎ ((shape : List ℕ) × (stored : Stored) × (region : Box) × (at : Option (List ℕ)) × (task ≡ copy_to shape stored region at))
-is_copy d (read_of subset clip ranges) is some no_resize no_order = absurd (true≢false (sym some ∙ ap is_some is.1.0))
-is_copy d (rechunk_to stored chunks) is some no_resize no_order = inl (stored, chunks, refl)
-is_copy d (rechunk_by_source stored) is some no_resize no_order =
-    let (m, there, (_, _, _, order)) = is.1 in absurd (no_order (source_is_there d order))
-is_copy d (copy_to shape stored region at) is some no_resize no_order = inr (shape, stored, region, at, refl)
-is_copy d (resize_to shape keep) is some no_resize no_order =
+is_copy d (read_of subset clip ranges) is some no_resize no_order no_bound = absurd (true≢false (sym some ∙ ap is_some is.1.0))
+is_copy d (rechunk_to stored chunks) is some no_resize no_order no_bound = inl (stored, chunks, refl)
+is_copy d (rechunk_by_source stored) is some no_resize no_order no_bound =
+    let (m, there, (_, _, _, order, _)) = is.1 in absurd (no_order (source_is_there d order))
+is_copy d (rechunk_within stored most stage) is some no_resize no_order no_bound =
+    let (m, there, (_, _, _, (_, bound, _), _)) = is.1 in absurd (no_bound (ap is_some bound))
+is_copy d (copy_to shape stored region at) is some no_resize no_order no_bound = inr (shape, stored, region, at, refl)
+is_copy d (resize_to shape keep) is some no_resize no_order no_bound =
     let (m, there, _) = is.0 in
     absurd (true≢false (sym some ∙ ap is_some (no_resize (ap is_some there))))
 
@@ -56,5 +59,6 @@ copy_of_lines line d document json stands (other, also, flag) =
     let fitting = stands.fitting in (
       are_lines d document.wanted stands.wanted (fitting.keys.of_lines some),
       is_copy d document.task stands.task (fitting.keys.of_target some) (λ resized. (fitting.resize.of_resize resized).0)
-          (λ ordered. not_missing d m (codes "keys") there (fitting.order.alone ordered).1.1.1.0),
+          (λ ordered. not_missing d m (codes "keys") there (fitting.order.alone ordered).1.1.1.0)
+          (λ bounded. not_missing d m (codes "keys") there (fitting.bound.alone bounded).1.1.0),
     )

@@ -10,11 +10,15 @@ use Rattle.zarrs_chunk_questions.specs.Order.{order_in}
 use Rattle.programs.specs.declared.chunkplan.run_fault.RunFault.{RunFault}
 use Rattle.programs.specs.declared.chunkplan.run_fault.RunFault.TheVariants.{OtherDataType, OtherShape, UnknownOfTarget}
 use Rattle.programs.specs.chunkplan.Document.{HasBox, HasNumbers, HasOr, HasRanges, IsBoxIn, IsCopying, IsOfArray, IsOfType, IsTask, IsTaskTo, Task, copy_to}
-use Rattle.programs.specs.chunkplan.Document.{RangesWanted, line_order_in, read_of, rechunk_by_source, rechunk_to, resize_to}
+use Rattle.programs.specs.chunkplan.Document.{HasIfAny, RangesWanted, line_order_in, read_of, rechunk_by_source, rechunk_to, rechunk_within}
+use Rattle.programs.specs.chunkplan.Document.{resize_to}
+use Rattle.programs.specs.chunkplan.Document.{stage_in}
 use Rattle.programs.specs.chunkplan.DocumentFault.{HasBoxFault, HasFormFault, HasRangesFault, IsCopyingFault, IsTargetMisfit, IsTaskFault}
 use Rattle.programs.specs.chunkplan.DocumentFault.{IsTaskToFault, of_item_size, of_max_ranges, of_memory_order, of_ranges}
 use Rattle.programs.specs.chunkplan.DocumentFault.{IsTypeMisfit, of_at, of_chunks, of_clip, of_copying, of_keep, of_misfit}
-use Rattle.programs.specs.chunkplan.DocumentFault.{of_order, of_region, of_region_stored, of_resize, of_shape, of_subset, of_target, of_target_stored, of_task, of_type}
+use Rattle.programs.specs.chunkplan.DocumentFault.{of_max_elements, of_order, of_region, of_region_stored, of_resize, of_shape, of_stage, of_subset}
+use Rattle.programs.specs.chunkplan.DocumentFault.{of_target}
+use Rattle.programs.specs.chunkplan.DocumentFault.{of_target_stored, of_task, of_type}
 use Rattle.programs.specs.chunkplan.Known.{Agree, Differ}
 use Rattle.programs.specs.declared.chunkplan.line.Order.TheVariants.{Source, Target}
 
@@ -31,6 +35,11 @@ pub has_or : {X : Type 0} (form : Data → Option X) (absent : X) (d left : Data
     → HasOr form absent left field x → HasOr form absent d field x
 has_or form absent d left field x same =
     subst (λ found. ((found ≡ None) × (x ≡ absent)) ⊎ ((m : Data) × (found ≡ Some m) × (form m ≡ Some x))) same
+
+pub has_if_any : {X : Type 0} (form : Data → Option X) (d left : Data) (field : List ℕ) (x : Option X) → get field left ≡ get field d
+    → HasIfAny form left field x → HasIfAny form d field x
+has_if_any form d left field x same =
+    subst (λ found. MatchOption x (found ≡ None) (λ v. (m : Data) × (found ≡ Some m) × (form m ≡ Some v))) same
 
 pub has_form_fault : {X : Type 0} (form : Data → Option X) (d left : Data) (field : List ℕ) (fault : RunFault) → get field left ≡ get field d
     → HasFormFault form left field fault → HasFormFault form d field fault
@@ -104,22 +113,33 @@ pub record AskAlike (d left : Data) : Type 0 where
   pub chunks : get (codes "chunks") left ≡ get (codes "chunks") d
   pub at : get (codes "at") left ≡ get (codes "at") d
   pub order : get (codes "order") left ≡ get (codes "order") d
+  pub bound : get (codes "max_elements") left ≡ get (codes "max_elements") d
+  pub stage : get (codes "stage") left ≡ get (codes "stage") d
 
 module _ (d left m : Data) (same : AskAlike d left) where
   pub is_task_to : (task : Task) → IsTaskTo left m task → IsTaskTo d m task
   is_task_to (read_of b clip ranges) is = absurd is
-  is_task_to (rechunk_to stored b) (none, of_array, has, order, box) = (
+  is_task_to (rechunk_to stored b) (none, of_array, has, order, box, no_bound) = (
     sym same.subset ∙ none,
     is_of_array d left m same.shape same.data_type of_array,
     has,
     has_or line_order_in Target d left (codes "order") Target same.order order,
     has_box d left (codes "chunks") b same.chunks box,
+    sym same.bound ∙ no_bound,
   )
-  is_task_to (rechunk_by_source stored) (none, of_array, has, order) = (
+  is_task_to (rechunk_by_source stored) (none, of_array, has, order, no_bound) = (
     sym same.subset ∙ none,
     is_of_array d left m same.shape same.data_type of_array,
     has,
     has_or line_order_in Target d left (codes "order") Source same.order order,
+    sym same.bound ∙ no_bound,
+  )
+  is_task_to (rechunk_within stored most stage) (none, of_array, has, bound, in_stage) = (
+    sym same.subset ∙ none,
+    is_of_array d left m same.shape same.data_type of_array,
+    has,
+    has_if_any size_of d left (codes "max_elements") (Some most) same.bound bound,
+    has_if_any stage_in d left (codes "stage") stage same.stage in_stage,
   )
   is_task_to (copy_to shape stored region at) (typed, sizes, has, box, numbers) = (
     is_of_type d left m same.data_type typed,
@@ -138,6 +158,13 @@ module _ (d left m : Data) (same : AskAlike d left) where
       of_misfit (sym same.subset ∙ none) (is_target_misfit d left m same.shape same.data_type fault is)
   is_task_to_fault fault (of_target_stored told none of_array is told_so) =
       of_target_stored told (sym same.subset ∙ none) (is_of_array d left m same.shape same.data_type of_array) is told_so
+  is_task_to_fault fault (of_max_elements stored none of_array has is) =
+      of_max_elements stored (sym same.subset ∙ none) (is_of_array d left m same.shape same.data_type of_array) has
+      (has_form_fault size_of d left (codes "max_elements") fault same.bound is)
+  is_task_to_fault fault (of_stage stored most none of_array has bound is) =
+      of_stage stored most (sym same.subset ∙ none) (is_of_array d left m same.shape same.data_type of_array) has
+      (has_if_any size_of d left (codes "max_elements") (Some most) same.bound bound)
+      (has_form_fault stage_in d left (codes "stage") fault same.stage is)
   is_task_to_fault fault (of_order stored none of_array has is) =
       of_order stored (sym same.subset ∙ none) (is_of_array d left m same.shape same.data_type of_array) has
       (has_form_fault line_order_in d left (codes "order") fault same.order is)
@@ -160,6 +187,7 @@ pub with_target : (d m : Data) (task : Task) → get (codes "target") d ≡ Some
 with_target d m (read_of b clip ranges) there is = absurd is
 with_target d m (rechunk_to stored b) there is = (m, there, is)
 with_target d m (rechunk_by_source stored) there is = (m, there, is)
+with_target d m (rechunk_within stored most stage) there is = (m, there, is)
 with_target d m (copy_to shape stored region at) there is = (m, there, is)
 with_target d m (resize_to shape keep) there is = absurd is
 
@@ -168,6 +196,7 @@ pub without_resize : (d : Data) (task : Task) → get (codes "resize") d ≡ Non
 without_resize d (read_of b clip ranges) none is = (none, is)
 without_resize d (rechunk_to stored b) none is = (none, is)
 without_resize d (rechunk_by_source stored) none is = (none, is)
+without_resize d (rechunk_within stored most stage) none is = (none, is)
 without_resize d (copy_to shape stored region at) none is = (none, is)
 without_resize d (resize_to shape keep) none (m, there, is) = absurd is
 
@@ -195,6 +224,8 @@ module _ (d left : Data) (are_left : AreLeft d left) where
     chunks = short (codes "chunks") (omega arith);
     at = short (codes "at") (omega arith);
     order = short (codes "order") (omega arith);
+    bound = lettered (codes "max_elements") m_is_no_c;
+    stage = short (codes "stage") (omega arith);
   }
 
   is_copying : (task : Task) → IsCopying left task → IsCopying d task
@@ -209,6 +240,8 @@ module _ (d left : Data) (are_left : AreLeft d left) where
       (m, sym (short (codes "target") (omega arith)) ∙ there, is_task_to d left m ask_alike (rechunk_to stored b) is)
   is_copying (rechunk_by_source stored) (m, there, is) =
       (m, sym (short (codes "target") (omega arith)) ∙ there, is_task_to d left m ask_alike (rechunk_by_source stored) is)
+  is_copying (rechunk_within stored most stage) (m, there, is) =
+      (m, sym (short (codes "target") (omega arith)) ∙ there, is_task_to d left m ask_alike (rechunk_within stored most stage) is)
   is_copying (copy_to shape stored region at) (m, there, is) =
       (m, sym (short (codes "target") (omega arith)) ∙ there, is_task_to d left m ask_alike (copy_to shape stored region at) is)
   is_copying (resize_to shape keep) (m, there, is) = absurd is
@@ -222,6 +255,8 @@ module _ (d left : Data) (are_left : AreLeft d left) where
   is_task (rechunk_to stored b) (none, is) = (sym (short (codes "resize") (omega arith)) ∙ none, is_copying (rechunk_to stored b) is)
   is_task (rechunk_by_source stored) (none, is) =
       (sym (short (codes "resize") (omega arith)) ∙ none, is_copying (rechunk_by_source stored) is)
+  is_task (rechunk_within stored most stage) (none, is) =
+      (sym (short (codes "resize") (omega arith)) ∙ none, is_copying (rechunk_within stored most stage) is)
   is_task (copy_to shape stored region at) (none, is) =
       (sym (short (codes "resize") (omega arith)) ∙ none, is_copying (copy_to shape stored region at) is)
 
@@ -272,6 +307,12 @@ at_is_no_target same = let first : 97 ≡ 116 = ap (λ name. get_or name 0 0) sa
 
 pub order_is_no_target : codes "order" ≢ codes "target"
 order_is_no_target same = let first : 111 ≡ 116 = ap (λ name. get_or name 0 0) same in absurd (omega (arith, first))
+
+pub bound_is_no_target : codes "max_elements" ≢ codes "target"
+bound_is_no_target same = let first : 109 ≡ 116 = ap (λ name. get_or name 0 0) same in absurd (omega (arith, first))
+
+pub stage_is_no_target : codes "stage" ≢ codes "target"
+stage_is_no_target same = let first : 115 ≡ 116 = ap (λ name. get_or name 0 0) same in absurd (omega (arith, first))
 
 pub item_size_is_no_target : codes "item_size" ≢ codes "target"
 item_size_is_no_target same = let first : 105 ≡ 116 = ap (λ name. get_or name 0 0) same in absurd (omega (arith, first))

@@ -1,5 +1,6 @@
 -- The outcomes of a run, put together from its steps.
-use Rattle.std.proofs.Common.{◌≡◌, ◌∙◌, ℕ, Bool, true, false, List, [], ◌++◌, Some, Ok, Err, append_assoc, ap, codes, inl, inr, refl, sym, true≢false}
+use Rattle.std.proofs.Common.{◌≡◌, ◌∙◌, ℕ, Bool, true, false, List, [], ◌++◌, Option, None, Some, Ok, Err, append_assoc, ap, codes, inl, inr, refl}
+use Rattle.std.proofs.Common.{sym, true≢false}
 use Rattle.std.proofs.Common.{unwrap_or, ⊎_elim}
 use Rattle.serde_json.specs.Data.{Data}
 use Rattle.zarrs_chunk_base.specs.ArraySubset.{Box}
@@ -8,18 +9,22 @@ use Rattle.zarrs_chunk_plan.specs.Rechunking.{all_chunks_box, array_box}
 use Rattle.zarrs_chunk_plan.specs.declared.region_error.RegionError.{RegionError}
 use Rattle.zarrs_chunk_plan.specs.declared.region_error.RegionError.TheVariants.{At, PastSource, PastTarget, Region, Target}
 use Rattle.programs.specs.Streams.{IsReadToEnd, Streams}
-use Rattle.programs.specs.chunkplan.Document.{Document}
+use Rattle.programs.specs.chunkplan.Document.{Document, Wanted, counts_wanted, lines_wanted}
 use Rattle.programs.specs.chunkplan.DocumentFault.{HasBoxFault, HasWantedFault, IsBoxFormFault, IsCopyingFault, IsFormFault, IsInputFault, IsMisfit, IsTargetMisfit}
 use Rattle.programs.specs.chunkplan.DocumentFault.{misfit, misformed_keys, misformed_shape, misformed_stored, misformed_task, misformed_wanted, missing}
 use Rattle.programs.specs.chunkplan.DocumentFault.{no_object, not_of_form}
 use Rattle.programs.specs.chunkplan.DocumentFault.{IsTaskFault, IsTaskToFault, IsTypeMisfit, IsUnknownFault, TellsMissing, TellsWrongValue, of_at}
 use Rattle.programs.specs.chunkplan.DocumentFault.{of_clip, of_copying, of_keep, of_misfit, of_order, of_region_stored, of_shape, of_target_stored}
-use Rattle.programs.specs.chunkplan.DocumentFault.{HasRangesFault, of_item_size, of_max_ranges, of_memory_order, of_ranges, of_resize as of_resize_form, of_task, of_type, unknown}
+use Rattle.programs.specs.chunkplan.DocumentFault.{HasRangesFault, of_item_size, of_max_elements, of_max_ranges, of_memory_order, of_ranges}
+use Rattle.programs.specs.chunkplan.DocumentFault.{of_resize as of_resize_form}
+use Rattle.programs.specs.chunkplan.DocumentFault.{of_stage, of_task, of_type, unknown}
 use Rattle.programs.specs.chunkplan.DocumentFault.{of_chunks as of_chunks_box, of_region as of_region_box, of_subset as of_subset_box}
 use Rattle.programs.specs.chunkplan.DocumentFault.{of_target as of_target_tree}
 use Rattle.programs.specs.chunkplan.PlanFault.{IsChunksFault, IsCopyFault, IsFaultBeside, IsFirstFault, IsPlanFault, IsReadFault, IsResizeFault, IsTargetFault}
 use Rattle.programs.specs.chunkplan.PlanFault.{beside_keys, long_document, no_document, no_first_document, of_keys, of_plan}
-use Rattle.programs.specs.chunkplan.PlanFault.{no_plan, of_chunks, of_region, of_region_target, of_resize, of_source, of_subset, of_source_order_target, of_target}
+use Rattle.programs.specs.chunkplan.PlanFault.{IsBetweenFault, IsFaultWithin, IsOneStageFault, IsStagesCountsFault, no_plan, of_bound}
+use Rattle.programs.specs.chunkplan.PlanFault.{of_bound_target, of_chunks}
+use Rattle.programs.specs.chunkplan.PlanFault.{of_region, of_region_target, of_resize, of_source, of_subset, of_source_order_target, of_target}
 use Rattle.programs.specs.chunkplan.Keys.{IsKeysFault, first_line}
 use Rattle.programs.specs.chunkplan.Planned.{IsPlanOf, begins_at}
 use Rattle.programs.specs.chunkplan.Run.{HasBegunPlan, RunLeaves}
@@ -28,6 +33,7 @@ use Rattle.programs.specs.chunkplan.seen.Steps.{HasBegun, InputStepLeaves}
 use Rattle.programs.specs.seen.Sent.{Output}
 use Rattle.programs.specs.declared.chunkplan.run_fault.RunFault.{RunFault}
 use Rattle.programs.specs.declared.chunkplan.run_fault.RunFault.TheVariants.{Memory, Read, Write}
+use Rattle.programs.specs.declared.chunkplan.stage.Stage.{Stage}
 use Rattle.programs.specs.declared.document_fault.DocumentFault.{DocumentFault}
 use Rattle.programs.specs.declared.document_fault.DocumentFault.TheVariants.{Memory as NoMemory, Metadata, Missing, NotJson, NotObject, WrongValue}
 use Rattle.programs.specs.declared.stored.CreateFault.{CreateFault}
@@ -74,6 +80,8 @@ box_still d field fault (m, _, is) = still (IsBoxFormFault m field) (λ h. h) (�
 target_still : (d target : Data) (fault : RunFault) → IsTaskToFault d target fault → moves fault ≡ false
 target_still d target fault (of_misfit _ is) = still (IsTargetMisfit d target) (λ h. h) (λ h. h) fault is
 target_still d target fault (of_target_stored told _ _ _ same) = ap moves same ∙ of_document_still told
+target_still d target fault (of_max_elements _ _ _ _ (_, _, _, is)) = still (TellsWrongValue (codes "max_elements")) (λ h. h) (λ h. h) fault is
+target_still d target fault (of_stage _ _ _ _ _ _ (_, _, _, is)) = still (TellsWrongValue (codes "stage")) (λ h. h) (λ h. h) fault is
 target_still d target fault (of_order _ _ _ _ (_, _, _, is)) = still (TellsWrongValue (codes "order")) (λ h. h) (λ h. h) fault is
 target_still d target fault (of_chunks_box _ _ _ _ _ is) = box_still d (codes "chunks") fault is
 target_still d target fault (of_type _ is) = still (IsTypeMisfit d target) (λ h. h) (λ h. h) fault is
@@ -118,6 +126,12 @@ copy_still : (source target : List Dimension) (region : Box) (at : List ℕ) (fa
     → moves fault ≡ false
 copy_still source target region at fault (told, _, same) = ap moves same ∙ of_region_still told
 
+within_still : (source target : List Dimension) (most : ℕ) (stage : Option Stage) (wanted : Wanted) (fault : RunFault)
+    → IsFaultWithin source target most stage wanted fault → moves fault ≡ false
+within_still source target most (Some stage) wanted fault is = still (IsBetweenFault source target most) (λ h. h) (λ h. h) fault is
+within_still source target most None (lines_wanted share) fault is = still (IsOneStageFault source target most) (λ h. h) (λ h. h) fault is
+within_still source target most None counts_wanted fault is = still (IsStagesCountsFault source target) (λ h. h) (λ h. h) fault is
+
 plan_still : (document : Document) (fault : RunFault) → IsPlanFault document fault → moves fault ≡ false
 plan_still document fault (of_source told _ same) = ap moves same ∙ of_create_still told
 plan_still document fault (of_subset subset clip _ grid _ _ _ is) =
@@ -126,6 +140,9 @@ plan_still document fault (of_target stored _ _ _ _ _ is) = still (IsTargetFault
 plan_still document fault (of_chunks _ chunks _ target _ _ _ _ _ is) =
     still (IsChunksFault target.dimensions (unwrap_or chunks (all_chunks_box target.dimensions))) (λ h. h) (λ h. h) fault is
 plan_still document fault (of_source_order_target stored _ _ _ _ is) = still (IsTargetFault stored document.shape) (λ h. h) (λ h. h) fault is
+plan_still document fault (of_bound_target stored _ _ _ _ _ _ is) = still (IsTargetFault stored document.shape) (λ h. h) (λ h. h) fault is
+plan_still document fault (of_bound _ most stage source target _ _ _ _ _ is) =
+    within_still source.dimensions target.dimensions most stage document.wanted fault is
 plan_still document fault (of_region_target shape stored _ _ _ _ _ _ is) = still (IsTargetFault stored shape) (λ h. h) (λ h. h) fault is
 plan_still document fault (of_region _ _ region at source target _ _ _ _ _ is) =
     copy_still source.dimensions target.dimensions region (begins_at region at) fault is

@@ -1,4 +1,4 @@
--- The line of a plan's counts.
+-- The counts of a plan: an object, and the line of it.
 -- Source: RFC 8259; the members, in the order of their names, are this program's own.
 use Rattle.std.specs.Prelude.{◌≡◌, ℕ, List, ◌++◌, Option, Some, None, Vec, codes}
 use Rattle.std.specs.declared.alloc.Global.{Global}
@@ -12,7 +12,7 @@ IsCount (Some factors) text = IsNumeral (product factors.items) text
 IsCount None text = text ≡ codes "null"
 
 -- an object with a member for each count
-pub record IsCountsLine (counts : Counts) (line : List ℕ) : Type 0 where
+pub record IsCountsObject (counts : Counts) (object : List ℕ) : Type 0 where
   pub copies : List ℕ
   pub elements : List ℕ
   pub largest_line : List ℕ
@@ -23,5 +23,9 @@ pub record IsCountsLine (counts : Counts) (line : List ℕ) : Type 0 where
   pub is_largest_line : IsCount counts.largest_line largest_line
   pub is_lines : IsNumeral (product counts.lines.items) lines
   pub is_source_chunks : IsNumeral (product counts.source_chunks.items) source_chunks
-  pub is : line ≡ codes "{\"copies\":" ++ copies ++ codes ",\"elements\":" ++ elements ++ codes ",\"largest_line\":" ++ largest_line
-      ++ codes ",\"lines\":" ++ lines ++ codes ",\"source_chunks\":" ++ source_chunks ++ codes "}\n"
+  pub is : object ≡ codes "{\"copies\":" ++ copies ++ codes ",\"elements\":" ++ elements ++ codes ",\"largest_line\":" ++ largest_line
+      ++ codes ",\"lines\":" ++ lines ++ codes ",\"source_chunks\":" ++ source_chunks ++ codes "}"
+
+-- the line of that object
+abbrev pub IsCountsLine : Counts → List ℕ → Type 0
+IsCountsLine counts line = (object : List ℕ) × IsCountsObject counts object × (line ≡ object ++ codes "\n")

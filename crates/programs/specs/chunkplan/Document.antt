@@ -1,9 +1,10 @@
 -- The program's document: a JSON object with the members `shape`, `chunk_grid` and `chunk_key_encoding`. Besides it has, for a read, `subset` and
--- `clip`, if they are wanted, and `item_size`, if byte ranges are, with `memory_order` and `max_ranges`; for a rechunking, `target`, and `chunks` or
--- `order` if it is wanted; for the copy of a region, `target` and `subset`, and `at` if it is wanted. `share` or `counts` says what is wanted of the
--- plan, if not all lines; beside a target, `keys` that keys of its store stand behind the document. For a resize it has `resize`, and `keep` if it is
--- wanted, and none of these. What else an array's `zarr.json` has may stand in it and in the target.
-use Rattle.std.specs.Prelude.{◌≡◌, ◌⊎◌, ℕ, Bool, true, false, if◌then◌else◌, List, [], ◌∷◌, Option, Some, None, IsSome, bytes_eq, codes, MatchOption}
+-- `clip`, if they are wanted, and `item_size`, if byte ranges are, with `memory_order` and `max_ranges`; for a rechunking, `target`, and `chunks`,
+-- `order`, or `max_elements` and `stage`, if they are wanted; for the copy of a region, `target` and `subset`, and `at` if it is wanted. `share` or
+-- `counts` says what is wanted of the plan, if not all lines; beside a target, `keys` that keys of its store stand behind the document. For a resize
+-- it has `resize`, and `keep` if it is wanted, and none of these. What else an array's `zarr.json` has may stand in it and in the target.
+use Rattle.std.specs.Prelude.{◌≡◌, ◌⊎◌, ◌==◌, ℕ, Bool, true, false, if◌then◌else◌, List, [], ◌∷◌, Option, Some, None, IsSome, bytes_eq, codes}
+use Rattle.std.specs.Prelude.{MatchOption}
 use Rattle.std.specs.Prelude.{option_and_then, option_map}
 use Rattle.std.specs.Int.NonZero.{non_zero_u64_get}
 use Rattle.std.specs.List.{AllByRecursion}
@@ -21,10 +22,13 @@ use Rattle.programs.specs.chunkplan.Known.{Agree, HasOnly, known_members, zarr_j
 use Rattle.programs.specs.declared.chunkplan.line.Order.{Order}
 use Rattle.programs.specs.declared.chunkplan.line.Order.TheVariants.{Source, Target}
 use Rattle.programs.specs.declared.chunkplan.ranges.RangesAsked.{RangesAsked}
+use Rattle.programs.specs.declared.chunkplan.stage.Stage.{Stage}
+use Rattle.programs.specs.declared.chunkplan.stage.Stage.TheVariants.{First, Second}
 use Rattle.programs.specs.declared.chunkplan.document.Document.{Document as DocumentValue}
 use Rattle.programs.specs.declared.chunkplan.document.Task.{Task as TaskValue}
 use Rattle.programs.specs.declared.chunkplan.document.Task.TheVariants.{Copy as CopyValue, Read as ReadValue, Rechunk as RechunkValue}
 use Rattle.programs.specs.declared.chunkplan.document.Task.TheVariants.{RechunkBySource as RechunkBySourceValue, Resize as ResizeValue}
+use Rattle.programs.specs.declared.chunkplan.document.Task.TheVariants.{RechunkWithin as RechunkWithinValue}
 use Rattle.programs.specs.declared.chunkplan.document.Wanted.{Wanted as WantedValue}
 use Rattle.programs.specs.declared.chunkplan.document.Wanted.TheVariants.{Counts as CountsValue, Lines as LinesValue}
 
@@ -35,13 +39,14 @@ pub record RangesWanted : Type 0 where
   pub most : ℕ
 
 -- What is asked for: a read of a box of elements, or of all, as it is or clipped to the array, and whether byte ranges are wanted; a rechunking into
--- chunks of a box, or into all; one in the order of the source, a line for each of its chunks; the copy of a region, a box of elements, to an array
--- of a shape that is stored in some way, to begin there at an index, where one is given; or a resize of the array to another shape, and whether the
--- chunks are wanted too that stay as they are stored.
+-- chunks of a box, or into all; one in the order of the source, a line for each of its chunks; one of which a worker holds at most so many elements,
+-- or one of its two stages; the copy of a region, a box of elements, to an array of a shape that is stored in some way, to begin there at an index,
+-- where one is given; or a resize of the array to another shape, and whether the chunks are wanted too that stay as they are stored.
 pub data Task : Type 0 where
   read_of : Option Box → (clip : Bool) → Option RangesWanted → Task
   rechunk_to : Stored → Option Box → Task
   rechunk_by_source : Stored → Task
+  rechunk_within : Stored → (most : ℕ) → Option Stage → Task
   copy_to : (shape : List ℕ) → Stored → (region : Box) → (at : Option (List ℕ)) → Task
   resize_to : (shape : List ℕ) → (keep : Bool) → Task
 
@@ -66,6 +71,7 @@ abbrev pub task_of : TaskValue → Task
 task_of (ReadValue subset clip ranges) = read_of subset clip (option_map ranges_asked_of ranges)
 task_of (RechunkValue target chunks) = rechunk_to (stored_of target) chunks
 task_of (RechunkBySourceValue target) = rechunk_by_source (stored_of target)
+task_of (RechunkWithinValue target most stage) = rechunk_within (stored_of target) most stage
 task_of (CopyValue shape target region at) = copy_to shape.items (stored_of target) region (option_map (λ v. v.items) at)
 task_of (ResizeValue shape keep) = resize_to shape.items keep
 
@@ -95,6 +101,10 @@ abbrev pub HasOr : {X : Type 0} → (form : Data → Option X) (absent : X) → 
 HasOr form absent d field x =
     ((get field d ≡ None) × (x ≡ absent)) ⊎ ((m : Data) × (get field d ≡ Some m) × (form m ≡ Some x))
 
+-- the member is of a form and says x, or is absent
+abbrev pub HasIfAny : {X : Type 0} → (form : Data → Option X) → Data → List ℕ → Option X → Type 0
+HasIfAny form d field x = MatchOption x (get field d ≡ None) (λ v. (m : Data) × (get field d ≡ Some m) × (form m ≡ Some v))
+
 -- the member is true or false; where it is absent, as where it is false
 abbrev pub HasFlag : Data → List ℕ → Bool → Type 0
 HasFlag = HasOr as_bool false
@@ -107,6 +117,10 @@ line_order_in d = option_and_then (λ text. if bytes_eq text (codes "target") th
 -- The member `order` names the order of the lines; where it is absent, they are in that of the target.
 abbrev pub HasOrder : Data → Order → Type 0
 HasOrder d = HasOr line_order_in Target d (codes "order")
+
+-- the stage that a number names: the first or the second
+abbrev pub stage_in : Data → Option Stage
+stage_in d = option_and_then (λ n. if n == 1 then Some First else (if n == 2 then Some Second else None)) (size_of d)
 
 -- The member `item_size` is a size from 1 on, and `memory_order` and `max_ranges` say the rest; where it is absent, no ranges are wanted.
 abbrev pub HasRanges : Data → Option RangesWanted → Type 0
@@ -137,14 +151,18 @@ pub record IsOfArray (d target : Data) : Type 0 where
   pub same_shape : Agree (codes "shape") d target
   pub same_data_type : Agree (codes "data_type") d target
 
--- What is asked for with this target: where there is no `subset`, a rechunking, with the target's own two members, and `order`, and in that of the
--- target `chunks`; and else the copy of a region, with the target's `shape` too, and `at`.
+-- What is asked for with this target: where there is no `subset`, a rechunking, with the target's own two members, and `max_elements` and `stage`, or
+-- `order`, and in that of the target `chunks`; and else the copy of a region, with the target's `shape` too, and `at`.
 abbrev pub IsTaskTo : (d target : Data) → Task → Type 0
 IsTaskTo d target (read_of subset clip ranges) = ⊥
 IsTaskTo d target (rechunk_to stored chunks) =
     (get (codes "subset") d ≡ None) × IsOfArray d target × HasStored target stored × HasOrder d Target × HasBox d (codes "chunks") chunks
+    × (get (codes "max_elements") d ≡ None)
 IsTaskTo d target (rechunk_by_source stored) =
-    (get (codes "subset") d ≡ None) × IsOfArray d target × HasStored target stored × HasOrder d Source
+    (get (codes "subset") d ≡ None) × IsOfArray d target × HasStored target stored × HasOrder d Source × (get (codes "max_elements") d ≡ None)
+IsTaskTo d target (rechunk_within stored most stage) =
+    (get (codes "subset") d ≡ None) × IsOfArray d target × HasStored target stored × HasIfAny size_of d (codes "max_elements") (Some most)
+    × HasIfAny stage_in d (codes "stage") stage
 IsTaskTo d target (copy_to shape stored region at) = IsOfType d target × (shape_in target ≡ Some shape) × HasStored target stored
     × HasBox d (codes "subset") (Some region) × HasNumbers d (codes "at") at
 IsTaskTo d target (resize_to shape keep) = ⊥
@@ -171,7 +189,7 @@ pub record FitTask (d : Data) : Type 0 where
 abbrev pub not_of_resize : List (List ℕ)
 not_of_resize =
     codes "target" ∷ codes "subset" ∷ codes "clip" ∷ codes "chunks" ∷ codes "at" ∷ codes "share" ∷ codes "counts" ∷ codes "keys"
-    ∷ codes "order" ∷ codes "item_size" ∷ codes "memory_order" ∷ codes "max_ranges" ∷ []
+    ∷ codes "order" ∷ codes "item_size" ∷ codes "memory_order" ∷ codes "max_ranges" ∷ codes "max_elements" ∷ codes "stage" ∷ []
 
 -- none of these members is there
 abbrev pub HasNone : List (List ℕ) → Data → Type 0
@@ -206,6 +224,16 @@ pub record FitRanges (d : Data) : Type 0 where
   pub of_lines : IsSome (get (codes "item_size") d) → get (codes "counts") d ≡ None
   pub of_item : get (codes "item_size") d ≡ None → HasNone only_with_item_size d
 
+-- the members that don't go with `max_elements`
+abbrev pub not_of_bound : List (List ℕ)
+not_of_bound = codes "subset" ∷ codes "chunks" ∷ codes "keys" ∷ codes "order" ∷ []
+
+-- `max_elements` stands beside a target, and beside none of those; and `stage` beside it alone
+pub record FitBound (d : Data) : Type 0 where
+  pub of_target : IsSome (get (codes "max_elements") d) → IsSome (get (codes "target") d)
+  pub alone : IsSome (get (codes "max_elements") d) → HasNone not_of_bound d
+  pub of_stage : get (codes "max_elements") d ≡ None → get (codes "stage") d ≡ None
+
 -- and `share` beside no `counts`
 pub record Fit (d : Data) : Type 0 where
   pub resize : FitResize d
@@ -213,6 +241,7 @@ pub record Fit (d : Data) : Type 0 where
   pub keys : FitKeys d
   pub order : FitOrder d
   pub ranges : FitRanges d
+  pub bound : FitBound d
   pub of_counts : IsSome (get (codes "counts") d) → get (codes "share") d ≡ None
 
 -- the lines of a rechunking in the order of the target, or of the copy of a region, are asked for

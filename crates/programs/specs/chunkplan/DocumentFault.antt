@@ -12,14 +12,18 @@ use Rattle.zarrs_chunk_questions.specs.Order.{order_in}
 use Rattle.programs.specs.Document.{HasAll, HasStored, IsObjectOf, IsShapeFault, IsStoredFault, IsTextFault, shape_in}
 use Rattle.programs.specs.Stored.{Stored}
 use Rattle.programs.specs.chunkplan.Document.{Fit, FitKeys, FitResize, FitTask, HasBox, HasFlag, HasNumbers, HasWanted, IsOfArray, IsOfType, Wanted}
-use Rattle.programs.specs.chunkplan.Document.{FitOrder, FitRanges, HasOr, HasOrder, not_of_order, not_of_resize, only_with_item_size, line_order_in}
+use Rattle.programs.specs.chunkplan.Document.{FitBound, FitOrder, FitRanges, HasIfAny, HasOr, HasOrder, not_of_bound, not_of_order, not_of_resize}
+use Rattle.programs.specs.chunkplan.Document.{line_order_in, only_with_item_size, stage_in}
 use Rattle.programs.specs.chunkplan.Known.{Agree, Differ, HasOnly, IsFirstUnknown, known_members, zarr_json_members}
 use Rattle.programs.specs.chunkplan.RunFault.{of_document}
 use Rattle.programs.specs.declared.chunkplan.run_fault.RunFault.{RunFault}
-use Rattle.programs.specs.declared.chunkplan.run_fault.RunFault.TheVariants.{AtOfNoRegion, Box, ChunksOfNoTarget, ChunksOfRegion, ClipOfTarget}
+use Rattle.programs.specs.declared.chunkplan.run_fault.RunFault.TheVariants.{AtOfNoRegion, BoundOfNoTarget, Box, ChunksOfNoTarget, ChunksOfRegion}
+use Rattle.programs.specs.declared.chunkplan.run_fault.RunFault.TheVariants.{ClipOfTarget}
 use Rattle.programs.specs.declared.chunkplan.run_fault.RunFault.TheVariants.{ItemSizeOfCounts, ItemSizeOfTarget, KeepOfNoResize, KeysOfCounts}
-use Rattle.programs.specs.declared.chunkplan.run_fault.RunFault.TheVariants.{KeysOfNoTarget, Missing, NoItemSize, NotOfOrder, NotOfResize, OrderOfNoTarget}
-use Rattle.programs.specs.declared.chunkplan.run_fault.RunFault.TheVariants.{OtherDataType, OtherShape, ShareOfCounts, Unknown, UnknownOfTarget}
+use Rattle.programs.specs.declared.chunkplan.run_fault.RunFault.TheVariants.{KeysOfNoTarget, Missing, NoItemSize, NotOfBound, NotOfOrder, NotOfResize}
+use Rattle.programs.specs.declared.chunkplan.run_fault.RunFault.TheVariants.{OrderOfNoTarget}
+use Rattle.programs.specs.declared.chunkplan.run_fault.RunFault.TheVariants.{OtherDataType, OtherShape, ShareOfCounts, StageOfNoBound, Unknown}
+use Rattle.programs.specs.declared.chunkplan.run_fault.RunFault.TheVariants.{UnknownOfTarget}
 use Rattle.programs.specs.declared.chunkplan.run_fault.RunFault.TheVariants.{WrongValue}
 use Rattle.programs.specs.declared.chunkplan.line.Order.TheVariants.{Target}
 use Rattle.programs.specs.declared.document_fault.DocumentFault.{DocumentFault}
@@ -99,8 +103,17 @@ IsRangesMisfit d ItemSizeOfCounts =
 IsRangesMisfit d (NoItemSize told) = (get (codes "item_size") d ≡ None) × IsFirstThere only_with_item_size d told.now
 IsRangesMisfit d _ = ⊥
 
+-- the fault says that there is `max_elements`, and no target, or one of the members that don't go with it, or that there is `stage` without it; the
+-- first of these
+abbrev pub IsBoundMisfit : Data → RunFault → Type 0
+IsBoundMisfit d BoundOfNoTarget = IsSome (get (codes "max_elements") d) × (get (codes "target") d ≡ None)
+IsBoundMisfit d (NotOfBound told) =
+    IsSome (get (codes "max_elements") d) × IsSome (get (codes "target") d) × IsFirstThere not_of_bound d told.now
+IsBoundMisfit d StageOfNoBound = (get (codes "max_elements") d ≡ None) × IsSome (get (codes "stage") d)
+IsBoundMisfit d _ = ⊥
+
 -- The first member that doesn't go with the others: with `resize`, the first of `not_of_resize`; without it, `keep`; then as of the task; then
--- `keys`; then `order`; then as of byte ranges; last, a share beside counts.
+-- `keys`; then `order`; then as of byte ranges; then as of `max_elements` and `stage`; last, a share beside counts.
 abbrev pub IsMisfit : Data → RunFault → Type 0
 IsMisfit d (NotOfResize told) = IsSome (get (codes "resize") d) × IsFirstThere not_of_resize d told.now
 IsMisfit d KeepOfNoResize = (get (codes "resize") d ≡ None) × IsSome (get (codes "keep") d)
@@ -111,7 +124,11 @@ IsMisfit d (NotOfOrder told) = FitResize d × FitTask d × FitKeys d × IsOrderM
 IsMisfit d ItemSizeOfTarget = FitResize d × FitTask d × FitKeys d × FitOrder d × IsRangesMisfit d ItemSizeOfTarget
 IsMisfit d ItemSizeOfCounts = FitResize d × FitTask d × FitKeys d × FitOrder d × IsRangesMisfit d ItemSizeOfCounts
 IsMisfit d (NoItemSize told) = FitResize d × FitTask d × FitKeys d × FitOrder d × IsRangesMisfit d (NoItemSize told)
-IsMisfit d ShareOfCounts = FitResize d × FitTask d × FitKeys d × FitOrder d × FitRanges d × IsSome (get (codes "counts") d) × IsSome (get (codes "share") d)
+IsMisfit d BoundOfNoTarget = FitResize d × FitTask d × FitKeys d × FitOrder d × FitRanges d × IsBoundMisfit d BoundOfNoTarget
+IsMisfit d (NotOfBound told) = FitResize d × FitTask d × FitKeys d × FitOrder d × FitRanges d × IsBoundMisfit d (NotOfBound told)
+IsMisfit d StageOfNoBound = FitResize d × FitTask d × FitKeys d × FitOrder d × FitRanges d × IsBoundMisfit d StageOfNoBound
+IsMisfit d ShareOfCounts = FitResize d × FitTask d × FitKeys d × FitOrder d × FitRanges d × FitBound d
+    × IsSome (get (codes "counts") d) × IsSome (get (codes "share") d)
 IsMisfit d fault = FitResize d × IsTaskMisfit d fault
 
 -- the fault says why a member's value is no box: it is no list of two lists of sizes, or these make no box
@@ -163,12 +180,16 @@ pub data HasRangesFault (d : Data) (fault : RunFault) : Type 0 where
 abbrev pub IsTargetStoredFault : Data → DocumentFault → Type 0
 IsTargetStoredFault target = IsStoredFault target (codes "target.chunk_grid") (codes "target.chunk_key_encoding")
 
--- The first fault of what is asked for with this target. Of a rechunking: the target isn't of the array; its own two members; `order`; `chunks`. Of
--- the copy of a region: the target isn't of the array's type; its shape; its own two members; `subset`; `at`.
+-- The first fault of what is asked for with this target. Of a rechunking: the target isn't of the array; its own two members; `max_elements`;
+-- `stage`; `order`; `chunks`. Of the copy of a region: the target isn't of the array's type; its shape; its own two members; `subset`; `at`.
 pub data IsTaskToFault (d target : Data) (fault : RunFault) : Type 0 where
   of_misfit : get (codes "subset") d ≡ None → IsTargetMisfit d target fault → IsTaskToFault d target fault
   of_target_stored : (told : DocumentFault) → get (codes "subset") d ≡ None → IsOfArray d target → IsTargetStoredFault target told
       → fault ≡ of_document told → IsTaskToFault d target fault
+  of_max_elements : (stored : Stored) → get (codes "subset") d ≡ None → IsOfArray d target → HasStored target stored
+      → HasFormFault size_of d (codes "max_elements") fault → IsTaskToFault d target fault
+  of_stage : (stored : Stored) (most : ℕ) → get (codes "subset") d ≡ None → IsOfArray d target → HasStored target stored
+      → HasIfAny size_of d (codes "max_elements") (Some most) → HasFormFault stage_in d (codes "stage") fault → IsTaskToFault d target fault
   of_order : (stored : Stored) → get (codes "subset") d ≡ None → IsOfArray d target → HasStored target stored → HasOrderFault d fault
       → IsTaskToFault d target fault
   of_chunks : (stored : Stored) → get (codes "subset") d ≡ None → IsOfArray d target → HasStored target stored → HasOrder d Target

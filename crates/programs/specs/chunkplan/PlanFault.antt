@@ -1,5 +1,5 @@
 -- The first fault of an input that has no plan.
-use Rattle.std.specs.Prelude.{◌≡◌, ◌≢◌, ◌⊎◌, ℕ, Bool, true, false, List, length, Option, unwrap_or}
+use Rattle.std.specs.Prelude.{◌≡◌, ◌≢◌, ◌⊎◌, ℕ, Bool, true, false, List, length, Option, None, Some, unwrap_or}
 use Rattle.serde_json.specs.Data.{Data}
 use Rattle.zarrs_chunk_base.specs.ArraySubset.{Box, IsEmptyBox, lasts}
 use Rattle.zarrs_chunk_base.specs.Dimension.{Dimension, array_sizes}
@@ -11,18 +11,20 @@ use Rattle.zarrs_chunks.specs.GridKinds.{IsGridFault}
 use Rattle.zarrs_chunks.specs.Subsets.{HasNoHome}
 use Rattle.zarrs_chunk_plan.specs.Rechunking.{Group, all_chunks_box, array_box}
 use Rattle.zarrs_chunk_plan.specs.Region.{IsRegionFault}
+use Rattle.zarrs_chunk_plan.specs.Stages.{FindsShape, IsBoundFault, IsStagesFault}
 use Rattle.zarrs_chunk_plan.specs.declared.copies_error.CopiesError.TheVariants.{Chunks}
 use Rattle.zarrs_chunk_plan.specs.declared.region_error.RegionError.{RegionError}
 use Rattle.programs.specs.Stored.{IsCreateFault, IsStored, Stored}
 use Rattle.programs.specs.chunkplan.Document.{Document, IsDocument, RangesWanted, copy_to, read_of, rechunk_by_source, rechunk_to}
-use Rattle.programs.specs.chunkplan.Document.{resize_to}
+use Rattle.programs.specs.chunkplan.Document.{Wanted, counts_wanted, lines_wanted, rechunk_within, resize_to}
 use Rattle.programs.specs.chunkplan.DocumentFault.{IsInputFault}
 use Rattle.programs.specs.chunkplan.Keys.{AreKeys, HasKeysBehind, IsKeysFault, behind_first, first_line}
-use Rattle.programs.specs.chunkplan.Planned.{ArePlanned, begins_at}
+use Rattle.programs.specs.chunkplan.Planned.{ArePlanned, HoldsMore, begins_at}
 use Rattle.programs.specs.chunkplan.RunFault.{of_create, of_region as of_region_error}
 use Rattle.programs.specs.declared.chunkplan.run_fault.RunFault.{RunFault}
-use Rattle.programs.specs.declared.chunkplan.run_fault.RunFault.TheVariants.{Copies, KeysOfLongDocument, ResizedGrid, SubsetDimensionality, TargetEncoding}
-use Rattle.programs.specs.declared.chunkplan.run_fault.RunFault.TheVariants.{TargetGrid, Uncovered}
+use Rattle.programs.specs.declared.chunkplan.run_fault.RunFault.TheVariants.{Copies, KeysOfLongDocument, NoShape, NotInOneStage, ResizedGrid}
+use Rattle.programs.specs.declared.chunkplan.run_fault.RunFault.TheVariants.{Stages, SubsetDimensionality, TargetEncoding, TargetGrid, Uncovered}
+use Rattle.programs.specs.declared.chunkplan.stage.Stage.{Stage}
 use Rattle.programs.specs.declared.stored.CreateFault.{CreateFault}
 use Rattle.programs.specs.declared.stored.CreateFault.TheVariants.{Encoding, Grid}
 
@@ -46,6 +48,29 @@ abbrev pub IsChunksFault : List Dimension → Box → RunFault → Type 0
 IsChunksFault ds chunks (Copies (Chunks e)) = (length chunks.start ≢ length ds) × TellsLengths (length chunks.start) (length ds) e
 IsChunksFault ds chunks _ = ⊥
 
+-- the fault says that a line of one stage would hold more, or that there is too much to go through to tell
+abbrev pub IsOneStageFault : (source target : List Dimension) → (most : ℕ) → RunFault → Type 0
+IsOneStageFault source target most NotInOneStage = HoldsMore source target most
+IsOneStageFault source target most (Stages error) = IsBoundFault source target error
+IsOneStageFault source target most _ = ⊥
+
+-- that no shape fits for an array between, or that there is too much to go through to find one
+abbrev pub IsBetweenFault : (source target : List Dimension) → (most : ℕ) → RunFault → Type 0
+IsBetweenFault source target most NoShape = FindsShape source target most None
+IsBetweenFault source target most (Stages error) = IsStagesFault source target error
+IsBetweenFault source target most _ = ⊥
+
+-- that there is too much to go through to count both
+abbrev pub IsStagesCountsFault : (source target : List Dimension) → RunFault → Type 0
+IsStagesCountsFault source target (Stages error) = IsStagesFault source target error
+IsStagesCountsFault source target _ = ⊥
+
+-- why nothing is written of a rechunking of which a worker holds at most so many elements
+abbrev pub IsFaultWithin : (source target : List Dimension) → (most : ℕ) → Option Stage → Wanted → RunFault → Type 0
+IsFaultWithin source target most (Some stage) wanted fault = IsBetweenFault source target most fault
+IsFaultWithin source target most None (lines_wanted share) fault = IsOneStageFault source target most fault
+IsFaultWithin source target most None counts_wanted fault = IsStagesCountsFault source target fault
+
 -- the fault says why the region can't be copied
 abbrev pub IsCopyFault : (source target : List Dimension) → Box → (at : List ℕ) → RunFault → Type 0
 IsCopyFault source target region at fault =
@@ -57,7 +82,8 @@ IsResizeFault stored shape (ResizedGrid error) = IsGridFault stored.chunk_grid s
 IsResizeFault stored shape _ = ⊥
 
 -- The first fault of a document without a plan: the grid and the encoding; then, of a read, the box; of a rechunking or the copy of a region, the
--- grid and the encoding of the target, and then the box of its chunks, or the region; of a resize, the grid of the new shape.
+-- grid and the encoding of the target, and then the box of its chunks, or how many elements a worker may hold, or the region; of a resize, the grid
+-- of the new shape.
 pub data IsPlanFault (document : Document) (fault : RunFault) : Type 0 where
   of_source : (told : CreateFault) → IsCreateFault document.stored document.shape told → fault ≡ of_create told → IsPlanFault document fault
   of_subset : (subset : Option Box) (clip : Bool) (ranges : Option RangesWanted) (grid : ChunkGrid) (encoding : KeyEncoding)
@@ -72,6 +98,13 @@ pub data IsPlanFault (document : Document) (fault : RunFault) : Type 0 where
       → IsChunksFault target.dimensions (unwrap_or chunks (all_chunks_box target.dimensions)) fault → IsPlanFault document fault
   of_source_order_target : (stored : Stored) (grid : ChunkGrid) (encoding : KeyEncoding) → document.task ≡ rechunk_by_source stored
       → IsStored document.stored document.shape grid encoding → IsTargetFault stored document.shape fault → IsPlanFault document fault
+  of_bound_target : (stored : Stored) (most : ℕ) (stage : Option Stage) (grid : ChunkGrid) (encoding : KeyEncoding)
+      → document.task ≡ rechunk_within stored most stage → IsStored document.stored document.shape grid encoding
+      → IsTargetFault stored document.shape fault → IsPlanFault document fault
+  of_bound : (stored : Stored) (most : ℕ) (stage : Option Stage) (source target : ChunkGrid) (source_encoding target_encoding : KeyEncoding)
+      → document.task ≡ rechunk_within stored most stage → IsStored document.stored document.shape source source_encoding
+      → IsStored stored document.shape target target_encoding
+      → IsFaultWithin source.dimensions target.dimensions most stage document.wanted fault → IsPlanFault document fault
   of_region_target : (shape : List ℕ) (stored : Stored) (region : Box) (at : Option (List ℕ)) (grid : ChunkGrid) (encoding : KeyEncoding)
       → document.task ≡ copy_to shape stored region at → IsStored document.stored document.shape grid encoding → IsTargetFault stored shape fault
       → IsPlanFault document fault

@@ -1,12 +1,13 @@
 -- What the program writes for a document.
-use Rattle.std.specs.Prelude.{◌≡◌, ℕ, Bool, true, false, List, [], length, Option, replicate, unwrap_or}
+use Rattle.std.specs.Prelude.{◌≡◌, ◌↔◌, ℕ, Bool, true, false, IsTrue, List, [], length, MatchOption, Option, None, Some, replicate, unwrap_or}
 use Rattle.serde_json.specs.Data.{Data}
 use Rattle.zarrs_chunk_base.specs.ArraySubset.{Box, IsBox, IsEmptyBox}
 use Rattle.zarrs_chunk_base.specs.Dimension.{Dimension, array_sizes}
 use Rattle.zarrs_chunk_base.specs.Grid.{Grid}
 use Rattle.zarrs_chunk_base.specs.Json.{IsJsonOf}
-use Rattle.zarrs_chunk_keys.specs.ChunkKey.{Encoding, IsKey}
-use Rattle.zarrs_chunks.specs.GridKinds.{IsGrid}
+use Rattle.zarrs_chunk_base.specs.declared.chunk_key_separator.ChunkKeySeparator.TheVariants.{Slash}
+use Rattle.zarrs_chunk_keys.specs.ChunkKey.{Encoding, IsKey, default_keys}
+use Rattle.zarrs_chunks.specs.GridKinds.{IsGrid, grid_kind, regular}
 use Rattle.zarrs_chunks.specs.Subsets.{IsCover}
 use Rattle.zarrs_chunk_plan.specs.Clip.{IsClipped}
 use Rattle.zarrs_chunk_plan.specs.Counts.{AreReadCounts, AreRechunkingCounts, AreRegionCounts, CountNothing}
@@ -14,6 +15,7 @@ use Rattle.zarrs_chunk_plan.specs.Plan.{IsPlan}
 use Rattle.zarrs_chunk_plan.specs.Rechunking.{AreTargets, Group, IsRechunking, all_chunks_box, array_box}
 use Rattle.zarrs_chunk_plan.specs.Region.{CanBeMoved, IsRegionCopy, moved}
 use Rattle.zarrs_chunk_plan.specs.Resize.{IsResizePlan}
+use Rattle.zarrs_chunk_plan.specs.Stages.{FindsShape, HoldAtMost, IsLargest}
 use Rattle.zarrs_chunk_plan.specs.declared.counts.Counts.{Counts}
 use Rattle.zarrs_chunk_plan.specs.declared.part.Part.{Part}
 use Rattle.zarrs_chunk_plan.specs.declared.resize.ChunkChange.{ChunkChange}
@@ -21,11 +23,15 @@ use Rattle.zarrs_chunk_plan.specs.declared.share.Share.{Share}
 use Rattle.programs.specs.Stored.{IsStored, Stored}
 use Rattle.programs.specs.chunkplan.CountsLine.{IsCountsLine}
 use Rattle.programs.specs.chunkplan.Document.{Document, IsDocument, RangesWanted, Wanted, copy_to, counts_wanted, lines_wanted, read_of}
-use Rattle.programs.specs.chunkplan.Document.{rechunk_by_source, rechunk_to, resize_to}
+use Rattle.programs.specs.chunkplan.Document.{rechunk_by_source, rechunk_to, rechunk_within, resize_to}
 use Rattle.programs.specs.chunkplan.Keys.{AreKeys, HasKeysBehind, IsMissingText, behind_first, first_line}
 use Rattle.programs.specs.chunkplan.Line.{read_lines, rechunking_lines, resize_lines}
+use Rattle.programs.specs.chunkplan.StagesLine.{IsStagesLine}
 use Rattle.programs.specs.declared.chunkplan.line.Order.{Order}
 use Rattle.programs.specs.declared.chunkplan.line.Order.TheVariants.{Source, Target}
+use Rattle.programs.specs.declared.chunkplan.stage.Stage.{Stage}
+use Rattle.programs.specs.declared.chunkplan.stage.Stage.TheVariants.{First, Second}
+use Rattle.programs.specs.declared.chunkplan.stages_line.StagesCounts.{StagesCounts}
 
 -- the plan of reading a box of elements, which has as many dimensions as the grid; an empty box has no parts
 pub record IsReadPlan (ds : List Dimension) (IsKeyOf : List ℕ → List ℕ → Type 0) (subset : Box) (parts : List Part) : Type 0 where
@@ -48,6 +54,77 @@ abbrev pub IsRechunkingText : Order → Wanted → (source target : List Dimensi
 IsRechunkingText order (lines_wanted share) source target chunks groups text = text ≡ rechunking_lines order share groups
 IsRechunkingText order counts_wanted source target chunks groups text = (targets : Box) × IsBox targets × AreTargets target chunks targets
     × ((counts : Counts) × AreRechunkingCounts source target targets groups counts × IsCountsLine counts text)
+
+-- a worker who makes any chunk of the target holds at most so many elements, whichever chunk of the source it reads
+abbrev pub FitsOneStage : (source target : List Dimension) → (most : ℕ) → Type 0
+FitsOneStage source target most = (largest other : List ℕ) × IsLargest source largest × IsLargest target other × HoldAtMost most largest other
+
+-- one who makes some chunk may hold more
+abbrev pub HoldsMore : (source target : List Dimension) → (most : ℕ) → Type 0
+HoldsMore source target most = (largest other : List ℕ) × IsLargest source largest × IsLargest target other × (¬ HoldAtMost most largest other)
+
+-- the grid of the array between: the `regular` one of the array's sizes and of chunks of the shape that is found
+abbrev pub IsBetween : (source target : List Dimension) → (most : ℕ) → (between : Grid) → Type 0
+IsBetween source target most between =
+    (shape : List ℕ) × FindsShape source target most (Some shape) × (grid_kind regular).makes between (array_sizes source) shape
+
+-- its keys
+abbrev pub between_keys : Encoding
+between_keys = default_keys Slash
+
+module _ (source : List Dimension) (IsSourceKey : List ℕ → List ℕ → Type 0) (target : List Dimension) (IsTargetKey : List ℕ → List ℕ → Type 0) where
+  -- what is written of the rechunking into all chunks of the target
+  abbrev pub IsWholeText : Wanted → List ℕ → Type 0
+  IsWholeText wanted text = (groups : List Group) × IsRechunking source IsSourceKey target IsTargetKey (all_chunks_box target) groups
+      × IsRechunkingText Target wanted source target (all_chunks_box target) groups text
+
+  -- the counts of that rechunking
+  pub record AreCountsOfAll (counts : Counts) : Type 0 where
+    pub groups : List Group
+    pub is_rechunking : IsRechunking source IsSourceKey target IsTargetKey (all_chunks_box target) groups
+    pub targets : Box
+    pub is_box : IsBox targets
+    pub are_targets : AreTargets target (all_chunks_box target) targets
+    pub counted : AreRechunkingCounts source target targets groups counts
+
+module _ (source : List Dimension) (IsSourceKey : List ℕ → List ℕ → Type 0) (target : List Dimension) (IsTargetKey : List ℕ → List ℕ → Type 0)
+    (most : ℕ) where
+  -- what is written of one of the two stages: from the source to the array between, or from that to the target
+  abbrev pub IsStageText : Stage → Wanted → List ℕ → Type 0
+  IsStageText First wanted text = (between : Grid) × IsBetween source target most between
+      × IsWholeText source IsSourceKey between.dimensions (IsKey between_keys) wanted text
+  IsStageText Second wanted text = (between : Grid) × IsBetween source target most between
+      × IsWholeText between.dimensions (IsKey between_keys) target IsTargetKey wanted text
+
+  -- the counts of the two stages, by the array between with this shape of chunks
+  pub record AreCountsBetween (stages : StagesCounts) : Type 0 where
+    pub finds : FindsShape source target most (Some stages.shape.items)
+    pub between : Grid
+    pub is_regular : (grid_kind regular).makes between (array_sizes source) stages.shape.items
+    pub first : AreCountsOfAll source IsSourceKey between.dimensions (IsKey between_keys) stages.first
+    pub second : AreCountsOfAll between.dimensions (IsKey between_keys) target IsTargetKey stages.second
+
+  -- what is written where the counts of one stage and of two are wanted
+  pub record IsStagesCountsText (text : List ℕ) : Type 0 where
+    pub largest : List ℕ
+    pub is_largest : IsLargest source largest
+    pub other : List ℕ
+    pub is_other : IsLargest target other
+    pub fits : Bool
+    pub is_fits : IsTrue fits ↔ HoldAtMost most largest other
+    pub one_stage : Counts
+    pub are_one : AreCountsOfAll source IsSourceKey target IsTargetKey one_stage
+    pub stages : Option StagesCounts
+    pub are_two : MatchOption stages (FindsShape source target most None) AreCountsBetween
+    pub is : IsStagesLine fits one_stage stages text
+
+  -- What is written of a rechunking of which a worker holds at most so many elements: of a stage, where one is asked for; else the lines of one
+  -- stage, which fits, or the counts of one stage and of two.
+  abbrev pub IsTextWithin : Option Stage → Wanted → List ℕ → Type 0
+  IsTextWithin (Some stage) wanted text = IsStageText stage wanted text
+  IsTextWithin None (lines_wanted share) text =
+      FitsOneStage source target most × IsWholeText source IsSourceKey target IsTargetKey (lines_wanted share) text
+  IsTextWithin None counts_wanted text = IsStagesCountsText text
 
 -- the index in the target's array at which a region begins: 0 in each dimension, where none is given
 abbrev pub begins_at : Box → Option (List ℕ) → List ℕ
@@ -74,6 +151,7 @@ IsRegionText counts_wanted source target region at groups text =
 -- What a document wants of its plan, as text: of a read of a box of elements, or of all, or of a rechunking into the chunks of a box, or into all, or
 -- of the copy of a region, or of a resize, whose two grids the same metadata make. In the order of the source, a rechunking is planned the other way
 -- round: for each chunk of the source as what is copied into it from those of the target, which is what it gives to them. No document asks for its counts.
+-- Where a worker holds at most so many elements, it is the rechunking in one stage, or one of its two stages, or the counts of all of these.
 pub data IsPlanned (document : Document) (text : List ℕ) : Type 0 where
   of_read : (subset : Option Box) (clip : Bool) (ranges : Option RangesWanted) (asked : Box) (grid : Grid) (encoding : Encoding) (parts : List Part)
       → document.task ≡ read_of subset clip ranges → IsStored document.stored document.shape grid encoding
@@ -92,6 +170,11 @@ pub data IsPlanned (document : Document) (text : List ℕ) : Type 0 where
       → IsStored stored document.shape target target_encoding
       → IsRechunking target.dimensions (IsKey target_encoding) source.dimensions (IsKey source_encoding) (all_chunks_box source.dimensions) groups
       → IsRechunkingText Source document.wanted target.dimensions source.dimensions (all_chunks_box source.dimensions) groups text
+      → IsPlanned document text
+  of_bound : (stored : Stored) (most : ℕ) (stage : Option Stage) (source target : Grid) (source_encoding target_encoding : Encoding)
+      → document.task ≡ rechunk_within stored most stage → IsStored document.stored document.shape source source_encoding
+      → IsStored stored document.shape target target_encoding
+      → IsTextWithin source.dimensions (IsKey source_encoding) target.dimensions (IsKey target_encoding) most stage document.wanted text
       → IsPlanned document text
   of_region : (shape : List ℕ) (stored : Stored) (region : Box) (at : Option (List ℕ)) (source target : Grid)
       (source_encoding target_encoding : Encoding) (groups : List Group) → document.task ≡ copy_to shape stored region at

@@ -1,4 +1,5 @@
 pub mod Added
+pub mod Between
 pub mod Digits
 pub mod Missing
 pub mod Pieces

@@ -6,9 +6,11 @@ ghost use Rattle.serde_json.specs.View.{view};
 ghost use Rattle.zarrs_chunk_base.specs.Json.{IsJsonOf};
 ghost use Rattle.programs.specs.Document.{HasStored};
 ghost use Rattle.programs.specs.Stored.{stored_of};
-ghost use Rattle.programs.specs.chunkplan.Document.{Fit, FitKeys, FitOrder, FitRanges, FitResize, FitTask, HasNone, HasWanted, IsCopying, IsDocument, IsOfArray, IsOfType, IsTask, IsTaskTo};
+ghost use Rattle.programs.specs.chunkplan.Document.{Fit, FitBound, FitKeys, FitOrder, FitRanges, FitResize, FitTask};
+ghost use Rattle.programs.specs.chunkplan.Document.{HasNone, HasWanted, IsCopying, IsDocument, IsOfArray, IsOfType, IsTask, IsTaskTo};
 ghost use Rattle.programs.specs.chunkplan.Document.{document_of, task_of, wanted_of};
-ghost use Rattle.programs.specs.chunkplan.DocumentFault.{HasWantedFault, IsCopyingFault, IsFirstThere, IsFormFault, IsInputFault, IsKeysMisfit, IsMisfit, IsOrderMisfit, IsRangesMisfit, IsTargetMisfit};
+ghost use Rattle.programs.specs.chunkplan.DocumentFault.{HasWantedFault, IsBoundMisfit, IsCopyingFault, IsFirstThere, IsFormFault};
+ghost use Rattle.programs.specs.chunkplan.DocumentFault.{IsInputFault, IsKeysMisfit, IsMisfit, IsOrderMisfit, IsRangesMisfit, IsTargetMisfit};
 ghost use Rattle.programs.specs.chunkplan.DocumentFault.{IsTargetStoredFault, IsTaskFault, IsTaskMisfit, IsTaskToFault, IsTypeMisfit, IsUnknownFault};
 ghost use Rattle.programs.specs.chunkplan.Known.{HasOnly, IsFirstUnknown, known_members, zarr_json_members};
 ghost use Rattle.programs.specs.declared.chunkplan.run_fault.RunFault.TheVariants.{Memory, UnknownOfTarget};
@@ -22,6 +24,7 @@ use crate::chunkplan::line::Order;
 use crate::chunkplan::order::member_order;
 use crate::chunkplan::ranges::{RangesAsked, member_ranges};
 use crate::chunkplan::share::member_share;
+use crate::chunkplan::stage::{Stage, member_bound, member_stage};
 use crate::document::{read_object, read_shape, required_member, take_stored};
 use crate::document_fault::DocumentFault;
 use crate::stored::Stored;
@@ -43,6 +46,12 @@ pub(crate) enum Task {
     Rechunk(Stored, Option<ArraySubset>),
     /// A rechunking in the order of the source: a line for each of its chunks.
     RechunkBySource(Stored),
+    /// A rechunking of which a worker holds at most so many elements, or one of its two stages.
+    RechunkWithin {
+        target: Stored,
+        most: u64,
+        stage: Option<Stage>,
+    },
     /// The copy of a region, a box of elements, to an array of this shape, to begin there at an index, or at 0.
     Copy {
         shape: Vec<u64>,
@@ -58,7 +67,7 @@ pub(crate) enum Task {
 }
 
 /// The members that don't go with a resize, in the order in which they are refused.
-const NOT_OF_RESIZE: [&str; 12] = [
+const NOT_OF_RESIZE: [&str; 14] = [
     "target",
     "subset",
     "clip",
@@ -71,6 +80,8 @@ const NOT_OF_RESIZE: [&str; 12] = [
     "item_size",
     "memory_order",
     "max_ranges",
+    "max_elements",
+    "stage",
 ];
 
 /// The members that don't go with an order of the lines, in the order in which they are refused.
@@ -78,6 +89,9 @@ const NOT_OF_ORDER: [&str; 4] = ["subset", "chunks", "counts", "keys"];
 
 /// The members that go with `item_size` alone, in the order in which they are refused.
 const OF_ITEM_SIZE: [&str; 2] = ["memory_order", "max_ranges"];
+
+/// The members that don't go with a bound of how many elements a worker holds, in the order in which they are refused.
+const NOT_OF_BOUND: [&str; 4] = ["subset", "chunks", "keys", "order"];
 
 /// What is wanted of a plan.
 #[derive(Drop)]
@@ -104,8 +118,8 @@ pub(crate) struct Document {
 /// # Errors
 /// The first that applies: the input is no JSON, or no object; a member isn't known; one is missing; one doesn't go with the others; one isn't of its
 /// form, of `shape`, `counts`, `share`, `keys`, `chunk_grid`, `chunk_key_encoding`, and of `resize` and `keep`, of `subset`, `clip` and byte ranges,
-/// of `target`, `order` and `chunks`, or of `target`, `subset` and `at`; before its own members, the target has one that isn't known, or is of
-/// another array, or for a region of another data type. Or out of memory.
+/// of `target`, `max_elements`, `stage`, `order` and `chunks`, or of `target`, `subset` and `at`; before its own members, the target has one that
+/// isn't known, or is of another array, or for a region of another data type. Or out of memory.
 pub(crate) fn parse(alloc: Global, input: &[u8]) -> Result<Document, RunFault>
     ensures { MatchResult result
         (λ document. (tree : Data) × IsJsonOf input.now tree
@@ -173,6 +187,7 @@ fn check_fitting(tree: &Value) -> Result<(), RunFault>
     check_fitting_keys(tree)?;
     check_fitting_order(tree)?;
     check_fitting_ranges(tree)?;
+    check_fitting_bound(tree)?;
     if tree.get("counts").is_some() && tree.get("share").is_some() {
         return Err(RunFault::ShareOfCounts);
     }
@@ -267,6 +282,23 @@ fn check_fitting_ranges(tree: &Value) -> Result<(), RunFault>
     }
     refuse(tree, "target", RunFault::ItemSizeOfTarget)?;
     refuse(tree, "counts", RunFault::ItemSizeOfCounts)
+}
+
+/// Refuses `max_elements` beside no target, and beside a member that doesn't go with it, and `stage` where there is no `max_elements`.
+fn check_fitting_bound(tree: &Value) -> Result<(), RunFault>
+    ensures { MatchResult result (λ _. FitBound (view tree.now))
+        (IsBoundMisfit (view tree.now)) }
+{
+    if tree.get("max_elements").is_none() {
+        return refuse(tree, "stage", RunFault::StageOfNoBound);
+    }
+    if tree.get("target").is_none() {
+        return Err(RunFault::BoundOfNoTarget);
+    }
+    match first_there(tree, &NOT_OF_BOUND) {
+        Some(field) => Err(RunFault::NotOfBound(field)),
+        None => Ok(()),
+    }
 }
 
 /// Refuses a member of this name, by this fault.
@@ -376,6 +408,14 @@ fn rechunking_to(alloc: Global, tree: &Value, mut target: Value) -> Result<Task,
 {
     check_target(alloc, tree, &target)?;
     let stored = take_target(alloc, &mut target)?;
+    if let Some(most) = member_bound(alloc, tree)? {
+        let stage = member_stage(alloc, tree)?;
+        return Ok(Task::RechunkWithin {
+            target: stored,
+            most,
+            stage,
+        });
+    }
     match member_order(tree)? {
         Order::Target => Ok(Task::Rechunk(stored, member_box(alloc, tree, "chunks")?)),
         Order::Source => Ok(Task::RechunkBySource(stored)),

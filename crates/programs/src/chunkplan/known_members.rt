@@ -26,7 +26,7 @@ pub(crate) const ZARR_JSON: [&str; 11] = [
 ];
 
 /// What a document may have.
-pub(crate) const DOCUMENT: [&str; 25] = [
+pub(crate) const DOCUMENT: [&str; 27] = [
     "attributes",
     "chunk_grid",
     "chunk_key_encoding",
@@ -45,11 +45,13 @@ pub(crate) const DOCUMENT: [&str; 25] = [
     "item_size",
     "keep",
     "keys",
+    "max_elements",
     "max_ranges",
     "memory_order",
     "order",
     "resize",
     "share",
+    "stage",
     "subset",
     "target",
 ];

@@ -30,6 +30,7 @@ use crate::chunkplan::counting::counts_line;
 use crate::chunkplan::document::{Document, Task, Wanted};
 use crate::chunkplan::line::{Form, Order};
 use crate::chunkplan::ranges::RangesAsked;
+use crate::chunkplan::within::write_within;
 use crate::stored::{CreateFault, Stored};
 use crate::watched::Watched;
 use std::alloc::{AllocError, Global};
@@ -46,8 +47,8 @@ use zarrs_chunks::{ChunkGrid, ChunkGridTraits};
 ///
 /// # Errors
 /// The grid or the encoding can't be made, or those of the target, or the grid of the new shape; the box has another number of dimensions, or no
-/// cover, where it isn't clipped; the region doesn't fit the two arrays; a write failed; or out of memory. Nothing has been written where it is none
-/// of the last two.
+/// cover, where it isn't clipped; the region doesn't fit the two arrays; a line of one stage would hold too many elements, no array between fits, or
+/// there is too much to go through for either; a write failed; or out of memory. Nothing has been written where it is none of the last two.
 pub(crate) fn write_plan<W: Write>(
     alloc: Global,
     document: Document,
@@ -95,6 +96,17 @@ pub(crate) fn write_plan<W: Write>(
             let order = Order::Source;
             write_rechunking(
                 alloc, &target, &array, &chunks, order, &wanted, held_back, writer,
+            )
+        }
+        Task::RechunkWithin {
+            target,
+            most,
+            stage,
+        } => {
+            drop(stored);
+            let target = open_target(alloc, target, &shape)?;
+            write_within(
+                alloc, &array, &target, most, stage, &wanted, held_back, writer,
             )
         }
         Task::Copy {
@@ -356,7 +368,7 @@ fn write_counts<W: Write>(
 
 /// Sends what is wanted of the plan of a rechunking into the chunks of a box. In the order of the source, what is given as the source is the array as
 /// it is to be stored.
-fn write_rechunking<
+pub(crate) fn write_rechunking<
     G: ChunkGridTraits,
     E: ChunkKeyEncodingTraits,
     H: ChunkGridTraits,

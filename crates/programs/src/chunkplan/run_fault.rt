@@ -12,7 +12,7 @@ use thiserror::Error;
 use zarrs_chunk_base::{
     ArraySubsetError, IncompatibleDimensionalityError, MetadataError, PluginCreateError,
 };
-use zarrs_chunk_plan::{CopiesError, RegionError};
+use zarrs_chunk_plan::{CopiesError, RegionError, StagesError};
 
 /// Why a run stops. Nothing has been written, except on `Write`, and on `Memory`, where a beginning of the plan may have been.
 #[derive(Debug, Drop, Error)]
@@ -83,6 +83,15 @@ pub enum RunFault {
     /// The document says how byte ranges are wanted, and not how long an element is.
     #[error("field `{0}` is for byte ranges: give `item_size` too, or leave it out")]
     NoItemSize(&'static str),
+    /// The document says how many elements a worker may hold, and has no target.
+    #[error("field `max_elements` is for a rechunking: give `target` too, or leave it out")]
+    BoundOfNoTarget,
+    /// The document has a member that doesn't go with how many elements a worker may hold.
+    #[error("field `{0}` doesn't go with `max_elements`: leave out one of them")]
+    NotOfBound(&'static str),
+    /// The document asks for a stage, and doesn't say how many elements a worker may hold.
+    #[error("field `stage` is for a rechunking in two stages: give `max_elements` too, or leave it out")]
+    StageOfNoBound,
     /// The document says that keys stand behind it, and isn't the first line.
     #[error("field `keys`: the document is to be the first line, and each line behind it a key")]
     KeysOfLongDocument,
@@ -131,6 +140,15 @@ pub enum RunFault {
     /// The box of the target's chunks has another number of dimensions than the target.
     #[error(transparent)]
     Copies(CopiesError),
+    /// A line of one stage would hold too many elements.
+    #[error("a line of one stage would hold more than `max_elements` elements: ask for `stage` 1 and then for `stage` 2, or for their `counts`")]
+    NotInOneStage,
+    /// No chunk shape that is tried for an array between fits.
+    #[error("no chunk shape that is tried for an array between holds few enough elements for `max_elements`: ask for more")]
+    NoShape,
+    /// There is too much to go through to tell how many elements a line holds, or to find an array between.
+    #[error(transparent)]
+    Stages(StagesError),
     /// The plan has more lines than there are bits for, one a line.
     #[error("field `keys`: the plan has more than 4294967295 lines: plan the chunks of a smaller box with `chunks`, or a smaller region")]
     TooManyForKeys,

@@ -8,6 +8,7 @@ use Rattle.zarrs_chunk_base.specs.ArraySubset.{Box}
 use Rattle.zarrs_chunk_base.specs.Dimension.{Dimension, HasEdge, array_sizes, grid_sizes}
 use Rattle.zarrs_chunk_base.specs.Greatest.{greatest}
 use Rattle.zarrs_chunk_axes.specs.EqualEdges.{AreEqualEdges}
+use Rattle.zarrs_chunk_axes.specs.RowMajor.{IsBefore}
 use Rattle.zarrs_chunk_plan.specs.Counts.{product}
 use Rattle.zarrs_chunk_plan.specs.Rechunking.{array_box}
 use Rattle.zarrs_chunk_plan.specs.declared.fewest.Chosen.{Chosen}
@@ -65,8 +66,17 @@ abbrev pub reads_of : (first second : ℕ) → List Edge → ℕ
 reads_of first second choice =
     min greatest (first * product (map (λ (e : Edge). e.first) choice) + second * product (map (λ (e : Edge). e.second) choice))
 
+-- each number is less than those behind it
+abbrev pub Ascend : List ℕ → Type 0
+Ascend [] = Unit {0}
+Ascend (n ∷ numbers) = AllByRecursion (λ m. n < m) numbers × Ascend numbers
+
+-- the edges of each row ascend
+abbrev pub AllAscend : List (List Edge) → Type 0
+AllAscend = AllByRecursion (λ (row : List Edge). Ascend (map edge_of row))
+
 -- The choice of these edges, from that of the last row to that of the first, holds at most so many elements, and takes so many reads; no other that
--- does takes fewer.
+-- does takes fewer, and none that takes as few comes before it in row-major order.
 pub record IsFewest (rows : List (List Edge)) (room first second : ℕ) (edges : List ℕ) (reads : ℕ) : Type 0 where
   pub choice : List Edge
   pub is_choice : IsChoice rows choice
@@ -74,6 +84,8 @@ pub record IsFewest (rows : List (List Edge)) (room first second : ℕ) (edges :
   pub fits : held choice ≤ room
   pub are_reads : reads ≡ reads_of first second choice
   pub least : (other : List Edge) → IsChoice rows other → held other ≤ room → reads ≤ reads_of first second other
+  pub earliest : (other : List Edge) → IsChoice rows other → held other ≤ room → reads_of first second other ≡ reads
+      → ¬ IsBefore (map edge_of other) (map edge_of choice)
 
 -- what is found of some rows: such a choice, or none, where each holds more
 abbrev pub FindsFewest : List (List Edge) → (room first second : ℕ) → Option Chosen → Type 0

@@ -1,14 +1,17 @@
-use Rattle.std.proofs.Common.{◌<◌, ◌∷◌, [], arith, sym, take}
+use Rattle.std.proofs.Common.{◌<◌, ◌∷◌, [], Contains, ap, arith, sym, take}
 use Rattle.std.proofs.lemmas.List.{take_all, take_more}
+use Rattle.zarrs_chunk_plan.specs.declared.fewest.Edge.{Edge}
 use Rattle.zarrs_chunk_plan.specs.seen.Stages.{edge_of, rows_of}
-use Rattle.zarrs_chunk_plan.proofs.Choices.{is_with, of_both, of_none, of_one}
+use Rattle.zarrs_chunk_plan.proofs.Choices.{below_next, is_with, of_both, of_none, of_one, only}
 use Rattle.zarrs_chunk_plan.proofs.fewest.+fewest.Goals as goal
 
 pub loop-edge-init : goal.loop-edge-init
 loop-edge-init t c = of_none (rows_of c.in-Some.rows.now) c.args.room c.args.first c.args.second
 
 pub fewest-requires : goal.fewest-requires
-fewest-requires t c = (omega (arith, c.decreases, (c.in-Some.ensures {u = tt}).cases), tt)
+fewest-requires t c =
+    let ascend = rw ((c.in-Some.ensures {u = tt}).cases.0) at c.requires in
+    (omega (arith, c.decreases, (c.in-Some.ensures {u = tt}).cases), ascend.1)
 
 pub loop-edge-preserved : goal.loop-edge-preserved
 loop-edge-preserved t c =
@@ -26,9 +29,17 @@ loop-edge-preserved t c =
     of_one rows c.args.room c.args.first c.args.second e found c.in_ok-with_edge.field-0 positive
     (rw (get.value, c.saturating_mul-in_first.ensures, c.saturating_mul-in_second.ensures) at here) with
     in
+    let ascend = rw ((c.in-Some.ensures {u = tt}).cases.0) at c.requires in
+    let up : (x y : Edge) → Contains before x → Contains (e ∷ []) y → edge_of x < edge_of y =
+    λ x y in_before in_one.
+    let last = ap edge_of (only e y in_one) in
+    let less = below_next row k e (rw c.deref-edge-items.ensures.value ascend.0) c.loop-edge-test.true c.edge-item.is x in_before in
+    omega (arith, last, less)
+    in
     let more = take_more row k e c.loop-edge-test.true in
     rw (c.better-best.ensures, more, sym c.edge-item.is)
-    (of_both rows c.args.room c.args.first c.args.second before (e ∷ []) c.loop-edge.best c.in_ok-with_edge.field-0 c.loop-edge.invariant one)
+    (of_both rows c.args.room c.args.first c.args.second before (e ∷ []) c.loop-edge.best c.in_ok-with_edge.field-0 up c.loop-edge.invariant
+    one)
 
 pub returns : goal.returns
 returns t c =

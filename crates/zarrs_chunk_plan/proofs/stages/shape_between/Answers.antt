@@ -4,8 +4,8 @@ use Rattle.std.proofs.lemmas.List.{length-map}
 use Rattle.zarrs_chunk_base.specs.Dimension.{Dimension, array_sizes}
 use Rattle.zarrs_chunk_plan.specs.Stages.{IsChosen}
 use Rattle.zarrs_chunk_plan.specs.seen.Stages.{rows_of}
-use Rattle.zarrs_chunk_plan.proofs.ChosenShapes.{is_chosen, map_reversed, shape_long, largest_long, largest_positive, none_fits}
-use Rattle.zarrs_chunk_plan.proofs.EdgesTried.{all_positive, tried_long}
+use Rattle.zarrs_chunk_plan.proofs.ChosenShapes.{is_chosen, map_reversed, shape_long, largest_long, largest_positive, none_fits, rows_ascend}
+use Rattle.zarrs_chunk_plan.proofs.EdgesTried.{all_ascend, all_positive, tried_long}
 use Rattle.zarrs_chunk_plan.proofs.StageReads.{length_of}
 use Rattle.zarrs_chunk_plan.proofs.stages.shape_between.Goals as goal
 
@@ -67,6 +67,22 @@ all_rows-requires-clause-long g c =
     rw c.deref-4.ensures.value
     (sym (length-map c.in_ok-tried.tried.items (λ (row : Vec ℕ Global). row.items)) ∙ ap length tried ∙ long ∙ sizes_long)
 
+pub fewest-requires : goal.fewest-requires
+fewest-requires g c =
+    let source = g.G.ChunkGridTraits.dimensions c.args.source.now in
+    let target = g.H.ChunkGridTraits.dimensions c.args.target.now in
+    let sizes = array_sizes source in
+    let largest = c.in_ok-largest.largest.items in
+    let other = c.in_ok-largest.other.items in
+    let both = c.in_ok-largest.ensures {u = tt} in
+    let tried = rw (c.array_shape.ensures, c.deref.ensures.value, c.deref-2.ensures.value) at c.in_ok-tried.ensures in
+    let rows = rw c.deref-4.ensures.value at c.in_ok-rows.ensures in
+    let up =
+    all_ascend sizes largest other (largest_positive source largest (g.met.G.ChunkGridTraits.chained c.args.source.now) both.largest)
+    (largest_positive target other (g.met.H.ChunkGridTraits.chained c.args.target.now) both.other)
+    in
+    rw c.deref-7.ensures.value (rows_ascend (rows_of c.in_ok-rows.rows.items) (rw (rows.edges, tried) up))
+
 pub returns-in-Some-clause-found : goal.returns-in-Some-clause-found
 returns-in-Some-clause-found g c =
     let source = g.G.ChunkGridTraits.dimensions c.args.source.now in
@@ -99,7 +115,7 @@ returns-in-Some-clause-found g c =
           subst (IsChosen source target c.args.most largest other)
           (sym (ap (map non_zero_u64_get) c.reversed.ensures ∙ map_reversed c.in-Some.chosen.edges.items))
           (is_chosen source target (g.met.G.ChunkGridTraits.chained c.args.source.now) (g.met.H.ChunkGridTraits.chained c.args.target.now) both.one_array rows.is_box
-          c.args.most (omega (arith, c.ranges.most.fits)) largest other (rows_of c.in_ok-rows.rows.items) are rows.reads
+          c.args.most (omega (arith, c.ranges.most.fits)) largest other both.largest both.other (rows_of c.in_ok-rows.rows.items) are rows.reads
           (map non_zero_u64_get c.in-Some.chosen.edges.items) c.in-Some.chosen.reads best);
     }
 
@@ -140,5 +156,5 @@ returns-clause-found g c =
       is_other = both.other;
       few = omega (arith, few, c.if-shapes_of-gt-MOST_SHAPES.false);
       finds = none_fits source target (g.met.G.ChunkGridTraits.chained c.args.source.now) (g.met.H.ChunkGridTraits.chained c.args.target.now) both.one_array rows.is_box
-          c.args.most (omega (arith, c.ranges.most.fits)) largest other (rows_of c.in_ok-rows.rows.items) are rows.reads none;
+          c.args.most (omega (arith, c.ranges.most.fits)) largest other both.largest both.other (rows_of c.in_ok-rows.rows.items) are rows.reads none;
     }

@@ -1,6 +1,6 @@
 use Rattle.std.proofs.lemmas.Result.{err_from_is_err_and}
 use Rattle.serde_json.specs.View.{view}
-use Rattle.programs.proofs.chunkplan.FormFaults.{keys_misfit, order_misfit, ranges_misfit, task_misfit}
+use Rattle.programs.proofs.chunkplan.FormFaults.{bound_misfit, keys_misfit, order_misfit, ranges_misfit, task_misfit}
 use Rattle.programs.proofs.chunkplan.document.check_fitting.Goals as goal
 
 pub returns-in_err-check_fitting_task : goal.returns-in_err-check_fitting_task
@@ -30,3 +30,11 @@ returns-in_err-check_fitting_ranges c =
     rw (p.1, p.2)
     (ranges_misfit (view c.args.tree.now) c.in_err-check_fitting_ranges.field-0.0 c.in_ok-check_fitting_resize.ensures
     c.in_ok-check_fitting_task.ensures c.in_ok-check_fitting_keys.ensures c.in_ok-check_fitting_order.ensures c.in_err-check_fitting_ranges.ensures)
+
+pub returns-in_err-check_fitting_bound : goal.returns-in_err-check_fitting_bound
+returns-in_err-check_fitting_bound c =
+    let p = err_from_is_err_and c.from_residual-in_err-check_fitting_bound.result c.from_residual-in_err-check_fitting_bound.ensures.1 in
+    rw (p.1, p.2)
+    (bound_misfit (view c.args.tree.now) c.in_err-check_fitting_bound.field-0.0 c.in_ok-check_fitting_resize.ensures
+    c.in_ok-check_fitting_task.ensures c.in_ok-check_fitting_keys.ensures c.in_ok-check_fitting_order.ensures c.in_ok-check_fitting_ranges.ensures
+    c.in_err-check_fitting_bound.ensures)

@@ -5,10 +5,11 @@ use Rattle.serde_json.specs.View.{view}
 use Rattle.programs.specs.chunkplan.DocumentFault.{of_clip, of_ranges, of_subset, of_target, of_task}
 use Rattle.programs.specs.chunkplan.Document.{task_of}
 use Rattle.programs.specs.declared.chunkplan.run_fault.RunFault.{RunFault}
-use Rattle.programs.proofs.chunkplan.LeftMembers.{AskAlike, at_is_no_target, chunks_is_no_target, clip_is_no_target, data_type_is_no_target, has_box}
+use Rattle.programs.proofs.chunkplan.LeftMembers.{AskAlike, at_is_no_target, bound_is_no_target, chunks_is_no_target, clip_is_no_target}
+use Rattle.programs.proofs.chunkplan.LeftMembers.{data_type_is_no_target, has_box}
 use Rattle.programs.proofs.chunkplan.LeftMembers.{has_box_fault, has_form_fault, has_or, has_ranges, has_ranges_fault, is_task_to, is_task_to_fault}
 use Rattle.programs.proofs.chunkplan.LeftMembers.{item_size_is_no_target, max_ranges_is_no_target, memory_order_is_no_target, order_is_no_target}
-use Rattle.programs.proofs.chunkplan.LeftMembers.{shape_is_no_target, subset_is_no_target, with_target}
+use Rattle.programs.proofs.chunkplan.LeftMembers.{shape_is_no_target, stage_is_no_target, subset_is_no_target, with_target}
 use Rattle.programs.proofs.chunkplan.document.copying_from.Goals as goal
 
 -- what is said of a task and of a fault, each in other words
@@ -88,6 +89,8 @@ returns c =
       chunks = others (codes "chunks") chunks_is_no_target;
       at = others (codes "at") at_is_no_target;
       order = others (codes "order") order_is_no_target;
+      bound = others (codes "max_elements") bound_is_no_target;
+      stage = others (codes "stage") stage_is_no_target;
     }
     in
     told c.task_to.result

@@ -12,9 +12,10 @@ use Rattle.zarrs_chunk_plan.proofs.OneConfiguration.{one_configuration}
 use Rattle.programs.specs.Stored.{stored_of}
 use Rattle.programs.specs.chunkplan.Document.{document_of, ranges_asked_of, task_of}
 use Rattle.programs.specs.chunkplan.PlanFault.{IsChunksFault, IsCopyFault, IsPlanFault, IsReadFault, of_chunks, of_region_target, of_source, of_subset}
-use Rattle.programs.specs.chunkplan.PlanFault.{of_region as of_region_fault, of_resize as of_resize_fault, of_source_order_target, of_target}
+use Rattle.programs.specs.chunkplan.PlanFault.{IsFaultWithin, of_bound as of_bound_fault, of_bound_target, of_region as of_region_fault}
+use Rattle.programs.specs.chunkplan.PlanFault.{of_resize as of_resize_fault, of_source_order_target, of_target}
 use Rattle.programs.specs.chunkplan.Planned.{IsAsked, IsPlanned, IsRechunkingText, IsRegionPlan, IsRegionText, begins_at, of_read, of_rechunking, of_region}
-use Rattle.programs.specs.chunkplan.Planned.{of_resize, of_source_order}
+use Rattle.programs.specs.chunkplan.Planned.{of_bound, of_resize, of_source_order}
 use Rattle.programs.specs.chunkplan.RunFault.{of_create}
 use Rattle.programs.specs.declared.chunkplan.line.Order.TheVariants.{Source, Target}
 use Rattle.programs.specs.declared.chunkplan.run_fault.RunFault.{RunFault}
@@ -40,6 +41,12 @@ write_rechunking-requires-in-RechunkBySource-clause-keys g c = has_key (encoding
 
 pub write_rechunking-requires-in-RechunkBySource-clause-target_keys : goal.write_rechunking-requires-in-RechunkBySource-clause-target_keys
 write_rechunking-requires-in-RechunkBySource-clause-target_keys g c = has_key (encoding_in c.in_ok-array.array.encoding)
+
+pub write_within-requires-clause-keys : goal.write_within-requires-clause-keys
+write_within-requires-clause-keys g c = has_key (encoding_in c.in_ok-array.array.encoding)
+
+pub write_within-requires-clause-target_keys : goal.write_within-requires-clause-target_keys
+write_within-requires-clause-target_keys g c = has_key (encoding_in c.in_ok-target-in-RechunkWithin.target.encoding)
 
 pub write_region-requires-clause-keys : goal.write_region-requires-clause-keys
 write_region-requires-clause-keys g c = has_key (encoding_in c.in_ok-array.array.encoding)
@@ -167,6 +174,41 @@ returns-in-RechunkBySource g c =
     (output g.W.Write.contents c.args.held_back.now.items c.args.writer.now)
     (output g.W.Write.contents c.write_rechunking-in-RechunkBySource.new.held_back.items c.write_rechunking-in-RechunkBySource.new.writer)
     c.write_rechunking-in-RechunkBySource.result c.write_rechunking-in-RechunkBySource.ensures
+
+pub returns-in_err-target-in-RechunkWithin : goal.returns-in_err-target-in-RechunkWithin
+returns-in_err-target-in-RechunkWithin g c =
+    let p = err_from_is_err_and c.from_residual-in_err-target-in-RechunkWithin.result c.from_residual-in_err-target-in-RechunkWithin.ensures.1 in
+    let made = rw c.deref.ensures.value at c.in_ok-array.ensures.made in
+    let document = document_of c.args.document in
+    let refused = rw c.deref-in-RechunkWithin.ensures.value at c.in_err-target-in-RechunkWithin.ensures.refused in
+    rw (p.1, p.2)
+    (early (IsPlanned document) (IsPlanFault document) _
+    (output g.W.Write.contents c.args.held_back.now.items c.args.writer.now)
+    (no_failed_write document)
+    (⊎_elim (λ memory. inl memory)
+    (λ is. inr (of_bound_target (stored_of c.in-RechunkWithin.target) c.in-RechunkWithin.most c.in-RechunkWithin.stage
+    (grid_in c.in_ok-array.array.grid) (encoding_in c.in_ok-array.array.encoding) (ap task_of c.in-RechunkWithin.is) made is))
+    refused))
+
+pub returns-in-RechunkWithin : goal.returns-in-RechunkWithin
+returns-in-RechunkWithin g c =
+    let made = rw c.deref.ensures.value at c.in_ok-array.ensures.made in
+    let made_target = rw c.deref-in-RechunkWithin.ensures.value at c.in_ok-target-in-RechunkWithin.ensures.made in
+    let source = grid_in c.in_ok-array.array.grid in
+    let target = grid_in c.in_ok-target-in-RechunkWithin.target.grid in
+    let source_encoding = encoding_in c.in_ok-array.array.encoding in
+    let target_encoding = encoding_in c.in_ok-target-in-RechunkWithin.target.encoding in
+    let document = document_of c.args.document in
+    let stored = stored_of c.in-RechunkWithin.target in
+    let most = c.in-RechunkWithin.most in
+    let stage = c.in-RechunkWithin.stage in
+    let task = ap task_of c.in-RechunkWithin.is in
+    step_follows _ (IsPlanned document) (IsFaultWithin source.dimensions target.dimensions most stage document.wanted) (IsPlanFault document)
+    (λ text is. of_bound stored most stage source target source_encoding target_encoding task made made_target is)
+    (λ fault is. of_bound_fault stored most stage source target source_encoding target_encoding task made made_target is)
+    (output g.W.Write.contents c.args.held_back.now.items c.args.writer.now)
+    (output g.W.Write.contents c.write_within.new.held_back.items c.write_within.new.writer)
+    c.write_within.result c.write_within.ensures
 
 pub returns-in_err-target-in-Copy : goal.returns-in_err-target-in-Copy
 returns-in_err-target-in-Copy g c =

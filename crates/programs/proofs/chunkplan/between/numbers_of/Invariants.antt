@@ -1,0 +1,7 @@
+use Rattle.std.proofs.Common.{◌≡◌, map, take}
+use Rattle.std.specs.Int.NonZero.{non_zero_u64_get}
+use Rattle.programs.proofs.chunkplan.between.numbers_of.Given as goal
+
+-- the numbers so far are those of the edges so far
+abbrev pub invariant-loop-edge : goal.invariant-loop-edge
+invariant-loop-edge l = l.numbers.items ≡ map non_zero_u64_get (take l.edge-index l.edges)

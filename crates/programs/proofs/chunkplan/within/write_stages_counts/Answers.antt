@@ -1,0 +1,30 @@
+use Rattle.std.proofs.Common.{◌∙◌, subst, sym}
+use Rattle.programs.specs.chunkplan.PlanFault.{IsStagesCountsFault}
+use Rattle.programs.specs.chunkplan.StagesLine.{IsStagesLine}
+use Rattle.programs.specs.seen.Sent.{output}
+use Rattle.programs.proofs.chunkplan.Steps.{step_follows}
+use Rattle.programs.proofs.chunkplan.within.write_stages_counts.Goals as goal
+
+pub returns : goal.returns
+returns g c =
+    let (largest, other, is_largest, is_other, held) = c.in_ok-fits.ensures.held in
+    let stages = c.in_ok-stages.stages in
+    step_follows _ _ (λ _. ⊥)
+    (IsStagesCountsFault (g.G.ChunkGridTraits.dimensions c.args.source.now.grid) (g.H.ChunkGridTraits.dimensions c.args.target.now.grid))
+    (λ text is. record {
+      largest = largest;
+      is_largest = is_largest;
+      other = other;
+      is_other = is_other;
+      fits = c.in_ok-fits.fits;
+      is_fits = held;
+      one_stage = c.in_ok-one_stage.one_stage;
+      are_one = c.in_ok-one_stage.ensures;
+      stages = stages;
+      are_two = c.in_ok-stages.ensures.found;
+      is = subst (λ l. IsStagesLine c.in_ok-fits.fits c.in_ok-one_stage.one_stage stages l) (sym (is ∙ c.deref.ensures.value)) c.in_ok-line.ensures;
+    })
+    (λ fault none. absurd none)
+    (output g.W.Write.contents c.args.held_back.now.items c.args.writer.now)
+    (output g.W.Write.contents c.send_text.new.held_back.items c.send_text.new.writer)
+    c.send_text.result c.send_text.ensures

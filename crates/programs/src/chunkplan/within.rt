@@ -1,0 +1,309 @@
+//! The plan of a rechunking of which a worker holds at most so many elements: in one stage, or in two, by an array between.
+ghost use Rattle.std.specs.Prelude.{◌≡◌, ◌⊎◌, ◌↔◌, ℕ, IfErr, IfOk, IsTrue, List, MatchOption, None};
+ghost use Rattle.zarrs_chunk_base.specs.Dimension.{array_sizes};
+ghost use Rattle.zarrs_chunk_plan.specs.Stages.{FindsShape, HoldAtMost, IsLargest, IsBoundFault, IsStagesFault};
+ghost use Rattle.zarrs_chunk_plan.specs.seen.Parts.{HasKeys};
+ghost use Rattle.programs.specs.chunkplan.Document.{wanted_of};
+ghost use Rattle.programs.specs.chunkplan.PlanFault.{IsBetweenFault, IsFaultWithin, IsOneStageFault, IsStagesCountsFault};
+ghost use Rattle.programs.specs.chunkplan.Planned.{AreCountsBetween, AreCountsOfAll, FitsOneStage, IsStageText, IsStagesCountsText, IsTextWithin, IsWholeText};
+ghost use Rattle.programs.specs.chunkplan.seen.Between.{TellsStages};
+ghost use Rattle.programs.specs.chunkplan.seen.Steps.{StepLeaves};
+ghost use Rattle.programs.specs.declared.chunkplan.run_fault.RunFault.TheVariants.{Memory};
+ghost use Rattle.programs.specs.seen.Sent.{output};
+
+use crate::chunkplan::RunFault;
+use crate::chunkplan::between::{Between, find_between};
+use crate::chunkplan::copying::send_text;
+use crate::chunkplan::document::Wanted;
+use crate::chunkplan::line::Order;
+use crate::chunkplan::plan::write_rechunking;
+use crate::chunkplan::stage::Stage;
+use crate::chunkplan::stages_line::{StagesCounts, stages_line};
+use crate::watched::Watched;
+use std::alloc::{AllocError, Global};
+use std::io::Write;
+use zarrs_chunk_base::Refusal;
+use zarrs_chunk_keys::ChunkKeyEncodingTraits;
+use zarrs_chunk_plan::{
+    Counts, StagesError, StoredArray, all_chunks, counts_of_rechunking, hold_at_most,
+};
+use zarrs_chunks::ChunkGridTraits;
+
+/// Sends what is wanted of a rechunking of which a worker holds at most so many elements: of one of its two stages, where one is asked for; or else
+/// the lines of one stage, or the counts of one stage and of two.
+///
+/// # Errors
+/// There is too much to go through; the lines of one stage would hold more; no array between fits; a write failed; or out of memory. Nothing has been
+/// written where it is none of the last two.
+pub(crate) fn write_within<
+    G: ChunkGridTraits,
+    E: ChunkKeyEncodingTraits,
+    H: ChunkGridTraits,
+    F: ChunkKeyEncodingTraits,
+    W: Write,
+>(
+    alloc: Global,
+    source: &StoredArray<G, E>,
+    target: &StoredArray<H, F>,
+    most: u64,
+    stage: Option<Stage>,
+    wanted: &Wanted,
+    held_back: &mut Vec<u8>,
+    writer: &mut Watched<W>,
+) -> Result<(), RunFault>
+    requires one_array { array_sizes (G.dimensions source.now.grid)
+        ≡ array_sizes (H.dimensions target.now.grid) }
+    requires keys { HasKeys (E.is_key source.now.encoding) }
+    requires target_keys { HasKeys (F.is_key target.now.encoding) }
+    ensures { StepLeaves
+        (IsTextWithin (G.dimensions source.now.grid) (E.is_key source.now.encoding)
+        (H.dimensions target.now.grid) (F.is_key target.now.encoding) most stage
+        (wanted_of wanted.now))
+        (IsFaultWithin (G.dimensions source.now.grid) (H.dimensions target.now.grid) most stage
+        (wanted_of wanted.now)) result
+        (output W.contents held_back.old.items writer.old)
+        (output W.contents held_back.new.items writer.new) }
+{
+    match stage {
+        Some(stage) => write_stage(
+            alloc, source, target, most, stage, wanted, held_back, writer,
+        ),
+        None => match wanted {
+            Wanted::Lines(_) => {
+                write_one_stage(alloc, source, target, most, wanted, held_back, writer)
+            }
+            Wanted::Counts => {
+                write_stages_counts(alloc, source, target, most, held_back, writer)
+            }
+        },
+    }
+}
+
+/// Sends what is wanted of the plan of one of the two stages.
+fn write_stage<
+    G: ChunkGridTraits,
+    E: ChunkKeyEncodingTraits,
+    H: ChunkGridTraits,
+    F: ChunkKeyEncodingTraits,
+    W: Write,
+>(
+    alloc: Global,
+    source: &StoredArray<G, E>,
+    target: &StoredArray<H, F>,
+    most: u64,
+    stage: Stage,
+    wanted: &Wanted,
+    held_back: &mut Vec<u8>,
+    writer: &mut Watched<W>,
+) -> Result<(), RunFault>
+    requires one_array { array_sizes (G.dimensions source.now.grid)
+        ≡ array_sizes (H.dimensions target.now.grid) }
+    requires keys { HasKeys (E.is_key source.now.encoding) }
+    requires target_keys { HasKeys (F.is_key target.now.encoding) }
+    ensures { StepLeaves
+        (IsStageText (G.dimensions source.now.grid) (E.is_key source.now.encoding)
+        (H.dimensions target.now.grid) (F.is_key target.now.encoding) most stage
+        (wanted_of wanted.now))
+        (IsBetweenFault (G.dimensions source.now.grid) (H.dimensions target.now.grid) most) result
+        (output W.contents held_back.old.items writer.old)
+        (output W.contents held_back.new.items writer.new) }
+{
+    let Some(between) = find_between(alloc, &source.grid, &target.grid, most)? else {
+        return Err(RunFault::NoShape);
+    };
+    match stage {
+        Stage::First => write_whole(alloc, source, &between.array, wanted, held_back, writer),
+        Stage::Second => write_whole(alloc, &between.array, target, wanted, held_back, writer),
+    }
+}
+
+/// Sends what is wanted of the plan of a rechunking in one stage, where its lines hold few enough elements.
+fn write_one_stage<
+    G: ChunkGridTraits,
+    E: ChunkKeyEncodingTraits,
+    H: ChunkGridTraits,
+    F: ChunkKeyEncodingTraits,
+    W: Write,
+>(
+    alloc: Global,
+    source: &StoredArray<G, E>,
+    target: &StoredArray<H, F>,
+    most: u64,
+    wanted: &Wanted,
+    held_back: &mut Vec<u8>,
+    writer: &mut Watched<W>,
+) -> Result<(), RunFault>
+    requires one_array { array_sizes (G.dimensions source.now.grid)
+        ≡ array_sizes (H.dimensions target.now.grid) }
+    requires keys { HasKeys (E.is_key source.now.encoding) }
+    requires target_keys { HasKeys (F.is_key target.now.encoding) }
+    ensures { StepLeaves
+        (λ text. FitsOneStage (G.dimensions source.now.grid) (H.dimensions target.now.grid) most
+        × IsWholeText (G.dimensions source.now.grid) (E.is_key source.now.encoding)
+        (H.dimensions target.now.grid) (F.is_key target.now.encoding) (wanted_of wanted.now) text)
+        (IsOneStageFault (G.dimensions source.now.grid) (H.dimensions target.now.grid) most) result
+        (output W.contents held_back.old.items writer.old)
+        (output W.contents held_back.new.items writer.new) }
+{
+    let fits = fits_one_stage(alloc, &source.grid, &target.grid, most)?;
+    if !fits {
+        return Err(RunFault::NotInOneStage);
+    }
+    write_whole(alloc, source, target, wanted, held_back, writer)
+}
+
+/// Sends the line of the counts of one stage and of two.
+fn write_stages_counts<
+    G: ChunkGridTraits,
+    E: ChunkKeyEncodingTraits,
+    H: ChunkGridTraits,
+    F: ChunkKeyEncodingTraits,
+    W: Write,
+>(
+    alloc: Global,
+    source: &StoredArray<G, E>,
+    target: &StoredArray<H, F>,
+    most: u64,
+    held_back: &mut Vec<u8>,
+    writer: &mut Watched<W>,
+) -> Result<(), RunFault>
+    requires one_array { array_sizes (G.dimensions source.now.grid)
+        ≡ array_sizes (H.dimensions target.now.grid) }
+    requires keys { HasKeys (E.is_key source.now.encoding) }
+    requires target_keys { HasKeys (F.is_key target.now.encoding) }
+    ensures { StepLeaves
+        (IsStagesCountsText (G.dimensions source.now.grid) (E.is_key source.now.encoding)
+        (H.dimensions target.now.grid) (F.is_key target.now.encoding) most)
+        (IsStagesCountsFault (G.dimensions source.now.grid) (H.dimensions target.now.grid)) result
+        (output W.contents held_back.old.items writer.old)
+        (output W.contents held_back.new.items writer.new) }
+{
+    let fits = fits_one_stage(alloc, &source.grid, &target.grid, most)?;
+    let one_stage = counts_of_all(alloc, source, target)?;
+    let stages = counts_between(alloc, source, target, most)?;
+    let line = stages_line(alloc, fits, &one_stage, &stages)?;
+    send_text(&line, held_back, writer)
+}
+
+/// The counts of the two stages; `None` where no array between fits.
+fn counts_between<
+    G: ChunkGridTraits,
+    E: ChunkKeyEncodingTraits,
+    H: ChunkGridTraits,
+    F: ChunkKeyEncodingTraits,
+>(
+    alloc: Global,
+    source: &StoredArray<G, E>,
+    target: &StoredArray<H, F>,
+    most: u64,
+) -> Result<Option<StagesCounts>, RunFault>
+    requires one_array { array_sizes (G.dimensions source.now.grid)
+        ≡ array_sizes (H.dimensions target.now.grid) }
+    requires keys { HasKeys (E.is_key source.now.encoding) }
+    requires target_keys { HasKeys (F.is_key target.now.encoding) }
+    ensures found { IfOk result (λ found. MatchOption found
+        (FindsShape (G.dimensions source.now.grid) (H.dimensions target.now.grid) most None)
+        (AreCountsBetween (G.dimensions source.now.grid) (E.is_key source.now.encoding)
+        (H.dimensions target.now.grid) (F.is_key target.now.encoding) most)) }
+    ensures refused { IfErr result (λ fault. (fault ≡ Memory) ⊎ TellsStages (IsStagesFault
+        (G.dimensions source.now.grid) (H.dimensions target.now.grid)) fault) }
+{
+    let Some(between) = find_between(alloc, &source.grid, &target.grid, most)? else {
+        return Ok(None);
+    };
+    let Between { shape, array } = between;
+    let first = counts_of_all(alloc, source, &array)?;
+    let second = counts_of_all(alloc, &array, target)?;
+    Ok(Some(StagesCounts {
+        shape,
+        first,
+        second,
+    }))
+}
+
+/// Whether the lines of a rechunking in one stage hold at most so many elements.
+fn fits_one_stage<G: ChunkGridTraits, H: ChunkGridTraits>(
+    alloc: Global,
+    source: &G,
+    target: &H,
+    most: u64,
+) -> Result<bool, RunFault>
+    requires { array_sizes (G.dimensions source.now) ≡ array_sizes (H.dimensions target.now) }
+    ensures held { IfOk result (λ fits. (largest other : List ℕ)
+        × IsLargest (G.dimensions source.now) largest × IsLargest (H.dimensions target.now) other
+        × (IsTrue fits ↔ HoldAtMost most largest other)) }
+    ensures refused { IfErr result (λ fault. (fault ≡ Memory) ⊎ TellsStages (IsBoundFault
+        (G.dimensions source.now) (H.dimensions target.now)) fault) }
+{
+    match hold_at_most(alloc, source, target, most) {
+        Ok(fits) => Ok(fits),
+        // Never: the grids are of one array.
+        Err(Refusal::Refused(StagesError::ArrayShapes)) => unreachable!(),
+        Err(Refusal::Refused(error)) => Err(RunFault::Stages(error)),
+        Err(Refusal::Memory(_)) => Err(RunFault::Memory),
+    }
+}
+
+/// Sends what is wanted of the plan of a rechunking into all chunks of the target.
+fn write_whole<
+    G: ChunkGridTraits,
+    E: ChunkKeyEncodingTraits,
+    H: ChunkGridTraits,
+    F: ChunkKeyEncodingTraits,
+    W: Write,
+>(
+    alloc: Global,
+    source: &StoredArray<G, E>,
+    target: &StoredArray<H, F>,
+    wanted: &Wanted,
+    held_back: &mut Vec<u8>,
+    writer: &mut Watched<W>,
+) -> Result<(), RunFault>
+    requires one_array { array_sizes (G.dimensions source.now.grid)
+        ≡ array_sizes (H.dimensions target.now.grid) }
+    requires keys { HasKeys (E.is_key source.now.encoding) }
+    requires target_keys { HasKeys (F.is_key target.now.encoding) }
+    ensures { StepLeaves
+        (IsWholeText (G.dimensions source.now.grid) (E.is_key source.now.encoding)
+        (H.dimensions target.now.grid) (F.is_key target.now.encoding) (wanted_of wanted.now))
+        (λ _. ⊥) result
+        (output W.contents held_back.old.items writer.old)
+        (output W.contents held_back.new.items writer.new) }
+{
+    let chunks = all_chunks(alloc, &target.grid)?;
+    let order = Order::Target;
+    write_rechunking(
+        alloc, source, target, &chunks, order, wanted, held_back, writer,
+    )
+}
+
+/// The counts of a rechunking into all chunks of the target.
+///
+/// # Errors
+/// Out of memory.
+fn counts_of_all<
+    G: ChunkGridTraits,
+    E: ChunkKeyEncodingTraits,
+    H: ChunkGridTraits,
+    F: ChunkKeyEncodingTraits,
+>(
+    alloc: Global,
+    source: &StoredArray<G, E>,
+    target: &StoredArray<H, F>,
+) -> Result<Counts, AllocError>
+    requires one_array { array_sizes (G.dimensions source.now.grid)
+        ≡ array_sizes (H.dimensions target.now.grid) }
+    requires keys { HasKeys (E.is_key source.now.encoding) }
+    requires target_keys { HasKeys (F.is_key target.now.encoding) }
+    ensures { IfOk result (AreCountsOfAll (G.dimensions source.now.grid)
+        (E.is_key source.now.encoding) (H.dimensions target.now.grid)
+        (F.is_key target.now.encoding)) }
+{
+    let chunks = all_chunks(alloc, &target.grid)?;
+    match counts_of_rechunking(alloc, source, target, &chunks) {
+        Ok(counts) => Ok(counts),
+        // Never: the arrays have one shape, and the box of all chunks has the target's number of dimensions.
+        Err(Refusal::Refused(_)) => unreachable!(),
+        Err(Refusal::Memory(error)) => Err(error),
+    }
+}
