@@ -1,13 +1,15 @@
 #!/usr/bin/env python3
 """Prints what `chunkplan` reads for a rechunking, or for the copy of a region, from the metadata of both arrays.
 
-    document_of.py SOURCE TARGET [--subset START SHAPE [--at INDEX] | --by-source] [--share T N] [--keys]
+    document_of.py SOURCE TARGET [--subset START SHAPE [--at INDEX] | --by-source | --max-elements N [--stage S]]
+                                 [--share T N] [--keys]
 
-SOURCE and TARGET are folders of Zarr arrays, of format 2 or 3. With --subset it is a box of the source that is copied, to
-where it begins at an index in the target. With --by-source it asks for a line for each chunk of the source. With --share it
-asks for the share T of N. With --keys the keys that TARGET has stand behind the document, but for those of metadata and of
-what isn't finished. Where the target can't have the source's elements, or an array is one that isn't moved here, it says so
-and ends with the status 1.
+SOURCE and TARGET are folders of Zarr arrays, of format 2 or 3. With --subset it is a box of the source that is copied,
+to where it begins at an index in the target. With --by-source it asks for a line for each chunk of the source. With
+--max-elements it asks for lines whose workers hold at most N elements: of one stage, or with --stage of the first or of
+the second one, by the array that `make_between.py` makes. With --share it asks for the share T of N. With --keys the
+keys that TARGET has stand behind the document, but for those of metadata and of what isn't finished. Where the target
+can't have the source's elements, or an array is one that isn't moved here, it says so and ends with the status 1.
 """
 import argparse
 import json
@@ -45,6 +47,8 @@ def main():
     parser.add_argument("target", metavar="TARGET")
     add_region(parser)
     parser.add_argument("--by-source", action="store_true", help="ask for a line for each chunk of the source")
+    parser.add_argument("--max-elements", type=int, metavar="N", help="ask for lines that hold at most N elements")
+    parser.add_argument("--stage", type=int, choices=(1, 2), help="ask for the lines of one of two stages")
     parser.add_argument("--share", nargs=2, type=int, metavar=("T", "N"), help="ask for the share T of N")
     parser.add_argument("--keys", action="store_true", help="leave out what TARGET has")
     words = parser.parse_args()
@@ -52,10 +56,8 @@ def main():
     document = document_of(open_array(words.source), target, words.subset, words.at)
     if words.by_source:
         document["order"] = "source"
-    if words.share:
-        document["share"] = words.share
-    if words.keys:
-        document["keys"] = True
+    asked = {"max_elements": words.max_elements, "stage": words.stage, "share": words.share, "keys": words.keys or None}
+    document |= {name: value for name, value in asked.items() if value is not None}
     print(json.dumps(document))
     if words.keys:
         print("".join(f"{key}\n" for key in keys_in(target.folder)), end="")

@@ -328,11 +328,11 @@ class Crc32c:
         self.crc32c = imported("crc32c", "python3-crc32c", "the codec crc32c").crc32c
 
     def encode(self, elements):
-        held = ensure_contiguous_ndarray(elements).view("u1").tobytes()
-        return held + struct.pack("<I", self.crc32c(held))
+        held = ensure_contiguous_ndarray(elements).view("u1").data
+        return b"".join([held, struct.pack("<I", self.crc32c(held))])
 
     def decode(self, stored):
-        held = ensure_contiguous_ndarray(stored).view("u1").tobytes()
+        held = ensure_contiguous_ndarray(stored).view("u1").data
         if len(held) < 4 or struct.unpack("<I", held[-4:])[0] != self.crc32c(held[:-4]):
             raise ValueError("the checksum is another one")
         return held[:-4]

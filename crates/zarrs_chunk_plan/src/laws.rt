@@ -276,9 +276,10 @@ pub fn two_stages_are_together_one<
         mid_chunk mid_place to_chunk to_place) }
 {}
 
-/// Where a largest chunk of the source and a largest one of the target have together at most so many elements, so do the two chunks of each copy. So a
-/// worker holds at most as many who makes a chunk of the target and reads those of the source one after another. Of an array whose chunks are all of one
-/// shape none is longer than that, which tells it of either stage by an array between whose shape fits.
+/// Where no chunk of the source and none of the target is longer than two shapes that have together at most so many elements, as those of largest
+/// chunks, the two chunks of each copy have no more. So a worker that makes a chunk of the target, and reads those of the source one after another,
+/// holds at most as many. Where all chunks of an array are of one shape, none is longer than that: so it holds of either stage by an array between
+/// whose shape fits.
 pub fn each_line_holds_at_most<
     G: ChunkGridTraits,
     E: ChunkKeyEncodingTraits,

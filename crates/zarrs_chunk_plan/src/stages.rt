@@ -37,13 +37,14 @@ use zarrs_chunks::{ChunkGridTraits, RegularChunkGrid};
 /// How many shapes are tried, at most.
 const MOST_SHAPES: u64 = 1 << 20;
 
-/// Whether a chunk of the one grid and a chunk of the other have together at most so many elements, whichever two it is that hold elements of the
-/// array. That is what a worker holds who makes a chunk of the target and reads the chunks of the source one after another.
+/// Whether a largest chunk of the one grid and a largest one of the other have together at most so many elements, of those that hold elements of the
+/// array; where it has none, each has one. A worker that makes a chunk of the target, and reads the chunks of the source one after another, holds no
+/// more then ([`each_line_holds_at_most`](crate::laws::each_line_holds_at_most)).
 ///
 /// It takes the time of a look-up for each chunk along each dimension by itself.
 ///
 /// # Errors
-/// The grids are of arrays of different shapes; one of them has more than 2^24 chunks along some dimension; or out of memory.
+/// The grids are of arrays of different shapes; in one of them more than 2^24 chunks along some dimension hold elements; or out of memory.
 pub fn hold_at_most<G: ChunkGridTraits, H: ChunkGridTraits>(
     alloc: Global,
     source: &G,
@@ -79,15 +80,14 @@ fn are_at_most(shape: &[u64], other: &[u64], most: u64) -> bool
     }
 }
 
-/// The chunk shape of an array between, by which a rechunking in two stages reads the fewest chunks, of the shapes that are tried. Both stages
-/// together move each element as the one rechunking does ([`two_stages_are_together_one`](crate::laws::two_stages_are_together_one)).
+/// The chunk shape of an array between, the intermediate array of a rechunking in two stages, of which a line holds at most `most` elements. Both
+/// stages together move each element as the one rechunking does ([`two_stages_are_together_one`](crate::laws::two_stages_are_together_one)).
 ///
-/// - Along each dimension the edges tried are the lesser of the two arrays' greatest edges, doubled as long as it stays below the greater one, and
-///   that; none is longer than the array.
-/// - A shape is tried for each choice of one edge along each dimension.
-/// - It fits where one chunk of this shape and any chunk of the source together have at most `most` elements, and so with any chunk of the target.
-/// - Of those that fit, it is one by which both stages together read the fewest chunks, with repeats: a chunk that is in several lines counts in
-///   each.
+/// - The edges tried along a dimension are the lesser of the greatest edges of both arrays, doubled as long as it stays below the greater one, and
+///   that; both are first cut to the size of the array.
+/// - A shape fits where one of its chunks and a largest chunk of the source have together at most `most` elements, and so with the target.
+/// - Of the shapes that fit, it is the one by which both stages together read the fewest chunks: one that is in several lines counts in each, up to
+///   18446744073709551615 in all. Of several such, it is the first in row-major order. So either stage is by the same array, whoever asks for it.
 ///
 /// `None` where none fits.
 ///
@@ -95,8 +95,7 @@ fn are_at_most(shape: &[u64], other: &[u64], most: u64) -> bool
 /// tried; and that of some multiplications for each shape.
 ///
 /// # Errors
-/// The grids are of arrays of different shapes; one of them has more than 2^24 chunks along some dimension; there are more than 2^20 shapes
-/// to try; or out of memory.
+/// As of [`hold_at_most`], the first that applies; then, there are more than 2^20 shapes to try; or out of memory.
 pub fn shape_between<G: ChunkGridTraits, H: ChunkGridTraits>(
     alloc: Global,
     source: &G,

@@ -7,7 +7,7 @@ pub enum StagesError {
     /// The grids are of arrays of different shapes.
     #[error("the source and the target have different array shapes")]
     ArrayShapes,
-    /// The source or the target has too many chunks to go through.
+    /// Too many chunks of the source or of the target hold elements, to go through them.
     #[error("the source or the target has more than 16777216 chunks along a dimension, too many to go through")]
     ManyChunks,
     /// There are too many chunk shapes to try.

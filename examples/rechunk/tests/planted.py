@@ -95,6 +95,28 @@ PLANTED = [
     ("`whole` of a piece is taken as it is", [("copy_chunks.py", 'if piece["whole"] is not (', 'if piece["whole"] is None and (')], "by_source.py lines"),
     ("a piece that is left out isn't missed", [("copy_chunks.py", "!= math.prod(held[1])", "> math.prod(held[1])")], "by_source.py lines"),
     ("what was done in one order is done in the other", [("copy_chunks.py", 'if line.get("order", "target") == order:', "if order:")], "by_source.py worker"),
+    ("both stages are the second one", [("two_stages.sh", '--stage "$1"', "--stage 2")], "two_stages.py script"),
+    ("the array between is left", [("two_stages.sh", 'rm -rf "$between" ', "rm -rf ")], "two_stages.py script"),
+    (
+        "what was done under another bound is passed over",
+        [("two_stages.sh", "&& ! cmp -s", "&& false && ! cmp -s")],
+        "two_stages.py script",
+    ),
+    (
+        "another array between is taken",
+        [("make_between.py", "if json.loads(path.read_text()) != metadata:", "if False:")],
+        "two_stages.py script",
+    ),
+    (
+        "the array between has another fill value",
+        [("make_between.py", "if source.fill is None else", "if True else")],
+        "two_stages.py kinds",
+    ),
+    (
+        "a worker keeps a chunk that it read",
+        [("copy_chunks.py", "while self.size > self.most:", "while self.size - elements.nbytes > self.most:")],
+        "two_stages.py memory",
+    ),
     ("the cache has no bound", [("copy_chunks.py", "while self.size > self.most:", "while False:")], "moves.py worker"),
 ]
 

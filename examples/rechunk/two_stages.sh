@@ -1,0 +1,39 @@
+#!/usr/bin/env bash
+# Rechunks in two stages, by an array between, so that a worker holds at most N elements.
+#
+#     two_stages.sh SOURCE TARGET ROOM N
+#
+# ROOM is a folder for the array between and for what was done, which a second run goes on from. The array between is
+# removed at the end. The environment may say which CHUNKPLAN and which PYTHON to run, and as CACHE how many megabytes
+# of chunks that were read a worker keeps besides (0).
+set -euo pipefail
+source=$(realpath "$1") target=$(realpath "$2") most=$4
+mkdir -p "$3"
+room=$(realpath "$3")
+tools=$(realpath "$(dirname "${BASH_SOURCE[0]}")")
+between=$room/between
+export CHUNKPLAN=${CHUNKPLAN:-chunkplan} PYTHON=${PYTHON:-python3}
+
+# Does a stage, from one array to another, and sees that each chunk was done.
+stage() {
+    local done=$room/done.$1
+    "$PYTHON" "$tools/document_of.py" "$source" "$target" --max-elements "$most" --stage "$1" | "$CHUNKPLAN" |
+        "$PYTHON" "$tools/copy_chunks.py" "$2" "$3" --cache "${CACHE:-0}" --done "$done" --resume "$done" > /dev/null
+    "$PYTHON" "$tools/check_done.py" "$3" "$done"
+}
+
+# What was done of one rechunking is nothing done of another.
+"$PYTHON" "$tools/document_of.py" "$source" "$target" --max-elements "$most" > "$room/document.new"
+echo "$source $target" >> "$room/document.new"
+if [ -e "$room/document" ] && ! cmp -s "$room/document" "$room/document.new"; then
+    echo "$room has another rechunking, or one of another number of elements" >&2
+    exit 1
+fi
+mv "$room/document.new" "$room/document"
+
+if ! "$PYTHON" "$tools/check_done.py" "$target" "$room/done.2" 2> /dev/null; then
+    "$PYTHON" "$tools/make_between.py" "$source" "$target" "$between" --max-elements "$most"
+    stage 1 "$source" "$between"
+    stage 2 "$between" "$target"
+fi
+rm -rf "$between" "$target/.unfinished"
