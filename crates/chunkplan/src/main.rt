@@ -12,6 +12,8 @@
 //! there are, takes of the lines the share with this number, counted from 0. With `counts` true there is one line in their place, of how much the plan
 //! copies, for who sizes tasks before they are planned. Neither goes with `resize`. With `keys` true, beside a `target`, the document is the first line, and
 //! each line behind it a key that the target's store has: the lines of what is there are left out, and keys that aren't the target's are told at the end.
+//! Of a rechunking, `order` gives a line for each chunk of the source; `max_elements` says how many elements a worker may hold, and `stage` gives the
+//! lines of one of two stages. Of a read, `item_size` adds which bytes of an uncompressed chunk are wanted.
 //!
 //! ```text
 //! {"shape":[4],"chunk_grid":{"name":"regular","configuration":{"chunk_shape":[3]}},
@@ -55,6 +57,10 @@ place of all: how many copies, elements, lines and source chunks there are.
 Neither goes with `resize`. With `keys` true, beside a `target`, the document is
 the first line, and each line behind it a key that the target's store has: what
 is there is left out, and keys that aren't the target's are told at the end.
+Of a rechunking, `order` `source` gives a line for each chunk of the source;
+`max_elements` says how many elements a worker may hold, and beside it `stage`,
+1 or 2, gives the lines of one of two stages. Of a read, `item_size` adds which
+bytes of an uncompressed chunk are wanted.
 
   {\"shape\":[4],\"chunk_grid\":{\"name\":\"regular\",\"configuration\":
    {\"chunk_shape\":[3]}},\"chunk_key_encoding\":\"default\",\"subset\":[[1],[3]]}
