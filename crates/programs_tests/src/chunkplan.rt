@@ -112,8 +112,8 @@ const RANGED: &[u8] =
     br#"{"shape":[4],"chunk_grid":{"name":"regular","configuration":{"chunk_shape":[3]}},"chunk_key_encoding":"v2","subset":[[1],[3]],"item_size":2,"max_ranges":1}"#;
 
 const RANGED_LINES: &[u8] =
-    br#"{"chunk":[0],"in_chunk":[[1],[2]],"in_subset":[[0],[2]],"key":"0","number":0,"of":2,"ranges":{"counts":[],"first":2,"length":4,"list":[[2,4]],"strides":[]},"shape":[3],"whole":false}
-{"chunk":[1],"in_chunk":[[0],[1]],"in_subset":[[2],[1]],"key":"1","number":1,"of":2,"ranges":{"counts":[],"first":0,"length":2,"list":[[0,2]],"strides":[]},"shape":[3],"whole":true}
+    br#"{"chunk":[0],"in_chunk":[[1],[2]],"in_subset":[[0],[2]],"key":"0","number":0,"of":2,"ranges":{"counts":[],"first":2,"length":4,"list":[[2,4]],"memory_order":"C","strides":[]},"shape":[3],"whole":false}
+{"chunk":[1],"in_chunk":[[0],[1]],"in_subset":[[2],[1]],"key":"1","number":1,"of":2,"ranges":{"counts":[],"first":0,"length":2,"list":[[0,2]],"memory_order":"C","strides":[]},"shape":[3],"whole":true}
 "#;
 
 /// A box of two rows of a matrix, of which no range is listed.
@@ -121,7 +121,7 @@ const UNLISTED: &[u8] =
     br#"{"shape":[4,5],"chunk_grid":{"name":"regular","configuration":{"chunk_shape":[4,5]}},"chunk_key_encoding":"v2","subset":[[1,2],[2,3]],"item_size":2,"memory_order":"F","max_ranges":2}"#;
 
 const UNLISTED_LINE: &[u8] =
-    br#"{"chunk":[0,0],"in_chunk":[[1,2],[2,3]],"in_subset":[[0,0],[2,3]],"key":"0.0","number":0,"of":1,"ranges":{"counts":[3],"first":18,"length":4,"list":null,"strides":[8]},"shape":[4,5],"whole":false}
+    br#"{"chunk":[0,0],"in_chunk":[[1,2],[2,3]],"in_subset":[[0,0],[2,3]],"key":"0.0","number":0,"of":1,"ranges":{"counts":[3],"first":18,"length":4,"list":null,"memory_order":"F","strides":[8]},"shape":[4,5],"whole":false}
 "#;
 
 const ITEM_SIZE_OF_TARGET: &[u8] =

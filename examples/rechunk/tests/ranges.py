@@ -37,7 +37,7 @@ def counted_out(ranges):
     return [[ranges["first"] + sum(k * stride for k, stride in zip(step, ranges["strides"])), ranges["length"]] for step in steps]
 
 
-def read_box(folder, dtype, order, fill, shape, lines):
+def read_box(folder, dtype, fill, shape, lines):
     """What the lines read of a box of this shape, and how many bytes of each file, of which none is read twice."""
     elements, bytes_read = numpy.full(shape, fill, dtype), 0
     for line in lines:
@@ -51,7 +51,7 @@ def read_box(folder, dtype, order, fill, shape, lines):
                     held, end = held + file.read(length), begin + length
         except FileNotFoundError:
             continue
-        elements[slices(*line["in_subset"])] = numpy.frombuffer(held, dtype).reshape(size, order=order)
+        elements[slices(*line["in_subset"])] = numpy.frombuffer(held, dtype).reshape(size, order=line["ranges"]["memory_order"])
         bytes_read += len(held)
     return elements, bytes_read
 
@@ -76,7 +76,7 @@ def boxes(chunkplan, generator, count):
             asked, of = {"subset": box, "max_ranges": generator.choice([0, 1, 2, 5, 2**64 - 1])}, generator.randint(1, 3)
             lines = [line for task in range(of) for line in plan_of(chunkplan, array, order, **asked, share=[task, of])]
             what = f"{order}, box {number} of {dtype}, {box} of {shape}"
-            found, bytes_read = read_box(room, dtype, order, fill, box[1], lines)
+            found, bytes_read = read_box(room, dtype, fill, box[1], lines)
             there = sum(math.prod(line["in_chunk"][1]) for line in lines if (room / line["key"]).exists())
             yield what, same(found, elements[(*slices(*box), ...)]) and bytes_read == there * dtype.itemsize
             listed = [(line["ranges"]["list"], counted_out(line["ranges"])) for line in lines]
@@ -93,7 +93,7 @@ def clipped(chunkplan, generator, count):
             room = pathlib.Path(room)
             make_2(room, [60, 50, 7], [60, 32, 7], dtype="<f8", order=order, filters=None, compressor=None)[...] = elements
             lines = plan_of(chunkplan, open_array(room), order, subset=[[40, 30, 2], [30, 8, 5]], clip=True)
-            found, bytes_read = read_box(room, numpy.dtype("<f8"), order, -1, [30, 8, 5], lines)
+            found, bytes_read = read_box(room, numpy.dtype("<f8"), -1, [30, 8, 5], lines)
             expected = numpy.full([30, 8, 5], -1.0)
             expected[:20] = elements[40:60, 30:38, 2:7]
             yield f"{order}: the elements", numpy.array_equal(found, expected) and bytes_read == 20 * 8 * 5 * 8

@@ -11,12 +11,14 @@ use Rattle.zarrs_chunk_plan.specs.Rechunking.{Group}
 use Rattle.zarrs_chunk_plan.specs.Region.{shifted}
 use Rattle.zarrs_chunk_plan.specs.Shares.{before_share, share_of}
 use Rattle.zarrs_chunk_plan.specs.Strided.{Strided, ranges_of}
+use Rattle.zarrs_chunk_plan.specs.declared.bytes.MemoryOrder.{MemoryOrder}
 use Rattle.zarrs_chunk_plan.specs.declared.part.Part.{Part}
 use Rattle.zarrs_chunk_plan.specs.declared.resize.Change.{Change}
 use Rattle.zarrs_chunk_plan.specs.declared.resize.Change.TheVariants.{Delete, Keep, New, Rewrite}
 use Rattle.zarrs_chunk_plan.specs.declared.resize.ChunkChange.{ChunkChange}
 use Rattle.zarrs_chunk_plan.specs.declared.resize.Held.{Held}
 use Rattle.zarrs_chunk_plan.specs.declared.share.Share.{Share}
+use Rattle.zarrs_chunk_questions.specs.Order.{order_text}
 use Rattle.programs.specs.chunkplan.Document.{RangesWanted}
 use Rattle.programs.specs.declared.chunkplan.line.Order.{Order}
 use Rattle.programs.specs.declared.chunkplan.line.Order.TheVariants.{Source, Target}
@@ -58,20 +60,21 @@ range_items long (start ∷ starts) = item (numbers_json (start ∷ long ∷ [])
 abbrev pub list_json : (most length : ℕ) → (starts : List ℕ) → Json
 list_json most long starts = cond (nat_le (length starts) most) (array (range_items long starts)) null
 
--- byte ranges in their strided form, and the list of them; null for `None`
-abbrev pub strided_json : (most : ℕ) → Option Strided → Json
-strided_json most (Some s) =
+-- byte ranges in their strided form, the list of them, and the order in which a chunk's elements are stored; null for `None`
+abbrev pub strided_json : (most : ℕ) → MemoryOrder → Option Strided → Json
+strided_json most order (Some s) =
     object (member (codes "counts") (numbers_json s.counts)
     (member (codes "first") (number (decimal s.first))
     (member (codes "length") (number (decimal s.length))
     (member (codes "list") (list_json most s.length (begins s.first s.counts s.strides))
-    (member (codes "strides") (numbers_json s.strides) no_members)))))
-strided_json most None = null
+    (member (codes "memory_order") (string (order_text order))
+    (member (codes "strides") (numbers_json s.strides) no_members))))))
+strided_json most order None = null
 
 -- the byte ranges of a part's box in its chunk, as they are wanted
 abbrev pub part_ranges_json : RangesWanted → Part → Json
 part_ranges_json wanted part =
-    strided_json wanted.most (ranges_of wanted.item wanted.order part.shape.items part.in_chunk.start part.in_chunk.shape)
+    strided_json wanted.most wanted.order (ranges_of wanted.item wanted.order part.shape.items part.in_chunk.start part.in_chunk.shape)
 
 -- a member for them, where they are wanted, before others
 abbrev pub with_ranges : Option RangesWanted → Part → Members → Members

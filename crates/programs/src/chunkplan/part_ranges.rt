@@ -2,12 +2,13 @@
 ghost use Rattle.std.specs.Prelude.{◌≡◌, ◌∷◌, IfOk, IfSome, OnOk, Some, codes, length, option_map};
 ghost use Rattle.std.specs.Int.NonZero.{non_zero_u64_get};
 ghost use Rattle.json.specs.Json.{array};
-ghost use Rattle.json.specs.Token.{key};
+ghost use Rattle.json.specs.Token.{key, string};
 ghost use Rattle.json.specs.Tree.{json_tokens};
 ghost use Rattle.zarrs_chunk_plan.specs.Bytes.{HasPast, begins};
 ghost use Rattle.zarrs_chunk_plan.specs.Strided.{form_of, ranges_of};
+ghost use Rattle.zarrs_chunk_questions.specs.Order.{order_text};
 ghost use Rattle.programs.specs.chunkplan.Document.{ranges_asked_of};
-ghost use Rattle.programs.specs.chunkplan.Line.{list_json, part_ranges_json, range_items, strided_json};
+ghost use Rattle.programs.specs.chunkplan.Line.{list_json, numbers_json, part_ranges_json, range_items, strided_json};
 ghost use Rattle.programs.specs.chunkplan.seen.Added.{Adds};
 
 use crate::chunkplan::line::{write_count, write_list, write_null, write_numbers};
@@ -15,7 +16,7 @@ use crate::chunkplan::ranges::RangesAsked;
 use json::Writer;
 use std::alloc::{AllocError, Global};
 use zarrs_chunk_base::Refusal;
-use zarrs_chunk_plan::{ByteRanges, Part, byte_ranges};
+use zarrs_chunk_plan::{ByteRanges, MemoryOrder, Part, byte_ranges};
 
 /// Writes the member `ranges`: the byte ranges of a part's box in its chunk.
 ///
@@ -31,7 +32,7 @@ pub(crate) fn write_ranges(
         ∷ json_tokens (part_ranges_json (ranges_asked_of wanted.now) part.now))) }
 {
     match part_ranges(alloc, wanted, part)? {
-        Some(ranges) => write_strided(alloc, json, &ranges, wanted.most),
+        Some(ranges) => write_strided(alloc, json, &ranges, wanted.order, wanted.most),
         None => write_null(json, "ranges"),
     }
 }
@@ -62,18 +63,20 @@ fn part_ranges(
     }
 }
 
-/// Writes the member `ranges`: byte ranges in their strided form, and the list of them, where they are at most so many.
+/// Writes the member `ranges`: byte ranges in their strided form, the list of them, where they are at most so many, and the order in which a chunk's
+/// elements are stored.
 fn write_strided(
     alloc: Global,
     json: &mut Writer,
     ranges: &ByteRanges,
+    order: MemoryOrder,
     most: u64,
 ) -> Result<(), AllocError>
     requires fit { ¬ HasPast (begins ranges.now.first ranges.now.counts.items
         ranges.now.strides.items) }
     requires lists { length ranges.now.counts.items ≡ length ranges.now.strides.items }
     ensures { OnOk result (Adds json.old json.new (key (codes "ranges")
-        ∷ json_tokens (strided_json most (Some (form_of ranges.now))))) }
+        ∷ json_tokens (strided_json most order (Some (form_of ranges.now))))) }
 {
     json.key("ranges")?;
     json.begin_object()?;
@@ -81,9 +84,35 @@ fn write_strided(
     write_count(json, "first", Some(ranges.first))?;
     write_count(json, "length", Some(ranges.length))?;
     write_range_list(alloc, json, ranges, most)?;
-    write_numbers(json, "strides", &ranges.strides)?;
+    write_order_and_strides(json, order, &ranges.strides)?;
     json.end_object()?;
     Ok(())
+}
+
+/// Writes the members `memory_order` and `strides`.
+fn write_order_and_strides(
+    json: &mut Writer,
+    order: MemoryOrder,
+    strides: &[u64],
+) -> Result<(), AllocError>
+    ensures { OnOk result (Adds json.old json.new (key (codes "memory_order")
+        ∷ string (order_text order) ∷ key (codes "strides")
+        ∷ json_tokens (numbers_json strides.now))) }
+{
+    json.key("memory_order")?;
+    json.string(text_of(order))?;
+    write_numbers(json, "strides", strides)?;
+    Ok(())
+}
+
+/// An order as the document names it.
+fn text_of(order: MemoryOrder) -> &'static str
+    ensures { result.now ≡ order_text order }
+{
+    match order {
+        MemoryOrder::C => "C",
+        MemoryOrder::F => "F",
+    }
 }
 
 /// Writes the member `list`: the byte ranges, one after another, where they are at most so many.
