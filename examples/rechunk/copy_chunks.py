@@ -182,6 +182,11 @@ def is_shared(to):
     return not to.get("whole", True)
 
 
+def keeps_some(line, to):
+    """Whether a chunk that a line writes keeps elements that it had: those of other lines, or beside the region."""
+    return is_shared(to) or not line.get("whole", True)
+
+
 def line_of(text, source, target, region):
     """A line of a plan, checked against both arrays."""
     try:
@@ -391,7 +396,7 @@ def copy(lines, source, target, region, words):
                 raise Refused(f"line {line['number']}: other lines write chunk {shared[0]}, too: one worker has to do them all, with --alone")
             for to in filled(chunk, line, sources, target):
                 try:
-                    store.put(to["chunk"], chunk, lasting=is_shared(to) and not words.no_sync)
+                    store.put(to["chunk"], chunk, lasting=keeps_some(line, to) and not words.no_sync)
                 except OSError as error:
                     raise Refused(f"chunk {to['key']} of {target.folder} can't be written: {error}") from error
                 written += 1

@@ -22,7 +22,7 @@ import zarr
 import moves  # which has the folder of the scripts on the path
 from copy_chunks import Sources, done_in, filled, line_of
 from document_of import document_of
-from moves import FORMAT_3, TYPES, edits, forget_some, is_refused, is_whole, make_2, random_elements, same, shapes, split, store, tool
+from moves import FORMAT_3, TYPES, disk_steps, edits, forget_some, is_refused, is_whole, make_2, random_elements, same, shapes, split, store, tool
 from region import region_between
 from regions import slices, stored
 from stored_arrays import open_array
@@ -123,6 +123,8 @@ def worker(chunkplan, generator, count):
         yield "each read once", "12 chunks written, 2 read" in first.stderr
         again = tool("copy_chunks.py", *ends, "--alone", input=plan[5])
         yield "one of them again", again.returncode == 0
+        steps = disk_steps(*ends, "--alone", input=plan[5])
+        yield "each takes the place of the old one when the disk has it", steps == ["fsync", "rename"] * len(json.loads(plan[5])["to"])
         told = tool("check_done.py", ends[1], room / "done", "--by-source", ends[0])
         yield "six are missing", told.returncode == 1 and "6 of 8 chunks weren't done: 0.0, 1.0, 3.0, 4.0, 6.0, .." in told.stderr
         told = tool("check_done.py", ends[1], room / "done")

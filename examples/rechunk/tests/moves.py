@@ -82,6 +82,24 @@ def tool(name, *words, **options):
     return subprocess.run([*command, *map(str, words)], capture_output=True, text=True, **options)
 
 
+# A worker that says on standard error when it waits for the disk to have a file, and when it renames one.
+TOLD = """
+import os, pathlib, runpy, sys
+fsync, rename = os.fsync, pathlib.Path.rename
+os.fsync = lambda file: (print("fsync", file=sys.stderr), fsync(file))
+pathlib.Path.rename = lambda path, to: (print("rename", file=sys.stderr), rename(path, to))
+sys.argv = sys.argv[1:]
+sys.path.insert(0, os.path.dirname(sys.argv[0]))
+runpy.run_path(sys.argv[0], run_name="__main__")
+"""
+
+
+def disk_steps(*words, **options):
+    """What a worker does with its files, step by step."""
+    command = [sys.executable, "-c", TOLD, TOOLS / "copy_chunks.py", *words]
+    return subprocess.run(list(map(str, command)), capture_output=True, text=True, check=True, **options).stderr.split()
+
+
 def by_engine(engine, chunkplan, source, target, words):
     """document_of .. | chunkplan | .. copy_chunks.py, the lines that it prints, and whether it succeeded."""
     worker = list(map(str, [sys.executable, TOOLS / "copy_chunks.py", source, target]))

@@ -84,6 +84,11 @@ PLANTED = [
         [("copy_chunks.py", '        chunk[...] = target.read(line["to"]["chunk"])\n', "        chunk[...] = 0\n")],
         "regions.py copies",
     ),
+    (
+        "a chunk that a crash may lose takes the place of what it keeps",
+        [("copy_chunks.py", ' or not line.get("whole", True)\n', "\n")],
+        "regions.py faults",
+    ),
     ("a region's chunks are counted from the array's first", [("region.py", " + step - first", " + step")], "regions.py copies"),
     ("elements that left stay in a chunk at the border", [("resize_array.py", "    chunk[kept] = elements[kept]\n", "    chunk[...] = elements\n")], "resizes.py resizes"),
     ("a chunk that is new keeps what was there", [("resize_array.py", 'in ("delete", "new")', 'in ("delete",)'), ("resize_array.py", '    else:\n        raise', '    elif line["what"] != "new":\n        raise')], "resizes.py faults"),

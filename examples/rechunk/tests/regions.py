@@ -20,7 +20,7 @@ import numpy
 import zarr
 
 import moves  # which has the folder of the scripts on the path
-from moves import FORMAT_3, TYPES, forget_some, is_refused, make_2, move, plan_of, random_elements, same, store, tool
+from moves import FORMAT_3, TYPES, disk_steps, forget_some, is_refused, make_2, move, plan_of, random_elements, same, store, tool
 from region import region_between
 from stored_arrays import open_array
 
@@ -221,6 +221,10 @@ def faults(chunkplan, generator, count):
         first = stored(ends[1])
         told = tool("copy_chunks.py", *ends, *WORDS, "--verbose", input="".join(plan))
         yield "once more, each chunk of the source read once", "6 chunks written, 4 read" in told.stderr and stored(ends[1]) == first
+        # a chunk that keeps some of its elements takes the place of the old one when the disk has it
+        for number, steps in ((0, ["fsync", "rename"]), (2, ["rename"])):
+            yield f"line {number} on the disk", disk_steps(*ends, *WORDS, input=plan[number]) == steps
+            yield f"line {number}, which isn't waited for", disk_steps(*ends, *WORDS, "--no-sync", input=plan[number]) == ["rename"]
         # without a fill value nothing says what a chunk holds besides
         zarray = json.loads((ends[1] / ".zarray").read_text())
         (ends[1] / ".zarray").write_text(json.dumps({**zarray, "fill_value": None}))
