@@ -7,21 +7,18 @@ use Rattle.zarrs_chunk_base.specs.Dimension.{Dimension, InBox, IsChain, array_si
 use Rattle.zarrs_chunk_axes.specs.InBounds.{AreBelow}
 use Rattle.zarrs_chunks.specs.Walks.{chunks_in}
 use Rattle.zarrs_chunks.proofs.Chains.{same_box}
-use Rattle.zarrs_chunks.proofs.ChunksInBoxes.{are_those_inside}
-use Rattle.zarrs_chunks.proofs.Meeting.{cover_meets}
 use Rattle.zarrs_chunk_plan.specs.Counts.{AreRechunkingCounts, product}
-use Rattle.zarrs_chunk_plan.specs.Plan.{IsPart, Meets}
+use Rattle.zarrs_chunk_plan.specs.Plan.{Meets}
 use Rattle.zarrs_chunk_plan.specs.Rechunking.{AreCopiesInto, AreTargets, Group, IsRechunking, Moves, array_box, copies_of}
 use Rattle.zarrs_chunk_plan.specs.Region.{EndWithin}
 use Rattle.zarrs_chunk_plan.specs.declared.counts.Counts.{Counts}
 use Rattle.zarrs_chunk_plan.specs.declared.part.Part.{Part}
 use Rattle.zarrs_chunk_plan.specs.seen.Sources.{AreTaking, counters, met_in}
 use Rattle.zarrs_chunk_plan.specs.seen.TargetCounts.{AreTargetCounts}
-use Rattle.zarrs_chunk_plan.proofs.CopyLists.{copy_of}
 use Rattle.zarrs_chunk_plan.proofs.CountedGroups.{copies_are, copies_each, copies_of_all, each_meets, largest_is, lines_are, many_same}
+use Rattle.zarrs_chunk_plan.proofs.Exchanged.{what_it_is_of}
 use Rattle.zarrs_chunk_plan.proofs.MetCovers.{as_many_counters}
 use Rattle.zarrs_chunk_plan.proofs.MovedBoxes.{whole_within}
-use Rattle.zarrs_chunk_plan.proofs.Plans.{not_empty, source_of}
 use Rattle.zarrs_chunk_plan.proofs.Products.{met_by_all, sum_of_products}
 use Rattle.zarrs_chunk_plan.proofs.Rechunkings.{in_array, origin_of, some_copy, those_are}
 use Rattle.zarrs_chunk_plan.proofs.SameBoxes.{chunks_of_same}
@@ -84,19 +81,12 @@ module _ (source : List Dimension) (IsSourceKey : List ℕ → List ℕ → Type
   read_from : (copy : Part × Part) → Contains (copies_of groups) copy
       → (index : List ℕ) × InBox source copy.0.chunk.items index × IsWritten target targets index
   read_from copy among =
-      let (chunk, parts, counted, into, in_parts) = copy_of Into (chunks_in targets) groups are_groups copy among in
-      let inside = (are_those_inside targets taking.is_box chunk).0 counted in
-      let meets = taking.meet chunk inside in
-      let cover = into.from.cover in
-      let (s, in_cover, is_from) =
-      source_of (IsPart source IsSourceKey copy.1.in_subset) (chunks_in cover) parts into.from.are_parts copy.0 in_parts in
-      let (index, box, in_subset) =
-      (cover_meets source copy.1.in_subset cover chains into.to.boxes.from_subset.is_box
-      (not_empty target IsTargetKey (array_box target) chunk copy.1 into.to meets) into.from.is_cover s).0
-      ((are_those_inside cover into.from.is_cover.is_box s).0 in_cover)
-      in
-      let (in_chunk, in_all) = (those_are target IsTargetKey chunk copy.1 into.to meets index).0 in_subset in
-      (index, subst (λ c. InBox source c index) (sym is_from.numbers) box, ((in_array target index).1 in_all, (chunk, inside, in_chunk)))
+      let of = what_it_is_of source IsSourceKey target IsTargetKey chains chunks groups plan copy among in
+      let (in_chunk, in_all) = (those_are target IsTargetKey of.t copy.1 of.is_to of.meets of.index).0 of.within in (
+        of.index,
+        subst (λ c. InBox source c of.index) (sym of.is_from.numbers) of.in_source,
+        ((in_array target of.index).1 in_all, (of.t, (are_targets of.t).1 (of.inside, of.meets), in_chunk)),
+      )
 
   -- all copies are as many as what is found dimension by dimension makes
   pub copies_many : length (copies_of groups)

@@ -33,6 +33,7 @@ module _ (source : List Dimension) (IsSourceKey : List ℕ → List ℕ → Type
   -- its chunk of the target and its part of it, its chunk of the source and its part of that, and an element that both hold
   pub record IsOf (chunks : Box) (copy : Part × Part) : Type 0 where
     pub t : List ℕ
+    pub inside : IsInside chunks t
     pub meets : Meets target (array_box target) t
     pub is_to : IsPart target IsTargetKey (array_box target) t copy.1
     pub s : List ℕ
@@ -53,7 +54,7 @@ module _ (source : List Dimension) (IsSourceKey : List ℕ → List ℕ → Type
       let (index, box, within) = (cover_meets source copy.1.in_subset into.from.cover chains into.to.boxes.from_subset.is_box some into.from.is_cover s).0
       ((are_those_inside into.from.cover into.from.is_cover.is_box s).0 in_cover)
       in
-      record { t = t; meets = meets; is_to = into.to; s = s; is_from = is_from; index = index; in_source = box; within = within }
+      record { t = t; inside = inside; meets = meets; is_to = into.to; s = s; is_from = is_from; index = index; in_source = box; within = within }
 
 -- ---- the other way round
 
