@@ -22,7 +22,7 @@ import typing
 
 import numpy as np
 import zarrs_chunks
-from built import CRATES, vectors
+from built import CRATES, IS_THOROUGH, vectors
 from byte_ranges import byte_ranges as model_ranges
 from byte_ranges import fault_of_ranges, great_boxes, small_boxes
 from call_names import CALLS
@@ -924,7 +924,7 @@ def values_of_bytes(tally):
 
 
 def program(tally):
-    """`python -m zarrs_chunks`: each vector, one after another and in turn, words, and outputs that fail."""
+    """`python -m zarrs_chunks`: each tenth vector, with `--thorough` each, one after another and in turn, words, and outputs that fail."""
     command, environment = [sys.executable, "-m", "zarrs_chunks"], {**os.environ, "PYTHONPATH": str(PACKAGE.parent)}
     environment.pop("PYTHONUNBUFFERED", None)
 
@@ -933,8 +933,9 @@ def program(tally):
         run = subprocess.run([*command, *words], stderr=subprocess.PIPE, env=environment, **streams)
         return run.returncode, run.stdout, run.stderr.decode()
 
-    questions, answers = ("".join(f"{line}\n" for line in lines).encode() for lines in zip(*vectors()))
-    tally.same("all vectors", ended(text=questions), (0, answers, ""))
+    asked = vectors() if IS_THOROUGH else vectors()[::10]
+    questions, answers = ("".join(f"{line}\n" for line in lines).encode() for lines in zip(*asked))
+    tally.same("vectors", ended(text=questions), (0, answers, ""))
     tally.same("a last line without a line feed", ended(text=questions[:-1]), (0, answers, ""))
     tally.same("no lines", ended(), (0, b"", ""))
     unreadable = b"unreadable: not JSON\n"

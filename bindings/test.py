@@ -2,10 +2,11 @@
 """Runs the shared library of `bindings/build.py`, from both of the kit's compilers, and tells what it answers otherwise
 than it should.
 
-    bindings/test.py
+    bindings/test.py [--thorough]
 
 It needs numpy, a C compiler `cc`, and `valgrind`; where one is missing it says so and ends with the status 1. Cargo is
-used where it is there. What is compared:
+used where it is there. LLVM's build is asked all of this; the one by Rattle's own compiler, unless `--thorough` asks for
+all, each tenth vector, batches, plans and the examples. What is compared:
 
 - every vector of `chunkcalls`, through `zarrs_answer`;
 - batches and plans with the same questions one by one, and batches with numpy's own division and `searchsorted`;
@@ -38,7 +39,7 @@ HERE = pathlib.Path(__file__).resolve().parent
 TOP = HERE.parent
 sys.path[:0] = [str(HERE / "python"), str(TOP / "measure"), str(TOP / "tools")]
 sys.dont_write_bytecode = True
-from built import vectors as questions_and_answers  # noqa: E402
+from built import IS_THOROUGH, vectors as questions_and_answers  # noqa: E402
 from extensions import GREATEST, GRIDS, grid_metadata, regular  # noqa: E402
 from memory import at_most, used  # noqa: E402
 from random_arrays import Generator  # noqa: E402
@@ -71,9 +72,9 @@ class Tally:
 # ---- the vectors
 
 
-def vectors(tally, library):
-    """Each vector, with a buffer that its answer fills, and with one that is a byte too short."""
-    needed, rows = ctypes.c_size_t(), questions_and_answers()
+def vectors(tally, library, rows):
+    """Vectors, each with a buffer that its answer fills, and with one that is a byte too short."""
+    needed = ctypes.c_size_t()
     for question, answer in ((question.encode(), answer.encode() + b"\n") for question, answer in rows):
         short = b"\7" * len(answer)
         for room, expected in ((len(answer), (0, answer)), (len(answer) - 1, (library.SHORT_BUFFER, short))):
@@ -401,12 +402,13 @@ def examples(tally, backend):
         checked = run(["valgrind", "-q", "--error-exitcode=9", "--leak-check=full", "--show-leak-kinds=all", program])
         tally.same(f"memcheck, {how}", checked, (0, EXAMPLE, ""))
     refused_one_by_one(tally, backend, out / "example_shared")
-    program, lines = out / "answer", [(TOP / "crates" / "chunkcalls" / name).read_bytes() for name in ("stdin", "stdout")]
+    program, rows = out / "answer", questions_and_answers()[:: 1 if IS_THOROUGH else 10]
+    questions, answers = ("".join(f"{line}\n" for line in lines).encode() for lines in zip(*rows))
     tally.same("cc, answer.c", compiled("answer.c", shared(out), program), (0, b"", ""))
-    ended = subprocess.run([program], input=lines[0], capture_output=True)
-    tally.same("all vectors by a program in C", (ended.returncode, ended.stdout, ended.stderr), (0, lines[1], b""))
+    ended = subprocess.run([program], input=questions, capture_output=True)
+    tally.same("vectors by a program in C", (ended.returncode, ended.stdout, ended.stderr), (0, answers, b""))
     # One may be there without the other, or without a toolchain.
-    if all(shutil.which(tool) and run([tool, "--version"])[0] == 0 for tool in ("cargo", "rustc")):
+    if is_whole(backend) and all(shutil.which(tool) and run([tool, "--version"])[0] == 0 for tool in ("cargo", "rustc")):
         places = {"ZARRS_CHUNKS_LIB_DIR": str(out), "CARGO_TARGET_DIR": str(out / "cargo")}
         ended = run(["cargo", "test", "--offline", "--quiet", "--manifest-path", HERE / "rust" / "zarrs_chunks" / "Cargo.toml"], **places)
         tally.same("the tests of the crate for Rust", (ended[0], ended[2] if ended[0] else ""), (0, ""))
@@ -422,26 +424,33 @@ def docstrings(tally):
         tally.same(f"docstrings of {name}", found.failed, 0)
 
 
+def is_whole(backend):
+    """Whether all is asked of a build."""
+    return IS_THOROUGH or backend == BACKENDS[0]
+
+
 def in_this_process(backend):
-    """All that is asked of one build."""
+    """What is asked of one build."""
     import raw_calls as library
     from python_calls_test import python_calls
     from python_test import python_package
     from words_and_bounds import words_and_bounds
 
     tally = Tally()
-    count = vectors(tally, library)
+    rows = questions_and_answers()
+    count = vectors(tally, library, rows if is_whole(backend) else rows[::10])
     against_single_calls(tally, library)
     plans(tally, library)
     keys_against_single_calls(tally, library)
-    against_numpy(tally)
-    buffers(tally, library)
-    python_package(tally)
-    python_calls(tally)
-    words_and_bounds(tally, library)
-    limits(tally, HERE / "out" / backend)
-    faults(tally, library)
-    docstrings(tally)
+    if is_whole(backend):
+        against_numpy(tally)
+        buffers(tally, library)
+        python_package(tally)
+        python_calls(tally)
+        words_and_bounds(tally, library)
+        limits(tally, HERE / "out" / backend)
+        faults(tally, library)
+        docstrings(tally)
     examples(tally, backend)
     print("".join(f"{fault}\n" for fault in tally.faults[:20]), end="")
     made = f"{count} vectors, {tally.made} comparisons"
@@ -453,6 +462,7 @@ def main():
     parser = argparse.ArgumentParser()
     parser.add_argument("--backend", choices=BACKENDS)
     parser.add_argument("--memory", action="store_true")
+    parser.add_argument("--thorough", action="store_true")
     chosen = parser.parse_args()
     if chosen.backend:
         if chosen.memory:
@@ -464,8 +474,9 @@ def main():
     ended = []
     for backend in BACKENDS:
         environment = {**os.environ, "ZARRS_CHUNKS_LIBRARY": str(HERE / "out" / backend / "libzarrs_chunks.so")}
-        of_backend = [__file__, "--backend", backend]
-        for words in (of_backend, [*of_backend, "--memory"], [HERE / "fuzz.py", "--seconds", "5"]):
+        of_backend = [__file__, "--backend", backend, *(["--thorough"] if IS_THOROUGH else [])]
+        asked = [of_backend, [*of_backend, "--memory"], [HERE / "fuzz.py", "--seconds", "60" if IS_THOROUGH else "5"]]
+        for words in asked if is_whole(backend) else asked[:1]:
             ended.append(subprocess.run([sys.executable, *words], env=environment).returncode)
     sys.exit(1 if any(ended) else 0)
 

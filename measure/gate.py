@@ -2,17 +2,20 @@
 """Runs the gate, and prints how many processor minutes each crate took of it: its proofs, its tests, and the edits that
 have to be refused.
 
-    python3 measure/gate.py [--keep] [COMMAND ..]        rt ci where there is none
+    python3 measure/gate.py [--keep] [--table FILE] [COMMAND ..]        rt ci where there is none
 
-`.ci/run` runs `rt ci` by it. The table comes on standard error, and the status is the command's. Beside each figure
-stands by how much it differs from the one in `measure/gate.tsv`, where there is such a file; `--keep` writes the figures
-of this run there, if the command ended well. What `rt ci` has kept of an earlier run takes no time, so a figure of 0
-isn't compared, and the figures to keep are those of a run from nothing, `rt ci --anew`.
+`.ci/run` runs `rt ci` by it. The table goes to FILE, or to standard error, and the status is the command's. Beside each
+figure stands by how much it differs from the one in `measure/gate.tsv`; a crate that the kept table doesn't have differs
+by all that it took. `--keep` writes the figures of this run there, if the command ended well. What `rt ci` has kept of an
+earlier run takes no time, so a figure of 0 isn't compared, and the figures to keep are those of a run from nothing,
+`rt ci --anew`.
 
 What runs beside isn't counted, but slows the gate down. It looks twice a second at what the kit's compiler and its
 helpers have used so far, so of each of them the last half second is missing. On Linux.
 """
+import argparse
 import collections
+import contextlib
 import os
 import pathlib
 import subprocess
@@ -105,14 +108,17 @@ def table(spent, before):
 
 
 def main():
-    command = sys.argv[1:]
-    is_to_keep = command[:1] == ["--keep"]
+    parser = argparse.ArgumentParser(usage=__doc__.split("\n\n")[1].strip())
+    parser.add_argument("--keep", action="store_true")
+    parser.add_argument("--table", type=pathlib.Path)
+    parser.add_argument("command", nargs=argparse.REMAINDER)
+    chosen = parser.parse_args()
     began = time.monotonic()
-    status, spent = run(command[is_to_keep:] or ["rt", "ci"])
-    for line in table(spent, kept()):
-        print(line, file=sys.stderr)
-    print(f"in {(time.monotonic() - began) / 60:.0f} minutes", file=sys.stderr)
-    if is_to_keep and status == 0:
+    status, spent = run(chosen.command or ["rt", "ci"])
+    lines = [*table(spent, kept()), f"in {(time.monotonic() - began) / 60:.0f} minutes"]
+    with chosen.table.open("w") if chosen.table else contextlib.nullcontext(sys.stderr) as told:
+        print("\n".join(lines), file=told)
+    if chosen.keep and status == 0:
         keep(spent)
     sys.exit(status)
 

@@ -4,6 +4,8 @@ import sys
 
 TOP = pathlib.Path(__file__).resolve().parent.parent
 CRATES = TOP / "crates"
+# The word by which `tools/release --thorough` asks a script for all that it can try.
+IS_THOROUGH = "--thorough" in sys.argv[1:]
 
 
 def builds(program):
@@ -14,6 +16,11 @@ def builds(program):
     if not by_llvm.exists():
         sys.exit(f"{by_llvm.relative_to(TOP)} isn't built: run `rt ci` at the top, or `rt run < /dev/null` in crates/{program}")
     return [by_llvm, by_rattle] if by_rattle.exists() else [by_llvm]
+
+
+def asked_of(build, rows):
+    """The rows that a build is asked: of the one by Rattle's own compiler each tenth, unless all are asked for."""
+    return rows if IS_THOROUGH or build.suffix != ".by-rattle" else rows[::10]
 
 
 def tests(crate):
