@@ -2,13 +2,12 @@
 """Runs the gate, and prints how many processor minutes each crate took of it: its proofs, its tests, and the edits that
 have to be refused.
 
-    python3 measure/gate.py [--keep] [--table FILE] [COMMAND ..]        rt ci where there is none
+    python3 measure/gate.py [--keep] [--table FILE] [COMMAND ..]        without a command, rt ci
 
 `.ci/run` runs `rt ci` by it. The table goes to FILE, or to standard error, and the status is the command's. Beside each
 figure stands by how much it differs from the one in `measure/gate.tsv`; a crate that the kept table doesn't have differs
-by all that it took. `--keep` writes the figures of this run there, if the command ended well. What `rt ci` has kept of an
-earlier run takes no time, so a figure of 0 isn't compared, and the figures to keep are those of a run from nothing,
-`rt ci --anew`.
+by all that it took. A crate that `rt ci` kept from an earlier run takes no time, so a figure of 0 isn't compared.
+`--keep` writes the figures of this run there, if the command ended well: give it a whole run, `rt ci --anew`.
 
 What runs beside isn't counted, but slows the gate down. It looks twice a second at what the kit's compiler and its
 helpers have used so far, so of each of them the last half second is missing. On Linux.
