@@ -99,7 +99,8 @@ def main():
         if crate.endswith("_tests") or crate == "callers":
             continue
         parts = [f"{crate}::{part.name}" for part in folder.iterdir() if part.is_dir() and part.name not in ("seen", "lemmas")]
-        for about in sorted({crate, *parts} - TABLES):
+        own = [crate] if any(definitions(path) for path in folder.glob("*.antt")) else []
+        for about in sorted({*own, *parts} - TABLES):
             faults.append(f"{folder.relative_to(ROOT)}: no table of DEFINITIONS.md is about {about}")
     for fault in faults:
         print(fault)

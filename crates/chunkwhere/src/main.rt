@@ -5,10 +5,10 @@
 //! list it prints the key of the chunk that holds the element, and the element's place in it. For
 //! each of its `keys`, if it has any, it prints the numbers of the chunk that has the key.
 //!
-//! It is `run_to_status` of `programs::chunkwhere`, over what the process was given.
+//! It is `run_to_status` of `documents::chunkwhere`, over what the process was given.
 #![tactic(auto)]
 
-use programs::chunkwhere::{Watched, run_to_status};
+use documents::chunkwhere::{Watched, run_to_status};
 use std::process::ExitCode;
 
 fn main(rt: HostRuntime) -> ExitCode {

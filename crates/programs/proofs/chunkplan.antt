@@ -17,3 +17,4 @@ pub mod RunOutcomes
 pub mod Steps
 pub mod StoredLines
 pub mod Tokens
+pub mod Unended

@@ -5,17 +5,17 @@
 //! | `answering` | the lines that answer what is read |
 ghost use Rattle.std.specs.Prelude.{◌≡◌, ◌≤◌, IfErr, IfSome, MatchResult, OnOk};
 ghost use Rattle.std.specs.Io.KnownBytes.{Keeps};
-ghost use Rattle.programs.specs.Watched.{has_failed, watched};
+ghost use Rattle.streams.specs.Watched.{has_failed, watched};
 ghost use Rattle.programs.specs.chunkcalls.Lines.{HasAnswered, HoldsAnswers};
 ghost use Rattle.programs.specs.chunkcalls.Run.{TellsFailure};
 
 mod answering;
 
-use crate::streams::write_all;
-pub use crate::{StreamFault as RunFault, Watched};
 use answering::answer_lines;
 use std::alloc::Global;
 use std::io::{Read, Write};
+use streams::write_all;
+pub use streams::{StreamFault as RunFault, Watched};
 
 /// Runs the program, tells its fault in one line, if it had one, and answers the status to end
 /// with: 0 where the run succeeded, and 1 after a fault.
@@ -70,5 +70,5 @@ pub fn finish<W: Write>(outcome: &Result<(), RunFault>, errors: &mut W) -> u8
     ensures status { MatchResult outcome.now (λ _. result ≡ 0) (λ _. result ≡ 1) }
     ensures silent { OnOk outcome.now (Keeps (W.contents errors.old) (W.contents errors.new)) }
 {
-    crate::streams::finish("chunkcalls", outcome, errors)
+    streams::finish("chunkcalls", outcome, errors)
 }

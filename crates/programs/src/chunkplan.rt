@@ -25,7 +25,7 @@
 //! | `run_fault` | why a run stops |
 ghost use Rattle.std.specs.Prelude.{◌≡◌, ◌≤◌, ◌⊎◌, ℕ, false, IfSome, List, MatchResult, OnOk, Some};
 ghost use Rattle.std.specs.Io.KnownBytes.{Keeps};
-ghost use Rattle.programs.specs.Watched.{has_failed, watched};
+ghost use Rattle.streams.specs.Watched.{has_failed, watched};
 ghost use Rattle.serde_json.specs.Data.{Data};
 ghost use Rattle.zarrs_chunk_base.specs.Json.{IsJsonOf};
 ghost use Rattle.programs.specs.chunkplan.Document.{Document as PlanDocument, IsDocument};
@@ -34,10 +34,10 @@ ghost use Rattle.programs.specs.chunkplan.Keys.{HasKeysBehind, first_line};
 ghost use Rattle.programs.specs.chunkplan.PlanFault.{IsFaultBeside, IsFirstFault};
 ghost use Rattle.programs.specs.chunkplan.Planned.{IsPlanOf, IsPlannedBeside};
 ghost use Rattle.programs.specs.chunkplan.seen.Missing.{KeyStepLeaves};
-ghost use Rattle.programs.specs.seen.Lines.{left};
+ghost use Rattle.streams.specs.seen.Lines.{left};
 ghost use Rattle.programs.specs.chunkplan.Run.{RunEndsWith, RunLeaves};
 ghost use Rattle.programs.specs.chunkplan.seen.Steps.{InputStepLeaves, StepLeaves};
-ghost use Rattle.programs.specs.seen.Sent.{output};
+ghost use Rattle.streams.specs.seen.Sent.{output};
 
 mod between;
 mod boxes;
@@ -60,9 +60,6 @@ mod stage;
 mod stages_line;
 mod within;
 
-pub use crate::Watched;
-use crate::lines::Lines;
-use crate::streams::write_all;
 use document::parse;
 use keys::has_keys_behind;
 pub use known_members::UnknownMember;
@@ -71,6 +68,8 @@ use plan::write_plan;
 pub use run_fault::RunFault;
 use std::alloc::Global;
 use std::io::{Read, Write};
+pub use streams::Watched;
+use streams::{Lines, write_all};
 
 /// Runs the program, tells its fault in one line, if it had one, and answers the status to end with:
 /// 0 where the run succeeded, and 1 after a fault.
@@ -203,5 +202,5 @@ pub fn finish<W: Write>(outcome: &Result<(), RunFault>, errors: &mut W) -> u8
     ensures status { MatchResult outcome.now (λ _. result ≡ 0) (λ _. result ≡ 1) }
     ensures silent { OnOk outcome.now (Keeps (W.contents errors.old) (W.contents errors.new)) }
 {
-    crate::streams::finish("chunkplan", outcome, errors)
+    streams::finish("chunkplan", outcome, errors)
 }

@@ -2,9 +2,9 @@
 ghost use Rattle.std.specs.Prelude.{◌≡◌, ◌≤◌, IfSome, Some};
 ghost use Rattle.std.specs.Io.KnownBytes.{Keeps};
 
-use crate::streams::finish;
 use std::env::{Env, FillError};
 use std::io::Write;
+use streams::finish;
 use thiserror::Error;
 
 /// The version of this library and of its programs.

@@ -1,7 +1,7 @@
 //! What no contract says: readers and writers that fail, and what is told then.
 use crate::ended::{check_bytes, check_ending, check_that};
 use crate::failing::{FailingReader, FailingWriter};
-use programs::chunkwhere::{RunFault, Watched, finish, run};
+use documents::chunkwhere::{RunFault, Watched, finish, run};
 use std::io;
 use std::io::{ErrorKind, Read, Write};
 use std::process::Abort;

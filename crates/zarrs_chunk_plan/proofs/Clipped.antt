@@ -6,7 +6,7 @@ use Rattle.zarrs_chunk_base.specs.Dimension.{Dimension, IsChain}
 use Rattle.zarrs_chunks.specs.Subsets.{IsCover}
 use Rattle.zarrs_chunk_plan.specs.Clip.{IsClipped}
 use Rattle.zarrs_chunk_plan.specs.Rechunking.{array_box}
-use Rattle.zarrs_chunk_plan.specs.seen.Shared.{later_starts}
+use Rattle.zarrs_chunk_parts.specs.seen.Shared.{later_starts}
 use Rattle.zarrs_chunk_plan.proofs.Rechunkings.{in_array}
 use Rattle.zarrs_chunk_plan.proofs.SomePlan.{has_cover}
 

@@ -4,7 +4,7 @@ use Rattle.std.proofs.lemmas.List.Elements.{Contains-get_or}
 use Rattle.std.specs.List.{AllPairs, AllZip}
 use Rattle.zarrs_chunks.proofs.ChunksInBoxes.{made_of as among_mapped, source_of as is_of}
 use Rattle.zarrs_chunk_plan.specs.Rechunking.{Group, copies_of}
-use Rattle.zarrs_chunk_plan.specs.declared.part.Part.{Part}
+use Rattle.zarrs_chunk_parts.specs.declared.part.Part.{Part}
 use Rattle.zarrs_chunk_plan.proofs.Joined.{in_joined, in_some, pairs_joined, pairs_mapped}
 use Rattle.zarrs_chunk_plan.proofs.Plans.{pairs_of, source_of}
 

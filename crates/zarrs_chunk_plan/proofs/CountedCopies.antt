@@ -8,11 +8,11 @@ use Rattle.zarrs_chunk_axes.specs.InBounds.{AreBelow}
 use Rattle.zarrs_chunks.specs.Walks.{chunks_in}
 use Rattle.zarrs_chunks.proofs.Chains.{same_box}
 use Rattle.zarrs_chunk_plan.specs.Counts.{AreRechunkingCounts, product}
-use Rattle.zarrs_chunk_plan.specs.Plan.{Meets}
+use Rattle.zarrs_chunk_parts.specs.Plan.{Meets}
 use Rattle.zarrs_chunk_plan.specs.Rechunking.{AreCopiesInto, AreTargets, Group, IsRechunking, Moves, array_box, copies_of}
 use Rattle.zarrs_chunk_plan.specs.Region.{EndWithin}
 use Rattle.zarrs_chunk_plan.specs.declared.counts.Counts.{Counts}
-use Rattle.zarrs_chunk_plan.specs.declared.part.Part.{Part}
+use Rattle.zarrs_chunk_parts.specs.declared.part.Part.{Part}
 use Rattle.zarrs_chunk_plan.specs.seen.Sources.{AreTaking, counters, met_in}
 use Rattle.zarrs_chunk_plan.specs.seen.TargetCounts.{AreTargetCounts}
 use Rattle.zarrs_chunk_plan.proofs.CountedGroups.{copies_are, copies_each, copies_of_all, each_meets, largest_is, lines_are, many_same}

@@ -11,9 +11,9 @@ use Rattle.zarrs_chunks.proofs.ChunksInBoxes.{are_those_inside}
 use Rattle.zarrs_chunks.proofs.Covers.{none_is_not_empty}
 use Rattle.zarrs_chunks.proofs.Meeting.{cover_meets}
 use Rattle.zarrs_chunk_plan.specs.Counts.{AreMany, AreReadCounts, product}
-use Rattle.zarrs_chunk_plan.specs.Plan.{HasElement, IsPart, IsPlan}
+use Rattle.zarrs_chunk_parts.specs.Plan.{HasElement, IsPart, IsPlan}
 use Rattle.zarrs_chunk_plan.specs.declared.counts.Counts.{Counts}
-use Rattle.zarrs_chunk_plan.specs.declared.part.Part.{Part}
+use Rattle.zarrs_chunk_parts.specs.declared.part.Part.{Part}
 use Rattle.zarrs_chunk_plan.proofs.BoxCounts.{box_many, in_box_many, product_of_none}
 use Rattle.zarrs_chunk_plan.proofs.Plans.{has_common, pair_of, some_part, source_of}
 use Rattle.zarrs_chunk_plan.proofs.SameBoxes.{chunks_of_same}

@@ -12,11 +12,11 @@ use Rattle.zarrs_chunks.proofs.Chains.{same_box}
 use Rattle.zarrs_chunks.proofs.ChunksInBoxes.{are_those_inside, lie_within, offset_of}
 use Rattle.zarrs_chunks.proofs.Meeting.{cover_meets}
 use Rattle.zarrs_chunk_plan.specs.Counts.{AreMany, AreRegionCounts, CountNothing, product}
-use Rattle.zarrs_chunk_plan.specs.Plan.{IsPart, Meets}
+use Rattle.zarrs_chunk_parts.specs.Plan.{IsPart, Meets}
 use Rattle.zarrs_chunk_plan.specs.Rechunking.{Group, copies_of}
 use Rattle.zarrs_chunk_plan.specs.Region.{AreMovedInto, CanBeMoved, IsRegionCopy, LiesIn, MovesTo, moved, shifted}
 use Rattle.zarrs_chunk_plan.specs.declared.counts.Counts.{Counts}
-use Rattle.zarrs_chunk_plan.specs.declared.part.Part.{Part}
+use Rattle.zarrs_chunk_parts.specs.declared.part.Part.{Part}
 use Rattle.zarrs_chunk_plan.specs.seen.Sources.{AreTaking, counters}
 use Rattle.zarrs_chunk_plan.specs.seen.TargetCounts.{AreTargetCounts}
 use Rattle.zarrs_chunk_plan.proofs.BoxCounts.{product_of_none}

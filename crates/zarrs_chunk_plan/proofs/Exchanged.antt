@@ -9,9 +9,9 @@ use Rattle.zarrs_chunks.specs.Walks.{chunks_in, counted_from}
 use Rattle.zarrs_chunks.proofs.Chains.{same_box}
 use Rattle.zarrs_chunks.proofs.ChunksInBoxes.{are_those_inside, chunks_once}
 use Rattle.zarrs_chunks.proofs.Meeting.{cover_meets}
-use Rattle.zarrs_chunk_plan.specs.Plan.{IsPart, Meets}
+use Rattle.zarrs_chunk_parts.specs.Plan.{IsPart, Meets}
 use Rattle.zarrs_chunk_plan.specs.Rechunking.{AreCopiesInto, Group, IsExchanged, IsRechunking, all_chunks_box, array_box, copies_of}
-use Rattle.zarrs_chunk_plan.specs.declared.part.Part.{Part}
+use Rattle.zarrs_chunk_parts.specs.declared.part.Part.{Part}
 use Rattle.zarrs_chunk_plan.proofs.CopyLists.{Differ, copies_differ, copy_in, copy_of, pairs_follow}
 use Rattle.zarrs_chunk_plan.proofs.Plans.{added, all_long, counted_once, length_counted, not_empty, pair_of, parts_differ, source_of}
 use Rattle.zarrs_chunk_plan.proofs.Rechunkings.{in_array, is_counted, shared_start, those_are}

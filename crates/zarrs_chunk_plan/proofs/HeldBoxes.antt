@@ -6,7 +6,7 @@ use Rattle.zarrs_chunk_base.proofs.Boxes.{within_lengths}
 use Rattle.zarrs_chunk_base.proofs.InEach.{length_values}
 use Rattle.zarrs_chunk_axes.specs.InBounds.{AreBelow}
 use Rattle.zarrs_chunks.specs.Walks.{starts_at}
-use Rattle.zarrs_chunk_plan.specs.Plan.{AreShared, Meets}
+use Rattle.zarrs_chunk_parts.specs.Plan.{AreShared, Meets}
 use Rattle.zarrs_chunk_plan.specs.Rechunking.{array_box}
 use Rattle.zarrs_chunk_plan.specs.Resize.{HasElementOf, IsUsed}
 use Rattle.zarrs_chunk_plan.proofs.Rechunkings.{counted_from_zeros, in_array}

@@ -4,10 +4,10 @@ use Rattle.std.specs.List.{AllByRecursion, AllZip}
 use Rattle.zarrs_chunk_base.specs.ArraySubset.{Box, IsInside}
 use Rattle.zarrs_chunk_base.specs.Dimension.{Dimension, IsChain, array_sizes}
 use Rattle.zarrs_chunk_plan.specs.Counts.{product}
-use Rattle.zarrs_chunk_plan.specs.Plan.{Meets}
+use Rattle.zarrs_chunk_parts.specs.Plan.{Meets}
 use Rattle.zarrs_chunk_plan.specs.Rechunking.{Group, IsRechunking, array_box, copies_of}
 use Rattle.zarrs_chunk_plan.specs.Stages.{HoldAtMost, NoneIsLonger}
-use Rattle.zarrs_chunk_plan.specs.declared.part.Part.{Part}
+use Rattle.zarrs_chunk_parts.specs.declared.part.Part.{Part}
 use Rattle.zarrs_chunk_plan.proofs.EqualChunks.{one_box}
 use Rattle.zarrs_chunk_plan.proofs.Exchanged.{what_it_is_of}
 use Rattle.zarrs_chunk_plan.proofs.Rechunkings.{those_are}

@@ -9,7 +9,7 @@ use Rattle.zarrs_chunk_base.specs.Dimension.{Dimension, HasEdge, IsChain, IsShap
 use Rattle.zarrs_chunk_base.proofs.InEach.{length_values}
 use Rattle.zarrs_chunk_axes.specs.InBounds.{AreBelow}
 use Rattle.zarrs_chunks.proofs.FittingChunks.{counted_home}
-use Rattle.zarrs_chunk_plan.specs.Plan.{Meets}
+use Rattle.zarrs_chunk_parts.specs.Plan.{Meets}
 use Rattle.zarrs_chunk_plan.specs.Rechunking.{array_box}
 use Rattle.zarrs_chunk_plan.specs.Stages.{IsLargest}
 use Rattle.zarrs_chunk_plan.specs.seen.Stages.{HasEdgeAlong}

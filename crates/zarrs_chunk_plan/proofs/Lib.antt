@@ -22,7 +22,6 @@ pub mod Exchanged
 pub mod FromNumber
 pub mod HeldBoxes
 pub mod HeldLines
-pub mod InPlace
 pub mod Joined
 pub mod Kept
 pub mod LargestChunks
@@ -32,7 +31,6 @@ pub mod MetCovers
 pub mod MovedBoxes
 pub mod OneConfiguration
 pub mod OutsideBoxes
-pub mod Overlaps
 pub mod Plans
 pub mod Products
 pub mod RangeStarts
@@ -42,7 +40,6 @@ pub mod Regions
 pub mod ResizeLaws
 pub mod SameBoxes
 pub mod ShareLists
-pub mod Shares
 pub mod SomePlan
 pub mod SomeRegions
 pub mod SomeResizes
@@ -52,5 +49,4 @@ pub mod StoredOrder
 pub mod StridedForms
 pub mod Taken
 pub mod Walked
-pub mod Wholes
 pub mod Written

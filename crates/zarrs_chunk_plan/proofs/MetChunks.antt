@@ -8,7 +8,7 @@ use Rattle.zarrs_chunk_base.specs.Dimension.{Dimension, Holds, InBox, IsChain}
 use Rattle.zarrs_chunks.specs.Walks.{counted_from}
 use Rattle.zarrs_chunks.proofs.Chains.{apart, at_most_start, earlier_has, no_later}
 use Rattle.zarrs_chunks.proofs.Covers.{head_some, tail_some}
-use Rattle.zarrs_chunk_plan.specs.Plan.{Meets}
+use Rattle.zarrs_chunk_parts.specs.Plan.{Meets}
 use Rattle.zarrs_chunk_plan.specs.seen.Sources.{counters_from, home, home_from, met, met_by, taken, taken_box, taken_from, taken_sizes}
 use Rattle.zarrs_chunk_plan.specs.seen.Sources.{taken_starts}
 

@@ -11,10 +11,10 @@ use Rattle.zarrs_chunk_base.proofs.InEach.{length_numbers, length_values}
 use Rattle.zarrs_chunk_axes.specs.InBounds.{AreBelow}
 use Rattle.zarrs_chunks.specs.Subsets.{AnswersCover, IsCover, LookedBox}
 use Rattle.zarrs_chunks.specs.Walks.{counted_from}
-use Rattle.zarrs_chunk_plan.specs.Plan.{AreShared, Meets}
+use Rattle.zarrs_chunk_parts.specs.Plan.{AreShared, Meets}
 use Rattle.zarrs_chunk_plan.specs.Rechunking.{array_box}
 use Rattle.zarrs_chunk_plan.specs.Region.{shifted}
-use Rattle.zarrs_chunk_plan.specs.seen.Shared.{distances}
+use Rattle.zarrs_chunk_parts.specs.seen.Shared.{distances}
 use Rattle.zarrs_chunk_plan.specs.seen.Sources.{AreTaking, counters, met_by, met_in, taken_box, taken_sizes, taken_starts}
 use Rattle.zarrs_chunk_plan.proofs.BoxCover.{none_below}
 use Rattle.zarrs_chunk_plan.proofs.MetChunks.{cover_sizes, met_along_each, meets_take, shares_met, taken_common}

@@ -17,8 +17,8 @@ use Rattle.zarrs_chunks.proofs.Chains.{same_box}
 use Rattle.zarrs_chunks.proofs.ChunksInBoxes.{are_those_inside, chunks_once, inside_fits, length_below, lie_within, offset_of}
 use Rattle.zarrs_chunks.proofs.Covers.{none_is_not_empty}
 use Rattle.zarrs_chunks.proofs.Meeting.{cover_holds, cover_meets}
-use Rattle.zarrs_chunk_plan.specs.Plan.{HasElement, IsCommon, IsPart, IsPlan, Meets}
-use Rattle.zarrs_chunk_plan.specs.declared.part.Part.{Part}
+use Rattle.zarrs_chunk_parts.specs.Plan.{HasElement, IsCommon, IsPart, IsPlan, Meets}
+use Rattle.zarrs_chunk_parts.specs.declared.part.Part.{Part}
 
 -- ---- the chunks of a plan
 

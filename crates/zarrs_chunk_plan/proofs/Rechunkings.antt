@@ -11,9 +11,9 @@ use Rattle.zarrs_chunks.specs.Walks.{chunks_in, counted_from}
 use Rattle.zarrs_chunks.proofs.Chains.{same_box}
 use Rattle.zarrs_chunks.proofs.ChunksInBoxes.{are_those_inside, chunks_once, length_below}
 use Rattle.zarrs_chunks.proofs.FittingChunks.{counted_home}
-use Rattle.zarrs_chunk_plan.specs.Plan.{HasElement, IsCommon, IsPart, Meets}
+use Rattle.zarrs_chunk_parts.specs.Plan.{HasElement, IsCommon, IsPart, Meets}
 use Rattle.zarrs_chunk_plan.specs.Rechunking.{AreCopiesInto, Group, IsRechunking, Moves, ShareOut, all_chunks_box, array_box, copies_of}
-use Rattle.zarrs_chunk_plan.specs.declared.part.Part.{Part}
+use Rattle.zarrs_chunk_parts.specs.declared.part.Part.{Part}
 use Rattle.zarrs_chunk_plan.proofs.CopyLists.{Differ, copies_differ, copy_in, copy_of, pairs_follow}
 use Rattle.zarrs_chunk_plan.proofs.Joined.{in_joined, pairs_joined}
 use Rattle.zarrs_chunk_plan.proofs.Plans.{all_long, has_common, has_place, length_counted, pair_of, pairs_by, parts_differ, place_from_origin}

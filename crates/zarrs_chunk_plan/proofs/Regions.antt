@@ -11,10 +11,10 @@ use Rattle.zarrs_chunks.proofs.Chains.{same_box}
 use Rattle.zarrs_chunks.proofs.ChunksInBoxes.{are_those_inside, chunks_once, length_below, lie_within, offset_of}
 use Rattle.zarrs_chunks.proofs.Covers.{head_some, tail_some}
 use Rattle.zarrs_chunks.proofs.Meeting.{cover_holds}
-use Rattle.zarrs_chunk_plan.specs.Plan.{HasElement, IsPart, Meets}
+use Rattle.zarrs_chunk_parts.specs.Plan.{HasElement, IsPart, Meets}
 use Rattle.zarrs_chunk_plan.specs.Rechunking.{Group, copies_of}
 use Rattle.zarrs_chunk_plan.specs.Region.{AreMovedInto, IsRegionCopy, MovesTo, moved, shifted}
-use Rattle.zarrs_chunk_plan.specs.declared.part.Part.{Part}
+use Rattle.zarrs_chunk_parts.specs.declared.part.Part.{Part}
 use Rattle.zarrs_chunk_plan.proofs.CopyLists.{Differ, copies_differ, copy_in, copy_of, pairs_follow}
 use Rattle.zarrs_chunk_plan.proofs.Plans.{added, all_long, counted_once, has_common, has_place, length_counted, not_empty, pair_of, parts_differ, place_below}
 use Rattle.zarrs_chunk_plan.proofs.Plans.{one_chunk, pairs_of, some_part, source_of, takes}

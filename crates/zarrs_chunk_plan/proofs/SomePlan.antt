@@ -14,14 +14,14 @@ use Rattle.zarrs_chunks.proofs.Covers.{chunks_small, firsts_before_lasts, head_s
 use Rattle.zarrs_chunks.proofs.FittingChunks.{counted_home}
 use Rattle.zarrs_chunks.proofs.Meeting.{cover_meets}
 use Rattle.zarrs_chunks.proofs.UpTo.{ones_fit}
-use Rattle.zarrs_chunk_plan.specs.Plan.{IsPart, IsPlan, Meets}
+use Rattle.zarrs_chunk_parts.specs.Plan.{IsPart, IsPlan, Meets}
 use Rattle.zarrs_chunk_plan.specs.Rechunking.{AreCopiesInto, AreTargets, Group, IsRechunking, array_box}
-use Rattle.zarrs_chunk_plan.specs.declared.part.Part.{Part}
+use Rattle.zarrs_chunk_parts.specs.declared.part.Part.{Part}
 use Rattle.zarrs_chunk_plan.specs.seen.Parts.{HasKeys}
 use Rattle.zarrs_chunk_plan.proofs.Plans.{all_of_each, not_empty}
 use Rattle.zarrs_chunk_plan.proofs.Rechunkings.{in_array, those_are}
-use Rattle.zarrs_chunk_plan.proofs.Shares.{boxes_are, from_chunk, from_start, has_all_of}
-use Rattle.zarrs_chunk_plan.proofs.Wholes.{test_rest}
+use Rattle.zarrs_chunk_parts.proofs.Shares.{boxes_are, from_chunk, from_start, has_all_of}
+use Rattle.zarrs_chunk_parts.proofs.Wholes.{test_rest}
 
 -- ---- one chunk
 

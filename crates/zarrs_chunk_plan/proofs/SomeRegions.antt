@@ -9,11 +9,11 @@ use Rattle.zarrs_chunks.proofs.Covers.{head_some, tail_some}
 use Rattle.zarrs_chunks.proofs.Meeting.{cover_meets}
 use Rattle.zarrs_chunks.specs.Subsets.{IsCover}
 use Rattle.zarrs_chunks.specs.Walks.{chunks_in, counted_from}
-use Rattle.zarrs_chunk_plan.specs.Plan.{IsPart, IsPlan, Meets}
+use Rattle.zarrs_chunk_parts.specs.Plan.{IsPart, IsPlan, Meets}
 use Rattle.zarrs_chunk_plan.specs.Rechunking.{AreCopiesInto, Group, array_box}
 use Rattle.zarrs_chunk_plan.specs.Region.{AreMovedInto, EndWithin, IsRegionCopy, LiesIn, moved, shifted}
 use Rattle.zarrs_chunk_plan.specs.declared.chunk_copies.Copies.{Copies}
-use Rattle.zarrs_chunk_plan.specs.declared.part.Part.{Part}
+use Rattle.zarrs_chunk_parts.specs.declared.part.Part.{Part}
 use Rattle.zarrs_chunk_plan.specs.seen.Copies.{AreGroupsToCome, AreMovesToCome, CanCopy, first_of, targets_to_come}
 use Rattle.zarrs_chunk_plan.specs.seen.Parts.{HasKeys}
 use Rattle.zarrs_chunk_plan.proofs.Plans.{all_long, all_of_each, not_empty, place_below}

@@ -9,7 +9,7 @@ use Rattle.zarrs_chunks.proofs.Boxes.{same_index}
 use Rattle.zarrs_chunks.proofs.Chains.{same_box}
 use Rattle.zarrs_chunks.proofs.FittingChunks.{counted_home}
 use Rattle.zarrs_chunk_plan.specs.Rechunking.{Goes, Group, IsRechunking, Moves, all_chunks_box, copies_of}
-use Rattle.zarrs_chunk_plan.specs.declared.part.Part.{Part}
+use Rattle.zarrs_chunk_parts.specs.declared.part.Part.{Part}
 use Rattle.zarrs_chunk_plan.proofs.Rechunkings.{has_keys, in_array, is_counted, moves_elements, some_copy}
 
 -- an index has one place in a chunk

@@ -11,7 +11,7 @@ use Rattle.zarrs_chunk_base.specs.Dimension.{Dimension}
 use Rattle.zarrs_chunk_base.specs.Greatest.{greatest}
 use Rattle.zarrs_chunk_axes.specs.RowMajor.{row_major}
 use Rattle.zarrs_chunks.specs.Walks.{chunks_in}
-use Rattle.zarrs_chunk_plan.specs.Plan.{IsPart}
+use Rattle.zarrs_chunk_parts.specs.Plan.{IsPart}
 use Rattle.zarrs_chunk_plan.specs.SomeParts.{AreSomeParts}
 use Rattle.zarrs_chunk_plan.specs.declared.numbered_parts.SomeParts.{SomeParts}
 use Rattle.zarrs_chunk_plan.proofs.ByNumber.{as_many}

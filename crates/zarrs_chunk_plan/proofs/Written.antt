@@ -10,7 +10,7 @@ use Rattle.zarrs_chunk_base.specs.Greatest.{AllFit, greatest}
 use Rattle.zarrs_chunks.proofs.Chains.{in_chain}
 use Rattle.zarrs_chunks.proofs.Covers.{head_some, tail_some}
 use Rattle.zarrs_chunks.proofs.Meeting.{lies_between, lies_within}
-use Rattle.zarrs_chunk_plan.specs.seen.Shared.{distances}
+use Rattle.zarrs_chunk_parts.specs.seen.Shared.{distances}
 use Rattle.zarrs_chunk_plan.specs.Region.{EndWithin}
 use Rattle.zarrs_chunk_plan.specs.seen.Sources.{counters_from, met_along, met_by, met_in, taken, taken_from, taken_sizes, taken_starts}
 use Rattle.zarrs_chunk_plan.proofs.MetChunks.{AllTakeSome, TakesSome, met_at_most}

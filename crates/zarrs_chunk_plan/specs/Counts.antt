@@ -5,11 +5,11 @@ use Rattle.std.specs.List.{AllByRecursion, AllPairs, Contains}
 use Rattle.zarrs_chunk_base.specs.ArraySubset.{Box, IsEmptyBox, IsInside}
 use Rattle.zarrs_chunk_base.specs.Dimension.{Dimension, array_sizes}
 use Rattle.zarrs_chunk_axes.specs.InBounds.{AreBelow}
-use Rattle.zarrs_chunk_plan.specs.Plan.{HasElement}
+use Rattle.zarrs_chunk_parts.specs.Plan.{HasElement}
 use Rattle.zarrs_chunk_plan.specs.Rechunking.{Group, Moves, copies_of}
 use Rattle.zarrs_chunk_plan.specs.Region.{MovesTo}
 use Rattle.zarrs_chunk_plan.specs.declared.counts.Counts.{Counts}
-use Rattle.zarrs_chunk_plan.specs.declared.part.Part.{Part}
+use Rattle.zarrs_chunk_parts.specs.declared.part.Part.{Part}
 
 -- so many lists of numbers have a property: they are those of one list, in which none stands twice
 pub record AreMany (P : List ℕ → Type 0) (many : ℕ) : Type 0 where

@@ -1,8 +1,8 @@
+pub use Rattle.zarrs_chunk_parts.specs.Plan
 pub mod Bytes
 pub mod Clip
 pub mod Counted
 pub mod Counts
-pub mod Plan
 pub mod Rechunking
 pub mod Region
 pub mod Resize

@@ -6,8 +6,8 @@ use Rattle.zarrs_chunk_base.specs.ArraySubset.{Box, IsBox, IsInside}
 use Rattle.zarrs_chunk_base.specs.Dimension.{Dimension, InBox, IsPlace, array_sizes, grid_sizes}
 use Rattle.zarrs_chunk_axes.specs.InBounds.{AreBelow}
 use Rattle.zarrs_chunks.specs.Walks.{chunks_in, counted_from}
-use Rattle.zarrs_chunk_plan.specs.Plan.{IsPart, IsPlan, Meets}
-use Rattle.zarrs_chunk_plan.specs.declared.part.Part.{Part}
+use Rattle.zarrs_chunk_parts.specs.Plan.{IsPart, IsPlan, Meets}
+use Rattle.zarrs_chunk_parts.specs.declared.part.Part.{Part}
 
 -- the box of all elements of the array
 abbrev pub array_box : List Dimension → Box

@@ -10,9 +10,9 @@ use Rattle.zarrs_chunk_base.specs.Refusal.{TellsLengths}
 use Rattle.zarrs_chunk_axes.specs.InBounds.{AreBelow}
 use Rattle.zarrs_chunks.specs.Subsets.{IsCover}
 use Rattle.zarrs_chunks.specs.Walks.{chunks_in, counted_from}
-use Rattle.zarrs_chunk_plan.specs.Plan.{IsPart, IsPlan}
+use Rattle.zarrs_chunk_parts.specs.Plan.{IsPart, IsPlan}
 use Rattle.zarrs_chunk_plan.specs.Rechunking.{Group}
-use Rattle.zarrs_chunk_plan.specs.declared.part.Part.{Part}
+use Rattle.zarrs_chunk_parts.specs.declared.part.Part.{Part}
 use Rattle.zarrs_chunk_plan.specs.declared.region_error.RegionError.{RegionError}
 use Rattle.zarrs_chunk_plan.specs.declared.region_error.RegionError.TheVariants.{Region, Target, At, PastSource, PastTarget}
 

@@ -6,7 +6,7 @@ use Rattle.std.specs.List.{AllPairs, AllZip, Contains}
 use Rattle.zarrs_chunk_base.specs.ArraySubset.{Box, IsBox, IsInside}
 use Rattle.zarrs_chunk_base.specs.Dimension.{Dimension, Holds, InBox, IsShape, array_sizes}
 use Rattle.zarrs_chunk_axes.specs.InBounds.{AreBelow}
-use Rattle.zarrs_chunk_plan.specs.Plan.{Meets}
+use Rattle.zarrs_chunk_parts.specs.Plan.{Meets}
 use Rattle.zarrs_chunk_plan.specs.Rechunking.{array_box}
 use Rattle.zarrs_chunk_plan.specs.declared.changed.ChangedChunks.{ChangedChunks}
 use Rattle.zarrs_chunk_plan.specs.declared.resize.Change.{Change}

@@ -11,7 +11,7 @@ use Rattle.zarrs_chunk_base.specs.declared.refusal.Refusal.{Refusal}
 use Rattle.zarrs_chunk_base.specs.declared.refusal.Refusal.TheVariants.{Refused, Memory}
 use Rattle.zarrs_chunks.specs.Subsets.{HasNoHome, IsCover}
 use Rattle.zarrs_chunks.specs.Walks.{chunks_in}
-use Rattle.zarrs_chunk_plan.specs.Plan.{IsPart}
+use Rattle.zarrs_chunk_parts.specs.Plan.{IsPart}
 use Rattle.zarrs_chunk_plan.specs.declared.numbered_parts.SomeParts.{SomeParts}
 
 -- How many parts the plan over a cover has, as far as a number counts them; and of these the parts from the one with the number `first` on, at

@@ -10,7 +10,7 @@ use Rattle.zarrs_chunk_base.specs.Greatest.{greatest}
 use Rattle.zarrs_chunk_axes.specs.EqualEdges.{AreEqualEdges}
 use Rattle.zarrs_chunk_axes.specs.RowMajor.{IsBefore}
 use Rattle.zarrs_chunk_plan.specs.Counts.{AreFew, product}
-use Rattle.zarrs_chunk_plan.specs.Plan.{Meets}
+use Rattle.zarrs_chunk_parts.specs.Plan.{Meets}
 use Rattle.zarrs_chunk_plan.specs.Rechunking.{Group, IsRechunking, all_chunks_box, array_box, copies_of}
 use Rattle.zarrs_chunk_plan.specs.declared.stages_error.StagesError.{StagesError}
 use Rattle.zarrs_chunk_plan.specs.declared.stages_error.StagesError.TheVariants.{ArrayShapes, ManyChunks, ManyShapes}

@@ -7,7 +7,6 @@ pub mod Outside
 pub mod Parts
 pub mod ReadCounts
 pub mod Rows
-pub mod Shared
 pub mod Sources
 pub mod Stages
 pub mod StoredChunks

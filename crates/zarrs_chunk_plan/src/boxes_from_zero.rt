@@ -1,12 +1,12 @@
 //! The box of all elements of an array, and that of all chunks of a grid.
 ghost use Rattle.std.specs.Prelude.{◌≡◌, ℕ, IfOk, List, length, replicate};
 ghost use Rattle.zarrs_chunk_base.specs.ArraySubset.{IsBox, IsInside};
-ghost use Rattle.zarrs_chunk_plan.specs.Plan.{Meets};
+ghost use Rattle.zarrs_chunk_parts.specs.Plan.{Meets};
 ghost use Rattle.zarrs_chunk_plan.specs.Rechunking.{all_chunks_box, array_box};
 
-use crate::shared::box_of;
 use std::alloc::{AllocError, Global};
 use zarrs_chunk_base::ArraySubset;
+use zarrs_chunk_parts::box_of;
 use zarrs_chunks::ChunkGridTraits;
 
 /// The box of all elements of a grid's array.

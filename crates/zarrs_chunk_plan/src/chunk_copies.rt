@@ -1,14 +1,13 @@
 //! The walk over what a rechunking copies, and over what is copied of a region.
 use crate::moved::shifted_box;
-use crate::part::Part;
 use crate::plan::parts;
 use crate::share::Share;
-use crate::shared::expect_answer;
 use crate::stored_array::StoredArray;
 use crate::walk::Parts;
 use std::alloc::{AllocError, Global};
 use zarrs_chunk_base::{ArrayIndices, ArraySubset, IncompatibleDimensionalityError, Refusal};
 use zarrs_chunk_keys::ChunkKeyEncodingTraits;
+use zarrs_chunk_parts::{Part, expect_answer};
 use zarrs_chunks::ChunkGridTraits;
 
 /// What is copied into one chunk of the target.

@@ -6,9 +6,9 @@ ghost use Rattle.zarrs_chunks.specs.Subsets.{IsCover};
 ghost use Rattle.zarrs_chunk_plan.specs.Clip.{IsClipped};
 
 use crate::boxes_from_zero::whole_array;
-use crate::overlap::overlap;
 use std::alloc::Global;
 use zarrs_chunk_base::{ArraySubset, IncompatibleDimensionalityError, Refusal};
+use zarrs_chunk_parts::overlap;
 use zarrs_chunks::ChunkGridTraits;
 
 /// What a box of elements has of a grid's array: a box that begins where this one does, and has of its elements those whose indices are below the

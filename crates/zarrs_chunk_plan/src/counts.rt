@@ -7,12 +7,12 @@ ghost use Rattle.zarrs_chunk_base.specs.Refusal.{HasMemory, OrMemory};
 ghost use Rattle.zarrs_chunk_axes.specs.InBounds.{AreBelow};
 ghost use Rattle.zarrs_chunks.specs.Subsets.{IsCover};
 ghost use Rattle.zarrs_chunk_plan.specs.Counts.{AreFew, AreRechunkingCounts, AreRegionCounts, CountNothing, product};
-ghost use Rattle.zarrs_chunk_plan.specs.Plan.{Meets};
+ghost use Rattle.zarrs_chunk_parts.specs.Plan.{Meets};
 ghost use Rattle.zarrs_chunk_plan.specs.Rechunking.{AreTargets, Group, IsRechunking, array_box};
 ghost use Rattle.zarrs_chunk_plan.specs.Region.{CanBeMoved, IsRegionCopy, IsRegionFault, moved};
 ghost use Rattle.zarrs_chunk_plan.specs.seen.Copies.{IsCopiesFault};
 ghost use Rattle.zarrs_chunk_plan.specs.seen.ReadCounts.{AnswersCounts, AnswersNoCounts};
-ghost use Rattle.zarrs_chunk_plan.specs.seen.Shared.{distances};
+ghost use Rattle.zarrs_chunk_parts.specs.seen.Shared.{distances};
 ghost use Rattle.zarrs_chunk_plan.specs.seen.TargetCounts.{AreTargetCounts, met_by_each};
 ghost use Rattle.zarrs_chunk_plan.specs.seen.Sources.{AreTaking, counters};
 
@@ -21,12 +21,12 @@ use crate::copies_error::CopiesError;
 use crate::rechunking::targets_of;
 use crate::region::moved_box;
 use crate::region_error::RegionError;
-use crate::shared::{box_of, expect_answer, shared_elements, steps_to};
 use crate::sources::{Move, sources_along_each};
 use crate::stored_array::StoredArray;
 use std::alloc::{AllocError, Global};
 use zarrs_chunk_base::{ArrayShape, ArraySubset, IncompatibleDimensionalityError, Refusal};
 use zarrs_chunk_keys::ChunkKeyEncodingTraits;
+use zarrs_chunk_parts::{box_of, expect_answer, shared_elements, steps_to};
 use zarrs_chunks::ChunkGridTraits;
 
 /// How much a plan copies. Each count is the product of the numbers in its list: it may be larger than any integer type holds. These are found

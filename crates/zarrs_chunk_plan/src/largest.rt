@@ -2,7 +2,7 @@
 ghost use Rattle.std.specs.Prelude.{◌≡◌, ◌<◌, ◌≤◌, ◌↔◌, ℕ, List, IfOk, IfSome, MatchOption, length, replicate, slice_index_or};
 ghost use Rattle.zarrs_chunk_base.specs.ArraySubset.{IsEmptyBox, IsInside};
 ghost use Rattle.zarrs_chunk_base.specs.Greatest.{greatest};
-ghost use Rattle.zarrs_chunk_plan.specs.Plan.{Meets};
+ghost use Rattle.zarrs_chunk_parts.specs.Plan.{Meets};
 ghost use Rattle.zarrs_chunk_plan.specs.Rechunking.{array_box};
 ghost use Rattle.zarrs_chunk_plan.specs.Stages.{HasFewChunks, HasManyChunks, IsLargest};
 ghost use Rattle.zarrs_chunk_plan.specs.seen.Stages.{HasEdgeAlong};
@@ -10,10 +10,10 @@ ghost use Rattle.zarrs_chunk_plan.specs.seen.Stages.{HasEdgeAlong};
 use crate::boxes_from_zero::whole_array;
 use crate::counts::are_few;
 use crate::rechunking::chunks_of_array;
-use crate::shared::expect_answer;
 use crate::sources::chunk_along;
 use std::alloc::{AllocError, Global};
 use zarrs_chunk_base::{ArrayIndices, ArrayShape, ArraySubset};
+use zarrs_chunk_parts::expect_answer;
 use zarrs_chunks::ChunkGridTraits;
 
 /// The shape of a largest chunk of a grid, of those that hold an element of the array, in elements, one number a dimension: no such chunk is longer

@@ -39,7 +39,7 @@ ghost use Rattle.zarrs_chunks.specs.GridKinds.{IsGrid};
 ghost use Rattle.zarrs_chunks.specs.Subsets.{IsCover};
 ghost use Rattle.zarrs_chunks.specs.Walks.{chunks_in, counted_from};
 ghost use Rattle.zarrs_chunk_plan.specs.Bytes.{FindsRanges};
-ghost use Rattle.zarrs_chunk_plan.specs.Plan.{HasElement, IsPart, IsPlan};
+ghost use Rattle.zarrs_chunk_parts.specs.Plan.{HasElement, IsPart, IsPlan};
 ghost use Rattle.zarrs_chunk_plan.specs.Rechunking.{AreTargets, Goes, Group, IsExchanged, IsRechunking, Moves, ShareOut, all_chunks_box, array_box, copies_of};
 ghost use Rattle.zarrs_chunk_plan.specs.Region.{IsRegionCopy, MovesTo, moved};
 ghost use Rattle.zarrs_chunk_plan.specs.Resize.{AreChanged, AreResized, HasElementOf, IsAsked, IsChange, IsChanged, IsKept, IsResizePlan, IsUsed};

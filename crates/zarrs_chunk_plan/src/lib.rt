@@ -14,9 +14,10 @@
 //!   key c/1/1  chunk [1, 1]  in_chunk [0..2, 0..1]  in_subset [1..3, 1..2]
 //! ```
 //!
+//! A [`Part`] is of `zarrs_chunk_parts`: a chunk, its key and its shape, two boxes, and whether they are all that the chunk has of the array.
+//!
 //! | Module | What it holds |
 //! |---|---|
-//! | `part` | a part: a chunk, its key and its shape, two boxes, and whether they are all that the chunk has of the array |
 //! | `plan` | `parts`: the plan of reading a box of elements |
 //! | `walk` | the walk over the parts |
 //! | `numbered_parts` | `some_parts`: some of the parts of that plan, from any one on |
@@ -47,8 +48,6 @@
 //! | `clipping` | `clip`: a box of elements without those that the array doesn't have |
 //! | `share` | one of several shares of a plan |
 //! | `chunks_between` | the walk over the chunks of a share |
-//! | `shared` | the elements that a chunk and a box share, counted from either |
-//! | `overlap` | what two boxes have in common |
 //! | `moved` | whether a box lies in an array; boxes that are shifted |
 //! | `laws` | what holds of every plan |
 #![tactic(auto)]
@@ -70,8 +69,6 @@ mod numbered_chunks;
 mod numbered_copies;
 mod numbered_parts;
 mod outside;
-mod overlap;
-mod part;
 mod plan;
 mod range_starts;
 mod rechunking;
@@ -79,7 +76,6 @@ mod region;
 mod region_error;
 mod resize;
 mod share;
-mod shared;
 mod sources;
 mod stages;
 mod stages_error;
@@ -101,7 +97,6 @@ pub use largest::largest_chunk;
 pub use numbered_chunks::{SomeChunks, some_chunks};
 pub use numbered_copies::{SomeCopies, some_copies, some_copies_of_region};
 pub use numbered_parts::{SomeParts, some_parts};
-pub use part::{ChunkShapeTinyVec, Part};
 pub use plan::parts;
 pub use rechunking::{copies, targets_of};
 pub use region::{copies_of_region, place_in_target};
@@ -113,3 +108,4 @@ pub use stages_error::StagesError;
 pub use stored_array::StoredArray;
 pub use stored_chunks::StoredChunks;
 pub use walk::Parts;
+pub use zarrs_chunk_parts::{ChunkShapeTinyVec, Part};

@@ -4,9 +4,9 @@ ghost use Rattle.zarrs_chunk_base.specs.ArraySubset.{IsBox};
 ghost use Rattle.zarrs_chunks.specs.Walks.{counted_from};
 ghost use Rattle.zarrs_chunk_plan.specs.Region.{EndWithin, shifted};
 
-use crate::shared::made_box;
 use std::alloc::{AllocError, Global};
 use zarrs_chunk_base::{ArrayIndices, ArraySubset};
+use zarrs_chunk_parts::made_box;
 
 /// Whether a box lies in an array: along no dimension it ends past the array's size.
 pub(crate) fn lies_in(start: &[u64], shape: &[u64], array_shape: &[u64]) -> bool

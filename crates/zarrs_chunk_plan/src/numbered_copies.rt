@@ -6,8 +6,8 @@ ghost use Rattle.zarrs_chunk_base.specs.Dimension.{array_sizes};
 ghost use Rattle.zarrs_chunk_base.specs.Greatest.{greatest};
 ghost use Rattle.zarrs_chunk_base.specs.Refusal.{HasMemory, OrMemory};
 ghost use Rattle.zarrs_chunks.specs.Walks.{chunks_in};
-ghost use Rattle.zarrs_chunk_plan.specs.Plan.{Meets};
-ghost use Rattle.zarrs_chunk_plan.specs.Region.{AreMovedInto, CanBeMoved, IsRegionFault};
+ghost use Rattle.zarrs_chunk_parts.specs.Plan.{IsPlan, Meets};
+ghost use Rattle.zarrs_chunk_plan.specs.Region.{AreMovedInto, CanBeMoved, IsRegionFault, shifted};
 ghost use Rattle.zarrs_chunk_plan.specs.SomeCopies.{AreSomeCopies, AreSomeMoves};
 ghost use Rattle.zarrs_chunk_plan.specs.seen.Copies.{IsCopiesFault, groups_of};
 
@@ -15,16 +15,15 @@ use crate::boxes_from_zero::whole_array;
 use crate::copies_error::CopiesError;
 use crate::moved::shifted_box;
 use crate::numbered_chunks::{chunk_at, count_below};
-use crate::part::{Part, part_of};
 use crate::plan::{all_parts, parts};
 use crate::rechunking::targets_of;
 use crate::region::moved_box;
 use crate::region_error::RegionError;
-use crate::shared::expect_answer;
 use crate::stored_array::StoredArray;
 use std::alloc::{AllocError, Global};
 use zarrs_chunk_base::{ArraySubset, Refusal};
 use zarrs_chunk_keys::ChunkKeyEncodingTraits;
+use zarrs_chunk_parts::{Part, expect_answer, part_of};
 use zarrs_chunks::{ArrayIndicesTinyVec, ChunkGridTraits};
 
 /// Some of what a rechunking copies, or of what is copied of a region.
@@ -226,8 +225,26 @@ fn group_of<
         region.now moved.now.start chunk.items (group.0, group.1.items)) }
 {
     let to = part_of(alloc, &target.grid, &target.encoding, moved, chunk)?;
-    let read = shifted_box(alloc, region.start(), &to.in_subset)?;
+    let from = parts_from(alloc, source, region.start(), &to.in_subset)?;
+    Ok((to, from))
+}
+
+/// All parts that a box of the source is read from, which is counted from a start and isn't empty.
+///
+/// # Errors
+/// Out of memory.
+fn parts_from<G: ChunkGridTraits, E: ChunkKeyEncodingTraits>(
+    alloc: Global,
+    source: &StoredArray<G, E>,
+    start: &[u64],
+    elements: &ArraySubset,
+) -> Result<Vec<Part>, AllocError>
+    requires { ¬ IsEmptyBox elements.now }
+    ensures { IfOk result (λ from. IsPlan (G.dimensions source.now.grid)
+        (E.is_key source.now.encoding) (shifted start.now elements.now) from.items) }
+{
+    let read = shifted_box(alloc, start, elements)?;
     let found = parts(alloc, &source.grid, &source.encoding, &read);
     let from = all_parts(alloc, expect_answer(found)?)?;
-    Ok((to, from))
+    Ok(from)
 }

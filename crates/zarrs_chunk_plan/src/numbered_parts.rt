@@ -3,14 +3,14 @@ ghost use Rattle.std.specs.Prelude.{◌≡◌, ◌≢◌, ◌⊎◌, ◌-◌, �
 ghost use Rattle.std.specs.List.{AllByRecursion, AllZip};
 ghost use Rattle.zarrs_chunk_base.specs.ArraySubset.{IsEmptyBox};
 ghost use Rattle.zarrs_chunks.specs.Walks.{chunks_in};
-ghost use Rattle.zarrs_chunk_plan.specs.Plan.{IsPart, Meets};
+ghost use Rattle.zarrs_chunk_parts.specs.Plan.{IsPart, Meets};
 ghost use Rattle.zarrs_chunk_plan.specs.SomeParts.{AnswersNone, AnswersSome};
 
 use crate::numbered_chunks::{chunk_at, count_below};
-use crate::part::{Part, part_of};
 use std::alloc::{AllocError, Global};
 use zarrs_chunk_base::{ArraySubset, IncompatibleDimensionalityError, Refusal};
 use zarrs_chunk_keys::ChunkKeyEncodingTraits;
+use zarrs_chunk_parts::{Part, part_of};
 use zarrs_chunks::ChunkGridTraits;
 
 /// Some of the parts of a plan.

@@ -7,9 +7,9 @@ ghost use Rattle.zarrs_chunks.specs.Walks.{chunks_in};
 ghost use Rattle.zarrs_chunk_plan.specs.seen.Outside.{AreOnce, AreSome, IsOutside, chunks_of_boxes};
 
 use crate::boxes_from_zero::{box_from_zero, zeros};
-use crate::shared::made_box;
 use std::alloc::{AllocError, Global};
 use zarrs_chunk_base::{ArrayShape, ArraySubset};
+use zarrs_chunk_parts::made_box;
 
 /// The chunks that are below some numbers, in one box; no box, where there are none.
 ///

@@ -3,11 +3,11 @@ ghost use Rattle.std.specs.Prelude.{◌≡◌, ◌≢◌, ◌⊎◌, IfOk, IfSom
 ghost use Rattle.zarrs_chunk_base.specs.ArraySubset.{IsEmptyBox};
 ghost use Rattle.zarrs_chunk_plan.specs.seen.Parts.{AnswersNoParts, AnswersParts, ArePartsToCome, IsAbout, MeetSubset, all_chunks, chunks_to_come};
 
-use crate::part::Part;
 use crate::walk::Parts;
 use std::alloc::{AllocError, Global};
 use zarrs_chunk_base::{ArraySubset, IncompatibleDimensionalityError, Refusal};
 use zarrs_chunk_keys::ChunkKeyEncodingTraits;
+use zarrs_chunk_parts::Part;
 use zarrs_chunks::ChunkGridTraits;
 
 /// What to read for a box of elements: which part of which chunk, under which key, and where in the answer it goes. `None` where the box has no

@@ -4,20 +4,19 @@ ghost use Rattle.zarrs_chunk_base.specs.ArraySubset.{Box, IsBox, IsInside};
 ghost use Rattle.zarrs_chunk_base.specs.Dimension.{array_sizes};
 ghost use Rattle.zarrs_chunk_base.specs.Refusal.{HasMemory, OrMemory};
 ghost use Rattle.zarrs_chunks.specs.Walks.{chunks_in};
-ghost use Rattle.zarrs_chunk_plan.specs.Plan.{Meets};
+ghost use Rattle.zarrs_chunk_parts.specs.Plan.{Meets};
 ghost use Rattle.zarrs_chunk_plan.specs.Rechunking.{AreTargets, array_box};
 ghost use Rattle.zarrs_chunk_plan.specs.seen.Copies.{CanCopy, CanMove, IsAboutCopies, IsCopiesFault, all_targets, first_of, targets_to_come};
 
 use crate::boxes_from_zero::{whole_array, zeros};
 use crate::chunk_copies::Copies;
 use crate::copies_error::CopiesError;
-use crate::overlap::overlap;
-use crate::shared::expect_answer;
 use crate::stored_array::StoredArray;
 use crate::walk::Parts;
 use std::alloc::{AllocError, Global};
 use zarrs_chunk_base::{ArraySubset, IncompatibleDimensionalityError, Refusal};
 use zarrs_chunk_keys::ChunkKeyEncodingTraits;
+use zarrs_chunk_parts::{expect_answer, overlap};
 use zarrs_chunks::ChunkGridTraits;
 
 /// What a rechunking copies: for each chunk of the target which parts of which chunks of the source, under which keys, and where in the target's

@@ -10,14 +10,13 @@ ghost use Rattle.zarrs_chunk_plan.specs.seen.Copies.{CanMove, IsAboutCopies, all
 
 use crate::chunk_copies::Copies;
 use crate::moved::{lies_in, shifted_box};
-use crate::part::Part;
 use crate::plan::parts;
 use crate::region_error::RegionError;
-use crate::shared::{box_of, expect_answer};
 use crate::stored_array::StoredArray;
 use std::alloc::{AllocError, Global};
 use zarrs_chunk_base::{ArraySubset, IncompatibleDimensionalityError, Refusal};
 use zarrs_chunk_keys::ChunkKeyEncodingTraits;
+use zarrs_chunk_parts::{Part, box_of, expect_answer};
 use zarrs_chunks::ChunkGridTraits;
 
 /// What is copied of a region: a box of elements of the source's array goes to the box of its shape that begins at `at` in the target's array, which

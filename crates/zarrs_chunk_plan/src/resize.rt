@@ -9,11 +9,11 @@ ghost use Rattle.zarrs_chunk_plan.specs.seen.Outside.{AreOnce, IsOutside, IsTold
 
 use crate::chunk_changes::{Changes, Uses};
 use crate::outside::{below, outside};
-use crate::part::ChunkShapeTinyVec;
 use crate::used::{kept_along, lesser, used_along};
 use std::alloc::{AllocError, Global};
 use zarrs_chunk_base::{ArraySubset, IncompatibleDimensionalityError, Refusal, StoreKey};
 use zarrs_chunk_keys::ChunkKeyEncodingTraits;
+use zarrs_chunk_parts::ChunkShapeTinyVec;
 use zarrs_chunks::{ArrayIndicesTinyVec, ChunkGridTraits};
 
 /// What becomes of a chunk when its array gets another shape.

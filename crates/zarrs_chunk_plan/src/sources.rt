@@ -8,9 +8,9 @@ ghost use Rattle.zarrs_chunk_plan.specs.seen.Sources.{AreTaking, counters, met_i
 ghost use Rattle.zarrs_chunk_plan.specs.seen.TargetCounts.{met_by_each};
 
 use crate::moved::shifted_box;
-use crate::shared::{expect_answer, shared_elements};
 use std::alloc::{AllocError, Global};
 use zarrs_chunk_base::{ArrayShape, ArraySubset};
+use zarrs_chunk_parts::{expect_answer, shared_elements};
 use zarrs_chunks::{ArrayIndicesTinyVec, ChunkGridTraits};
 
 /// A box of elements that goes from one array to another.

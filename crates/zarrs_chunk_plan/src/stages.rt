@@ -16,7 +16,7 @@ ghost use Rattle.zarrs_chunk_base.specs.Greatest.{greatest};
 ghost use Rattle.zarrs_chunk_base.specs.Refusal.{HasMemory, OrMemory};
 ghost use Rattle.zarrs_chunks.specs.seen.Grids.{regular_of};
 ghost use Rattle.zarrs_chunk_plan.specs.Counts.{product};
-ghost use Rattle.zarrs_chunk_plan.specs.Plan.{Meets};
+ghost use Rattle.zarrs_chunk_parts.specs.Plan.{Meets};
 ghost use Rattle.zarrs_chunk_plan.specs.Rechunking.{array_box};
 ghost use Rattle.zarrs_chunk_plan.specs.Stages.{FindsShape, HasFewChunks, HoldAtMost, IsLargest, IsBoundFault, IsStagesFault, shapes_tried};
 ghost use Rattle.zarrs_chunk_plan.specs.seen.Ends.{AreEnds};

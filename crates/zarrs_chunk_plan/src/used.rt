@@ -10,9 +10,9 @@ ghost use Rattle.zarrs_chunk_plan.specs.seen.Used.{kept_sizes};
 use crate::boxes_from_zero::whole_array;
 use crate::rechunking::chunks_of_array;
 use crate::resize::Held;
-use crate::shared::shared_elements;
 use std::alloc::{AllocError, Global};
 use zarrs_chunk_base::{ArrayShape, ArraySubset};
+use zarrs_chunk_parts::shared_elements;
 use zarrs_chunks::ChunkGridTraits;
 
 /// For each dimension how many chunks hold elements of the grid's array.
@@ -54,6 +54,18 @@ pub(crate) fn held_by<G: ChunkGridTraits>(
     })
 }
 
+/// What a chunk holds of a grid's array.
+///
+/// # Errors
+/// Out of memory.
+fn held_in<G: ChunkGridTraits>(alloc: Global, grid: &G, chunk: &[u64]) -> Result<Held, AllocError>
+    ensures { IsUsed (G.dimensions grid.now) chunk.now
+        → IfOk result (IsHeld (G.dimensions grid.now) chunk.now) }
+{
+    let array = whole_array(alloc, grid)?;
+    held_by(alloc, grid, &array, chunk)
+}
+
 /// For each dimension how many chunks are kept, where so many hold elements of the array as it was, and so many of the array as it is to be. Of those
 /// that do both only the last may differ.
 ///
@@ -83,8 +95,8 @@ pub(crate) fn kept_along<G: ChunkGridTraits, H: ChunkGridTraits>(
         return Ok(both);
     }
     let last = all_less_one(alloc, &both)?;
-    let one = held_by(alloc, before, &whole_array(alloc, before)?, &last)?;
-    let other = held_by(alloc, after, &whole_array(alloc, after)?, &last)?;
+    let one = held_in(alloc, before, &last)?;
+    let other = held_in(alloc, after, &last)?;
     let kept = kept_sizes(
         alloc,
         &both,

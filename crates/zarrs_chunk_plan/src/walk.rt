@@ -1,11 +1,11 @@
 //! The walk over the parts of a box of elements.
 use crate::chunks_between::ChunksBetween;
 use crate::numbered_chunks::{count_of, long_count};
-use crate::part::{Part, part_of};
 use crate::share::Share;
 use std::alloc::{AllocError, Global};
 use zarrs_chunk_base::ArraySubset;
 use zarrs_chunk_keys::ChunkKeyEncodingTraits;
+use zarrs_chunk_parts::{Part, part_of};
 use zarrs_chunks::ChunkGridTraits;
 
 /// The parts of a box of elements: one for each chunk of its cover, in row-major order of the chunks.

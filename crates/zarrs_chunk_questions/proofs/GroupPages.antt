@@ -14,7 +14,7 @@ use Rattle.zarrs_chunk_base.specs.Dimension.{Dimension, array_sizes}
 use Rattle.zarrs_chunks.specs.Subsets.{IsCover}
 use Rattle.zarrs_chunks.specs.Walks.{chunks_in}
 use Rattle.zarrs_chunks.proofs.ChunksInBoxes.{are_those_inside}
-use Rattle.zarrs_chunk_plan.specs.Plan.{Meets}
+use Rattle.zarrs_chunk_parts.specs.Plan.{Meets}
 use Rattle.zarrs_chunk_plan.specs.Rechunking.{AreTargets, Group, array_box}
 use Rattle.zarrs_chunk_plan.specs.Region.{AreMovedInto, CanBeMoved, moved}
 use Rattle.zarrs_chunk_plan.specs.declared.chunk_copies.Copies.{Copies}

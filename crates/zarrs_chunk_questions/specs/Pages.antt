@@ -18,7 +18,7 @@ use Rattle.zarrs_chunk_plan.specs.Rechunking.{Group, all_chunks_box}
 use Rattle.zarrs_chunk_plan.specs.SomeCopies.{AreSomeGroups}
 use Rattle.zarrs_chunk_plan.specs.SomeParts.{AnswersNone, AnswersSome}
 use Rattle.zarrs_chunk_plan.specs.declared.numbered_parts.SomeParts.{SomeParts}
-use Rattle.zarrs_chunk_plan.specs.declared.part.Part.{Part}
+use Rattle.zarrs_chunk_parts.specs.declared.part.Part.{Part}
 use Rattle.zarrs_chunk_questions.specs.Question.{Items, Lists, Target}
 use Rattle.zarrs_chunk_questions.specs.Trees.{Says, box_of, box_tree, numbers_tree}
 use Rattle.zarrs_chunk_questions.specs.declared.call.WalkOf.{WalkOf}

@@ -15,7 +15,7 @@ use Rattle.zarrs_chunk_plan.specs.Rechunking.{Group}
 use Rattle.zarrs_chunk_plan.specs.Region.{CanBeMoved, IsRegionCopy, moved, shifted}
 use Rattle.zarrs_chunk_plan.specs.SomeCopies.{AreSomeMovedGroups}
 use Rattle.zarrs_chunk_plan.specs.declared.counts.Counts.{Counts}
-use Rattle.zarrs_chunk_plan.specs.declared.part.Part.{Part}
+use Rattle.zarrs_chunk_parts.specs.declared.part.Part.{Part}
 use Rattle.zarrs_chunk_questions.specs.Counts.{counts_tree}
 use Rattle.zarrs_chunk_questions.specs.Pages.{first_of, is_more, page_tree, placed_tree, target_chunk_tree}
 use Rattle.zarrs_chunk_questions.specs.Question.{Items, RegionAsked, ShareAsked, TargetArray}

@@ -6,7 +6,7 @@ use Rattle.zarrs_chunk_base.specs.ArraySubset.{Box}
 use Rattle.zarrs_chunk_base.specs.Dimension.{Dimension}
 use Rattle.zarrs_chunk_base.specs.Greatest.{greatest}
 use Rattle.zarrs_chunks.specs.Walks.{chunks_in}
-use Rattle.zarrs_chunk_plan.specs.Plan.{AreShared}
+use Rattle.zarrs_chunk_parts.specs.Plan.{AreShared}
 use Rattle.zarrs_chunk_prepared.specs.LookedUp.{HasNoCover, IsCoverOf}
 use Rattle.zarrs_chunks_c.specs.Batch.{AreKeys, IsMarked, IsTooLong, IsWhole, list_at}
 use Rattle.zarrs_chunks_c.specs.KeyCalls.{AreTextLengths}

@@ -1,7 +1,7 @@
 //! Parts of a plan that are written one after another.
 ghost use Rattle.std.specs.Prelude.{◌≡◌, ℕ, ◌+◌, ◌<◌, ◌≤◌, IfErr, IfOk, MatchOption, drop, length, string_bytes};
 ghost use Rattle.std.specs.List.{AllByRecursion};
-ghost use Rattle.zarrs_chunk_plan.specs.declared.part.Part.{Part};
+ghost use Rattle.zarrs_chunk_parts.specs.declared.part.Part.{Part};
 ghost use Rattle.zarrs_chunk_prepared.specs.LookedUp.{HasNoCover};
 ghost use Rattle.zarrs_chunks_c.specs.Batch.{AreTexts};
 ghost use Rattle.zarrs_chunks_c.specs.Parts.{AreListsKept, AreSameBuffers};

@@ -7,9 +7,9 @@ use Rattle.zarrs_chunk_questions.specs.Line.{line_feeds}
 use Rattle.zarrs_chunk_questions.specs.AnswerLine.{IsAnswerTo}
 use Rattle.programs.specs.chunkcalls.Lines.{AreAnswers, HoldsAnswers, first_line}
 use Rattle.programs.specs.chunkcalls.seen.Answered.{HasAnsweredPiece}
-use Rattle.programs.specs.seen.Sent.{IsSent, Output, Sends}
-use Rattle.programs.proofs.Known.{for_both}
-use Rattle.programs.proofs.Sent.{sends_more, sends_nothing}
+use Rattle.streams.specs.seen.Sent.{IsSent, Output, Sends}
+use Rattle.streams.proofs.Known.{for_both}
+use Rattle.streams.proofs.Sent.{sends_more, sends_nothing}
 use Rattle.programs.proofs.chunkcalls.Counts.{line_feeds-push}
 
 -- ---- a piece of the input, byte by byte

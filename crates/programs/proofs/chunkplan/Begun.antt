@@ -3,11 +3,11 @@ use Rattle.std.proofs.Common.{◌≡◌, ℕ, List, ◌++◌, length}
 use Rattle.std.specs.List.{AllByRecursion}
 use Rattle.zarrs_chunk_base.specs.ArraySubset.{IsBox}
 use Rattle.zarrs_chunk_base.specs.Dimension.{Dimension, IsChain}
-use Rattle.zarrs_chunk_plan.specs.Plan.{IsPart, Meets}
+use Rattle.zarrs_chunk_parts.specs.Plan.{IsPart, Meets}
 use Rattle.zarrs_chunk_plan.specs.Rechunking.{Group}
 use Rattle.zarrs_chunk_plan.specs.Region.{AreMovedInto}
 use Rattle.zarrs_chunk_plan.specs.declared.chunk_copies.Copies.{Copies}
-use Rattle.zarrs_chunk_plan.specs.declared.part.Part.{Part}
+use Rattle.zarrs_chunk_parts.specs.declared.part.Part.{Part}
 use Rattle.zarrs_chunk_plan.specs.Shares.{share_of}
 use Rattle.zarrs_chunk_plan.specs.declared.share.Share.{Share}
 use Rattle.zarrs_chunk_plan.specs.declared.walk.Parts.{Parts}

@@ -8,7 +8,7 @@ use Rattle.zarrs_chunk_plan.specs.Counts.{AreReadCounts, AreRegionCounts, CountN
 use Rattle.zarrs_chunk_plan.specs.Rechunking.{Group}
 use Rattle.zarrs_chunk_plan.specs.Region.{CanBeMoved, IsRegionCopy, moved}
 use Rattle.zarrs_chunk_plan.specs.declared.counts.Counts.{Counts}
-use Rattle.zarrs_chunk_plan.specs.declared.part.Part.{Part}
+use Rattle.zarrs_chunk_parts.specs.declared.part.Part.{Part}
 use Rattle.zarrs_chunk_plan.specs.seen.Parts.{HasKeys}
 use Rattle.zarrs_chunk_plan.specs.seen.ReadCounts.{AreCountsOf}
 use Rattle.zarrs_chunk_plan.proofs.Plans.{empty_or_some}

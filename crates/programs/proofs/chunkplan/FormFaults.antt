@@ -3,16 +3,16 @@ use Rattle.std.proofs.Common.{◌≡◌, ℕ, List, [], ◌∷◌, None, Some, c
 use Rattle.serde_json.specs.Data.{Data}
 use Rattle.serde_json.specs.Find.{get}
 use Rattle.zarrs_chunk_base.specs.First.{IsFirst}
-use Rattle.programs.specs.Document.{IsMissingFault, IsShapeFault}
+use Rattle.documents.specs.Document.{IsMissingFault, IsShapeFault}
 use Rattle.programs.specs.declared.chunkplan.run_fault.RunFault.{RunFault}
 use Rattle.programs.specs.declared.chunkplan.run_fault.RunFault.TheVariants.{BoundOfNoTarget, ItemSizeOfCounts, ItemSizeOfTarget, KeepOfNoResize}
 use Rattle.programs.specs.declared.chunkplan.run_fault.RunFault.TheVariants.{KeysOfCounts}
 use Rattle.programs.specs.declared.chunkplan.run_fault.RunFault.TheVariants.{KeysOfNoTarget, NoItemSize, NotOfBound, NotOfOrder, NotOfResize}
 use Rattle.programs.specs.declared.chunkplan.run_fault.RunFault.TheVariants.{OrderOfNoTarget, ShareOfCounts}
 use Rattle.programs.specs.declared.chunkplan.run_fault.RunFault.TheVariants.{StageOfNoBound}
-use Rattle.programs.specs.declared.document_fault.DocumentFault.{DocumentFault}
-use Rattle.programs.specs.declared.document_fault.DocumentFault.TheVariants.{Missing, WrongValue}
-use Rattle.programs.proofs.Members.{has_more, is_there, no_more}
+use Rattle.documents.specs.declared.document_fault.DocumentFault.{DocumentFault}
+use Rattle.documents.specs.declared.document_fault.DocumentFault.TheVariants.{Missing, WrongValue}
+use Rattle.documents.proofs.Members.{has_more, is_there, no_more}
 use Rattle.programs.specs.chunkplan.Document.{Fit, FitKeys, FitOrder, FitRanges, FitResize, FitTask}
 use Rattle.programs.specs.chunkplan.DocumentFault.{HasMembers, IsBoundMisfit, IsFormFault, IsKeysMisfit, IsMisfit, IsOrderMisfit, IsRangesMisfit}
 use Rattle.programs.specs.chunkplan.DocumentFault.{IsTaskMisfit}

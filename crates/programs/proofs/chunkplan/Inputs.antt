@@ -2,7 +2,7 @@
 use Rattle.std.proofs.Common.{◌≡◌, ◌∙◌, ◌⊎◌, ℕ, Bool, false, List, [], Option, Some, Result, Ok, Err, inl, inr, refl, ⊎_elim}
 use Rattle.serde_json.specs.Data.{Data}
 use Rattle.zarrs_chunk_base.specs.Json.{IsJsonOf}
-use Rattle.programs.specs.Watched.{IsReadFailure}
+use Rattle.streams.specs.Watched.{IsReadFailure}
 use Rattle.programs.specs.chunkplan.Document.{Document, IsDocument}
 use Rattle.programs.specs.chunkplan.DocumentFault.{IsInputFault}
 use Rattle.programs.specs.chunkplan.Keys.{HasKeysBehind, behind_first, first_line}
@@ -11,11 +11,11 @@ use Rattle.programs.specs.chunkplan.Planned.{IsPlanOf, IsPlannedBeside, of_keys}
 use Rattle.programs.specs.chunkplan.RunFault.{of_stream}
 use Rattle.programs.specs.chunkplan.seen.Missing.{KeyStepLeaves}
 use Rattle.programs.specs.chunkplan.seen.Steps.{InputStepLeaves, StepLeaves}
-use Rattle.programs.specs.seen.Sent.{Output}
+use Rattle.streams.specs.seen.Sent.{Output}
 use Rattle.programs.specs.declared.chunkplan.run_fault.RunFault.{RunFault}
 use Rattle.programs.specs.declared.chunkplan.run_fault.RunFault.TheVariants.{Memory, Read, Write}
-use Rattle.programs.specs.declared.stream_fault.StreamFault.{StreamFault}
-use Rattle.programs.specs.declared.stream_fault.StreamFault.TheVariants.{Memory as NoMemory, Read as ReadFailed, Write as WriteFailed}
+use Rattle.streams.specs.declared.stream_fault.StreamFault.{StreamFault}
+use Rattle.streams.specs.declared.stream_fault.StreamFault.TheVariants.{Memory as NoMemory, Read as ReadFailed, Write as WriteFailed}
 use Rattle.programs.proofs.chunkplan.RunOutcomes.{no_read}
 
 module _ (input : List ℕ) (left : Option (List ℕ)) (before : Output) where

@@ -12,13 +12,13 @@ use Rattle.zarrs_chunk_plan.specs.seen.StoredChunks.{Knows}
 use Rattle.programs.specs.chunkplan.Keys.{AreForeign, AreKeys, IsKeyOfTarget, behind_first, empty_line, foreign_json, foreign_lines}
 use Rattle.programs.specs.chunkplan.Keys.{key_line, no_line, unended}
 use Rattle.programs.specs.chunkplan.Line.{line_of}
-use Rattle.programs.specs.Watched.{IsReadFailure}
+use Rattle.streams.specs.Watched.{IsReadFailure}
 use Rattle.programs.specs.chunkplan.RunFault.{of_stream}
 use Rattle.programs.specs.chunkplan.seen.Missing.{HaveMarked, HaveNoted, IsKeysStop, with_line}
 use Rattle.programs.specs.declared.chunkplan.run_fault.RunFault.{RunFault}
 use Rattle.programs.specs.declared.chunkplan.run_fault.RunFault.TheVariants.{KeyNotText, Memory}
-use Rattle.programs.specs.declared.stream_fault.StreamFault.{StreamFault}
-use Rattle.programs.specs.declared.stream_fault.StreamFault.TheVariants.{Memory as NoMemory, Read as ReadFailed, Write as WriteFailed}
+use Rattle.streams.specs.declared.stream_fault.StreamFault.{StreamFault}
+use Rattle.streams.specs.declared.stream_fault.StreamFault.TheVariants.{Memory as NoMemory, Read as ReadFailed, Write as WriteFailed}
 
 -- ---- the keys in some lines
 

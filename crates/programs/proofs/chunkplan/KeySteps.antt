@@ -4,7 +4,7 @@ use Rattle.std.specs.Str.{IsUtf8}
 use Rattle.programs.specs.chunkplan.Keys.{AreKeys}
 use Rattle.programs.specs.chunkplan.seen.Missing.{IsKeysStop, KeyStepLeaves}
 use Rattle.programs.specs.chunkplan.seen.Steps.{HasBegun, StepLeaves}
-use Rattle.programs.specs.seen.Sent.{Output}
+use Rattle.streams.specs.seen.Sent.{Output}
 use Rattle.programs.specs.declared.chunkplan.run_fault.RunFault.{RunFault}
 use Rattle.programs.specs.declared.chunkplan.run_fault.RunFault.TheVariants.{KeyNotText, Memory, Read, Write}
 use Rattle.programs.proofs.chunkplan.KeyLines.{some_keys}

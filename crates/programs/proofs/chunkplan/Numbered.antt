@@ -3,7 +3,7 @@ use Rattle.std.proofs.Common.{◌≡◌, ◌∙◌, ℕ, suc, ◌+◌, List, [],
 use Rattle.zarrs_chunk_plan.specs.Counted.{counted}
 use Rattle.programs.specs.chunkplan.Line.{lines_from}
 use Rattle.programs.specs.chunkplan.seen.Steps.{HasSent}
-use Rattle.programs.specs.seen.Sent.{Output}
+use Rattle.streams.specs.seen.Sent.{Output}
 use Rattle.programs.specs.declared.chunkplan.run_fault.RunFault.{RunFault}
 use Rattle.programs.specs.declared.chunkplan.run_fault.RunFault.TheVariants.{Memory}
 use Rattle.programs.proofs.chunkplan.Behind.{Begins, Behind, Stops, memory_after, sent_behind, stops_behind}

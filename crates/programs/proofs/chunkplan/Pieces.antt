@@ -12,7 +12,7 @@ use Rattle.json.proofs.Printed.Tokens.{print_from-append}
 use Rattle.std.proofs.lemmas.Bool.{cases_lt, le-leb, lt-leb}
 use Rattle.zarrs_chunk_base.specs.Greatest.{greatest}
 use Rattle.zarrs_chunk_plan.specs.Counted.{counted}
-use Rattle.zarrs_chunk_plan.specs.declared.part.Part.{Part}
+use Rattle.zarrs_chunk_parts.specs.declared.part.Part.{Part}
 use Rattle.zarrs_chunk_plan.specs.Region.{shifted}
 use Rattle.programs.specs.chunkplan.Document.{RangesWanted}
 use Rattle.programs.specs.chunkplan.Line.{box_json, chunk_json, count_json, end_members, group_json, group_line, lines_from, numbers_json, part_json}

@@ -8,7 +8,7 @@ use Rattle.zarrs_chunk_base.specs.Dimension.{Dimension}
 use Rattle.zarrs_chunk_plan.specs.Rechunking.{all_chunks_box, array_box}
 use Rattle.zarrs_chunk_plan.specs.declared.region_error.RegionError.{RegionError}
 use Rattle.zarrs_chunk_plan.specs.declared.region_error.RegionError.TheVariants.{At, PastSource, PastTarget, Region, Target}
-use Rattle.programs.specs.Streams.{IsReadToEnd, Streams}
+use Rattle.streams.specs.Streams.{IsReadToEnd, Streams}
 use Rattle.programs.specs.chunkplan.Document.{Document, Wanted, counts_wanted, lines_wanted}
 use Rattle.programs.specs.chunkplan.DocumentFault.{HasBoxFault, HasWantedFault, IsBoxFormFault, IsCopyingFault, IsFormFault, IsInputFault, IsMisfit, IsTargetMisfit}
 use Rattle.programs.specs.chunkplan.DocumentFault.{misfit, misformed_keys, misformed_shape, misformed_stored, misformed_task, misformed_wanted, missing}
@@ -30,16 +30,16 @@ use Rattle.programs.specs.chunkplan.Planned.{IsPlanOf, begins_at}
 use Rattle.programs.specs.chunkplan.Run.{HasBegunPlan, RunLeaves}
 use Rattle.programs.specs.chunkplan.RunFault.{of_create, of_document, of_region as of_region_error, of_stream}
 use Rattle.programs.specs.chunkplan.seen.Steps.{HasBegun, InputStepLeaves}
-use Rattle.programs.specs.seen.Sent.{Output}
+use Rattle.streams.specs.seen.Sent.{Output}
 use Rattle.programs.specs.declared.chunkplan.run_fault.RunFault.{RunFault}
 use Rattle.programs.specs.declared.chunkplan.run_fault.RunFault.TheVariants.{Memory, Read, Write}
 use Rattle.programs.specs.declared.chunkplan.stage.Stage.{Stage}
-use Rattle.programs.specs.declared.document_fault.DocumentFault.{DocumentFault}
-use Rattle.programs.specs.declared.document_fault.DocumentFault.TheVariants.{Memory as NoMemory, Metadata, Missing, NotJson, NotObject, WrongValue}
-use Rattle.programs.specs.declared.stored.CreateFault.{CreateFault}
-use Rattle.programs.specs.declared.stored.CreateFault.TheVariants.{Encoding, Grid, Memory as NoRoom}
-use Rattle.programs.specs.declared.stream_fault.StreamFault.{StreamFault}
-use Rattle.programs.specs.declared.stream_fault.StreamFault.TheVariants.{Write as WriteFailed}
+use Rattle.documents.specs.declared.document_fault.DocumentFault.{DocumentFault}
+use Rattle.documents.specs.declared.document_fault.DocumentFault.TheVariants.{Memory as NoMemory, Metadata, Missing, NotJson, NotObject, WrongValue}
+use Rattle.documents.specs.declared.stored.CreateFault.{CreateFault}
+use Rattle.documents.specs.declared.stored.CreateFault.TheVariants.{Encoding, Grid, Memory as NoRoom}
+use Rattle.streams.specs.declared.stream_fault.StreamFault.{StreamFault}
+use Rattle.streams.specs.declared.stream_fault.StreamFault.TheVariants.{Write as WriteFailed}
 
 -- ---- a fault of an input is none of reading or writing
 

@@ -1,13 +1,13 @@
 -- What a step leaves that sends the text of a plan, in other words.
 use Rattle.std.proofs.Common.{◌≡◌, ◌∙◌, ◌⊎◌, ℕ, List, Result, Ok, Err, inl, inr, refl, ⊎_elim}
-use Rattle.programs.specs.Watched.{IsWriteFailure}
+use Rattle.streams.specs.Watched.{IsWriteFailure}
 use Rattle.programs.specs.chunkplan.RunFault.{of_stream}
 use Rattle.programs.specs.chunkplan.seen.Steps.{HasBegun, StepLeaves}
-use Rattle.programs.specs.seen.Sent.{Output}
+use Rattle.streams.specs.seen.Sent.{Output}
 use Rattle.programs.specs.declared.chunkplan.run_fault.RunFault.{RunFault}
 use Rattle.programs.specs.declared.chunkplan.run_fault.RunFault.TheVariants.{Memory, Write}
-use Rattle.programs.specs.declared.stream_fault.StreamFault.{StreamFault}
-use Rattle.programs.specs.declared.stream_fault.StreamFault.TheVariants.{Memory as NoMemory, Read as ReadFailed, Write as WriteFailed}
+use Rattle.streams.specs.declared.stream_fault.StreamFault.{StreamFault}
+use Rattle.streams.specs.declared.stream_fault.StreamFault.TheVariants.{Memory as NoMemory, Read as ReadFailed, Write as WriteFailed}
 
 module _ (P Q : List ℕ → Type 0) (F G : RunFault → Type 0) (step : (text : List ℕ) → P text → Q text)
     (blames : (fault : RunFault) → F fault → G fault)

@@ -1,7 +1,7 @@
 -- Why a run of the program stops.
 use Rattle.std.specs.Prelude.{◌≡◌, Bool, true}
-use Rattle.programs.specs.declared.stream_fault.StreamFault.{StreamFault}
-use Rattle.programs.specs.declared.stream_fault.StreamFault.TheVariants.{Memory, Read, Write}
+use Rattle.streams.specs.declared.stream_fault.StreamFault.{StreamFault}
+use Rattle.streams.specs.declared.stream_fault.StreamFault.TheVariants.{Memory, Read, Write}
 
 -- By whether a read had failed before the run, and after it, and a write after it: a read failed; or a write did, or memory ran out, and no read had
 -- failed meanwhile.

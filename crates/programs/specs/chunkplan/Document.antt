@@ -16,8 +16,8 @@ use Rattle.zarrs_chunk_plan.specs.declared.bytes.MemoryOrder.{MemoryOrder}
 use Rattle.zarrs_chunk_plan.specs.declared.bytes.MemoryOrder.TheVariants.{C}
 use Rattle.zarrs_chunk_plan.specs.declared.share.Share.{Share}
 use Rattle.zarrs_chunk_questions.specs.Order.{order_in}
-use Rattle.programs.specs.Document.{HasStored, shape_in}
-use Rattle.programs.specs.Stored.{Stored, stored_of}
+use Rattle.documents.specs.Document.{HasStored, shape_in}
+use Rattle.documents.specs.Stored.{Stored, stored_of}
 use Rattle.programs.specs.chunkplan.Known.{Agree, HasOnly, known_members, zarr_json_members}
 use Rattle.programs.specs.declared.chunkplan.line.Order.{Order}
 use Rattle.programs.specs.declared.chunkplan.line.Order.TheVariants.{Source, Target}

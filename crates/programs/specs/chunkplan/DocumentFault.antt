@@ -9,8 +9,8 @@ use Rattle.zarrs_chunk_base.specs.Json.{edge_of, list_of, pair_of, size_of}
 use Rattle.zarrs_chunk_plan.specs.declared.bytes.MemoryOrder.{MemoryOrder}
 use Rattle.zarrs_chunk_plan.specs.declared.bytes.MemoryOrder.TheVariants.{C}
 use Rattle.zarrs_chunk_questions.specs.Order.{order_in}
-use Rattle.programs.specs.Document.{HasAll, HasStored, IsObjectOf, IsShapeFault, IsStoredFault, IsTextFault, shape_in}
-use Rattle.programs.specs.Stored.{Stored}
+use Rattle.documents.specs.Document.{HasAll, HasStored, IsObjectOf, IsShapeFault, IsStoredFault, IsTextFault, shape_in}
+use Rattle.documents.specs.Stored.{Stored}
 use Rattle.programs.specs.chunkplan.Document.{Fit, FitKeys, FitResize, FitTask, HasBox, HasFlag, HasNumbers, HasWanted, IsOfArray, IsOfType, Wanted}
 use Rattle.programs.specs.chunkplan.Document.{FitBound, FitOrder, FitRanges, HasIfAny, HasOr, HasOrder, not_of_bound, not_of_order, not_of_resize}
 use Rattle.programs.specs.chunkplan.Document.{line_order_in, only_with_item_size, stage_in}
@@ -26,7 +26,7 @@ use Rattle.programs.specs.declared.chunkplan.run_fault.RunFault.TheVariants.{Oth
 use Rattle.programs.specs.declared.chunkplan.run_fault.RunFault.TheVariants.{UnknownOfTarget}
 use Rattle.programs.specs.declared.chunkplan.run_fault.RunFault.TheVariants.{WrongValue}
 use Rattle.programs.specs.declared.chunkplan.line.Order.TheVariants.{Target}
-use Rattle.programs.specs.declared.document_fault.DocumentFault.{DocumentFault}
+use Rattle.documents.specs.declared.document_fault.DocumentFault.{DocumentFault}
 
 -- the fault says that the member of this name is missing, or isn't of its form
 abbrev pub TellsMissing : List ℕ → RunFault → Type 0

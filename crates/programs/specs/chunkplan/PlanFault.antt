@@ -14,7 +14,7 @@ use Rattle.zarrs_chunk_plan.specs.Region.{IsRegionFault}
 use Rattle.zarrs_chunk_plan.specs.Stages.{FindsShape, IsBoundFault, IsStagesFault}
 use Rattle.zarrs_chunk_plan.specs.declared.copies_error.CopiesError.TheVariants.{Chunks}
 use Rattle.zarrs_chunk_plan.specs.declared.region_error.RegionError.{RegionError}
-use Rattle.programs.specs.Stored.{IsCreateFault, IsStored, Stored}
+use Rattle.documents.specs.Stored.{IsCreateFault, IsStored, Stored}
 use Rattle.programs.specs.chunkplan.Document.{Document, IsDocument, RangesWanted, copy_to, read_of, rechunk_by_source, rechunk_to}
 use Rattle.programs.specs.chunkplan.Document.{Wanted, counts_wanted, lines_wanted, rechunk_within, resize_to}
 use Rattle.programs.specs.chunkplan.DocumentFault.{IsInputFault}
@@ -25,8 +25,8 @@ use Rattle.programs.specs.declared.chunkplan.run_fault.RunFault.{RunFault}
 use Rattle.programs.specs.declared.chunkplan.run_fault.RunFault.TheVariants.{Copies, KeysOfLongDocument, NoShape, NotInOneStage, ResizedGrid}
 use Rattle.programs.specs.declared.chunkplan.run_fault.RunFault.TheVariants.{Stages, SubsetDimensionality, TargetEncoding, TargetGrid, Uncovered}
 use Rattle.programs.specs.declared.chunkplan.stage.Stage.{Stage}
-use Rattle.programs.specs.declared.stored.CreateFault.{CreateFault}
-use Rattle.programs.specs.declared.stored.CreateFault.TheVariants.{Encoding, Grid}
+use Rattle.documents.specs.declared.stored.CreateFault.{CreateFault}
+use Rattle.documents.specs.declared.stored.CreateFault.TheVariants.{Encoding, Grid}
 
 -- the fault says why the target isn't stored so
 abbrev pub IsTargetFault : Stored → List ℕ → RunFault → Type 0

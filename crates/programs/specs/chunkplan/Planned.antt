@@ -11,16 +11,16 @@ use Rattle.zarrs_chunks.specs.GridKinds.{IsGrid, grid_kind, regular}
 use Rattle.zarrs_chunks.specs.Subsets.{IsCover}
 use Rattle.zarrs_chunk_plan.specs.Clip.{IsClipped}
 use Rattle.zarrs_chunk_plan.specs.Counts.{AreReadCounts, AreRechunkingCounts, AreRegionCounts, CountNothing}
-use Rattle.zarrs_chunk_plan.specs.Plan.{IsPlan}
+use Rattle.zarrs_chunk_parts.specs.Plan.{IsPlan}
 use Rattle.zarrs_chunk_plan.specs.Rechunking.{AreTargets, Group, IsRechunking, all_chunks_box, array_box}
 use Rattle.zarrs_chunk_plan.specs.Region.{CanBeMoved, IsRegionCopy, moved}
 use Rattle.zarrs_chunk_plan.specs.Resize.{IsResizePlan}
 use Rattle.zarrs_chunk_plan.specs.Stages.{FindsShape, HoldAtMost, IsLargest}
 use Rattle.zarrs_chunk_plan.specs.declared.counts.Counts.{Counts}
-use Rattle.zarrs_chunk_plan.specs.declared.part.Part.{Part}
+use Rattle.zarrs_chunk_parts.specs.declared.part.Part.{Part}
 use Rattle.zarrs_chunk_plan.specs.declared.resize.ChunkChange.{ChunkChange}
 use Rattle.zarrs_chunk_plan.specs.declared.share.Share.{Share}
-use Rattle.programs.specs.Stored.{IsStored, Stored}
+use Rattle.documents.specs.Stored.{IsStored, Stored}
 use Rattle.programs.specs.chunkplan.CountsLine.{IsCountsLine}
 use Rattle.programs.specs.chunkplan.Document.{Document, IsDocument, RangesWanted, Wanted, copy_to, counts_wanted, lines_wanted, read_of}
 use Rattle.programs.specs.chunkplan.Document.{rechunk_by_source, rechunk_to, rechunk_within, resize_to}

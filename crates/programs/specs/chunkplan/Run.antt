@@ -1,6 +1,6 @@
 -- What a run of the program leaves.
 use Rattle.std.specs.Prelude.{◌≡◌, ◌⊎◌, ℕ, true, false, List, [], ◌++◌, Some, Result, Ok, Err, MatchResult}
-use Rattle.programs.specs.Streams.{IsReadToEnd, IsWritten, Streams}
+use Rattle.streams.specs.Streams.{IsReadToEnd, IsWritten, Streams}
 use Rattle.programs.specs.chunkplan.Keys.{HasKeysBehind, first_line}
 use Rattle.programs.specs.chunkplan.PlanFault.{IsFirstFault}
 use Rattle.programs.specs.chunkplan.Planned.{IsPlanOf}

@@ -1,12 +1,12 @@
 -- The faults of what the programs share, as a run of this program tells them.
 use Rattle.zarrs_chunk_plan.specs.declared.region_error.RegionError.{RegionError}
 use Rattle.zarrs_chunk_plan.specs.declared.region_error.RegionError.TheVariants as region
-use Rattle.programs.specs.declared.document_fault.DocumentFault.{DocumentFault}
-use Rattle.programs.specs.declared.document_fault.DocumentFault.TheVariants as document
-use Rattle.programs.specs.declared.stored.CreateFault.{CreateFault}
-use Rattle.programs.specs.declared.stored.CreateFault.TheVariants as create
-use Rattle.programs.specs.declared.stream_fault.StreamFault.{StreamFault}
-use Rattle.programs.specs.declared.stream_fault.StreamFault.TheVariants as stream
+use Rattle.documents.specs.declared.document_fault.DocumentFault.{DocumentFault}
+use Rattle.documents.specs.declared.document_fault.DocumentFault.TheVariants as document
+use Rattle.documents.specs.declared.stored.CreateFault.{CreateFault}
+use Rattle.documents.specs.declared.stored.CreateFault.TheVariants as create
+use Rattle.streams.specs.declared.stream_fault.StreamFault.{StreamFault}
+use Rattle.streams.specs.declared.stream_fault.StreamFault.TheVariants as stream
 use Rattle.programs.specs.declared.chunkplan.run_fault.RunFault.{RunFault}
 use Rattle.programs.specs.declared.chunkplan.run_fault.RunFault.TheVariants.{AtDimensionality, Encoding, Grid, Memory, Metadata, Missing, NotJson}
 use Rattle.programs.specs.declared.chunkplan.run_fault.RunFault.TheVariants.{NotObject, PastArray, PastTarget, Read, SubsetDimensionality}

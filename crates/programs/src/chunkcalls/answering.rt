@@ -2,17 +2,16 @@
 ghost use Rattle.std.specs.Prelude.{◌≡◌, ℕ, List, IfErr, IfSome, MatchResult, OnOk};
 ghost use Rattle.zarrs_chunk_questions.specs.AnswerLine.{IsAnswerTo};
 ghost use Rattle.zarrs_chunk_questions.specs.Line.{line_feeds};
-ghost use Rattle.programs.specs.Watched.{IsWriteFailure, has_failed, watched};
+ghost use Rattle.streams.specs.Watched.{IsWriteFailure, has_failed, watched};
 ghost use Rattle.programs.specs.chunkcalls.Lines.{AreAnswers};
 ghost use Rattle.programs.specs.chunkcalls.Run.{TellsFailure};
 ghost use Rattle.programs.specs.chunkcalls.seen.Answered.{HasAnsweredPiece};
-ghost use Rattle.programs.specs.seen.Sent.{IsSent, output};
+ghost use Rattle.streams.specs.seen.Sent.{IsSent, output};
 
 use crate::chunkcalls::RunFault;
-use crate::streams::{BUFFER_LEN, send, write_all};
-use crate::watched::Watched;
 use std::alloc::Global;
 use std::io::{Read, Write};
+use streams::{BUFFER_LEN, Watched, send, write_all};
 use zarrs_chunk_questions::answer;
 
 /// Sends the answer to each line that a reader has left, in order. What was read is answered before more is asked for.

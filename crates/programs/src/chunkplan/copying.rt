@@ -7,7 +7,7 @@ ghost use Rattle.zarrs_chunk_base.specs.Greatest.{AllFit};
 ghost use Rattle.zarrs_chunk_plan.specs.Counted.{counted};
 ghost use Rattle.zarrs_chunk_plan.specs.Rechunking.{Group};
 ghost use Rattle.zarrs_chunk_plan.specs.Resize.{IsUsed};
-ghost use Rattle.zarrs_chunk_plan.specs.declared.part.Part.{Part as PartValue};
+ghost use Rattle.zarrs_chunk_parts.specs.declared.part.Part.{Part as PartValue};
 ghost use Rattle.zarrs_chunk_plan.specs.declared.resize.ChunkChange.{ChunkChange as ChangeValue};
 ghost use Rattle.zarrs_chunk_plan.specs.seen.Changes.{AreChangesToCome, CanChange, all_changes, changes_to_come};
 ghost use Rattle.zarrs_chunk_plan.specs.seen.Copies.{AreMovesToCome, CanMove, all_targets, region_of};
@@ -16,14 +16,13 @@ ghost use Rattle.programs.specs.chunkplan.Line.{group_line, lines_from, resize_l
 ghost use Rattle.programs.specs.chunkplan.seen.Missing.{is_left_out as left_out, line_unless_stored};
 ghost use Rattle.programs.specs.chunkplan.seen.Pieces.{text_as};
 ghost use Rattle.programs.specs.chunkplan.seen.Steps.{StepLeaves};
-ghost use Rattle.programs.specs.seen.Sent.{output};
+ghost use Rattle.streams.specs.seen.Sent.{output};
 
 use crate::chunkplan::RunFault;
 use crate::chunkplan::line::{Form, Order, change_line, line_begin, line_end, part_text};
-use crate::streams::send;
-use crate::watched::Watched;
 use std::alloc::Global;
 use std::io::Write;
+use streams::{Watched, send};
 use zarrs_chunk_keys::ChunkKeyEncodingTraits;
 use zarrs_chunk_plan::{Changes, ChunkCopies, Copies, Part, Parts, StoredChunks};
 use zarrs_chunks::ChunkGridTraits;

@@ -2,18 +2,17 @@
 ghost use Rattle.std.specs.Prelude.{◌≡◌, ◌≢◌, ◌↔◌, ◌⊎◌, ◌++◌, ◌∷◌, [], ℕ, IfErr, IfOk, IfSome, IsTrue, List, OnOk, Some};
 ghost use Rattle.std.specs.Io.BufRead.{take_through};
 ghost use Rattle.std.specs.Str.{IsUtf8};
-ghost use Rattle.programs.specs.Watched.{has_failed, watched};
+ghost use Rattle.streams.specs.Watched.{has_failed, watched};
 ghost use Rattle.programs.specs.chunkplan.Keys.{AreKeys, HasKeysBehind, IsKeyOfTarget, unended};
 ghost use Rattle.programs.specs.chunkplan.seen.Missing.{HaveMarked, HaveNoted, IsKeysStop, with_line};
 ghost use Rattle.programs.specs.declared.chunkplan.run_fault.RunFault.TheVariants.{KeyNotText, Memory};
-ghost use Rattle.programs.specs.seen.Lines.{left};
+ghost use Rattle.streams.specs.seen.Lines.{left};
 
 use crate::chunkplan::RunFault;
 use crate::chunkplan::line::foreign_line;
-use crate::lines::Lines;
-use crate::watched::Watched;
 use std::alloc::{AllocError, Global};
 use std::io::Read;
+use streams::{Lines, Watched};
 use zarrs_chunk_base::{StoreKey, read_json};
 use zarrs_chunk_keys::ChunkKeyEncodingTraits;
 use zarrs_chunk_plan::{StoredArray, StoredChunks};

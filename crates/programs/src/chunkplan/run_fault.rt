@@ -4,10 +4,9 @@ ghost use Rattle.programs.specs.chunkplan.RunFault.{of_create, of_document, of_r
 ghost use Rattle.programs.specs.declared.chunkplan.run_fault.RunFault.TheVariants.{Memory};
 
 use crate::chunkplan::known_members::UnknownMember;
-use crate::document_fault::DocumentFault;
-use crate::stored::CreateFault;
-use crate::stream_fault::StreamFault;
+use documents::{CreateFault, DocumentFault};
 use std::alloc::AllocError;
+use streams::StreamFault;
 use thiserror::Error;
 use zarrs_chunk_base::{
     ArraySubsetError, IncompatibleDimensionalityError, MetadataError, PluginCreateError,

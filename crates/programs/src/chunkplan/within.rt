@@ -9,7 +9,7 @@ ghost use Rattle.programs.specs.chunkplan.Planned.{AreCountsBetween, AreCountsOf
 ghost use Rattle.programs.specs.chunkplan.seen.Between.{TellsStages};
 ghost use Rattle.programs.specs.chunkplan.seen.Steps.{StepLeaves};
 ghost use Rattle.programs.specs.declared.chunkplan.run_fault.RunFault.TheVariants.{Memory};
-ghost use Rattle.programs.specs.seen.Sent.{output};
+ghost use Rattle.streams.specs.seen.Sent.{output};
 
 use crate::chunkplan::RunFault;
 use crate::chunkplan::between::{Between, find_between};
@@ -19,9 +19,9 @@ use crate::chunkplan::line::Order;
 use crate::chunkplan::plan::write_rechunking;
 use crate::chunkplan::stage::Stage;
 use crate::chunkplan::stages_line::{StagesCounts, stages_line};
-use crate::watched::Watched;
 use std::alloc::{AllocError, Global};
 use std::io::Write;
+use streams::Watched;
 use zarrs_chunk_base::Refusal;
 use zarrs_chunk_keys::ChunkKeyEncodingTraits;
 use zarrs_chunk_plan::{

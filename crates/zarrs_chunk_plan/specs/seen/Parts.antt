@@ -12,8 +12,8 @@ use Rattle.zarrs_chunk_base.specs.declared.refusal.Refusal.TheVariants.{Refused,
 use Rattle.zarrs_chunks.specs.Subsets.{HasNoHome, IsCover}
 use Rattle.zarrs_chunks.specs.Walks.{Gives, chunks_in}
 use Rattle.zarrs_chunk_plan.specs.seen.ChunksBetween.{all_between, chunks_between, offsets_between}
-use Rattle.zarrs_chunk_plan.specs.Plan.{IsPart, Meets}
-use Rattle.zarrs_chunk_plan.specs.declared.part.Part.{Part}
+use Rattle.zarrs_chunk_parts.specs.Plan.{IsPart, Meets}
+use Rattle.zarrs_chunk_parts.specs.declared.part.Part.{Part}
 use Rattle.zarrs_chunk_plan.specs.declared.walk.Parts.{Parts}
 
 module _ {G E : Type 0} where

@@ -8,9 +8,9 @@ use Rattle.zarrs_chunk_base.specs.declared.refusal.Refusal.{Refusal}
 use Rattle.zarrs_chunk_base.specs.declared.refusal.Refusal.TheVariants.{Refused, Memory}
 use Rattle.zarrs_chunks.specs.Subsets.{HasNoHome, IsCover}
 use Rattle.zarrs_chunk_plan.specs.Counts.{AreReadCounts}
-use Rattle.zarrs_chunk_plan.specs.Plan.{IsPlan}
+use Rattle.zarrs_chunk_parts.specs.Plan.{IsPlan}
 use Rattle.zarrs_chunk_plan.specs.declared.counts.Counts.{Counts}
-use Rattle.zarrs_chunk_plan.specs.declared.part.Part.{Part}
+use Rattle.zarrs_chunk_parts.specs.declared.part.Part.{Part}
 
 -- the box has a cover, and these are the counts of its plan
 abbrev pub AreCountsOf : List Dimension → (List ℕ → List ℕ → Type 0) → Box → Counts → Type 0

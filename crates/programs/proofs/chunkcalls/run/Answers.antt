@@ -1,6 +1,6 @@
-use Rattle.programs.specs.Watched.{watched}
+use Rattle.streams.specs.Watched.{watched}
 use Rattle.programs.specs.chunkcalls.Lines.{HasAnswered}
-use Rattle.programs.specs.seen.Sent.{output}
+use Rattle.streams.specs.seen.Sent.{output}
 use Rattle.programs.proofs.chunkcalls.Counts.{are_lines_for}
 use Rattle.programs.proofs.chunkcalls.PartWay.{all_written}
 use Rattle.programs.proofs.chunkcalls.run.Goals as goal

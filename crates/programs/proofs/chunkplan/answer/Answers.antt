@@ -3,7 +3,7 @@ use Rattle.std.proofs.lemmas.Result.{err_from_is_err_and}
 use Rattle.programs.specs.chunkplan.Document.{document_of}
 use Rattle.programs.specs.chunkplan.PlanFault.{IsFirstFault, IsPlanFault, long_document, no_document, no_plan}
 use Rattle.programs.specs.chunkplan.Planned.{IsPlanOf, IsPlanned, of_document}
-use Rattle.programs.specs.seen.Sent.{output}
+use Rattle.streams.specs.seen.Sent.{output}
 use Rattle.programs.proofs.chunkplan.RunOutcomes.{no_write}
 use Rattle.programs.proofs.chunkplan.Steps.{early, step_follows}
 use Rattle.programs.proofs.chunkplan.answer.Goals as goal

@@ -3,7 +3,7 @@ use Rattle.std.proofs.lemmas.Result.{err_from_is_err_and}
 use Rattle.programs.specs.chunkplan.Document.{document_of}
 use Rattle.programs.specs.chunkplan.PlanFault.{IsFaultBeside}
 use Rattle.programs.specs.chunkplan.Planned.{IsPlannedBeside}
-use Rattle.programs.specs.seen.Sent.{output}
+use Rattle.streams.specs.seen.Sent.{output}
 use Rattle.programs.proofs.chunkplan.Inputs.{IsFaultOfLine, IsTextBeside}
 use Rattle.programs.proofs.chunkplan.KeyDocuments.{copy_of_lines}
 use Rattle.programs.proofs.chunkplan.KeySteps.{early_beside, key_step_follows}

@@ -1,10 +1,10 @@
 use Rattle.std.proofs.Common.{◌≡◌, ◌∙◌, ◌++◌, [], Some, ap, append-nil, false, subst, sym, true≢false}
-use Rattle.programs.specs.Watched.{has_failed, watched}
+use Rattle.streams.specs.Watched.{has_failed, watched}
 use Rattle.programs.specs.chunkplan.Keys.{HasKeysBehind, behind_first, first_line}
-use Rattle.programs.specs.seen.Lines.{left}
-use Rattle.programs.specs.seen.Sent.{output}
-use Rattle.programs.proofs.Known.{for_known}
-use Rattle.programs.proofs.LineBytes.{both_parts, nothing_left}
+use Rattle.streams.specs.seen.Lines.{left}
+use Rattle.streams.specs.seen.Sent.{output}
+use Rattle.streams.proofs.Known.{for_known}
+use Rattle.streams.proofs.LineBytes.{both_parts, nothing_left}
 use Rattle.programs.proofs.chunkplan.Inputs.{sent_after_reading, sent_beside_keys}
 use Rattle.programs.proofs.chunkplan.answer_input.Goals as goal
 use Rattle.programs.proofs.chunkplan.answer_input.Goals.{then-ended+in_ok-read_rest, else-ended}

@@ -1,8 +1,8 @@
 use Rattle.std.proofs.Common.{◌∙◌}
 use Rattle.std.proofs.lemmas.Result.{err_from_is_err_and}
-use Rattle.programs.specs.Watched.{watched}
-use Rattle.programs.specs.seen.Sent.{output}
-use Rattle.programs.proofs.Known.{for_both}
+use Rattle.streams.specs.Watched.{watched}
+use Rattle.streams.specs.seen.Sent.{output}
+use Rattle.streams.proofs.Known.{for_both}
 use Rattle.programs.proofs.chunkplan.RunOutcomes.{all_written, sending_stops, some_written}
 use Rattle.programs.proofs.chunkplan.run.Goals as goal
 

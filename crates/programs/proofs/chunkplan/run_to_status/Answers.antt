@@ -1,5 +1,5 @@
-use Rattle.programs.specs.Watched.{watched}
-use Rattle.programs.proofs.Known.{for_both}
+use Rattle.streams.specs.Watched.{watched}
+use Rattle.streams.proofs.Known.{for_both}
 use Rattle.programs.proofs.chunkplan.run_to_status.Goals as goal
 
 pub returns-clause-outcome : goal.returns-clause-outcome

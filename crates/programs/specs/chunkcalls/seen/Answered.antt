@@ -2,7 +2,7 @@
 use Rattle.std.specs.Prelude.{◌≡◌, ℕ, List, ◌++◌}
 use Rattle.zarrs_chunk_questions.specs.Line.{line_feeds}
 use Rattle.programs.specs.chunkcalls.Lines.{AreAnswers}
-use Rattle.programs.specs.seen.Sent.{IsSent, Output}
+use Rattle.streams.specs.seen.Sent.{IsSent, Output}
 
 -- Behind the bytes of a line a piece of the input was read, and the bytes of another line are left of it: no line feed is in these. What was sent
 -- answers the lines that ended: with the answers to what is left and to any rest behind it, it is the answers to the line, the piece and that rest.

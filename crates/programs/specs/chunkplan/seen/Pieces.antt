@@ -3,7 +3,7 @@ use Rattle.std.specs.Prelude.{ℕ, zero, List, [], ◌∷◌, ◌++◌, codes, O
 use Rattle.json.specs.Print.{print}
 use Rattle.json.specs.Token.{Token, begin_array, begin_object, boolean, end_array, end_object, key}
 use Rattle.json.specs.Tree.{json_tokens, members_tokens}
-use Rattle.zarrs_chunk_plan.specs.declared.part.Part.{Part}
+use Rattle.zarrs_chunk_parts.specs.declared.part.Part.{Part}
 use Rattle.programs.specs.chunkplan.Document.{RangesWanted, ranges_asked_of}
 use Rattle.programs.specs.chunkplan.Line.{chunk_json, count_json, end_members, line_of, part_json, part_ranges_json, piece_json}
 use Rattle.programs.specs.declared.chunkplan.line.Form.{Form}

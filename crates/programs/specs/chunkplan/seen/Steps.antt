@@ -3,7 +3,7 @@ use Rattle.std.specs.Prelude.{◌≡◌, ◌⊎◌, ℕ, Bool, true, false, List
 use Rattle.programs.specs.chunkplan.Keys.{HasKeysBehind, first_line}
 use Rattle.programs.specs.chunkplan.PlanFault.{IsFirstFault}
 use Rattle.programs.specs.chunkplan.Planned.{IsPlanOf}
-use Rattle.programs.specs.seen.Sent.{Output, Sends}
+use Rattle.streams.specs.seen.Sent.{Output, Sends}
 use Rattle.programs.specs.declared.chunkplan.run_fault.RunFault.{RunFault}
 use Rattle.programs.specs.declared.chunkplan.run_fault.RunFault.TheVariants.{Memory, Read, Write}
 

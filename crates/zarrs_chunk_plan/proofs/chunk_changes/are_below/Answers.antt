@@ -2,7 +2,7 @@ use Rattle.std.proofs.Common.{rules, ◌<◌, length, tests}
 use Rattle.std.proofs.lemmas.Bool.{ne_eqb, true≢false}
 use Rattle.std.proofs.Common.{sym, ◌∙◌}
 use Rattle.std.proofs.lemmas.Iterator.{YieldsList-from_slice, YieldsList-from_zip, cases_from_all}
-use Rattle.zarrs_chunk_plan.proofs.Wholes.{tells_all}
+use Rattle.zarrs_chunk_parts.proofs.Wholes.{tells_all}
 use Rattle.zarrs_chunk_plan.proofs.ChunksChanged.{all_below, below_long}
 use Rattle.zarrs_chunk_plan.proofs.chunk_changes.are_below.Goals as goal
 

@@ -4,7 +4,7 @@ use Rattle.std.proofs.lemmas.Slice.Zip.{AllZip-long}
 use Rattle.std.specs.List.{AllZip}
 use Rattle.zarrs_chunk_base.specs.ArraySubset.{IsBox, ends}
 use Rattle.zarrs_chunk_base.specs.Greatest.{AllFit, greatest}
-use Rattle.zarrs_chunk_plan.specs.seen.Shared.{distances}
+use Rattle.zarrs_chunk_parts.specs.seen.Shared.{distances}
 use Rattle.zarrs_chunk_plan.proofs.counts.box_between.Goals as goal
 
 reaches_end : (first end : List ℕ) → AllZip ◌≤◌ first end → AllFit end → IsBox (record { start = first; shape = distances first end })

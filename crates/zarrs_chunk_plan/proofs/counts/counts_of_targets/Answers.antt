@@ -1,7 +1,7 @@
 use Rattle.std.proofs.Common.{◌∙◌, subst, sym}
 use Rattle.zarrs_chunk_base.specs.ArraySubset.{IsInside}
 use Rattle.zarrs_chunk_plan.specs.Counts.{AreMany, product}
-use Rattle.zarrs_chunk_plan.specs.Plan.{Meets}
+use Rattle.zarrs_chunk_parts.specs.Plan.{Meets}
 use Rattle.zarrs_chunk_plan.proofs.BoxCounts.{box_many}
 use Rattle.zarrs_chunk_plan.proofs.BoxCover.{cover_names}
 use Rattle.zarrs_chunk_plan.proofs.counts.counts_of_targets.Goals as goal

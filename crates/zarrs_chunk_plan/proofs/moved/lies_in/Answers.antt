@@ -3,7 +3,7 @@ use Rattle.std.proofs.lemmas.Iterator.{YieldsList-from_slice, YieldsList-from_zi
 use Rattle.std.proofs.lemmas.Iterator.Consumers.{YieldsList-at}
 use Rattle.zarrs_chunk_base.proofs.Boxes.{fits}
 use Rattle.zarrs_chunk_plan.proofs.MovedBoxes.{all_end_within, box_within}
-use Rattle.zarrs_chunk_plan.proofs.Wholes.{tells_all}
+use Rattle.zarrs_chunk_parts.proofs.Wholes.{tells_all}
 use Rattle.zarrs_chunk_plan.proofs.moved.lies_in.Goals as goal
 
 pub returns-clause-lies : goal.returns-clause-lies

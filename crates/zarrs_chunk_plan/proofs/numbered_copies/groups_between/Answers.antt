@@ -2,7 +2,7 @@ use Rattle.std.proofs.Common.{◌≡◌, ◌∙◌, ◌+◌, ◌-◌, ◌≤◌,
 use Rattle.std.proofs.lemmas.List.{map-append}
 use Rattle.std.specs.List.{AllZip}
 use Rattle.zarrs_chunks.specs.Walks.{chunks_in}
-use Rattle.zarrs_chunk_plan.specs.Plan.{Meets}
+use Rattle.zarrs_chunk_parts.specs.Plan.{Meets}
 use Rattle.zarrs_chunk_plan.specs.Region.{AreMovedInto}
 use Rattle.zarrs_chunk_plan.specs.seen.Copies.{groups_of}
 use Rattle.zarrs_chunk_plan.proofs.Taken.{of_place, one_more}

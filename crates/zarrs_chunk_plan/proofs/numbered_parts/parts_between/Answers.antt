@@ -1,7 +1,7 @@
 use Rattle.std.proofs.Common.{◌≡◌, ◌+◌, ◌-◌, ◌≤◌, drop, subst, sym, take, arith}
 use Rattle.std.specs.List.{AllZip}
 use Rattle.zarrs_chunks.specs.Walks.{chunks_in}
-use Rattle.zarrs_chunk_plan.specs.Plan.{IsPart, Meets}
+use Rattle.zarrs_chunk_parts.specs.Plan.{IsPart, Meets}
 use Rattle.zarrs_chunk_plan.proofs.Taken.{of_place, one_more}
 use Rattle.zarrs_chunk_plan.proofs.numbered_parts.parts_between.Goals as goal
 

@@ -1,5 +1,5 @@
 use Rattle.std.proofs.Common.{◌≡◌, ◌∙◌, ap, length, rules, sym}
-use Rattle.zarrs_chunk_plan.proofs.Overlaps.{later_starts_long}
+use Rattle.zarrs_chunk_parts.proofs.Overlaps.{later_starts_long}
 use Rattle.zarrs_chunk_plan.proofs.rechunking.targets_of.Goals as goal
 
 pub returns-clause-targets : goal.returns-clause-targets

@@ -28,8 +28,8 @@ returns-clause-kept g c = λ resized named named_after.
     let is = rw (c.deref-5.ensures.value, c.deref-6.ensures, c.deref-7.ensures, c.shape.ensures.value, c.shape-2.ensures.value) at c.in_ok-kept.ensures in
     kept_are (g.G.ChunkGridTraits.dimensions c.args.before.now) (g.H.ChunkGridTraits.dimensions c.args.after.now) c.args.used_before.now
     c.args.used_after.now named named_after c.requires.lengths c.in_ok-both.both.items c.in_ok-last.last.items both_is last_is some one other
-    ((rw c.deref-3.ensures.value at c.in_ok-one.ensures) c.in_ok-whole_array.ensures.elements)
-    ((rw c.deref-4.ensures.value at c.in_ok-other.ensures) c.in_ok-whole_array-2.ensures.elements)
+    (rw c.deref-3.ensures.value at c.in_ok-one.ensures)
+    (rw c.deref-4.ensures.value at c.in_ok-other.ensures)
     (g.met.G.ChunkGridTraits.chained c.args.before.now) (g.met.H.ChunkGridTraits.chained c.args.after.now) resized c.in_ok-kept.kept.items is
 
 pub returns-clause-at_most : goal.returns-clause-at_most

@@ -1,4 +1,4 @@
-use Rattle.programs.specs.seen.Sent.{output}
+use Rattle.streams.specs.seen.Sent.{output}
 use Rattle.programs.proofs.chunkcalls.PartWay.{answer_sent}
 use Rattle.programs.proofs.chunkcalls.answering.answer_line.Goals as goal
 

@@ -2,10 +2,10 @@ use Rattle.std.proofs.Common.{◌≡◌, ◌∙◌, ◌<◌, length, ap, refl, a
 use Rattle.std.proofs.Math.Bool.{or-false}
 use Rattle.std.proofs.lemmas.Result.{on_ok_weaker}
 use Rattle.zarrs_chunk_questions.specs.Line.{line_feeds}
-use Rattle.programs.specs.Watched.{has_failed, watched}
-use Rattle.programs.specs.seen.Sent.{Output, output}
-use Rattle.programs.proofs.Known.{for_known}
-use Rattle.programs.proofs.Sent.{flushed}
+use Rattle.streams.specs.Watched.{has_failed, watched}
+use Rattle.streams.specs.seen.Sent.{Output, output}
+use Rattle.streams.proofs.Known.{for_known}
+use Rattle.streams.proofs.Sent.{flushed}
 use Rattle.programs.proofs.chunkcalls.PartWay.{part_way_at_end, part_way_at_start, part_way_sent, part_way_with}
 use Rattle.programs.proofs.chunkcalls.answering.answer_lines.Goals as goal
 

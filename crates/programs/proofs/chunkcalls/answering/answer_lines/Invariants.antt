@@ -1,7 +1,7 @@
 use Rattle.std.proofs.Common.{◌≡◌, ℕ, List, Some}
 use Rattle.zarrs_chunk_questions.specs.Line.{line_feeds}
-use Rattle.programs.specs.Watched.{has_failed, watched}
-use Rattle.programs.specs.seen.Sent.{output}
+use Rattle.streams.specs.Watched.{has_failed, watched}
+use Rattle.streams.specs.seen.Sent.{output}
 use Rattle.programs.proofs.chunkcalls.PartWay.{IsPartWay}
 use Rattle.programs.proofs.chunkcalls.answering.answer_lines.Given as goal
 

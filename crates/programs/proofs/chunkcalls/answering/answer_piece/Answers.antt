@@ -1,7 +1,7 @@
 use Rattle.std.proofs.Common.{◌≡◌, ◌≢◌, ◌∙◌, ◌+◌, ◌∷◌, ◌++◌, [], get_or, refl, subst, take, arith}
 use Rattle.std.proofs.lemmas.Bool.Decides.{nat_tests}
 use Rattle.zarrs_chunk_questions.specs.AnswerLine.{IsAnswerTo}
-use Rattle.programs.specs.seen.Sent.{output}
+use Rattle.streams.specs.seen.Sent.{output}
 use Rattle.programs.proofs.chunkcalls.PartWay.{no_byte, one_byte, one_line, take_next}
 use Rattle.programs.proofs.chunkcalls.answering.answer_piece.Goals as goal
 

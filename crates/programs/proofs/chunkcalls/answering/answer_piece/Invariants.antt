@@ -1,7 +1,7 @@
 use Rattle.std.proofs.Common.{◌≡◌, take}
-use Rattle.programs.specs.Watched.{has_failed}
+use Rattle.streams.specs.Watched.{has_failed}
 use Rattle.programs.specs.chunkcalls.seen.Answered.{HasAnsweredPiece}
-use Rattle.programs.specs.seen.Sent.{output}
+use Rattle.streams.specs.seen.Sent.{output}
 use Rattle.programs.proofs.chunkcalls.answering.answer_piece.Given as goal
 
 -- the lines that ended in the bytes so far are answered, and no write failed

@@ -3,8 +3,8 @@ use Rattle.std.proofs.lemmas.Bool.Decides.{nat_tests}
 use Rattle.std.proofs.lemmas.List.{nil_from_length}
 use Rattle.std.proofs.lemmas.Result.{on_ok_weaker}
 use Rattle.programs.specs.chunkcalls.Lines.{AreAnswers, last_line, no_line}
-use Rattle.programs.specs.seen.Sent.{output}
-use Rattle.programs.proofs.Sent.{sends_nothing}
+use Rattle.streams.specs.seen.Sent.{output}
+use Rattle.streams.proofs.Sent.{sends_nothing}
 use Rattle.programs.proofs.chunkcalls.answering.answer_rest.Goals as goal
 
 pub returns-then-is_empty-clause-answered : goal.returns-then-is_empty-clause-answered

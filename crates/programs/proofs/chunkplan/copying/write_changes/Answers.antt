@@ -8,10 +8,10 @@ use Rattle.zarrs_chunk_plan.specs.seen.Changes.{all_changes, changes_to_come}
 use Rattle.zarrs_chunk_plan.proofs.SomeResizes.{AreChangesToCome, ChangesHaveCome, IsChangeOf, changes_ahead, first_change, last_change, one_more_change}
 use Rattle.programs.specs.chunkplan.Line.{change_line, lines_from, resize_lines}
 use Rattle.programs.specs.chunkplan.seen.Steps.{StepLeaves}
-use Rattle.programs.specs.seen.Sent.{Output, output}
+use Rattle.streams.specs.seen.Sent.{Output, output}
 use Rattle.programs.specs.declared.chunkplan.run_fault.RunFault.{RunFault}
 use Rattle.programs.specs.declared.chunkplan.run_fault.RunFault.TheVariants.{Memory}
-use Rattle.programs.proofs.Sent.{sends_nothing}
+use Rattle.streams.proofs.Sent.{sends_nothing}
 use Rattle.programs.proofs.chunkplan.Numbered.{IsLineOf, IsTextOf, counted_first, way_ends, way_goes_on, way_memory, way_stops}
 use Rattle.programs.proofs.chunkplan.Steps.{step_follows}
 use Rattle.programs.proofs.chunkplan.copying.write_changes.Goals as goal

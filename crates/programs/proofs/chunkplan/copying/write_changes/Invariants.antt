@@ -4,7 +4,7 @@ use Rattle.zarrs_chunk_plan.specs.Counted.{counted}
 use Rattle.zarrs_chunk_plan.specs.seen.Changes.{all_changes}
 use Rattle.programs.specs.chunkplan.Line.{change_line}
 use Rattle.programs.specs.chunkplan.seen.Steps.{HasSent}
-use Rattle.programs.specs.seen.Sent.{output}
+use Rattle.streams.specs.seen.Sent.{output}
 use Rattle.programs.proofs.chunkplan.Numbered.{Came}
 use Rattle.programs.proofs.chunkplan.copying.write_changes.Given as goal
 

@@ -2,13 +2,13 @@ use Rattle.std.proofs.Common.{◌≡◌, ◌∙◌, ℕ, suc, List, [], ◌∷�
 use Rattle.std.proofs.lemmas.Result.{err_from_is_err_and}
 use Rattle.zarrs_chunk_plan.specs.Counted.{counted}
 use Rattle.zarrs_chunk_plan.specs.Rechunking.{Group}
-use Rattle.zarrs_chunk_plan.specs.declared.part.Part.{Part}
+use Rattle.zarrs_chunk_parts.specs.declared.part.Part.{Part}
 use Rattle.zarrs_chunk_plan.specs.seen.Copies.{AreMovesToCome, all_targets}
 use Rattle.zarrs_chunk_plan.specs.seen.Parts.{ArePartsToCome}
 use Rattle.zarrs_chunk_plan.proofs.Copied.{MovesHaveCome, first_move, last_move, one_more_move}
 use Rattle.programs.specs.chunkplan.seen.Missing.{line_unless_stored}
-use Rattle.programs.specs.seen.Sent.{Output, output}
-use Rattle.programs.proofs.Sent.{sends_nothing}
+use Rattle.streams.specs.seen.Sent.{Output, output}
+use Rattle.streams.proofs.Sent.{sends_nothing}
 use Rattle.programs.proofs.chunkplan.Begun.{moves_ahead}
 use Rattle.programs.proofs.chunkplan.Numbered.{IsLineOf, way_ends, way_goes_on, way_memory, way_stops}
 use Rattle.programs.proofs.chunkplan.Steps.{step_follows}

@@ -4,7 +4,7 @@ use Rattle.zarrs_chunk_plan.specs.Counted.{counted}
 use Rattle.zarrs_chunk_plan.specs.seen.Copies.{all_targets}
 use Rattle.programs.specs.chunkplan.seen.Missing.{line_unless_stored}
 use Rattle.programs.specs.chunkplan.seen.Steps.{HasSent}
-use Rattle.programs.specs.seen.Sent.{output}
+use Rattle.streams.specs.seen.Sent.{output}
 use Rattle.programs.proofs.chunkplan.Numbered.{Came}
 use Rattle.programs.proofs.chunkplan.copying.write_copies.Given as goal
 

@@ -4,14 +4,14 @@ use Rattle.std.specs.List.{AllByRecursion}
 use Rattle.zarrs_chunk_base.specs.ArraySubset.{IsBox}
 use Rattle.zarrs_chunk_base.specs.Dimension.{Dimension, IsChain}
 use Rattle.zarrs_chunk_plan.specs.Counted.{counted}
-use Rattle.zarrs_chunk_plan.specs.declared.part.Part.{Part}
+use Rattle.zarrs_chunk_parts.specs.declared.part.Part.{Part}
 use Rattle.zarrs_chunk_plan.specs.declared.walk.Parts.{Parts}
 use Rattle.zarrs_chunk_plan.specs.seen.Parts.{ArePartsToCome, HasKeys, MeetSubset}
 use Rattle.zarrs_chunk_plan.proofs.Walked.{at_first}
 use Rattle.programs.specs.chunkplan.Line.{group_line, lines_from}
 use Rattle.programs.specs.chunkplan.seen.Pieces.{begin_of_line, end_of_line, piece_text}
 use Rattle.programs.specs.declared.chunkplan.line.Order.{Order}
-use Rattle.programs.specs.seen.Sent.{output}
+use Rattle.streams.specs.seen.Sent.{output}
 use Rattle.programs.proofs.chunkplan.Begun.{parts_ahead}
 use Rattle.programs.proofs.chunkplan.Behind.{Begins, Behind, ends_behind, memory_after, sent_behind, stops_behind, stops_whole}
 use Rattle.programs.proofs.chunkplan.Numbered.{IsTextOf, counted_first}

@@ -3,7 +3,7 @@ use Rattle.zarrs_chunk_plan.proofs.Walked.{HaveCome}
 use Rattle.zarrs_chunk_plan.specs.Counted.{counted}
 use Rattle.programs.specs.chunkplan.seen.Pieces.{text_as}
 use Rattle.programs.specs.chunkplan.seen.Steps.{HasSent}
-use Rattle.programs.specs.seen.Sent.{output}
+use Rattle.streams.specs.seen.Sent.{output}
 use Rattle.programs.proofs.chunkplan.Numbered.{Came}
 use Rattle.programs.proofs.chunkplan.copying.write_parts.Given as goal
 

@@ -1,8 +1,8 @@
 use Rattle.std.proofs.Common.{◌∙◌, [], cond, ap, refl, sym}
 use Rattle.zarrs_chunk_plan.proofs.Walked.{at_first}
 use Rattle.programs.specs.chunkplan.Line.{group_line}
-use Rattle.programs.specs.seen.Sent.{output}
-use Rattle.programs.proofs.Sent.{sends_nothing}
+use Rattle.streams.specs.seen.Sent.{output}
+use Rattle.streams.proofs.Sent.{sends_nothing}
 use Rattle.programs.proofs.chunkplan.Begun.{parts_ahead}
 use Rattle.programs.proofs.chunkplan.Steps.{step_follows}
 use Rattle.programs.proofs.chunkplan.copying.write_unless_stored.Goals as goal

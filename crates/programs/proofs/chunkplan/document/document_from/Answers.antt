@@ -1,11 +1,11 @@
 use Rattle.std.proofs.Common.{codes, is_some, ap, inl, inr, refl, ⊎_elim}
 use Rattle.std.proofs.lemmas.Result.{err_from_is_err_and}
 use Rattle.serde_json.specs.View.{view}
-use Rattle.programs.specs.Stored.{stored_of}
+use Rattle.documents.specs.Stored.{stored_of}
 use Rattle.programs.specs.chunkplan.Document.{wanted_of}
 use Rattle.programs.specs.chunkplan.DocumentFault.{HasMembers, misfit, misformed_keys, misformed_wanted, misformed_stored, misformed_task, unknown}
 use Rattle.programs.specs.chunkplan.RunFault.{of_document}
-use Rattle.programs.proofs.Members.{is_there}
+use Rattle.documents.proofs.Members.{is_there}
 use Rattle.programs.proofs.chunkplan.FormFaults.{has_members, no_member, no_shape}
 use Rattle.programs.proofs.chunkplan.LeftMembers.{is_task, is_task_fault}
 use Rattle.programs.proofs.chunkplan.document.document_from.Goals as goal

@@ -1,6 +1,6 @@
 use Rattle.std.proofs.Common.{ap, inl, inr, refl, ⊎_elim}
 use Rattle.std.proofs.lemmas.Result.{err_from_is_err_and}
-use Rattle.programs.specs.Stored.{stored_of}
+use Rattle.documents.specs.Stored.{stored_of}
 use Rattle.programs.specs.chunkplan.DocumentFault.{of_chunks, of_max_elements, of_order, of_stage, of_target_stored}
 use Rattle.programs.specs.chunkplan.RunFault.{of_document}
 use Rattle.programs.proofs.chunkplan.document.rechunking_to.Goals as goal

@@ -1,7 +1,7 @@
 use Rattle.std.proofs.Common.{is_some, ap, inl, inr, refl, ⊎_elim}
 use Rattle.std.proofs.lemmas.Result.{err_from_is_err_and}
 use Rattle.serde_json.specs.View.{view}
-use Rattle.programs.specs.Stored.{stored_of}
+use Rattle.documents.specs.Stored.{stored_of}
 use Rattle.programs.specs.chunkplan.DocumentFault.{of_at, of_region, of_region_stored, of_shape}
 use Rattle.programs.specs.chunkplan.RunFault.{of_document}
 use Rattle.programs.proofs.chunkplan.document.region_to.Goals as goal

@@ -1,12 +1,12 @@
 use Rattle.std.proofs.Common.{◌≡◌, ◌∙◌, ◌++◌, [], ap, refl, sym}
 use Rattle.std.proofs.lemmas.Result.{err_from_is_err_and}
 use Rattle.std.specs.Io.BufRead.{drop_through, take_through}
-use Rattle.programs.specs.Watched.{watched}
+use Rattle.streams.specs.Watched.{watched}
 use Rattle.programs.specs.chunkplan.Keys.{unended}
 use Rattle.programs.specs.chunkplan.seen.Missing.{with_line}
-use Rattle.programs.specs.seen.Lines.{left}
-use Rattle.programs.proofs.Known.{for_known}
-use Rattle.programs.proofs.LineBytes.{nothing_left}
+use Rattle.streams.specs.seen.Lines.{left}
+use Rattle.streams.proofs.Known.{for_known}
+use Rattle.streams.proofs.LineBytes.{nothing_left}
 use Rattle.programs.proofs.chunkplan.KeyLines.{is_among, key_stops, no_more_lines, one_more_line, reading_stops_keys}
 use Rattle.programs.proofs.chunkplan.keys.note_keys.Goals as goal
 

@@ -1,7 +1,7 @@
 use Rattle.std.proofs.Common.{◌≡◌, [], ℕ, List, Some}
-use Rattle.programs.specs.Watched.{has_failed, watched}
+use Rattle.streams.specs.Watched.{has_failed, watched}
 use Rattle.programs.specs.chunkplan.seen.Missing.{HaveNoted}
-use Rattle.programs.specs.seen.Lines.{left}
+use Rattle.streams.specs.seen.Lines.{left}
 use Rattle.programs.proofs.chunkplan.KeyLines.{HaveCome}
 use Rattle.programs.proofs.chunkplan.keys.note_keys.Given as goal
 

@@ -1,5 +1,5 @@
 use Rattle.std.proofs.Common.{◌∙◌, ◌∷◌, ◌++◌, [], ap, sym}
-use Rattle.programs.proofs.LineBytes.{unended_front, unended_none, unended_whole}
+use Rattle.programs.proofs.chunkplan.Unended.{unended_front, unended_none, unended_whole}
 use Rattle.programs.proofs.chunkplan.keys.without_feed.Goals as goal
 
 pub returns-in-Some : goal.returns-in-Some

@@ -15,14 +15,14 @@ use Rattle.zarrs_chunk_plan.specs.seen.Copies.{AreMovesToCome, IsCopiesFault}
 use Rattle.zarrs_chunk_plan.proofs.Copied.{rechunking_of, region_copy_of}
 use Rattle.zarrs_chunk_plan.proofs.SomeRegions.{moved_groups}
 use Rattle.zarrs_chunk_plan.proofs.Taken.{no_parts}
-use Rattle.programs.specs.Stored.{stored_of}
+use Rattle.documents.specs.Stored.{stored_of}
 use Rattle.programs.specs.chunkplan.Document.{document_of, task_of, wanted_of}
 use Rattle.programs.specs.chunkplan.PlanFault.{IsChunksFault, IsCopyFault, IsFaultBeside, of_chunks, of_keys, of_plan, of_region_target, of_source}
 use Rattle.programs.specs.chunkplan.PlanFault.{of_region as of_region_fault, of_target}
 use Rattle.programs.specs.chunkplan.Planned.{ArePlanned, IsPlannedBeside, IsRegionPlan, begins_at, of_rechunking, of_region}
 use Rattle.programs.specs.chunkplan.RunFault.{of_create, of_region as of_region_error}
 use Rattle.programs.specs.declared.chunkplan.run_fault.RunFault.TheVariants.{Copies}
-use Rattle.programs.specs.seen.Sent.{output}
+use Rattle.streams.specs.seen.Sent.{output}
 use Rattle.programs.proofs.chunkplan.KeyLines.{some_keys}
 use Rattle.programs.proofs.chunkplan.KeySteps.{early_beside, key_step_follows}
 use Rattle.programs.proofs.chunkplan.RunOutcomes.{no_read_beside, no_write_beside}

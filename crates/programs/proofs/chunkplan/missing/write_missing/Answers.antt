@@ -16,7 +16,7 @@ use Rattle.zarrs_chunk_plan.proofs.Copied.{first_move}
 use Rattle.programs.specs.chunkplan.Keys.{IsMissingText}
 use Rattle.programs.specs.chunkplan.seen.Missing.{HaveNoted, share_unless_stored}
 use Rattle.programs.specs.declared.chunkplan.line.Order.TheVariants.{Target}
-use Rattle.programs.specs.seen.Sent.{Output, output}
+use Rattle.streams.specs.seen.Sent.{Output, output}
 use Rattle.programs.proofs.chunkplan.Begun.{moves_ahead}
 use Rattle.programs.proofs.chunkplan.Behind.{Begins, Behind, ends_behind, stops_whole}
 use Rattle.programs.proofs.chunkplan.KeyLines.{some_keys}

@@ -1,7 +1,7 @@
 use Rattle.std.proofs.Common.{◌≡◌, ◌⊎◌, ℕ, List, inl, inr}
-use Rattle.programs.specs.Stored.{IsCreateFault, Stored, stored_of}
-use Rattle.programs.specs.declared.stored.CreateFault.{CreateFault}
-use Rattle.programs.specs.declared.stored.CreateFault.TheVariants.{Encoding, Grid, Memory}
+use Rattle.documents.specs.Stored.{IsCreateFault, Stored, stored_of}
+use Rattle.documents.specs.declared.stored.CreateFault.{CreateFault}
+use Rattle.documents.specs.declared.stored.CreateFault.TheVariants.{Encoding, Grid, Memory}
 use Rattle.programs.proofs.chunkplan.plan.open_target.Goals as goal
 
 -- a fault of its own

@@ -1,6 +1,6 @@
 use Rattle.programs.specs.chunkplan.CountsLine.{IsCountsLine}
 use Rattle.programs.specs.chunkplan.PlanFault.{IsChunksFault}
-use Rattle.programs.specs.seen.Sent.{output}
+use Rattle.streams.specs.seen.Sent.{output}
 use Rattle.zarrs_chunk_plan.proofs.SomePlan.{have_rechunking}
 use Rattle.programs.proofs.chunkplan.Steps.{step_follows}
 use Rattle.programs.proofs.chunkplan.plan.write_counts_of_groups.Goals as goal

@@ -2,7 +2,7 @@ use Rattle.std.proofs.Common.{◌∙◌, ap, inr}
 use Rattle.programs.specs.chunkplan.CountsLine.{IsCountsLine}
 use Rattle.programs.specs.chunkplan.PlanFault.{IsCopyFault}
 use Rattle.programs.specs.chunkplan.RunFault.{of_region}
-use Rattle.programs.specs.seen.Sent.{output}
+use Rattle.streams.specs.seen.Sent.{output}
 use Rattle.programs.proofs.chunkplan.CountedPlans.{counted_region}
 use Rattle.programs.proofs.chunkplan.RunOutcomes.{no_failed_copy}
 use Rattle.programs.proofs.chunkplan.Steps.{early, step_follows}

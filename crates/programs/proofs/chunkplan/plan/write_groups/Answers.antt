@@ -1,7 +1,7 @@
 use Rattle.zarrs_chunk_plan.proofs.Copied.{rechunking_of}
 use Rattle.zarrs_chunk_plan.proofs.SomeRegions.{moved_groups}
 use Rattle.programs.specs.chunkplan.PlanFault.{IsChunksFault}
-use Rattle.programs.specs.seen.Sent.{output}
+use Rattle.streams.specs.seen.Sent.{output}
 use Rattle.programs.proofs.chunkplan.Steps.{step_follows}
 use Rattle.programs.proofs.chunkplan.plan.write_groups.Goals as goal
 

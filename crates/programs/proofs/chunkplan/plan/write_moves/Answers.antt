@@ -3,7 +3,7 @@ use Rattle.zarrs_chunk_plan.proofs.Copied.{region_copy_of}
 use Rattle.zarrs_chunk_plan.proofs.Taken.{no_parts}
 use Rattle.programs.specs.chunkplan.PlanFault.{IsCopyFault}
 use Rattle.programs.specs.chunkplan.RunFault.{of_region}
-use Rattle.programs.specs.seen.Sent.{output}
+use Rattle.streams.specs.seen.Sent.{output}
 use Rattle.programs.proofs.chunkplan.RunOutcomes.{no_failed_copy}
 use Rattle.programs.proofs.chunkplan.Steps.{early, step_follows}
 use Rattle.programs.proofs.chunkplan.plan.write_moves.Goals as goal

@@ -6,7 +6,7 @@ use Rattle.zarrs_chunk_plan.specs.seen.Parts.{all_chunks}
 use Rattle.programs.specs.chunkplan.Document.{ranges_asked_of}
 use Rattle.programs.specs.chunkplan.Line.{line_of, lines_from, part_json}
 use Rattle.programs.specs.chunkplan.PlanFault.{IsReadFault}
-use Rattle.programs.specs.seen.Sent.{output}
+use Rattle.streams.specs.seen.Sent.{output}
 use Rattle.programs.proofs.chunkplan.Begun.{parts_of_share, share_meets}
 use Rattle.programs.proofs.chunkplan.ReadPlans.{is_read_plan}
 use Rattle.programs.proofs.chunkplan.Steps.{step_follows}

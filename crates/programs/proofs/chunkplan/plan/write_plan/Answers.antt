@@ -9,7 +9,7 @@ use Rattle.zarrs_chunks.specs.seen.Grids.{grid_in}
 use Rattle.zarrs_chunk_plan.specs.Rechunking.{IsRechunking, all_chunks_box}
 use Rattle.zarrs_chunk_plan.specs.declared.copies_error.CopiesError.TheVariants.{Chunks}
 use Rattle.zarrs_chunk_plan.proofs.OneConfiguration.{one_configuration}
-use Rattle.programs.specs.Stored.{stored_of}
+use Rattle.documents.specs.Stored.{stored_of}
 use Rattle.programs.specs.chunkplan.Document.{document_of, ranges_asked_of, task_of}
 use Rattle.programs.specs.chunkplan.PlanFault.{IsChunksFault, IsCopyFault, IsPlanFault, IsReadFault, of_chunks, of_region_target, of_source, of_subset}
 use Rattle.programs.specs.chunkplan.PlanFault.{IsFaultWithin, of_bound as of_bound_fault, of_bound_target, of_region as of_region_fault}
@@ -20,7 +20,7 @@ use Rattle.programs.specs.chunkplan.RunFault.{of_create}
 use Rattle.programs.specs.declared.chunkplan.line.Order.TheVariants.{Source, Target}
 use Rattle.programs.specs.declared.chunkplan.run_fault.RunFault.{RunFault}
 use Rattle.programs.specs.declared.chunkplan.run_fault.RunFault.TheVariants.{Copies}
-use Rattle.programs.specs.seen.Sent.{output}
+use Rattle.streams.specs.seen.Sent.{output}
 use Rattle.programs.proofs.chunkplan.RunOutcomes.{no_failed_write}
 use Rattle.programs.proofs.chunkplan.Steps.{early, step_follows}
 use Rattle.programs.proofs.chunkplan.plan.write_plan.Goals as goal

@@ -1,7 +1,7 @@
 use Rattle.std.proofs.Common.{false}
 use Rattle.std.proofs.lemmas.Result.{err_from_is_err_and}
 use Rattle.programs.specs.chunkplan.PlanFault.{IsReadFault}
-use Rattle.programs.specs.seen.Sent.{output}
+use Rattle.streams.specs.seen.Sent.{output}
 use Rattle.programs.proofs.chunkplan.Asked.{asked_fault}
 use Rattle.programs.proofs.chunkplan.Steps.{early, step_follows}
 use Rattle.programs.proofs.chunkplan.plan.write_read.Goals as goal

@@ -1,6 +1,6 @@
 use Rattle.zarrs_chunk_plan.specs.seen.Changes.{changes_to_come}
 use Rattle.zarrs_chunk_plan.proofs.SomeResizes.{asked_are_used}
-use Rattle.programs.specs.seen.Sent.{output}
+use Rattle.streams.specs.seen.Sent.{output}
 use Rattle.programs.proofs.chunkplan.Steps.{step_follows}
 use Rattle.programs.proofs.chunkplan.plan.write_resize.Goals as goal
 

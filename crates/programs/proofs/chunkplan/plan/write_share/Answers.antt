@@ -5,7 +5,7 @@ use Rattle.zarrs_chunk_plan.specs.Shares.{before_share, share_of}
 use Rattle.zarrs_chunk_plan.specs.seen.Copies.{all_targets}
 use Rattle.programs.specs.chunkplan.Line.{lines_from}
 use Rattle.programs.specs.chunkplan.seen.Missing.{line_unless_stored}
-use Rattle.programs.specs.seen.Sent.{output}
+use Rattle.streams.specs.seen.Sent.{output}
 use Rattle.programs.proofs.chunkplan.Begun.{moves_of_share, share_can_move}
 use Rattle.programs.proofs.chunkplan.Steps.{step_follows}
 use Rattle.programs.proofs.chunkplan.plan.write_share.Goals as goal

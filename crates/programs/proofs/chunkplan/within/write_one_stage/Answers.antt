@@ -1,5 +1,5 @@
 use Rattle.programs.specs.chunkplan.PlanFault.{IsOneStageFault}
-use Rattle.programs.specs.seen.Sent.{output}
+use Rattle.streams.specs.seen.Sent.{output}
 use Rattle.programs.proofs.chunkplan.Steps.{step_follows}
 use Rattle.programs.proofs.chunkplan.within.write_one_stage.Goals as goal
 

@@ -7,7 +7,7 @@ use Rattle.programs.specs.chunkplan.Document.{wanted_of}
 use Rattle.programs.specs.chunkplan.PlanFault.{IsBetweenFault}
 use Rattle.programs.specs.chunkplan.Planned.{IsStageText, IsWholeText}
 use Rattle.programs.specs.declared.chunkplan.stage.Stage.TheVariants.{First, Second}
-use Rattle.programs.specs.seen.Sent.{output}
+use Rattle.streams.specs.seen.Sent.{output}
 use Rattle.programs.proofs.chunkplan.Steps.{step_follows}
 use Rattle.programs.proofs.chunkplan.within.write_stage.Goals as goal
 

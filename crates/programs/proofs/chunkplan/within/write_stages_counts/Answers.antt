@@ -1,7 +1,7 @@
 use Rattle.std.proofs.Common.{◌∙◌, subst, sym}
 use Rattle.programs.specs.chunkplan.PlanFault.{IsStagesCountsFault}
 use Rattle.programs.specs.chunkplan.StagesLine.{IsStagesLine}
-use Rattle.programs.specs.seen.Sent.{output}
+use Rattle.streams.specs.seen.Sent.{output}
 use Rattle.programs.proofs.chunkplan.Steps.{step_follows}
 use Rattle.programs.proofs.chunkplan.within.write_stages_counts.Goals as goal
 

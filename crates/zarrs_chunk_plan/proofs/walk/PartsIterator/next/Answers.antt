@@ -2,7 +2,7 @@ use Rattle.std.proofs.Common.{◌≡◌, ◌∷◌, ◌∙◌, ap, refl, subst, 
 use Rattle.std.specs.List.{AllByRecursion}
 use Rattle.zarrs_chunks.specs.Walks.{chunks_in}
 use Rattle.zarrs_chunk_plan.specs.seen.ChunksBetween.{chunks_between}
-use Rattle.zarrs_chunk_plan.specs.Plan.{IsPart, Meets}
+use Rattle.zarrs_chunk_parts.specs.Plan.{IsPart, Meets}
 use Rattle.zarrs_chunk_plan.proofs.walk.PartsIterator.next.Goals as goal
 
 pub returns-in-Ok-part-clause-steps : goal.returns-in-Ok-part-clause-steps

@@ -1,0 +1,3 @@
+pub mod Document
+pub mod Stored
+pub mod chunkwhere

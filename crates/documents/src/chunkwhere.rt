@@ -1,0 +1,97 @@
+//! `chunkwhere` tells where the elements of a Zarr array are stored.
+//!
+//! | Module | What it holds |
+//! |---|---|
+//! | `document`, `answer` | the two steps between reading and writing: understand, answer |
+//! | `run_fault` | why a run stops |
+ghost use Rattle.std.specs.Prelude.{◌≡◌, ◌≤◌, ◌⊎◌, false, IfSome, MatchResult, OnOk, string_bytes};
+ghost use Rattle.std.specs.Io.KnownBytes.{Keeps};
+ghost use Rattle.streams.specs.Watched.{watched, has_failed};
+ghost use Rattle.documents.specs.chunkwhere.Run.{IsFirstFault, IsTextFor, RunEndsWith, RunLeaves};
+ghost use Rattle.documents.specs.declared.chunkwhere.run_fault.RunFault.TheVariants.{Memory};
+
+mod answer;
+mod document;
+mod run_fault;
+
+use answer::answer;
+use document::parse;
+pub use run_fault::RunFault;
+use std::alloc::Global;
+use std::io::{Read, Write};
+pub use streams::Watched;
+use streams::{read_to_end, write_all};
+
+/// Runs the program, tells its fault in one line, if it had one, and answers the status to end with:
+/// 0 where the run succeeded, and 1 after a fault.
+pub fn run_to_status<R: Read, W: Write, E: Write>(
+    alloc: Global,
+    reader: &mut Watched<R>,
+    writer: &mut Watched<W>,
+    errors: &mut E,
+) -> u8
+    ensures outcome { IfSome (R.remaining (watched reader.old)) (λ input.
+        IfSome (W.contents (watched writer.old)) (λ held.
+        has_failed reader.old ≡ false → has_failed writer.old ≡ false
+        → RunEndsWith input held result (record {
+          left = R.remaining (watched reader.new);
+          read_failed = has_failed reader.new;
+          holds = W.contents (watched writer.new);
+          write_failed = has_failed writer.new;
+        }))) }
+    ensures silent { result ≡ 0 → Keeps (E.contents errors.old) (E.contents errors.new) }
+    ensures zero_or_one { result ≤ 1 }
+{
+    let outcome = run(alloc, reader, writer);
+    finish(&outcome, errors)
+}
+
+/// Reads a document to its end and writes where the elements of its `indices` are stored: a line
+/// for each, in order, with the key of the chunk and the place in the chunk, or `-` where no chunk
+/// holds the element. Behind them stands a line for each of its `keys`, if it has any: the numbers of
+/// the chunk that has the key, or `-`. Nothing is written before the whole text stands.
+///
+/// # Errors
+/// The first fault; or out of memory. A failed read comes first, then a text that is no JSON, then
+/// a document that isn't of its form (all members have to be there before the form of one is looked
+/// at, in the order `shape`, `chunk_grid`, `chunk_key_encoding`, `indices`, `keys`), then a grid or an
+/// encoding that can't be made, then an index list of a wrong length, then a failed write.
+pub fn run<R: Read, W: Write>(
+    alloc: Global,
+    reader: &mut Watched<R>,
+    writer: &mut Watched<W>,
+) -> Result<(), RunFault>
+    ensures { IfSome (R.remaining (watched reader.old))
+        (λ input. IfSome (W.contents (watched writer.old)) (λ held.
+        has_failed reader.old ≡ false → has_failed writer.old ≡ false
+        → RunLeaves input held result (record {
+          left = R.remaining (watched reader.new);
+          read_failed = has_failed reader.new;
+          holds = W.contents (watched writer.new);
+          write_failed = has_failed writer.new;
+        }))) }
+{
+    let input = read_to_end(alloc, reader)?;
+    let text = answer_input(alloc, input)?;
+    write_all(writer, text.as_bytes())?;
+    Ok(())
+}
+
+/// The text that answers an input, or the first fault.
+fn answer_input(alloc: Global, input: Vec<u8>) -> Result<String, RunFault>
+    ensures { MatchResult result (λ text. IsTextFor input.items (string_bytes text))
+        (λ fault. (fault ≡ Memory) ⊎ IsFirstFault input.items fault) }
+{
+    let document = parse(alloc, &input)?;
+    drop(input);
+    answer(alloc, document)
+}
+
+/// Tells a run's fault in one line, if it had one, and answers the status to end with: 0, or 1
+/// after a fault. That the line can't be written changes nothing.
+pub fn finish<W: Write>(outcome: &Result<(), RunFault>, errors: &mut W) -> u8
+    ensures status { MatchResult outcome.now (λ _. result ≡ 0) (λ _. result ≡ 1) }
+    ensures silent { OnOk outcome.now (Keeps (W.contents errors.old) (W.contents errors.new)) }
+{
+    streams::finish("chunkwhere", outcome, errors)
+}

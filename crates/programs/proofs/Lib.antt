@@ -1,5 +1,0 @@
-pub mod Known
-pub mod LineBytes
-pub mod Members
-pub mod Sent
-pub mod Taken

@@ -1,0 +1,4 @@
+pub mod InPlace
+pub mod Overlaps
+pub mod Shares
+pub mod Wholes
