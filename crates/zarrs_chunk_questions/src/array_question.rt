@@ -1,5 +1,5 @@
 //! What is asked of the grid of an array, and what answers it.
-ghost use Rattle.std.specs.Prelude.{◌≡◌, IfOk, IfSome, MatchResult, length, option_map};
+ghost use Rattle.std.specs.Prelude.{◌≡◌, Err, IfOk, IfSome, MatchResult, Ok, Some, length, option_map};
 ghost use Rattle.serde_json.specs.View.{view};
 ghost use Rattle.zarrs_chunk_base.specs.Refusal.{OrMemory};
 ghost use Rattle.zarrs_chunk_keys.specs.ChunkKey.{Encoding};
@@ -56,11 +56,9 @@ pub(crate) fn answer_asked(
 {
     match asked {
         Asked::OfGrid(call) => Ok(Some(answer_alone(alloc, call, &grid)?)),
-        Asked::OfNumbers(call, numbers) => {
-            Ok(Some(answer_numbers(alloc, call, &grid, &numbers)?))
-        }
+        Asked::OfNumbers(call, numbers) => there(answer_numbers(alloc, call, &grid, &numbers)),
         Asked::OfBox(call, lists) => match box_of(lists) {
-            Ok(subset) => Ok(Some(answer_box(alloc, call, &grid, &subset)?)),
+            Ok(subset) => there(answer_box(alloc, call, &grid, &subset)),
             Err(fault) => Err(Refusal::Refused(fault)),
         },
         Asked::OfWalk(walk, items) => Ok(some_items(alloc, &grid, walk, items, room)?),
@@ -70,11 +68,9 @@ pub(crate) fn answer_asked(
         }
         Asked::Counted(index) => {
             let grid = expect_rectilinear(alloc, "chunk_indices_counted", grid)?;
-            Ok(Some(answer_counted(alloc, &grid, &index)?))
+            there(answer_counted(alloc, &grid, &index))
         }
-        Asked::Located(encoding, index) => {
-            Ok(Some(answer_located(alloc, &grid, encoding, &index)?))
-        }
+        Asked::Located(encoding, index) => { there(answer_located(alloc, &grid, encoding, &index)) }
         Asked::Parts(encoding, items, lists) => {
             some_parts(alloc, &grid, encoding, items, lists, room)
         }
@@ -82,20 +78,25 @@ pub(crate) fn answer_asked(
             some_copies(alloc, shape, grid, encoding, target, items, chunks, room)
         }
         Asked::Counts(encoding, target, share, chunks) => {
-            let counts = answer_counts(alloc, shape, grid, encoding, target, share, chunks)?;
-            Ok(Some(counts))
+            there(answer_counts(alloc, shape, grid, encoding, target, share, chunks))
         }
         Asked::CopiesOfRegion(encoding, target, items, region) => {
             some_region_copies(alloc, grid, encoding, target, items, region, room)
         }
         Asked::CountsOfRegion(encoding, target, share, region) => {
-            let counts = answer_region_counts(alloc, grid, encoding, target, share, region)?;
-            Ok(Some(counts))
+            there(answer_region_counts(alloc, grid, encoding, target, share, region))
         }
-        Asked::ChangedChunks(resize) => {
-            let changed = answer_changed(alloc, &grid, chunk_grid, &resize)?;
-            Ok(Some(changed))
-        }
+        Asked::ChangedChunks(resize) => there(answer_changed(alloc, &grid, chunk_grid, &resize)),
+    }
+}
+
+/// An answer that there is room for, whatever it is.
+fn there(answer: Result<Value, Refusal<LineFault>>) -> Result<Option<Value>, Refusal<LineFault>>
+    ensures { MatchResult answer (λ tree. result ≡ Ok (Some tree)) (λ fault. result ≡ Err fault) }
+{
+    match answer {
+        Ok(tree) => Ok(Some(tree)),
+        Err(fault) => Err(fault),
     }
 }
 

@@ -5,6 +5,7 @@ ghost use Rattle.serde_json.specs.View.{view};
 ghost use Rattle.zarrs_chunk_plan.specs.Rechunking.{Group};
 ghost use Rattle.zarrs_chunk_plan.specs.seen.Copies.{CanMove, all_targets, targets_to_come};
 ghost use Rattle.zarrs_chunk_plan.specs.seen.Parts.{ArePartsToCome, MeetSubset};
+ghost use Rattle.zarrs_chunk_parts.specs.declared.part.Part.{Part as PartValue};
 ghost use Rattle.zarrs_chunk_questions.specs.seen.Groups.{IsGroupIn, IsPageOfGroups, tree_in};
 
 use crate::limits::Limits;
@@ -43,7 +44,7 @@ pub(crate) fn groups_page<
     let in_all = walk.in_all().unwrap_or(u64::MAX);
     let count = limits.wanted().min(in_all.saturating_sub(first));
     walk.skip_to(first)?;
-    let Some(trees) = group_trees(alloc, plan, walk, count as usize, limits.too_many)? else {
+    let Some(trees) = group_trees(alloc, plan, &mut walk, count as usize, limits.too_many)? else {
         return Ok(None);
     };
     let given = trees.len();
@@ -63,17 +64,16 @@ fn group_trees<
 >(
     alloc: Global,
     plan: PlanOf,
-    walk: Copies<'_, G, E, H, F>,
+    walk: &mut Copies<'_, G, E, H, F>,
     most: usize,
     too_many: u64,
 ) -> Result<Option<Vec<Value>>, AllocError>
-    requires { CanMove G.dimensions H.dimensions walk }
+    requires { CanMove G.dimensions H.dimensions walk.old }
     ensures { IfOk result (λ found. IfSome found (λ trees. (groups : List Group)
-        × AllZip (IsGroupIn G.dimensions E.is_key H.dimensions F.is_key walk.entry)
-        (take most (targets_to_come walk.entry)) groups
+        × AllZip (IsGroupIn G.dimensions E.is_key H.dimensions F.is_key walk.old)
+        (take most (targets_to_come walk.old)) groups
         × (map view trees.items ≡ map (tree_in plan) groups))) }
 {
-    let mut walk = walk;
     let mut trees = Vec::new(alloc);
     let mut left = too_many;
     'groups: while trees.len() < most {
@@ -81,14 +81,36 @@ fn group_trees<
             Some(group) => group?,
             None => return Ok(Some(trees)),
         };
-        let ChunkCopies { to, from } = group;
-        let Some(parts) = parts_below(alloc, from, left)? else {
+        let Some((tree, parts)) = tree_of(alloc, plan, group, left)? else {
             return Ok(None);
         };
-        left = left.saturating_sub(parts.len() as u64);
-        trees.push(group_tree(alloc, plan, &to, &parts)?)?;
+        left = left.saturating_sub(parts);
+        trees.push(tree)?;
     }
     Ok(Some(trees))
+}
+
+/// The tree of a group, and how many parts it has; `None` where they are that many, or more.
+///
+/// # Errors
+/// Out of memory.
+fn tree_of<G: ChunkGridTraits, E: ChunkKeyEncodingTraits>(
+    alloc: Global,
+    plan: PlanOf,
+    group: ChunkCopies<'_, G, E>,
+    too_many: u64,
+) -> Result<Option<(Value, u64)>, AllocError>
+    requires { MeetSubset G.dimensions group.from }
+    ensures { IfOk result (λ found. IfSome found (λ made. (parts : List PartValue)
+        × ArePartsToCome G.dimensions E.is_key group.entry.from parts
+        × (view made.0 ≡ tree_in plan (group.entry.to, parts)))) }
+{
+    let ChunkCopies { to, from } = group;
+    let Some(parts) = parts_below(alloc, from, too_many)? else {
+        return Ok(None);
+    };
+    let tree = group_tree(alloc, plan, &to, &parts)?;
+    Ok(Some((tree, parts.len() as u64)))
 }
 
 /// The parts that a walk has left; `None` where they are that many, or more.

@@ -12,7 +12,7 @@ groups-init g c =
     let zero : length c.new-trees.result.items ≡ 0 = ap length none in (
       [],
       first_move g.G.ChunkGridTraits.dimensions g.E.ChunkKeyEncodingTraits.is_key g.H.ChunkGridTraits.dimensions
-          g.F.ChunkKeyEncodingTraits.is_key c.args.walk c.args.walk [] refl refl c.requires,
+          g.F.ChunkKeyEncodingTraits.is_key c.args.walk.now c.args.walk.now [] refl refl c.requires,
       ap (map view) none,
       omega arith,
     )
@@ -21,18 +21,17 @@ pub groups-preserved : goal.groups-preserved
 groups-preserved g c =
     let (groups, have, written, few) = c.groups.invariant in
     let group = c.in_ok-group-in-Some.group in
-    let parts = c.in-Some-2.parts.items in
+    let (parts, come, told) = rw c.in-Some-2.is at c.in_ok-tree.ensures in
     let trees = c.groups.trees.items in
     let more = c.push.new.self.items in
-    let tree = c.in_ok-group_tree.field-0 in
+    let tree = c.in-Some-2.tree in
     let longer : more ≡ trees ++ tree ∷ [] = c.in_ok-push.ensures.items in
     let counted : c.len.result ≡ length trees = search rules in
-    let gives = rw c.in_ok-group-in-Some.was at c.in-Some.ensures.steps in
-    let told = c.in_ok-group_tree.ensures ∙ ap (λ from. tree_in c.args.plan (group.to, from)) c.deref.ensures.value in (
+    let gives = rw c.in_ok-group-in-Some.was at c.in-Some.ensures.steps in (
       groups ++ (group.to, parts) ∷ [],
       one_more_move g.G.ChunkGridTraits.dimensions g.E.ChunkKeyEncodingTraits.is_key g.H.ChunkGridTraits.dimensions
-          g.F.ChunkKeyEncodingTraits.is_key c.args.walk c.groups.walk c.next.new.self group parts groups (groups ++ (group.to, parts) ∷ []) have gives
-          (rw c.in-Some-2.is at c.in_ok-parts.ensures) refl,
+          g.F.ChunkKeyEncodingTraits.is_key c.args.walk.now c.groups.walk c.next.new.self group parts groups (groups ++ (group.to, parts) ∷ []) have gives
+          come refl,
       one_tree_more c.args.plan trees more tree groups (group.to, parts) written told longer,
       let long = ap length longer in grind arith,
     )
@@ -46,8 +45,8 @@ returns-in-None g c =
       groups,
       all_came
           (IsGroupIn g.G.ChunkGridTraits.dimensions g.E.ChunkKeyEncodingTraits.is_key g.H.ChunkGridTraits.dimensions
-          g.F.ChunkKeyEncodingTraits.is_key c.args.walk)
-          (targets_to_come c.args.walk) came (targets_to_come c.groups.walk) groups c.args.most split are gives.gives.0 no_more,
+          g.F.ChunkKeyEncodingTraits.is_key c.args.walk.now)
+          (targets_to_come c.args.walk.now) came (targets_to_come c.groups.walk) groups c.args.most split are gives.gives.0 no_more,
       written,
     )
 
@@ -61,7 +60,7 @@ returns g c =
       groups,
       as_many_came
           (IsGroupIn g.G.ChunkGridTraits.dimensions g.E.ChunkKeyEncodingTraits.is_key g.H.ChunkGridTraits.dimensions
-          g.F.ChunkKeyEncodingTraits.is_key c.args.walk)
-          (targets_to_come c.args.walk) came (targets_to_come c.groups.walk) groups c.args.most split are many,
+          g.F.ChunkKeyEncodingTraits.is_key c.args.walk.now)
+          (targets_to_come c.args.walk.now) came (targets_to_come c.groups.walk) groups c.args.most split are many,
       written,
     )

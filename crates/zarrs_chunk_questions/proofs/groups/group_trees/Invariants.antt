@@ -10,7 +10,7 @@ abbrev pub invariant-groups : goal.invariant-groups
 invariant-groups g l =
     (groups : List Group)
     × MovesHaveCome g.G.ChunkGridTraits.dimensions g.E.ChunkKeyEncodingTraits.is_key g.H.ChunkGridTraits.dimensions g.F.ChunkKeyEncodingTraits.is_key
-    l.fn.walk l.walk groups
+    l.initial.walk l.walk groups
     × (map view l.trees.items ≡ map (tree_in l.plan) groups)
     × (length l.trees.items ≤ l.most)
 
