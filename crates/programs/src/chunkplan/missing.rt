@@ -1,11 +1,15 @@
 //! What a plan still has to write where a store has some of it.
-ghost use Rattle.std.specs.Prelude.{◌≡◌, ℕ, List, Some};
+ghost use Rattle.std.specs.Prelude.{◌≡◌, ℕ, List, Some, option_map};
 ghost use Rattle.zarrs_chunk_base.specs.ArraySubset.{IsBox};
+ghost use Rattle.zarrs_chunk_base.specs.Dimension.{array_sizes};
+ghost use Rattle.zarrs_chunk_keys.specs.seen.Encodings.{encoding_in};
+ghost use Rattle.zarrs_chunks.specs.seen.Grids.{grid_in};
+ghost use Rattle.documents.specs.Stored.{IsStored, stored_of};
 ghost use Rattle.zarrs_chunk_plan.specs.Rechunking.{Group};
 ghost use Rattle.zarrs_chunk_plan.specs.seen.Copies.{AreMovesToCome, CanMove, all_targets, region_of, target_of, targets_to_come};
 ghost use Rattle.zarrs_chunk_plan.specs.seen.Parts.{HasKeys};
 ghost use Rattle.streams.specs.Watched.{has_failed, watched};
-ghost use Rattle.programs.specs.chunkplan.Document.{AsksForLinesOfCopy, document_of};
+ghost use Rattle.programs.specs.chunkplan.Document.{AsksForLinesOfCopy, Document as PlanDocument, copy_to, document_of, lines_wanted, rechunk_to};
 ghost use Rattle.programs.specs.chunkplan.Keys.{IsKeysFault, IsMissingText};
 ghost use Rattle.programs.specs.chunkplan.PlanFault.{IsFaultBeside};
 ghost use Rattle.programs.specs.chunkplan.Planned.{IsPlannedBeside};
@@ -19,13 +23,14 @@ use crate::chunkplan::document::{Document, Task, Wanted};
 use crate::chunkplan::keys::note_keys;
 use crate::chunkplan::line::Order;
 use crate::chunkplan::plan::{open_target, or_all_chunks, or_zeros, write_share};
+use documents::Stored;
 use std::alloc::Global;
 use std::io::{Read, Write};
 use streams::{Lines, Watched};
-use zarrs_chunk_base::Refusal;
-use zarrs_chunk_keys::ChunkKeyEncodingTraits;
+use zarrs_chunk_base::{ArraySubset, Refusal};
+use zarrs_chunk_keys::{ChunkKeyEncoding, ChunkKeyEncodingTraits};
 use zarrs_chunk_plan::{Copies, Share, StoredArray, copies, copies_of_region};
-use zarrs_chunks::ChunkGridTraits;
+use zarrs_chunks::{ChunkGrid, ChunkGridTraits};
 
 /// Reads the keys behind a document, and sends the lines that it asks for of what isn't stored under any of them; and behind these the line of each
 /// key that is none of the target's.
@@ -59,17 +64,9 @@ pub(crate) fn write_beside_keys<R: Read, W: Write>(
     let array = stored.array(alloc, &shape)?;
     drop(stored);
     match (task, wanted) {
-        (Task::Rechunk(target, chunks), Wanted::Lines(share)) => {
-            let target = open_target(alloc, target, &shape)?;
-            let chunks = or_all_chunks(alloc, chunks, &target.grid)?;
-            match copies(alloc, &array, &target, &chunks) {
-                Ok(walk) => write_missing(
-                    alloc, walk, &target, &share, lines, reader, held_back, writer,
-                ),
-                Err(Refusal::Refused(error)) => Err(RunFault::Copies(error)),
-                Err(Refusal::Memory(_)) => Err(RunFault::Memory),
-            }
-        }
+        (Task::Rechunk(target, chunks), Wanted::Lines(share)) => write_rechunking(
+            alloc, &array, &shape, target, chunks, &share, lines, reader, held_back, writer,
+        ),
         (
             Task::Copy {
                 shape,
@@ -78,20 +75,85 @@ pub(crate) fn write_beside_keys<R: Read, W: Write>(
                 at,
             },
             Wanted::Lines(share),
-        ) => {
-            let target = open_target(alloc, target, &shape)?;
-            let at = or_zeros(alloc, at, region.dimensionality())?;
-            region.is_a_box();
-            match copies_of_region(alloc, &array, &target, &region, &at) {
-                Ok(walk) => write_missing(
-                    alloc, walk, &target, &share, lines, reader, held_back, writer,
-                ),
-                Err(Refusal::Refused(error)) => Err(RunFault::from(error)),
-                Err(Refusal::Memory(_)) => Err(RunFault::Memory),
-            }
-        }
+        ) => write_region(
+            alloc, &array, &shape, target, &region, at, &share, lines, reader, held_back, writer,
+        ),
         // Never: keys stand behind a copy whose lines are asked for.
         _ => unreachable!(),
+    }
+}
+
+/// As `write_beside_keys`, of the rechunking of an array into all chunks of a target, or into those in a box.
+fn write_rechunking<R: Read, W: Write>(
+    alloc: Global,
+    array: &StoredArray<ChunkGrid, ChunkKeyEncoding>,
+    shape: &[u64],
+    target: Stored,
+    chunks: Option<ArraySubset>,
+    share: &Share,
+    lines: &mut Lines,
+    reader: &mut Watched<R>,
+    held_back: &mut Vec<u8>,
+    writer: &mut Watched<W>,
+) -> Result<(), RunFault>
+    ensures { (document : PlanDocument) (bytes : List ℕ)
+        → IsStored document.stored document.shape (grid_in array.now.grid)
+        (encoding_in array.now.encoding)
+        → document.shape ≡ shape.now → array_sizes (grid_in array.now.grid).dimensions ≡ shape.now
+        → document.task ≡ rechunk_to (stored_of target) chunks
+        → document.wanted ≡ lines_wanted share.now
+        → left lines.old (R.remaining (watched reader.old)) ≡ Some bytes
+        → KeyStepLeaves (IsPlannedBeside document) (IsFaultBeside document) bytes result
+        (has_failed reader.old) (has_failed reader.new) (R.remaining (watched reader.new))
+        (output W.contents held_back.old.items writer.old)
+        (output W.contents held_back.new.items writer.new) }
+{
+    let target = open_target(alloc, target, shape)?;
+    let chunks = or_all_chunks(alloc, chunks, &target.grid)?;
+    match copies(alloc, array, &target, &chunks) {
+        Ok(walk) => write_missing(
+            alloc, walk, &target, share, lines, reader, held_back, writer,
+        ),
+        Err(Refusal::Refused(error)) => Err(RunFault::Copies(error)),
+        Err(Refusal::Memory(_)) => Err(RunFault::Memory),
+    }
+}
+
+/// As `write_beside_keys`, of the copy of a region to an array of a shape, to begin there at an index.
+fn write_region<R: Read, W: Write>(
+    alloc: Global,
+    array: &StoredArray<ChunkGrid, ChunkKeyEncoding>,
+    shape: &[u64],
+    target: Stored,
+    region: &ArraySubset,
+    at: Option<Vec<u64>>,
+    share: &Share,
+    lines: &mut Lines,
+    reader: &mut Watched<R>,
+    held_back: &mut Vec<u8>,
+    writer: &mut Watched<W>,
+) -> Result<(), RunFault>
+    ensures { (document : PlanDocument) (bytes : List ℕ)
+        → IsStored document.stored document.shape (grid_in array.now.grid)
+        (encoding_in array.now.encoding)
+        → document.task ≡ copy_to shape.now (stored_of target) region.now
+        (option_map (λ v. v.items) at)
+        → document.wanted ≡ lines_wanted share.now
+        → left lines.old (R.remaining (watched reader.old)) ≡ Some bytes
+        → KeyStepLeaves (IsPlannedBeside document) (IsFaultBeside document) bytes result
+        (has_failed reader.old) (has_failed reader.new) (R.remaining (watched reader.new))
+        (output W.contents held_back.old.items writer.old)
+        (output W.contents held_back.new.items writer.new) }
+{
+    let target = open_target(alloc, target, shape)?;
+    let at = or_zeros(alloc, at, region.dimensionality())?;
+    region.is_a_box();
+    match copies_of_region(alloc, array, &target, region, &at) {
+        Ok(walk) => write_missing(
+            alloc, walk, &target, share, lines, reader, held_back, writer,
+        ),
+        Err(Refusal::Refused(error)) => Err(RunFault::from(error)),
+        Err(Refusal::Memory(_)) => Err(RunFault::Memory),
     }
 }
 

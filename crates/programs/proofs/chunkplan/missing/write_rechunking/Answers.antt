@@ -1,0 +1,119 @@
+use Rattle.std.proofs.Common.{◌≡◌, ◌∙◌, ℕ, List, ap, inl, inr, length, option_map, refl, rules, subst, sym, unwrap_or, ⊎_elim}
+use Rattle.std.proofs.lemmas.Result.{err_from_is_err_and}
+use Rattle.zarrs_chunk_base.specs.ArraySubset.{Box}
+use Rattle.zarrs_chunk_base.specs.Dimension.{Dimension}
+use Rattle.zarrs_chunk_keys.specs.ChunkKey.{IsKey}
+use Rattle.zarrs_chunk_keys.specs.declared.chunk_key_encoding.named.ChunkKeyEncoding.{ChunkKeyEncoding}
+use Rattle.zarrs_chunk_keys.specs.seen.Encodings.{encoding_in}
+use Rattle.zarrs_chunk_keys.proofs.OneKey.{has_key}
+use Rattle.zarrs_chunks.specs.declared.chunk_grid.named.ChunkGrid.{ChunkGrid}
+use Rattle.zarrs_chunks.specs.seen.Grids.{grid_in}
+use Rattle.zarrs_chunk_plan.specs.Rechunking.{Group, IsRechunking, all_chunks_box}
+use Rattle.zarrs_chunk_plan.specs.declared.copies_error.CopiesError.{CopiesError}
+use Rattle.zarrs_chunk_plan.specs.declared.copies_error.CopiesError.TheVariants.{ArrayShapes, Chunks}
+use Rattle.zarrs_chunk_plan.specs.seen.Copies.{AreMovesToCome, IsCopiesFault}
+use Rattle.zarrs_chunk_plan.proofs.Copied.{rechunking_of, region_copy_of}
+use Rattle.zarrs_chunk_plan.proofs.SomeRegions.{moved_groups}
+use Rattle.zarrs_chunk_plan.proofs.Taken.{no_parts}
+use Rattle.documents.specs.Stored.{stored_of}
+use Rattle.programs.specs.chunkplan.Document.{document_of, task_of, wanted_of}
+use Rattle.programs.specs.chunkplan.PlanFault.{IsChunksFault, IsCopyFault, IsFaultBeside, of_chunks, of_keys, of_plan, of_region_target, of_source}
+use Rattle.programs.specs.chunkplan.PlanFault.{of_region as of_region_fault, of_target}
+use Rattle.programs.specs.chunkplan.Planned.{ArePlanned, IsPlannedBeside, IsRegionPlan, begins_at, of_rechunking, of_region}
+use Rattle.programs.specs.chunkplan.RunFault.{of_create, of_region as of_region_error}
+use Rattle.programs.specs.declared.chunkplan.run_fault.RunFault.TheVariants.{Copies}
+use Rattle.streams.specs.seen.Sent.{output}
+use Rattle.programs.proofs.chunkplan.KeyLines.{some_keys}
+use Rattle.programs.proofs.chunkplan.KeySteps.{early_beside, key_step_follows}
+use Rattle.programs.proofs.chunkplan.RunOutcomes.{no_read_beside, no_write_beside}
+use Rattle.programs.proofs.chunkplan.StoredLines.{FaultOf, TextOf}
+use Rattle.programs.proofs.chunkplan.missing.write_rechunking.Goals as goal
+
+abbrev dimensions : ChunkGrid → List Dimension
+dimensions grid = (grid_in grid).dimensions
+
+abbrev keys_of : ChunkKeyEncoding → List ℕ → List ℕ → Type 0
+keys_of encoding = IsKey (encoding_in encoding)
+
+-- ---- each chunk has a key
+
+pub write_missing-requires-clause-keys : goal.write_missing-requires-clause-keys
+write_missing-requires-clause-keys g c = has_key (encoding_in c.in-Ok.walk.source.now.encoding)
+
+pub write_missing-requires-clause-target_keys : goal.write_missing-requires-clause-target_keys
+write_missing-requires-clause-target_keys g c = has_key (encoding_in c.in-Ok.walk.targets.encoding.now)
+
+-- ---- what is sent, and why it stops
+
+pub returns-in_err-target : goal.returns-in_err-target
+returns-in_err-target g c = λ document bytes stored shape_is sizes task wanted is.
+    let p = err_from_is_err_and c.from_residual.result c.from_residual.ensures.1 in
+    let refused = rw (← shape_is) at c.in_err-target.ensures.refused in
+    rw (p.1, p.2)
+    (early_beside (IsPlannedBeside document) (IsFaultBeside document) bytes _ _
+    (output g.W.Write.contents c.args.held_back.now.items c.args.writer.now) _ (no_read_beside document) (no_write_beside document)
+    (⊎_elim (λ memory. inl memory)
+    (λ is. inr (λ keys. of_plan (of_target (stored_of c.args.target) c.args.chunks (grid_in c.args.array.now.grid)
+    (encoding_in c.args.array.now.encoding) task stored is)))
+    refused))
+
+pub returns-in-Ok : goal.returns-in-Ok
+returns-in-Ok g c = λ document bytes stored shape_is sizes task wanted is.
+    let made_target = rw (← shape_is) at c.in_ok-target.ensures.made in
+    let array = c.args.array.now in
+    let to = c.in_ok-target.target in
+    let said = c.in-Ok.ensures in
+    let (targets, is_box, targets_are, left) = said.targets in
+    let planned : (groups : List Group) → AreMovesToCome dimensions keys_of dimensions keys_of c.in-Ok.walk groups
+    → ArePlanned document (grid_in to.grid) (encoding_in to.encoding) groups = λ groups moves.
+    of_rechunking (stored_of c.args.target) c.args.chunks (grid_in array.grid) (encoding_in array.encoding)
+    task stored made_target
+    (subst (λ b. length b.start ≡ length (dimensions to.grid)) c.in_ok-chunks.ensures said.lengths)
+    (subst (λ b. IsRechunking (dimensions array.grid) (keys_of array.encoding) (dimensions to.grid) (keys_of to.encoding) b groups)
+    c.in_ok-chunks.ensures
+    (rechunking_of dimensions keys_of dimensions keys_of array to _ c.in_ok-chunks.chunks targets c.in-Ok.walk groups said.about
+    is_box targets_are left (moved_groups dimensions keys_of dimensions keys_of c.in-Ok.walk groups said.can_copy moves)))
+    in
+    key_step_follows
+    (TextOf dimensions keys_of dimensions keys_of c.in-Ok.walk (dimensions to.grid) (keys_of to.encoding) c.args.share.now)
+    (IsPlannedBeside document) (FaultOf dimensions keys_of dimensions keys_of c.in-Ok.walk) (IsFaultBeside document)
+    (λ keys text (groups, moves, missing). record {
+      target = grid_in to.grid;
+      encoding = encoding_in to.encoding;
+      groups = groups;
+      share = c.args.share.now;
+      planned = planned groups moves;
+      wanted = wanted;
+      is_text = missing;
+    })
+    (λ keys fault (groups, moves, stops). of_keys (grid_in to.grid) (encoding_in to.encoding) groups (planned groups moves) stops)
+    bytes _ _ _ (output g.W.Write.contents c.args.held_back.now.items c.args.writer.now)
+    (output g.W.Write.contents c.write_missing.new.held_back.items c.write_missing.new.writer) c.write_missing.result (c.write_missing.ensures bytes is)
+
+-- two arrays of one shape can be told apart by the box of chunks alone
+chunks_fault : (source target : List ℕ) (ds : List Dimension) (chunks : Box) (error : CopiesError) → source ≡ target
+    → IsCopiesFault source target (length chunks.start) (length ds) error → IsChunksFault ds chunks (Copies error)
+chunks_fault source target ds chunks ArrayShapes same is = absurd (is same)
+chunks_fault source target ds chunks (Chunks e) same is = (is.1, is.2)
+
+pub returns-in-Err-Refused : goal.returns-in-Err-Refused
+returns-in-Err-Refused g c = λ document bytes stored shape_is sizes task wanted is.
+    let (keys, are) = some_keys bytes in
+    let made_target = rw (← shape_is) at c.in_ok-target.ensures.made in
+    let array = c.args.array.now in
+    let to = c.in_ok-target.target in
+    let refused = c.in-Err-Refused in
+    let also = c.in_ok-target.ensures.sizes in (
+      refl,
+      refl,
+      refl,
+      keys,
+      are,
+      of_plan (of_chunks (stored_of c.args.target) c.args.chunks (grid_in array.grid) (grid_in to.grid)
+          (encoding_in array.encoding) (encoding_in to.encoding) task stored made_target
+          (subst (λ e. IsChunksFault (dimensions to.grid) (unwrap_or c.args.chunks (all_chunks_box (dimensions to.grid))) (Copies e))
+          (sym refused.error-is)
+          (subst (λ b. IsChunksFault (dimensions to.grid) b (Copies refused.error)) c.in_ok-chunks.ensures
+          (chunks_fault _ _ (dimensions to.grid) c.in_ok-chunks.chunks refused.error (sizes ∙ sym also)
+          (rw refused.field-0-is at refused.ensures.refused))))),
+    )
