@@ -1,35 +1,29 @@
-//! Tests of plans, as a user calls them: that each call answers with ample memory, and that a walk stays ended.
+//! Tests of what no program shows of plans: that walks stay ended and go to any part, the calls that no program makes, and the laws.
 //!
-//! Vectors of numbers stand with the program `chunkcalls`.
+//! What a plan holds is data: the rows of `chunkplan` and the vectors of `chunkcalls` have documents and questions with their answers.
 //!
 //! | Module | What it tests |
 //! |---|---|
-//! | `arrays` | the arrays that are planned |
-//! | `plans` | the parts of a box of elements, and the laws |
-//! | `rechunkings` | what a rechunking copies, what refuses it, the counts of it and of a read, and the laws |
-//! | `regions` | what is copied of a region, the counts of it, what refuses it, and the laws |
-//! | `stages` | the array between of a rechunking in two stages, what refuses it, and the law of it |
-//! | `stored_chunks` | which chunks of a plan a store has, by the keys that it lists |
-//! | `resizes` | what becomes of the chunks of an array that gets another shape, what refuses it, and the laws |
-//! | `changed_boxes` | the same in boxes of chunks |
-//! | `bytes` | which bytes of an uncompressed chunk hold the elements of a box |
+//! | `rows` | the arrays that are planned, the boxes of their elements, and the lines of parts |
+//! | `walks` | walks that stay ended, and that go to any part or group |
+//! | `pages` | parts, chunks and groups from a number on, with how many there are in all |
+//! | `sizes` | the factors of counts, the chunks that are written, and the shapes of largest chunks |
+//! | `marks` | which chunks of a plan a store has |
+//! | `refusals` | what no program asks for, since it plans one array at a time |
+//! | `laws` | the laws |
 #![tactic(auto)]
 
 #[cfg(test)]
-mod arrays;
+mod laws;
 #[cfg(test)]
-mod bytes;
+mod marks;
 #[cfg(test)]
-mod changed_boxes;
+mod pages;
 #[cfg(test)]
-mod plans;
+mod refusals;
 #[cfg(test)]
-mod rechunkings;
+mod rows;
 #[cfg(test)]
-mod regions;
+mod sizes;
 #[cfg(test)]
-mod resizes;
-#[cfg(test)]
-mod stages;
-#[cfg(test)]
-mod stored_chunks;
+mod walks;

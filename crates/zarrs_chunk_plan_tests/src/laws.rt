@@ -1,0 +1,61 @@
+//! The laws, of a source and a target in one array.
+use crate::rows::{row, some_of};
+use std::test::Fail;
+use zarrs_chunk_plan::laws::{
+    a_kept_chunk_is_as_it_was, a_whole_part_is_the_only_one_of_its_chunk,
+    byte_ranges_have_the_bytes_of_the_box, each_chunk_has_one_change,
+    each_chunk_of_a_region_has_one_group, each_element_is_copied_once,
+    each_element_lies_in_one_part, each_element_of_a_region_is_copied_once,
+    each_element_stays_in_its_chunk, each_element_that_leaves_or_comes_changes_its_chunk,
+    each_line_holds_at_most, grids_of_one_configuration_share_their_chunks,
+    no_two_parts_have_one_key, rechunkings_that_share_out_are_the_whole_one,
+    shares_are_together_the_plan, the_other_way_round_has_the_same_copies, the_parts_tile_the_box,
+    the_walk_gives_the_plan, the_walk_gives_the_rechunking, the_walk_gives_the_region,
+    the_walk_gives_the_resize, two_stages_are_together_one,
+};
+
+#[test]
+fn of_reads(rt: HostRuntime) -> Result<(), Fail> {
+    let (array, elements) = (row(rt.alloc(), 5, 3)?, some_of(rt.alloc(), 2, 3)?);
+    the_walk_gives_the_plan(&array.grid, &array.encoding);
+    shares_are_together_the_plan();
+    each_element_lies_in_one_part(&array.grid, &array.encoding, &elements);
+    no_two_parts_have_one_key(&array.grid, &array.encoding, &elements);
+    the_parts_tile_the_box(&array.grid, &array.encoding, &elements);
+    byte_ranges_have_the_bytes_of_the_box();
+    Ok(())
+}
+
+#[test]
+fn of_rechunkings(rt: HostRuntime) -> Result<(), Fail> {
+    let (source, target) = (row(rt.alloc(), 7, 4)?, row(rt.alloc(), 7, 3)?);
+    the_walk_gives_the_rechunking(&source, &target);
+    each_element_is_copied_once(&source, &target);
+    a_whole_part_is_the_only_one_of_its_chunk(&source, &target);
+    the_other_way_round_has_the_same_copies(&source, &target);
+    two_stages_are_together_one(&source, &target, &source);
+    each_line_holds_at_most(&source, &target);
+    rechunkings_that_share_out_are_the_whole_one(&source, &target);
+    Ok(())
+}
+
+#[test]
+fn of_regions(rt: HostRuntime) -> Result<(), Fail> {
+    let (source, target) = (row(rt.alloc(), 7, 4)?, row(rt.alloc(), 7, 3)?);
+    the_walk_gives_the_region(&source, &target);
+    each_element_of_a_region_is_copied_once(&source, &target);
+    each_chunk_of_a_region_has_one_group(&source, &target);
+    Ok(())
+}
+
+#[test]
+fn of_resizes(rt: HostRuntime) -> Result<(), Fail> {
+    let (seven, ten) = (row(rt.alloc(), 7, 3)?, row(rt.alloc(), 10, 3)?);
+    grids_of_one_configuration_share_their_chunks();
+    the_walk_gives_the_resize(&seven.grid, &ten.grid, &seven.encoding);
+    each_chunk_has_one_change(&seven.grid, &ten.grid, &seven.encoding);
+    a_kept_chunk_is_as_it_was(&seven.grid, &ten.grid);
+    each_element_stays_in_its_chunk(&seven.grid, &ten.grid);
+    each_element_that_leaves_or_comes_changes_its_chunk(&seven.grid, &ten.grid);
+    Ok(())
+}

@@ -1,0 +1,165 @@
+//! Walks that stay ended, after an error too, and walks that go to any part or group.
+use crate::rows::{Stored, append_part, check_text, row, some_of};
+use std::alloc::Global;
+use std::process::Abort;
+use std::test::Fail;
+use zarrs_chunk_keys::DefaultChunkKeyEncoding;
+use zarrs_chunk_plan::{ChunkCopies, Copies, Parts, copies_of_region, parts};
+use zarrs_chunks::RegularChunkGrid;
+
+type Walk<'a> = Parts<'a, RegularChunkGrid, DefaultChunkKeyEncoding>;
+
+type Groups<'a> = Copies<
+    'a,
+    RegularChunkGrid,
+    DefaultChunkKeyEncoding,
+    RegularChunkGrid,
+    DefaultChunkKeyEncoding,
+>;
+
+/// The walk over the parts of so many elements of a row, from one on.
+fn walk_over(alloc: Global, array: &Stored, first: u64, count: u64) -> Result<Walk<'_>, Fail> {
+    let subset = some_of(alloc, first, count)?;
+    Ok(parts(alloc, &array.grid, &array.encoding, &subset)?.ok_or("no cover")?)
+}
+
+/// Appends the line of the next part, or an empty one where the walk has ended. After an error it has ended.
+fn append_next(
+    rt: &(impl Abort + AllocGlobal),
+    lines: &mut String,
+    walk: &mut Walk<'_>,
+) -> Result<(), Fail> {
+    match walk.next() {
+        Some(Ok(part)) => append_part(rt.alloc(), lines, &part),
+        Some(Err(error)) => {
+            assert!(rt; walk.next().is_none(), "a walk goes on after an error");
+            Err(error.into())
+        }
+        None => Ok(lines.push('\n')?),
+    }
+}
+
+/// Appends the line of the part with a number.
+fn append_from(
+    rt: &(impl Abort + AllocGlobal),
+    lines: &mut String,
+    walk: &mut Walk<'_>,
+    number: u64,
+) -> Result<(), Fail> {
+    walk.skip_to(number)?;
+    append_next(rt, lines, walk)
+}
+
+/// How many parts a walk still gives.
+fn count_parts(walk: Walk<'_>) -> Result<u64, Fail> {
+    let mut count = 0u64;
+    for part in walk {
+        part?;
+        count = count.saturating_add(1);
+    }
+    Ok(count)
+}
+
+const TWO_PARTS: &str = "\
+c/0/0/0/0/0 [0, 0, 0, 0, 2] [0, 0, 0, 0, 0] [1, 1, 1, 1, 1]
+c/0/0/0/0/1 [0, 0, 0, 0, 0] [0, 0, 0, 0, 1] [1, 1, 1, 1, 2]
+
+
+";
+
+#[test]
+fn a_walk_stays_ended(rt: HostRuntime) -> Result<(), Fail> {
+    let array = row(rt.alloc(), 5, 3)?;
+    let mut walk = walk_over(rt.alloc(), &array, 2, 3)?;
+    let mut lines = String::new(rt.alloc());
+    for _ in 0..4 {
+        append_next(&rt, &mut lines, &mut walk)?;
+    }
+    check_text(&rt, lines.as_str(), TWO_PARTS);
+    Ok(())
+}
+
+/// The part with the number 2, the last one, none twice, and the first one.
+const ANY_PARTS: &str = "\
+c/0/0/0/0/2 [0, 0, 0, 0, 0] [0, 0, 0, 0, 5] [1, 1, 1, 1, 3]
+c/0/0/0/0/1000 [0, 0, 0, 0, 0] [0, 0, 0, 0, 2999] [1, 1, 1, 1, 1]
+
+
+c/0/0/0/0/0 [0, 0, 0, 0, 1] [0, 0, 0, 0, 0] [1, 1, 1, 1, 2]
+";
+
+/// Of the elements 1 to 3000 two are in the first chunk, three in each of 999, and one in the last.
+#[test]
+fn a_walk_goes_to_any_part(rt: HostRuntime) -> Result<(), Fail> {
+    let array = row(rt.alloc(), 3001, 3)?;
+    let mut walk = walk_over(rt.alloc(), &array, 1, 3000)?;
+    let mut lines = String::new(rt.alloc());
+    for number in [2, 1000, 1001, u64::MAX, 0] {
+        append_from(&rt, &mut lines, &mut walk, number)?;
+    }
+    check_text(&rt, lines.as_str(), ANY_PARTS);
+    Ok(())
+}
+
+#[test]
+fn more_than_a_thousand_parts_are_read_to_their_end(rt: HostRuntime) -> Result<(), Fail> {
+    let array = row(rt.alloc(), 3001, 3)?;
+    let mut walk = walk_over(rt.alloc(), &array, 1, 3000)?;
+    assert_eq!(rt; walk.in_all(), Some(1001));
+    walk.skip_to(1)?;
+    assert_eq!(rt; count_parts(walk)?, 1000);
+    assert_eq!(rt; count_parts(walk_over(rt.alloc(), &array, 1, 3000)?)?, 1001);
+    Ok(())
+}
+
+/// The walk over what goes from six elements of a row of seven into two chunks of another row.
+fn walk_between<'a>(
+    alloc: Global,
+    source: &'a Stored,
+    target: &'a Stored,
+) -> Result<Groups<'a>, Fail> {
+    let region = some_of(alloc, 1, 6)?;
+    Ok(copies_of_region(alloc, source, target, &region, &[0, 0, 0, 0, 4])?)
+}
+
+/// The key of the next chunk that a walk writes, or none where it has ended.
+fn next_key(alloc: Global, walk: &mut Groups<'_>) -> Result<String, Fail> {
+    match walk.next() {
+        Some(group) => {
+            let ChunkCopies { to, from: _ } = group?;
+            Ok(String::from_str(alloc, to.key.as_str())?)
+        }
+        None => Ok(String::from_str(alloc, "none")?),
+    }
+}
+
+/// The key of the chunk with a number that a walk writes, or none.
+fn key_at(alloc: Global, walk: &mut Groups<'_>, number: u64) -> Result<String, Fail> {
+    walk.skip_to(number)?;
+    next_key(alloc, walk)
+}
+
+/// Of two groups: behind the last, back to it, behind it again, as far as numbers go, and back to the first.
+#[test]
+fn a_walk_over_a_region_goes_to_any_group(rt: HostRuntime) -> Result<(), Fail> {
+    let (source, target) = (row(rt.alloc(), 7, 3)?, row(rt.alloc(), 12, 5)?);
+    let mut walk = walk_between(rt.alloc(), &source, &target)?;
+    assert_eq!(rt; walk.in_all(), Some(2));
+    for (number, expected) in [
+        (2, "none"),
+        (1, "c/0/0/0/0/1"),
+        (2, "none"),
+        (u64::MAX, "none"),
+        (0, "c/0/0/0/0/0"),
+    ] {
+        check_text(
+            &rt,
+            key_at(rt.alloc(), &mut walk, number)?.as_str(),
+            expected,
+        );
+    }
+    for expected in ["c/0/0/0/0/1", "none", "none"] {
+        check_text(&rt, next_key(rt.alloc(), &mut walk)?.as_str(), expected);
+    }
+    Ok(())
+}
