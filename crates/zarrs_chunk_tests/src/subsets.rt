@@ -1,26 +1,15 @@
-//! Boxes: what they are made of, what they hold, and when they are equal.
+//! Boxes: what calls on them answer, what they hold, and when they are equal.
 use crate::compared::{check_numbers, check_that};
 use std::alloc::{AllocError, Global};
+use std::ops::Range;
 use std::process::Abort;
 use std::test::Fail;
-use zarrs_chunk_base::{
-    ArraySubset, ArraySubsetError, BoxEndError, IncompatibleDimensionalityError,
-};
+use zarrs_chunk_base::ArraySubset;
 
-fn make(
-    alloc: Global,
-    start: &[u64],
-    shape: &[u64],
-) -> Result<Result<ArraySubset, ArraySubsetError>, AllocError> {
-    Ok(ArraySubset::new_with_start_shape(
-        Vec::from_slice(alloc, start)?,
-        Vec::from_slice(alloc, shape)?,
-    ))
-}
-
-/// A box that isn't refused.
+/// The box of a start and a shape.
 fn made(alloc: Global, start: &[u64], shape: &[u64]) -> Result<ArraySubset, Fail> {
-    Ok(make(alloc, start, shape)??)
+    let start = Vec::from_slice(alloc, start)?;
+    Ok(ArraySubset::new_with_start_shape(start, Vec::from_slice(alloc, shape)?)?)
 }
 
 /// What the calls on a box are to answer.
@@ -32,9 +21,13 @@ struct Row<'a> {
     end_inc: Option<&'a [u64]>,
 }
 
-/// Something holds of a box.
-fn check_box(rt: &impl Abort, subset: &ArraySubset, holds: bool) {
-    assert!(rt; holds, "{subset:?}");
+/// Compares what the calls on a box answer that need no memory.
+fn check_start_and_shape(rt: &impl Abort, subset: &ArraySubset, row: &Row) {
+    check_numbers(rt, subset.start(), row.start);
+    check_numbers(rt, subset.shape(), row.shape);
+    let has_length = subset.dimensionality() == row.start.len();
+    let has_elements = subset.is_empty() == row.end_inc.is_none();
+    check_that(rt, has_length && has_elements, "length and elements");
 }
 
 /// Compares what the calls on a box answer.
@@ -43,14 +36,10 @@ fn check_answers(
     subset: &ArraySubset,
     row: &Row,
 ) -> Result<(), AllocError> {
-    check_numbers(rt, subset.start(), row.start);
-    check_numbers(rt, subset.shape(), row.shape);
+    check_start_and_shape(rt, subset, row);
     check_numbers(rt, &subset.end_exc(rt.alloc())?, row.end_exc);
-    let has_length = subset.dimensionality() == row.start.len();
-    let has_elements = subset.is_empty() == row.end_inc.is_none();
     let end_inc = subset.end_inc(rt.alloc())?;
-    let has_end = end_inc.as_deref() == row.end_inc;
-    check_box(rt, subset, has_length && has_elements && has_end);
+    check_that(rt, end_inc.as_deref() == row.end_inc, "the last index");
     Ok(())
 }
 
@@ -61,7 +50,7 @@ fn check_subset(
     row: &Row,
 ) -> Result<(), AllocError> {
     let copy = subset.clone()?;
-    check_box(rt, subset, copy == *subset);
+    check_that(rt, copy == *subset, "a copy");
     check_answers(rt, subset, row)?;
     check_answers(rt, &copy, row)
 }
@@ -113,36 +102,6 @@ const NO_DIMENSIONS: Row<'static> = Row {
     end_inc: Some(&[]),
 };
 
-#[test]
-fn boxes_are_made(rt: HostRuntime) -> Result<(), Fail> {
-    check_made(&rt, &FULL)?;
-    check_made(&rt, &GREATEST)?;
-    check_made(&rt, &LAST)?;
-    check_made(&rt, &BACKWARDS)?;
-    check_made(&rt, &ZEROS)?;
-    check_made(&rt, &NO_DIMENSIONS)
-}
-
-#[test]
-fn boxes_are_made_of_ranges(rt: HostRuntime) -> Result<(), Fail> {
-    let alloc = rt.alloc();
-    check_subset(
-        &rt,
-        &ArraySubset::new_with_ranges(alloc, &[3..5, 5..9])?,
-        &FULL,
-    )?;
-    check_subset(
-        &rt,
-        &ArraySubset::new_with_ranges(alloc, &[3..5, 5..3])?,
-        &BACKWARDS,
-    )?;
-    check_subset(&rt, &ArraySubset::new_empty(alloc, 2)?, &ZEROS)?;
-    check_subset(&rt, &ArraySubset::new_empty(alloc, 0)?, &NO_DIMENSIONS)?;
-    let is_refused = ArraySubset::new_empty(alloc, usize::MAX).is_err();
-    check_that(&rt, is_refused, "no memory");
-    Ok(())
-}
-
 const THOUSAND: Row<'static> = Row {
     start: &[3; 1000],
     shape: &[2; 1000],
@@ -150,104 +109,128 @@ const THOUSAND: Row<'static> = Row {
     end_inc: Some(&[4; 1000]),
 };
 
+const THOUSAND_ZEROS: Row<'static> = Row {
+    start: &[0; 1000],
+    shape: &[0; 1000],
+    end_exc: &[0; 1000],
+    end_inc: None,
+};
+
 #[test]
-fn boxes_of_a_thousand_dimensions_are_made(rt: HostRuntime) -> Result<(), Fail> {
-    let alloc = rt.alloc();
-    check_made(&rt, &THOUSAND)?;
+fn boxes_are_made(rt: HostRuntime) -> Result<(), Fail> {
+    for row in [FULL, GREATEST, LAST, BACKWARDS, ZEROS, NO_DIMENSIONS] {
+        check_made(&rt, &row)?;
+    }
+    Ok(())
+}
+
+/// Compares what the calls on the box of ranges answer.
+fn check_ranges(
+    rt: &(impl Abort + AllocGlobal),
+    ranges: &[Range<u64>],
+    row: &Row,
+) -> Result<(), AllocError> {
+    check_subset(rt, &ArraySubset::new_with_ranges(rt.alloc(), ranges)?, row)
+}
+
+/// Compares what the calls on the empty box of so many dimensions as the row has answer.
+fn check_empty(rt: &(impl Abort + AllocGlobal), row: &Row) -> Result<(), AllocError> {
+    check_subset(
+        rt,
+        &ArraySubset::new_empty(rt.alloc(), row.start.len())?,
+        row,
+    )
+}
+
+#[test]
+fn boxes_are_made_of_ranges(rt: HostRuntime) -> Result<(), Fail> {
+    check_ranges(&rt, &[3..5, 5..9], &FULL)?;
+    check_ranges(&rt, &[3..5, 5..3], &BACKWARDS)?;
+    check_empty(&rt, &ZEROS)?;
+    check_empty(&rt, &NO_DIMENSIONS)?;
+    let is_refused = ArraySubset::new_empty(rt.alloc(), usize::MAX).is_err();
+    check_that(&rt, is_refused, "no memory");
+    Ok(())
+}
+
+/// The range 3..5 in each of a thousand dimensions.
+fn thousand_ranges(alloc: Global) -> Result<Vec<Range<u64>>, AllocError> {
     let mut ranges = Vec::new(alloc);
     for _ in 0..1000 {
         ranges.push(3..5)?;
     }
-    check_subset(
-        &rt,
-        &ArraySubset::new_with_ranges(alloc, &ranges)?,
-        &THOUSAND,
-    )?;
-    let empty = ArraySubset::new_empty(alloc, 1000)?;
-    check_numbers(&rt, empty.start(), &[0; 1000]);
-    check_numbers(&rt, empty.shape(), &[0; 1000]);
-    Ok(())
-}
-
-fn lengths(given: usize, expected: usize) -> ArraySubsetError {
-    ArraySubsetError::Lengths(IncompatibleDimensionalityError::new(given, expected))
-}
-
-fn end(dimension: usize) -> ArraySubsetError {
-    ArraySubsetError::End(BoxEndError { dimension })
-}
-
-/// Something holds of a start and a shape.
-fn check_start_and_shape(rt: &impl Abort, start: &[u64], shape: &[u64], holds: bool) {
-    assert!(rt; holds, "{start:?} {shape:?}");
-}
-
-/// No box is made of a start and a shape, with this error.
-fn check_refused(
-    rt: &(impl Abort + AllocGlobal),
-    start: &[u64],
-    shape: &[u64],
-    error: ArraySubsetError,
-) -> Result<(), AllocError> {
-    let made = make(rt.alloc(), start, shape)?;
-    let is_error = made.err() == Some(error);
-    check_start_and_shape(rt, start, shape, is_error);
-    Ok(())
+    Ok(ranges)
 }
 
 #[test]
-fn boxes_are_refused(rt: HostRuntime) -> Result<(), Fail> {
-    let greatest = 18446744073709551615;
-    check_refused(&rt, &[1], &[1, 1], lengths(2, 1))?;
-    check_refused(&rt, &[greatest], &[], lengths(0, 1))?;
-    check_refused(&rt, &[0, greatest], &[1, 1], end(1))?;
-    check_refused(&rt, &[greatest, greatest], &[greatest, 1], end(0))?;
-    Ok(())
+fn boxes_of_a_thousand_dimensions_are_made(rt: HostRuntime) -> Result<(), Fail> {
+    check_made(&rt, &THOUSAND)?;
+    check_ranges(&rt, &thousand_ranges(rt.alloc())?, &THOUSAND)?;
+    Ok(check_empty(&rt, &THOUSAND_ZEROS)?)
 }
 
-/// Whether an index list lies in a box.
-fn check_inside(rt: &impl Abort, subset: &ArraySubset, indices: &[u64], inside: bool) {
-    assert!(rt;
+/// Whether an index list lies in the box of a start and a shape.
+fn check_inside(
+    rt: &(impl Abort + AllocGlobal),
+    start_and_shape: [&[u64]; 2],
+    indices: &[u64],
+    inside: bool,
+) -> Result<(), Fail> {
+    let [start, shape] = start_and_shape;
+    let subset = made(rt.alloc(), start, shape)?;
+    check_that(
+        rt,
         subset.contains(indices) == inside,
-        "{indices:?} in {subset:?}"
+        "an index list in a box",
     );
+    Ok(())
 }
 
 #[test]
 fn indices_lie_in_boxes(rt: HostRuntime) -> Result<(), Fail> {
-    let alloc = rt.alloc();
-    let full = made(alloc, &[3, 5], &[2, 4])?;
-    check_inside(&rt, &full, &[3, 5], true);
-    check_inside(&rt, &full, &[4, 8], true);
-    check_inside(&rt, &full, &[2, 5], false);
-    check_inside(&rt, &full, &[3, 9], false);
-    check_inside(&rt, &full, &[3], false);
-    check_inside(&rt, &full, &[3, 5, 0], false);
-    check_inside(&rt, &made(alloc, &[3, 5], &[2, 0])?, &[3, 5], false);
-    let no_dimensions = made(alloc, &[], &[])?;
-    check_inside(&rt, &no_dimensions, &[], true);
-    check_inside(&rt, &no_dimensions, &[0], false);
+    let full: [&[u64]; 2] = [&[3, 5], &[2, 4]];
+    let empty: [&[u64]; 2] = [&[3, 5], &[2, 0]];
+    let no_dimensions: [&[u64]; 2] = [&[], &[]];
+    let rows: [([&[u64]; 2], &[u64], bool); 9] = [
+        (full, &[3, 5], true),
+        (full, &[4, 8], true),
+        (full, &[2, 5], false),
+        (full, &[3, 9], false),
+        (full, &[3], false),
+        (full, &[3, 5, 0], false),
+        (empty, &[3, 5], false),
+        (no_dimensions, &[], true),
+        (no_dimensions, &[0], false),
+    ];
+    for (start_and_shape, indices, inside) in rows {
+        check_inside(&rt, start_and_shape, indices, inside)?;
+    }
     Ok(())
 }
 
-/// Whether a box is equal to that of a start and a shape.
+/// Whether the box of a start and a shape is equal to the one that begins at [3, 5] and has the shape [2, 4].
 fn check_equal(
     rt: &(impl Abort + AllocGlobal),
-    subset: &ArraySubset,
     start: &[u64],
     shape: &[u64],
     equal: bool,
 ) -> Result<(), Fail> {
+    let subset = made(rt.alloc(), &[3, 5], &[2, 4])?;
     let other = made(rt.alloc(), start, shape)?;
-    check_box(rt, &other, (*subset == other) == equal);
+    check_that(rt, (subset == other) == equal, "two boxes");
     Ok(())
 }
 
 #[test]
 fn boxes_are_compared(rt: HostRuntime) -> Result<(), Fail> {
-    let subset = made(rt.alloc(), &[3, 5], &[2, 4])?;
-    check_equal(&rt, &subset, &[3, 5], &[2, 4], true)?;
-    check_equal(&rt, &subset, &[3, 6], &[2, 4], false)?;
-    check_equal(&rt, &subset, &[3, 5], &[2, 3], false)?;
-    check_equal(&rt, &subset, &[3], &[2], false)
+    let rows: [(&[u64], &[u64], bool); 4] = [
+        (&[3, 5], &[2, 4], true),
+        (&[3, 6], &[2, 4], false),
+        (&[3, 5], &[2, 3], false),
+        (&[3], &[2], false),
+    ];
+    for (start, shape, equal) in rows {
+        check_equal(&rt, start, shape, equal)?;
+    }
+    Ok(())
 }
