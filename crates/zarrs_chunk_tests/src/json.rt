@@ -25,79 +25,66 @@ fn configuration<C: ConfigurationForm>(alloc: Global, text: &str) -> Result<C, F
     Ok(C::from_tree(alloc, &members(alloc, text)?)?)
 }
 
-/// A kind of configuration: the words before its members, and two of it.
+/// A configuration: its text, what it prints, and the text of another one.
 #[derive(Clone, Copy)]
 struct Kind<'a> {
-    words: &'a str,
     text: &'a str,
+    printed: &'a str,
     other: &'a str,
 }
 
-/// The copy of the configuration that the text stands for prints that text behind the kind's words, and is equal to its original. That of the
-/// other text isn't.
+/// The configurations that the text and the other text stand for.
+fn pair<C: ConfigurationForm>(alloc: Global, kind: &Kind) -> Result<(C, C), Fail> {
+    Ok((
+        configuration(alloc, kind.text)?,
+        configuration(alloc, kind.other)?,
+    ))
+}
+
+/// The copy of a configuration prints what it is to print, and is equal to its original. The other configuration isn't.
 fn check_copy<C, F>(rt: &(impl Abort + AllocGlobal), copy: F, kind: &Kind) -> Result<(), Fail>
 where
     C: ConfigurationForm + Display + PartialEq,
     F: Fn(&C) -> Result<C, AllocError>,
     requires { F.IsAlwaysCallable copy }
 {
-    let configuration: C = configuration(rt.alloc(), kind.text)?;
-    let copied = copy(&configuration)?;
-    check_that(rt, copied == configuration, kind.text);
-    check_printed(rt, &copied, kind)?;
-    check_other(rt, &configuration, kind.other)
-}
-
-/// The configuration prints its kind's words and its text.
-fn check_printed<C: Display>(
-    rt: &(impl Abort + AllocGlobal),
-    configuration: &C,
-    kind: &Kind,
-) -> Result<(), Fail> {
-    let printed = configuration.to_string(rt.alloc())?;
-    let members = printed.as_str().strip_prefix(kind.words);
-    check_same(rt, members.ok_or("other words")?, kind.text);
-    Ok(())
-}
-
-/// The configuration isn't equal to that of the other text.
-fn check_other<C: ConfigurationForm + PartialEq>(
-    rt: &(impl Abort + AllocGlobal),
-    configuration: &C,
-    text: &str,
-) -> Result<(), Fail> {
-    let other: C = self::configuration(rt.alloc(), text)?;
-    check_that(rt, other != *configuration, text);
-    Ok(())
+    let (configuration, other) = pair(rt.alloc(), kind)?;
+    let copied: C = copy(&configuration)?;
+    check_that(
+        rt,
+        copied == configuration && other != configuration,
+        kind.text,
+    );
+    Ok(check_text(rt, &copied, kind.printed)?)
 }
 
 const BOUNDED: Kind<'static> = Kind {
-    words: "regular chunk grid ",
     text: r#"{"chunk_shape":[1,2,3]}"#,
+    printed: r#"regular chunk grid {"chunk_shape":[1,2,3]}"#,
     other: r#"{"chunk_shape":[1,2]}"#,
 };
 
 const RECTANGULAR: Kind<'static> = Kind {
-    words: "rectangular chunk grid ",
     text: r#"{"chunk_shape":[[5,5],10,[5,1],[]]}"#,
+    printed: r#"rectangular chunk grid {"chunk_shape":[[5,5],10,[5,1],[]]}"#,
     other: r#"{"chunk_shape":[[5,5],[10],[5,1],[]]}"#,
 };
 
 const RECTILINEAR: Kind<'static> = Kind {
-    words: "rectilinear chunk grid ",
     text: r#"{"chunk_shapes":[[[5,3],20],10,[]],"kind":"inline"}"#,
+    printed: r#"rectilinear chunk grid {"chunk_shapes":[[[5,3],20],10,[]],"kind":"inline"}"#,
     other: r#"{"chunk_shapes":[[5,5,5,20],10,[]],"kind":"inline"}"#,
 };
 
 const DOT: Kind<'static> = Kind {
-    words: "",
     text: r#"{"separator":"."}"#,
+    printed: r#"{"separator":"."}"#,
     other: r#"{"separator":"/"}"#,
 };
 
 const SLASH: Kind<'static> = Kind {
-    words: "",
     text: r#"{"separator":"/"}"#,
+    printed: r#"{"separator":"/"}"#,
     other: r#"{"separator":"."}"#,
 };
 
@@ -110,11 +97,10 @@ fn configurations_of_grids_are_copied(rt: HostRuntime) -> Result<(), Fail> {
 
 #[test]
 fn configurations_of_encodings_are_copied(rt: HostRuntime) -> Result<(), Fail> {
-    for kind in [DOT, SLASH] {
-        check_copy(&rt, DefaultChunkKeyEncodingConfiguration::clone, &kind)?;
-        check_copy(&rt, V2ChunkKeyEncodingConfiguration::clone, &kind)?;
-    }
-    Ok(())
+    check_copy(&rt, DefaultChunkKeyEncodingConfiguration::clone, &DOT)?;
+    check_copy(&rt, DefaultChunkKeyEncodingConfiguration::clone, &SLASH)?;
+    check_copy(&rt, V2ChunkKeyEncodingConfiguration::clone, &DOT)?;
+    check_copy(&rt, V2ChunkKeyEncodingConfiguration::clone, &SLASH)
 }
 
 /// The configuration that the text stands for has this separator and this suffix, and its copy is written as the text.
@@ -175,13 +161,18 @@ fn written(alloc: Global, metadata: &MetadataV3) -> Result<String, AllocError> {
     metadata.to_tree(alloc)?.to_string(alloc)
 }
 
-/// The metadata that a text stands for are written as the other text. The same where they are moved out of the tree.
+/// The metadata that a text stands for, and the same moved out of the tree.
+fn read(alloc: Global, text: &str) -> Result<(MetadataV3, MetadataV3), Fail> {
+    let tree = Value::from_slice(alloc, text.as_bytes())?;
+    let metadata = MetadataV3::from_tree(alloc, &tree)?;
+    Ok((metadata, MetadataV3::from_value(alloc, tree)?))
+}
+
+/// The metadata that a text stands for are written as the other text. They are the same where they are moved out of the tree.
 fn check_metadata(rt: &(impl Abort + AllocGlobal), text: &str, written: &str) -> Result<(), Fail> {
-    let tree = Value::from_slice(rt.alloc(), text.as_bytes())?;
-    let metadata = MetadataV3::from_tree(rt.alloc(), &tree)?;
-    check_written(rt, &metadata, written)?;
-    let moved = MetadataV3::from_value(rt.alloc(), tree)?;
-    Ok(check_written(rt, &moved, written)?)
+    let (metadata, moved) = read(rt.alloc(), text)?;
+    check_that(rt, metadata == moved, text);
+    Ok(check_written(rt, &metadata, written)?)
 }
 
 #[test]

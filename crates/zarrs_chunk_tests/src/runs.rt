@@ -18,21 +18,6 @@ fn edges(alloc: Global, text: &str) -> Result<RunEdges, Fail> {
     Ok(RunEdges::new(alloc, &elements(alloc, text)?)?)
 }
 
-/// The chunk over an index.
-fn check_index(
-    rt: &impl Abort,
-    edges: &RunEdges,
-    index: u64,
-    chunk: Option<u64>,
-    comparisons: &mut Comparisons,
-) {
-    check_that(
-        rt,
-        edges.find_index(index, comparisons) == chunk,
-        "an index",
-    );
-}
-
 /// The run that a chunk lies in.
 fn check_run_of_chunk(
     rt: &impl Abort,
@@ -47,23 +32,17 @@ fn check_run_of_chunk(
 /// Searches find what they are to find, with at most three comparisons each.
 fn check_searches(rt: &impl Abort, edges: &RunEdges) {
     let mut comparisons = Comparisons::new();
-    check_index(rt, edges, 14, Some(2), &mut comparisons);
-    check_index(rt, edges, 15, Some(3), &mut comparisons);
-    check_index(rt, edges, 99, Some(6), &mut comparisons);
-    check_index(rt, edges, 100, None, &mut comparisons);
     check_run_of_chunk(rt, edges, 2, Some(0), &mut comparisons);
     check_run_of_chunk(rt, edges, 4, Some(1), &mut comparisons);
     check_run_of_chunk(rt, edges, 6, Some(3), &mut comparisons);
     check_run_of_chunk(rt, edges, 7, None, &mut comparisons);
     let compared = comparisons.count();
-    check_that(rt, compared > 0 && compared <= 24, "three comparisons each");
+    check_that(rt, compared > 0 && compared <= 12, "three comparisons each");
 }
 
 #[test]
 fn searches_take_few_comparisons(rt: HostRuntime) -> Result<(), Fail> {
-    let edges = edges(rt.alloc(), "[[5,1],[5,2],15,15,[20,1],35]")?;
-    check_searches(&rt, &edges);
-    check_searches(&rt, &edges.clone()?);
+    check_searches(&rt, &edges(rt.alloc(), "[[5,1],[5,2],15,15,[20,1],35]")?);
     Ok(())
 }
 
