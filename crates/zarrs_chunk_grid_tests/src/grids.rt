@@ -1,41 +1,26 @@
-//! The grids: that look-ups, boxes, covers, homes and copies succeed with ample memory, what is refused, and what a kind of grid makes of metadata.
+//! The grids: how they are created and copied, refusals that are handed back, and the laws.
 //!
 //! Each look-up, box, cover, bound, walk and configuration of each kind of grid is a vector of `chunkcalls`.
 use crate::compared::{check_numbers, check_same, check_that, refusal};
 use serde_json::Value;
 use std::alloc::{AllocError, Global};
 use std::num::NonZeroU64;
-use std::ops::Range;
 use std::process::Abort;
 use std::test::Fail;
 use zarrs_chunk_base::{
-    ArraySubset, ChunkEdgeLengths, ChunkShape, IncompatibleDimensionalityError, MetadataV3,
-    RectangularChunkGridDimensionConfiguration, Refusal, RunLengthElement,
+    ArraySubset, ChunkEdgeLengths, IncompatibleDimensionalityError, MetadataV3,
+    RectangularChunkGridDimensionConfiguration, TreeForm,
 };
 use zarrs_chunks::laws::{
     chunk_indices_names_the_home, chunks_share_no_index, grids_of_like_dimensions_answer_alike,
-    the_box_of_chunks_is_the_union_of_their_boxes, the_cover_names_the_chunks_that_meet_a_box,
-    the_edges_determine_the_dimensions,
+    the_box_of_chunks_is_the_union_of_their_boxes, the_boxes_of_a_walk_are_those_of_its_chunks,
+    the_cover_names_the_chunks_that_meet_a_box, the_edges_determine_the_dimensions,
 };
 use zarrs_chunks::{
-    ChunkGrid, ChunkGridTraits, Comparisons, Home, RectangularChunkGrid, RectilinearChunkGrid,
-    RegularBoundedChunkGrid, RegularChunkGrid,
+    ChunkGrid, ChunkGridTraits, Comparisons, Home, RectangularChunkGrid,
+    RectangularChunkGridCreateError, RectilinearChunkGrid, RectilinearChunkGridCreateError,
+    RegularBoundedChunkGrid, RegularChunkGrid, RegularChunkGridCreateError,
 };
-
-const MAX: u64 = u64::MAX;
-
-fn non_zero(edge: u64) -> Result<NonZeroU64, Fail> {
-    Ok(NonZeroU64::new(edge).ok_or("an edge of 0")?)
-}
-
-/// Edges, none of which is 0.
-fn edges(alloc: Global, numbers: &[u64]) -> Result<ChunkShape, Fail> {
-    let mut edges = Vec::new(alloc);
-    for number in numbers {
-        edges.push(non_zero(*number)?)?;
-    }
-    Ok(edges)
-}
 
 /// The metadata that a text stands for.
 pub(crate) fn metadata(alloc: Global, text: &str) -> Result<MetadataV3, Fail> {
@@ -43,373 +28,336 @@ pub(crate) fn metadata(alloc: Global, text: &str) -> Result<MetadataV3, Fail> {
     Ok(MetadataV3::from_tree(alloc, &tree)?)
 }
 
-/// Five in each dimension, in chunks of three.
-fn regular(alloc: Global, dimensions: usize) -> Result<ChunkGrid, Fail> {
-    let array_shape = vec![in alloc; 5; dimensions]?;
-    let threes = vec![in alloc; non_zero(3)?; dimensions]?;
-    Ok(RegularChunkGrid::new(alloc, array_shape, threes)?.into())
+/// The grid that is created of metadata, of an array of these sizes.
+pub(crate) fn created<G: ChunkGridTraits>(
+    alloc: Global,
+    text: &str,
+    array_shape: &[u64],
+) -> Result<G, Fail> {
+    Ok(G::create(alloc, &metadata(alloc, text)?, array_shape)?)
 }
 
-/// The same, where the last chunks end with the array.
-fn bounded(alloc: Global, dimensions: usize) -> Result<ChunkGrid, Fail> {
-    let array_shape = vec![in alloc; 5; dimensions]?;
-    let threes = vec![in alloc; non_zero(3)?; dimensions]?;
-    Ok(RegularBoundedChunkGrid::new(alloc, array_shape, threes)?.into())
+/// This number in each dimension.
+fn each(alloc: Global, number: u64, dimensions: usize) -> Result<Vec<u64>, AllocError> {
+    vec![in alloc; number; dimensions]
 }
 
-/// Five in each dimension, in a chunk of three and one of two.
-fn rectangular(alloc: Global, dimensions: usize) -> Result<ChunkGrid, Fail> {
-    let mut listed = Vec::new(alloc);
-    for _ in 0..dimensions {
-        listed.push(RectangularChunkGridDimensionConfiguration::from(edges(alloc, &[3, 2])?))?;
+/// The metadata of a kind of grid, as they are written: what stands before the edges, those of each dimension, and what stands behind them.
+#[derive(Clone, Copy)]
+struct Kind<'a> {
+    before: &'a str,
+    edges: &'a str,
+    behind: &'a str,
+}
+
+/// Of five elements in each dimension, in a chunk of three and another one.
+const KINDS: [Kind<'static>; 4] = [
+    Kind {
+        before: r#"{"configuration":{"chunk_shape":["#,
+        edges: "3",
+        behind: r#"]},"name":"regular"}"#,
+    },
+    Kind {
+        before: r#"{"configuration":{"chunk_shape":["#,
+        edges: "3",
+        behind: r#"]},"name":"zarrs.regular_bounded"}"#,
+    },
+    Kind {
+        before: r#"{"configuration":{"chunk_shape":["#,
+        edges: "[3,2]",
+        behind: r#"]},"name":"rectangular"}"#,
+    },
+    Kind {
+        before: r#"{"configuration":{"chunk_shapes":["#,
+        edges: "[3,2]",
+        behind: r#"],"kind":"inline"},"name":"rectilinear"}"#,
+    },
+];
+
+/// The metadata of a grid of this kind.
+fn text_of(alloc: Global, kind: &Kind, dimensions: usize) -> Result<String, AllocError> {
+    let mut text = String::from_str(alloc, kind.before)?;
+    for dimension in 0..dimensions {
+        text.push_str(if dimension == 0 { "" } else { "," })?;
+        text.push_str(kind.edges)?;
     }
-    let array_shape = vec![in alloc; 5; dimensions]?;
-    Ok(RectangularChunkGrid::new(alloc, array_shape, &listed)?.into())
+    text.push_str(kind.behind)?;
+    Ok(text)
 }
 
-/// An edge of three, and one of two with its count.
-fn three_and_two(alloc: Global) -> Result<ChunkEdgeLengths, Fail> {
-    let mut elements = Vec::new(alloc);
-    elements.push(RunLengthElement::Single(non_zero(3)?))?;
-    elements.push(RunLengthElement::Repeated([non_zero(2)?, NonZeroU64::MIN]))?;
-    Ok(ChunkEdgeLengths::Varying(elements))
+/// The grid of five elements in each dimension that is created of the metadata of the copy of such a grid.
+fn again(alloc: Global, grid: &ChunkGrid, fives: &[u64]) -> Result<ChunkGrid, Fail> {
+    let metadata = grid.clone()?.metadata(alloc)?;
+    Ok(ChunkGrid::create(alloc, &metadata, fives)?)
 }
 
-/// The same chunks, by run lengths.
-fn rectilinear(alloc: Global, dimensions: usize) -> Result<ChunkGrid, Fail> {
-    let mut lengths = Vec::new(alloc);
-    for _ in 0..dimensions {
-        lengths.push(three_and_two(alloc)?)?;
+/// The same of the grid that a text is the metadata of.
+fn made(alloc: Global, text: &str, dimensions: usize) -> Result<ChunkGrid, Fail> {
+    let fives = each(alloc, 5, dimensions)?;
+    again(alloc, &created(alloc, text, &fives)?, &fives)
+}
+
+/// The metadata of a grid's copy, as they are written.
+fn written(alloc: Global, grid: &ChunkGrid) -> Result<String, AllocError> {
+    let copy = grid.clone()?;
+    copy.metadata(alloc)?.to_tree(alloc)?.to_string(alloc)
+}
+
+/// The chunk and the place of the last element of a grid's copy.
+fn home(alloc: Global, grid: &ChunkGrid, dimensions: usize) -> Result<Home, Fail> {
+    let mut home = Home::new(alloc);
+    let last = each(alloc, 4, dimensions)?;
+    match grid.clone()?.find_home(&last, &mut home)? {
+        true => Ok(home),
+        false => Err("no chunk".into()),
     }
-    let array_shape = vec![in alloc; 5; dimensions]?;
-    Ok(RectilinearChunkGrid::new(alloc, array_shape, &lengths)?.into())
 }
 
-/// The box of one range in each dimension.
-fn box_of(alloc: Global, range: Range<u64>, dimensions: usize) -> Result<ArraySubset, AllocError> {
-    let mut ranges = Vec::new(alloc);
-    for _ in 0..dimensions {
-        ranges.push(range.start..range.end)?;
-    }
-    ArraySubset::new_with_ranges(alloc, &ranges)
-}
-
-/// Compares two boxes.
-fn check_boxes(rt: &impl Abort, found: &ArraySubset, expected: &ArraySubset) {
-    assert!(rt; *found == *expected, "{found:?}, and not {expected:?}");
-}
-
-/// The answer is the box of this range in each dimension.
-fn check_box(
-    rt: &(impl Abort + AllocGlobal),
-    answer: Result<Option<ArraySubset>, Refusal<IncompatibleDimensionalityError>>,
-    range: Range<u64>,
-    dimensions: usize,
-) -> Result<(), Fail> {
-    let found = answer?.ok_or("no box")?;
-    let expected = box_of(rt.alloc(), range, dimensions)?;
-    check_boxes(rt, &found, &expected);
-    Ok(())
-}
-
-/// The list has this number in each dimension.
-fn check_each(
-    rt: &(impl Abort + AllocGlobal),
-    found: &[u64],
-    number: u64,
-    dimensions: usize,
-) -> Result<(), AllocError> {
-    check_numbers(rt, found, &vec![in rt.alloc(); number; dimensions]?);
-    Ok(())
-}
-
-/// The element with this index in each dimension lies in this chunk at this place.
+/// The last element of a grid of two chunks in each dimension lies in the second one, behind its first element.
 fn check_home(
     rt: &(impl Abort + AllocGlobal),
     grid: &ChunkGrid,
-    home: &mut Home,
-    numbers: [u64; 3],
     dimensions: usize,
 ) -> Result<(), Fail> {
-    let [index, chunk, place] = numbers;
-    let indices = vec![in rt.alloc(); index; dimensions]?;
-    let found = grid.find_home(&indices, home)?;
-    check_that(rt, found, "a chunk holds the element");
-    check_each(rt, &home.chunk, chunk, dimensions)?;
-    check_each(rt, &home.element, place, dimensions)?;
+    let home = home(rt.alloc(), grid, dimensions)?;
+    let ones = each(rt.alloc(), 1, dimensions)?;
+    check_numbers(rt, &home.chunk, &ones);
+    check_numbers(rt, &home.element, &ones);
     Ok(())
 }
 
-/// Elements one after another, found in one memory, and then a list of another length.
-fn check_homes(
+/// The copy of a grid has its shape and that of its array.
+fn check_shapes(
     rt: &(impl Abort + AllocGlobal),
     grid: &ChunkGrid,
     dimensions: usize,
-) -> Result<(), Fail> {
-    let mut home = Home::new(rt.alloc());
-    check_home(rt, grid, &mut home, [4, 1, 1], dimensions)?;
-    check_home(rt, grid, &mut home, [0, 0, 0], dimensions)?;
-    check_home(rt, grid, &mut home, [2, 0, 2], dimensions)?;
-    let is_refused = grid.find_home(&[], &mut home).is_err();
-    check_that(rt, is_refused, "a list of another length is refused");
+) -> Result<(), AllocError> {
+    let copy = grid.clone()?;
+    check_numbers(rt, copy.array_shape(), &each(rt.alloc(), 5, dimensions)?);
+    check_numbers(rt, copy.grid_shape(), &each(rt.alloc(), 2, dimensions)?);
     Ok(())
 }
 
-/// The box of the two chunks in each dimension, and the chunks that meet a box, with the laws about them.
-fn check_boxes_of_chunks(
-    rt: &(impl Abort + AllocGlobal),
-    grid: &ChunkGrid,
-    end: u64,
-    dimensions: usize,
-) -> Result<(), Fail> {
-    let alloc = rt.alloc();
-    let chunks = box_of(alloc, 0..2, dimensions)?;
-    let union = grid.chunks_subset(alloc, &chunks);
-    check_box(rt, union, 0..end, dimensions)?;
-    the_box_of_chunks_is_the_union_of_their_boxes(grid);
-    let elements = box_of(alloc, 3..5, dimensions)?;
-    let met = grid.chunks_in_array_subset(alloc, &elements);
-    check_box(rt, met, 1..2, dimensions)?;
-    the_cover_names_the_chunks_that_meet_a_box(grid);
+/// A grid of this kind, its copy, and the grid that is created of the copy's metadata.
+fn check_kind(rt: &(impl Abort + AllocGlobal), kind: &Kind, dimensions: usize) -> Result<(), Fail> {
+    let text = text_of(rt.alloc(), kind, dimensions)?;
+    let grid = made(rt.alloc(), text.as_str(), dimensions)?;
+    check_same(rt, written(rt.alloc(), &grid)?.as_str(), text.as_str());
+    check_shapes(rt, &grid, dimensions)?;
+    check_home(rt, &grid, dimensions)
+}
+
+#[test]
+fn grids_of_each_kind_are_created_and_copied(rt: HostRuntime) -> Result<(), Fail> {
+    for kind in &KINDS {
+        check_kind(&rt, kind, 1)?;
+    }
     Ok(())
 }
 
-/// The calls that need memory and their laws, on a grid of five elements in each dimension, in a chunk of three and another one up to `end`.
-fn check_calls(
-    rt: &(impl Abort + AllocGlobal),
-    grid: &ChunkGrid,
-    end: u64,
-    dimensions: usize,
-) -> Result<(), Fail> {
-    let last = vec![in rt.alloc(); 4; dimensions]?;
-    let chunk = grid.chunk_indices(rt.alloc(), &last)?.ok_or("no chunk")?;
-    check_each(rt, &chunk, 1, dimensions)?;
+#[test]
+fn grids_of_a_thousand_dimensions_are_created_and_copied(rt: HostRuntime) -> Result<(), Fail> {
+    for kind in &KINDS {
+        check_kind(&rt, kind, 1000)?;
+    }
+    Ok(())
+}
+
+/// The laws of one grid.
+fn call_laws_of_a_grid(grid: &ChunkGrid) {
     chunk_indices_names_the_home(grid);
-    check_boxes_of_chunks(rt, grid, end, dimensions)?;
     chunks_share_no_index(grid);
-    check_homes(rt, grid, dimensions)
+    the_box_of_chunks_is_the_union_of_their_boxes(grid);
+    the_cover_names_the_chunks_that_meet_a_box(grid);
+    the_boxes_of_a_walk_are_those_of_its_chunks(grid);
 }
 
-/// A grid, and its copy.
-fn check_copy(
-    rt: &(impl Abort + AllocGlobal),
-    grid: &ChunkGrid,
-    end: u64,
-    dimensions: usize,
-) -> Result<(), Fail> {
-    check_calls(rt, grid, end, dimensions)?;
-    check_calls(rt, &grid.clone()?, end, dimensions)
+/// The laws of two grids.
+fn call_laws_of_grids(grid: &ChunkGrid, other: &ChunkGrid) {
+    the_edges_determine_the_dimensions(grid, other);
+    grids_of_like_dimensions_answer_alike(grid, other);
 }
 
-/// Each kind of grid, and its copy.
-fn check_grids(rt: &(impl Abort + AllocGlobal), dimensions: usize) -> Result<(), Fail> {
-    check_copy(rt, &regular(rt.alloc(), dimensions)?, 6, dimensions)?;
-    check_copy(rt, &bounded(rt.alloc(), dimensions)?, 5, dimensions)?;
-    check_copy(rt, &rectangular(rt.alloc(), dimensions)?, 5, dimensions)?;
-    check_copy(rt, &rectilinear(rt.alloc(), dimensions)?, 5, dimensions)
-}
+const THREES: &str = r#"{"name":"regular","configuration":{"chunk_shape":[3]}}"#;
 
-/// A grid, made again of its metadata, which have this name.
-fn check_again(
-    rt: &(impl Abort + AllocGlobal),
-    grid: &ChunkGrid,
-    end: u64,
-    name: &str,
-    dimensions: usize,
-) -> Result<(), Fail> {
-    let metadata = grid.metadata(rt.alloc())?;
-    check_same(rt, metadata.name(), name);
-    let array_shape = vec![in rt.alloc(); 5; dimensions]?;
-    let again = ChunkGrid::from_metadata(rt.alloc(), &metadata, &array_shape)?;
-    check_same(rt, again.metadata(rt.alloc())?.name(), name);
-    check_calls(rt, &again, end, dimensions)?;
-    let tree = metadata.to_tree(rt.alloc())?;
-    let again = ChunkGrid::from_tree(rt.alloc(), &tree, &array_shape)?;
-    the_edges_determine_the_dimensions(grid, &again);
-    grids_of_like_dimensions_answer_alike(grid, &again);
+#[test]
+fn the_laws_of_grids_are_called(rt: HostRuntime) -> Result<(), Fail> {
+    let grid = created(rt.alloc(), THREES, &[5])?;
+    call_laws_of_a_grid(&grid);
+    call_laws_of_grids(&grid, &grid);
     Ok(())
 }
 
-/// Each kind of grid, made again of its metadata.
-fn check_made_again(rt: &(impl Abort + AllocGlobal), dimensions: usize) -> Result<(), Fail> {
-    check_again(
-        rt,
-        &regular(rt.alloc(), dimensions)?,
-        6,
-        "regular",
-        dimensions,
-    )?;
-    check_again(
-        rt,
-        &bounded(rt.alloc(), dimensions)?,
-        5,
-        "zarrs.regular_bounded",
-        dimensions,
-    )?;
-    check_again(
-        rt,
-        &rectangular(rt.alloc(), dimensions)?,
-        5,
-        "rectangular",
-        dimensions,
-    )?;
-    check_again(
-        rt,
-        &rectilinear(rt.alloc(), dimensions)?,
-        5,
-        "rectilinear",
-        dimensions,
-    )
+/// The second chunk of a grid of five elements begins at 3, and has this edge.
+fn check_second<G: ChunkGridTraits>(
+    rt: &(impl Abort + AllocGlobal),
+    grid: &G,
+    edge: u64,
+) -> Result<(), Fail> {
+    let found = grid.subset(rt.alloc(), &[1])?;
+    check_box(rt, &found.ok_or("no box")?, 3, edge);
+    Ok(())
 }
 
-#[test]
-fn grids_of_each_kind_are_asked(rt: HostRuntime) -> Result<(), Fail> {
-    check_grids(&rt, 1)
-}
-
-#[test]
-fn grids_of_each_kind_are_made_again(rt: HostRuntime) -> Result<(), Fail> {
-    check_made_again(&rt, 1)
-}
-
-#[test]
-fn grids_of_a_thousand_dimensions_are_asked(rt: HostRuntime) -> Result<(), Fail> {
-    check_grids(&rt, 1000)?;
-    check_made_again(&rt, 1000)
-}
-
-/// The second chunk of a grid of one dimension begins at 3, and ends there.
-fn check_second(rt: &(impl Abort + AllocGlobal), grid: &ChunkGrid, end: u64) -> Result<(), Fail> {
-    check_box(rt, grid.subset(rt.alloc(), &[1]), 3..end, 1)
+/// The box of one dimension begins at an index, and has this shape.
+fn check_box(rt: &impl Abort, found: &ArraySubset, start: u64, edge: u64) {
+    check_numbers(rt, found.start(), &[start]);
+    check_numbers(rt, found.shape(), &[edge]);
 }
 
 #[test]
 fn a_kind_of_grid_looks_at_no_name(rt: HostRuntime) -> Result<(), Fail> {
-    let alloc = rt.alloc();
-    let edge = metadata(alloc, r#"{"name":"x","configuration":{"chunk_shape":[3]}}"#)?;
-    check_second(
-        &rt,
-        &RegularChunkGrid::create(alloc, &edge, &[5])?.into(),
-        6,
-    )?;
-    check_second(
-        &rt,
-        &RegularBoundedChunkGrid::create(alloc, &edge, &[5])?.into(),
-        5,
-    )
+    let text = r#"{"name":"x","configuration":{"chunk_shape":[3]}}"#;
+    let regular: RegularChunkGrid = created(rt.alloc(), text, &[5])?;
+    check_second(&rt, &ChunkGrid::from(regular), 3)?;
+    let bounded: RegularBoundedChunkGrid = created(rt.alloc(), text, &[5])?;
+    check_second(&rt, &ChunkGrid::from(bounded), 2)
 }
 
 #[test]
 fn nor_does_one_of_listed_edges(rt: HostRuntime) -> Result<(), Fail> {
-    let alloc = rt.alloc();
-    let edges = r#"{"name":"x","configuration":{"chunk_shape":[[3,2]]}}"#;
-    let grid = RectangularChunkGrid::create(alloc, &metadata(alloc, edges)?, &[5])?;
-    check_second(&rt, &grid.into(), 5)?;
-    let lengths = r#"{"name":"x","configuration":{"chunk_shapes":[[3,2]],"kind":"inline"}}"#;
-    let grid = RectilinearChunkGrid::create(alloc, &metadata(alloc, lengths)?, &[5])?;
-    check_second(&rt, &grid.into(), 5)
+    let text = r#"{"name":"x","configuration":{"chunk_shape":[[3,2]]}}"#;
+    let rectangular: RectangularChunkGrid = created(rt.alloc(), text, &[5])?;
+    check_second(&rt, &ChunkGrid::from(rectangular), 2)?;
+    let text = r#"{"name":"x","configuration":{"chunk_shapes":[[3,2]],"kind":"inline"}}"#;
+    let rectilinear: RectilinearChunkGrid = created(rt.alloc(), text, &[5])?;
+    check_second(&rt, &ChunkGrid::from(rectilinear), 2)
 }
 
-#[test]
-fn a_grid_is_created_by_its_name(rt: HostRuntime) -> Result<(), Fail> {
-    let alloc = rt.alloc();
-    let text = r#"{"name":"regular","configuration":{"chunk_shape":[3]}}"#;
-    check_second(
-        &rt,
-        &ChunkGrid::create(alloc, &metadata(alloc, text)?, &[5])?,
-        6,
-    )
+/// The values that a text stands for.
+fn values<T: TreeForm>(alloc: Global, text: &str) -> Result<Vec<T>, Fail> {
+    let tree = Value::from_slice(alloc, text.as_bytes())?;
+    Ok(Vec::from_tree(alloc, &tree)?.ok_or("other values")?)
+}
+
+/// Why there is no grid of one dimension with three edges.
+fn refused_regular(alloc: Global) -> Result<RegularChunkGridCreateError, Fail> {
+    let edges: Vec<NonZeroU64> = values(alloc, "[1,2,3]")?;
+    refusal(RegularChunkGrid::new(alloc, each(alloc, 0, 1)?, edges))
+}
+
+/// Three numbers were given, and one was expected.
+fn check_lengths(rt: &impl Abort, lengths: IncompatibleDimensionalityError) {
+    check_that(rt, lengths.given() == 3, "three were given");
+    check_that(rt, lengths.expected() == 1, "one was expected");
 }
 
 #[test]
 fn shapes_of_unequal_lengths_make_no_regular_grid(rt: HostRuntime) -> Result<(), Fail> {
-    let alloc = rt.alloc();
-    let chunk_shape = edges(alloc, &[1, 2, 3])?;
-    let error = refusal(RegularChunkGrid::new(alloc, [0].to_vec(alloc)?, chunk_shape))?;
     let text = "regular chunk shape: [1, 2, 3] not compatible with array shape [0]";
-    check_same(&rt, error.to_string(alloc)?.as_str(), text);
-    check_same(&rt, error.clone()?.to_string(alloc)?.as_str(), text);
-    let lengths = IncompatibleDimensionalityError::from(error);
-    check_that(
-        &rt,
-        lengths.given() == 3 && lengths.expected() == 1,
-        "3 and 1",
-    );
+    let error = refused_regular(rt.alloc())?.clone()?;
+    check_same(&rt, error.to_string(rt.alloc())?.as_str(), text);
+    check_lengths(&rt, error.into());
     Ok(())
+}
+
+type ListedEdges = Vec<RectangularChunkGridDimensionConfiguration>;
+
+/// Why edges make no grid.
+fn refused_edges(
+    alloc: Global,
+    listed: &ListedEdges,
+) -> Result<RectangularChunkGridCreateError, Fail> {
+    let error = refusal(RectangularChunkGrid::new(alloc, [123, 100].to_vec(alloc)?, listed))?;
+    Ok(error.clone()?)
 }
 
 #[test]
 fn refused_edges_are_handed_back(rt: HostRuntime) -> Result<(), Fail> {
-    let alloc = rt.alloc();
-    let mut listed = Vec::new(alloc);
-    listed.push(RectangularChunkGridDimensionConfiguration::from(edges(alloc, &[5, 5])?))?;
-    listed.push(RectangularChunkGridDimensionConfiguration::from(non_zero(10)?))?;
     let text =
         "rectangular chunk grid configuration: [[5, 5], 10] not compatible with array shape [123, 100]";
-    let error = refusal(RectangularChunkGrid::new(alloc, [123, 100].to_vec(alloc)?, &listed))?;
+    let listed = values(rt.alloc(), "[[5,5],10]")?;
+    let error = refused_edges(rt.alloc(), &listed)?;
     check_that(&rt, error.1 == listed, text);
-    check_same(&rt, error.clone()?.to_string(alloc)?.as_str(), text);
+    check_same(&rt, error.to_string(rt.alloc())?.as_str(), text);
     Ok(())
 }
 
-/// Three edges of five and one of twenty in the first dimension, and ten in the second.
-fn run_lengths(alloc: Global) -> Result<Vec<ChunkEdgeLengths>, Fail> {
-    let mut elements = Vec::new(alloc);
-    elements.push(RunLengthElement::Repeated([non_zero(5)?, non_zero(3)?]))?;
-    elements.push(RunLengthElement::Single(non_zero(20)?))?;
-    let mut lengths = Vec::new(alloc);
-    lengths.push(ChunkEdgeLengths::Varying(elements))?;
-    lengths.push(ChunkEdgeLengths::Scalar(non_zero(10)?))?;
-    Ok(lengths)
+/// Why run lengths make no grid.
+fn refused_runs(
+    alloc: Global,
+    runs: &Vec<ChunkEdgeLengths>,
+) -> Result<RectilinearChunkGridCreateError, Fail> {
+    let error = refusal(RectilinearChunkGrid::new(alloc, [123, 100].to_vec(alloc)?, runs))?;
+    Ok(error.clone()?)
 }
 
 #[test]
 fn refused_run_lengths_are_handed_back(rt: HostRuntime) -> Result<(), Fail> {
-    let alloc = rt.alloc();
-    let lengths = run_lengths(alloc)?;
     let text =
         "rectilinear chunk grid configuration: [[[5, 3], 20], 10] not compatible with array shape [123, 100]";
-    let error = refusal(RectilinearChunkGrid::new(alloc, [123, 100].to_vec(alloc)?, &lengths))?;
-    check_that(&rt, error.1 == lengths, text);
-    check_same(&rt, error.clone()?.to_string(alloc)?.as_str(), text);
+    let runs = values(rt.alloc(), "[[[5,3],20],10]")?;
+    let error = refused_runs(rt.alloc(), &runs)?;
+    check_that(&rt, error.1 == runs, text);
+    check_same(&rt, error.to_string(rt.alloc())?.as_str(), text);
     Ok(())
+}
+
+/// The copy of a grid that is created of metadata.
+fn copied(alloc: Global, text: &str, array_shape: &[u64]) -> Result<ChunkGrid, Fail> {
+    let grid: ChunkGrid = created(alloc, text, array_shape)?;
+    Ok(grid.clone()?)
 }
 
 #[test]
 fn a_copy_of_as_many_edges_as_there_are_numbers_finds_room(rt: HostRuntime) -> Result<(), Fail> {
-    let alloc = rt.alloc();
-    let mut elements = Vec::new(alloc);
-    elements.push(RunLengthElement::Repeated([NonZeroU64::MIN, non_zero(MAX)?]))?;
-    let mut lengths = Vec::new(alloc);
-    lengths.push(ChunkEdgeLengths::Varying(elements))?;
-    let grid = RectilinearChunkGrid::new(alloc, [MAX].to_vec(alloc)?, &lengths)?;
-    check_numbers(&rt, grid.clone()?.grid_shape(), &[MAX]);
+    let text = r#"{"name":"rectilinear","configuration":{"kind":"inline",
+        "chunk_shapes":[[[1,18446744073709551615]]]}}"#;
+    let copy = copied(rt.alloc(), text, &[u64::MAX])?;
+    check_numbers(&rt, copy.grid_shape(), &[u64::MAX]);
     Ok(())
+}
+
+/// The chunk of an index list.
+fn counted(
+    alloc: Global,
+    grid: &RectilinearChunkGrid,
+    indices: &[u64],
+    comparisons: &mut Comparisons,
+) -> Result<Vec<u64>, Fail> {
+    let chunk = grid.chunk_indices_counted(alloc, indices, comparisons)?;
+    Ok(chunk.ok_or("no chunk")?)
+}
+
+/// Whether an index list is refused.
+fn is_refused(
+    alloc: Global,
+    grid: &RectilinearChunkGrid,
+    indices: &[u64],
+    comparisons: &mut Comparisons,
+) -> bool {
+    grid.chunk_indices_counted(alloc, indices, comparisons)
+        .is_err()
 }
 
 #[test]
 fn a_refused_look_up_counts_no_comparison(rt: HostRuntime) -> Result<(), Fail> {
-    let alloc = rt.alloc();
     let text = r#"{"name":"x","configuration":{"kind":"inline",
         "chunk_shapes":[[[5,3],[15,2],20,35],[[10,10]]]}}"#;
-    let grid = RectilinearChunkGrid::create(alloc, &metadata(alloc, text)?, &[100, 100])?;
+    let grid = created(rt.alloc(), text, &[100, 100])?;
     let mut comparisons = Comparisons::new();
-    let chunk = grid.chunk_indices_counted(alloc, &[17, 17], &mut comparisons)?;
-    let compared = comparisons.count();
-    check_numbers(&rt, &chunk.ok_or("no chunk")?, &[3, 1]);
-    let refused = grid.chunk_indices_counted(alloc, &[17], &mut comparisons);
-    let is_refused = refused.is_err();
-    let counted = compared == 4 && comparisons.count() == 4;
-    check_that(&rt, is_refused && counted, "four comparisons and a refusal");
+    let chunk = counted(rt.alloc(), &grid, &[17, 17], &mut comparisons)?;
+    check_numbers(&rt, &chunk, &[3, 1]);
+    check_that(&rt, comparisons.count() == 4, "four comparisons");
+    let refused = is_refused(rt.alloc(), &grid, &[17], &mut comparisons);
+    check_that(&rt, refused && comparisons.count() == 4, "none more");
+    Ok(())
+}
+
+/// The edges of a regular grid of one dimension.
+fn check_edges(
+    rt: &(impl Abort + AllocGlobal),
+    grid: &RegularChunkGrid,
+    edge: u64,
+) -> Result<(), AllocError> {
+    let edges = grid.chunk_shape().iter().map(|edge| edge.get());
+    check_that(rt, edges.eq([edge]), "an edge");
+    check_numbers(rt, &grid.chunk_shape_u64(rt.alloc())?, &[edge]);
     Ok(())
 }
 
 #[test]
 fn a_regular_grid_tells_its_edges(rt: HostRuntime) -> Result<(), Fail> {
-    let alloc = rt.alloc();
-    let grid = RegularChunkGrid::new(alloc, [5].to_vec(alloc)?, edges(alloc, &[3])?)?;
-    let edges = grid.chunk_shape().iter().map(|edge| edge.get());
-    check_that(&rt, edges.eq([3]), "an edge of 3");
-    check_numbers(&rt, &grid.chunk_shape_u64(alloc)?, &[3]);
-    Ok(())
+    let grid = created(rt.alloc(), THREES, &[5])?;
+    Ok(check_edges(&rt, &grid, 3)?)
 }
