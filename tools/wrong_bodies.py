@@ -1,6 +1,5 @@
 """The wrong bodies that the prover must refuse: those that `rt ci` tries, in `crates/CRATE/must-fail`, and the others, in `wrong-bodies/CRATE`."""
 import hashlib
-import pathlib
 import re
 
 from built import CRATES, TOP
