@@ -6,7 +6,7 @@
 //! |---|---|
 //! | `rows` | the arrays that are planned, the boxes of their elements, and the lines of parts |
 //! | `walks` | walks that stay ended, and that go to any part or group |
-//! | `pages` | parts, chunks and groups from a number on, with how many there are in all |
+//! | `pages` | chunks and groups from a number on, with how many there are in all |
 //! | `sizes` | the factors of counts, the chunks that are written, and the shapes of largest chunks |
 //! | `marks` | which chunks of a plan a store has |
 //! | `refusals` | what no program asks for, since it plans one array at a time |

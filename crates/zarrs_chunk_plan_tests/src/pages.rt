@@ -1,38 +1,11 @@
-//! Parts, chunks and groups from a number on, with how many there are in all.
-use crate::rows::{Stored, append_part, check_text, row, some_of};
+//! Chunks and groups from a number on, with how many there are in all.
+use crate::rows::{append_part, check_text, row, some_of};
 use std::alloc::Global;
 use std::process::Abort;
 use std::test::Fail;
 use zarrs_chunk_plan::{
-    SomeChunks, SomeCopies, SomeParts, all_chunks, some_chunks, some_copies, some_copies_of_region,
-    some_parts,
+    SomeChunks, SomeCopies, all_chunks, some_chunks, some_copies, some_copies_of_region,
 };
-
-/// Of the parts of three elements of a row those from the second one on.
-fn parts_from(alloc: Global, array: &Stored) -> Result<SomeParts, Fail> {
-    let subset = some_of(alloc, 2, 3)?;
-    let some = some_parts(alloc, &array.grid, &array.encoding, &subset, 1, 9)?;
-    Ok(some.ok_or("no cover")?)
-}
-
-/// How many parts there are in all, and then each of these parts.
-fn lines_of_parts(alloc: Global, some: &SomeParts) -> Result<String, Fail> {
-    let mut lines = format!(in alloc; "{}\n", some.in_all)?;
-    for part in &some.parts {
-        append_part(alloc, &mut lines, part)?;
-    }
-    Ok(lines)
-}
-
-/// Of two parts the second one, and how many there are in all.
-#[test]
-fn a_part_is_asked_for_by_its_number(rt: HostRuntime) -> Result<(), Fail> {
-    let array = row(rt.alloc(), 5, 3)?;
-    let lines = lines_of_parts(rt.alloc(), &parts_from(rt.alloc(), &array)?)?;
-    let expected = "2\nc/0/0/0/0/1 [0, 0, 0, 0, 0] [0, 0, 0, 0, 1] [1, 1, 1, 1, 2]\n";
-    check_text(&rt, lines.as_str(), expected);
-    Ok(())
-}
 
 /// How many chunks there are in all, and then each of these chunks.
 fn line_of_chunks(alloc: Global, some: &SomeChunks) -> Result<String, Fail> {
