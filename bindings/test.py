@@ -8,7 +8,7 @@ It needs numpy, a C compiler `cc`, and `valgrind`; where one is missing it says 
 used where it is there. LLVM's build is asked all of this; the one by Rattle's own compiler, unless `--thorough` asks for
 all, each tenth vector, batches, plans and the examples. What is compared:
 
-- every vector of `chunkcalls`, through `zarrs_answer`;
+- every vector of `chunkcalls`, through `zarrs_answer`, and each tenth, with `--thorough` each, by a program in C;
 - batches and plans with the same questions one by one, and batches with numpy's own division and `searchsorted`;
 - each call at one to three hundred dimensions with plain arithmetic, and each fault of each call, alone and with a
   later one (`faults.py`);
