@@ -6,6 +6,8 @@
 #[cfg(test)]
 mod compared;
 #[cfg(test)]
+mod ones_own;
+#[cfg(test)]
 mod reading;
 #[cfg(test)]
 mod rechunking;

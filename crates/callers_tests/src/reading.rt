@@ -1,12 +1,14 @@
 //! The elements of a box, read from chunks in memory.
 use crate::compared::{check_numbers, check_that};
+use crate::tests::values;
 use callers::{ChunkStore, Piece, bounded, read_box, regular};
 use std::alloc::Global;
-use std::num::NonZeroU64;
+use std::ops::Range;
 use std::process::Abort;
 use std::test::Fail;
-use zarrs_chunk_base::{ArraySubset, ChunkShape, StoreKey};
+use zarrs_chunk_base::{ArraySubset, StoreKey};
 use zarrs_chunk_keys::{ChunkKeyEncodingTraits, DefaultChunkKeyEncoding};
+use zarrs_chunks::ChunkGridTraits;
 
 /// The chunks of four rows and three columns of an array of six rows and six columns, each under its key, with its elements in row-major
 /// order. The element in row 5 and column 2 is 52.
@@ -44,50 +46,51 @@ impl ChunkStore for Chunks {
     }
 }
 
-fn edges(alloc: Global, numbers: &[u64]) -> Result<ChunkShape, Fail> {
-    let mut edges = Vec::new(alloc);
-    for number in numbers {
-        edges.push(NonZeroU64::new(*number).ok_or("an edge of 0")?)?;
-    }
-    Ok(edges)
+/// What is read of a box of the array's elements.
+fn read<G: ChunkGridTraits>(
+    alloc: Global,
+    grid: &G,
+    ranges: &[Range<u64>],
+) -> Result<Option<Vec<Piece>>, Fail> {
+    let encoding = DefaultChunkKeyEncoding::new_slash();
+    let store = Chunks::new(alloc, &encoding)?;
+    let subset = ArraySubset::new_with_ranges(alloc, ranges)?;
+    Ok(read_box(alloc, grid, &encoding, &store, &subset)?)
 }
 
+/// Where the elements of a piece lie in the box, and which these are.
 fn check_piece(rt: &impl Abort, piece: &Piece, start: [u64; 2], elements: &[u64]) {
     check_numbers(rt, piece.in_subset.start(), &start);
     check_numbers(rt, &piece.elements, elements);
 }
 
-/// The chunks of the array, each under its key.
-fn stored(alloc: Global) -> Result<Chunks, Fail> {
-    Chunks::new(alloc, &DefaultChunkKeyEncoding::new_slash())
+fn check_pieces(rt: &impl Abort, pieces: &[Piece]) {
+    check_that(rt, pieces.len() == 4, "four pieces");
+    let expected: [([u64; 2], &[u64]); 4] = [
+        ([0, 0], &[32]),
+        ([0, 1], &[33]),
+        ([1, 0], &[42, 52]),
+        ([1, 1], &[43, 53]),
+    ];
+    for (piece, (start, elements)) in pieces.iter().zip(expected) {
+        check_piece(rt, piece, start, elements);
+    }
 }
 
 #[test]
 fn a_box_is_read(rt: HostRuntime) -> Result<(), Fail> {
-    let alloc = rt.alloc();
-    let store = stored(alloc)?;
-    let encoding = DefaultChunkKeyEncoding::new_slash();
-    let grid = regular(alloc, [6, 6].to_vec(alloc)?, edges(alloc, &[4, 3])?)?;
-    let subset = ArraySubset::new_with_ranges(alloc, &[3..6, 2..4])?;
-    let pieces = read_box(alloc, &grid, &encoding, &store, &subset)?.ok_or("no cover")?;
-    let [one, two, three, four] = pieces.as_slice() else {
-        return Err("not four pieces".into());
-    };
-    check_piece(&rt, one, [0, 0], &[32]);
-    check_piece(&rt, two, [0, 1], &[33]);
-    check_piece(&rt, three, [1, 0], &[42, 52]);
-    check_piece(&rt, four, [1, 1], &[43, 53]);
+    let shape = values(rt.alloc(), "[6,6]")?;
+    let grid = regular(rt.alloc(), shape, values(rt.alloc(), "[4,3]")?)?;
+    let pieces = read(rt.alloc(), &grid, &[3..6, 2..4])?;
+    check_pieces(&rt, &pieces.ok_or("no cover")?);
     Ok(())
 }
 
 #[test]
 fn a_box_past_the_array_is_none(rt: HostRuntime) -> Result<(), Fail> {
-    let alloc = rt.alloc();
-    let store = stored(alloc)?;
-    let encoding = DefaultChunkKeyEncoding::new_slash();
-    let grid = bounded(alloc, [6, 6].to_vec(alloc)?, edges(alloc, &[4, 3])?)?;
-    let past = ArraySubset::new_with_ranges(alloc, &[3..7, 2..4])?;
-    let is_none = read_box(alloc, &grid, &encoding, &store, &past)?.is_none();
+    let shape = values(rt.alloc(), "[6,6]")?;
+    let grid = bounded(rt.alloc(), shape, values(rt.alloc(), "[4,3]")?)?;
+    let is_none = read(rt.alloc(), &grid, &[3..7, 2..4])?.is_none();
     check_that(&rt, is_none, "no cover");
     Ok(())
 }
