@@ -1,8 +1,8 @@
 -- A line without its line feed.
-use Rattle.std.proofs.Common.{◌≡◌, ◌≢◌, ◌∙◌, ℕ, ◌<◌, ◌≤◌, Bool, true, false, drop, eqb, false-eqb, get_or, List, Option, Some, None, [], ◌∷◌, ◌++◌, append-nil, append_assoc, ap, arith, cond, eq-eqb}
-use Rattle.std.proofs.Common.{eqb-true, length, length-append, ne_eqb, refl, sym}
+use Rattle.std.proofs.Common.{◌≡◌, ◌≢◌, ◌∙◌, ℕ, Bool, true, false, drop, eqb, false-eqb, get_or, List, [], ◌∷◌, ◌++◌, ap, arith, cond}
+use Rattle.std.proofs.Common.{eqb-true, length, length-append, refl, sym}
 use Rattle.std.proofs.BufReadLemmas.{take_through-nil}
-use Rattle.std.specs.Io.BufRead.{drop_through, take_through}
+use Rattle.std.specs.Io.BufRead.{take_through}
 use Rattle.programs.specs.chunkplan.Keys.{unended}
 
 ended_at : (ended : Bool) (byte : ℕ) (bytes front : List ℕ) → (ended ≡ false → byte ≢ 10)

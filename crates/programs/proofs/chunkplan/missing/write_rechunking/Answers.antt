@@ -1,4 +1,4 @@
-use Rattle.std.proofs.Common.{◌≡◌, ◌∙◌, ℕ, List, ap, inl, inr, length, option_map, refl, rules, subst, sym, unwrap_or, ⊎_elim}
+use Rattle.std.proofs.Common.{◌≡◌, ◌∙◌, ℕ, List, inl, inr, length, refl, subst, sym, unwrap_or, ⊎_elim}
 use Rattle.std.proofs.lemmas.Result.{err_from_is_err_and}
 use Rattle.zarrs_chunk_base.specs.ArraySubset.{Box}
 use Rattle.zarrs_chunk_base.specs.Dimension.{Dimension}
@@ -12,15 +12,12 @@ use Rattle.zarrs_chunk_plan.specs.Rechunking.{Group, IsRechunking, all_chunks_bo
 use Rattle.zarrs_chunk_plan.specs.declared.copies_error.CopiesError.{CopiesError}
 use Rattle.zarrs_chunk_plan.specs.declared.copies_error.CopiesError.TheVariants.{ArrayShapes, Chunks}
 use Rattle.zarrs_chunk_plan.specs.seen.Copies.{AreMovesToCome, IsCopiesFault}
-use Rattle.zarrs_chunk_plan.proofs.Copied.{rechunking_of, region_copy_of}
+use Rattle.zarrs_chunk_plan.proofs.Copied.{rechunking_of}
 use Rattle.zarrs_chunk_plan.proofs.SomeRegions.{moved_groups}
-use Rattle.zarrs_chunk_plan.proofs.Taken.{no_parts}
 use Rattle.documents.specs.Stored.{stored_of}
-use Rattle.programs.specs.chunkplan.Document.{document_of, task_of, wanted_of}
-use Rattle.programs.specs.chunkplan.PlanFault.{IsChunksFault, IsCopyFault, IsFaultBeside, of_chunks, of_keys, of_plan, of_region_target, of_source}
-use Rattle.programs.specs.chunkplan.PlanFault.{of_region as of_region_fault, of_target}
-use Rattle.programs.specs.chunkplan.Planned.{ArePlanned, IsPlannedBeside, IsRegionPlan, begins_at, of_rechunking, of_region}
-use Rattle.programs.specs.chunkplan.RunFault.{of_create, of_region as of_region_error}
+use Rattle.programs.specs.chunkplan.PlanFault.{IsChunksFault, IsFaultBeside, of_chunks, of_keys, of_plan}
+use Rattle.programs.specs.chunkplan.PlanFault.{of_target}
+use Rattle.programs.specs.chunkplan.Planned.{ArePlanned, IsPlannedBeside, of_rechunking}
 use Rattle.programs.specs.declared.chunkplan.run_fault.RunFault.TheVariants.{Copies}
 use Rattle.streams.specs.seen.Sent.{output}
 use Rattle.programs.proofs.chunkplan.KeyLines.{some_keys}
