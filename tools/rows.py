@@ -2,10 +2,10 @@
 
 A file of `crates/chunkplan/rows` has rows of one subject. Each line of it is a JSON object with these members:
 
-    note      what the row shows. A row without a note shows what the row before it shows
+    note      what the row shows; absent: the same as the row before it
     document  the document that is asked for
     keys      the lines behind the document, as a list, if there are any
-    text      in place of these two: the whole input, where its spaces or bytes matter. A byte that isn't UTF-8 is
+    text      in place of these two: the whole input, if its spaces or bytes matter. A byte that isn't UTF-8 is
               written as `\\udc..`, as Python's `surrogateescape` does
     lines     the lines that are printed, as objects. The program prints them compactly, with sorted members
     error     in place of `lines`: the text behind `chunkplan: ` on standard error. The status is 1, and nothing is printed
