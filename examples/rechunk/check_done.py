@@ -35,7 +35,7 @@ def main():
         what = "are read" if words.by_source else "are written"
         raise Refused(f"lines of a plan of another length than {count}, which is how many chunks of {counted.folder} {what}")
     numbers = {number for number, _ in done}
-    lost = {chunk for chunk in chunks_of(target, region) if not target.path(chunk).exists()}
+    lost = {chunk for chunk in chunks_of(target, region) if not target.has(chunk)}
     gone = set() if words.by_source else lost
     missing = [counted.key(chunk) for number, chunk in enumerate(chunks_of(counted, region)) if number not in numbers or chunk in gone]
     if missing:

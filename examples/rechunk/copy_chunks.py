@@ -2,7 +2,8 @@
 """Writes chunks of the target of a rechunking, or of the copy of a region, by the lines that `chunkplan` wrote, from
 standard input.
 
-    copy_chunks.py SOURCE TARGET [--subset START SHAPE [--at INDEX]] [--alone] [--done FILE] [--resume FILE] [--cache MB] [--no-sync]
+    copy_chunks.py SOURCE TARGET [--subset START SHAPE [--at INDEX]] [--alone] [--done FILE] [--resume FILE] [--cache MB]
+                   [--missing-is-an-error] [--no-sync]
 
 SOURCE and TARGET are folders of Zarr arrays, of format 2 or 3; --subset and --at tell the region, as for `document_of.py`.
 A chunk of the target that holds elements beside the region is read first, and keeps them: two plans that give something
@@ -22,6 +23,10 @@ Numbers are said when the disk has the chunks too, some hundred at a time or onc
 at once: then chunks that were done may be lost where the machine crashes, but not where a process does. In the order of the
 source begin anew then, without --resume: a chunk that is there may lack what a line gave it.
 
+A chunk of the source that isn't stored has the fill value, and with --missing-is-an-error it is refused. If the source's
+metadata are gone or changed then, or if its folder has files and none is a chunk, the run stops: the source was moved, or
+its metadata say other keys.
+
 A line that isn't one of these two arrays is refused, and so is a chunk of the source that can't be read whole. It ends
 with the status 1 then, and a message that names the line or the chunk.
 """
@@ -32,7 +37,6 @@ import fcntl
 import json
 import math
 import os
-import pathlib
 import signal
 import socket
 import sys
@@ -49,8 +53,8 @@ class Sources:
     """The chunks of the source, decoded. One is kept until each chunk of the target that it meets was asked for, or until
     those that were read after it take so many bytes."""
 
-    def __init__(self, source, target, region, most):
-        self.source, self.target, self.region, self.most = source, target, region, most
+    def __init__(self, source, target, region, most, must_be_whole=False):
+        self.source, self.target, self.region, self.most, self.must_be_whole = source, target, region, most, must_be_whole
         self.kept, self.size, self.decoded = collections.OrderedDict(), 0, 0
 
     def chunk(self, numbers):
@@ -69,6 +73,8 @@ class Sources:
 
     def once(self, numbers):
         """A chunk that isn't kept."""
+        if self.must_be_whole and not self.source.has(numbers):
+            raise Refused(f"chunk {self.source.key(numbers)} of {self.source.folder} isn't stored")
         self.decoded += 1
         return self.source.read(numbers)
 
@@ -221,7 +227,7 @@ def begin(chunk, numbers, target, some=False):
 
 def put_piece(chunk, piece, elements, target):
     """Gives a chunk what a line in the order of the source gives it. What it has of other lines stays as it is."""
-    if is_shared(piece) and target.path(piece["chunk"]).exists():
+    if is_shared(piece) and target.has(piece["chunk"]):
         chunk[...] = target.read(piece["chunk"])
     else:
         begin(chunk, piece["chunk"], target, some=is_shared(piece))
@@ -350,7 +356,7 @@ class Resumed:
 
     def passes_over(self, line):
         """Whether a line needn't be done again. Where a chunk is lost that several lines write, all of them have to be."""
-        gone = [to for to in written_by(line) if to["key"] in self.begun or not self.target.path(to["chunk"]).exists()]
+        gone = [to for to in written_by(line) if to["key"] in self.begun or not self.target.has(to["chunk"])]
         if (line["number"], line["of"]) not in self.done[order_of(line)]:
             if self.done["source"]:
                 self.begun |= {to["key"] for to in gone if is_shared(to)}
@@ -375,7 +381,7 @@ class Progress:
 
 def copy(lines, source, target, region, words):
     """Does each line of a plan."""
-    sources, store, progress = Sources(source, target, region, words.cache * 10**6), Store(target), Progress()
+    sources, store, progress = Sources(source, target, region, words.cache * 10**6, words.missing_is_an_error), Store(target), Progress()
     record = Record(target.folder, words.done, not words.no_sync)
     resumed = Resumed(words.resume, target)
     if words.alone:
@@ -418,12 +424,14 @@ def main():
     parser.add_argument("--alone", action="store_true", help="also change chunks that several lines give elements to: no other worker does")
     parser.add_argument("--done", metavar="FILE", help="append the number of each line that is done")
     parser.add_argument("--resume", metavar="FILE", help="pass over the lines that were done, by such a file")
+    parser.add_argument("--missing-is-an-error", action="store_true", help="refuse a chunk of the source that isn't stored")
     parser.add_argument("--cache", metavar="MB", type=int, default=256, help="of decoded chunks of the source (256)")
     parser.add_argument("--no-sync", action="store_true", help="say what is done without waiting for the disk")
     parser.add_argument("--verbose", action="store_true", help="say at the end how many chunks were written and read")
     words = parser.parse_args()
     source, target = open_array(words.source), open_array(words.target)
     region = region_between(source, target, words.subset, words.at)
+    source.check_keys()
     signal.signal(signal.SIGTERM, lambda *_: sys.exit("copy_chunks.py: terminated"))  # so that nothing unfinished is left
     copy(sys.stdin, source, target, region, words)
 

@@ -15,9 +15,7 @@ import argparse
 import json
 
 from region import add_region, region_between
-from stored_arrays import UNFINISHED, ended_by, open_array
-
-METADATA = {".zarray", ".zattrs", "zarr.json"}
+from stored_arrays import METADATA, Refused, ended_by, files_in, open_array
 
 
 def stored(array):
@@ -35,10 +33,11 @@ def document_of(source, target, subset=None, at=None):
 
 def keys_in(folder):
     """The keys of what an array's folder holds besides its metadata."""
-    for path in sorted(folder.rglob("*")):
-        key = path.relative_to(folder)
-        if path.is_file() and key.parts[0] != UNFINISHED and path.name not in METADATA:
-            yield key.as_posix()
+    for key in sorted(files_in(folder)):
+        if not key.isprintable():
+            raise Refused(f"{folder} has the file {key!r}, whose name can't be a line")
+        if key.rpartition("/")[2] not in METADATA:
+            yield key
 
 
 def main():
@@ -52,15 +51,16 @@ def main():
     parser.add_argument("--share", nargs=2, type=int, metavar=("T", "N"), help="ask for the share T of N")
     parser.add_argument("--keys", action="store_true", help="leave out what TARGET has")
     words = parser.parse_args()
-    target = open_array(words.target)
-    document = document_of(open_array(words.source), target, words.subset, words.at)
+    source, target = open_array(words.source), open_array(words.target)
+    source.check_keys()
+    document = document_of(source, target, words.subset, words.at)
     if words.by_source:
         document["order"] = "source"
     asked = {"max_elements": words.max_elements, "stage": words.stage, "share": words.share, "keys": words.keys or None}
     document |= {name: value for name, value in asked.items() if value is not None}
+    keys = list(keys_in(target.folder)) if words.keys else []
     print(json.dumps(document))
-    if words.keys:
-        print("".join(f"{key}\n" for key in keys_in(target.folder)), end="")
+    print("".join(f"{key}\n" for key in keys), end="")
 
 
 if __name__ == "__main__":

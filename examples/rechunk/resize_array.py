@@ -6,15 +6,20 @@
 ARRAY is the folder of a Zarr array, of format 2 or 3; SHAPE is a size for each dimension, as in 30,20. `chunkplan` is on
 `PATH`, or named in `CHUNKPLAN`. Elements that both shapes have stay; those that come have the fill value.
 
-Where the array shrinks its metadata change first, and where it grows last; where it does both it shrinks and then grows.
-So a reader finds elements of the shape that it reads, or the fill value. After a run that was cut off, run the same
+All is planned and looked at before the first byte changes: a shape that can't be, a chunk that gets places without an
+element where there is no fill value, a program that is missing, or consolidated metadata that can't follow leave the array
+as it is. Where the array shrinks its metadata change first, and where it grows last; where it does both it shrinks and then
+grows. So a reader finds elements of the shape that it reads, or the fill value. Consolidated metadata of format 2
+(`.zmetadata`), of the array or of a group above it, change with the array's. After a run that was cut off, run the same
 again, with the old shape as `--was`: chunks that were done are done once more, with the same outcome.
 """
 import argparse
+import contextlib
 import json
 import os
 import shutil
 import subprocess
+import tempfile
 import uuid
 
 from copy_chunks import Store, slices
@@ -22,18 +27,27 @@ from document_of import stored
 from region import numbers
 from stored_arrays import UNFINISHED, Refused, ended_by, open_array
 
+GREATEST = 2**64 - 1
+
 
 def plan_of(array, was, shape):
     """The lines of a resize from one shape to another."""
     document = {"shape": was, **stored(array), "resize": shape}
-    command = [os.environ.get("CHUNKPLAN", "chunkplan")]
-    planned = subprocess.run(command, input=json.dumps(document), capture_output=True, text=True)
-    if planned.returncode != 0:
-        raise Refused(planned.stderr.strip())
-    lines = [json.loads(line) for line in planned.stdout.splitlines()]
-    if [line["number"] for line in lines] != list(range(len(lines))) or any(line["of"] != len(lines) for line in lines):
+    command, count, of = [os.environ.get("CHUNKPLAN", "chunkplan")], 0, 0
+    with tempfile.TemporaryFile("w+") as told, subprocess.Popen(command, stdin=subprocess.PIPE, stdout=subprocess.PIPE, stderr=told, text=True) as planner:
+        with contextlib.suppress(BrokenPipeError), planner.stdin as given:
+            given.write(json.dumps(document))
+        for text in planner.stdout:
+            line = json.loads(text)
+            if line["number"] != count or count and line["of"] != of:
+                raise Refused("the plan lacks lines")
+            count, of = count + 1, line["of"]
+            yield line
+        if planner.wait() != 0:
+            told.seek(0)
+            raise Refused(told.read().strip() or f"{command[0]} ended with status {planner.returncode}")
+    if count != of:
         raise Refused("the plan lacks lines")
-    return lines
 
 
 def check(line, array):
@@ -43,15 +57,17 @@ def check(line, array):
     starts = [line[name][0] for name in ("was", "now") if line[name] is not None]
     if line["key"] != array.key(line["chunk"]) or any(shape != array.chunk_shape for shape in shapes) or any(start != first for start in starts):
         raise Refused(f"line {line['number']}: {line['key']} isn't a chunk of the array")
+    if line["what"] not in ("rewrite", "delete", "new"):
+        raise Refused(f"line {line['number']}: {line['what']} isn't known here")
+    if line["what"] == "rewrite" and array.fill is None and array.has(line["chunk"]):
+        raise Refused(f"chunk {line['key']} gets places without an element, and there is no fill value")
 
 
 def write_again(line, array, store):
     """Writes a chunk again: the elements of both boxes stay, and the others have the fill value. One that isn't stored
     stays so."""
-    if not array.path(line["chunk"]).exists():
+    if not array.has(line["chunk"]):
         return
-    if array.fill is None:
-        raise Refused(f"chunk {line['key']} gets places without an element, and there is no fill value")
     kept = slices([[0] * len(array.shape), [min(sizes) for sizes in zip(line["was"][1], line["now"][1])]])
     elements, chunk = array.read(line["chunk"]), array.new_chunk()
     chunk[...] = array.fill
@@ -63,39 +79,62 @@ def do(line, array, store):
     check(line, array)
     if line["what"] == "rewrite":
         write_again(line, array, store)
-    elif line["what"] in ("delete", "new"):  # what an earlier shape left under the key of a new one is none of its elements
+    else:  # what an earlier shape left under the key of a new one is none of its elements
         array.path(line["chunk"]).unlink(missing_ok=True)
-    else:
-        raise Refused(f"line {line['number']}: {line['what']} isn't known here")
 
 
-def set_shape(array, shape):
-    """Writes the shape into the metadata, whole or not at all."""
-    path = next(path for path in (array.folder / name for name in (".zarray", "zarr.json")) if path.exists())
-    text = json.dumps({**json.loads(path.read_text()), "shape": shape}, indent=4)
+def write_whole(array, path, text):
+    """Writes a file of metadata, whole or not at all."""
     (array.folder / UNFINISHED).mkdir(exist_ok=True)
     unfinished = array.folder / UNFINISHED / uuid.uuid4().hex
     unfinished.write_text(text)
     unfinished.rename(path)
 
 
-def do_all(array, was, shape):
-    """Does the lines of a resize, and answers how many there were."""
-    store, lines = Store(array), plan_of(array, was, shape)
-    for line in lines:
-        do(line, array, store)
-    return len(lines)
+def consolidated(array):
+    """The consolidated metadata that name the array, of its folder and of the groups above it: each file with what it holds,
+    and the array's name there."""
+    folder = array.folder.resolve()
+    for above in (folder, *folder.parents):
+        path, name = above / ".zmetadata", (folder.relative_to(above) / ".zarray").as_posix()
+        if path.exists():
+            try:
+                held = json.loads(path.read_text())
+                named = name in held["metadata"]
+            except (ValueError, KeyError, TypeError) as error:
+                raise Refused(f"{path} isn't consolidated metadata: {error!r}") from error
+            if named:
+                yield path, held, name
+        path = above / "zarr.json"
+        if above != folder and path.exists() and "consolidated_metadata" in json.loads(path.read_text()):
+            raise Refused(f"{path} has consolidated metadata, which would keep the old shape: take them out first")
+
+
+def set_shape(array, shape):
+    """Writes the shape into the metadata, and into consolidated metadata."""
+    array.written = json.dumps({**json.loads(array.metadata.read_text()), "shape": shape}, indent=4).encode()
+    write_whole(array, array.metadata, array.written.decode())
+    for path, held, name in consolidated(array):
+        held["metadata"][name]["shape"] = shape
+        write_whole(array, path, json.dumps(held, indent=4))
 
 
 def resize(array, was, shape):
     """Shrinks an array, and then lets it grow, as far as either is wanted; answers how many lines were done."""
-    smaller, done = [min(sizes) for sizes in zip(was, shape)], 0
-    if smaller != was:
-        set_shape(array, smaller)
-        done += do_all(array, was, smaller)
-    if shape != smaller:
-        done += do_all(array, smaller, shape)
-        set_shape(array, shape)
+    smaller = [min(sizes) for sizes in zip(was, shape)]
+    steps = [step for step in ((was, smaller), (smaller, shape)) if step[0] != step[1]]
+    list(consolidated(array))
+    for line in (line for step in steps for line in plan_of(array, *step)):
+        check(line, array)
+    store, done = Store(array), 0
+    for before, after in steps:
+        if after == smaller:
+            set_shape(array, after)
+        for line in plan_of(array, before, after):
+            do(line, array, store)
+            done += 1
+        if after != smaller:
+            set_shape(array, after)
     shutil.rmtree(array.folder / UNFINISHED, ignore_errors=True)
     return done
 
@@ -111,6 +150,8 @@ def main():
     was = words.was or array.shape
     if not len(words.shape) == len(was) == len(array.shape):
         raise Refused(f"a shape has another number of dimensions than {array.shape}")
+    if any(not 0 <= size <= GREATEST for size in (*words.shape, *was)):
+        raise Refused(f"a size that isn't from 0 to {GREATEST}")
     done = resize(array, was, words.shape)
     if words.verbose:
         print(f"{done} lines")

@@ -7,7 +7,9 @@ import bz2
 import dataclasses
 import json
 import math
+import os
 import pathlib
+import re
 import struct
 import sys
 import typing
@@ -18,6 +20,7 @@ import numpy
 from numcodecs.compat import ensure_contiguous_ndarray
 
 UNFINISHED = ".unfinished"  # the folder in an array's folder that has what isn't yet under its key
+METADATA = {".zarray", ".zattrs", "zarr.json"}
 
 
 class Refused(Exception):
@@ -34,6 +37,8 @@ class StoredArray:
     key_encoding: dict
     permutation: list  # the dimensions of a chunk in the order in which its elements are stored
     codecs: list  # those that a chunk's elements go through on their way to the store
+    metadata: pathlib.Path = None  # the file of its metadata
+    written: bytes = b""  # what that file held when the array was opened
 
     def grid(self):
         """How many chunks there are along each dimension."""
@@ -48,6 +53,39 @@ class StoredArray:
 
     def path(self, chunk):
         return self.folder / self.key(chunk)
+
+    def has(self, chunk):
+        """Whether a chunk is stored. A file without a byte is no chunk."""
+        try:
+            return self.path(chunk).stat().st_size > 0
+        except (FileNotFoundError, NotADirectoryError):
+            return False
+
+    def is_key(self, key):
+        """Whether a text is the key of a chunk of the array."""
+        numbers = [int(number) for number in re.findall("[0-9]+", key)]
+        return len(numbers) >= len(self.shape) and any(
+            self.key(chunk) == key and all(number < count for number, count in zip(chunk, self.grid()))
+            for chunk in (numbers[: len(self.shape)], numbers[len(numbers) - len(self.shape) :])
+        )
+
+    def check_keys(self):
+        """Refuses an array whose folder has files and no chunk: its metadata say other keys than those of its chunks, as where
+        the separator is missing, and each of its chunks would be read as the fill value."""
+        others = (key for key in files_in(self.folder) if key.rpartition("/")[2] not in METADATA)
+        first = next(others, None)
+        if first is None or 0 in self.shape or self.is_key(first) or any(map(self.is_key, others)):
+            return
+        raise Refused(f"{self.folder} has files, {first!r} among them, and none is under a key of its chunks, such as {self.key([0] * len(self.shape))!r}")
+
+    def check_is_there(self):
+        """Refuses an array whose metadata are gone or changed since it was opened: its chunks may be gone, too."""
+        try:
+            if self.metadata.read_bytes() == self.written:
+                return
+        except OSError:
+            pass
+        raise Refused(f"{self.metadata} is gone, or was changed since the array was opened")
 
     def held(self, chunk):
         """What a chunk has of the array: its first element there, and how many along each dimension."""
@@ -80,6 +118,7 @@ class StoredArray:
         try:
             stored = self.path(chunk).read_bytes()
         except FileNotFoundError:
+            self.check_is_there()
             if self.fill is None:
                 raise Refused(f"chunk {self.key(chunk)} of {self.folder} isn't stored, and there is no fill value") from None
             return numpy.broadcast_to(numpy.array(self.fill, self.dtype), self.chunk_shape)
@@ -98,12 +137,29 @@ def open_array(folder):
         path = folder / name
         if path.exists():
             try:
-                return checked(read(folder, json.loads(path.read_text())))
+                written = path.read_bytes()
+                array = checked(read(folder, json.loads(written)))
+                return dataclasses.replace(array, metadata=path, written=written)
             except Refused as error:
                 raise Refused(f"{path}: {error}") from None
             except (KeyError, TypeError, ValueError, AttributeError) as error:
                 raise Refused(f"{path} isn't the metadata of an array: {error!r}") from error
     raise Refused(f"{folder} has no .zarray and no zarr.json")
+
+
+def files_in(folder):
+    """The files in an array's folder, as they would be keys, but for those that aren't finished. They come as they are found."""
+    folders = [(str(folder), "")]
+    while folders:
+        place, begins = folders.pop()
+        with os.scandir(place) as entries:
+            for entry in entries:
+                key = f"{begins}{entry.name}"
+                if entry.is_dir(follow_symlinks=False):
+                    if key != UNFINISHED:
+                        folders.append((entry.path, f"{key}/"))
+                elif entry.is_file() and entry.stat().st_size > 0:
+                    yield key
 
 
 def checked(array):

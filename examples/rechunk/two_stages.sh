@@ -1,10 +1,10 @@
 #!/usr/bin/env bash
 # Rechunks in two stages, by an array between, so that a worker holds at most N elements.
 #
-#     two_stages.sh SOURCE TARGET ROOM N
+#     two_stages.sh SOURCE TARGET ROOM N [--again]
 #
-# ROOM is a folder for the array between and for what was done, which a second run goes on from. The array between is
-# removed at the end. The environment may say which CHUNKPLAN and which PYTHON to run, and as CACHE how many megabytes
+# ROOM is a folder for the array between and for what was done, which a second run goes on from. If a run there ended well
+# and SOURCE was changed since, it is refused; with --again all lines are done again. The array between is removed at the end. The environment may say which CHUNKPLAN and which PYTHON to run, and as CACHE how many megabytes
 # of chunks that were read a worker keeps besides (0).
 set -euo pipefail
 source=$(realpath "$1") target=$(realpath "$2") most=$4
@@ -30,10 +30,12 @@ if [ -e "$room/document" ] && ! cmp -s "$room/document" "$room/document.new"; th
     exit 1
 fi
 mv "$room/document.new" "$room/document"
+. "$tools/finished.sh" "$source" "$room" "${5:-}"
 
 if ! "$PYTHON" "$tools/check_done.py" "$target" "$room/done.2" 2> /dev/null; then
     "$PYTHON" "$tools/make_between.py" "$source" "$target" "$between" --max-elements "$most"
     stage 1 "$source" "$between"
     stage 2 "$between" "$target"
 fi
+mark_finished
 rm -rf "$between" "$target/.unfinished"

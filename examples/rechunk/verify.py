@@ -58,7 +58,7 @@ def differing(source, target, array, region):
     native = array.dtype.newbyteorder("=")
     for chunk in itertools.product(*(range(first, first + count) for first, count in zip(*region.chunks(array)))):
         start, shape = region.given(chunk, array)
-        if array.fill is None and not array.path(chunk).exists():
+        if array.fill is None and not array.has(chunk):
             raise Refused(f"chunk {array.key(chunk)} of {array.folder} isn't stored, and there is no fill value")
         try:
             places = ((source, region.in_source(start)), (target, start))

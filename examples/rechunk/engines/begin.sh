@@ -1,7 +1,8 @@
 # shellcheck shell=bash
-# What all engines begin and end with; they source it, with the words SOURCE TARGET ROOM.
+# What all engines begin and end with; they source it, with the words SOURCE TARGET ROOM [--again].
 #
-# ROOM is a folder for the document and for what was done, which a second run goes on from. The environment may say
+# ROOM is a folder for the document and for what was done, which a second run goes on from. If a run there ended well and
+# SOURCE was changed since, it is refused; with --again all lines are done again. The environment may say
 # which CHUNKPLAN and which PYTHON to run, how many WORKERS at a time (4), into how many SHARES the plan is cut (16), and
 # which REGION is copied, as "--subset 2,0 3,4 --at 1,1"; without one it is a rechunking of the whole array.
 set -euo pipefail
@@ -21,6 +22,7 @@ if [ -e "$room/document" ] && ! cmp -s "$room/document" "$room/document.new"; th
     exit 1
 fi
 mv "$room/document.new" "$room/document"
+. "$tools/finished.sh" "$source" "$room" "${4:-}"
 
 # Ends with the status 0 where the engine did, and each chunk was done.
 end() {
@@ -29,5 +31,6 @@ end() {
         echo "the engine ended with the status $1" >&2
         exit 1
     fi
+    mark_finished
     rm -rf "$target/.unfinished"
 }

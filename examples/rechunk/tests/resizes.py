@@ -121,8 +121,13 @@ def faults(chunkplan, generator, count):
         for words, message in ((["10"], "another number of dimensions"), (["10,6,1"], "another number of dimensions")):
             told = tool("resize_array.py", room / "array", *words, env={**os.environ, "CHUNKPLAN": chunkplan})
             yield f"{words}", told.returncode == 1 and message in told.stderr and stored(room / "array") == first
-        told = tool("resize_array.py", room / "array", "12,6", env={**os.environ, "CHUNKPLAN": "/bin/false"})
-        yield "a planner that fails", told.returncode == 1 and stored(room / "array") == first
+        for words in ("-5,6", "12,-3", f"12,{2**64}", f"{2**65},6"):
+            told = tool("resize_array.py", room / "array", "--was=10,6", "--", words, env={**os.environ, "CHUNKPLAN": chunkplan})
+            yield f"the shape {words}", told.returncode == 1 and "a size that isn't from 0 to" in told.stderr and stored(room / "array") == first
+        for program in ("/bin/false", "/bin/no_program"):
+            for words in ("12,6", "6,9"):
+                told = tool("resize_array.py", room / "array", words, env={**os.environ, "CHUNKPLAN": program})
+                yield f"{program}, {words}", told.returncode == 1 and "Traceback" not in told.stderr and stored(room / "array") == first
         # a broken chunk at the border ends the run; it is mended, and the same is run again with the old shape
         broken = (room / "array" / "1.0").read_bytes()
         (room / "array" / "1.0").write_bytes(b"no")
@@ -145,6 +150,23 @@ def faults(chunkplan, generator, count):
         (room / "none" / ".zarray").write_text(json.dumps({**zarray, "fill_value": None}))
         told = resize(chunkplan, room / "none", [6])
         yield "no fill value", told.returncode == 1 and "there is no fill value" in told.stderr and open_array(room / "none").shape == [5]
+        # one dimension shrinks and one grows: nothing changes before it is known that all can
+        make_2(room / "two", [5, 5], [4, 4], dtype="<i4", fill_value=0)[...] = 7
+        (room / "two" / ".zarray").write_text(json.dumps({**json.loads((room / "two" / ".zarray").read_text()), "fill_value": None}))
+        before = stored(room / "two")
+        told = resize(chunkplan, room / "two", [4, 6])
+        yield "no fill value, after shrinking", told.returncode == 1 and "there is no fill value" in told.stderr and stored(room / "two") == before
+        # consolidated metadata follow
+        group = zarr.open_group(str(room / "group"), mode="w")
+        group.create_dataset("inner/array", shape=(7, 7), chunks=(3, 3), dtype="<i4")[...] = 5
+        zarr.consolidate_metadata(str(room / "group"))
+        told = resize(chunkplan, room / "group" / "inner" / "array", [8, 2])
+        seen = zarr.open_consolidated(str(room / "group"), mode="r")["inner/array"].shape
+        yield "consolidated metadata", told.returncode == 0 and seen == (8, 2) and open_array(room / "group" / "inner" / "array").shape == [8, 2]
+        (room / "group" / ".zmetadata").write_text("{")
+        before = stored(room / "group" / "inner" / "array")
+        told = resize(chunkplan, room / "group" / "inner" / "array", [3, 3])
+        yield "broken consolidated metadata", told.returncode == 1 and ".zmetadata" in told.stderr and stored(room / "group" / "inner" / "array") == before
 
 
 if __name__ == "__main__":

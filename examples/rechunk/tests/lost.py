@@ -1,0 +1,128 @@
+#!/usr/bin/env python3
+"""Takes away a source, or what tells its chunks, in each way that once left a target of fill values without a word.
+
+    lost.py CHUNKPLAN [--checks NAME ..]
+
+CHUNKPLAN is the built program. It needs numpy and zarr-python 2 (Debian: python3-zarr).
+"""
+import json
+import os
+import pathlib
+import subprocess
+import sys
+import tempfile
+
+import numpy
+import zarr
+
+import moves  # which has the folder of the scripts on the path
+from moves import TOOLS, make_2, plan_of, tool
+from stored_arrays import open_array
+
+
+def two_arrays(room):
+    """A source of ten rows, a chunk each, and a target of which each chunk gets two rows."""
+    ends = [room / "source", room / "target"]
+    make_2(ends[0], [10, 4], [1, 4], dtype="<i4", fill_value=-1, dimension_separator="/")[...] = numpy.arange(40).reshape(10, 4)
+    make_2(ends[1], [10, 4], [2, 4], dtype="<i4", fill_value=-1)
+    return ends
+
+
+def in_mid_run(chunkplan, generator, moves):
+    """A worker that has done a line, and then the source is gone, or its metadata are others."""
+
+    def gone(source):
+        source.rename(source.with_name("elsewhere"))
+
+    def emptied(source):
+        gone(source)
+        source.mkdir()
+
+    def changed(source):
+        written = json.loads((source / ".zarray").read_text())
+        (source / ".zarray").write_text(json.dumps({**written, "dimension_separator": "."}))
+        (source / "2" / "0").unlink()
+
+    for happens in (gone, emptied, changed):
+        with tempfile.TemporaryDirectory() as folder:
+            ends = two_arrays(pathlib.Path(folder))
+            plan = plan_of(chunkplan, *map(open_array, ends))
+            command = [sys.executable, TOOLS / "copy_chunks.py", *ends, "--no-sync"]
+            worker = subprocess.Popen(command, stdin=subprocess.PIPE, stdout=subprocess.PIPE, stderr=subprocess.PIPE, text=True)
+            worker.stdin.write(plan[0])
+            worker.stdin.flush()
+            first = worker.stdout.readline()
+            happens(ends[0])
+            told = worker.communicate(plan[1])
+            yield f"{happens.__name__}: the first line is done", json.loads(first)["number"] == 0
+            yield f"{happens.__name__}: the second is refused", worker.returncode == 1 and told[0] == "" and "is gone, or was changed" in told[1]
+            yield f"{happens.__name__}: and writes nothing", not (ends[1] / "1.0").exists()
+
+
+def other_keys(chunkplan, generator, moves):
+    """A source whose metadata lack the separator of its keys, and one that has no file."""
+    with tempfile.TemporaryDirectory() as folder:
+        ends = two_arrays(pathlib.Path(folder))
+        plan = plan_of(chunkplan, *map(open_array, ends))
+        written = json.loads((ends[0] / ".zarray").read_text())
+        (ends[0] / ".zarray").write_text(json.dumps({name: value for name, value in written.items() if name != "dimension_separator"}))
+        for name, given in (("document_of.py", ""), ("copy_chunks.py", "".join(plan))):
+            told = tool(name, *ends, input=given)
+            yield name, told.returncode == 1 and "none is under a key of its chunks, such as '0.0'" in told.stderr and told.stdout == ""
+        (ends[0] / "0.0").write_bytes(b"\0" * 16)
+        yield "one key is enough", tool("document_of.py", *ends).returncode == 0
+    with tempfile.TemporaryDirectory() as folder:
+        ends = [pathlib.Path(folder, name) for name in ("source", "target")]
+        for end in ends:
+            make_2(end, [4], [2], dtype="<i4", fill_value=-1)
+        told = tool("copy_chunks.py", *ends, input="".join(plan_of(chunkplan, *map(open_array, ends))))
+        yield "a source without a chunk", told.returncode == 0 and len(told.stdout.splitlines()) == 2
+
+
+def missing_chunks(chunkplan, generator, moves):
+    """A source that must be whole, and files without a byte."""
+    with tempfile.TemporaryDirectory() as folder:
+        ends = two_arrays(pathlib.Path(folder))
+        plan = plan_of(chunkplan, *map(open_array, ends))
+        (ends[0] / "3" / "0").unlink()
+        told = tool("copy_chunks.py", *ends, "--missing-is-an-error", input="".join(plan))
+        yield "a missing chunk", told.returncode == 1 and "chunk 3/0 of" in told.stderr and len(told.stdout.splitlines()) == 1
+        yield "it has the fill value else", tool("copy_chunks.py", *ends, "--done", pathlib.Path(folder, "done"), input="".join(plan)).returncode == 0
+        yield "all were done", tool("check_done.py", ends[1], pathlib.Path(folder, "done")).returncode == 0
+        (ends[1] / "2.0").write_bytes(b"")
+        told = tool("check_done.py", ends[1], pathlib.Path(folder, "done"))
+        yield "a chunk without a byte", told.returncode == 1 and "1 of 5 chunks weren't done: 2.0" in told.stderr
+        beside = tool("document_of.py", *ends, "--keys").stdout.splitlines()[1:]
+        yield "it is no key", sorted(beside) == ["0.0", "1.0", "3.0", "4.0"]
+
+
+def finished_rooms(chunkplan, generator, moves):
+    """A room in which a run ended well, and then the source was changed: a chunk of it, or its metadata."""
+    environment = {**os.environ, "CHUNKPLAN": chunkplan, "PYTHON": sys.executable, "SHARES": "2"}
+    for script, more in (("engines/xargs_shares.sh", []), ("two_stages.sh", [100])):
+        with tempfile.TemporaryDirectory() as folder:
+            ends = two_arrays(pathlib.Path(folder))
+            run = lambda *words: tool(script, *ends, pathlib.Path(folder, "room"), *more, *words, env=environment)
+            moved = lambda: numpy.asarray(zarr.open_array(str(ends[1]), mode="r")[...]).tolist()
+            yield f"{script}: the first run", run().returncode == 0 and moved() == numpy.arange(40).reshape(10, 4).tolist()
+            yield f"{script}: the source is as it was", run().returncode == 0
+            zarr.open_array(str(ends[0]), mode="r+")[...] = 9
+            told = run()
+            yield f"{script}: it was changed", told.returncode == 1 and "was changed since: give another folder, or --again" in told.stderr
+            yield f"{script}: another word", run("--anew").returncode == 1
+            yield f"{script}: again", run("--again").returncode == 0 and moved() == [[9] * 4] * 10
+            yield f"{script}: and once more", run().returncode == 0
+
+
+def file_names(chunkplan, generator, moves):
+    """A file of the target whose name would be two lines."""
+    for name in ("junk\n0.0", "junk\r0.0", "junk\u20280.0"):
+        with tempfile.TemporaryDirectory() as folder:
+            ends = two_arrays(pathlib.Path(folder))
+            (ends[1] / name).write_bytes(b"1")
+            told = tool("document_of.py", *ends, "--keys")
+            yield repr(name), told.returncode == 1 and "whose name can't be a line" in told.stderr and told.stdout == ""
+
+
+if __name__ == "__main__":
+    moves.main([in_mid_run, other_keys, missing_chunks, finished_rooms, file_names])
