@@ -23,9 +23,9 @@ Numbers are said when the disk has the chunks too, some hundred at a time or onc
 at once: then chunks that were done may be lost where the machine crashes, but not where a process does. In the order of the
 source begin anew then, without --resume: a chunk that is there may lack what a line gave it.
 
-A chunk of the source that isn't stored has the fill value, and with --missing-is-an-error it is refused. If the source's
-metadata are gone or changed then, or if its folder has files and none is a chunk, the run stops: the source was moved, or
-its metadata say other keys.
+A chunk of the source that isn't stored has the fill value, and with --missing-is-an-error it is refused. The run stops if
+the source's metadata are gone or changed then. It doesn't begin if the source's folder has files and none is a chunk, since
+its metadata then say other keys.
 
 A line that isn't one of these two arrays is refused, and so is a chunk of the source that can't be read whole. It ends
 with the status 1 then, and a message that names the line or the chunk.

@@ -6,9 +6,8 @@
 ARRAY is the folder of a Zarr array, of format 2 or 3; SHAPE is a size for each dimension, as in 30,20. `chunkplan` is on
 `PATH`, or named in `CHUNKPLAN`. Elements that both shapes have stay; those that come have the fill value.
 
-All is planned and looked at before the first byte changes: a shape that can't be, a chunk that gets places without an
-element where there is no fill value, a program that is missing, or consolidated metadata that can't follow leave the array
-as it is. Where the array shrinks its metadata change first, and where it grows last; where it does both it shrinks and then
+The whole plan is checked before the first byte changes. A shape that can't be, a missing program, a chunk that needs a fill
+value that isn't there, and consolidated metadata that can't follow leave the array as it is. Where the array shrinks its metadata change first, and where it grows last; where it does both it shrinks and then
 grows. So a reader finds elements of the shape that it reads, or the fill value. Consolidated metadata of format 2
 (`.zmetadata`), of the array or of a group above it, change with the array's. After a run that was cut off, run the same
 again, with the old shape as `--was`: chunks that were done are done once more, with the same outcome.

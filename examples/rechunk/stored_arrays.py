@@ -70,8 +70,8 @@ class StoredArray:
         )
 
     def check_keys(self):
-        """Refuses an array whose folder has files and no chunk: its metadata say other keys than those of its chunks, as where
-        the separator is missing, and each of its chunks would be read as the fill value."""
+        """Refuses an array whose folder has files and no chunk. Its metadata then say other keys, as if the separator is missing,
+        and each chunk would be read as the fill value."""
         others = (key for key in files_in(self.folder) if key.rpartition("/")[2] not in METADATA)
         first = next(others, None)
         if first is None or 0 in self.shape or self.is_key(first) or any(map(self.is_key, others)):
