@@ -104,10 +104,12 @@ class StoredArray:
         return ensure_contiguous_ndarray(encoded).reshape(-1).view("u1").data
 
     def decode(self, stored):
-        for codec in reversed(self.codecs):
-            stored = codec.decode(stored)
-        elements = ensure_contiguous_ndarray(stored).reshape(-1).view("u1")
         expected = math.prod(self.chunk_shape) * self.dtype.itemsize
+        for codec in reversed(self.codecs):
+            # What is decoded may still be compressed, or widened by a filter, but not to more than this.
+            most = {"most": 8 * expected + 2**16} if hasattr(codec, "is_bounded") else {}
+            stored = codec.decode(stored, **most)
+        elements = ensure_contiguous_ndarray(stored).reshape(-1).view("u1")
         if elements.nbytes != expected:
             raise ValueError(f"{elements.nbytes} bytes where {expected} belong")
         shape = [self.chunk_shape[dimension] for dimension in self.permutation]
@@ -227,8 +229,8 @@ def codec_2(configuration):
         raise Refused(f"the codec {configuration['id']} isn't known here")
     if configuration["id"] == "blosc":
         return Blosc(**{name: value for name, value in configuration.items() if name != "id"})
-    if configuration["id"] in ("zlib", "bz2"):
-        return WholeStream(configuration)
+    if configuration["id"] in WholeStreams.DECOMPRESSORS:
+        return WholeStreams(configuration)
     return numcodecs.get_codec(dict(configuration))
 
 
@@ -308,7 +310,7 @@ def codec_3(name, configuration):
         shuffle = {"noshuffle": 0, "shuffle": 1, "bitshuffle": 2}[configuration["shuffle"]]
         return Blosc(configuration["cname"], configuration["clevel"], shuffle, configuration["blocksize"], configuration.get("typesize"))
     if name == "gzip":
-        return numcodecs.GZip(configuration["level"])
+        return WholeStreams({"id": "gzip", **configuration})
     if name == "zstd":
         return CheckedZstd(configuration["level"]) if configuration.get("checksum") else numcodecs.Zstd(configuration["level"])
     if name == "crc32c":
@@ -344,7 +346,9 @@ def number(written, dtype):
 
 
 class Blosc:
-    """Blosc by numcodecs, which reads past the end of a chunk that was cut off: the length is looked at before."""
+    """Blosc by numcodecs, which reads past the end of a chunk that was cut off: the lengths are looked at before."""
+
+    is_bounded = True
 
     def __init__(self, cname="lz4", clevel=5, shuffle=1, blocksize=0, typesize=None):
         self.codec, self.typesize = numcodecs.Blosc(cname, clevel, shuffle, blocksize), typesize
@@ -355,26 +359,38 @@ class Blosc:
             elements = elements.view("u1").view(f"V{self.typesize}")  # Blosc shuffles the bytes of elements of this size
         return self.codec.encode(elements)
 
-    def decode(self, stored):
+    def decode(self, stored, most):
         stored = ensure_contiguous_ndarray(stored).view("u1").data
         if len(stored) < 16 or struct.unpack_from("<I", stored, 12)[0] != len(stored):
             raise ValueError(f"{len(stored)} bytes aren't what Blosc wrote")
+        if struct.unpack_from("<I", stored, 4)[0] > most:
+            raise ValueError(f"more than {most} bytes")
         return self.codec.decode(stored)
 
 
-class WholeStream:
-    """zlib and bz2 by numcodecs, which passes over what stands behind the end of a stream; here it is refused."""
+class WholeStreams:
+    """zlib, gzip and bz2. By numcodecs a few bytes may become gigabytes, and what stands behind the end of a stream is passed
+    over; here both are refused. A chunk of gzip may have several members."""
+
+    DECOMPRESSORS = {"zlib": zlib.decompressobj, "gzip": lambda: zlib.decompressobj(wbits=31), "bz2": bz2.BZ2Decompressor}
+    is_bounded = True
 
     def __init__(self, configuration):
         self.encode = numcodecs.get_codec(dict(configuration)).encode
-        self.decompressor = {"zlib": zlib.decompressobj, "bz2": bz2.BZ2Decompressor}[configuration["id"]]
+        self.decompressor, self.has_members = self.DECOMPRESSORS[configuration["id"]], configuration["id"] == "gzip"
 
-    def decode(self, stored):
-        decompressor = self.decompressor()
-        decoded = decompressor.decompress(stored)
-        if not decompressor.eof or decompressor.unused_data:
-            raise ValueError("the compressed stream doesn't end where the chunk does")
-        return decoded
+    def decode(self, stored, most):
+        decoded, rest = b"", bytes(ensure_contiguous_ndarray(stored).view("u1"))
+        while True:
+            decompressor = self.decompressor()
+            decoded += decompressor.decompress(rest, most + 1 - len(decoded))
+            if len(decoded) > most:
+                raise ValueError(f"more than {most} bytes")
+            rest = decompressor.unused_data
+            if not decompressor.eof or rest and not self.has_members:
+                raise ValueError("the compressed stream doesn't end where the chunk does")
+            if not rest:
+                return decoded
 
 
 class Crc32c:

@@ -11,7 +11,9 @@ import pathlib
 import subprocess
 import sys
 import tempfile
+import zlib
 
+import numcodecs
 import numpy
 import zarr
 
@@ -124,5 +126,27 @@ def file_names(chunkplan, generator, moves):
             yield repr(name), told.returncode == 1 and "whose name can't be a line" in told.stderr and told.stdout == ""
 
 
+def bombs(chunkplan, generator, moves):
+    """Chunks of a few bytes that would be decoded to many: no more is decoded than may belong to them."""
+    zeros = 2**27
+    gzip, plain, bz2 = numcodecs.GZip(9), numcodecs.Zlib(9), numcodecs.BZ2(9)
+    thrice = gzip.encode(gzip.encode(of_zeros(zeros, 31)))
+    rows = [("gzip, three times", [gzip, gzip], gzip, thrice), ("zlib", [], plain, of_zeros(zeros, 15)), ("bz2", [plain], bz2, bz2.encode(of_zeros(zeros, 15)))]
+    for what, filters, compressor, stored in rows:
+        with tempfile.TemporaryDirectory() as folder:
+            ends = [pathlib.Path(folder, name) for name in ("source", "target")]
+            make_2(ends[0], [4], [4], dtype="<i4", fill_value=-1, filters=filters, compressor=compressor)
+            make_2(ends[1], [4], [2], dtype="<i4", fill_value=-1)
+            (ends[0] / "0").write_bytes(stored)
+            told = tool("copy_chunks.py", *ends, input="".join(plan_of(chunkplan, *map(open_array, ends))))
+            yield f"{what}: {len(stored)} bytes", told.returncode == 1 and "can't be decoded: more than" in told.stderr and told.stdout == ""
+
+
+def of_zeros(count, window):
+    """So many zero bytes, compressed piece by piece."""
+    compressor, piece = zlib.compressobj(9, wbits=window), bytes(2**20)
+    return b"".join([*(compressor.compress(piece) for _ in range(count // len(piece))), compressor.flush()])
+
+
 if __name__ == "__main__":
-    moves.main([in_mid_run, other_keys, missing_chunks, finished_rooms, file_names])
+    moves.main([in_mid_run, other_keys, missing_chunks, finished_rooms, file_names, bombs])

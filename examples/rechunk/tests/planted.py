@@ -97,6 +97,7 @@ PLANTED = [
     ("a source that is gone has the fill value", [("stored_arrays.py", "            self.check_is_there()\n", "")], "lost.py in_mid_run"),
     ("a source under other keys has the fill value", [("document_of.py", "    source.check_keys()\n", ""), ("copy_chunks.py", "    source.check_keys()\n", "")], "lost.py other_keys"),
     ("a chunk without a byte is stored", [("stored_arrays.py", ".st_size > 0\n        except", ".st_size >= 0\n        except")], "lost.py missing_chunks"),
+    ("a chunk is decoded to its end", [("stored_arrays.py", "rest, most + 1 - len(decoded))", "rest)"), ("stored_arrays.py", "            if len(decoded) > most:", "            if False:")], "lost.py bombs"),
     ("what was done of another source stays done", [("finished.sh", '!= "$mark" ]', "= no ]")], "lost.py finished_rooms"),
     ("what other lines gave a chunk is lost", [("copy_chunks.py", '        chunk[...] = target.read(piece["chunk"])\n', "        chunk[...] = 0\n")], "by_source.py kinds"),
     ("a chunk that was lost and begun anew is taken for whole", [("copy_chunks.py", "                self.begun |= {", "                {")], "by_source.py worker"),
