@@ -271,9 +271,9 @@ class Store:
             raise
 
     def lock(self):
-        """Keeps other workers from changing chunks that several lines give elements to, until this one ends."""
-        self.unfinished.mkdir(exist_ok=True)
-        self.locked = open(self.unfinished / "alone", "w")
+        """Keeps other workers from changing chunks that several lines give elements to, until this one ends. The lock is one of
+        the array's metadata, which no run removes or writes."""
+        self.locked = open(self.array.metadata, "rb")
         try:
             fcntl.flock(self.locked, fcntl.LOCK_EX | fcntl.LOCK_NB)
         except OSError as error:

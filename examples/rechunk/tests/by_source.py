@@ -10,6 +10,7 @@ import fcntl
 import itertools
 import json
 import pathlib
+import shutil
 import subprocess
 import sys
 import tempfile
@@ -146,7 +147,8 @@ def worker(chunkplan, generator, count):
         told = tool("copy_chunks.py", *ends, "--alone", input="".join(plan))
         yield "and made again", told.returncode == 0 and numpy.array_equal(zarr.open_array(str(ends[1]), mode="r")[...], elements)
         # two workers alone
-        with open(ends[1] / ".unfinished" / "alone", "w") as other:
+        shutil.rmtree(ends[1] / ".unfinished", ignore_errors=True)  # as the end of another run may do
+        with open(ends[1] / ".zarray", "rb") as other:
             fcntl.flock(other, fcntl.LOCK_EX)
             told = tool("copy_chunks.py", *ends, "--alone", input="".join(plan))
             yield "beside another worker", told.returncode == 1 and "another worker with --alone may run" in told.stderr and told.stdout == ""
