@@ -10,6 +10,7 @@ import math
 import os
 import pathlib
 import re
+import stat
 import struct
 import sys
 import typing
@@ -76,7 +77,9 @@ class StoredArray:
         first = next(others, None)
         if first is None or 0 in self.shape or self.is_key(first) or any(map(self.is_key, others)):
             return
-        raise Refused(f"{self.folder} has files, {first!r} among them, and none is under a key of its chunks, such as {self.key([0] * len(self.shape))!r}")
+        raise Refused(
+            f"{self.folder} has files, {first!r} among them, and none is under a key of its chunks, such as {self.key([0] * len(self.shape))!r}"
+        )
 
     def check_is_there(self):
         """Refuses an array whose metadata are gone or changed since it was opened: its chunks may be gone, too."""
@@ -103,12 +106,27 @@ class StoredArray:
             encoded = codec.encode(encoded)
         return ensure_contiguous_ndarray(encoded).reshape(-1).view("u1").data
 
+    def most(self):
+        """How many bytes a chunk may have on its way from the store: it may be compressed, or widened by a filter."""
+        return 8 * math.prod(self.chunk_shape) * self.dtype.itemsize + 2**16
+
+    def stored(self, chunk):
+        """The bytes that are stored of a chunk. Only a file in the array's folder is read, and no more than may belong to a chunk."""
+        path = self.path(chunk)
+        with open(path, "rb", opener=lambda name, flags: os.open(name, flags | os.O_NONBLOCK)) as file:
+            status = os.fstat(file.fileno())
+            if not stat.S_ISREG(status.st_mode):
+                raise OSError("it isn't a file")
+            if status.st_size > self.most():
+                raise OSError(f"it has more than {self.most()} bytes")
+            if not path.resolve().is_relative_to(self.folder.resolve()):
+                raise OSError("it lies in another folder")
+            return file.read()
+
     def decode(self, stored):
         expected = math.prod(self.chunk_shape) * self.dtype.itemsize
         for codec in reversed(self.codecs):
-            # What is decoded may still be compressed, or widened by a filter, but not to more than this.
-            most = {"most": 8 * expected + 2**16} if hasattr(codec, "is_bounded") else {}
-            stored = codec.decode(stored, **most)
+            stored = codec.decode(stored, **({"most": self.most()} if hasattr(codec, "is_bounded") else {}))
         elements = ensure_contiguous_ndarray(stored).reshape(-1).view("u1")
         if elements.nbytes != expected:
             raise ValueError(f"{elements.nbytes} bytes where {expected} belong")
@@ -118,7 +136,7 @@ class StoredArray:
     def read(self, chunk):
         """A chunk's elements. One that isn't stored has the fill value throughout."""
         try:
-            stored = self.path(chunk).read_bytes()
+            stored = self.stored(chunk)
         except FileNotFoundError:
             self.check_is_there()
             if self.fill is None:

@@ -126,12 +126,44 @@ def file_names(chunkplan, generator, moves):
             yield repr(name), told.returncode == 1 and "whose name can't be a line" in told.stderr and told.stdout == ""
 
 
+def odd_files(chunkplan, generator, moves):
+    """A pipe, a folder, a file of a gigabyte of holes, and a link to another folder under the key of a chunk."""
+
+    def pipe(path, _room):
+        os.mkfifo(path)
+
+    def folder(path, _room):
+        path.mkdir()
+
+    def holes(path, _room):
+        with open(path, "wb") as file:
+            file.truncate(2**30)
+
+    def link(path, room):
+        (room / "elsewhere").write_bytes(bytes(16))
+        path.symlink_to(room / "elsewhere")
+
+    for odd, why in ((pipe, "isn't a file"), (folder, "Is a directory"), (holes, "has more than"), (link, "lies in another folder")):
+        with tempfile.TemporaryDirectory() as made:
+            room = pathlib.Path(made)
+            ends = two_arrays(room)
+            plan = plan_of(chunkplan, *map(open_array, ends))
+            (ends[0] / "3" / "0").unlink()
+            odd(ends[0] / "3" / "0", room)
+            told = tool("copy_chunks.py", *ends, input="".join(plan), timeout=30)
+            yield odd.__name__, told.returncode == 1 and "chunk 3/0 of" in told.stderr and why in told.stderr and len(told.stdout.splitlines()) == 1
+
+
 def bombs(chunkplan, generator, moves):
     """Chunks of a few bytes that would be decoded to many: no more is decoded than may belong to them."""
-    zeros = 2**27
+    zeros = 2**25
     gzip, plain, bz2 = numcodecs.GZip(9), numcodecs.Zlib(9), numcodecs.BZ2(9)
     thrice = gzip.encode(gzip.encode(of_zeros(zeros, 31)))
-    rows = [("gzip, three times", [gzip, gzip], gzip, thrice), ("zlib", [], plain, of_zeros(zeros, 15)), ("bz2", [plain], bz2, bz2.encode(of_zeros(zeros, 15)))]
+    rows = [
+        ("gzip, three times", [gzip, gzip], gzip, thrice),
+        ("zlib", [], plain, of_zeros(zeros, 15)),
+        ("bz2", [plain], bz2, bz2.encode(of_zeros(zeros, 15))),
+    ]
     for what, filters, compressor, stored in rows:
         with tempfile.TemporaryDirectory() as folder:
             ends = [pathlib.Path(folder, name) for name in ("source", "target")]
@@ -149,4 +181,4 @@ def of_zeros(count, window):
 
 
 if __name__ == "__main__":
-    moves.main([in_mid_run, other_keys, missing_chunks, finished_rooms, file_names, bombs])
+    moves.main([in_mid_run, other_keys, missing_chunks, finished_rooms, file_names, odd_files, bombs])
