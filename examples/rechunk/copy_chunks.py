@@ -198,7 +198,7 @@ def line_of(text, source, target, region):
     try:
         line = json.loads(text)
         fault = (fault_by_source if order_of(line) == "source" else fault_of)(line, source, target, region)
-    except (ValueError, KeyError, TypeError) as error:
+    except (ValueError, KeyError, TypeError, RecursionError) as error:
         raise Refused(f"this is no line of a plan: {text[:60]!r}: {error!r}") from error
     if fault:
         raise Refused(f"line {line['number']}: {fault}")
@@ -340,7 +340,7 @@ def done_in(file, order="target"):
                     line = json.loads(text)
                     if line.get("order", "target") == order:
                         done.add((line["number"], line["of"]))
-                except (ValueError, KeyError, TypeError, AttributeError):
+                except (ValueError, KeyError, TypeError, AttributeError, RecursionError):
                     continue
     except FileNotFoundError:
         pass

@@ -6,6 +6,7 @@ import base64
 import bz2
 import dataclasses
 import json
+import lzma
 import math
 import os
 import pathlib
@@ -162,7 +163,7 @@ def open_array(folder):
                 return dataclasses.replace(array, metadata=path, written=written)
             except Refused as error:
                 raise Refused(f"{path}: {error}") from None
-            except (KeyError, TypeError, ValueError, AttributeError) as error:
+            except (KeyError, TypeError, ValueError, AttributeError, RecursionError) as error:
                 raise Refused(f"{path} isn't the metadata of an array: {error!r}") from error
     raise Refused(f"{folder} has no .zarray and no zarr.json")
 
@@ -249,7 +250,8 @@ def codec_2(configuration):
         return Blosc(**{name: value for name, value in configuration.items() if name != "id"})
     if configuration["id"] in WholeStreams.DECOMPRESSORS:
         return WholeStreams(configuration)
-    return numcodecs.get_codec(dict(configuration))
+    codec = numcodecs.get_codec(dict(configuration))
+    return {"lz4": LZ4, "zstd": Zstd}[configuration["id"]](codec) if configuration["id"] in ("lz4", "zstd") else codec
 
 
 # Format 3.
@@ -330,7 +332,7 @@ def codec_3(name, configuration):
     if name == "gzip":
         return WholeStreams({"id": "gzip", **configuration})
     if name == "zstd":
-        return CheckedZstd(configuration["level"]) if configuration.get("checksum") else numcodecs.Zstd(configuration["level"])
+        return CheckedZstd(configuration["level"]) if configuration.get("checksum") else Zstd(numcodecs.Zstd(configuration["level"]))
     if name == "crc32c":
         return Crc32c()
     raise Refused(f"the codec {name} isn't known here, or not in its place")
@@ -363,10 +365,23 @@ def number(written, dtype):
     return value
 
 
-class Blosc:
-    """Blosc by numcodecs, which reads past the end of a chunk that was cut off: the lengths are looked at before."""
+class Sized:
+    """A compressor of numcodecs. It takes the memory that the first bytes of a chunk ask for: these are looked at before."""
 
     is_bounded = True
+
+    def __init__(self, codec):
+        self.codec, self.encode = codec, codec.encode
+
+    def decode(self, stored, most):
+        stored = ensure_contiguous_ndarray(stored).view("u1").data
+        if self.size(stored) > most:
+            raise ValueError(f"more than {most} bytes")
+        return self.codec.decode(stored)
+
+
+class Blosc(Sized):
+    """Blosc by numcodecs, which reads past the end of a chunk that was cut off: both lengths are looked at before."""
 
     def __init__(self, cname="lz4", clevel=5, shuffle=1, blocksize=0, typesize=None):
         self.codec, self.typesize = numcodecs.Blosc(cname, clevel, shuffle, blocksize), typesize
@@ -377,25 +392,44 @@ class Blosc:
             elements = elements.view("u1").view(f"V{self.typesize}")  # Blosc shuffles the bytes of elements of this size
         return self.codec.encode(elements)
 
-    def decode(self, stored, most):
-        stored = ensure_contiguous_ndarray(stored).view("u1").data
+    def size(self, stored):
         if len(stored) < 16 or struct.unpack_from("<I", stored, 12)[0] != len(stored):
             raise ValueError(f"{len(stored)} bytes aren't what Blosc wrote")
-        if struct.unpack_from("<I", stored, 4)[0] > most:
-            raise ValueError(f"more than {most} bytes")
-        return self.codec.decode(stored)
+        return struct.unpack_from("<I", stored, 4)[0]
+
+
+class LZ4(Sized):
+    def size(self, stored):
+        return int.from_bytes(stored[:4], "little")
+
+
+class Zstd(Sized):
+    def size(self, stored):
+        """The size of the content, as the header of a frame says it (RFC 8878, section 3.1.1.1). If it doesn't, numcodecs refuses the chunk."""
+        if len(stored) < 5 or stored[:4] != b"\x28\xb5\x2f\xfd":
+            raise ValueError("it doesn't begin as a frame of Zstandard")
+        is_single = stored[4] >> 5 & 1
+        width = (is_single, 2, 4, 8)[stored[4] >> 6]
+        begins = 5 + (1 - is_single) + (0, 1, 2, 4)[stored[4] & 3]
+        return int.from_bytes(stored[begins : begins + width], "little") + 256 * (width == 2)
 
 
 class WholeStreams:
-    """zlib, gzip and bz2. By numcodecs a few bytes may become gigabytes, and what stands behind the end of a stream is passed
-    over; here both are refused. A chunk of gzip may have several members."""
+    """zlib, gzip, bz2 and LZMA. numcodecs makes gigabytes of a few bytes, and passes over what follows a stream. Both are refused here.
+    A chunk of gzip may have several members."""
 
-    DECOMPRESSORS = {"zlib": zlib.decompressobj, "gzip": lambda: zlib.decompressobj(wbits=31), "bz2": bz2.BZ2Decompressor}
+    DECOMPRESSORS = {
+        "zlib": lambda _: zlib.decompressobj(),
+        "gzip": lambda _: zlib.decompressobj(wbits=31),
+        "bz2": lambda _: bz2.BZ2Decompressor(),
+        "lzma": lambda written: lzma.LZMADecompressor(written.get("format", lzma.FORMAT_XZ), filters=written.get("filters")),
+    }
     is_bounded = True
 
     def __init__(self, configuration):
         self.encode = numcodecs.get_codec(dict(configuration)).encode
-        self.decompressor, self.has_members = self.DECOMPRESSORS[configuration["id"]], configuration["id"] == "gzip"
+        self.decompressor = lambda: self.DECOMPRESSORS[configuration["id"]](configuration)
+        self.has_members = configuration["id"] == "gzip"
 
     def decode(self, stored, most):
         decoded, rest = b"", bytes(ensure_contiguous_ndarray(stored).view("u1"))
@@ -428,13 +462,13 @@ class Crc32c:
         return held[:-4]
 
 
-class CheckedZstd:
+class CheckedZstd(Zstd):
     """Zstandard with a checksum, which numcodecs reads and Debian's doesn't write."""
 
     def __init__(self, level):
+        super().__init__(numcodecs.Zstd(level))
         zstandard = imported("zstandard", "python3-zstandard", "the codec zstd with a checksum")
         self.encode = zstandard.ZstdCompressor(level=level, write_checksum=True).compress
-        self.decode = numcodecs.Zstd(level).decode
 
 
 def imported(module, package, wanted_by):
@@ -447,6 +481,8 @@ def imported(module, package, wanted_by):
 def ended_by(main):
     """Runs the main function of a script. What it refuses, and what the system refuses it, goes to standard error."""
     try:
+        if None in (sys.stdin, sys.stdout):
+            raise Refused("standard input or standard output is closed")
         main()
     except (Refused, OSError) as error:
         sys.exit(f"{pathlib.Path(sys.argv[0]).name}: {error}")

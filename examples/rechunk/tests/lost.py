@@ -156,13 +156,17 @@ def odd_files(chunkplan, generator, moves):
 
 def bombs(chunkplan, generator, moves):
     """Chunks of a few bytes that would be decoded to many: no more is decoded than may belong to them."""
-    zeros = 2**25
+    zeros = 2**23
     gzip, plain, bz2 = numcodecs.GZip(9), numcodecs.Zlib(9), numcodecs.BZ2(9)
     thrice = gzip.encode(gzip.encode(of_zeros(zeros, 31)))
     rows = [
         ("gzip, three times", [gzip, gzip], gzip, thrice),
         ("zlib", [], plain, of_zeros(zeros, 15)),
         ("bz2", [plain], bz2, bz2.encode(of_zeros(zeros, 15))),
+        *(
+            (codec.codec_id, [], codec, codec.encode(bytes(zeros)))
+            for codec in (numcodecs.LZMA(), numcodecs.LZ4(), numcodecs.Zstd(), numcodecs.Blosc())
+        ),
     ]
     for what, filters, compressor, stored in rows:
         with tempfile.TemporaryDirectory() as folder:
@@ -174,6 +178,23 @@ def bombs(chunkplan, generator, moves):
             yield f"{what}: {len(stored)} bytes", told.returncode == 1 and "can't be decoded: more than" in told.stderr and told.stdout == ""
 
 
+def deep_texts(chunkplan, generator, moves):
+    """JSON that is nested more deeply than it can be read, and standard streams that are closed: one line says so."""
+    with tempfile.TemporaryDirectory() as folder:
+        ends = two_arrays(pathlib.Path(folder))
+        deep, stored = "[" * 10**5, (ends[0] / ".zarray").read_text()
+        told = tool("copy_chunks.py", *ends, input=deep)
+        yield "a line", told.returncode == 1 and "this is no line of a plan" in told.stderr and len(told.stderr.splitlines()) == 1
+        for stream in (0, 1):
+            told = tool("document_of.py", *ends, preexec_fn=lambda: os.close(stream))
+            yield f"stream {stream}", (told.returncode, told.stderr) == (1, "document_of.py: standard input or standard output is closed\n")
+        (ends[0] / ".zarray").write_text(deep)
+        told = tool("document_of.py", *ends)
+        yield "metadata", told.returncode == 1 and "isn't the metadata of an array" in told.stderr and len(told.stderr.splitlines()) == 1
+        (ends[0] / ".zarray").write_text(stored)
+        yield "as it was", tool("document_of.py", *ends).returncode == 0
+
+
 def of_zeros(count, window):
     """So many zero bytes, compressed piece by piece."""
     compressor, piece = zlib.compressobj(9, wbits=window), bytes(2**20)
@@ -181,4 +202,4 @@ def of_zeros(count, window):
 
 
 if __name__ == "__main__":
-    moves.main([in_mid_run, other_keys, missing_chunks, finished_rooms, file_names, odd_files, bombs])
+    moves.main([in_mid_run, other_keys, missing_chunks, finished_rooms, file_names, odd_files, deep_texts, bombs])
