@@ -51,6 +51,7 @@ class Room:
 
     def __init__(self, archive, room):
         with tarfile.open(archive) as packed:
+            expect("the modes in the archive", {entry.mode for entry in packed if not entry.issym()}, {0o644, 0o755})
             packed.extractall(room)
         (self.folder,) = [path for path in room.iterdir() if path.is_dir()]
         self.home = room / "home"

@@ -46,7 +46,7 @@ import uuid
 import numpy
 
 from region import add_region, region_between
-from stored_arrays import UNFINISHED, Refused, ended_by, open_array
+from stored_arrays import UNFINISHED, Refused, ended_by, on_a_line, open_array
 
 
 class Sources:
@@ -391,7 +391,7 @@ def copy(lines, source, target, region, words):
     try:
         for text in lines:
             if text.startswith(FOREIGN):
-                print(f"copy_chunks.py: {target.folder} has a key that isn't its own: {text.strip()}", file=sys.stderr)
+                print(on_a_line(f"copy_chunks.py: {target.folder} has a key that isn't its own: {text.strip()}"), file=sys.stderr)
                 continue
             line = line_of(text, source, target, region)
             of = line["of"]

@@ -478,6 +478,11 @@ def imported(module, package, wanted_by):
         raise Refused(f"{wanted_by} needs the module {module} (Debian: {package})") from None
 
 
+def on_a_line(told):
+    """A text for standard error. Line feeds in it, and signs that steer a terminal, are escaped."""
+    return "".join(sign if sign.isprintable() else repr(sign)[1:-1] for sign in str(told))
+
+
 def ended_by(main):
     """Runs the main function of a script. What it refuses, and what the system refuses it, goes to standard error."""
     try:
@@ -485,4 +490,4 @@ def ended_by(main):
             raise Refused("standard input or standard output is closed")
         main()
     except (Refused, OSError) as error:
-        sys.exit(f"{pathlib.Path(sys.argv[0]).name}: {error}")
+        sys.exit(f"{pathlib.Path(sys.argv[0]).name}: {on_a_line(error)}")

@@ -178,19 +178,25 @@ def bombs(chunkplan, generator, moves):
             yield f"{what}: {len(stored)} bytes", told.returncode == 1 and "can't be decoded: more than" in told.stderr and told.stdout == ""
 
 
-def deep_texts(chunkplan, generator, moves):
-    """JSON that is nested more deeply than it can be read, and standard streams that are closed: one line says so."""
+def hostile_texts(chunkplan, generator, moves):
+    """JSON that is nested more deeply than it can be read, signs that steer a terminal, and closed streams: one line says so."""
     with tempfile.TemporaryDirectory() as folder:
         ends = two_arrays(pathlib.Path(folder))
         deep, stored = "[" * 10**5, (ends[0] / ".zarray").read_text()
         told = tool("copy_chunks.py", *ends, input=deep)
         yield "a line", told.returncode == 1 and "this is no line of a plan" in told.stderr and len(told.stderr.splitlines()) == 1
+        told = tool("copy_chunks.py", *ends, input='{"foreign":"a\x1b[2J\x85"}\n')
+        yield "a key", told.stderr.splitlines()[0].endswith(r"""a key that isn't its own: {"foreign":"a\x1b[2J\x85"}""")
         for stream in (0, 1):
             told = tool("document_of.py", *ends, preexec_fn=lambda: os.close(stream))
             yield f"stream {stream}", (told.returncode, told.stderr) == (1, "document_of.py: standard input or standard output is closed\n")
         (ends[0] / ".zarray").write_text(deep)
         told = tool("document_of.py", *ends)
         yield "metadata", told.returncode == 1 and "isn't the metadata of an array" in told.stderr and len(told.stderr.splitlines()) == 1
+        (ends[0] / ".zarray").write_text(json.dumps({**json.loads(stored), "compressor": {"id": "\n\r\x1b[2J\x85\u2028\u2029"}}))
+        told = tool("document_of.py", *ends)
+        yield "signs that steer", told.returncode == 1 and r"the codec \n\r\x1b[2J\x85\u2028\u2029 isn't known here" in told.stderr
+        yield "one line", told.stderr.endswith("\n") and told.stderr[:-1].isprintable()
         (ends[0] / ".zarray").write_text(stored)
         yield "as it was", tool("document_of.py", *ends).returncode == 0
 
@@ -202,4 +208,4 @@ def of_zeros(count, window):
 
 
 if __name__ == "__main__":
-    moves.main([in_mid_run, other_keys, missing_chunks, finished_rooms, file_names, odd_files, deep_texts, bombs])
+    moves.main([in_mid_run, other_keys, missing_chunks, finished_rooms, file_names, odd_files, hostile_texts, bombs])

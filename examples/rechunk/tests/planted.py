@@ -123,6 +123,7 @@ PLANTED = [
         "lost.py odd_files",
     ),
     ("a chunk's file is read whatever its length", [("stored_arrays.py", "if status.st_size > self.most():", "if False:")], "lost.py odd_files"),
+    ("a fault's text steers the terminal", [("stored_arrays.py", "if sign.isprintable()", "if sign")], "lost.py hostile_texts"),
     ("the memory that a chunk asks for isn't looked at", [("stored_arrays.py", "if self.size(stored) > most:", "if False:")], "lost.py bombs"),
     (
         "a chunk is decoded to its end",
