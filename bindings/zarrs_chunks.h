@@ -29,7 +29,8 @@
  * numbers of an answer that isn't there stay as they were, after ZARRS_OK.
  *
  * The caller sees to it that each pointer points to as many items as it says, that they are aligned to their type, and that what is written to
- * overlaps no other buffer of the call and is touched by no other thread until the call returns. Besides:
+ * overlaps no other buffer of the call and is touched by no other thread until the call returns. No thread changes a text that is read until then:
+ * it is read more than once. Besides:
  *
  * - A call needs at most ZARRS_STACK bytes of stack. Most of that is for metadata that nest: JSON is read 127 deep, also in members that say nothing.
  *   What says nothing but a grid or an encoding needs a quarter of it.
