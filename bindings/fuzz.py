@@ -31,7 +31,7 @@ sys.path[:0] = [str(HERE / "python"), str(HERE), str(HERE.parent / "tools")]
 sys.dont_write_bytecode = True
 from byte_ranges import byte_ranges as model_ranges, great_boxes, small_boxes  # noqa: E402
 from call_names import CALLS, OF_RECTILINEAR, WALKS  # noqa: E402
-from chunk_plans import changed_chunks_by_boxes, share as share_of_lines  # noqa: E402
+from chunk_plans import changed_chunks_by_numbers, share as share_of_lines  # noqa: E402
 from extensions import GREATEST, Refused, grid_metadata, regular  # noqa: E402
 from memory import set_most, used  # noqa: E402
 
@@ -505,11 +505,11 @@ def ask_changed(rng):
 
     def right(resized):
         try:
-            return [boxes for _what, boxes in sorted(changed_chunks_by_boxes(model, Model(model.metadata(), resized)).items())]
+            return [*changed_chunks_by_numbers(model, Model(model.metadata(), resized)).values()]
         except Refused as refused:
             raise Refused(f"field `resize`: {refused.text}") from refused
 
-    check_one([boxes for _what, boxes in sorted(vars(answer).items())] if is_answered else answer, is_answered, [drawn], right)
+    check_one([list(numbers) for _what, numbers in sorted(vars(answer).items())] if is_answered else answer, is_answered, [drawn], right)
 
 
 def ask_bytes(rng):

@@ -29,7 +29,7 @@ from call_names import CALLS
 from chunk_grids import Grid as Model
 from chunk_grids import first_of, numbers_in, overlap
 from chunk_keys import Encoding as ModelKeys
-from chunk_plans import changed_chunks, fault_of_boxes
+from chunk_plans import changed_chunks, fault_of_numbers
 from chunk_plans import share as share_of_lines
 from extensions import GREATEST, Refused, grid_metadata, regular
 from faults import seen_parts
@@ -64,7 +64,7 @@ def plain(value):
         whole = {"whole": value.whole} if isinstance(value, RegionCopies) else {}
         return {"from": plain(value.sources), "to": {"chunk": plain(value.chunk), "key": value.key}, **whole}
     if isinstance(value, ChangedChunks):
-        return {what: plain(getattr(value, what)) for what in ("delete", "keep", "new", "rewrite")}
+        return {what: plain(getattr(value, what)) for what in ("after", "before", "kept")}
     if isinstance(value, dict):
         return {name: plain(part) for name, part in value.items()}
     return [plain(part) for part in value] if isinstance(value, (list, tuple)) else value
@@ -795,7 +795,7 @@ def changed(tally):
         for chunk in was.keys() & now.keys():
             right["keep" if np.array_equal(was[chunk], now[chunk]) else "rewrite"].add(chunk)
         found, lists = Grid(shape, regular(*edges)).changed_chunks(resized), {what: [*map(list, chunks)] for what, chunks in right.items()}
-        tally.same(f"chunks of {edges} from {shape} to {resized}", fault_of_boxes(plain(found), lists, len(shape)), None)
+        tally.same(f"chunks of {edges} from {shape} to {resized}", fault_of_numbers(plain(found), lists), None)
     for _ in range(200):
         shape = [generator.number(9) for _ in range(generator.random.randint(0, 4))]
         resized = [size if generator.one_in(2) else generator.number(9) for size in shape]
@@ -806,15 +806,14 @@ def changed(tally):
         except Refused as refused:
             tally.raises(told, ValueError, f"field `resize`: {refused.text}", lambda: grid.changed_chunks(resized))
             continue
-        tally.same(told, fault_of_boxes(plain(grid.changed_chunks(resized)), right, len(shape)), None)
+        tally.same(told, fault_of_numbers(plain(grid.changed_chunks(resized)), right), None)
     great = Grid([GREATEST] * 2, regular(1, 1))
-    right = ChangedChunks(keep=[Box((0, 0), (7, GREATEST))], rewrite=[], delete=[Box((7, 0), (GREATEST - 7, GREATEST))], new=[])
+    right = ChangedChunks(before=(GREATEST, GREATEST), after=(7, GREATEST), kept=(7, GREATEST))
     for shape in ([7, GREATEST], (np.uint64(7), GREATEST), np.array([7, GREATEST], np.uint64), [Index(7), Whole(GREATEST)]):
         tally.same(f"changes of very many chunks to {shape!r}", great.changed_chunks(shape), right)
-    kinds = {type(number) for box in (*right.keep, *great.changed_chunks([7, 7]).delete) for numbers in box for number in numbers}
-    tally.same("the types of boxes", (kinds, {type(box) for box in great.changed_chunks([7, 7]).delete}), ({int}, {Box}))
+    tally.same("the types of numbers", {type(number) for numbers in vars(great.changed_chunks([7, 7])).values() for number in numbers}, {int})
     tally.same("changes are copied", pickle.loads(pickle.dumps(great.changed_chunks([7, GREATEST]))), right)
-    tally.raises("they don't change", dataclasses.FrozenInstanceError, "cannot assign to field 'keep'", lambda: setattr(right, "keep", []))
+    tally.raises("they don't change", dataclasses.FrozenInstanceError, "cannot assign to field 'kept'", lambda: setattr(right, "kept", ()))
     grid, bounds = Grid([5, 7], REGULAR), "shape: numbers are those from 0 to 18446744073709551615, and one is "
     refused = "field `resize`: regular chunk shape and array shape have inconsistent dimensionality"
     for shape in ([], [5], [5, 7, 1]):
@@ -844,7 +843,7 @@ def changes_of_program(tally):
         for line in map(json.loads, ended.stdout.splitlines()):
             lists[line["what"]].append(line["chunk"])
         found = plain(Grid(shape, metadata).changed_chunks(resized))
-        tally.same(f"changes of {document}", (ended.returncode, fault_of_boxes(found, lists, len(shape))), (0, None))
+        tally.same(f"changes of {document}", (ended.returncode, fault_of_numbers(found, lists)), (0, None))
 
 
 # ---- bytes of chunks

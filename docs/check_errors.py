@@ -19,6 +19,7 @@ PRINTED = [
     rf"write(?:ln)?!\(\s*\w+,\s*{TEXT}",
     rf"write_str\(\s*{TEXT}",
     rf"const \w+: &(?:'static )?str\s*=\s*{TEXT}",
+    rf"const \w+: &\[u8\]\s*=\s*b{TEXT}",
 ]
 # What stands before them in a line of `chunkcalls`.
 BEFORE = {"unreadable.rt": "unreadable: ", "line_fault.rt": "refused: "}
@@ -37,7 +38,7 @@ def told():
     for path in sources():
         for pattern in PRINTED:
             for text in re.findall(pattern, path.read_text()):
-                text = BEFORE.get(path.name, "") + re.sub(r"\{[^{}]*\}", "..", text)
+                text = BEFORE.get(path.name, "") + re.sub(r"\{[^{}]*\}", "..", text).removesuffix("\\n")
                 if " " in text and re.search("[a-z]{2}", text):
                     yield text, path.relative_to(ROOT)
 

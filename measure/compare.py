@@ -33,7 +33,7 @@ from call_names import CALLS, OF_BOX, OF_BYTES, OF_CHUNK, OF_INDEX, OF_KEYS, OF_
 from call_names import OF_TARGET, WALKS, WITH_ENCODING  # noqa: E402
 from chunk_grids import MOST_ALONG, Grid, check_box, first_of, numbers_in  # noqa: E402
 from chunk_keys import Encoding  # noqa: E402
-from chunk_plans import changed_chunks, changed_chunks_by_boxes, fault_of_boxes, may_go_through, region, region_by_boxes  # noqa: E402
+from chunk_plans import changed_chunks, changed_chunks_by_numbers, fault_of_numbers, may_go_through, region, region_by_boxes  # noqa: E402
 from chunk_plans import counts as counts_by_element, counts_of_region  # noqa: E402
 from extensions import GREATEST, GRIDS, Refused, regular  # noqa: E402
 from random_arrays import EQUAL, Generator  # noqa: E402
@@ -284,9 +284,9 @@ def model_resize(grid, question):
         resized = Grid(question["chunk_grid"], shape)
     except Refused as refusal:
         raise Refused(refusal.text and f"field `resize`: {refusal.text}") from refusal
-    found = changed_chunks_by_boxes(grid, resized)
+    found = changed_chunks_by_numbers(grid, resized)
     if may_go_through(grid) and may_go_through(resized):
-        fault = fault_of_boxes(found, changed_chunks(grid, resized), len(shape))
+        fault = fault_of_numbers(found, changed_chunks(grid, resized))
         assert fault is None, f"the models differ: {fault}"
     return found
 

@@ -9,6 +9,7 @@ resizes were compared and where the two differ, and then ends with the status 1 
 import collections
 import itertools
 import math
+import operator
 import sys
 
 from chunk_grids import Grid, counts_of, numbers_in
@@ -243,14 +244,10 @@ def changed_chunks(before, after):
     return found
 
 
-def changed_chunks_by_boxes(before, after):
-    """The same as boxes of chunks, of which none is empty: by how many chunks are used along each dimension, for arrays of any
-    size."""
+def changed_chunks_by_numbers(before, after):
+    """The same by how many chunks are used and kept along each dimension, for arrays of any size."""
     was, now = used_along(before), used_along(after)
-    both = [min(pair) for pair in zip(was, now)]
-    kept = kept_along(before, after, both)
-    keep = [] if 0 in kept else [[[0] * len(kept), kept]]
-    return {"delete": outside(both, was), "keep": keep, "new": outside(both, now), "rewrite": outside(kept, both)}
+    return {"after": now, "before": was, "kept": kept_along(before, after, [min(pair) for pair in zip(was, now)])}
 
 
 def used_along(grid):
@@ -270,35 +267,23 @@ def kept_along(before, after, both):
     return [n if held(d, n - 1) == held(e, n - 1) else n - 1 for d, e, n in zip(before.dimensions, after.dimensions, both)]
 
 
-def outside(inner, outer):
-    """The chunks that are below the outer numbers and not below the inner ones, which are no greater, as boxes: what a box
-    from 0 gets as it grows along one dimension after another, from the last one on."""
-    shape, found = list(inner), []
-    for dimension in reversed(range(len(outer))):
-        start, sizes = [0] * len(shape), list(shape)
-        start[dimension], sizes[dimension] = shape[dimension], outer[dimension] - shape[dimension]
-        found += [] if 0 in sizes else [[start, sizes]]
-        shape[dimension] = outer[dimension]
-    return found
-
-
 def may_go_through(grid):
     """Whether an array has few elements, and its chunks short edges, so that it can be gone through."""
     edges = [edge for dimension in grid.dimensions for edge, _ in dimension.pairs]
     return max([*grid.shape, *edges], default=0) <= 100 and math.prod(grid.shape) <= 2000
 
 
-def fault_of_boxes(boxes, chunks, dimensionality):
-    """What is wrong with boxes that tell of some chunks, by what becomes of each, or None: in which order they come, and which
-    boxes they are, is free, but none is empty, there are at most as many of a kind as dimensions, or one, and each chunk is
-    in one box, which is of its kind."""
-    if list(boxes) != sorted(CHANGES):
-        return f"its members are {list(boxes)}"
-    for what, found in boxes.items():
-        if len(found) > max(dimensionality, 1) or any(0 in size for _, size in found):
-            return f"`{what}` has empty boxes, or too many: {found}"
-        if sorted(itertools.chain.from_iterable(numbers_in(*box) for box in found)) != sorted(chunks[what]):
-            return f"`{what}` has other chunks than {chunks[what]}: {found}"
+def fault_of_numbers(answer, chunks):
+    """What is wrong with an answer about a resize, in which each chunk is kept, rewritten, deleted or created; or None."""
+    if list(answer) != ["after", "before", "kept"]:
+        return f"its members are {list(answer)}"
+    found = {what: [] for what in CHANGES}
+    for chunk in itertools.product(*map(range, map(max, answer["after"], answer["before"]))):
+        after, before, kept = (all(map(operator.lt, chunk, answer[numbers])) for numbers in answer)
+        if after or before:
+            found["new" if not before else "delete" if not after else "keep" if kept else "rewrite"].append(list(chunk))
+    if {what: sorted(some) for what, some in found.items()} != {what: sorted(some) for what, some in chunks.items()}:
+        return f"its chunks are {found} and not {chunks}"
     return None
 
 
@@ -388,7 +373,7 @@ def main():
         except Refused:
             continue
         compared += 1
-        fault = fault_of_boxes(changed_chunks_by_boxes(*grids), changed_chunks(*grids), len(shape))
+        fault = fault_of_numbers(changed_chunks_by_numbers(*grids), changed_chunks(*grids))
         if fault:
             differ += 1
             print(f"{metadata} from {shape} to {resized}: {fault}")

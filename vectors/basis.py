@@ -92,7 +92,7 @@ REASONS = [
     (OWN, "`copies`: in which groups, in which order they come, and their pages", lambda row: row.call == "copies"),
     (OWN, "`counts`: which numbers, as factors, and the shares", lambda row: row.call == "counts"),
     (OWN, "regions: what is asked of them, and the same", lambda row: row.call in OF_REGION),
-    (OWN, "resizes: in which boxes chunks are told, and in which order", lambda row: row.call in OF_RESIZE),
+    (OWN, "resizes: which numbers tell of the chunks", lambda row: row.call in OF_RESIZE),
     (OWN, "`byte_ranges`: how the ranges are told, and where there are none", lambda row: row.call in OF_BYTES),
     (OWN, "`first`: a page of a walk", lambda row: "first" in row.vector),
     (OWN, "a chunk that begins or ends past the greatest number", lambda row: row.grid

@@ -6,29 +6,32 @@ from collections.abc import Mapping
 from dataclasses import dataclass
 from typing import Any
 
-from ._boxes import Box, as_box
-
 
 @dataclass(frozen=True)
 class ChangedChunks:
-    """What becomes of the chunks of an array that gets another shape, as boxes of chunks. Each chunk that holds elements of the array, as it was or as
-    it is to be, is in one box; no box is empty, and a list has at most as many as there are dimensions, or one where there are none. Which boxes they
-    are, and in which order they come, isn't promised."""
+    """How many chunks hold elements of an array before and after a resize, and how many of them stay as they are stored, along each dimension.
 
-    keep: list[Box]
-    """Those that stay as they are stored: they hold the same elements as before, and have the same shape."""
-    rewrite: list[Box]
-    """Those that have to be written again: they held elements and are to hold some, but not the same ones, or get another shape."""
-    delete: list[Box]
-    """Those that are to be deleted: they are to hold no element."""
-    new: list[Box]
-    """Those that are to be written: they held no element."""
+    | Chunks that | have numbers |
+    |---|---|
+    | are kept | below `kept` |
+    | are rewritten | below `before` and below `after`, and not below `kept` |
+    | are deleted | below `before`, and not below `after` |
+    | are created | below `after`, and not below `before` |
+
+    The numbers of a chunk are below a list if each is less than the list's number of that dimension."""
+
+    before: tuple[int, ...]
+    """The chunks that hold elements of the array before the resize."""
+    after: tuple[int, ...]
+    """The chunks that hold elements of the array after it."""
+    kept: tuple[int, ...]
+    """The chunks that hold the same elements in both, and have the same shape."""
 
 
 def changed_of(answer: Mapping[str, Any]) -> ChangedChunks:
     """The chunks of an answer to the question `changed_chunks`.
 
-    >>> changed_of({"delete": [], "keep": [[[0], [2]]], "new": [[[3], [1]]], "rewrite": [[[2], [1]]]}).keep
-    [Box(start=(0,), shape=(2,))]
+    >>> changed_of({"after": [4], "before": [3], "kept": [2]})
+    ChangedChunks(before=(3,), after=(4,), kept=(2,))
     """
-    return ChangedChunks(**{what: [as_box(box) for box in answer[what]] for what in ("keep", "rewrite", "delete", "new")})
+    return ChangedChunks(**{numbers: tuple(answer[numbers]) for numbers in ("before", "after", "kept")})

@@ -545,16 +545,12 @@ class Grid:
         return counts_of(self._ask("counts_of_region", chunk_key_encoding=_ANY_ENCODING, target=target._array_text(_ANY_ENCODING), **region))
 
     def changed_chunks(self, shape: npt.ArrayLike) -> ChangedChunks:
-        """What becomes of the chunks of the array where it gets another shape, and the `chunk_grid` stays: which are kept as they are stored, written
-        again, deleted or new, as boxes of chunks. They are few, however many chunks there are. Raises ValueError where the `chunk_grid` makes no grid of
-        that shape, as listed edges of another sum.
+        """Returns what becomes of the chunks if the array gets another shape and keeps its `chunk_grid`. Raises ValueError if the `chunk_grid` makes no
+        grid of that shape, as listed edges of another sum.
 
         >>> grid = Grid([5, 7], {"name": "regular", "configuration": {"chunk_shape": [2, 3]}})
-        >>> changed = grid.changed_chunks([8, 4])
-        >>> changed.keep, changed.delete, changed.new
-        ([Box(start=(0, 0), shape=(2, 1))], [Box(start=(0, 2), shape=(3, 1))], [Box(start=(3, 0), shape=(1, 2))])
-        >>> sorted(changed.rewrite)
-        [Box(start=(0, 1), shape=(2, 1)), Box(start=(2, 0), shape=(1, 2))]
+        >>> grid.changed_chunks([8, 4])
+        ChangedChunks(before=(3, 3), after=(4, 2), kept=(2, 1))
         """
         return changed_of(self._ask("changed_chunks", resize=list_of_numbers("shape", shape).tolist()))
 

@@ -69,7 +69,7 @@ pub use run_fault::RunFault;
 use std::alloc::Global;
 use std::io::{Read, Write};
 pub use streams::Watched;
-use streams::{Lines, write_all};
+use streams::{Escaped, Lines, write_all};
 
 /// Runs the program, tells its fault in one line, if it had one, and answers the status to end with:
 /// 0 where the run succeeded, and 1 after a fault.
@@ -202,5 +202,9 @@ pub fn finish<W: Write>(outcome: &Result<(), RunFault>, errors: &mut W) -> u8
     ensures status { MatchResult outcome.now (λ _. result ≡ 0) (λ _. result ≡ 1) }
     ensures silent { OnOk outcome.now (Keeps (W.contents errors.old) (W.contents errors.new)) }
 {
-    streams::finish("chunkplan", outcome, errors)
+    let outcome = match outcome {
+        Ok(()) => Ok(()),
+        Err(fault) => Err(Escaped(fault)),
+    };
+    streams::finish("chunkplan", &outcome, errors)
 }

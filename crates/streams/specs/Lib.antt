@@ -1,3 +1,4 @@
+pub mod OneLine
 pub mod Streams
 pub mod Watched
 pub mod seen

@@ -3,7 +3,6 @@ pub mod BeforeShares
 pub mod Between
 pub mod BoxCounts
 pub mod BoxCover
-pub mod BoxesOfChanges
 pub mod ByNumber
 pub mod ByteRows
 pub mod ChosenShapes

@@ -168,8 +168,8 @@ module _ (start shape chunk : List ℕ) (within : AreWithin start shape chunk) w
       omega arith
 
 -- the number that is found in a box fits, and is that of the chunk
-pub counted_within : (b : Box) (start shape chunk : List ℕ) → start ≡ b.start → shape ≡ b.shape → IsInside b chunk → length (chunks_in b) < 2 ^ 32
-    → AreWithin start shape chunk × (place_of start shape chunk < 2 ^ 32)
+pub counted_within : (b : Box) (start shape chunk : List ℕ) → start ≡ b.start → shape ≡ b.shape → IsInside b chunk → length (chunks_in b) < 2 ^ 29
+    → AreWithin start shape chunk × (place_of start shape chunk < 2 ^ 29)
     × (slice_get (chunks_in b) (place_of start shape chunk) ≡ Some chunk)
 counted_within b start shape chunk starts sizes inside few =
     let within : AreWithin start shape chunk = rw (starts, sizes) inside in

@@ -10,7 +10,7 @@ use Rattle.zarrs_chunk_base.specs.ArraySubset.{AreWithin, Box, IsBox, IsEmptyBox
 use Rattle.zarrs_chunk_axes.specs.InBounds.{AreBelow}
 use Rattle.zarrs_chunks.specs.Walks.{chunks_in, counted_from}
 use Rattle.zarrs_chunks.proofs.ChunksInBoxes.{are_those_inside, chunks_once}
-use Rattle.zarrs_chunk_plan.specs.seen.Outside.{AreOnce, AreSome, IsOutside, IsToldBefore, chunks_of_boxes, lesser}
+use Rattle.zarrs_chunk_plan.specs.seen.Outside.{AreOnce, IsOutside, IsToldBefore, chunks_of_boxes, lesser}
 use Rattle.zarrs_chunk_plan.proofs.Between.{none_below}
 use Rattle.zarrs_chunk_plan.proofs.BoxCover.{below_from_zero}
 use Rattle.zarrs_chunk_plan.proofs.Joined.{pairs_of_both}
@@ -65,8 +65,6 @@ pub record HasGrown (inner outer : List ℕ) (left : ℕ) (shape : List ℕ) (bo
   pub those : (chunk : List ℕ) → AreBelow shape chunk ↔ (AreBelow inner chunk ⊎ Contains (chunks_of_boxes boxes) chunk)
   pub apart : (chunk : List ℕ) → AreBelow inner chunk → ¬ Contains (chunks_of_boxes boxes) chunk
   pub once : AreOnce (chunks_of_boxes boxes)
-  pub some : AreSome boxes
-  pub few : length boxes + left ≤ length outer
 
 each_within : (inner outer : List ℕ) → AllZip ◌≤◌ inner outer → (k : ℕ) → k < length outer → get_or inner k 0 ≤ get_or outer k 0
 each_within (m ∷ inner) (n ∷ outer) all zero within = all.0
@@ -75,7 +73,7 @@ each_within [] [] all k within = absurd (omega arith)
 each_within [] (_ ∷ _) all k within = absurd all
 each_within (_ ∷ _) [] all k within = absurd all
 
-pub both_long : (inner outer : List ℕ) → AllZip ◌≤◌ inner outer → length inner ≡ length outer
+both_long : (inner outer : List ℕ) → AllZip ◌≤◌ inner outer → length inner ≡ length outer
 both_long [] [] all = refl
 both_long (_ ∷ inner) (_ ∷ outer) all = ap suc (both_long inner outer all.1)
 both_long [] (_ ∷ _) all = absurd all
@@ -92,8 +90,6 @@ not_grown inner outer all = record {
   those = λ chunk. (λ below. inl below, λ either. ⊎_elim (λ below. below) (λ has. absurd (none_in chunk has)) either);
   apart = λ chunk below. none_in chunk;
   once = λ i j d before within. absurd (omega arith);
-  some = tt;
-  few = omega arith;
 }
 
 -- the chunks of one box more
@@ -107,20 +103,15 @@ no_box_more boxes added empty =
     let nothing : chunks_in added ≡ [] = ap (map (counted_from added.start)) (none_below added.shape empty) in
     rw nothing (sym (append-nil (chunks_of_boxes boxes)))
 
-pub some_more : (boxes : List Box) (added : Box) → (¬ IsEmptyBox added) → AreSome boxes → AreSome (boxes ++ added ∷ [])
-some_more [] added some all = (some, tt)
-some_more (_ ∷ boxes) added some all = (all.0, some_more boxes added some all.1)
-
 pub grown_more : (inner outer : List ℕ) (left : ℕ) (shape : List ℕ) (boxes more : List Box) (added : Box) → left < length outer
     → HasGrown inner outer (suc left) shape boxes → IsBox added
-    → chunks_of_boxes more ≡ chunks_of_boxes boxes ++ chunks_in added → (AreSome boxes → AreSome more) → length more ≤ length boxes + 1
+    → chunks_of_boxes more ≡ chunks_of_boxes boxes ++ chunks_in added
     → ((chunk : List ℕ) → AreBelow (set shape left (get_or outer left 0)) chunk ↔ (AreBelow shape chunk ⊎ IsInside added chunk))
     → ((chunk : List ℕ) → AreBelow shape chunk → ¬ IsInside added chunk)
     → HasGrown inner outer left (set shape left (get_or outer left 0)) more
-grown_more inner outer left shape boxes more added below_all so_far is_box are some few both differ =
+grown_more inner outer left shape boxes more added below_all so_far is_box are both differ =
     let size = get_or outer left 0 in
     let long = so_far.long in
-    let few_so_far = so_far.few in
     let in_added = are_those_inside added is_box in
     record {
       long = length-set shape left size ∙ long;
@@ -164,8 +155,6 @@ grown_more inner outer left shape boxes more added below_all so_far is_box are s
           (pairs_of_both (λ one other. one ≢ other) (chunks_of_boxes boxes) (chunks_in added) so_far.once (chunks_once added is_box)
           (λ one other was new same.
           differ other ((so_far.those other).1 (inr (subst (Contains (chunks_of_boxes boxes)) same was))) ((in_added other).0 new)));
-      some = some so_far.some;
-      few = omega arith;
     }
   where
     other : (k size : ℕ) → k < length outer → k ≢ left → get_or (set shape left size) k 0 ≤ get_or outer k 0

@@ -1,9 +1,9 @@
 -- An array that gets another shape: which of its chunks stay as they are stored, and which don't. What each chunk holds is said of two grids, that of
 -- the array as it was and that of the array as it is to be.
 -- Sources: Zarr V3 core, chunk grids and chunk key encodings; the plan of a resize is this library's own.
-use Rattle.std.specs.Prelude.{◌≡◌, ◌≢◌, ◌↔◌, ◌⊎◌, ◌<◌, ◌≤◌, ℕ, Bool, IsTrue, List, Option, MatchOption, length}
+use Rattle.std.specs.Prelude.{◌≡◌, ◌≢◌, ◌↔◌, ◌⊎◌, ◌<◌, ℕ, Bool, IsTrue, List, Option, MatchOption}
 use Rattle.std.specs.List.{AllPairs, AllZip, Contains}
-use Rattle.zarrs_chunk_base.specs.ArraySubset.{Box, IsBox, IsInside}
+use Rattle.zarrs_chunk_base.specs.ArraySubset.{IsBox, IsInside}
 use Rattle.zarrs_chunk_base.specs.Dimension.{Dimension, Holds, InBox, IsShape, array_sizes}
 use Rattle.zarrs_chunk_axes.specs.InBounds.{AreBelow}
 use Rattle.zarrs_chunk_parts.specs.Plan.{Meets}
@@ -13,7 +13,6 @@ use Rattle.zarrs_chunk_plan.specs.declared.resize.Change.{Change}
 use Rattle.zarrs_chunk_plan.specs.declared.resize.Change.TheVariants.{Delete, Keep, New, Rewrite}
 use Rattle.zarrs_chunk_plan.specs.declared.resize.ChunkChange.{ChunkChange}
 use Rattle.zarrs_chunk_plan.specs.declared.resize.Held.{Held}
-use Rattle.zarrs_chunk_plan.specs.seen.Outside.{AreOnce, AreSome, chunks_of_boxes}
 
 -- An index below both array sizes lies in the same chunk of either. So it is of grids that one configuration makes.
 pub record IsResized (before after : Dimension) : Type 0 where
@@ -78,23 +77,9 @@ pub record IsResizePlan (before after : List Dimension) (IsKey : List ℕ → Li
   pub are_chunks : AreChanged before after keeps chunks
   pub are_changes : AllZip (IsChange before after IsKey) chunks changes
 
--- a box a dimension at most; of the chunks that are kept, one
-abbrev pub most_boxes : (what : Change) → (dimensions : ℕ) → ℕ
-most_boxes Keep dimensions = 1
-most_boxes Rewrite dimensions = dimensions
-most_boxes Delete dimensions = dimensions
-most_boxes New dimensions = dimensions
-
--- the boxes have the chunks of which this becomes, each once; none is empty, and they are few
-pub record AreBoxesOf (before after : List Dimension) (what : Change) (boxes : List Box) : Type 0 where
-  pub are_those : (chunk : List ℕ) → Contains (chunks_of_boxes boxes) chunk ↔ IsChanged before after chunk what
-  pub once : AreOnce (chunks_of_boxes boxes)
-  pub some : AreSome boxes
-  pub few : length boxes ≤ most_boxes what (length before)
-
--- and so of each that may become of a chunk
+-- Along each dimension, how many chunks hold elements of the array before the resize, and after it, and how many are kept. A chunk is one of them if
+-- its numbers are below the list.
 pub record AreChangedChunks (before after : List Dimension) (changed : ChangedChunks) : Type 0 where
-  pub keep : AreBoxesOf before after Keep changed.keep.items
-  pub rewrite : AreBoxesOf before after Rewrite changed.rewrite.items
-  pub delete : AreBoxesOf before after Delete changed.delete.items
-  pub new : AreBoxesOf before after New changed.new.items
+  pub used_before : (chunk : List ℕ) → AreBelow changed.before.items chunk ↔ IsUsed before chunk
+  pub used_after : (chunk : List ℕ) → AreBelow changed.after.items chunk ↔ IsUsed after chunk
+  pub kept : (chunk : List ℕ) → AreBelow changed.kept.items chunk ↔ IsKept before after chunk

@@ -1,33 +1,38 @@
-//! What becomes of the chunks of an array that gets another shape, in boxes of chunks.
+//! What becomes of the chunks of an array that gets another shape, by three lists of numbers.
 ghost use Rattle.std.specs.Prelude.{◌≡◌, ◌≢◌, IfErr, IfOk, length};
 ghost use Rattle.zarrs_chunk_base.specs.Refusal.{HasMemory, OrMemory, TellsLengths};
 ghost use Rattle.zarrs_chunk_plan.specs.Resize.{AreChangedChunks, AreResized};
 
-use crate::outside::{below, outside};
 use crate::resize::{expect_as_many, uses_of};
-use crate::used::lesser;
 use std::alloc::Global;
-use zarrs_chunk_base::{ArraySubset, IncompatibleDimensionalityError, Refusal};
+use zarrs_chunk_base::{ArrayShape, IncompatibleDimensionalityError, Refusal};
 use zarrs_chunks::ChunkGridTraits;
 
-/// The chunks of an array that gets another shape by what becomes of them, in boxes of chunk numbers. No box is empty, and no chunk lies in two.
+/// How many chunks hold elements of an array before and after a resize, and how many of them stay as they are stored, along each dimension.
+///
+/// | Chunks that | have numbers |
+/// |---|---|
+/// | are kept | below `kept` |
+/// | are rewritten | below `before` and below `after`, and not below `kept` |
+/// | are deleted | below `before`, and not below `after` |
+/// | are created | below `after`, and not below `before` |
+///
+/// The numbers of a chunk are below a list if each is less than the list's number of that dimension.
 #[derive(Debug, Drop)]
 pub struct ChangedChunks {
-    /// Those that stay as they are stored, in one box at most.
-    pub keep: Vec<ArraySubset>,
-    /// Those that have to be written again, in as many boxes as the array has dimensions, at most.
-    pub rewrite: Vec<ArraySubset>,
-    /// Those that are to be deleted, in as many boxes at most.
-    pub delete: Vec<ArraySubset>,
-    /// Those that are to be written, and held no element of the array, in as many boxes at most.
-    pub new: Vec<ArraySubset>,
+    /// The chunks that hold elements of the array before the resize.
+    pub before: ArrayShape,
+    /// The chunks that hold elements of the array after it.
+    pub after: ArrayShape,
+    /// The chunks that hold the same elements in both, and have the same shape.
+    pub kept: ArrayShape,
 }
 
-/// What becomes of the chunks of an array that gets another shape, in boxes: of the chunks that hold elements of the array as it was, by one grid, or
-/// as it is to be, by another one. [`changes`](crate::changes) walks over the same chunks, and tells of each what it holds.
+/// Returns what becomes of the chunks of an array that gets another shape, by its grid before and after. [`changes`](crate::changes) walks over the
+/// same chunks, and says what each holds.
 ///
 /// The grids are those that one configuration makes of the two array shapes, or others by which, along each dimension, an index below both
-/// array sizes lies in the same chunk; of other grids nothing is said. Which boxes these are, and their order, isn't promised.
+/// array sizes lies in the same chunk; of other grids nothing is said.
 ///
 /// It takes the time and the memory of a few covers, however many chunks there are.
 ///
@@ -49,16 +54,5 @@ pub fn changed_chunks<G: ChunkGridTraits, H: ChunkGridTraits>(
         → HasMemory result }
 {
     expect_as_many(before, after)?;
-    let uses = uses_of(alloc, before, after)?;
-    let both = lesser(alloc, &uses.before, &uses.after)?;
-    let keep = below(alloc, &uses.kept)?;
-    let rewrite = outside(alloc, &uses.kept, &both)?;
-    let delete = outside(alloc, &both, &uses.before)?;
-    let new = outside(alloc, &both, &uses.after)?;
-    Ok(ChangedChunks {
-        keep,
-        rewrite,
-        delete,
-        new,
-    })
+    Ok(uses_of(alloc, before, after)?)
 }

@@ -1,22 +1,15 @@
 //! The walk over the changes of a resize.
 use crate::boxes_from_zero::whole_array;
+use crate::changed::ChangedChunks;
 use crate::chunks_between::ChunksBetween;
 use crate::numbered_chunks::count_of;
 use crate::resize::{Change, ChunkChange, Held};
 use crate::share::Share;
 use crate::used::held_by;
 use std::alloc::{AllocError, Global};
-use zarrs_chunk_base::{ArrayShape, ArraySubset};
+use zarrs_chunk_base::ArraySubset;
 use zarrs_chunk_keys::ChunkKeyEncodingTraits;
 use zarrs_chunks::{ArrayIndicesTinyVec, ChunkGridTraits};
-
-/// For each dimension how many chunks hold elements of the array as it was and as it is to be, and how many are kept.
-#[derive(Debug, Drop)]
-pub(crate) struct Uses {
-    pub(crate) before: ArrayShape,
-    pub(crate) after: ArrayShape,
-    pub(crate) kept: ArrayShape,
-}
 
 /// What becomes of the chunks of an array that gets another shape, one chunk after another, each once, in no order that is promised.
 ///
@@ -30,7 +23,7 @@ pub struct Changes<'a, G, H, E> {
     /// The box of all elements of the array as it was, and of the array as it is to be.
     array_before: ArraySubset,
     array_after: ArraySubset,
-    uses: Uses,
+    uses: ChangedChunks,
     /// The chunks, in boxes, and which box comes next.
     boxes: Vec<ArraySubset>,
     next_box: usize,
@@ -57,7 +50,7 @@ impl<'a, G: ChunkGridTraits, H: ChunkGridTraits, E: ChunkKeyEncodingTraits> Chan
         before: &'a G,
         after: &'a H,
         encoding: &'a E,
-        uses: Uses,
+        uses: ChangedChunks,
         boxes: Vec<ArraySubset>,
     ) -> Result<Changes<'a, G, H, E>, AllocError>
         ensures left { IfOk result (λ walk. changes_to_come walk ≡ chunks_of_boxes boxes.items) }

@@ -1,10 +1,10 @@
 //! The chunks that are below one list of numbers and not below another, as boxes.
-ghost use Rattle.std.specs.Prelude.{◌≡◌, ◌↔◌, ◌⊎◌, ◌+◌, ◌<◌, ◌≤◌, ◌++◌, ℕ, IfOk, List, OnOk, get_or, length, set};
+ghost use Rattle.std.specs.Prelude.{◌≡◌, ◌↔◌, ◌⊎◌, ◌<◌, ◌≤◌, ◌++◌, ℕ, IfOk, List, OnOk, get_or, length, set};
 ghost use Rattle.std.specs.List.{AllZip, Contains};
 ghost use Rattle.zarrs_chunk_base.specs.ArraySubset.{IsBox, IsInside};
 ghost use Rattle.zarrs_chunk_axes.specs.InBounds.{AreBelow};
 ghost use Rattle.zarrs_chunks.specs.Walks.{chunks_in};
-ghost use Rattle.zarrs_chunk_plan.specs.seen.Outside.{AreOnce, AreSome, IsOutside, chunks_of_boxes};
+ghost use Rattle.zarrs_chunk_plan.specs.seen.Outside.{AreOnce, IsOutside, chunks_of_boxes};
 
 use crate::boxes_from_zero::{box_from_zero, zeros};
 use std::alloc::{AllocError, Global};
@@ -19,16 +19,13 @@ pub(crate) fn below(alloc: Global, sizes: &[u64]) -> Result<Vec<ArraySubset>, Al
     ensures those { IfOk result (λ boxes. (chunk : List ℕ)
         → Contains (chunks_of_boxes boxes.items) chunk ↔ AreBelow sizes.now chunk) }
     ensures once { IfOk result (λ boxes. AreOnce (chunks_of_boxes boxes.items)) }
-    ensures some { IfOk result (λ boxes. AreSome boxes.items) }
-    ensures few { IfOk result (λ boxes. length boxes.items ≤ 1) }
 {
     let mut boxes = Vec::with_capacity(alloc, 1)?;
     push_some(&mut boxes, box_from_zero(alloc, sizes)?)?;
     Ok(boxes)
 }
 
-/// The chunks that are below one list of numbers and not below another, in boxes of which none is empty and no two have one chunk: a box a dimension
-/// at most.
+/// The chunks that are below one list of numbers and not below another, in boxes of which no two have one chunk.
 ///
 /// # Errors
 /// Out of memory.
@@ -41,8 +38,6 @@ pub(crate) fn outside(
     ensures those { IfOk result (λ boxes. (chunk : List ℕ)
         → Contains (chunks_of_boxes boxes.items) chunk ↔ IsOutside inner.now outer.now chunk) }
     ensures once { IfOk result (λ boxes. AreOnce (chunks_of_boxes boxes.items)) }
-    ensures some { IfOk result (λ boxes. AreSome boxes.items) }
-    ensures few { IfOk result (λ boxes. length boxes.items ≤ length outer.now) }
 {
     let mut shape = Vec::from_slice(alloc, inner)?;
     let mut boxes = Vec::with_capacity(alloc, outer.len())?;
@@ -61,8 +56,6 @@ pub(crate) fn outside(
 fn push_some(boxes: &mut Vec<ArraySubset>, added: ArraySubset) -> Result<(), AllocError>
     ensures chunks { OnOk result (chunks_of_boxes boxes.new.items
         ≡ chunks_of_boxes boxes.old.items ++ chunks_in added) }
-    ensures some { OnOk result (AreSome boxes.old.items → AreSome boxes.new.items) }
-    ensures few { OnOk result (length boxes.new.items ≤ length boxes.old.items + 1) }
 {
     if added.is_empty() {
         return Ok(());

@@ -7,7 +7,8 @@ ghost use Rattle.zarrs_chunk_plan.specs.Resize.{AreChanged, AreResized, IsKept, 
 ghost use Rattle.zarrs_chunk_plan.specs.seen.Changes.{CanChange, IsAboutResize, all_changes, changes_to_come};
 ghost use Rattle.zarrs_chunk_plan.specs.seen.Outside.{AreOnce, IsOutside, IsToldBefore, chunks_of_boxes, lesser};
 
-use crate::chunk_changes::{Changes, Uses};
+use crate::changed::ChangedChunks;
+use crate::chunk_changes::Changes;
 use crate::outside::{below, outside};
 use crate::used::{kept_along, lesser, used_along};
 use std::alloc::{AllocError, Global};
@@ -120,7 +121,7 @@ pub(crate) fn uses_of<G: ChunkGridTraits, H: ChunkGridTraits>(
     alloc: Global,
     before: &G,
     after: &H,
-) -> Result<Uses, AllocError>
+) -> Result<ChangedChunks, AllocError>
     requires { length (H.dimensions after.now) ≡ length (G.dimensions before.now) }
     ensures before { IfOk result (λ uses. (chunk : List ℕ) → AreBelow uses.before.items chunk
         ↔ IsUsed (G.dimensions before.now) chunk) }
@@ -139,7 +140,7 @@ pub(crate) fn uses_of<G: ChunkGridTraits, H: ChunkGridTraits>(
     let used_before = used_along(alloc, before)?;
     let used_after = used_along(alloc, after)?;
     let kept = kept_along(alloc, before, after, &used_before, &used_after)?;
-    Ok(Uses {
+    Ok(ChangedChunks {
         before: used_before,
         after: used_after,
         kept,
@@ -150,7 +151,11 @@ pub(crate) fn uses_of<G: ChunkGridTraits, H: ChunkGridTraits>(
 ///
 /// # Errors
 /// Out of memory.
-fn boxes_of_changes(alloc: Global, uses: &Uses, keeps: bool) -> Result<Vec<ArraySubset>, AllocError>
+fn boxes_of_changes(
+    alloc: Global,
+    uses: &ChangedChunks,
+    keeps: bool,
+) -> Result<Vec<ArraySubset>, AllocError>
     requires at_most { AllZip ◌≤◌ uses.now.kept.items uses.now.before.items }
     requires lengths { length uses.now.after.items ≡ length uses.now.before.items }
     ensures those { IfOk result (λ boxes. (chunk : List ℕ)
@@ -170,7 +175,11 @@ fn boxes_of_changes(alloc: Global, uses: &Uses, keeps: bool) -> Result<Vec<Array
 ///
 /// # Errors
 /// Out of memory.
-fn boxes_before(alloc: Global, uses: &Uses, keeps: bool) -> Result<Vec<ArraySubset>, AllocError>
+fn boxes_before(
+    alloc: Global,
+    uses: &ChangedChunks,
+    keeps: bool,
+) -> Result<Vec<ArraySubset>, AllocError>
     requires at_most { AllZip ◌≤◌ uses.now.kept.items uses.now.before.items }
     ensures those { IfOk result (λ boxes. (chunk : List ℕ)
         → Contains (chunks_of_boxes boxes.items) chunk

@@ -25,7 +25,7 @@ pub struct StoredChunks {
     targets: ArraySubset,
     /// For each of these, in row-major order, a bit, 64 in a number, the first one in its lowest bit: whether its key was listed.
     bits: Vec<u64>,
-    ghost few: { length (chunks_in targets) < 2 ^ 32 },
+    ghost few: { length (chunks_in targets) < 2 ^ 29 },
     ghost enough: { length (chunks_in targets) ≤ 64 * length bits.items },
 }
 
@@ -90,18 +90,18 @@ impl<G, E, H: ChunkGridTraits, F: ChunkKeyEncodingTraits> Copies<'_, G, E, H, F>
     ghost use Rattle.zarrs_chunk_plan.specs.seen.Copies.{all_targets, target_of};
     ghost use Rattle.zarrs_chunk_plan.specs.seen.StoredChunks.{Knows};
 
-    /// Of all chunks that something is copied into, none is known to be stored yet; `None` where they are 4294967296 or more. It takes a bit for
+    /// Of all chunks that something is copied into, none is known to be stored yet; `None` where they are 536870912 or more. It takes a bit for
     /// each of them, wherever the walk is.
     ///
     /// # Errors
     /// Out of memory.
     pub fn none_stored(&self, alloc: Global) -> Result<Option<StoredChunks>, AllocError>
         ensures none { IfOk result (λ found. MatchOption found
-            (2 ^ 32 ≤ length (all_targets self.now))
+            (2 ^ 29 ≤ length (all_targets self.now))
             (Knows (H.dimensions (target_of self.now).grid) (F.is_key (target_of self.now).encoding)
             (all_targets self.now) [])) }
         ensures few { IfOk result (λ found. IfSome found
-            (λ _. length (all_targets self.now) < 2 ^ 32)) }
+            (λ _. length (all_targets self.now) < 2 ^ 29)) }
     {
         let targets = self.targets().box_of_all();
         let Some(words) = words_for(targets.shape()) else {
@@ -118,12 +118,12 @@ impl<G, E, H: ChunkGridTraits, F: ChunkKeyEncodingTraits> Copies<'_, G, E, H, F>
 }
 
 /// How many chunks have a bit each, at most.
-const MOST: u64 = (1 << 32) - 1;
+const MOST: u64 = (1 << 29) - 1;
 
-/// How many numbers of 64 bits have a bit for each list below a shape; `None` where there are 4294967296 or more of these.
+/// How many numbers of 64 bits have a bit for each list below a shape; `None` where there are 536870912 or more of these.
 fn words_for(shape: &[u64]) -> Option<usize>
-    ensures { MatchOption result (2 ^ 32 ≤ length (row_major shape.now))
-        (λ words. (length (row_major shape.now) < 2 ^ 32)
+    ensures { MatchOption result (2 ^ 29 ≤ length (row_major shape.now))
+        (λ words. (length (row_major shape.now) < 2 ^ 29)
         × (length (row_major shape.now) ≤ 64 * words)) }
 {
     let count = count_below(shape);
@@ -162,7 +162,7 @@ fn chunk_in<F: ChunkKeyEncodingTraits>(
 /// The number of a chunk among those in a box of chunk numbers, counted from 0 in row-major order.
 fn number_in(chunks: &ArraySubset, chunk: &[u64]) -> u64
     requires inside { IsInside chunks.now chunk.now }
-    requires few { length (chunks_in chunks.now) < 2 ^ 32 }
+    requires few { length (chunks_in chunks.now) < 2 ^ 29 }
     ensures number { slice_get (chunks_in chunks.now) result ≡ Some chunk.now }
     ensures is_box { IsBox chunks.now }
 {

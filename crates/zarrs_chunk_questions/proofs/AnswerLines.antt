@@ -3,10 +3,11 @@ use Rattle.std.proofs.Common.{◌≡◌, ◌∙◌, ℕ, List, Result, Ok, Err, 
 use Rattle.serde_json.specs.Data.{Data}
 use Rattle.serde_json.specs.View.{view}
 use Rattle.serde_json.specs.declared.value.Value.{Value}
+use Rattle.streams.specs.OneLine.{line_of}
 use Rattle.zarrs_chunk_base.specs.Refusal.{OrMemory}
 use Rattle.zarrs_chunk_base.specs.declared.refusal.Refusal.{Refusal}
 use Rattle.zarrs_chunk_base.specs.declared.refusal.Refusal.TheVariants.{Refused, Memory}
-use Rattle.zarrs_chunk_questions.specs.AnswerLine.{IsAnswerLine, Tells, answered, line_of, no_question, no_text, refused, unreadable}
+use Rattle.zarrs_chunk_questions.specs.AnswerLine.{IsAnswerLine, Tells, answered, no_question, no_text, refused, unreadable}
 use Rattle.zarrs_chunk_questions.specs.Reading.{Fault, Reading}
 use Rattle.zarrs_chunk_questions.specs.declared.line_fault.LineFault.{LineFault}
 use Rattle.zarrs_chunk_questions.specs.declared.line_fault.LineFault.TheVariants.{Unreadable as UnreadableFault}

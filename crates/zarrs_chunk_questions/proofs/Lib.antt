@@ -1,7 +1,6 @@
 pub mod FirstFaults
 pub mod Refusals
 pub mod ResizedGrids
-pub mod LineFeeds
 pub mod AnswerLines
 pub mod SomeItems
 pub mod GroupPages

@@ -27,7 +27,6 @@ use Rattle.zarrs_chunk_plan.specs.declared.numbered_parts.SomeParts.{SomeParts}
 use Rattle.zarrs_chunk_questions.specs.Answers.{IsAnswer, IsArrayAnswer, IsBoxAnswer, IsGridAnswer, IsNumbersAnswer, edges_tree, items_tree}
 use Rattle.zarrs_chunk_questions.specs.Answers.{located_tree}
 use Rattle.zarrs_chunk_questions.specs.Bytes.{ranges_tree}
-use Rattle.zarrs_chunk_questions.specs.Changed.{boxes_tree}
 use Rattle.zarrs_chunk_questions.specs.Counts.{count_tree, counts_tree, line_number_tree}
 use Rattle.zarrs_chunk_questions.specs.Pages.{chunks_from, first_of, group_tree, is_more, item_tree, item_trees, count_of, page_tree, part_tree}
 use Rattle.zarrs_chunk_questions.specs.Pages.{parts_tree, source_tree, walk_page}
@@ -164,9 +163,6 @@ of_counts (number, of) many =
 
 -- ---- of a question
 
-of_boxes : (boxes : List Box) → HasNone (boxes_tree boxes)
-of_boxes boxes = no_float_mapped box_tree a_box boxes
-
 of_an_array : (shape : List ℕ) (own : Data) (asked : Asked) (kind : GridKind) (grid : Grid) (t : Data) → IsArrayAnswer shape own asked kind grid t
     → HasNone t
 of_an_array shape own (of_grid call) kind grid t is = of_alone call kind grid t is
@@ -198,7 +194,7 @@ of_an_array shape own (counts_of_region tree target share region) kind grid t is
 of_an_array shape own (changed_chunks resize) kind grid t is =
     let changed = is.changed in
     ap has_float is.same
-    ∙ rw (of_boxes changed.delete.items, of_boxes changed.keep.items, of_boxes changed.new.items, of_boxes changed.rewrite.items) refl
+    ∙ rw (no_float_in_numbers changed.after.items, no_float_in_numbers changed.before.items, no_float_in_numbers changed.kept.items) refl
 
 of_ranges : (ranges : ByteRanges) → HasNone (ranges_tree ranges)
 of_ranges ranges = rw (no_float_in_numbers ranges.counts.items, no_float_in_numbers ranges.strides.items) refl

@@ -1,24 +1,17 @@
 -- The line that answers a line.
 -- Sources: RFC 8259, and JSON Lines; the words are this library's own.
-use Rattle.std.specs.Prelude.{◌≡◌, ℕ, ◌==◌, if◌then◌else◌, List, ◌++◌, map, codes, Ok, Err}
+use Rattle.std.specs.Prelude.{◌≡◌, ℕ, List, ◌++◌, codes, IsSome, Ok, Err}
 use Rattle.serde_json.specs.Data.{Data}
 use Rattle.serde_json.specs.Written.{compact_text}
+use Rattle.streams.specs.OneLine.{IsOneLine, line_of}
 use Rattle.zarrs_chunk_base.specs.Json.{IsJsonOf}
 use Rattle.zarrs_chunk_questions.specs.Answers.{IsAnswer}
-use Rattle.zarrs_chunk_questions.specs.Line.{IsOneLine}
-use Rattle.zarrs_chunk_questions.specs.Question.{IsReading, Question}
+use Rattle.zarrs_chunk_questions.specs.Question.{IsReading, Question, items_asked}
 use Rattle.zarrs_chunk_questions.specs.Reading.{Fault, not_json, words_of}
 use Rattle.zarrs_chunk_questions.specs.Refused.{IsRefusal}
 use Rattle.zarrs_chunk_questions.specs.declared.line_fault.LineFault.{LineFault}
 use Rattle.zarrs_chunk_questions.specs.declared.line_fault.LineFault.TheVariants.{Unreadable}
 use Rattle.zarrs_chunk_questions.specs.seen.Read.{fault_of}
-
--- a text as one line: each line feed in it as a space, and one at its end
-abbrev pub unbroken : ℕ → ℕ
-unbroken byte = if byte == 10 then 32 else byte
-
-abbrev pub line_of : List ℕ → List ℕ
-line_of text = map unbroken text ++ codes "\n"
 
 -- what tells that a line can't be read
 abbrev pub unreadable : Fault → List ℕ
@@ -38,6 +31,10 @@ pub data IsAnswerLine (line answer : List ℕ) : Type 0 where
       → answer ≡ line_of (compact_text tree) → IsAnswerLine line answer
   refused : (d : Data) (question : Question) (fault : LineFault) (text : List ℕ) → IsJsonOf line d → IsReading d (Ok question)
       → IsRefusal question fault → Tells fault text → answer ≡ line_of text → IsAnswerLine line answer
+
+-- the line asks for some items of a walk or of a plan
+abbrev pub AsksForItems : List ℕ → Type 0
+AsksForItems line = (d : Data) × (question : Question) × IsJsonOf line d × IsReading d (Ok question) × IsSome (items_asked question)
 
 -- one line, which answers this one
 abbrev pub IsAnswerTo : (line answer : List ℕ) → Type 0

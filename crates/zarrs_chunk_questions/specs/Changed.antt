@@ -1,27 +1,21 @@
 -- The answer to `changed_chunks`: what becomes of the chunks of an array that gets another shape.
 -- Sources: Zarr V3 core, chunk grids; the plan of a resize and the form are this library's own.
-use Rattle.std.specs.Prelude.{◌≡◌, ℕ, List, codes, map}
-use Rattle.serde_json.specs.Data.{Data, array, member, no_members, object}
-use Rattle.serde_json.specs.View.{items_of}
-use Rattle.zarrs_chunk_base.specs.ArraySubset.{Box}
+use Rattle.std.specs.Prelude.{◌≡◌, ℕ, List, codes}
+use Rattle.serde_json.specs.Data.{Data, member, no_members, object}
 use Rattle.zarrs_chunk_base.specs.Grid.{Grid}
 use Rattle.zarrs_chunks.specs.GridKinds.{GridKind, IsGridIn}
 use Rattle.zarrs_chunk_plan.specs.Resize.{AreChangedChunks}
 use Rattle.zarrs_chunk_plan.specs.declared.changed.ChangedChunks.{ChangedChunks}
-use Rattle.zarrs_chunk_questions.specs.Trees.{box_tree}
+use Rattle.zarrs_chunk_questions.specs.Trees.{numbers_tree}
 
 -- ---- the form
 
-abbrev pub boxes_tree : List Box → Data
-boxes_tree boxes = array (items_of (map box_tree boxes))
-
--- the boxes of the chunks by what becomes of them
+-- along each dimension, how many chunks hold elements of the array after the resize, and before it, and how many are kept
 abbrev pub changed_tree : ChangedChunks → Data
 changed_tree changed =
-    object (member (codes "delete") (boxes_tree changed.delete.items)
-    (member (codes "keep") (boxes_tree changed.keep.items)
-    (member (codes "new") (boxes_tree changed.new.items)
-    (member (codes "rewrite") (boxes_tree changed.rewrite.items) no_members))))
+    object (member (codes "after") (numbers_tree changed.after.items)
+    (member (codes "before") (numbers_tree changed.before.items)
+    (member (codes "kept") (numbers_tree changed.kept.items) no_members)))
 
 -- ---- of a question
 

@@ -4,7 +4,6 @@ pub mod Bytes
 pub mod Calls
 pub mod Changed
 pub mod Counts
-pub mod Line
 pub mod Order
 pub mod Pages
 pub mod Question

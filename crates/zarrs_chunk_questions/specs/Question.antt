@@ -79,6 +79,14 @@ pub data Question : Type 0 where
   decode : (encoding : Data) (key : List ℕ) (dimensionality : ℕ) → Question
   byte_ranges : (asked : BytesAsked) → Question
 
+-- the items that are asked for, if some items of a walk or of a plan are
+abbrev pub items_asked : Question → Option Items
+items_asked (of_array shape chunk_grid (of_walk walk items)) = Some items
+items_asked (of_array shape chunk_grid (parts encoding items b)) = Some items
+items_asked (of_array shape chunk_grid (copies encoding target items chunks)) = Some items
+items_asked (of_array shape chunk_grid (copies_of_region encoding target items region)) = Some items
+items_asked _ = None
+
 -- ---- how it is read, and the first fault of a tree that asks nothing
 
 abbrev pub numbers_in : Data → Reading (List ℕ)

@@ -1,10 +1,10 @@
 //! The line that answers a line.
-ghost use Rattle.std.specs.Prelude.{◌≡◌, ℕ, IfOk, IfSome, List, MatchResult, string_bytes};
+ghost use Rattle.std.specs.Prelude.{◌≡◌, ℕ, IfOk, IfSome, List, MatchResult, None, string_bytes};
 ghost use Rattle.serde_json.specs.View.{view};
+ghost use Rattle.streams.specs.OneLine.{IsOneLine, line_of};
 ghost use Rattle.zarrs_chunk_base.specs.Refusal.{OrMemory};
-ghost use Rattle.zarrs_chunk_questions.specs.AnswerLine.{IsAnswerLine, Tells, line_of, unbroken as unbroken_of};
-ghost use Rattle.zarrs_chunk_questions.specs.Line.{IsOneLine};
-ghost use Rattle.zarrs_chunk_questions.specs.seen.Lines.{IsAnswerText, IsLineAnswer, IsLineFault, IsTreeAnswer, IsQuestionFault};
+ghost use Rattle.zarrs_chunk_questions.specs.AnswerLine.{AsksForItems, IsAnswerLine, Tells};
+ghost use Rattle.zarrs_chunk_questions.specs.seen.Lines.{IsAnswerText, IsLineAnswer, IsLineFault, IsTreeAnswer, IsQuestionFault, TreeAsksForItems};
 
 use crate::answering::answer_question;
 use crate::line_fault::LineFault;
@@ -12,6 +12,7 @@ use crate::question::Question;
 use crate::unreadable::Unreadable;
 use serde_json::Value;
 use std::alloc::{AllocError, Global};
+use streams::one_line;
 use zarrs_chunk_base::{Refusal, read_json};
 
 /// The line that answers a line: its answer as compact JSON, or why it has none, and a line feed.
@@ -38,6 +39,7 @@ pub fn answer_within(alloc: Global, line: &[u8], room: usize) -> Result<Option<V
     ensures one { IfOk result (λ answer. IfSome answer (λ line. IsOneLine line.items)) }
     ensures says { IfOk result (λ found. IfSome found (λ answer.
         IsAnswerLine line.now answer.items)) }
+    ensures long { IfOk result (λ found. found ≡ None → AsksForItems line.now) }
 {
     match answer_of(alloc, line, room) {
         Ok(Some(tree)) => Ok(Some(write_line(alloc, &Ok(tree))?)),
@@ -59,7 +61,7 @@ fn write_line(
         × (line.items ≡ line_of text)) }
 {
     let text = answer_text(alloc, answered)?;
-    one_line(text)
+    one_line(alloc, &text)
 }
 
 /// The text of an answer, or of why there is none.
@@ -100,8 +102,10 @@ fn fault_text(alloc: Global, fault: &LineFault) -> Result<String, AllocError>
 /// # Errors
 /// The first fault of the line; or out of memory.
 fn answer_of(alloc: Global, line: &[u8], room: usize) -> Result<Option<Value>, Refusal<LineFault>>
-    ensures { MatchResult result (λ found. IfSome found (λ tree. IsLineAnswer line.now (view tree)))
+    ensures answer { MatchResult result
+        (λ found. IfSome found (λ tree. IsLineAnswer line.now (view tree)))
         (OrMemory (IsLineFault line.now)) }
+    ensures long { IfOk result (λ found. found ≡ None → AsksForItems line.now) }
 {
     match read_json(alloc, line)? {
         Some(tree) => answer_tree(alloc, &tree, room),
@@ -115,36 +119,14 @@ fn answer_tree(
     tree: &Value,
     room: usize,
 ) -> Result<Option<Value>, Refusal<LineFault>>
-    ensures { MatchResult result (λ found. IfSome found (λ answer.
+    ensures answer { MatchResult result (λ found. IfSome found (λ answer.
         IsTreeAnswer (view tree.now) (view answer)))
         (OrMemory (IsQuestionFault (view tree.now))) }
+    ensures long { IfOk result (λ found. found ≡ None → TreeAsksForItems (view tree.now)) }
 {
     match Question::from_tree(alloc, tree) {
         Ok(question) => answer_question(alloc, question, room),
         Err(Refusal::Refused(fault)) => Err(Refusal::Refused(LineFault::Unreadable(fault))),
         Err(Refusal::Memory(error)) => Err(Refusal::Memory(error)),
     }
-}
-
-/// A text as one line, in its own memory: each line feed in it as a space, and one at its end.
-///
-/// # Errors
-/// Out of memory.
-fn one_line(text: String) -> Result<Vec<u8>, AllocError>
-    ensures one { IfOk result (λ line. IsOneLine line.items) }
-    ensures says { IfOk result (λ line. line.items ≡ line_of (string_bytes text)) }
-{
-    let mut line = text.into_bytes();
-    for byte in line.iter_mut() {
-        *byte = unbroken(*byte);
-    }
-    line.push(b'\n')?;
-    Ok(line)
-}
-
-/// The byte, or a space for a line feed.
-fn unbroken(byte: u8) -> u8
-    ensures { result ≡ unbroken_of byte }
-{
-    if byte == b'\n' { b' ' } else { byte }
 }

@@ -1,9 +1,9 @@
 //! What answers a question.
-ghost use Rattle.std.specs.Prelude.{IfSome, MatchResult, string_bytes};
+ghost use Rattle.std.specs.Prelude.{◌≡◌, IfOk, IfSome, IsSome, MatchResult, None, string_bytes};
 ghost use Rattle.serde_json.specs.View.{view};
 ghost use Rattle.zarrs_chunk_base.specs.Refusal.{OrMemory};
 ghost use Rattle.zarrs_chunk_questions.specs.Answers.{IsAnswer};
-ghost use Rattle.zarrs_chunk_questions.specs.Question.{decode as decoding, encode as encoding};
+ghost use Rattle.zarrs_chunk_questions.specs.Question.{decode as decoding, encode as encoding, items_asked};
 ghost use Rattle.zarrs_chunk_questions.specs.Refused.{IsRefusal};
 ghost use Rattle.zarrs_chunk_questions.specs.seen.Read.{question_of};
 
@@ -27,9 +27,11 @@ pub(crate) fn answer_question(
     question: Question<'_>,
     room: usize,
 ) -> Result<Option<Value>, Refusal<LineFault>>
-    ensures { MatchResult result (λ found. IfSome found (λ tree.
+    ensures answer { MatchResult result (λ found. IfSome found (λ tree.
         IsAnswer (question_of question.entry) (view tree)))
         (OrMemory (IsRefusal (question_of question.entry))) }
+    ensures long { IfOk result (λ found. found ≡ None
+        → IsSome (items_asked (question_of question.entry))) }
 {
     match question {
         Question::OfArray(shape, chunk_grid, asked) => {

@@ -1,5 +1,5 @@
 //! What is asked of the grid of an array, and what answers it.
-ghost use Rattle.std.specs.Prelude.{◌≡◌, Err, IfOk, IfSome, MatchResult, Ok, Some, length, option_map};
+ghost use Rattle.std.specs.Prelude.{◌≡◌, Err, IfOk, IfSome, IsSome, MatchResult, None, Ok, Some, length, option_map};
 ghost use Rattle.serde_json.specs.View.{view};
 ghost use Rattle.zarrs_chunk_base.specs.Refusal.{OrMemory};
 ghost use Rattle.zarrs_chunk_keys.specs.ChunkKey.{Encoding};
@@ -9,6 +9,7 @@ ghost use Rattle.zarrs_chunks.specs.seen.Grids.{grid_in, kind_in};
 ghost use Rattle.zarrs_chunk_questions.specs.Answers.{IsArrayAnswer, IsLocatedAnswer};
 ghost use Rattle.zarrs_chunk_questions.specs.Counts.{IsSomeCountsAnswer};
 ghost use Rattle.zarrs_chunk_questions.specs.Pages.{IsSomeCopiesAnswer, IsSomePartsAnswer, walk_tree};
+ghost use Rattle.zarrs_chunk_questions.specs.Question.{items_asked, of_array};
 ghost use Rattle.zarrs_chunk_questions.specs.Refused.{IsArrayRefusal, IsLocatedRefusal, IsSomeCopiesRefusal, IsSomePartsRefusal, IsSomeRegionRefusal};
 ghost use Rattle.zarrs_chunk_questions.specs.Regions.{IsSomeRegionCopiesAnswer, IsSomeRegionCountsAnswer};
 ghost use Rattle.zarrs_chunk_questions.specs.seen.Read.{asked_of, items_of, lists_of, region_of, share_of, target_array_of, target_of};
@@ -48,11 +49,13 @@ pub(crate) fn answer_asked(
     room: usize,
 ) -> Result<Option<Value>, Refusal<LineFault>>
     requires { IsGridIn (view chunk_grid.now) shape.now (kind_in grid) (grid_in grid) }
-    ensures { MatchResult result (λ found. IfSome found (λ tree.
+    ensures answer { MatchResult result (λ found. IfSome found (λ tree.
         IsArrayAnswer shape.now (view chunk_grid.now) (asked_of asked.entry) (kind_in grid)
         (grid_in grid) (view tree)))
         (OrMemory (IsArrayRefusal shape.now (view chunk_grid.now) (asked_of asked.entry)
         (kind_in grid) (grid_in grid))) }
+    ensures long { IfOk result (λ found. found ≡ None → IsSome
+        (items_asked (of_array shape.now (view chunk_grid.now) (asked_of asked.entry)))) }
 {
     match asked {
         Asked::OfGrid(call) => Ok(Some(answer_alone(alloc, call, &grid)?)),

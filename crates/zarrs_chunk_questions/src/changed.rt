@@ -4,13 +4,13 @@ ghost use Rattle.serde_json.specs.View.{view};
 ghost use Rattle.zarrs_chunk_base.specs.Refusal.{OrMemory};
 ghost use Rattle.zarrs_chunks.specs.GridKinds.{IsGridIn};
 ghost use Rattle.zarrs_chunks.specs.seen.Grids.{grid_in, kind_in};
-ghost use Rattle.zarrs_chunk_questions.specs.Changed.{IsChangedAnswer, boxes_tree as tree_of_boxes, changed_tree as tree_of_changed};
+ghost use Rattle.zarrs_chunk_questions.specs.Changed.{IsChangedAnswer, changed_tree as tree_of_changed};
 ghost use Rattle.zarrs_chunk_questions.specs.Refused.{IsChangedRefusal};
 
 use crate::line_fault::LineFault;
 use serde_json::{Map, Value};
 use std::alloc::{AllocError, Global};
-use zarrs_chunk_base::{ArraySubset, Refusal, write_box};
+use zarrs_chunk_base::{Refusal, write_list};
 use zarrs_chunk_plan::{ChangedChunks, changed_chunks};
 use zarrs_chunks::ChunkGrid;
 
@@ -57,29 +57,28 @@ fn resized_grid(
     }
 }
 
-/// The tree of what becomes of chunks: `{"delete":[box,..],"keep":[box,..],"new":[box,..],"rewrite":[box,..]}`.
+/// The tree of what becomes of chunks: `{"after":[..],"before":[..],"kept":[..]}`.
 fn changed_tree(alloc: Global, changed: &ChangedChunks) -> Result<Value, AllocError>
     ensures { IfOk result (λ tree. view tree ≡ tree_of_changed changed.now) }
 {
-    let delete = boxes_tree(alloc, &changed.delete)?;
-    let keep = boxes_tree(alloc, &changed.keep)?;
-    let new = boxes_tree(alloc, &changed.new)?;
-    let rewrite = boxes_tree(alloc, &changed.rewrite)?;
     let mut members = Map::new(alloc);
-    serde_json::put(&mut members, alloc, "delete", delete)?;
-    serde_json::put(&mut members, alloc, "keep", keep)?;
-    serde_json::put(&mut members, alloc, "new", new)?;
-    serde_json::put(&mut members, alloc, "rewrite", rewrite)?;
+    serde_json::put(
+        &mut members,
+        alloc,
+        "after",
+        write_list(alloc, &changed.after)?,
+    )?;
+    serde_json::put(
+        &mut members,
+        alloc,
+        "before",
+        write_list(alloc, &changed.before)?,
+    )?;
+    serde_json::put(
+        &mut members,
+        alloc,
+        "kept",
+        write_list(alloc, &changed.kept)?,
+    )?;
     Ok(Value::Object(members))
-}
-
-/// The tree of some boxes.
-fn boxes_tree(alloc: Global, boxes: &[ArraySubset]) -> Result<Value, AllocError>
-    ensures { IfOk result (λ tree. view tree ≡ tree_of_boxes boxes.now) }
-{
-    let mut trees = Vec::new(alloc);
-    for subset in boxes {
-        trees.push(write_box(alloc, subset)?)?;
-    }
-    Ok(Value::Array(trees))
 }

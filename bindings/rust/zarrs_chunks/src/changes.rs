@@ -2,47 +2,43 @@
 
 use crate::error::Result;
 use crate::grid::Grid;
-use crate::memory::push;
 use crate::questions::{self, Member};
 use crate::reader::Reader;
-use crate::subset::ArraySubset;
 
-/// What becomes of the chunks of an array that gets another shape: [`Grid::changed_chunks`] makes
-/// it.
+/// How many chunks hold elements of an array before and after a resize, and how many of them stay
+/// as they are stored, along each dimension: [`Grid::changed_chunks`] makes it.
 ///
-/// Each list has boxes of chunk numbers, in no order that is promised. A chunk that holds elements
-/// of one of the two arrays, and so is used by it, is in one box of one list; no other chunk is in
-/// any. No box is empty, and a list has at most one for each dimension, or one where there are no
-/// dimensions.
+/// | Chunks that | have numbers |
+/// |---|---|
+/// | are kept | below `kept` |
+/// | are rewritten | below `before` and below `after`, and not below `kept` |
+/// | are deleted | below `before`, and not below `after` |
+/// | are created | below `after`, and not below `before` |
+///
+/// The numbers of a chunk are below a list if each is less than the list's number of that
+/// dimension. A chunk that is rewritten is written in its new shape, without the elements that
+/// leave it: so these can't come back if the array grows again.
 ///
 /// # Example
 ///
 /// ```
-/// use zarrs_chunks::{ArraySubset, Grid};
+/// use zarrs_chunks::Grid;
 ///
 /// let chunk_grid = r#"{"name":"regular","configuration":{"chunk_shape":[4]}}"#;
 /// let changed = Grid::new(&[10], chunk_grid)?.changed_chunks(&[14])?;
 /// // The third chunk held two elements, and is to hold four; the fourth one holds the last two.
-/// assert_eq!(changed.keep, [ArraySubset::new_with_ranges(&[0..2])?]);
-/// assert_eq!(changed.rewrite, [ArraySubset::new_with_ranges(&[2..3])?]);
-/// assert_eq!(changed.new, [ArraySubset::new_with_ranges(&[3..4])?]);
-/// assert!(changed.delete.is_empty());
+/// assert_eq!((changed.before, changed.after, changed.kept), (vec![3], vec![4], vec![2]));
 /// # Ok::<(), zarrs_chunks::Error>(())
 /// ```
 #[derive(Debug, Clone, PartialEq, Eq, Hash)]
 #[non_exhaustive]
 pub struct ChangedChunks {
-    /// Chunks that hold the same elements as before, and have the same shape. They stay as they are
-    /// stored.
-    pub keep: Vec<ArraySubset>,
-    /// Other chunks that both arrays use. They are read, and written again in their new shape,
-    /// without the elements that leave them: so these can't come back where the array grows again.
-    pub rewrite: Vec<ArraySubset>,
-    /// Chunks that the old array alone uses. Their keys are deleted.
-    pub delete: Vec<ArraySubset>,
-    /// Chunks that the new array alone uses. They hold the fill value; what is stored under their
-    /// keys from before is deleted.
-    pub new: Vec<ArraySubset>,
+    /// The chunks that hold elements of the array before the resize.
+    pub before: Vec<u64>,
+    /// The chunks that hold elements of the array after it.
+    pub after: Vec<u64>,
+    /// The chunks that hold the same elements in both, and have the same shape.
+    pub kept: Vec<u64>,
 }
 
 impl ChangedChunks {
@@ -51,49 +47,31 @@ impl ChangedChunks {
     }
 }
 
-/// An answer: `{"delete":[..],"keep":[..],"new":[..],"rewrite":[..]}`.
+/// An answer: `{"after":[..],"before":[..],"kept":[..]}`.
 fn changed_chunks(reader: &mut Reader<'_>) -> Result<ChangedChunks> {
-    reader.expect("{\"delete\":")?;
-    let delete = boxes(reader)?;
-    reader.expect(",\"keep\":")?;
-    let keep = boxes(reader)?;
-    reader.expect(",\"new\":")?;
-    let new = boxes(reader)?;
-    reader.expect(",\"rewrite\":")?;
-    let rewrite = boxes(reader)?;
+    reader.expect("{\"after\":")?;
+    let after = reader.list()?;
+    reader.expect(",\"before\":")?;
+    let before = reader.list()?;
+    reader.expect(",\"kept\":")?;
+    let kept = reader.list()?;
     reader.expect("}")?;
-    Ok(ChangedChunks { keep, rewrite, delete, new })
-}
-
-fn boxes(reader: &mut Reader<'_>) -> Result<Vec<ArraySubset>> {
-    let mut boxes = Vec::new();
-    reader.each(|reader| push(&mut boxes, reader.subset()?))?;
-    Ok(boxes)
+    Ok(ChangedChunks { before, after, kept })
 }
 
 #[cfg(test)]
 mod tests {
     use super::changed_chunks;
     use crate::reader::Reader;
-    use crate::subset::ArraySubset;
 
     #[test]
     fn answers_are_read_or_are_none() {
         let read = |line: &str| Reader::read(line, 2, changed_chunks);
-        let line = [
-            r#"{"delete":[[[3,0],[1,4]],[[0,3],[3,1]]],"keep":[[[0,0],[2,2]]],"#,
-            r#""new":[],"rewrite":[[[2,0],[1,3]]]}"#,
-        ]
-        .concat();
-        let line = &line[..];
-        let boxed = |rows, columns| ArraySubset::new_with_ranges(&[rows, columns]).unwrap();
+        let line = r#"{"after":[4,2],"before":[3,3],"kept":[2,1]}"#;
         let found = read(line).unwrap();
-        assert_eq!(found.keep, [boxed(0..2, 0..2)]);
-        assert_eq!(found.rewrite, [boxed(2..3, 0..3)]);
-        assert_eq!(found.delete, [boxed(3..4, 0..4), boxed(0..3, 3..4)]);
-        assert_eq!(found.new, []);
+        assert_eq!((found.before, found.after, found.kept), (vec![3, 3], vec![4, 2], vec![2, 1]));
         for (from, to) in
-            [("[1,4]", "[1]"), ("[]", "null"), ("keep", "kept"), (",\"new\":[]", ""), ("}", "")]
+            [("[4,2]", "[4]"), ("[3,3]", "null"), ("kept", "keep"), (",\"kept\":[2,1]", ""), ("}", "")]
         {
             assert!(read(&line.replacen(from, to, 1)).is_err(), "{from} {to}");
         }

@@ -915,9 +915,9 @@ impl Grid {
         Counts::of_region(self, target, subset, at, share)
     }
 
-    /// What becomes of the chunks where the array gets another shape, in elements, under the same
-    /// `chunk_grid`: which are kept as they are stored, written again, deleted or new. An element
-    /// that both arrays have stays in its chunk, at its place there. It is
+    /// Returns what becomes of the chunks if the array gets another shape, in elements, under the
+    /// same `chunk_grid`: which are kept as they are stored, rewritten, deleted or created. An
+    /// element that both arrays have stays in its chunk, at its place there. It is
     /// [a question](Grid#questions).
     ///
     /// # Errors
@@ -934,13 +934,10 @@ impl Grid {
     ///
     /// let chunk_grid = r#"{"name":"regular","configuration":{"chunk_shape":[4]}}"#;
     /// let (grid, encoding) = (Grid::new(&[10], chunk_grid)?, Encoding::new(r#""default""#)?);
-    /// let mut keys = Vec::new();
-    /// for chunks in grid.changed_chunks(&[5])?.delete {
-    ///     for chunk in chunks.ranges().next().unwrap() {
-    ///         keys.push(encoding.encode(&[chunk])?);
-    ///     }
-    /// }
-    /// assert_eq!(keys, ["c/2"]);
+    /// let changed = grid.changed_chunks(&[5])?;
+    /// let deleted = changed.after[0]..changed.before[0];
+    /// let keys: Result<Vec<_>, _> = deleted.map(|chunk| encoding.encode(&[chunk])).collect();
+    /// assert_eq!(keys?, ["c/2"]);
     /// # Ok::<(), zarrs_chunks::Error>(())
     /// ```
     pub fn changed_chunks(&self, resize: &[u64]) -> Result<ChangedChunks> {

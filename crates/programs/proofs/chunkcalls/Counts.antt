@@ -1,7 +1,7 @@
 -- Counting lines.
 use Rattle.std.proofs.Common.{◌≡◌, ◌≢◌, ℕ, ◌+◌, ◌<◌, List, [], ◌∷◌, ◌++◌, length, refl, length-append, append-nil, append_assoc, arith}
 use Rattle.std.proofs.lemmas.Bool.Decides.{nat_tests}
-use Rattle.zarrs_chunk_questions.specs.Line.{line_feeds, IsOneLine}
+use Rattle.streams.specs.OneLine.{line_feeds, IsOneLine}
 use Rattle.programs.specs.chunkcalls.Lines.{AreAnswers, AreLinesFor, first_line, last_line, line_count, no_line}
 
 line_feeds-append : (front back : List ℕ) → line_feeds (front ++ back) ≡ line_feeds front + line_feeds back

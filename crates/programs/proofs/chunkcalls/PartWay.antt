@@ -1,16 +1,14 @@
 -- What holds after some bytes were read, and the lines that ended in them were answered.
-use Rattle.std.proofs.Common.{◌≡◌, ◌≢◌, ◌∙◌, ℕ, ◌+◌, ◌<◌, List, [], ◌∷◌, ◌++◌, Option, None, Some, Result, Ok, Err, IfSome, OnOk, ap}
+use Rattle.std.proofs.Common.{◌≡◌, ◌∙◌, ℕ, ◌+◌, ◌<◌, List, [], ◌∷◌, ◌++◌, Option, None, Some, Result, Ok, Err, IfSome, OnOk, ap}
 use Rattle.std.proofs.Common.{append-nil, append_assoc, arith, get_or, length, refl, suc, sym, take}
 use Rattle.std.proofs.Math.Seq.{take-suc}
 use Rattle.std.specs.Io.KnownBytes.{Consumes, IsAtEnd}
-use Rattle.zarrs_chunk_questions.specs.Line.{line_feeds}
-use Rattle.zarrs_chunk_questions.specs.AnswerLine.{IsAnswerTo}
-use Rattle.programs.specs.chunkcalls.Lines.{AreAnswers, HoldsAnswers, first_line}
-use Rattle.programs.specs.chunkcalls.seen.Answered.{HasAnsweredPiece}
+use Rattle.programs.specs.chunkcalls.Lines.{AreAnswers, HoldsAnswers, IsReplyTo, first_line}
+use Rattle.programs.specs.chunkcalls.seen.Answered.{HasAnsweredPiece, IsBegun}
 use Rattle.streams.specs.seen.Sent.{IsSent, Output, Sends}
 use Rattle.streams.proofs.Known.{for_both}
 use Rattle.streams.proofs.Sent.{sends_more, sends_nothing}
-use Rattle.programs.proofs.chunkcalls.Counts.{line_feeds-push}
+use Rattle.programs.proofs.chunkcalls.KeptLines.{nothing_begun, of_whole}
 
 -- ---- a piece of the input, byte by byte
 
@@ -20,41 +18,43 @@ take_next piece i within =
     rw next (take-suc piece i 0 within)
 
 module _ (line : List ℕ) (before : Output) where
-  pub no_byte : line_feeds line ≡ 0 → HasAnsweredPiece line [] line before before
-  no_byte unbroken = record {
-    answers = [];
-    sent = sends_nothing before;
-    unbroken = unbroken;
-    answered = λ rest others are. are;
-  }
+  pub no_byte : (held : List ℕ) → IsBegun line held → HasAnsweredPiece line [] held before before
+  no_byte held begun = record { left = line; begun = begun; answers = []; sent = sends_nothing before; answered = λ rest others are. are }
 
-  module _ (piece left : List ℕ) (now : Output) (so_far : HasAnsweredPiece line piece left before now) where
+  module _ (piece held : List ℕ) (now : Output) (so_far : HasAnsweredPiece line piece held before now) where
     -- a byte of the line
-    pub one_byte : (b : ℕ) → b ≢ 10 → HasAnsweredPiece line (piece ++ b ∷ []) (left ++ b ∷ []) before now
-    one_byte b other = record {
+    pub one_byte : (b : ℕ) (more : List ℕ) → IsBegun (so_far.left ++ b ∷ []) more → HasAnsweredPiece line (piece ++ b ∷ []) more before now
+    one_byte b more begun = record {
+      left = so_far.left ++ b ∷ [];
+      begun = begun;
       answers = so_far.answers;
       sent = so_far.sent;
-      unbroken = line_feeds-push left b other so_far.unbroken;
       answered = λ rest others are.
-          rw (append_assoc piece (b ∷ []) rest) (so_far.answered (b ∷ rest) others (rw (append_assoc left (b ∷ []) rest) at are));
+          rw (append_assoc piece (b ∷ []) rest) (so_far.answered (b ∷ rest) others (rw (append_assoc so_far.left (b ∷ []) rest) at are));
     }
 
     -- the line feed that ends it
-    pub one_line : (answer : List ℕ) (after : Output) → IsAnswerTo left answer → IsSent now after answer
+    pub one_line : (answer : List ℕ) (after : Output) → IsReplyTo held answer → IsSent now after answer
         → HasAnsweredPiece line (piece ++ 10 ∷ []) [] before after
-    one_line answer after is sent = record {
-      answers = so_far.answers ++ answer;
-      sent = sends_more before now after.holds so_far.answers answer after.held_back so_far.sent sent;
-      unbroken = refl;
-      answered = λ rest others are.
-          rw (append_assoc piece (10 ∷ []) rest, append_assoc so_far.answers answer others)
-          (so_far.answered (10 ∷ rest) (answer ++ others) (first_line left answer rest others so_far.unbroken is are));
-    }
+    one_line answer after is sent =
+        let begun = so_far.begun in
+        record {
+          left = [];
+          begun = nothing_begun;
+          answers = so_far.answers ++ answer;
+          sent = sends_more before now after.holds so_far.answers answer after.held_back so_far.sent sent;
+          answered = λ rest others are.
+              rw (append_assoc piece (10 ∷ []) rest, append_assoc so_far.answers answer others)
+              (so_far.answered (10 ∷ rest) (answer ++ others)
+              (first_line so_far.left answer rest others begun.unbroken (of_whole so_far.left held answer begun.is_kept is) are));
+        }
 
 -- ---- piece after piece
 
--- The reader has some of the input left, and behind the lines that are answered lies the beginning of one that isn't.
-pub record IsPartWay (input : List ℕ) (before : Output) (left : Option (List ℕ)) (line : List ℕ) (now : Output) : Type 0 where
+-- The reader has some of the input left, and behind the lines that are answered lies the beginning of one that isn't, of which some bytes are held.
+pub record IsPartWay (input : List ℕ) (before : Output) (left : Option (List ℕ)) (held : List ℕ) (now : Output) : Type 0 where
+  pub line : List ℕ
+  pub begun : IsBegun line held
   pub rest : List ℕ
   pub answers : List ℕ
   pub is_left : left ≡ Some rest
@@ -63,6 +63,8 @@ pub record IsPartWay (input : List ℕ) (before : Output) (left : Option (List �
 
 pub part_way_at_start : (input : List ℕ) (before : Output) (left : Option (List ℕ)) → left ≡ Some input → IsPartWay input before left [] before
 part_way_at_start input before left is = record {
+  line = [];
+  begun = nothing_begun;
   rest = input;
   answers = [];
   is_left = is;
@@ -70,25 +72,29 @@ part_way_at_start input before left is = record {
   answered = λ others are. are;
 }
 
-module _ (input : List ℕ) (before : Output) (left : Option (List ℕ)) (line : List ℕ) (now : Output) (way : IsPartWay input before left line now) where
+module _ (input : List ℕ) (before : Output) (left : Option (List ℕ)) (held : List ℕ) (now : Output) (way : IsPartWay input before left held now) where
   -- one piece more, which is answered
-  pub part_way_with : (piece line_after : List ℕ) (left_after : Option (List ℕ)) (after : Output) → Consumes left left_after piece
-      → HasAnsweredPiece line piece line_after now after → IsPartWay input before left_after line_after after
-  part_way_with piece line_after None after consumes answered = absurd (rw way.is_left at consumes)
-  part_way_with piece line_after (Some rest) after consumes answered = record {
+  pub part_way_with : (piece held_after : List ℕ) (left_after : Option (List ℕ)) (after : Output) → Consumes left left_after piece
+      → HasAnsweredPiece way.line piece held_after now after → IsPartWay input before left_after held_after after
+  part_way_with piece held_after None after consumes answered = absurd (rw way.is_left at consumes)
+  part_way_with piece held_after (Some rest) after consumes answered = record {
+    line = answered.left;
+    begun = answered.begun;
     rest = rest;
     answers = way.answers ++ answered.answers;
     is_left = refl;
     sent = sends_more before now after.holds way.answers answered.answers after.held_back way.sent answered.sent;
     answered = λ others are.
-        let there : (all : List ℕ) → AreAnswers (line ++ (piece ++ rest)) all → AreAnswers input (way.answers ++ all) =
+        let there : (all : List ℕ) → AreAnswers (way.line ++ (piece ++ rest)) all → AreAnswers input (way.answers ++ all) =
         rw (rw way.is_left at consumes) at way.answered in
         rw (append_assoc way.answers answered.answers others) (there (answered.answers ++ others) (answered.answered rest others are));
   }
 
   -- what was held back is sent
-  pub part_way_sent : (after : Output) → IsSent now after [] → IsPartWay input before left line after
+  pub part_way_sent : (after : Output) → IsSent now after [] → IsPartWay input before left held after
   part_way_sent after sent = record {
+    line = way.line;
+    begun = way.begun;
     rest = way.rest;
     answers = way.answers;
     is_left = way.is_left;
@@ -98,7 +104,7 @@ module _ (input : List ℕ) (before : Output) (left : Option (List ℕ)) (line :
 
   -- at the end of the input, where what is left of the line was answered too
   pub part_way_at_end : (buffer : List ℕ) (count : ℕ) (left_after : Option (List ℕ)) (answers : List ℕ) (after : Output)
-      → Consumes left left_after (take count buffer) → count ≡ 0 → IsAtEnd left_after → AreAnswers line answers → IsSent now after answers
+      → Consumes left left_after (take count buffer) → count ≡ 0 → IsAtEnd left_after → AreAnswers way.line answers → IsSent now after answers
       → (all : List ℕ) × AreAnswers input all × IsSent before after all
   part_way_at_end buffer count None answers after consumes zero end are sent = absurd (rw way.is_left at consumes)
   part_way_at_end buffer count (Some rest) answers after consumes zero end are sent =
@@ -112,9 +118,9 @@ module _ (input : List ℕ) (before : Output) (left : Option (List ℕ)) (line :
 
 module _ {T E : Type 0} where
   -- an answer was sent
-  pub answer_sent : (end : Result T E) (line answer bytes : List ℕ) (before after : Output) → bytes ≡ answer → IsAnswerTo line answer
+  pub answer_sent : (end : Result T E) (line answer bytes : List ℕ) (before after : Output) → bytes ≡ answer → IsReplyTo line answer
       → (rest : List ℕ) × Sends before bytes after.holds rest × OnOk end (rest ≡ after.held_back)
-      → OnOk end ((answer : List ℕ) × IsAnswerTo line answer × IsSent before after answer)
+      → OnOk end ((answer : List ℕ) × IsReplyTo line answer × IsSent before after answer)
   answer_sent (Ok _) line answer bytes before after same is (rest, sends, all) = (answer, is, rw (same, all) at sends)
   answer_sent (Err _) line answer bytes before after same is sent = tt
 

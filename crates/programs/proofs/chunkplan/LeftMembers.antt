@@ -12,7 +12,7 @@ use Rattle.programs.specs.declared.chunkplan.run_fault.RunFault.TheVariants.{Oth
 use Rattle.programs.specs.chunkplan.Document.{HasBox, HasNumbers, HasOr, HasRanges, IsBoxIn, IsCopying, IsOfArray, IsOfType, IsTask, IsTaskTo, Task, copy_to}
 use Rattle.programs.specs.chunkplan.Document.{HasIfAny, RangesWanted, line_order_in, read_of, rechunk_by_source, rechunk_to, rechunk_within}
 use Rattle.programs.specs.chunkplan.Document.{resize_to}
-use Rattle.programs.specs.chunkplan.Document.{stage_in}
+use Rattle.programs.specs.chunkplan.Document.{most_in, stage_in}
 use Rattle.programs.specs.chunkplan.DocumentFault.{HasBoxFault, HasFormFault, HasRangesFault, IsCopyingFault, IsTargetMisfit, IsTaskFault}
 use Rattle.programs.specs.chunkplan.DocumentFault.{IsTaskToFault, of_item_size, of_max_ranges, of_memory_order, of_ranges}
 use Rattle.programs.specs.chunkplan.DocumentFault.{IsTypeMisfit, of_at, of_chunks, of_clip, of_copying, of_keep, of_misfit}
@@ -59,7 +59,7 @@ module _ (d left : Data) (item : get (codes "item_size") left ≡ get (codes "it
   has_ranges (Some ranges) ((m, there, is), in_order, up_to) = (
     (m, sym item ∙ there, is),
     has_or order_in C d left (codes "memory_order") ranges.order order in_order,
-    has_or size_of 0 d left (codes "max_ranges") ranges.most most up_to,
+    has_or most_in 0 d left (codes "max_ranges") ranges.most most up_to,
   )
 
   pub has_ranges_fault : (fault : RunFault) → HasRangesFault left fault → HasRangesFault d fault
@@ -68,7 +68,7 @@ module _ (d left : Data) (item : get (codes "item_size") left ≡ get (codes "it
       of_memory_order m n (sym item ∙ there) size (has_form_fault order_in d left (codes "memory_order") fault order is)
   has_ranges_fault fault (of_max_ranges m n in_order there size has is) =
       of_max_ranges m n in_order (sym item ∙ there) size (has_or order_in C d left (codes "memory_order") in_order order has)
-      (has_form_fault size_of d left (codes "max_ranges") fault most is)
+      (has_form_fault most_in d left (codes "max_ranges") fault most is)
 
 -- ---- a target of the array
 

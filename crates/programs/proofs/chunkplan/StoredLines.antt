@@ -42,7 +42,7 @@ none_noted target IsKeyOf targets stored text knows none = record {
 module _ (target : List Dimension) (IsKeyOf : List ℕ → List ℕ → Type 0) (targets keys : List (List ℕ)) (stored : StoredChunks)
     (groups : List Group) (IsGroupOf : List ℕ → Group → Type 0)
     (numbers : (chunk : List ℕ) (group : Group) → IsGroupOf chunk group → group.0.chunk.items ≡ chunk) (are : AllZip IsGroupOf targets groups)
-    (few : length targets < 2 ^ 32) where
+    (few : length targets < 2 ^ 29) where
   module _ (marked : HaveMarked target IsKeyOf targets keys stored) where
     is_listed : (number : ℕ) (chunk : List ℕ) → slice_get targets number ≡ Some chunk
         → IsTrue (is_stored stored number) ↔ IsListed (AsStoreKey IsKeyOf) keys chunk

@@ -1,7 +1,7 @@
 -- Lines of bytes, and what answers them.
-use Rattle.std.specs.Prelude.{◌≡◌, ℕ, ◌+◌, ◌<◌, ◌==◌, ◌||◌, if◌then◌else◌, List, [], ◌∷◌, ◌++◌, length, Option, Some}
-use Rattle.zarrs_chunk_questions.specs.AnswerLine.{IsAnswerTo}
-use Rattle.zarrs_chunk_questions.specs.Line.{line_feeds}
+use Rattle.std.specs.Prelude.{◌≡◌, ℕ, ◌+◌, ◌<◌, ◌≤◌, ◌^◌, ◌==◌, ◌||◌, if◌then◌else◌, List, [], ◌∷◌, ◌++◌, codes, length, Option, Some}
+use Rattle.streams.specs.OneLine.{IsOneLine, line_feeds}
+use Rattle.zarrs_chunk_questions.specs.AnswerLine.{AsksForItems, IsAnswerLine}
 
 -- how many lines there are: each line feed ends one, and so does the last byte
 abbrev pub line_count : List ℕ → ℕ
@@ -18,12 +18,27 @@ abbrev pub HasAnswered : (input held : List ℕ) → Option (List ℕ) → Type 
 HasAnswered input held holds =
     (answers : List ℕ) × AreLinesFor input answers × (holds ≡ Some (held ++ answers))
 
+-- how many bytes a line may have
+abbrev pub longest_line : ℕ
+longest_line = 2 ^ 24
+
+-- What is written for a line: that it is too long; that the items that it asks for are; or its answer.
+pub data IsReply (line reply : List ℕ) : Type 0 where
+  long_line : longest_line < length line → reply ≡ codes "unreadable: line is longer than 16777216 bytes\n" → IsReply line reply
+  long_answer : length line ≤ longest_line → AsksForItems line
+      → reply ≡ codes "refused: answer is too long: ask for fewer `items`, and for the others by `first`\n" → IsReply line reply
+  answered : length line ≤ longest_line → IsAnswerLine line reply → IsReply line reply
+
+-- one line, which is written for this one
+abbrev pub IsReplyTo : (line reply : List ℕ) → Type 0
+IsReplyTo line reply = IsOneLine reply × IsReply line reply
+
 -- The answers to the lines of an input, in order. Where there are no bytes, there is no line; where there are some, but no line feed, they are the
 -- last line; else the first line stands before the first line feed, and the others behind it.
 pub data AreAnswers : (input answers : List ℕ) → Type 0 where
   no_line : AreAnswers [] []
-  last_line : (line answer : List ℕ) → 0 < length line → line_feeds line ≡ 0 → IsAnswerTo line answer → AreAnswers line answer
-  first_line : (line answer others others_answers : List ℕ) → line_feeds line ≡ 0 → IsAnswerTo line answer → AreAnswers others others_answers
+  last_line : (line answer : List ℕ) → 0 < length line → line_feeds line ≡ 0 → IsReplyTo line answer → AreAnswers line answer
+  first_line : (line answer others others_answers : List ℕ) → line_feeds line ≡ 0 → IsReplyTo line answer → AreAnswers others others_answers
       → AreAnswers (line ++ 10 ∷ others) (answer ++ others_answers)
 
 -- the writer held some bytes, and now holds the answers to the input's lines behind them

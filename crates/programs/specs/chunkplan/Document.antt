@@ -3,9 +3,9 @@
 -- `order`, or `max_elements` and `stage`, if they are wanted; for the copy of a region, `target` and `subset`, and `at` if it is wanted. `share` or
 -- `counts` says what is wanted of the plan, if not all lines; beside a target, `keys` that keys of its store stand behind the document. For a resize
 -- it has `resize`, and `keep` if it is wanted, and none of these. What else an array's `zarr.json` has may stand in it and in the target.
-use Rattle.std.specs.Prelude.{◌≡◌, ◌⊎◌, ◌==◌, ℕ, Bool, true, false, if◌then◌else◌, List, [], ◌∷◌, Option, Some, None, IsSome, bytes_eq, codes}
+use Rattle.std.specs.Prelude.{◌≡◌, ◌⊎◌, ◌==◌, ◌^◌, ℕ, Bool, true, false, if◌then◌else◌, List, [], ◌∷◌, Option, Some, None, IsSome, bytes_eq, codes}
 use Rattle.std.specs.Prelude.{MatchOption}
-use Rattle.std.specs.Prelude.{option_and_then, option_map}
+use Rattle.std.specs.Prelude.{nat_lt, option_and_then, option_map}
 use Rattle.std.specs.Int.NonZero.{non_zero_u64_get}
 use Rattle.std.specs.List.{AllByRecursion}
 use Rattle.serde_json.specs.Data.{Data}
@@ -122,11 +122,15 @@ HasOrder d = HasOr line_order_in Target d (codes "order")
 abbrev pub stage_in : Data → Option Stage
 stage_in d = option_and_then (λ n. if n == 1 then Some First else (if n == 2 then Some Second else None)) (size_of d)
 
+-- up to how many ranges a number lists
+abbrev pub most_in : Data → Option ℕ
+most_in d = option_and_then (λ n. if nat_lt (2 ^ 20) n then None else Some n) (size_of d)
+
 -- The member `item_size` is a size from 1 on, and `memory_order` and `max_ranges` say the rest; where it is absent, no ranges are wanted.
 abbrev pub HasRanges : Data → Option RangesWanted → Type 0
 HasRanges d None = get (codes "item_size") d ≡ None
 HasRanges d (Some ranges) = ((m : Data) × (get (codes "item_size") d ≡ Some m) × (edge_of m ≡ Some ranges.item))
-    × HasOr order_in C d (codes "memory_order") ranges.order × HasOr size_of 0 d (codes "max_ranges") ranges.most
+    × HasOr order_in C d (codes "memory_order") ranges.order × HasOr most_in 0 d (codes "max_ranges") ranges.most
 
 -- The member `share` is a list of the share's number, counted from 0, and how many shares there are, which is greater, as of any `Share`; where it
 -- is absent, the share is the one that is the whole plan.

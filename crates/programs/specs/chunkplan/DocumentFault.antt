@@ -13,7 +13,7 @@ use Rattle.documents.specs.Document.{HasAll, HasStored, IsObjectOf, IsShapeFault
 use Rattle.documents.specs.Stored.{Stored}
 use Rattle.programs.specs.chunkplan.Document.{Fit, FitKeys, FitResize, FitTask, HasBox, HasFlag, HasNumbers, HasWanted, IsOfArray, IsOfType, Wanted}
 use Rattle.programs.specs.chunkplan.Document.{FitBound, FitOrder, FitRanges, HasIfAny, HasOr, HasOrder, not_of_bound, not_of_order, not_of_resize}
-use Rattle.programs.specs.chunkplan.Document.{line_order_in, only_with_item_size, stage_in}
+use Rattle.programs.specs.chunkplan.Document.{line_order_in, most_in, only_with_item_size, stage_in}
 use Rattle.programs.specs.chunkplan.Known.{Agree, Differ, HasOnly, IsFirstUnknown, known_members, zarr_json_members}
 use Rattle.programs.specs.chunkplan.RunFault.{of_document}
 use Rattle.programs.specs.declared.chunkplan.run_fault.RunFault.{RunFault}
@@ -168,13 +168,13 @@ HasNumbersFault = HasFormFault (list_of size_of)
 abbrev pub HasOrderFault : Data → RunFault → Type 0
 HasOrderFault d = HasFormFault line_order_in d (codes "order")
 
--- The first fault of how byte ranges are wanted: `item_size` is no size from 1 on; then `memory_order` is no such order; then `max_ranges` no size.
+-- The first fault of how byte ranges are wanted: `item_size` is no size from 1 on; then `memory_order` is no such order; then `max_ranges` no size up to 2^20.
 pub data HasRangesFault (d : Data) (fault : RunFault) : Type 0 where
   of_item_size : HasFormFault edge_of d (codes "item_size") fault → HasRangesFault d fault
   of_memory_order : (m : Data) (item : ℕ) → get (codes "item_size") d ≡ Some m → edge_of m ≡ Some item
       → HasFormFault order_in d (codes "memory_order") fault → HasRangesFault d fault
   of_max_ranges : (m : Data) (item : ℕ) (order : MemoryOrder) → get (codes "item_size") d ≡ Some m → edge_of m ≡ Some item
-      → HasOr order_in C d (codes "memory_order") order → HasFormFault size_of d (codes "max_ranges") fault → HasRangesFault d fault
+      → HasOr order_in C d (codes "memory_order") order → HasFormFault most_in d (codes "max_ranges") fault → HasRangesFault d fault
 
 -- how the target says that it is stored, by the names that a fault calls its members
 abbrev pub IsTargetStoredFault : Data → DocumentFault → Type 0

@@ -91,10 +91,10 @@ foreign_lines (key ∷ keys) = line_of (foreign_json key) ++ foreign_lines keys
 -- ---- both
 
 -- What is written of a share of a plan where a store has these keys: the lines of what it hasn't, and behind them the keys that are none of the
--- target's. The plan has fewer lines than 2 ^ 32, and each key is a text.
+-- target's. The plan has fewer lines than 2 ^ 29, and each key is a text.
 pub record IsMissingText (target : List Dimension) (IsKeyOf : List ℕ → List ℕ → Type 0) (keys : List (List ℕ)) (share : Share) (groups : List Group)
     (text : List ℕ) : Type 0 where
-  pub few : length groups < 2 ^ 32
+  pub few : length groups < 2 ^ 29
   pub are_texts : (key : List ℕ) → Contains keys key → IsUtf8 key
   pub is_there : ℕ → Group → Bool
   pub tells : TellsThere IsKeyOf keys groups is_there
@@ -104,6 +104,6 @@ pub record IsMissingText (target : List Dimension) (IsKeyOf : List ℕ → List 
 
 -- the fault says that the plan has too many lines; or else that a key is no text
 abbrev pub IsKeysFault : List Group → (keys : List (List ℕ)) → RunFault → Type 0
-IsKeysFault groups keys TooManyForKeys = 2 ^ 32 ≤ length groups
-IsKeysFault groups keys KeyNotText = (length groups < 2 ^ 32) × (key : List ℕ) × Contains keys key × (¬ IsUtf8 key)
+IsKeysFault groups keys TooManyForKeys = 2 ^ 29 ≤ length groups
+IsKeysFault groups keys KeyNotText = (length groups < 2 ^ 29) × (key : List ℕ) × Contains keys key × (¬ IsUtf8 key)
 IsKeysFault groups keys _ = ⊥

@@ -1,18 +1,28 @@
 //! The lines that answer what is read.
-ghost use Rattle.std.specs.Prelude.{◌≡◌, ℕ, List, IfErr, IfSome, MatchResult, OnOk};
-ghost use Rattle.zarrs_chunk_questions.specs.AnswerLine.{IsAnswerTo};
-ghost use Rattle.zarrs_chunk_questions.specs.Line.{line_feeds};
+ghost use Rattle.std.specs.Prelude.{◌≡◌, ◌≢◌, ◌++◌, ◌∷◌, [], ℕ, List, IfErr, IfOk, IfSome, MatchResult, OnOk};
+ghost use Rattle.streams.specs.OneLine.{IsOneLine};
 ghost use Rattle.streams.specs.Watched.{IsWriteFailure, has_failed, watched};
-ghost use Rattle.programs.specs.chunkcalls.Lines.{AreAnswers};
+ghost use Rattle.programs.specs.chunkcalls.Lines.{AreAnswers, IsReply, IsReplyTo};
 ghost use Rattle.programs.specs.chunkcalls.Run.{TellsFailure};
-ghost use Rattle.programs.specs.chunkcalls.seen.Answered.{HasAnsweredPiece};
+ghost use Rattle.programs.specs.chunkcalls.seen.Answered.{HasAnsweredPiece, IsBegun};
 ghost use Rattle.streams.specs.seen.Sent.{IsSent, output};
 
 use crate::chunkcalls::RunFault;
-use std::alloc::Global;
+use std::alloc::{AllocError, Global};
 use std::io::{Read, Write};
 use streams::{BUFFER_LEN, Watched, send, write_all};
-use zarrs_chunk_questions::answer;
+use zarrs_chunk_questions::answer_within;
+
+/// How many bytes a line may have.
+const LONGEST_LINE: usize = 1 << 24;
+
+/// How many bytes the items of an answer may take, where each number has one digit.
+const ROOM: usize = 1 << 18;
+
+const LONG_LINE: &[u8] = b"unreadable: line is longer than 16777216 bytes\n";
+
+const LONG_ANSWER: &[u8] =
+    b"refused: answer is too long: ask for fewer `items`, and for the others by `first`\n";
 
 /// Sends the answer to each line that a reader has left, in order. What was read is answered before more is asked for.
 ///
@@ -51,7 +61,7 @@ pub(crate) fn answer_lines<R: Read, W: Write>(
 }
 
 /// Sends the answer to each line that ends in a piece of the input, of which the first begins with the bytes of `line`. What comes behind the last
-/// of them is in `line` then.
+/// of them is in `line` then, as far as it isn't too long.
 ///
 /// # Errors
 /// A write failed; or out of memory.
@@ -62,8 +72,8 @@ fn answer_piece<W: Write>(
     held_back: &mut Vec<u8>,
     writer: &mut Watched<W>,
 ) -> Result<(), RunFault>
-    requires { line_feeds line.old.items ≡ 0 }
-    ensures answered { OnOk result (HasAnsweredPiece line.old.items piece.now line.new.items
+    ensures answered { OnOk result ((whole : List ℕ) → IsBegun whole line.old.items
+        → HasAnsweredPiece whole piece.now line.new.items
         (output W.contents held_back.old.items writer.old)
         (output W.contents held_back.new.items writer.new)) }
     ensures failed { MatchResult result (λ _. has_failed writer.new ≡ has_failed writer.old)
@@ -71,11 +81,25 @@ fn answer_piece<W: Write>(
 {
     for byte in piece {
         if *byte != b'\n' {
-            line.push(*byte)?;
+            push_within(line, *byte)?;
             continue;
         }
         answer_line(alloc, line, held_back, writer)?;
         line.clear();
+    }
+    Ok(())
+}
+
+/// Appends a byte to a line that isn't too long yet.
+///
+/// # Errors
+/// Out of memory.
+fn push_within(line: &mut Vec<u8>, byte: u8) -> Result<(), AllocError>
+    ensures { OnOk result ((whole : List ℕ) → byte ≢ 10 → IsBegun whole line.old.items
+        → IsBegun (whole ++ byte ∷ []) line.new.items) }
+{
+    if line.len() <= LONGEST_LINE {
+        line.push(byte)?;
     }
     Ok(())
 }
@@ -90,8 +114,8 @@ fn answer_rest<W: Write>(
     held_back: &mut Vec<u8>,
     writer: &mut Watched<W>,
 ) -> Result<(), RunFault>
-    requires { line_feeds line.now ≡ 0 }
-    ensures answered { OnOk result ((answers : List ℕ) × AreAnswers line.now answers
+    ensures answered { OnOk result ((whole : List ℕ) → IsBegun whole line.now
+        → (answers : List ℕ) × AreAnswers whole answers
         × IsSent (output W.contents held_back.old.items writer.old)
         (output W.contents held_back.new.items writer.new) answers) }
     ensures failed { MatchResult result (λ _. has_failed writer.new ≡ has_failed writer.old)
@@ -113,12 +137,31 @@ fn answer_line<W: Write>(
     held_back: &mut Vec<u8>,
     writer: &mut Watched<W>,
 ) -> Result<(), RunFault>
-    ensures answered { OnOk result ((answer : List ℕ) × IsAnswerTo line.now answer
+    ensures answered { OnOk result ((answer : List ℕ) × IsReplyTo line.now answer
         × IsSent (output W.contents held_back.old.items writer.old)
         (output W.contents held_back.new.items writer.new) answer) }
     ensures failed { MatchResult result (λ _. has_failed writer.new ≡ has_failed writer.old)
         (λ fault. IsWriteFailure fault (has_failed writer.old) (has_failed writer.new)) }
 {
-    let answer = answer(alloc, line)?;
-    send(&answer, held_back, writer)
+    let reply = reply_to(alloc, line)?;
+    send(&reply, held_back, writer)
+}
+
+/// What is written for a line.
+///
+/// # Errors
+/// Out of memory.
+fn reply_to(alloc: Global, line: &[u8]) -> Result<Vec<u8>, AllocError>
+    ensures one { IfOk result (λ reply. IsOneLine reply.items) }
+    ensures says { IfOk result (λ reply. IsReply line.now reply.items) }
+{
+    if line.len() > LONGEST_LINE {
+        let reply = Vec::from_slice(alloc, LONG_LINE)?;
+        return Ok(reply);
+    }
+    if let Some(answer) = answer_within(alloc, line, ROOM)? {
+        return Ok(answer);
+    }
+    let reply = Vec::from_slice(alloc, LONG_ANSWER)?;
+    Ok(reply)
 }

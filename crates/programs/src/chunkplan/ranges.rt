@@ -1,10 +1,9 @@
 //! The byte ranges that a document wants in the lines of a read.
 ghost use Rattle.std.specs.Prelude.{◌≡◌, ◌⊎◌, MatchResult, codes, option_map};
 ghost use Rattle.serde_json.specs.View.{view};
-ghost use Rattle.zarrs_chunk_base.specs.Json.{size_of};
 ghost use Rattle.zarrs_chunk_plan.specs.declared.bytes.MemoryOrder.TheVariants.{C};
 ghost use Rattle.zarrs_chunk_questions.specs.Order.{order_in};
-ghost use Rattle.programs.specs.chunkplan.Document.{HasOr, HasRanges, ranges_asked_of};
+ghost use Rattle.programs.specs.chunkplan.Document.{HasOr, HasRanges, most_in, ranges_asked_of};
 ghost use Rattle.programs.specs.chunkplan.DocumentFault.{HasFormFault, HasRangesFault};
 ghost use Rattle.programs.specs.declared.chunkplan.run_fault.RunFault.TheVariants.{Memory};
 
@@ -15,6 +14,9 @@ use std::num::NonZeroU64;
 use zarrs_chunk_base::TreeForm;
 use zarrs_chunk_plan::MemoryOrder;
 use zarrs_chunk_questions::StoredIn;
+
+/// How many ranges are listed in a line, at most.
+const MOST_RANGES: u64 = 1 << 20;
 
 /// How byte ranges are wanted.
 #[derive(Clone, Copy, Drop)]
@@ -65,15 +67,18 @@ fn member_memory_order(alloc: Global, tree: &Value) -> Result<MemoryOrder, RunFa
 
 /// Up to how many ranges a document wants to have listed; 0, where it doesn't say.
 fn member_most(alloc: Global, tree: &Value) -> Result<u64, RunFault>
-    ensures { MatchResult result (HasOr size_of 0 (view tree.now) (codes "max_ranges"))
+    ensures { MatchResult result (HasOr most_in 0 (view tree.now) (codes "max_ranges"))
         (λ fault. (fault ≡ Memory)
-        ⊎ HasFormFault size_of (view tree.now) (codes "max_ranges") fault) }
+        ⊎ HasFormFault most_in (view tree.now) (codes "max_ranges") fault) }
 {
     let Some(member) = tree.get("max_ranges") else {
         return Ok(0);
     };
-    match u64::from_tree(alloc, member)? {
-        Some(most) => Ok(most),
-        None => Err(RunFault::WrongValue("max_ranges")),
+    let Some(most) = u64::from_tree(alloc, member)? else {
+        return Err(RunFault::WrongValue("max_ranges"));
+    };
+    if most > MOST_RANGES {
+        return Err(RunFault::WrongValue("max_ranges"));
     }
+    Ok(most)
 }

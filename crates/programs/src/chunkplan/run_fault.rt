@@ -149,7 +149,7 @@ pub enum RunFault {
     #[error(transparent)]
     Stages(StagesError),
     /// The plan has more lines than there are bits for, one a line.
-    #[error("field `keys`: the plan has more than 4294967295 lines: plan the chunks of a smaller box with `chunks`, or a smaller region")]
+    #[error("field `keys`: the plan has more than 536870911 lines: plan the chunks of a smaller box with `chunks`, or a smaller region")]
     TooManyForKeys,
     /// A key behind the document is no text.
     #[error("field `keys`: a line behind the document isn't UTF-8")]

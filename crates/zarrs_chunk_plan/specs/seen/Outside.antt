@@ -1,7 +1,7 @@
 -- Chunks that are below one list of numbers and not below another.
 use Rattle.std.specs.Prelude.{◌≢◌, ◌⊎◌, ℕ, Bool, IsTrue, List, map, min}
-use Rattle.std.specs.List.{AllByRecursion, AllPairs, flat_map, zip}
-use Rattle.zarrs_chunk_base.specs.ArraySubset.{Box, IsEmptyBox}
+use Rattle.std.specs.List.{AllPairs, flat_map, zip}
+use Rattle.zarrs_chunk_base.specs.ArraySubset.{Box}
 use Rattle.zarrs_chunk_axes.specs.InBounds.{AreBelow}
 use Rattle.zarrs_chunks.specs.Walks.{chunks_in}
 
@@ -12,10 +12,6 @@ chunks_of_boxes = flat_map chunks_in
 -- no chunk stands twice in the list
 abbrev pub AreOnce : List (List ℕ) → Type 0
 AreOnce = AllPairs (λ one other. one ≢ other)
-
--- none of the boxes is empty
-abbrev pub AreSome : List Box → Type 0
-AreSome = AllByRecursion (λ b. ¬ IsEmptyBox b)
 
 -- the chunk is below the outer numbers and not below the inner ones
 abbrev pub IsOutside : (inner outer chunk : List ℕ) → Type 0

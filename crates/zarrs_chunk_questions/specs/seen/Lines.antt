@@ -1,5 +1,5 @@
 -- What the steps leave that make a line.
-use Rattle.std.specs.Prelude.{◌≡◌, ◌⊎◌, ℕ, List, Result, Ok, Err, false}
+use Rattle.std.specs.Prelude.{◌≡◌, ◌⊎◌, ℕ, IsSome, List, Result, Ok, Err, false}
 use Rattle.serde_json.specs.Data.{Data}
 use Rattle.serde_json.specs.View.{view}
 use Rattle.serde_json.specs.Written.{compact_text, has_float}
@@ -9,7 +9,7 @@ use Rattle.zarrs_chunk_base.specs.declared.refusal.Refusal.{Refusal}
 use Rattle.zarrs_chunk_base.specs.declared.refusal.Refusal.TheVariants.{Refused, Memory}
 use Rattle.zarrs_chunk_questions.specs.AnswerLine.{Tells}
 use Rattle.zarrs_chunk_questions.specs.Answers.{IsAnswer}
-use Rattle.zarrs_chunk_questions.specs.Question.{IsReading, Question}
+use Rattle.zarrs_chunk_questions.specs.Question.{IsReading, Question, items_asked}
 use Rattle.zarrs_chunk_questions.specs.Reading.{Fault, not_json}
 use Rattle.zarrs_chunk_questions.specs.Refused.{IsRefusal}
 use Rattle.zarrs_chunk_questions.specs.declared.line_fault.LineFault.{LineFault}
@@ -24,6 +24,10 @@ IsUnreadableAs fault why = (told : Unreadable) × (fault ≡ UnreadableFault tol
 -- the answer of a tree
 abbrev pub IsTreeAnswer : Data → Data → Type 0
 IsTreeAnswer d tree = (question : Question) × IsReading d (Ok question) × IsAnswer question tree
+
+-- the tree asks for some items
+abbrev pub TreeAsksForItems : Data → Type 0
+TreeAsksForItems d = (question : Question) × IsReading d (Ok question) × IsSome (items_asked question)
 
 -- why a tree has no answer
 abbrev pub IsQuestionFault : Data → LineFault → Type 0

@@ -154,17 +154,11 @@ pub fn written_counts(counts: &Counts) -> String {
 }
 
 pub fn written_changes(changes: &ChangedChunks) -> String {
-    let boxes = |boxes: &[ArraySubset]| {
-        let boxes: Vec<_> = boxes.iter().map(written_box).collect();
-        boxes.join(",")
-    };
     format!(
-        r#"{{"delete":[{}],"keep":[{}],"new":[{}],"rewrite":[{}]}}"#,
-        boxes(&changes.delete),
-        boxes(&changes.keep),
-        boxes(&changes.new),
-        boxes(&changes.rewrite)
+        r#"{{"after":{:?},"before":{:?},"kept":{:?}}}"#,
+        changes.after, changes.before, changes.kept
     )
+    .replace(' ', "")
 }
 
 /// The answer of a walk with these items.

@@ -16,6 +16,3 @@ returns-clause-once c =
     let made = c.in_ok-box_from_zero in
     let chunks = c.in_ok-push_some.ensures.chunks ∙ ap (λ xs. chunks_of_boxes xs ++ chunks_in made.field-0) c.in_ok-boxes.ensures.items in
     rw chunks (chunks_once made.field-0 made.ensures.is_box)
-
-pub returns-clause-some : goal.returns-clause-some
-returns-clause-some c = c.in_ok-push_some.ensures.some (rw c.in_ok-boxes.ensures.items tt)

@@ -18,7 +18,7 @@ loop-dimension-preserved c =
     let added = c.in_ok-added in
     let pushed = c.in_ok-push_some.ensures in
     grown_more inner outer left shape boxes c.push_some.new.boxes.items added.added (omega arith) so_far added.ensures.is_box
-    pushed.chunks pushed.some pushed.few
+    pushed.chunks
     (rw c.deref.ensures.value at added.ensures.together) (rw c.deref.ensures.value at added.ensures.apart)
 
 pub returns-clause-those : goal.returns-clause-those
@@ -28,9 +28,3 @@ returns-clause-those c = λ chunk.
     let ended : c.loop-dimension.dimension ≡ 0 = omega arith in
     are_outside inner outer c.loop-dimension.shape.items c.loop-dimension.boxes.items
     (subst (λ d. HasGrown inner outer d c.loop-dimension.shape.items c.loop-dimension.boxes.items) ended c.loop-dimension.invariant) chunk
-
-pub returns-clause-some : goal.returns-clause-some
-returns-clause-some c = c.loop-dimension.invariant.some
-
-pub returns-clause-few : goal.returns-clause-few
-returns-clause-few c = let few = c.loop-dimension.invariant.few in omega arith

@@ -7,10 +7,10 @@ returns-in_ok-write_line-in-Ok-Some-clause-says c =
     let line = c.in_ok-write_line-in-Ok-Some in
     let (text, says, same) = line.ensures.says in
     is_answer_line c.args.line.now line.field-0.items text (Ok c.in-Ok-Some.tree)
-    (rw c.in-Ok-Some.field-0-is at c.in-Ok-Some.ensures) says same
+    (rw c.in-Ok-Some.field-0-is at c.in-Ok-Some.ensures.answer) says same
 
 pub returns-in_ok-write_line-in-Err-clause-says : goal.returns-in_ok-write_line-in-Err-clause-says
 returns-in_ok-write_line-in-Err-clause-says c =
     let line = c.in_ok-write_line-in-Err in
     let (text, says, same) = line.ensures.says in
-    is_answer_line c.args.line.now line.field-0.items text (Err c.in-Err.refusal) c.in-Err.ensures says same
+    is_answer_line c.args.line.now line.field-0.items text (Err c.in-Err.refusal) c.in-Err.ensures.answer says same

@@ -4,8 +4,8 @@ use Rattle.programs.proofs.chunkcalls.answering.answer_line.Goals as goal
 
 pub returns-clause-answered : goal.returns-clause-answered
 returns-clause-answered g c =
-    let answered = c.in_ok-answer in
-    answer_sent c.send.result c.args.line.now answered.answer.items c.deref.result.now
+    let replied = c.in_ok-reply in
+    answer_sent c.send.result c.args.line.now replied.reply.items c.deref.result.now
     (output g.W.Write.contents c.args.held_back.now.items c.args.writer.now)
     (output g.W.Write.contents c.send.new.held_back.items c.send.new.writer)
-    c.deref.ensures.value (answered.ensures.one, answered.ensures.says) c.send.ensures.sent
+    c.deref.ensures.value (replied.ensures.one, replied.ensures.says) c.send.ensures.sent

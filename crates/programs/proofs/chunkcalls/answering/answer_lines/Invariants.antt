@@ -1,15 +1,13 @@
 use Rattle.std.proofs.Common.{◌≡◌, ℕ, List, Some}
-use Rattle.zarrs_chunk_questions.specs.Line.{line_feeds}
 use Rattle.streams.specs.Watched.{has_failed, watched}
 use Rattle.streams.specs.seen.Sent.{output}
 use Rattle.programs.proofs.chunkcalls.PartWay.{IsPartWay}
 use Rattle.programs.proofs.chunkcalls.answering.answer_lines.Given as goal
 
--- no line feed is in the beginning of the next line, the lines before it are answered, and no read or write failed
+-- the lines before the one that has begun are answered, and no read or write failed
 abbrev pub invariant-loop : goal.invariant-loop
 invariant-loop g l =
-    (line_feeds l.line.items ≡ 0)
-    × ((input : List ℕ) → g.R.Read.remaining (watched l.initial.reader) ≡ Some input
+    ((input : List ℕ) → g.R.Read.remaining (watched l.initial.reader) ≡ Some input
     → IsPartWay input (output g.W.Write.contents l.initial.held_back.items l.initial.writer) (g.R.Read.remaining (watched l.reader)) l.line.items
     (output g.W.Write.contents l.held_back.items l.writer))
     × (has_failed l.reader ≡ has_failed l.initial.reader)

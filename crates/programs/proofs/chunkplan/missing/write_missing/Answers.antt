@@ -38,7 +38,7 @@ module _ {G E H F : Type 0} (dimensions : G → List Dimension) (is_key : E → 
 -- the lines of what isn't stored, and behind them those of the foreign keys
 module _ {G E H F : Type 0} (dimensions : G → List Dimension) (is_key : E → List ℕ → List ℕ → Type 0) (also : H → List Dimension)
     (also_key : F → List ℕ → List ℕ → Type 0) (walk : Copies G E H F) (all : all_targets walk ≡ targets_to_come walk)
-    (few : length (all_targets walk) < 2 ^ 32) (target : List Dimension) (IsKeyOf : List ℕ → List ℕ → Type 0) (keys : List (List ℕ))
+    (few : length (all_targets walk) < 2 ^ 29) (target : List Dimension) (IsKeyOf : List ℕ → List ℕ → Type 0) (keys : List (List ℕ))
     (stored : StoredChunks) (foreign : List ℕ) (noted : HaveNoted target IsKeyOf (all_targets walk) keys stored foreign) (share : Share) where
   abbrev AreLines : List ℕ → Type 0
   AreLines text = (groups : List Group) × AreMovesToCome dimensions is_key also also_key walk groups
@@ -71,7 +71,7 @@ returns-in_default g c = λ bytes is.
     (g.met.H.ChunkGridTraits.chained walk.targets.grid.now) c.requires.keys c.requires.target_keys c.requires.is_box c.requires.region c.requires.can
     in
     let long = ap length c.requires.all ∙ sym (AllZip-long _ (targets_to_come walk) groups moves) in
-    let many : 2 ^ 32 ≤ length (all_targets walk) = rw c.in_default.is at c.in_ok-stored.ensures.none in
+    let many : 2 ^ 29 ≤ length (all_targets walk) = rw c.in_default.is at c.in_ok-stored.ensures.none in
     (refl, refl, refl, keys, are, (groups, moves, omega (arith, long, many)))
 
 pub returns-in_err-note_keys : goal.returns-in_err-note_keys
@@ -83,7 +83,7 @@ returns-in_err-note_keys g c = λ bytes is.
     (g.met.H.ChunkGridTraits.chained walk.targets.grid.now) c.requires.keys c.requires.target_keys c.requires.is_box c.requires.region c.requires.can
     in
     let long = ap length c.requires.all ∙ sym (AllZip-long _ (targets_to_come walk) groups moves) in
-    let few : length (all_targets walk) < 2 ^ 32 = rw c.in-Some.is at c.in_ok-stored.ensures.few in
+    let few : length (all_targets walk) < 2 ^ 29 = rw c.in-Some.is at c.in_ok-stored.ensures.few in
     rw (p.1, p.2)
     (noting_stops (TextOf g.G.ChunkGridTraits.dimensions g.E.ChunkKeyEncodingTraits.is_key g.H.ChunkGridTraits.dimensions
     g.F.ChunkKeyEncodingTraits.is_key walk (g.H.ChunkGridTraits.dimensions c.args.target.now.grid)
@@ -98,7 +98,7 @@ returns-in_err-write_share g c = λ bytes is.
     let walk = c.args.walk in
     let target = g.H.ChunkGridTraits.dimensions c.args.target.now.grid in
     let IsKeyOf = g.F.ChunkKeyEncodingTraits.is_key c.args.target.now.encoding in
-    let few : length (all_targets walk) < 2 ^ 32 = rw c.in-Some.is at c.in_ok-stored.ensures.few in
+    let few : length (all_targets walk) < 2 ^ 29 = rw c.in-Some.is at c.in_ok-stored.ensures.few in
     let knows = subst (λ to. Knows (g.H.ChunkGridTraits.dimensions to.grid) (g.F.ChunkKeyEncodingTraits.is_key to.encoding) (all_targets walk) []
     c.in-Some.stored) c.requires.target (rw c.in-Some.is at c.in_ok-stored.ensures.none)
     in
@@ -124,7 +124,7 @@ returns g c = λ bytes is.
     let walk = c.args.walk in
     let target = g.H.ChunkGridTraits.dimensions c.args.target.now.grid in
     let IsKeyOf = g.F.ChunkKeyEncodingTraits.is_key c.args.target.now.encoding in
-    let few : length (all_targets walk) < 2 ^ 32 = rw c.in-Some.is at c.in_ok-stored.ensures.few in
+    let few : length (all_targets walk) < 2 ^ 29 = rw c.in-Some.is at c.in_ok-stored.ensures.few in
     let knows = subst (λ to. Knows (g.H.ChunkGridTraits.dimensions to.grid) (g.F.ChunkKeyEncodingTraits.is_key to.encoding) (all_targets walk) []
     c.in-Some.stored) c.requires.target (rw c.in-Some.is at c.in_ok-stored.ensures.none)
     in
