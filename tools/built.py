@@ -1,4 +1,4 @@
-"""What `rt ci` and `rt run` built, and the vectors of `chunkcalls`, for the scripts of this repository."""
+"""What `rt ci`, `rt run` and `bindings/build.py` built, and the vectors of `chunkcalls`, for the scripts of this repository."""
 import pathlib
 import sys
 
@@ -16,6 +16,11 @@ def builds(program):
     if not by_llvm.exists():
         sys.exit(f"{by_llvm.relative_to(TOP)} isn't built: run `rt ci` at the top, or `rt run < /dev/null` in crates/{program}")
     return [by_llvm, by_rattle] if by_rattle.exists() else [by_llvm]
+
+
+def shared_library(backend="llvm"):
+    """The shared library by one of the kit's compilers, as `bindings/build.py` leaves it."""
+    return TOP / "bindings" / "out" / backend / "libzarrs_chunks.so"
 
 
 def asked_of(build, rows):
