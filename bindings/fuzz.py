@@ -29,6 +29,7 @@ import time
 HERE = pathlib.Path(__file__).resolve().parent
 sys.path[:0] = [str(HERE / "python"), str(HERE), str(HERE.parent / "tools")]
 sys.dont_write_bytecode = True
+from built import shared_library  # noqa: E402
 from byte_ranges import byte_ranges as model_ranges, great_boxes, small_boxes  # noqa: E402
 from call_names import CALLS, OF_RECTILINEAR, WALKS  # noqa: E402
 from chunk_plans import changed_chunks_by_numbers, share as share_of_lines  # noqa: E402
@@ -694,6 +695,7 @@ def main():
 if __name__ == "__main__":
     import numpy as np
 
+    os.environ.setdefault("ZARRS_CHUNKS_LIBRARY", str(shared_library()))
     if "--at" in sys.argv:
         from chunk_grids import Grid as Model
         from chunk_keys import Encoding as ModelKeys

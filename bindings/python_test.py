@@ -7,9 +7,14 @@ import copy
 import ctypes
 import itertools
 import json
+import os
 import pathlib
 import pickle
 import re
+import shutil
+import subprocess
+import sys
+import tempfile
 import threading
 
 import numpy as np
@@ -448,6 +453,36 @@ def processor(tally):
     tally.same("another machine", _processor.fault("aarch64", text), "the library is for x86-64 processors, and this one is aarch64")
 
 
+def place_of_the_library(tally):
+    """A package loads the library that the variable names, or the one beside it. It takes none that lies in the current folder, on LD_LIBRARY_PATH, in
+    a folder of the package's path, or where a build leaves it."""
+    with tempfile.TemporaryDirectory() as room:
+        package, built, current = (pathlib.Path(room).resolve() / name for name in ("bindings/python/zarrs_chunks", "bindings/out/llvm", "current"))
+        shutil.copytree(pathlib.Path(_library.__file__).parent, package, ignore=shutil.ignore_patterns("__pycache__", "*.so*"))
+        name = f"libzarrs_chunks.so.{_library.VERSION}"
+        for folder in (built, current, package.parent):
+            folder.mkdir(parents=True, exist_ok=True)
+            for copied in (name, "libzarrs_chunks.so"):
+                shutil.copyfile(_library.path(), folder / copied)
+
+        def loaded(**variables):
+            kept = {variable: value for variable, value in os.environ.items() if variable != "ZARRS_CHUNKS_LIBRARY"}
+            places = {"LD_LIBRARY_PATH": str(current), "PYTHONPATH": str(package.parent)}
+            words = "import zarrs_chunks, pathlib; print(*{line.split()[-1] for line in pathlib.Path('/proc/self/maps').open() if 'libzarrs' in line})"
+            ended = subprocess.run([sys.executable, "-c", words], env={**kept, **places, **variables}, cwd=current, capture_output=True, text=True)
+            return (ended.stdout or ended.stderr).splitlines()[-1]
+
+        missing = "ImportError: {} is missing: set ZARRS_CHUNKS_LIBRARY to the path of " + name
+        tally.same("a package without a library", loaded(), missing.format(package / name))
+        tally.same("one with an empty variable", loaded(ZARRS_CHUNKS_LIBRARY=""), missing.format(package / name))
+        tally.same("a named library", loaded(ZARRS_CHUNKS_LIBRARY=str(built / name)), str(built / name))
+        tally.same("one named from the current folder", loaded(ZARRS_CHUNKS_LIBRARY=name), str(current / name))
+        shutil.copyfile(_library.path(), package / name)
+        tally.same("a library beside the package", loaded(), str(package / name))
+        tally.same("another one that is named", loaded(ZARRS_CHUNKS_LIBRARY=str(built / name)), str(built / name))
+        tally.same("one that is named and missing", loaded(ZARRS_CHUNKS_LIBRARY="none"), missing.format(current / "none"))
+
+
 def little_memory(tally):
     """After a call that was out of memory everything answers as before."""
     grid, encoding = Grid([10**6, 7], REGULAR), Encoding("default")
@@ -493,6 +528,6 @@ def unknown_lengths(tally):
 def python_package(tally):
     for group in (
         table, unfit_arguments, texts_of_keys, keys, nesting, whole_numbers, single_numbers, huge, metadata, kept, changed_meanwhile, processor,
-        little_memory, unknown_lengths,
+        place_of_the_library, little_memory, unknown_lengths,
     ):  # fmt: skip
         group(tally)

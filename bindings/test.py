@@ -39,7 +39,7 @@ HERE = pathlib.Path(__file__).resolve().parent
 TOP = HERE.parent
 sys.path[:0] = [str(HERE / "python"), str(TOP / "measure"), str(TOP / "tools")]
 sys.dont_write_bytecode = True
-from built import IS_THOROUGH, vectors as questions_and_answers  # noqa: E402
+from built import IS_THOROUGH, shared_library, vectors as questions_and_answers  # noqa: E402
 from extensions import GREATEST, GRIDS, grid_metadata, regular  # noqa: E402
 from memory import at_most, used  # noqa: E402
 from random_arrays import Generator  # noqa: E402
@@ -473,7 +473,7 @@ def main():
         sys.exit(f"bindings/test.py needs {' and '.join(missing)}")
     ended = []
     for backend in BACKENDS:
-        environment = {**os.environ, "ZARRS_CHUNKS_LIBRARY": str(HERE / "out" / backend / "libzarrs_chunks.so")}
+        environment = {**os.environ, "ZARRS_CHUNKS_LIBRARY": str(shared_library(backend))}
         of_backend = [__file__, "--backend", backend, *(["--thorough"] if IS_THOROUGH else [])]
         asked = [of_backend, [*of_backend, "--memory"], [HERE / "fuzz.py", "--seconds", "60" if IS_THOROUGH else "5"]]
         for words in asked if is_whole(backend) else asked[:1]:

@@ -8,6 +8,7 @@ shape, and by one number where that is the edge of all dimensions; along listed 
 and the least time of each counts. It prints nanoseconds a list, and how many times as long the library takes. At last it prints what a call of one list
 takes, the least of as many rounds. `measure/one_list.c` does the same from C.
 """
+import os
 import pathlib
 import sys
 import time
@@ -15,7 +16,11 @@ import timeit
 
 import numpy as np
 
-sys.path.insert(0, str(pathlib.Path(__file__).resolve().parent.parent / "bindings" / "python"))
+TOP = pathlib.Path(__file__).resolve().parent.parent
+sys.path[:0] = [str(TOP / "bindings" / "python"), str(TOP / "tools")]
+from built import shared_library  # noqa: E402
+
+os.environ.setdefault("ZARRS_CHUNKS_LIBRARY", str(shared_library()))
 from zarrs_chunks import Encoding, Grid  # noqa: E402
 
 LISTS, ROUNDS = 1_000_000, 9

@@ -112,14 +112,9 @@ _GIVEN_TO |= {struct: {field for field, kind in struct.KINDS.items() if len(kind
 
 
 def path() -> pathlib.Path:
-    """Where the library lies: what ZARRS_CHUNKS_LIBRARY names; or what is beside this file, where the package is installed; or what
-    `bindings/build.py` made."""
+    """Returns where the library lies: the file that ZARRS_CHUNKS_LIBRARY names, or else the one beside this module."""
     named = os.environ.get("ZARRS_CHUNKS_LIBRARY")
-    if named:
-        return pathlib.Path(named).absolute()
-    here = pathlib.Path(__file__).resolve()
-    installed = here.with_name(f"libzarrs_chunks.so.{VERSION}")
-    return installed if installed.exists() else here.parents[2] / "out" / "llvm" / "libzarrs_chunks.so"
+    return pathlib.Path(named).absolute() if named else pathlib.Path(__file__).resolve().with_name(f"libzarrs_chunks.so.{VERSION}")
 
 
 def _load() -> tuple[ctypes.CDLL, dict[str, Any]]:
@@ -127,7 +122,7 @@ def _load() -> tuple[ctypes.CDLL, dict[str, Any]]:
     _processor.check()
     place = path()
     if not place.exists():
-        raise ImportError(f"{place} is missing: run bindings/build.py, or set ZARRS_CHUNKS_LIBRARY")
+        raise ImportError(f"{place} is missing: set ZARRS_CHUNKS_LIBRARY to the path of libzarrs_chunks.so.{VERSION}")
     functions: dict[str, Any] = {}
     try:
         library = ctypes.CDLL(str(place))
