@@ -17,7 +17,7 @@ LONGEST = 10_000  # bytes
 
 # ---- forms of arrays
 
-# A dimension of an array: its size, the edges of its chunks and of those of a rechunking's target, and its size after a resize.
+# A dimension of an array: its size, the edges of its chunks and of a rechunking's target, and its size after a resize.
 Along = namedtuple("Along", "size edges target_edges resized")
 
 
@@ -27,7 +27,7 @@ def power(random, most):
 
 
 def equal(size, resized, count, target_count):
-    """A dimension with about so many equal edges."""
+    """A dimension with equal edges, for about this number of chunks of the array and of the target."""
     return Along(size, max(size // count, 1), max(size // target_count, 1), resized)
 
 
@@ -92,18 +92,18 @@ def runs(random, room):
 FORMS = [usual, huge, millions, flat, split, listed, runs]
 
 
-# How an array is stored: the members of its metadata, and the model of its grid and of its encoding.
+# How an array is stored: the members of its metadata, with the models of both.
 Storage = namedtuple("Storage", "members grid encoding")
 
 
 class Array:
-    """An array of a form, and how it is to be stored by a rechunking."""
+    """An array of a form, and how a rechunking of it stores it."""
 
     def __init__(self, generator, form, room):
         self.generator, self.random = generator, generator.random
         rows = list(form(self.random, room))
         self.shape, self.resized = [row.size for row in rows], [row.resized for row in rows]
-        # A list of edges may be that of either grid of lists. With one edge for all along each dimension a grid may be of any kind.
+        # Two kinds of grid take lists of edges. Each kind takes one edge along each dimension.
         kinds = {listed: ["rectangular", "rectilinear"], runs: ["rectilinear"]}.get(form, list(GRIDS))
         target_edges = [row.target_edges for row in rows]
         if form in (listed, runs) and generator.one_in(3):
@@ -139,7 +139,7 @@ class Array:
         return self.generator.key(storage.encoding, self.generator.chunk(storage.grid))
 
     def several(self, ask):
-        """One or more of what is asked for, which are about as many as a document may have."""
+        """Some of what is asked for: one, ten, or about all that fits into a document."""
         return [ask() for _ in range(self.random.choice([1, 10, LONGEST // (3 * len(self.shape) + 3)]))]
 
     def share(self):
@@ -147,7 +147,7 @@ class Array:
         return [self.random.choice([0, of // 2, of - 1]), of]
 
     def bound(self):
-        """How many elements a worker may hold: about as many as the greatest chunks of both arrays have, or the greater one."""
+        """A bound on the elements that a worker holds, near the sizes of the greatest chunks of both arrays."""
         chunks = [
             math.prod(min(max(edge for edge, _ in d.pairs), d.size) for d in storage.grid.dimensions)
             for storage in (self.source, self.target)
@@ -211,7 +211,7 @@ PLANS = {
 
 
 def plan(array, members):
-    """A document of `chunkplan`, with keys behind it where it asks for them."""
+    """A document of `chunkplan`, with keys after it if it asks for them."""
     keys = array.several(lambda: array.key(array.target)) if "keys" in members else []
     return "\n".join([json_of({**array.document, **members}), *keys])
 
