@@ -166,7 +166,7 @@ class Array:
 
 
 def ranges(array):
-    members = {"item_size": array.random.choice([1, 8, 2**32]), "max_ranges": array.random.choice([0, 1000, 2**24, GREATEST])}
+    members = {"item_size": array.random.choice([1, 8, 2**32]), "max_ranges": array.random.choice([0, 1000, 2**20, 2**24, GREATEST])}
     return {"subset": array.generator.box_within(array.shape), "memory_order": array.random.choice("CF"), **members}
 
 
@@ -240,7 +240,7 @@ def question(array, call):
         asked["of"] = array.key(array.source)
         asked["dimensionality"] = random.choice([len(array.shape), generator.number(GREATEST)])
     if call in WALKS or call in ("parts", "copies", "copies_of_region"):
-        asked["items"] = random.choice([1, 1000, 2**20, GREATEST])
+        asked["items"] = random.choice([1, power(random, 14), power(random, 20), GREATEST])
         if generator.one_in(2):
             asked["first"] = power(random, random.choice([3, 63]))
     if call in ("counts", "counts_of_region") and generator.one_in(2):
