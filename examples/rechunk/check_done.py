@@ -34,23 +34,21 @@ def main():
     if {of for _, of in done} - {count}:
         what = "are read" if words.by_source else "are written"
         raise Refused(f"lines of a plan of another length than {count}, which is how many chunks of {counted.folder} {what}")
-    numbers = {number for number, _ in done}
-    lost = {chunk for chunk in chunks_of(target, region) if not target.has(chunk)}
-    gone = set() if words.by_source else lost
-    missing = [counted.key(chunk) for number, chunk in enumerate(chunks_of(counted, region)) if number not in numbers or chunk in gone]
-    if missing:
-        raise Refused(f"{len(missing)} of {count} chunks weren't done: {named(missing)}")
-    if words.by_source and lost:
-        raise Refused(f"{len(lost)} chunks of {target.folder} aren't stored: {named(sorted(map(target.key, lost)))}")
+    numbers = {number for number, _ in done if 0 <= number < count}
+    there = numbers if words.by_source else {number for number in numbers if target.has(region.chunk_at(number, target))}
+    if len(there) < count:
+        raise Refused(f"{count - len(there)} of {count} chunks weren't done: {others(there, counted, region)}")
+    if words.by_source:
+        there = {number for number, chunk in enumerate(region.each(target)) if target.has(chunk)}
+        if len(there) < region.count(target):
+            raise Refused(f"{region.count(target) - len(there)} chunks of {target.folder} aren't stored: {others(there, target, region)}")
     print(f"all {count} chunks were done")
 
 
-def chunks_of(array, region):
-    """The chunks of an array that a region meets, in row-major order."""
-    return itertools.product(*(range(first, first + size) for first, size in zip(*region.chunks(array))))
-
-
-def named(keys):
+def others(there, array, region):
+    """The first chunks by their keys that haven't one of these numbers. There may be more chunks than fit in memory."""
+    numbers = itertools.islice((number for number in range(region.count(array)) if number not in there), NAMED + 1)
+    keys = [array.key(region.chunk_at(number, array)) for number in numbers]
     return ", ".join(keys[:NAMED]) + (", .." if len(keys) > NAMED else "")
 
 

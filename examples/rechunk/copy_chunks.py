@@ -15,9 +15,10 @@ and written again, but only with --alone, since two workers that do so at once l
 refused. Without it such a line is refused before anything of it is written.
 
 When a line's chunks are in their places, the line's `number` and `of` are printed, as JSON, in the order of the source with
-`"order":"source"`. --done appends the same to a file; --resume passes over the lines that a file has and whose chunks are
-stored, and may name the same one. --cache bounds the decoded chunks of the source that are kept, for lines in the order of
-the target.
+`"order":"source"`. --done appends the same to a file, with a mark of what the line read and wrote. --resume passes over the
+lines that such a file has, and may name the same one. It does a line again if the line's chunks or the metadata were changed
+since. Where another program changed a chunk that several lines write, it refuses the line. --cache bounds the decoded chunks
+of the source that are kept, for lines in the order of the target.
 
 Numbers are said when the disk has the chunks too, some hundred at a time or once a second. With --no-sync they are said
 at once: then chunks that were done may be lost where the machine crashes, but not where a process does. In the order of the
@@ -32,8 +33,11 @@ with the status 1 then, and a message that names the line or the chunk.
 """
 import argparse
 import collections
+import contextlib
 import ctypes
 import fcntl
+import functools
+import hashlib
 import json
 import math
 import os
@@ -46,29 +50,33 @@ import uuid
 import numpy
 
 from region import add_region, region_between
-from stored_arrays import UNFINISHED, Refused, ended_by, on_a_line, open_array
+from stored_arrays import UNFINISHED, Refused, ended_by, identity_of, on_a_line, open_array
 
 
 class Sources:
     """The chunks of the source, decoded. One is kept until each chunk of the target that it meets was asked for, or until
     those that were read after it take so many bytes."""
 
+    BESIDE = 500  # bytes that a chunk takes besides its elements
+
     def __init__(self, source, target, region, most, must_be_whole=False):
         self.source, self.target, self.region, self.most, self.must_be_whole = source, target, region, most, must_be_whole
         self.kept, self.size, self.decoded = collections.OrderedDict(), 0, 0
+        self.seen = []  # the identity of each chunk that was asked for, from before it was read
 
     def chunk(self, numbers):
         numbers = tuple(numbers)
         if numbers in self.kept:
-            elements, uses = self.kept.pop(numbers)
-            self.size -= elements.nbytes
+            elements, uses, seen = self.kept.pop(numbers)
+            self.size -= elements.nbytes + self.BESIDE
+            self.seen.append(seen)
         else:
             elements, uses = self.once(numbers), self.region.uses(numbers, self.source, self.target)
         if uses > 1:
-            self.kept[numbers] = elements, uses - 1
-            self.size += elements.nbytes
+            self.kept[numbers] = elements, uses - 1, self.seen[-1]
+            self.size += elements.nbytes + self.BESIDE
         while self.size > self.most:
-            self.size -= self.kept.popitem(last=False)[1][0].nbytes
+            self.size -= self.kept.popitem(last=False)[1][0].nbytes + self.BESIDE
         return elements
 
     def once(self, numbers):
@@ -76,6 +84,7 @@ class Sources:
         if self.must_be_whole and not self.source.has(numbers):
             raise Refused(f"chunk {self.source.key(numbers)} of {self.source.folder} isn't stored")
         self.decoded += 1
+        self.seen.append(self.source.identity(numbers))
         return self.source.read(numbers)
 
 
@@ -183,6 +192,11 @@ def written_by(line):
     return line["to"] if order_of(line) == "source" else [line["to"]]
 
 
+def read_by(line):
+    """The chunks of the source that a line reads."""
+    return [line["from"]] if order_of(line) == "source" else line["from"]
+
+
 def is_shared(to):
     """Whether other lines of the plan write a chunk, too."""
     return not to.get("whole", True)
@@ -253,8 +267,9 @@ class Store:
         self.array, self.unfinished = array, array.folder / UNFINISHED
         self.beginning = f".{socket.gethostname()}.{os.getpid()}"
 
-    def put(self, numbers, chunk, lasting=False):
-        """With `lasting`, what stood under the key before stays there until the disk has the chunk."""
+    def put(self, numbers, chunk, lasting=False, announce=lambda identity: None):
+        """With `lasting`, what stood under the key before stays there until the disk has the chunk. What the chunk's identity
+        will be is announced before it has its key."""
         path = self.array.path(numbers)
         path.parent.mkdir(parents=True, exist_ok=True)
         self.unfinished.mkdir(exist_ok=True)
@@ -265,6 +280,7 @@ class Store:
                 if lasting:
                     file.flush()
                     os.fsync(file.fileno())
+            announce(identity_of(unfinished))
             unfinished.rename(path)
         except BaseException:
             unfinished.unlink(missing_ok=True)
@@ -287,21 +303,31 @@ class Record:
 
     def __init__(self, folder, file, sync):
         self.folder, self.sync = folder, sync
-        self.descriptors = [1] if file is None else [opened_behind(file), 1]
+        self.file = None if file is None else opened_behind(file)
         self.waiting, self.last = [], time.monotonic()
 
-    def add(self, line):
+    def begin(self, line, to, identity):
+        """Says what a chunk that several lines write will be, so that a later run knows it even if this one is killed."""
+        self.append({"begun": to["key"], "by": [line["number"], line["of"]], "is": identity})
+        if self.sync and self.file is not None:
+            os.fsync(self.file)
+
+    def append(self, what):
+        if self.file is not None:
+            say(self.file, json.dumps(what).encode() + b"\n")
+
+    def add(self, line, mark):
         order = {"order": "source"} if order_of(line) == "source" else {}
-        self.waiting.append({"number": line["number"], "of": line["of"], **order})
+        self.waiting.append(({"number": line["number"], "of": line["of"], **order}, mark))
         if not self.sync or len(self.waiting) >= self.MOST or time.monotonic() - self.last > self.SECONDS:
             self.say_all()
 
     def say_all(self):
         if self.sync and self.waiting:
             sync_file_system(self.folder)
-        for line in self.waiting:
-            for descriptor in self.descriptors:
-                say(descriptor, json.dumps(line).encode() + b"\n")
+        for line, mark in self.waiting:
+            self.append({**line, "mark": mark})
+            say(1, json.dumps(line).encode() + b"\n")
         self.waiting, self.last = [], time.monotonic()
 
 
@@ -330,41 +356,72 @@ def say(descriptor, text):
         raise OSError(f"the disk is full: {text.decode().strip()} was written in part")
 
 
+def lines_in(file):
+    """The lines of a file of what was done. One that was cut off isn't counted."""
+    with contextlib.suppress(FileNotFoundError), open(file, errors="replace") as lines:
+        for text in lines:
+            with contextlib.suppress(ValueError, RecursionError):
+                line = json.loads(text)
+                if isinstance(line, dict):
+                    yield line
+
+
 def done_in(file, order="target"):
-    """The `number` and `of` of each line in an order that was done, by the lines of a file. One that was cut off isn't counted."""
-    done = set()
-    try:
-        with open(file) as lines:
-            for text in lines:
-                try:
-                    line = json.loads(text)
-                    if line.get("order", "target") == order:
-                        done.add((line["number"], line["of"]))
-                except (ValueError, KeyError, TypeError, AttributeError, RecursionError):
-                    continue
-    except FileNotFoundError:
-        pass
-    return done
+    """The `number` and `of` of each line in an order that was done, each with its mark, by the lines of a file."""
+    of_order = (line for line in lines_in(file) if line.get("order", "target") == order)
+    numbered = (line for line in of_order if all(type(line.get(name)) is int for name in ("number", "of")))
+    return {(line["number"], line["of"]): line.get("mark") for line in numbered}
+
+
+def left_in(file, done):
+    """The identities that chunks which several lines write may have, by key. They are of the last line that was done, and of
+    lines that were begun since."""
+    left = {}
+    for line in lines_in(file):
+        if "begun" in line:
+            if tuple(line["by"]) in done:
+                left[line["begun"]] = []
+            left.setdefault(line["begun"], []).append(line["is"])
+    return left
+
+
+def mark_of(line, source, target, read, written):
+    """By what a later run knows that a line would read and write the same: the line, the metadata, and the chunks' identities."""
+    marked = [json.dumps(line), source.written, target.written, read, written]
+    return hashlib.blake2b(repr(marked).encode(), digest_size=8).hexdigest()
 
 
 class Resumed:
-    """Which lines were done before, by a file, and whether their chunks are still there."""
+    """Which lines were done before, by a file, and whether they would read and write the same."""
 
-    def __init__(self, file, target):
-        self.target, self.begun = target, set()
-        self.done = {order: done_in(file, order) if file else set() for order in ("target", "source")}
+    def __init__(self, file, source, target):
+        self.file, self.source, self.target = file, source, target
+        self.done = {order: done_in(file, order) if file else {} for order in ("target", "source")}
+        self.left = left_in(file, self.done["source"]) if self.done["source"] else {}
+        self.became = {}  # of chunks that several lines write: nothing, or that it was lost or changed before this run
+
+    def became_of(self, to):
+        if to["key"] not in self.became:
+            identity = self.target.identity(to["chunk"])
+            is_left = identity in self.left.get(to["key"], [])
+            self.became[to["key"]] = "" if is_left else "changed" if identity else "lost"
+        return self.became[to["key"]]
 
     def passes_over(self, line):
-        """Whether a line needn't be done again. Where a chunk is lost that several lines write, all of them have to be."""
-        gone = [to for to in written_by(line) if to["key"] in self.begun or not self.target.has(to["chunk"])]
-        if (line["number"], line["of"]) not in self.done[order_of(line)]:
-            if self.done["source"]:
-                self.begun |= {to["key"] for to in gone if is_shared(to)}
+        """Whether a line needn't be done again. If a chunk that several lines write was lost or changed, all of them must be."""
+        done = self.done[order_of(line)]
+        if not done:
             return False
-        for to in gone:
-            if is_shared(to):
-                raise Refused(f"chunk {to['key']} of {self.target.folder} was lost since line {line['number']} was done: do all lines again, without --resume")
-        return not gone
+        gone = {to["key"]: self.became_of(to) for to in written_by(line) if is_shared(to) and self.became_of(to)}
+        mark = done.get((line["number"], line["of"]))
+        if mark is None:
+            return False
+        for key, became in gone.items():
+            told = f"chunk {key} of {self.target.folder} was {became} since line {line['number']} was done"
+            raise Refused(f"{told}: remove {self.file} and do all lines again")
+        read = [self.source.identity(part["chunk"]) for part in read_by(line)]
+        written = [self.target.identity(to["chunk"]) for to in written_by(line) if not is_shared(to)]
+        return mark == mark_of(line, self.source, self.target, read, written)
 
 
 class Progress:
@@ -383,9 +440,11 @@ def copy(lines, source, target, region, words):
     """Does each line of a plan."""
     sources, store, progress = Sources(source, target, region, words.cache * 10**6, words.missing_is_an_error), Store(target), Progress()
     record = Record(target.folder, words.done, not words.no_sync)
-    resumed = Resumed(words.resume, target)
+    resumed = Resumed(words.resume, source, target)
     if words.alone:
         store.lock()
+        if words.done and words.done != words.resume and any(lines_in(words.done)):
+            raise Refused(f"{words.done} has lines of another run: go on from it by --resume, or name another file")
     chunk = target.new_chunk()  # the same memory for all of them
     done, written, of = 0, 0, 0
     try:
@@ -400,13 +459,16 @@ def copy(lines, source, target, region, words):
             shared = [to["key"] for to in written_by(line) if is_shared(to)]
             if shared and not words.alone:
                 raise Refused(f"line {line['number']}: other lines write chunk {shared[0]}, too: one worker has to do them all, with --alone")
+            sources.seen.clear()
+            identities = []  # of the chunks that this line alone writes
             for to in filled(chunk, line, sources, target):
+                announce = functools.partial(record.begin, line, to) if is_shared(to) else identities.append
                 try:
-                    store.put(to["chunk"], chunk, lasting=keeps_some(line, to) and not words.no_sync)
+                    store.put(to["chunk"], chunk, keeps_some(line, to) and not words.no_sync, announce)
                 except OSError as error:
                     raise Refused(f"chunk {to['key']} of {target.folder} can't be written: {error}") from error
                 written += 1
-            record.add(line)
+            record.add(line, mark_of(line, source, target, sources.seen, identities))
             done += 1
             progress.show(done, of)
     finally:

@@ -26,6 +26,18 @@ class Region:
             number = number * count + step - first
         return number
 
+    def chunk_at(self, number, target):
+        """The chunk that has a number."""
+        chunk = []
+        for first, count in reversed([*zip(*self.chunks(target))]):
+            number, step = divmod(number, count)
+            chunk.insert(0, first + step)
+        return chunk
+
+    def each(self, target):
+        """The chunks that it meets in row-major order, one by one: there may be more than fit in memory."""
+        return (self.chunk_at(number, target) for number in range(self.count(target)))
+
     def given(self, chunk, target):
         """What it gives a chunk of the target: the first element in the target's array, and how many along each dimension."""
         return common((self.at, self.shape), target.held(chunk))

@@ -58,10 +58,14 @@ class StoredArray:
 
     def has(self, chunk):
         """Whether a chunk is stored. A file without a byte is no chunk."""
+        return self.identity(chunk) is not None
+
+    def identity(self, chunk):
+        """What differs if another chunk takes the place of a stored one. None if it isn't stored."""
         try:
-            return self.path(chunk).stat().st_size > 0
+            return identity_of(self.path(chunk))
         except (FileNotFoundError, NotADirectoryError):
-            return False
+            return None
 
     def is_key(self, key):
         """Whether a text is the key of a chunk of the array."""
@@ -168,6 +172,12 @@ def open_array(folder):
     raise Refused(f"{folder} has no .zarray and no zarr.json")
 
 
+def identity_of(path):
+    """What differs if another file takes the place of one, or if it gets other bytes. None if it has no byte."""
+    status = path.stat()
+    return [status.st_size, status.st_mtime_ns, status.st_ino] if status.st_size > 0 else None
+
+
 def files_in(folder):
     """The files in an array's folder, as they would be keys, but for those that aren't finished. They come as they are found."""
     folders = [(str(folder), "")]
@@ -190,6 +200,8 @@ def checked(array):
         raise Refused("a size that is no whole number")
     if min(array.chunk_shape, default=1) < 1:
         raise Refused("an edge of a chunk that is less than 1")
+    if math.prod(array.chunk_shape) * array.dtype.itemsize > sys.maxsize:
+        raise Refused(f"a chunk of more than {sys.maxsize} bytes")
     if array.key_encoding["configuration"]["separator"] not in (".", "/"):
         raise Refused("a separator other than '.' and '/'")
     if array.dtype.hasobject or array.dtype.itemsize == 0:
@@ -414,27 +426,38 @@ class Zstd(Sized):
         return int.from_bytes(stored[begins : begins + width], "little") + 256 * (width == 2)
 
 
+def lzma_decompressor(written, most):
+    """A decompressor of LZMA that takes as much memory as may belong to a chunk, and the dictionary of any preset (at most 64 MB).
+    A few bytes, or the filters in the metadata, may ask for a dictionary of 4 GB."""
+    form, filters, room = written.get("format", lzma.FORMAT_XZ), written.get("filters") or [], most + 2**27
+    if form != lzma.FORMAT_RAW:
+        return lzma.LZMADecompressor(form, memlimit=room)
+    if any(one.get("dict_size", 0) > room for one in filters):
+        raise ValueError(f"a dictionary of more than {room} bytes")
+    return lzma.LZMADecompressor(form, filters=filters)
+
+
 class WholeStreams:
     """zlib, gzip, bz2 and LZMA. numcodecs makes gigabytes of a few bytes, and passes over what follows a stream. Both are refused here.
     A chunk of gzip may have several members."""
 
     DECOMPRESSORS = {
-        "zlib": lambda _: zlib.decompressobj(),
-        "gzip": lambda _: zlib.decompressobj(wbits=31),
-        "bz2": lambda _: bz2.BZ2Decompressor(),
-        "lzma": lambda written: lzma.LZMADecompressor(written.get("format", lzma.FORMAT_XZ), filters=written.get("filters")),
+        "zlib": lambda *_: zlib.decompressobj(),
+        "gzip": lambda *_: zlib.decompressobj(wbits=31),
+        "bz2": lambda *_: bz2.BZ2Decompressor(),
+        "lzma": lzma_decompressor,
     }
     is_bounded = True
 
     def __init__(self, configuration):
         self.encode = numcodecs.get_codec(dict(configuration)).encode
-        self.decompressor = lambda: self.DECOMPRESSORS[configuration["id"]](configuration)
+        self.decompressor = lambda most: self.DECOMPRESSORS[configuration["id"]](configuration, most)
         self.has_members = configuration["id"] == "gzip"
 
     def decode(self, stored, most):
         decoded, rest = b"", bytes(ensure_contiguous_ndarray(stored).view("u1"))
         while True:
-            decompressor = self.decompressor()
+            decompressor = self.decompressor(most)
             decoded += decompressor.decompress(rest, most + 1 - len(decoded))
             if len(decoded) > most:
                 raise ValueError(f"more than {most} bytes")
@@ -484,10 +507,10 @@ def on_a_line(told):
 
 
 def ended_by(main):
-    """Runs the main function of a script. What it refuses, and what the system refuses it, goes to standard error."""
+    """Runs the main function of a script. What it refuses, and what the system refuses it, goes to standard error, on a line."""
     try:
         if None in (sys.stdin, sys.stdout):
             raise Refused("standard input or standard output is closed")
         main()
-    except (Refused, OSError) as error:
-        sys.exit(f"{pathlib.Path(sys.argv[0]).name}: {on_a_line(error)}")
+    except (Refused, OSError, MemoryError) as error:
+        sys.exit(f"{pathlib.Path(sys.argv[0]).name}: {on_a_line(str(error) or repr(error))}")

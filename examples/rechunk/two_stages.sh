@@ -4,8 +4,9 @@
 #     two_stages.sh SOURCE TARGET ROOM N [--again]
 #
 # ROOM is a folder for the array between and for what was done, which a second run goes on from. If a run there ended well
-# and SOURCE was changed since, it is refused; with --again all lines are done again. The array between is removed at the end. The environment may say which CHUNKPLAN and which PYTHON to run, and as CACHE how many megabytes
-# of chunks that were read a worker keeps besides (0).
+# and SOURCE was changed since, it is refused; with --again all lines are done again. The array between is removed at the
+# end. The environment may say which CHUNKPLAN and which PYTHON to run, as CACHE how many megabytes of chunks that were read
+# a worker keeps besides (0), and as WORDS more words for the worker of the first stage, such as --missing-is-an-error.
 set -euo pipefail
 source=$(realpath "$1") target=$(realpath "$2") most=$4
 mkdir -p "$3"
@@ -14,11 +15,11 @@ tools=$(realpath "$(dirname "${BASH_SOURCE[0]}")")
 between=$room/between
 export CHUNKPLAN=${CHUNKPLAN:-chunkplan} PYTHON=${PYTHON:-python3}
 
-# Does a stage, from one array to another, and sees that each chunk was done.
+# Does a stage, from one array to another, with more words for the worker, and sees that each chunk was done.
 stage() {
     local done=$room/done.$1
     "$PYTHON" "$tools/document_of.py" "$source" "$target" --max-elements "$most" --stage "$1" | "$CHUNKPLAN" |
-        "$PYTHON" "$tools/copy_chunks.py" "$2" "$3" --cache "${CACHE:-0}" --done "$done" --resume "$done" > /dev/null
+        "$PYTHON" "$tools/copy_chunks.py" "$2" "$3" "${@:4}" --cache "${CACHE:-0}" --done "$done" --resume "$done" > /dev/null
     "$PYTHON" "$tools/check_done.py" "$3" "$done"
 }
 
@@ -32,10 +33,17 @@ fi
 mv "$room/document.new" "$room/document"
 . "$tools/finished.sh" "$source" "$room" "${5:-}"
 
-if ! "$PYTHON" "$tools/check_done.py" "$target" "$room/done.2" 2> /dev/null; then
+# If a run ended well and nothing changed TARGET since, the stages aren't done again: the array between was removed.
+is_left() {
+    [ -e "$finished" ] && "$PYTHON" "$tools/fingerprint.py" "$target" | cmp -s - "$room/left" &&
+        "$PYTHON" "$tools/check_done.py" "$target" "$room/done.2" 2> /dev/null
+}
+if ! is_left; then
     "$PYTHON" "$tools/make_between.py" "$source" "$target" "$between" --max-elements "$most"
-    stage 1 "$source" "$between"
-    stage 2 "$between" "$target"
+    read -ra words <<< "${WORDS:-}"
+    stage 1 "$source" "$between" "${words[@]}"
+    stage 2 "$between" "$target" --missing-is-an-error
 fi
 mark_finished
+"$PYTHON" "$tools/fingerprint.py" "$target" > "$room/left"
 rm -rf "$between" "$target/.unfinished"

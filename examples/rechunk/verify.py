@@ -56,7 +56,7 @@ def box_of(start, shape):
 def differing(source, target, array, region):
     """The places of the second array where a region differs, in the order of its chunks."""
     native = array.dtype.newbyteorder("=")
-    for chunk in itertools.product(*(range(first, first + count) for first, count in zip(*region.chunks(array)))):
+    for chunk in region.each(array):
         start, shape = region.given(chunk, array)
         if array.fill is None and not array.has(chunk):
             raise Refused(f"chunk {array.key(chunk)} of {array.folder} isn't stored, and there is no fill value")

@@ -5,4 +5,5 @@
 set -euo pipefail
 tools=$(realpath "$(dirname "${BASH_SOURCE[0]}")/..")
 read -ra region <<< "$REGION"
-"$PYTHON" "$tools/copy_chunks.py" "$1" "$2" "${region[@]}" --done "$3" --resume "$3" > /dev/null
+read -ra words <<< "$WORDS"
+"$PYTHON" "$tools/copy_chunks.py" "$1" "$2" "${region[@]}" "${words[@]}" --done "$3" --resume "$3" > /dev/null

@@ -5,5 +5,6 @@
 set -euo pipefail
 tools=$(realpath "$(dirname "${BASH_SOURCE[0]}")/..")
 read -ra region <<< "$REGION"
+read -ra words <<< "$WORDS"
 "$PYTHON" "$tools/document_of.py" "$1" "$2" "${region[@]}" --share "$4" "$5" | "$CHUNKPLAN" |
-    "$PYTHON" "$tools/copy_chunks.py" "$1" "$2" "${region[@]}" --done "$3/done.$4" --resume "$3/done.$4" > /dev/null
+    "$PYTHON" "$tools/copy_chunks.py" "$1" "$2" "${region[@]}" "${words[@]}" --done "$3/done.$4" --resume "$3/done.$4" > /dev/null

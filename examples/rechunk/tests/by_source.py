@@ -122,10 +122,6 @@ def worker(chunkplan, generator, count):
         first = tool("copy_chunks.py", *words, input="".join([plan[5], plan[2]]))
         yield "two lines", first.stdout == "".join(f'{{"number": {number}, "of": 8, "order": "source"}}\n' for number in (5, 2))
         yield "each read once", "12 chunks written, 2 read" in first.stderr
-        again = tool("copy_chunks.py", *ends, "--alone", input=plan[5])
-        yield "one of them again", again.returncode == 0
-        steps = disk_steps(*ends, "--alone", input=plan[5])
-        yield "each takes the place of the old one when the disk has it", steps == ["fsync", "rename"] * len(json.loads(plan[5])["to"])
         told = tool("check_done.py", ends[1], room / "done", "--by-source", ends[0])
         yield "six are missing", told.returncode == 1 and "6 of 8 chunks weren't done: 0.0, 1.0, 3.0, 4.0, 6.0, .." in told.stderr
         told = tool("check_done.py", ends[1], room / "done")
@@ -141,11 +137,15 @@ def worker(chunkplan, generator, count):
         lost = "chunk 3/2 of {} was lost since line {} was done"
         told = tool("copy_chunks.py", *words, input="".join(plan))
         yield "it is seen", told.returncode == 1 and lost.format(ends[1], 6) in told.stderr and not (ends[1] / "3/2").exists()
-        (room / "six").write_text("".join(line for line in (first.stdout + second.stdout).splitlines(True) if '"number": 6,' not in line))
+        (room / "six").write_text("".join(line for line in (room / "done").read_text().splitlines(True) if '"number": 6,' not in line))
         told = tool("copy_chunks.py", *ends, "--alone", "--resume", room / "six", "--verbose", input="".join(plan))
         yield "it is seen behind the line that begins it", told.returncode == 1 and lost.format(ends[1], 7) in told.stderr and (ends[1] / "3/2").exists()
         told = tool("copy_chunks.py", *ends, "--alone", input="".join(plan))
         yield "and made again", told.returncode == 0 and numpy.array_equal(zarr.open_array(str(ends[1]), mode="r")[...], elements)
+        again = tool("copy_chunks.py", *ends, "--alone", input=plan[5])
+        yield "one line again", again.returncode == 0
+        steps = disk_steps(*ends, "--alone", input=plan[5])
+        yield "each takes the place of the old one when the disk has it", steps == ["fsync", "rename"] * len(json.loads(plan[5])["to"])
         # two workers alone
         shutil.rmtree(ends[1] / ".unfinished", ignore_errors=True)  # as the end of another run may do
         with open(ends[1] / ".zarray", "rb") as other:
@@ -162,6 +162,49 @@ def worker(chunkplan, generator, count):
         for words in (("--keys",), ("--subset", "0,0", "9,9")):
             run = subprocess.run([chunkplan], input=tool("document_of.py", *ends, "--by-source", *words).stdout, capture_output=True, text=True)
             yield f"no plan {words}", (run.returncode, run.stdout) == (1, "") and "doesn't go with `order`" in run.stderr
+
+
+def made_anew(chunkplan, generator, count):
+    """A chunk that several lines write, and that something else writes between two runs: no line that wrote it is passed over."""
+    with tempfile.TemporaryDirectory() as room:
+        room = pathlib.Path(room)
+        ends, done = [room / "source", room / "target"], room / "done"
+        elements = numpy.arange(3000, dtype="<i4").reshape(60, 50)
+        make_2(ends[0], [60, 50], [8, 50], dtype="<i4")[...] = elements
+        make_2(ends[1], [60, 50], [17, 13], dtype="<i4", fill_value=-1)
+        plan, words = by_lines(chunkplan, *ends), [*ends, "--alone", "--done", done, "--resume", done]
+        chunk = ends[1] / "0.0"
+
+        def all_lines(became):
+            """Whether the lines are refused, and are done when the file of what was done is removed."""
+            told = tool("copy_chunks.py", *words, input="".join(plan))
+            refused = told.returncode == 1 and f"chunk 0.0 of {ends[1]} was {became} since line 0 was done: remove {done}" in told.stderr
+            done.unlink()
+            told = tool("copy_chunks.py", *words, input="".join(plan))
+            return refused and told.returncode == 0 and numpy.array_equal(zarr.open_array(str(ends[1]), mode="r")[...], elements)
+
+        yield "some lines", tool("copy_chunks.py", *words, input="".join(plan[:2])).returncode == 0
+        # one that was begun, by a worker that was killed before it had its key
+        with open(done, "a") as begun:
+            begun.write('{"begun": "0.0", "by": [2, 8], "is": [1, 2, 3]}\n')
+        yield "all of them", tool("copy_chunks.py", *words, input="".join(plan)).returncode == 0
+        told = tool("copy_chunks.py", *words, "--verbose", input="".join(plan))
+        yield "once more", told.returncode == 0 and "0 chunks written, 0 read" in told.stderr
+        zarr.open_array(str(ends[1]))[:17, :13] = 7
+        yield "by zarr-python", all_lines("changed")
+        chunk.write_bytes(chunk.read_bytes())
+        yield "in its place", all_lines("changed")
+        chunk.write_bytes(b"")
+        yield "without a byte", all_lines("lost")
+        # a chunk as it was when only some lines were done
+        done.unlink()
+        first = tool("copy_chunks.py", *words, input=plan[0]).returncode
+        (room / "old").hardlink_to(chunk)
+        yield "two runs", first == tool("copy_chunks.py", *words, input="".join(plan)).returncode == 0
+        (room / "old").replace(chunk)
+        yield "as it was", all_lines("changed")
+        told = tool("copy_chunks.py", *words[:-2], input="".join(plan))
+        yield "not resumed", told.returncode == 1 and f"{done} has lines of another run" in told.stderr and told.stdout == ""
 
 
 def splits(chunkplan, generator, count):
@@ -215,4 +258,4 @@ def killed(chunkplan, generator, count):
 
 
 if __name__ == "__main__":
-    moves.main([kinds, lines, worker, splits, killed])
+    moves.main([kinds, lines, worker, made_anew, splits, killed])

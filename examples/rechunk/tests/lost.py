@@ -6,11 +6,17 @@
 CHUNKPLAN is the built program. It needs numpy and zarr-python 2 (Debian: python3-zarr).
 """
 import json
+import lzma
 import os
 import pathlib
+import re
+import resource
+import shlex
+import shutil
 import subprocess
 import sys
 import tempfile
+import time
 import zlib
 
 import numcodecs
@@ -18,8 +24,11 @@ import numpy
 import zarr
 
 import moves  # which has the folder of the scripts on the path
+from copy_chunks import done_in
 from moves import TOOLS, make_2, plan_of, tool
 from stored_arrays import open_array
+
+CALLING = TOOLS.parent.parent / "crates" / "chunkplan" / "CALLING.md"
 
 
 def two_arrays(room):
@@ -89,6 +98,9 @@ def missing_chunks(chunkplan, generator, moves):
         (ends[0] / "3" / "0").unlink()
         told = tool("copy_chunks.py", *ends, "--missing-is-an-error", input="".join(plan))
         yield "a missing chunk", told.returncode == 1 and "chunk 3/0 of" in told.stderr and len(told.stdout.splitlines()) == 1
+        environment = {**on_path(chunkplan, pathlib.Path(folder)), "WORDS": "--missing-is-an-error"}
+        told = tool("engines/xargs_shares.sh", *ends, pathlib.Path(folder, "room"), env=environment)
+        yield "by an engine", told.returncode == 1 and "chunk 3/0 of" in told.stderr
         yield "it has the fill value else", tool("copy_chunks.py", *ends, "--done", pathlib.Path(folder, "done"), input="".join(plan)).returncode == 0
         yield "all were done", tool("check_done.py", ends[1], pathlib.Path(folder, "done")).returncode == 0
         (ends[1] / "2.0").write_bytes(b"")
@@ -100,9 +112,11 @@ def missing_chunks(chunkplan, generator, moves):
 
 def finished_rooms(chunkplan, generator, moves):
     """A room in which a run ended well, and then the source was changed: a chunk of it, or its metadata."""
-    environment = {**os.environ, "CHUNKPLAN": chunkplan, "PYTHON": sys.executable, "SHARES": "2"}
-    for script, more in (("engines/xargs_shares.sh", []), ("two_stages.sh", [100])):
+    scripts = [("engines/xargs_shares.sh", []), ("two_stages.sh", [100])]
+    scripts += [("engines/parallel_shares.sh", [])] if shutil.which("parallel") else []
+    for script, more in scripts:
         with tempfile.TemporaryDirectory() as folder:
+            environment = {**on_path(chunkplan, pathlib.Path(folder)), "SHARES": "2"}
             ends = two_arrays(pathlib.Path(folder))
             run = lambda *words: tool(script, *ends, pathlib.Path(folder, "room"), *more, *words, env=environment)
             moved = lambda: numpy.asarray(zarr.open_array(str(ends[1]), mode="r")[...]).tolist()
@@ -114,6 +128,100 @@ def finished_rooms(chunkplan, generator, moves):
             yield f"{script}: another word", run("--anew").returncode == 1
             yield f"{script}: again", run("--again").returncode == 0 and moved() == [[9] * 4] * 10
             yield f"{script}: and once more", run().returncode == 0
+
+
+def by_page(chunkplan, room, words):
+    """Runs the commands of a page's block that has some words, on the arrays of a room."""
+    pages = ((TOOLS / "README.md").read_text(), CALLING.read_text())
+    [block] = (block for page in pages for block in re.findall(r"^```sh\n(?!\$)(.*?)^```$", page, re.DOTALL | re.MULTILINE) if words in block)
+    for name, path in (("SOURCE", "source"), ("TARGET", "target"), ("DONE", "done")):
+        block = re.sub(rf"\b{name}\b", shlex.quote(str(room / path)), block)
+    return subprocess.run(["bash", "-c", block], cwd=TOOLS, env=on_path(chunkplan, room), capture_output=True, text=True)
+
+
+def on_path(chunkplan, room):
+    """An environment that has both programs, on `PATH` too, by links in a room."""
+    links = room / "bin"
+    for name, program in (("chunkplan", chunkplan), ("python3", sys.executable)):
+        links.mkdir(exist_ok=True)
+        (links / name).unlink(missing_ok=True)
+        (links / name).symlink_to(program)
+    return {**os.environ, "PATH": f"{links}:{os.environ['PATH']}", "CHUNKPLAN": chunkplan, "PYTHON": sys.executable}
+
+
+def done_files(chunkplan, generator, moves):
+    """A file of what was done, used again when the arrays are others: their elements, metadata, or the region."""
+    for words in ("TARGET | chunkplan", "--by-source |"):
+        with tempfile.TemporaryDirectory() as folder:
+            room = pathlib.Path(folder)
+            ends = two_arrays(room)
+            run = lambda: by_page(chunkplan, room, words)
+            moved = lambda: numpy.asarray(zarr.open_array(str(ends[1]), mode="r")[...]).tolist()
+            yield f"{words}: the first run", run().returncode == 0 and moved() == numpy.arange(40).reshape(10, 4).tolist()
+            written = (ends[1] / "2.0").stat()
+            yield f"{words}: nothing was changed", run().returncode == 0 and (ends[1] / "2.0").stat() == written
+            zarr.open_array(str(ends[0]), mode="r+")[5] = 9
+            changed = numpy.arange(40).reshape(10, 4)
+            changed[5] = 9
+            yield f"{words}: a chunk of the source", run().returncode == 0 and moved() == changed.tolist()
+            (ends[0] / "5" / "0").write_bytes(b"no")
+            told = run()
+            yield f"{words}: a broken one", told.returncode == 1 and "chunk 5/0 of" in told.stderr and "were done" not in told.stdout
+            (ends[0] / "5" / "0").unlink()
+            changed[5] = -1
+            yield f"{words}: a missing one", run().returncode == 0 and moved() == changed.tolist()
+            (ends[0] / ".zarray").write_text((ends[0] / ".zarray").read_text().replace('"fill_value": -1', '"fill_value": -2'))
+            changed[5] = -2
+            yield f"{words}: the fill value", run().returncode == 0 and moved() == changed.tolist()
+    with tempfile.TemporaryDirectory() as folder:
+        ends, done = two_arrays(pathlib.Path(folder)), pathlib.Path(folder, "done")
+        for start in ("0,0", "4,0"):
+            words = [*ends, "--subset", start, "4,4"]
+            plan = subprocess.run([chunkplan], input=tool("document_of.py", *words).stdout, capture_output=True, text=True).stdout
+            yield f"the region at {start}", tool("copy_chunks.py", *words, "--done", done, "--resume", done, input=plan).returncode == 0
+        yield "the second region", zarr.open_array(str(ends[1]), mode="r")[:4].tolist() == numpy.arange(16, 32).reshape(4, 4).tolist()
+        zarr.open_array(str(ends[1]), mode="r+")[:2] = 0
+        told = tool("copy_chunks.py", *words, "--done", done, "--resume", done, "--verbose", input=plan)
+        moved = zarr.open_array(str(ends[1]), mode="r")[:4].tolist()
+        yield "a chunk of the target", "1 chunks written" in told.stderr and moved == numpy.arange(16, 32).reshape(4, 4).tolist()
+
+
+def by_keys(chunkplan, generator, moves):
+    """Runs by keys, as the page has them: a chunk of other elements, under a key that is there, is seen after the run."""
+    with tempfile.TemporaryDirectory() as folder:
+        room = pathlib.Path(folder)
+        ends = two_arrays(room)
+        run = lambda: by_page(chunkplan, room, "--keys |")
+        told = run()
+        yield "the first run", (told.returncode, told.stdout) == (0, "equal\n")
+        (ends[1] / "1.0").unlink()
+        (ends[1] / "3.0").write_bytes(b"")
+        told = run()
+        yield "two are missing", (told.returncode, told.stdout) == (0, "equal\n")
+        zarr.open_array(str(ends[0]), mode="r+")[5] = 9
+        told = run()
+        yield "another source", told.returncode == 1 and "differs at [5, 0]" in told.stderr
+        (ends[1] / "2.0").unlink()
+        (ends[1] / "junk\n2.0").write_bytes(b"1")
+        told = run()
+        yield "a name of two lines", told.returncode == 1 and "whose name can't be a line" in told.stderr
+
+
+def keys_of_page(chunkplan, generator, moves):
+    """The keys of a folder as the page of `chunkplan` has them listed: no name of a file is two lines."""
+    [command] = re.findall(r"`(find [^`]*)`", CALLING.read_text())
+    with tempfile.TemporaryDirectory() as folder:
+        ends = two_arrays(pathlib.Path(folder))
+        plan = plan_of(chunkplan, *map(open_array, ends))
+        tool("copy_chunks.py", *ends, input="".join(plan[1:3]))
+        for name, held in (("junk\n0.0", b"1"), ("3.0\r", b"1"), ("4.0", b"")):
+            (ends[1] / name).write_bytes(held)
+        listed = subprocess.run(["bash", "-c", command], cwd=ends[1], capture_output=True, check=True).stdout
+        document = json.dumps({**json.loads(tool("document_of.py", *ends).stdout), "keys": True}) + "\n"
+        told = subprocess.run([chunkplan], input=document.encode() + listed, capture_output=True, check=True).stdout
+        lines = list(map(json.loads, told.splitlines()))
+        yield "the lines", [line["to"]["key"] for line in lines if "to" in line] == ["0.0", "3.0", "4.0"]
+        yield "the other files", sorted(line["foreign"] for line in lines if "to" not in line) == [".zarray", "3.0\r", "junk\0" "0.0"]
 
 
 def file_names(chunkplan, generator, moves):
@@ -178,6 +286,78 @@ def bombs(chunkplan, generator, moves):
             yield f"{what}: {len(stored)} bytes", told.returncode == 1 and "can't be decoded: more than" in told.stderr and told.stdout == ""
 
 
+def dictionaries(chunkplan, generator, moves):
+    """Chunks of LZMA that ask for a dictionary of gigabytes, in a stream of each kind; one by the greatest preset is decoded."""
+    elements = numpy.arange(4, dtype="<i4")
+    greatest = bytearray(lzma.compress(elements.tobytes()))
+    end = 12 + 4 * (greatest[12] + 1)  # of the header of the first block: its size, flags, filter, 1, and the dictionary
+    assert greatest[14:16] == b"\x21\x01"
+    greatest[16] = 40  # 4 GB
+    greatest[end - 4 : end] = zlib.crc32(greatest[12 : end - 4]).to_bytes(4, "little")
+    alone = lzma.compress(elements.tobytes(), lzma.FORMAT_ALONE)
+    raw = [{"id": lzma.FILTER_LZMA2, "dict_size": 2**20}]
+    rows = [
+        ("xz", numcodecs.LZMA(), bytes(greatest), "Memory usage limit exceeded"),
+        ("alone", numcodecs.LZMA(lzma.FORMAT_ALONE), alone[:1] + (2**32 - 1).to_bytes(4, "little") + alone[5:], "Memory usage limit exceeded"),
+        ("raw", numcodecs.LZMA(lzma.FORMAT_RAW, filters=[{**raw[0], "dict_size": 2**30}]), lzma.compress(elements, lzma.FORMAT_RAW, filters=raw), "a dictionary of"),
+        ("preset 9", numcodecs.LZMA(preset=9), lzma.compress(elements, preset=9), None),
+        ("raw, small", numcodecs.LZMA(lzma.FORMAT_RAW, filters=raw), lzma.compress(elements, lzma.FORMAT_RAW, filters=raw), None),
+    ]
+    for what, compressor, stored, why in rows:
+        with tempfile.TemporaryDirectory() as folder:
+            ends = [pathlib.Path(folder, name) for name in ("source", "target")]
+            for end, codec in zip(ends, (compressor, None)):
+                make_2(end, [4], [4], dtype="<i4", fill_value=-1, compressor=codec)
+            (ends[0] / "0").write_bytes(stored)
+            told = tool("copy_chunks.py", *ends, input="".join(plan_of(chunkplan, *map(open_array, ends))))
+            if why:
+                yield what, told.returncode == 1 and f"can't be decoded: {why}" in told.stderr and told.stdout == ""
+            else:
+                yield what, told.returncode == 0 and (ends[1] / "0").read_bytes() == elements.tobytes()
+
+
+def many_chunks(chunkplan, generator, moves):
+    """An array of a hundred thousand million chunks: each script streams, or says a line, in little memory."""
+    limits = {"preexec_fn": lambda: resource.setrlimit(resource.RLIMIT_DATA, (2**30, 2**30)), "timeout": 60, "env": {**os.environ, "CHUNKPLAN": chunkplan}}
+    with tempfile.TemporaryDirectory() as folder:
+        room = pathlib.Path(folder)
+        ends, done, count = [room / "source", room / "target"], room / "done", 10**11
+        for end, edge in zip(ends, (1, 2)):
+            make_2(end, [count], [edge], dtype="<i4", fill_value=7)
+        told = tool("document_of.py", *ends, **limits)
+        with subprocess.Popen([chunkplan], stdin=subprocess.PIPE, stdout=subprocess.PIPE, text=True) as planner:
+            planner.stdin.write(told.stdout)
+            planner.stdin.close()
+            plan = [planner.stdout.readline() for _ in range(3)]
+            planner.kill()
+        told = tool("copy_chunks.py", *ends, "--done", done, input="".join(plan), **limits)
+        yield "three lines", (told.returncode, told.stderr) == (0, "") and len(done_in(done)) == 3
+        for words, left in (([], f"{count // 2 - 3} of {count // 2} chunks weren't done: 3, 4, 5, 6, 7, .."), (["--by-source", ends[0]], f"{count} of {count} chunks weren't done: 0,")):
+            told = tool("check_done.py", ends[1], done, *words, **limits)
+            yield f"check_done.py {words[:1]}", told.returncode == 1 and left in told.stderr and len(told.stderr.splitlines()) == 1
+        told = tool("make_between.py", *ends, room / "between", "--max-elements", 3, **limits)
+        yield "make_between.py", told.returncode == 0 and "two stages read" in told.stdout
+        yield "fingerprint.py", tool("fingerprint.py", ends[1], **limits).returncode == 0
+        told = tool("resize_array.py", ends[1], count + 1, **limits)
+        yield "resize_array.py", (told.returncode, told.stderr) == (0, "") and open_array(ends[1]).shape == [count + 1]
+        told = tool("resize_array.py", ends[1], count, **limits)
+        zarr.open_array(str(ends[1]), mode="r+")[3] = 8
+        command = [sys.executable, TOOLS / "verify.py", *ends]
+        with subprocess.Popen(command, stderr=subprocess.PIPE, text=True, preexec_fn=limits["preexec_fn"]) as verifying:
+            yield "verify.py", verifying.stderr.readline() == "differs at [3], in chunk 1 of the target\n"
+            time.sleep(1)
+            yield "it goes on", verifying.poll() is None
+            verifying.kill()
+        told = by_page(chunkplan, room, "--keys |")
+        yield "by keys", told.returncode == 1 and "4294967295" in told.stderr and "Traceback" not in told.stderr
+        for edge, why in ((2**40, "Unable to allocate"), (2**61, "a chunk of more than")):
+            make_2(room / "wide", [4], [2], dtype="<i4", fill_value=7)
+            (room / "wide" / ".zarray").write_text((room / "wide" / ".zarray").read_text().replace("2\n", f"{edge}\n", 1))
+            make_2(room / "few", [4], [2], dtype="<i4", fill_value=7)
+            told = tool("copy_chunks.py", room / "few", room / "wide", input="", **limits)
+            yield f"a chunk of {edge} elements", told.returncode == 1 and why in told.stderr and len(told.stderr.splitlines()) == 1
+
+
 def hostile_texts(chunkplan, generator, moves):
     """JSON that is nested more deeply than it can be read, signs that steer a terminal, and closed streams: one line says so."""
     with tempfile.TemporaryDirectory() as folder:
@@ -208,4 +388,9 @@ def of_zeros(count, window):
 
 
 if __name__ == "__main__":
-    moves.main([in_mid_run, other_keys, missing_chunks, finished_rooms, file_names, odd_files, hostile_texts, bombs])
+    moves.main(
+        [
+            in_mid_run, other_keys, missing_chunks, finished_rooms, done_files, by_keys, keys_of_page, file_names, odd_files,
+            dictionaries, many_chunks, hostile_texts, bombs,
+        ]
+    )  # fmt: skip

@@ -1,9 +1,10 @@
 #!/usr/bin/env python3
 """Plants mistakes in copies of these scripts, one at a time: the tests have to fail on each.
 
-    planted.py CHUNKPLAN
+    planted.py CHUNKPLAN [WORD]
 
-It takes some minutes. It ends with the status 1 where the tests accept a mistake.
+With WORD only the mistakes are planted that have it in what is wrong or in the test. It takes some minutes. It ends with the
+status 1 where the tests accept a mistake.
 """
 import pathlib
 import shutil
@@ -44,7 +45,7 @@ PLANTED = [
     ),
     (
         "what was done is passed over though it isn't stored",
-        [("copy_chunks.py", "        return not gone\n", "        return True\n")],
+        [("copy_chunks.py", "        return mark == mark_of(line, self.source, self.target, read, written)\n", "        return True\n")],
         "moves.py worker",
     ),
     ("what is unfinished is left", [("copy_chunks.py", "            unfinished.unlink(missing_ok=True)\n", "")], "moves.py worker"),
@@ -135,14 +136,76 @@ PLANTED = [
     ),
     ("what was done of another source stays done", [("finished.sh", '!= "$mark" ]', "= no ]")], "lost.py finished_rooms"),
     (
+        "a line stays done whatever it would read",
+        [("copy_chunks.py", "        return mark == mark_of(line, self.source, self.target, read, written)\n", "        return None not in written\n")],
+        "lost.py done_files",
+    ),
+    (
+        "a line stays done though its chunks of the source are others",
+        [("copy_chunks.py", "source.written, target.written, read, written]", "source.written, target.written, written]")],
+        "cut.py runs",
+    ),
+    (
+        "a line stays done under other metadata",
+        [("copy_chunks.py", "source.written, target.written, read, written]", "read, written]")],
+        "lost.py done_files",
+    ),
+    (
+        "the page's commands forget that the worker failed",
+        [("README.md", "--resume DONE > /dev/null &&\n    ./check_done.py TARGET DONE\n", "--resume DONE > /dev/null\n    ./check_done.py TARGET DONE\n")],
+        "lost.py done_files",
+    ),
+    ("nothing is compared behind a run by keys", [("README.md", " && ./verify.py SOURCE TARGET\n", "\n")], "lost.py by_keys"),
+    (
+        "a file's name that is two lines hides a chunk",
+        [("../../crates/chunkplan/CALLING.md", r"find . -type f -size +0 -printf '%P\0' | tr '\n\0' '\0\n'", "find . -type f -size +0 | cut -c 3-")],
+        "lost.py keys_of_page",
+    ),
+    ("a few bytes take a dictionary of gigabytes", [("stored_arrays.py", "(form, memlimit=room)", "(form)")], "lost.py dictionaries"),
+    (
+        "all chunks of an array are held at once",
+        [("region.py", "        return (self.chunk_at(number, target) for number in range(self.count(target)))", "        return [self.chunk_at(number, target) for number in range(self.count(target))]")],
+        "lost.py many_chunks",
+    ),
+    (
+        "two stages are done though the target was changed",
+        [("two_stages.sh", '"$PYTHON" "$tools/fingerprint.py" "$target" | cmp -s - "$room/left" &&\n', "\n")],
+        "two_stages.py script",
+    ),
+    (
+        "a chunk that was lost between two stages has the fill value",
+        [("two_stages.sh", '"$target" --missing-is-an-error', '"$target"')],
+        "two_stages.py script",
+    ),
+    (
+        "a chunk that is rewritten is away for a moment",
+        [("resize_array.py", "    store.put(line[", "    array.path(line[\"chunk\"]).unlink()\n    store.put(line[")],
+        "cut.py resizes",
+    ),
+    (
         "what other lines gave a chunk is lost",
         [("copy_chunks.py", '        chunk[...] = target.read(piece["chunk"])\n', "        chunk[...] = 0\n")],
         "by_source.py kinds",
     ),
     (
-        "a chunk that was lost and begun anew is taken for whole",
-        [("copy_chunks.py", "                self.begun |= {", "                {")],
+        "a chunk that this run wrote is taken for another program's",
+        [("copy_chunks.py", 'if to["key"] not in self.became:', "if True:")],
         "by_source.py worker",
+    ),
+    (
+        "a chunk that another program wrote is passed over",
+        [("copy_chunks.py", 'is_left = identity in self.left.get(to["key"], [])', "is_left = identity is not None")],
+        "by_source.py made_anew",
+    ),
+    (
+        "a chunk as it was before some lines is passed over",
+        [("copy_chunks.py", '                left[line["begun"]] = []\n', "                pass\n")],
+        "by_source.py made_anew",
+    ),
+    (
+        "two runs that weren't one stand in a file",
+        [("copy_chunks.py", "words.done != words.resume and any(lines_in(words.done))", "False")],
+        "by_source.py made_anew",
     ),
     ("several workers may change one chunk", [("copy_chunks.py", "    if shared and not words.alone:", "    if False:")], "by_source.py worker"),
     ("two workers are alone", [("copy_chunks.py", "    if words.alone:\n", "    if False:\n")], "by_source.py worker"),
@@ -176,7 +239,7 @@ PLANTED = [
     ),
     (
         "a worker keeps a chunk that it read",
-        [("copy_chunks.py", "while self.size > self.most:", "while self.size - elements.nbytes > self.most:")],
+        [("copy_chunks.py", "while self.size > self.most:", "while self.size - elements.nbytes - self.BESIDE > self.most:")],
         "two_stages.py memory",
     ),
     ("the cache has no bound", [("copy_chunks.py", "while self.size > self.most:", "while False:")], "moves.py worker"),
@@ -184,8 +247,11 @@ PLANTED = [
 
 
 def planted(folder, edits):
-    """A copy of the scripts with some edits, each of which has to be one."""
+    """A copy of the scripts, and of the page that they name, with some edits, each of which has to be one."""
     shutil.copytree(TOOLS, folder, ignore=shutil.ignore_patterns("__pycache__"))
+    page = pathlib.Path("..", "..", "crates", "chunkplan", "CALLING.md")
+    (folder / page).parent.mkdir(parents=True)
+    shutil.copy(TOOLS / page, folder / page)
     for name, old, new in edits:
         text = (folder / name).read_text()
         assert text.count(old) == 1, f"{old!r} stands {text.count(old)} times in {name}"
@@ -193,18 +259,20 @@ def planted(folder, edits):
 
 
 def main():
-    accepted = 0
-    for what, edits, test in PLANTED:
+    accepted, word = 0, (sys.argv[2:] or [""])[0]
+    chosen = [row for row in PLANTED if word in row[0] or word in row[2]]
+    for what, edits, test in chosen:
         with tempfile.TemporaryDirectory() as room:
-            copied = pathlib.Path(room, "rechunk")
+            copied = pathlib.Path(room, "examples", "rechunk")
             planted(copied, edits)
             script, part = test.split()
             words = ["--engines", "xargs_shares", "--rounds", "4", "--faults", part] if script == "faults.py" else ["--checks", part]
+            words += ["--moves", "30"] if script == "cut.py" else []
             run = subprocess.run([sys.executable, copied / "tests" / script, sys.argv[1], *words], capture_output=True, text=True)
             told = [line for line in run.stdout.splitlines() if "WRONG" in line or "FAILED" in line]
             accepted += not told
             print(f"{'refused' if told else 'ACCEPTED'} by {test}: {what}", *told[:1], sep="\n    ", flush=True)
-    print(f"{len(PLANTED)} mistakes, {accepted} accepted")
+    print(f"{len(chosen)} mistakes, {accepted} accepted")
     sys.exit(bool(accepted))
 
 

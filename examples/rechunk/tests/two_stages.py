@@ -102,6 +102,14 @@ def kinds(chunkplan, generator, count):
                 yield what, same(elements, numpy.asarray(moved))
 
 
+# A planner that removes a chunk before it plans the second stage.
+LOSING = """#!/bin/sh
+document=$(cat)
+case $document in *'"stage": 2'*) rm {between}/c/0/0;; esac
+echo "$document" | {chunkplan}
+"""
+
+
 def script(chunkplan, generator, count):
     """What `two_stages.sh` writes, goes on from, removes and refuses: layers of an array of 60 x 50 elements go to
     columns."""
@@ -148,6 +156,19 @@ def script(chunkplan, generator, count):
         yield "once more", told.returncode == 0 and told.stdout == "all 8 chunks were done\n" and not between.exists()
         (ends[1] / "0/3").unlink()
         yield "a chunk was lost", run(700).returncode == 0 and is_moved() and not between.exists()
+        zarr.open_array(str(ends[1]))[3, 3] = 7
+        yield "a chunk was changed", run(700).returncode == 0 and is_moved() and not between.exists()
+        (work / "finished").unlink()  # as where a run was killed before its end
+        elements[5] = 7
+        zarr.open_array(str(ends[0]))[5] = 7
+        yield "the source was changed", run(700).returncode == 0 and is_moved()
+        # an intermediate chunk is lost when the second stage begins
+        (room / "losing").write_text(LOSING.format(between=between, chunkplan=chunkplan))
+        (room / "losing").chmod(0o755)
+        zarr.open_array(str(ends[1]))[3, 3] = 7
+        told = run(700, CHUNKPLAN=str(room / "losing"))
+        yield "a chunk between was lost", told.returncode == 1 and f"of {between} isn't stored" in told.stderr
+        yield "it is made again", run(700).returncode == 0 and is_moved()
         yield "where one stage would do", run(10**6, room / "more").returncode == 0 and is_moved()
         make_2(room / "texts", [4], [2], dtype="<U3")
         told = tool("make_between.py", room / "texts", room / "texts", between, "--max-elements", 9, env=environment)
