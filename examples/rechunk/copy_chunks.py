@@ -373,15 +373,18 @@ def done_in(file, order="target"):
     return {(line["number"], line["of"]): line.get("mark") for line in numbered}
 
 
-def left_in(file, done):
+def left_in(file):
     """The identities that chunks which several lines write may have, by key. They are of the last line that was done, and of
     lines that were begun since."""
-    left = {}
+    left, begun = {}, collections.defaultdict(list)
     for line in lines_in(file):
         if "begun" in line:
-            if tuple(line["by"]) in done:
-                left[line["begun"]] = []
             left.setdefault(line["begun"], []).append(line["is"])
+            begun[tuple(line["by"])].append((line["begun"], line["is"]))
+        else:
+            for key, identity in begun.pop((line.get("number"), line.get("of")), []):
+                if identity in left[key]:
+                    del left[key][: left[key].index(identity)]
     return left
 
 
@@ -397,7 +400,7 @@ class Resumed:
     def __init__(self, file, source, target):
         self.file, self.source, self.target = file, source, target
         self.done = {order: done_in(file, order) if file else {} for order in ("target", "source")}
-        self.left = left_in(file, self.done["source"]) if self.done["source"] else {}
+        self.left = left_in(file) if self.done["source"] else {}
         self.became = {}  # of chunks that several lines write: nothing, or that it was lost or changed before this run
 
     def became_of(self, to):
@@ -440,11 +443,11 @@ def copy(lines, source, target, region, words):
     """Does each line of a plan."""
     sources, store, progress = Sources(source, target, region, words.cache * 10**6, words.missing_is_an_error), Store(target), Progress()
     record = Record(target.folder, words.done, not words.no_sync)
-    resumed = Resumed(words.resume, source, target)
     if words.alone:
         store.lock()
         if words.done and words.done != words.resume and any(lines_in(words.done)):
             raise Refused(f"{words.done} has lines of another run: go on from it by --resume, or name another file")
+    resumed = Resumed(words.resume, source, target)
     chunk = target.new_chunk()  # the same memory for all of them
     done, written, of = 0, 0, 0
     try:

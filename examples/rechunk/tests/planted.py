@@ -199,7 +199,7 @@ PLANTED = [
     ),
     (
         "a chunk as it was before some lines is passed over",
-        [("copy_chunks.py", '                left[line["begun"]] = []\n', "                pass\n")],
+        [("copy_chunks.py", "                if identity in left[key]:", "                if False:")],
         "by_source.py made_anew",
     ),
     (
