@@ -7,10 +7,11 @@ ARRAY is the folder of a Zarr array, of format 2 or 3; SHAPE is a size for each 
 `PATH`, or named in `CHUNKPLAN`. Elements that both shapes have stay; those that come have the fill value.
 
 The whole plan is checked before the first byte changes. A shape that can't be, a missing program, a chunk that needs a fill
-value that isn't there, and consolidated metadata that can't follow leave the array as it is. Where the array shrinks its metadata change first, and where it grows last; where it does both it shrinks and then
-grows. So a reader finds elements of the shape that it reads, or the fill value. Consolidated metadata of format 2
-(`.zmetadata`), of the array or of a group above it, change with the array's. After a run that was cut off, run the same
-again, with the old shape as `--was`: chunks that were done are done once more, with the same outcome.
+value that isn't there, and consolidated metadata that can't follow leave the array as it is. Where the array shrinks its
+metadata change first, and where it grows last; where it does both it shrinks and then grows. So a reader finds elements of
+the shape that it reads, or the fill value. Consolidated metadata of format 2 (`.zmetadata`), of the array or of a group above
+it, change with the array's. After a run that was cut off, run the same again, with the old shape as `--was`: chunks that were
+done are done once more, with the same outcome.
 """
 import argparse
 import contextlib

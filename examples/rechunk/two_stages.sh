@@ -31,7 +31,7 @@ if [ -e "$room/document" ] && ! cmp -s "$room/document" "$room/document.new"; th
     exit 1
 fi
 mv "$room/document.new" "$room/document"
-. "$tools/finished.sh" "$source" "$room" "${5:-}"
+. "$tools/finished.sh" "$room" "${5:-}"
 
 # If a run ended well and nothing changed TARGET since, the stages aren't done again: the array between was removed.
 is_left() {

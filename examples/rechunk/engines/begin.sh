@@ -23,7 +23,7 @@ if [ -e "$room/document" ] && ! cmp -s "$room/document" "$room/document.new"; th
     exit 1
 fi
 mv "$room/document.new" "$room/document"
-. "$tools/finished.sh" "$source" "$room" "${4:-}"
+. "$tools/finished.sh" "$room" "${4:-}"
 
 # Ends with the status 0 where the engine did, and each chunk was done.
 end() {

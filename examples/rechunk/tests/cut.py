@@ -1,14 +1,14 @@
 #!/usr/bin/env python3
-"""Cuts moves and resizes off at random points, or lets something go wrong there, and runs them again: each run has to end with
-the right elements, or with another status than 0.
+"""Cuts moves and resizes off at random points, or lets something go wrong there, and runs them again. A run that ends with
+status 0 must leave the right elements.
 
     cut.py CHUNKPLAN [--seed N] [--moves N] [--checks NAME ..]
 
-A fault comes in front of a random step of a script with a file: it opens, renames or removes it, or makes a folder. There the
-script is killed, or all processes of the run; a chunk of the source is removed, cut off or edited; the whole source is gone; or
-the target can't be written. Between two runs the source may get other elements, or another program may write or remove a chunk
-of the target. In the end all elements are compared with numpy's. CHUNKPLAN is the built program. It needs numpy and
-zarr-python 2 (Debian: python3-zarr).
+A fault comes before a random step of a script with a file: it opens, renames or removes it, or makes a folder. The fault kills
+the script or all processes of the run. Or it removes, cuts off or edits a chunk of the source, renames the source, or makes the
+target's disk read-only or full. Between two runs the source may get other elements, or another program may write or remove a
+chunk of the target. All elements are compared with numpy's. CHUNKPLAN is the built program. It needs numpy and zarr-python 2
+(Debian: python3-zarr).
 """
 import concurrent.futures
 import contextlib
@@ -20,6 +20,7 @@ import random
 import shutil
 import subprocess
 import tempfile
+import time
 
 import numcodecs
 import numpy
@@ -32,7 +33,7 @@ from regions import slices
 from resizes import resized
 from stored_arrays import open_array
 
-# Each Python of a run begins with this. Of the scripts with a name the first one that comes so far runs a command.
+# Each Python of a run begins with this. The first script with a name that reaches a step runs a command before it.
 HOOK = """
 import os, subprocess, sys
 
@@ -77,7 +78,7 @@ class Ending:
 
 
 class Cut:
-    """What a run is given in its environment: where its scripts come to a step, and what happens there."""
+    """What a run has in its environment: the step of a script, and what happens there."""
 
     def __init__(self, room, chunkplan, **more):
         self.room, self.token = room, room / "token"
@@ -102,7 +103,7 @@ class Cut:
         """Waits for what was left running where an engine was killed."""
         mark = f"CUT_TOKEN={self.token}".encode()
         while any(mark in held for held in environments()):
-            pass
+            time.sleep(0.05)
 
 
 def environments():
@@ -168,7 +169,7 @@ class Move:
             return self.cut.run(WAYS[self.way], step, command, name, **more)
 
     def happens(self, fault, mended):
-        """The command by which a fault comes, and what mends it behind the run."""
+        """The command by which a fault comes. What mends it is called after the run."""
         path, aside = self.chunk_of(self.source), self.source.with_name("aside")
         held = path.read_bytes()
         if fault in IN_SOURCE:
@@ -220,7 +221,7 @@ def ways(move, faults):
             changed = True
             continue
         status, told, came = move.run(fault)
-        changed |= came and fault in IN_SOURCE  # which is mended behind the run
+        changed |= came and fault in IN_SOURCE  # which is mended after the run
         ending.was_killed |= came and fault in KILLS
         is_refused = status != 0 and not (came and fault in KILLS)
         ending.was_refused |= is_refused
@@ -302,7 +303,7 @@ def has_kept(array, elements, common):
 
 
 def counted(what, one, chunkplan, generator, count):
-    """Whether each of so many runs ended right; how many were killed and refused is printed."""
+    """Whether each of some runs ended right; how many were killed and refused is printed."""
     seeds = [f"{generator.random()} {number}" for number in range(count)]
     with concurrent.futures.ThreadPoolExecutor(len(os.sched_getaffinity(0))) as pool:
         endings = list(pool.map(lambda seed: one(chunkplan, seed), seeds))

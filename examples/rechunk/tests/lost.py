@@ -130,6 +130,32 @@ def finished_rooms(chunkplan, generator, moves):
             yield f"{script}: and once more", run().returncode == 0
 
 
+# A planner that changes a chunk of a source, when it has planned.
+CHANGING = """#!/bin/sh
+{chunkplan}
+cp {changed} {chunk}
+"""
+
+
+def changed_in_run(chunkplan, generator, moves):
+    """A source that is changed while an engine reads it."""
+    for script, more in (("engines/xargs_shares.sh", []), ("two_stages.sh", [100])):
+        with tempfile.TemporaryDirectory() as folder:
+            room = pathlib.Path(folder)
+            ends, planner, elements = two_arrays(room), room / "planner", numpy.arange(40).reshape(10, 4)
+            array, chunk = zarr.open_array(str(ends[0]), mode="r+"), ends[0] / "9" / "0"
+            held, array[9], elements[9] = chunk.read_bytes(), 7, 7
+            shutil.copy(chunk, room / "changed")
+            chunk.write_bytes(held)
+            planner.write_text(CHANGING.format(chunkplan=chunkplan, changed=room / "changed", chunk=chunk))
+            planner.chmod(0o755)
+            run = lambda program: tool(script, *ends, room / "room", *more, env={**on_path(program, room), "SHARES": "2"})
+            told = run(str(planner))
+            yield f"{script}: it is refused", told.returncode == 1 and "was changed while it was read: run the same again" in told.stderr
+            told = run(chunkplan)
+            yield f"{script}: again", told.returncode == 0 and zarr.open_array(str(ends[1]), mode="r")[...].tolist() == elements.tolist()
+
+
 def by_page(chunkplan, room, words):
     """Runs the commands of a page's block that has some words, on the arrays of a room."""
     pages = ((TOOLS / "README.md").read_text(), CALLING.read_text())
@@ -296,12 +322,13 @@ def dictionaries(chunkplan, generator, moves):
     greatest[end - 4 : end] = zlib.crc32(greatest[12 : end - 4]).to_bytes(4, "little")
     alone = lzma.compress(elements.tobytes(), lzma.FORMAT_ALONE)
     raw = [{"id": lzma.FILTER_LZMA2, "dict_size": 2**20}]
+    small = lzma.compress(elements, lzma.FORMAT_RAW, filters=raw)
     rows = [
         ("xz", numcodecs.LZMA(), bytes(greatest), "Memory usage limit exceeded"),
         ("alone", numcodecs.LZMA(lzma.FORMAT_ALONE), alone[:1] + (2**32 - 1).to_bytes(4, "little") + alone[5:], "Memory usage limit exceeded"),
-        ("raw", numcodecs.LZMA(lzma.FORMAT_RAW, filters=[{**raw[0], "dict_size": 2**30}]), lzma.compress(elements, lzma.FORMAT_RAW, filters=raw), "a dictionary of"),
+        ("raw", numcodecs.LZMA(lzma.FORMAT_RAW, filters=[{**raw[0], "dict_size": 2**30}]), small, "a dictionary of"),
+        ("raw, small", numcodecs.LZMA(lzma.FORMAT_RAW, filters=raw), small, None),
         ("preset 9", numcodecs.LZMA(preset=9), lzma.compress(elements, preset=9), None),
-        ("raw, small", numcodecs.LZMA(lzma.FORMAT_RAW, filters=raw), lzma.compress(elements, lzma.FORMAT_RAW, filters=raw), None),
     ]
     for what, compressor, stored, why in rows:
         with tempfile.TemporaryDirectory() as folder:
@@ -318,7 +345,8 @@ def dictionaries(chunkplan, generator, moves):
 
 def many_chunks(chunkplan, generator, moves):
     """An array of a hundred thousand million chunks: each script streams, or says a line, in little memory."""
-    limits = {"preexec_fn": lambda: resource.setrlimit(resource.RLIMIT_DATA, (2**30, 2**30)), "timeout": 60, "env": {**os.environ, "CHUNKPLAN": chunkplan}}
+    limited = lambda: resource.setrlimit(resource.RLIMIT_DATA, (2**30, 2**30))
+    limits = {"preexec_fn": limited, "timeout": 60, "env": {**os.environ, "CHUNKPLAN": chunkplan}}
     with tempfile.TemporaryDirectory() as folder:
         room = pathlib.Path(folder)
         ends, done, count = [room / "source", room / "target"], room / "done", 10**11
@@ -332,9 +360,10 @@ def many_chunks(chunkplan, generator, moves):
             planner.kill()
         told = tool("copy_chunks.py", *ends, "--done", done, input="".join(plan), **limits)
         yield "three lines", (told.returncode, told.stderr) == (0, "") and len(done_in(done)) == 3
-        for words, left in (([], f"{count // 2 - 3} of {count // 2} chunks weren't done: 3, 4, 5, 6, 7, .."), (["--by-source", ends[0]], f"{count} of {count} chunks weren't done: 0,")):
+        for words, of, left in (([], count // 2, 3), (["--by-source", ends[0]], count, 0)):
             told = tool("check_done.py", ends[1], done, *words, **limits)
-            yield f"check_done.py {words[:1]}", told.returncode == 1 and left in told.stderr and len(told.stderr.splitlines()) == 1
+            expected = f"check_done.py: {of - left} of {of} chunks weren't done: {', '.join(map(str, range(left, left + 5)))}, ..\n"
+            yield f"check_done.py {words[:1]}", (told.returncode, told.stderr) == (1, expected)
         told = tool("make_between.py", *ends, room / "between", "--max-elements", 3, **limits)
         yield "make_between.py", told.returncode == 0 and "two stages read" in told.stdout
         yield "fingerprint.py", tool("fingerprint.py", ends[1], **limits).returncode == 0
@@ -343,7 +372,7 @@ def many_chunks(chunkplan, generator, moves):
         told = tool("resize_array.py", ends[1], count, **limits)
         zarr.open_array(str(ends[1]), mode="r+")[3] = 8
         command = [sys.executable, TOOLS / "verify.py", *ends]
-        with subprocess.Popen(command, stderr=subprocess.PIPE, text=True, preexec_fn=limits["preexec_fn"]) as verifying:
+        with subprocess.Popen(command, stderr=subprocess.PIPE, text=True, preexec_fn=limited) as verifying:
             yield "verify.py", verifying.stderr.readline() == "differs at [3], in chunk 1 of the target\n"
             time.sleep(1)
             yield "it goes on", verifying.poll() is None
@@ -390,7 +419,7 @@ def of_zeros(count, window):
 if __name__ == "__main__":
     moves.main(
         [
-            in_mid_run, other_keys, missing_chunks, finished_rooms, done_files, by_keys, keys_of_page, file_names, odd_files,
+            in_mid_run, other_keys, missing_chunks, finished_rooms, changed_in_run, done_files, by_keys, keys_of_page, file_names, odd_files,
             dictionaries, many_chunks, hostile_texts, bombs,
         ]
     )  # fmt: skip

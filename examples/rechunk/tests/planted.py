@@ -134,7 +134,12 @@ PLANTED = [
         ],
         "lost.py bombs",
     ),
-    ("what was done of another source stays done", [("finished.sh", '!= "$mark" ]', "= no ]")], "lost.py finished_rooms"),
+    ("what was done of another source stays done", [("finished.sh", '"$(cat "$finished")" != "$mark" ]', "no = yes ]")], "lost.py finished_rooms"),
+    (
+        "a source may change while an engine runs",
+        [("finished.sh", 'if [ "$(fingerprint)" != "$mark" ]; then', "if false; then")],
+        "lost.py changed_in_run",
+    ),
     (
         "a line stays done whatever it would read",
         [("copy_chunks.py", "        return mark == mark_of(line, self.source, self.target, read, written)\n", "        return None not in written\n")],
@@ -152,19 +157,19 @@ PLANTED = [
     ),
     (
         "the page's commands forget that the worker failed",
-        [("README.md", "--resume DONE > /dev/null &&\n    ./check_done.py TARGET DONE\n", "--resume DONE > /dev/null\n    ./check_done.py TARGET DONE\n")],
+        [("README.md", " &&\n    ./check_done.py TARGET DONE\n", "\n    ./check_done.py TARGET DONE\n")],
         "lost.py done_files",
     ),
     ("nothing is compared behind a run by keys", [("README.md", " && ./verify.py SOURCE TARGET\n", "\n")], "lost.py by_keys"),
     (
         "a file's name that is two lines hides a chunk",
-        [("../../crates/chunkplan/CALLING.md", r"find . -type f -size +0 -printf '%P\0' | tr '\n\0' '\0\n'", "find . -type f -size +0 | cut -c 3-")],
+        [("../../crates/chunkplan/CALLING.md", r"-size +0 -printf '%P\0' | tr '\n\0' '\0\n'", "-size +0 | cut -c 3-")],
         "lost.py keys_of_page",
     ),
     ("a few bytes take a dictionary of gigabytes", [("stored_arrays.py", "(form, memlimit=room)", "(form)")], "lost.py dictionaries"),
     (
         "all chunks of an array are held at once",
-        [("region.py", "        return (self.chunk_at(number, target) for number in range(self.count(target)))", "        return [self.chunk_at(number, target) for number in range(self.count(target))]")],
+        [("region.py", "return (self.chunk_at(", "return list(self.chunk_at(")],
         "lost.py many_chunks",
     ),
     (
