@@ -45,7 +45,9 @@ def step(event, args):
                 os.rmdir(os.environ["CUT_TOKEN"])
             except FileNotFoundError:
                 return
-            subprocess.run(["sh", "-c", os.environ["CUT_COMMAND"], "-", str(os.getpid()), str(os.getpgid(0))])
+            ended = subprocess.run(["sh", "-c", os.environ["CUT_COMMAND"], "-", str(os.getpid()), str(os.getpgid(0))])
+            if ended.returncode != 0:
+                os.mkdir(os.environ["CUT_TOKEN"])
 
 step.count = 0
 sys.addaudithook(step)
@@ -185,7 +187,7 @@ class Move:
             subprocess.run(["mount", "-o", f"remount,size={self.generator.randrange(16, 100)}k", self.disk], check=True)
             mended.callback(subprocess.run, ["mount", "-o", "remount,size=64m", self.disk], check=True)
         return {
-            "process": "kill -9 $1", "all": "kill -9 -- -$2", "removed": f"rm {path}", "edited": f"cp {aside} {path}",
+            "process": "kill -9 $1", "all": "kill -9 -$2", "removed": f"rm {path}", "edited": f"cp {aside} {path}",
             "cut": f"truncate -s {self.generator.randrange(len(held))} {path}", "gone": f"mv {self.source} {aside}", "full": ":",
             "read_only": f"mount -o remount,ro {self.disk}",
         }[fault]  # fmt: skip
@@ -229,6 +231,8 @@ def ways(move, faults):
             status, told, _ = move.anew()
         if status == 0 and not move.is_right():
             ending.wrong, ending.is_silent = f"{fault}: the status 0, and other elements", True
+        elif status == 0 and came and fault == "all":
+            ending.wrong = "the status 0, and all processes were killed"
         elif status != 0 and (fault is None or is_refused and not told):
             ending.wrong = f"{fault}: the status {status}: {told}"
     return ending
