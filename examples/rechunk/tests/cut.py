@@ -184,7 +184,9 @@ class Move:
         if fault == "read_only":
             mended.callback(subprocess.run, ["mount", "-o", "remount,rw", self.disk], check=True)
         if fault == "full":
-            subprocess.run(["mount", "-o", f"remount,size={self.generator.randrange(16, 100)}k", self.disk], check=True)
+            disk = os.statvfs(self.disk)
+            most = (disk.f_blocks - disk.f_bfree) * disk.f_frsize // 1024 + self.generator.randrange(4, 80)
+            subprocess.run(["mount", "-o", f"remount,size={most}k", self.disk], check=True)
             mended.callback(subprocess.run, ["mount", "-o", "remount,size=64m", self.disk], check=True)
         return {
             "process": "kill -9 $1", "all": "kill -9 -$2", "removed": f"rm {path}", "edited": f"cp {aside} {path}",
@@ -306,11 +308,18 @@ def has_kept(array, elements, common):
     return numpy.array_equal(zarr.open_array(str(array), mode="r")[both], elements[both])
 
 
+def tried(one, chunkplan, seed):
+    try:
+        return one(chunkplan, seed)
+    except Exception as error:  # the other runs still count
+        return repr(error), Ending(wrong="it couldn't go on")
+
+
 def counted(what, one, chunkplan, generator, count):
     """Whether each of some runs ended right; how many were killed and refused is printed."""
     seeds = [f"{generator.random()} {number}" for number in range(count)]
     with concurrent.futures.ThreadPoolExecutor(len(os.sched_getaffinity(0))) as pool:
-        endings = list(pool.map(lambda seed: one(chunkplan, seed), seeds))
+        endings = list(pool.map(lambda seed: tried(one, chunkplan, seed), seeds))
     sums = [sum(getattr(ending, name) for _, ending in endings) for name in ("was_killed", "was_refused", "is_silent")]
     print("{} {}, {} killed, {} refused, {} silent".format(count, what, *sums))
     return [(f"{number}: {told}: {ending.wrong}", not ending.wrong) for number, (told, ending) in enumerate(endings)]
