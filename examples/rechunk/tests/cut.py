@@ -67,6 +67,7 @@ WAYS = {
     "two_stages": './two_stages.sh "$SOURCE" "$TARGET" "$ROOM" 3000 $AGAIN',
 }
 WITH_REGION = ["target", *ENGINES]
+PATIENCE = 120  # seconds, for a run
 KILLS, IN_SOURCE, BETWEEN = ["process", "all"], ["removed", "cut", "edited"], ["next_day", "other_program", "lost"]
 IN_RUN = [*KILLS, *IN_SOURCE, "gone", "full", "read_only"]
 
@@ -96,15 +97,17 @@ class Cut:
             words = ["bash", "-c", f"set -o pipefail; {script}"]
             environment = {**self.environment, **cut, **more}
             run = subprocess.Popen(words, cwd=TOOLS, env=environment, stdout=subprocess.DEVNULL, stderr=told, start_new_session=True)
-            status = run.wait(timeout=120)
+            status = run.wait(PATIENCE)
             self.wait_for_all()
             told.seek(0)
             return status, told.read(), not self.token.exists()
 
     def wait_for_all(self):
         """Waits for what was left running where an engine was killed."""
-        mark = f"CUT_TOKEN={self.token}".encode()
+        mark, end = f"CUT_TOKEN={self.token}".encode(), time.monotonic() + PATIENCE
         while any(mark in held for held in environments()):
+            if time.monotonic() > end:
+                raise TimeoutError("processes of a run don't end")
             time.sleep(0.05)
 
 
