@@ -27,20 +27,20 @@ PLANTED = [
     (
         "a number is said to be done before its chunk is in its place",
         [
-            ("copy_chunks.py", "            record.add(line)\n", ""),
-            ("copy_chunks.py", "            for to in filled(", "            record.add(line)\n            for to in filled("),
+            ("copy_chunks.py", "            record.add(line, mark_of(line, source, target, sources.seen, identities))\n", ""),
+            ("copy_chunks.py", "            for to in filled(", "            record.add(line, None)\n            for to in filled("),
         ],
         "faults.py full_disk",
     ),
-    ("the check of numbers always passes", [("check_done.py", "    if missing:", "    if False:")], "moves.py worker"),
+    ("the check of numbers always passes", [("check_done.py", "    if len(there) < count:", "    if False:")], "moves.py worker"),
     (
         "a planner's end is told by nothing",
-        [("check_done.py", "    if missing:", "    if False:"), ("engines/share.sh", "set -euo pipefail", "set -eu")],
+        [("check_done.py", "    if len(there) < count:", "    if False:"), ("engines/share.sh", "set -euo pipefail", "set -eu")],
         "faults.py planner",
     ),
     (
         "a worker's end is told by nothing",
-        [("check_done.py", "    if missing:", "    if False:"), ("engines/xargs_shares.sh", "|| status=$?", "|| true")],
+        [("check_done.py", "    if len(there) < count:", "    if False:"), ("engines/xargs_shares.sh", "|| status=$?", "|| true")],
         "faults.py cut_source",
     ),
     (
@@ -115,7 +115,7 @@ PLANTED = [
     ),
     (
         "a chunk without a byte is stored",
-        [("stored_arrays.py", ".st_size > 0\n        except", ".st_size >= 0\n        except")],
+        [("stored_arrays.py", "if status.st_size > 0 else None", "if status.st_size >= 0 else None")],
         "lost.py missing_chunks",
     ),
     (
@@ -222,7 +222,7 @@ PLANTED = [
     ("a piece that is left out isn't missed", [("copy_chunks.py", "!= math.prod(held[1])", "> math.prod(held[1])")], "by_source.py lines"),
     (
         "what was done in one order is done in the other",
-        [("copy_chunks.py", 'if line.get("order", "target") == order:', "if order:")],
+        [("copy_chunks.py", 'if line.get("order", "target") == order)', "if order)")],
         "by_source.py worker",
     ),
     ("both stages are the second one", [("two_stages.sh", '--stage "$1"', "--stage 2")], "two_stages.py script"),
