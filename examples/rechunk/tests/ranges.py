@@ -73,7 +73,7 @@ def boxes(chunkplan, generator, count):
                    dimension_separator=generator.choice("./"))[...] = elements  # fmt: skip
             array, box = open_array(room), random_box(generator, shape)
             elements = forget_some(generator, room, elements, fill)
-            asked, of = {"subset": box, "max_ranges": generator.choice([0, 1, 2, 5, 2**64 - 1])}, generator.randint(1, 3)
+            asked, of = {"subset": box, "max_ranges": generator.choice([0, 1, 2, 5, 2**20])}, generator.randint(1, 3)
             lines = [line for task in range(of) for line in plan_of(chunkplan, array, order, **asked, share=[task, of])]
             what = f"{order}, box {number} of {dtype}, {box} of {shape}"
             found, bytes_read = read_box(room, dtype, fill, box[1], lines)
