@@ -1,7 +1,7 @@
 -- A text as one line.
-use Rattle.std.proofs.Common.{◌≡◌, ◌∙◌, ℕ, ◌+◌, ◌/◌, ◌%◌, ◌<◌, ◌≤◌, Bool, true, false, cond, List, [], ◌∷◌, ◌++◌, ap, refl, arith}
+use Rattle.std.proofs.Common.{◌≡◌, ℕ, Bool, true, false, cond, List, [], ◌∷◌, ◌++◌, refl, arith}
 use Rattle.std.proofs.lemmas.Bool.Decides.{nat_tests}
-use Rattle.std.specs.Char.{digit_char, encode_utf8, is_control}
+use Rattle.std.specs.Char.{encode_utf8}
 use Rattle.std.specs.List.{flat_map}
 use Rattle.std.specs.Str.{chars}
 use Rattle.streams.specs.OneLine.{IsOneLine, breaks_line, escape, escaped, line_feeds, line_of}
