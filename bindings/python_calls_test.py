@@ -795,7 +795,7 @@ def changed(tally):
         for chunk in was.keys() & now.keys():
             right["keep" if np.array_equal(was[chunk], now[chunk]) else "rewrite"].add(chunk)
         found, lists = Grid(shape, regular(*edges)).changed_chunks(resized), {what: [*map(list, chunks)] for what, chunks in right.items()}
-        tally.same(f"chunks of {edges} from {shape} to {resized}", fault_of_numbers(plain(found), lists), None)
+        tally.same(f"chunks of {edges} from {shape} to {resized}", fault_of_numbers(plain(found), lists, len(shape)), None)
     for _ in range(200):
         shape = [generator.number(9) for _ in range(generator.random.randint(0, 4))]
         resized = [size if generator.one_in(2) else generator.number(9) for size in shape]
@@ -806,7 +806,7 @@ def changed(tally):
         except Refused as refused:
             tally.raises(told, ValueError, f"field `resize`: {refused.text}", lambda: grid.changed_chunks(resized))
             continue
-        tally.same(told, fault_of_numbers(plain(grid.changed_chunks(resized)), right), None)
+        tally.same(told, fault_of_numbers(plain(grid.changed_chunks(resized)), right, len(shape)), None)
     great = Grid([GREATEST] * 2, regular(1, 1))
     right = ChangedChunks(before=(GREATEST, GREATEST), after=(7, GREATEST), kept=(7, GREATEST))
     for shape in ([7, GREATEST], (np.uint64(7), GREATEST), np.array([7, GREATEST], np.uint64), [Index(7), Whole(GREATEST)]):
@@ -843,7 +843,7 @@ def changes_of_program(tally):
         for line in map(json.loads, ended.stdout.splitlines()):
             lists[line["what"]].append(line["chunk"])
         found = plain(Grid(shape, metadata).changed_chunks(resized))
-        tally.same(f"changes of {document}", (ended.returncode, fault_of_numbers(found, lists)), (0, None))
+        tally.same(f"changes of {document}", (ended.returncode, fault_of_numbers(found, lists, len(shape))), (0, None))
 
 
 # ---- bytes of chunks

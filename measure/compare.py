@@ -31,9 +31,9 @@ from built import builds  # noqa: E402
 from byte_ranges import byte_ranges, expanded, fault_of_ranges, great_boxes, small_boxes  # noqa: E402
 from call_names import CALLS, OF_BOX, OF_BYTES, OF_CHUNK, OF_INDEX, OF_KEYS, OF_RECTILINEAR, OF_REGION, OF_RESIZE  # noqa: E402
 from call_names import OF_TARGET, WALKS, WITH_ENCODING  # noqa: E402
-from chunk_grids import MOST_ALONG, Grid, check_box, first_of, numbers_in  # noqa: E402
+from chunk_grids import MOST_ALONG, Grid, check_box, first_of  # noqa: E402
 from chunk_keys import Encoding  # noqa: E402
-from chunk_plans import changed_chunks, changed_chunks_by_numbers, fault_of_numbers, may_go_through, region, region_by_boxes  # noqa: E402
+from chunk_plans import changed_chunks, changed_chunks_by_numbers, chunks_by_numbers, fault_of_numbers, may_go_through, region, region_by_boxes  # noqa: E402
 from chunk_plans import counts as counts_by_element, counts_of_region  # noqa: E402
 from extensions import GREATEST, GRIDS, Refused, regular  # noqa: E402
 from random_arrays import EQUAL, Generator  # noqa: E402
@@ -278,7 +278,7 @@ def model_region(question, source, target):
 
 
 def model_resize(grid, question):
-    """Boxes of chunks, which have to have the chunks that are found element by element, where the arrays are small."""
+    """Three lists of numbers. If the arrays are small, they must have the chunks that are found element by element."""
     shape = question["resize"]
     try:
         resized = Grid(question["chunk_grid"], shape)
@@ -286,7 +286,7 @@ def model_resize(grid, question):
         raise Refused(refusal.text and f"field `resize`: {refusal.text}") from refusal
     found = changed_chunks_by_numbers(grid, resized)
     if may_go_through(grid) and may_go_through(resized):
-        fault = fault_of_numbers(found, changed_chunks(grid, resized))
+        fault = fault_of_numbers(found, changed_chunks(grid, resized), len(shape))
         assert fault is None, f"the models differ: {fault}"
     return found
 
@@ -590,7 +590,7 @@ def resized_array(draw, written):
     after = chunks()
 
     def is_as_stored(answer):
-        found = {what: [tuple(chunk) for box in boxes for chunk in numbers_in(*box)] for what, boxes in answer.items()}
+        found = {what: [*map(tuple, chunks)] for what, chunks in chunks_by_numbers(answer).items()}
         both = found["keep"] + found["rewrite"]
         return [sorted(both), sorted(found["delete"]), sorted(found["new"])] == [sorted(left), sorted(before - left), sorted(after - left)]
 

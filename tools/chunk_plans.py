@@ -273,15 +273,21 @@ def may_go_through(grid):
     return max([*grid.shape, *edges], default=0) <= 100 and math.prod(grid.shape) <= 2000
 
 
-def fault_of_numbers(answer, chunks):
-    """What is wrong with an answer about a resize, in which each chunk is kept, rewritten, deleted or created; or None."""
-    if list(answer) != ["after", "before", "kept"]:
-        return f"its members are {list(answer)}"
+def chunks_by_numbers(answer):
+    """The chunks that an answer about a resize says are kept, rewritten, deleted and created."""
     found = {what: [] for what in CHANGES}
     for chunk in itertools.product(*map(range, map(max, answer["after"], answer["before"]))):
-        after, before, kept = (all(map(operator.lt, chunk, answer[numbers])) for numbers in answer)
+        after, before, kept = (all(map(operator.lt, chunk, answer[numbers])) for numbers in ("after", "before", "kept"))
         if after or before:
             found["new" if not before else "delete" if not after else "keep" if kept else "rewrite"].append(list(chunk))
+    return found
+
+
+def fault_of_numbers(answer, chunks, dimensionality):
+    """What is wrong with such an answer, which must have a number a dimension in each list and these chunks; or None."""
+    if [*answer] != ["after", "before", "kept"] or {*map(len, answer.values())} != {dimensionality}:
+        return f"its lists are {answer}"
+    found = chunks_by_numbers(answer)
     if {what: sorted(some) for what, some in found.items()} != {what: sorted(some) for what, some in chunks.items()}:
         return f"its chunks are {found} and not {chunks}"
     return None
@@ -373,7 +379,7 @@ def main():
         except Refused:
             continue
         compared += 1
-        fault = fault_of_numbers(changed_chunks_by_numbers(*grids), changed_chunks(*grids))
+        fault = fault_of_numbers(changed_chunks_by_numbers(*grids), changed_chunks(*grids), len(shape))
         if fault:
             differ += 1
             print(f"{metadata} from {shape} to {resized}: {fault}")

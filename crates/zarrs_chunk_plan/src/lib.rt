@@ -3,7 +3,7 @@
 //! [`parts`] takes a grid, an encoding and a box of elements, and gives a part for each chunk that holds some of the box, one after another.
 //! [`copies`] takes an array as it is stored and as it is to be stored, and gives for each chunk of the target the parts of the source's chunks that
 //! have its elements. [`copies_of_region`] does so of a box of elements that goes to another place, or to an array of another shape. [`changes`]
-//! tells what becomes of each chunk of an array that gets another shape, [`changed_chunks`] tells it in boxes of chunks. All ask grids and encodings
+//! tells what becomes of each chunk of an array that gets another shape, [`changed_chunks`] says it in three lists of numbers. All ask grids and encodings
 //! by their traits alone, so these may be of other crates. `CALLING.md` has callers.
 //!
 //! ```text
@@ -30,7 +30,7 @@
 //! | `stored_chunks` | which chunks of the target a store has already, by the keys that it lists |
 //! | `resize` | `changes`: what becomes of the chunks of an array that gets another shape |
 //! | `chunk_changes` | the walk over what becomes of them |
-//! | `changed` | `changed_chunks`: what becomes of them, in boxes of chunks |
+//! | `changed` | `changed_chunks`: what becomes of them, by three lists of numbers |
 //! | `used` | how many chunks hold elements of an array along each dimension, and how many of them a resize keeps |
 //! | `outside` | the chunks below one list of numbers and not below another, as boxes |
 //! | `counts` | how much a plan copies, without a walk over it |
