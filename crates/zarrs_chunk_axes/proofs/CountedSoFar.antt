@@ -1,5 +1,5 @@
 -- The count of comparisons in the dimensions so far, and what the rests can add.
-use Rattle.std.proofs.Common.{◌≡◌, ℕ, ◌+◌, ◌≤◌, List, [], ◌∷◌, length, min, arith}
+use Rattle.std.proofs.Common.{◌≡◌, ℕ, ◌+◌, ◌≤◌, List, [], ◌∷◌, min, arith}
 use Rattle.std.proofs.lemmas.List.Sums.{sum_by-cons}
 use Rattle.std.specs.List.{AllZip, sum}
 use Rattle.zarrs_chunk_base.specs.DimensionEdges.{DimensionEdges, equal, listed}
@@ -13,9 +13,6 @@ pub record CountedSoFar (edges left : List DimensionEdges) (before now : ℕ) : 
       → (rest : List ℕ) × AllZip IsSearchBound left rest × (now + sum rest ≤ before + sum most)
   pub at_least : min (before + listed_dimensions edges) greatest ≤ now + listed_dimensions left
   pub stays : before ≡ greatest → now ≡ greatest
-
-pub none_yet : (edges : List DimensionEdges) (before : ℕ) → CountedSoFar edges edges before before
-none_yet edges before = record { grows = omega arith; at_most = λ most h. (most, h, omega arith); at_least = omega arith; stays = λ h. h }
 
 module _ (edges : List DimensionEdges) (before : ℕ) where
   -- one dimension more
@@ -44,8 +41,3 @@ module _ (edges : List DimensionEdges) (before : ℕ) where
     at_most = λ most h. let (rest, each, bound) = so_far.at_most most h in omega (arith, bound);
     stays = so_far.stays;
   }
-
-  -- at the end each dimension is counted
-  pub all : (left : List DimensionEdges) (now : ℕ) → length left ≡ 0 → CountedSoFar edges left before now → HasOneForEach edges before now
-  all [] now none so_far = omega (arith, so_far.at_least)
-  all (e ∷ left) now none so_far = absurd (omega arith)

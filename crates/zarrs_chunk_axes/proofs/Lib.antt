@@ -1,5 +1,6 @@
 pub mod Bounds
 pub mod CountedSoFar
+pub mod Dimensions
 pub mod EachAxis
 pub mod EachSoFar
 pub mod EqualAxes

@@ -1,6 +1,6 @@
 -- Where a chunk starts, and how long it is, in two steps.
-use Rattle.std.proofs.Common.{ℕ, ◌+◌, ◌<◌, arith}
-use Rattle.zarrs_chunk_base.specs.Dimension.{Dimension, HasEdge, StartsAt}
+use Rattle.std.proofs.Common.{ℕ, ◌<◌, arith}
+use Rattle.zarrs_chunk_base.specs.Dimension.{Dimension, StartsAt}
 use Rattle.zarrs_chunk_base.specs.Greatest.{greatest}
 use Rattle.zarrs_chunk_axes.specs.LookUp.{HasRange}
 
@@ -8,13 +8,3 @@ module _ (d : Dimension) (c : ℕ) where
   -- what starts past the greatest number has none
   pub no_start : ((o : ℕ) → StartsAt d c o → greatest < o) → (range : ℕ × ℕ) → ¬ HasRange d c range
   no_start past range has = let large : greatest < range.0 = past range.0 has.start in let fits = has.fits in absurd (omega arith)
-
-  -- what ends past the greatest number has none
-  pub no_end : (o s : ℕ) → StartsAt d c o → HasEdge d c s → greatest < o + s → (range : ℕ × ℕ) → ¬ HasRange d c range
-  no_end o s starts long past range has =
-      let start = starts.start in
-      let edge = long.edge in
-      let other = has.start.start in
-      let other_edge = has.edge.edge in
-      let fits = has.fits in
-      absurd (omega arith)

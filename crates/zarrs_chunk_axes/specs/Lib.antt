@@ -1,3 +1,4 @@
+pub mod Along
 pub mod Bounded
 pub mod Counted
 pub mod EqualEdges

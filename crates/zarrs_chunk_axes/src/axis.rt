@@ -1,9 +1,10 @@
 //! One dimension of a chunk grid, and what it is made of.
-ghost use Rattle.std.specs.Prelude.{◌≡◌, ◌↔◌, ℕ, ◌+◌, ◌<◌, IfOk, IsTrue, MatchOption};
+ghost use Rattle.std.specs.Prelude.{◌≡◌, ◌↔◌, ℕ, ◌+◌, ◌<◌, IfOk, IfSome, IsTrue, MatchOption};
 ghost use Rattle.std.specs.Int.NonZero.{non_zero_u64_get};
 ghost use Rattle.zarrs_chunk_base.specs.Dimension.{Dimension, Holds, HasEdge, IsChain, StartsAt};
 ghost use Rattle.zarrs_chunk_base.specs.DimensionEdges.{DimensionEdges};
 ghost use Rattle.zarrs_chunk_base.specs.Greatest.{greatest};
+ghost use Rattle.zarrs_chunk_axes.specs.Along.{IsRegular};
 ghost use Rattle.zarrs_chunk_axes.specs.InBounds.{IsIndexInBounds};
 ghost use Rattle.zarrs_chunk_axes.specs.LookUp.{HasRange, LiesAt};
 
@@ -69,6 +70,13 @@ pub trait Axis: Sized {
         let edge = self.edge_of(chunk)?.get();
         start.checked_add(edge)?;
         Some((start, edge))
+    }
+
+    /// The edge, where each element of the array lies in the chunk whose number is its index divided by the edge.
+    fn regular_edge(&self) -> Option<NonZeroU64>
+        ensures { IfSome result (λ edge. IsRegular (dimension self.now) (non_zero_u64_get edge)) }
+    {
+        None
     }
 
     /// Whether an index is in bounds: below the array size, or the array size is 0; and where the edges are listed, a chunk holds it too.

@@ -1,13 +1,14 @@
 //! The dimensions of a grid, and the loops over them that all grids share.
+mod along;
 mod counted;
 mod look_up;
 
-ghost use Rattle.std.specs.Prelude.{◌≡◌, ◌⊎◌, ◌↔◌, ◌≤◌, ℕ, [], IfErr, IfOk, IsOk, IsTrue, List, MatchOption, OnErr, cond, length, map};
+ghost use Rattle.std.specs.Prelude.{◌≡◌, ◌⊎◌, ◌↔◌, ◌≤◌, [], IfErr, IfOk, IsOk, IsTrue, MatchOption, OnErr, cond, length, map};
 ghost use Rattle.std.specs.List.{AllByRecursion, AllZip};
 ghost use Rattle.std.specs.Vec.{vec_capacity};
 ghost use Rattle.zarrs_chunk_base.specs.ArraySubset.{ends, lasts};
 ghost use Rattle.zarrs_chunk_base.specs.Greatest.{AllFit};
-ghost use Rattle.zarrs_chunk_base.specs.Dimension.{InBox, InEach, IsPlace, array_sizes, grid_sizes};
+ghost use Rattle.zarrs_chunk_base.specs.Dimension.{InEach, array_sizes, grid_sizes};
 ghost use Rattle.zarrs_chunk_base.specs.Refusal.{Answers, HasMemory, IsRefusedAnd, OrMemory, TellsLengths};
 ghost use Rattle.zarrs_chunk_axes.specs.InBounds.{AreBelow, AreInBounds, AreIndicesInBounds, IsIndexInBounds};
 ghost use Rattle.zarrs_chunk_axes.specs.LookUp.{AnswersShape, AnswersOrigin, AnswersChunk, AnswersHome, AnswersOverBox, AnswersPlace, AnswersRanges, AreOverBox};
@@ -16,7 +17,6 @@ ghost use Rattle.zarrs_chunk_axes.specs.lemmas.LookUpEach.{AreFound, LiesInNone,
 use crate::axis::{Axis, AxisFrom};
 use look_up::{ChunkOf, EdgeOf, HomeOf, LookUp, OriginOf, PlaceOf, RangeOf};
 use std::alloc::{AllocError, Global};
-use std::num::NonZeroU64;
 use zarrs_chunk_base::{
     ArrayIndices, ArrayShape, ArraySubset, ChunkShape, IncompatibleDimensionalityError, Refusal,
 };

@@ -76,6 +76,10 @@ impl Axis for EqualAxis {
         Some(self.edge)
     }
 
+    fn regular_edge(&self) -> Option<NonZeroU64> {
+        Some(self.edge)
+    }
+
     fn is_in_bounds(&self, index: u64) -> bool {
         is_in_bounds(self.array_size, index)
     }

@@ -74,6 +74,10 @@ impl<A: Axis> Axis for EqualOr<A> {
         inside!(self, axis => axis.range_of(chunk))
     }
 
+    fn regular_edge(&self) -> Option<NonZeroU64> {
+        inside!(self, axis => axis.regular_edge())
+    }
+
     fn is_in_bounds(&self, index: u64) -> bool {
         inside!(self, axis => axis.is_in_bounds(index))
     }

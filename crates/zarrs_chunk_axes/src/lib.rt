@@ -17,7 +17,7 @@
 //! |---|---|
 //! | `axis` | one dimension, and what it is made of |
 //! | `equal_axis`, `bounded_axis`, `listed_axis`, `runs_axis`, `equal_or` | the kinds of dimension |
-//! | `axis_grid` | the list of dimensions; in its module `look_up` what is looked up in each, in `counted` look-ups that count comparisons |
+//! | `axis_grid` | the list of dimensions; in its module `look_up` what is looked up in each, in `along` look-ups in one dimension, in `counted` look-ups that count comparisons |
 //! | `in_bounds` | numbers in bounds of sizes |
 //! | `row_major`, `row_major_walk` | counting through the lists of numbers below a shape, and a walk that does so |
 //! | `run_lengths` | the run-length form of edges that are kept as runs |

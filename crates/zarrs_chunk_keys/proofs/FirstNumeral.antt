@@ -122,14 +122,6 @@ no_more b n text rest numeral numbers all low so_far is begins are =
     let one : behind ≡ n ∷ [] = first ∙ ap (λ xs. n ∷ xs) alone in
     ap length same ∙ ap (λ xs. length (numbers ++ xs)) one ∙ length-append numbers (n ∷ [])
 
--- something is left
-pub some_left : (b : ℕ) (text rest numbers all : List ℕ) → AreRead b text rest numbers → IsNumerals b all (b ∷ text) → length numbers < length all
-some_left b text rest numbers all so_far are =
-    let (behind, same, behind_are) = so_far.from all are in more_than b rest numbers all behind same behind_are where
-      more_than : (b : ℕ) (rest numbers all behind : List ℕ) → all ≡ numbers ++ behind → IsNumerals b behind (b ∷ rest) → length numbers < length all
-      more_than b rest numbers all [] same none = cc
-      more_than b rest numbers all (n ∷ behind) same are = let lengths = ap length same in let sum = length-append numbers (n ∷ behind) in omega arith
-
 fits_behind : (numbers : List ℕ) (n : ℕ) (behind : List ℕ) → AllFit (numbers ++ n ∷ behind) → n ≤ greatest
 fits_behind [] n behind fit = fit.0
 fits_behind (m ∷ numbers) n behind fit = fits_behind numbers n behind fit.1

@@ -8,6 +8,7 @@ pub mod Covers
 pub mod FittingChunks
 pub mod Meeting
 pub mod NoFloats
+pub mod OneDimension
 pub mod SeenGrids
 pub mod SingleElements
 pub mod Subsets

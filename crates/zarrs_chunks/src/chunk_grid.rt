@@ -1,4 +1,5 @@
 //! What every chunk grid answers.
+mod along;
 mod boxes;
 mod edges;
 pub(crate) mod named;
@@ -8,11 +9,13 @@ pub(crate) mod rectilinear;
 pub(crate) mod regular;
 pub(crate) mod regular_bounded;
 
-ghost use Rattle.std.specs.Prelude.{◌≡◌, ◌≢◌, ◌↔◌, ◌⊎◌, ℕ, ◌-◌, ◌<◌, IfErr, IfOk, IsTrue, List, OnErr, length, map, slice_index_or};
+ghost use Rattle.std.specs.Prelude.{◌≡◌, ◌≢◌, ◌↔◌, ◌⊎◌, ℕ, ◌-◌, ◌<◌, IfErr, IfOk, IfSome, IsTrue, List, OnErr, length, map, slice_index_or};
+ghost use Rattle.std.specs.Int.NonZero.{non_zero_u64_get};
 ghost use Rattle.std.specs.List.{AllByRecursion};
 ghost use Rattle.zarrs_chunk_base.specs.ArraySubset.{IsEmptyBox};
 ghost use Rattle.zarrs_chunk_base.specs.Dimension.{Dimension, IsChain, array_sizes, grid_sizes};
 ghost use Rattle.zarrs_chunk_base.specs.Refusal.{OrMemory};
+ghost use Rattle.zarrs_chunk_axes.specs.Along.{FindsChunk, FindsRange, IsRegularAlong};
 ghost use Rattle.zarrs_chunk_axes.specs.InBounds.{AreBelow, AreInBounds};
 ghost use Rattle.zarrs_chunk_axes.specs.LookUp.{AnswersShape, AnswersShapeNumbers, AnswersOrigin, AnswersChunk, AnswersHome, AnswersPlace};
 ghost use Rattle.zarrs_chunks.specs.Subsets.{AnswersSubset, AnswersChunksSubset, AnswersCover, AnswersEmptyCover};
@@ -23,9 +26,11 @@ use crate::home::Home;
 use crate::walks::chunk_indices::ChunkIndices;
 use crate::walks::chunk_indices_and_subsets::ChunkIndicesAndSubsets;
 use crate::walks::chunk_subsets::ChunkSubsets;
+use along::{answered, number_along};
 use boxes::box_up_to;
 use edges::edge_numbers;
 use std::alloc::{AllocError, Global};
+use std::num::NonZeroU64;
 use zarrs_chunk_axes::are_in_bounds;
 use zarrs_chunk_base::{
     ArrayIndices, ArrayShape, ArraySubset, ChunkShape, Configuration,
@@ -177,6 +182,69 @@ pub trait ChunkGridTraits: Sized + Drop {
         home.chunk = chunk;
         home.element = place_from(origin, array_indices);
         Ok(true)
+    }
+
+    /// The chunk that holds an index along one dimension, for callers that go through a dimension by itself. The grids of this library
+    /// look up one number, in no memory; this body looks up an index that is 0 along the others. `None` only where no element of the array has
+    /// the index there.
+    ///
+    /// # Errors
+    /// Out of memory.
+    fn chunk_along(
+        &self,
+        alloc: Global,
+        dimension: usize,
+        array_index: u64,
+    ) -> Result<Option<u64>, AllocError>
+        ensures { IfOk result (FindsChunk (dimensions self.now) dimension array_index) }
+    {
+        if dimension >= self.dimensionality() {
+            return Ok(None);
+        }
+        let indices = number_along(alloc, self.dimensionality(), dimension, array_index)?;
+        let found = self.chunk_indices(alloc, &indices);
+        match answered(found)? {
+            Some(chunk) => Ok(Some(chunk[dimension])),
+            None => Ok(None),
+        }
+    }
+
+    /// Where a chunk starts along one dimension, and how long it is there, in elements. The grids of this library look up one number, in no
+    /// memory; this body looks up a chunk that is 0 along the others. `None` only where no chunk that is counted has the number there, or it starts
+    /// past 18446744073709551615.
+    ///
+    /// # Errors
+    /// Out of memory.
+    fn range_along(
+        &self,
+        alloc: Global,
+        dimension: usize,
+        chunk_index: u64,
+    ) -> Result<Option<(u64, u64)>, AllocError>
+        ensures { IfOk result (FindsRange (dimensions self.now) dimension chunk_index) }
+    {
+        if dimension >= self.dimensionality() {
+            return Ok(None);
+        }
+        let chunk = number_along(alloc, self.dimensionality(), dimension, chunk_index)?;
+        let found = self.chunk_origin(alloc, &chunk);
+        let Some(origin) = answered(found)? else {
+            return Ok(None);
+        };
+        let found = self.chunk_shape_u64(alloc, &chunk);
+        let Some(shape) = answered(found)? else {
+            return Ok(None);
+        };
+        Ok(Some((origin[dimension], shape[dimension])))
+    }
+
+    /// Returns an edge by which an index along one dimension gives its chunk: each element of the array lies in the chunk whose number is the index there
+    /// divided by the edge. `None` if the grid doesn't say so, as in this body, and if there is no such dimension.
+    fn regular_along(&self, dimension: usize) -> Option<NonZeroU64>
+        ensures { IfSome result (λ edge. IsRegularAlong (dimensions self.now) dimension
+            (non_zero_u64_get edge)) }
+    {
+        None
     }
 
     /// The box of a chunk, in element indices; `None` where there is no such chunk, or it ends past

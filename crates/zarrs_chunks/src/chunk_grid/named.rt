@@ -29,6 +29,7 @@ use super::regular_bounded::RegularBoundedChunkGrid;
 use crate::{ChunkGridTraits, Home};
 use serde_json::Value;
 use std::alloc::{AllocError, Global};
+use std::num::NonZeroU64;
 use zarrs_chunk_base::{
     ArrayIndices, ArraySubset, ChunkEdgeLengths, ChunkShape, Configuration, ExtensionError,
     IncompatibleDimensionalityError, MetadataV3, PluginCreateError, Refusal,
@@ -276,6 +277,28 @@ impl ChunkGridTraits for ChunkGrid {
         home: &mut Home,
     ) -> Result<bool, Refusal<IncompatibleDimensionalityError>> {
         inside!(self, grid => grid.find_home(array_indices, home))
+    }
+
+    fn chunk_along(
+        &self,
+        alloc: Global,
+        dimension: usize,
+        array_index: u64,
+    ) -> Result<Option<u64>, AllocError> {
+        inside!(self, grid => grid.chunk_along(alloc, dimension, array_index))
+    }
+
+    fn range_along(
+        &self,
+        alloc: Global,
+        dimension: usize,
+        chunk_index: u64,
+    ) -> Result<Option<(u64, u64)>, AllocError> {
+        inside!(self, grid => grid.range_along(alloc, dimension, chunk_index))
+    }
+
+    fn regular_along(&self, dimension: usize) -> Option<NonZeroU64> {
+        inside!(self, grid => grid.regular_along(dimension))
     }
 
     fn subset(

@@ -17,6 +17,7 @@ use crate::{ChunkGridTraits, Home};
 use std::alloc::{AllocError, Global};
 use std::fmt;
 use std::fmt::Display;
+use std::num::NonZeroU64;
 use zarrs_chunk_axes::{Axis, AxisGrid};
 use zarrs_chunk_base::{
     ArrayIndices, ArrayShape, ArraySubset, ChunkEdgeLengths, ChunkShape, Configuration, InBrackets,
@@ -155,6 +156,28 @@ impl<G: OverAxes> ChunkGridTraits for G {
     ) -> Result<bool, Refusal<IncompatibleDimensionalityError>> {
         self.axes()
             .find_home(array_indices, &mut home.chunk, &mut home.element)
+    }
+
+    fn chunk_along(
+        &self,
+        _alloc: Global,
+        dimension: usize,
+        array_index: u64,
+    ) -> Result<Option<u64>, AllocError> {
+        Ok(self.axes().chunk_along(dimension, array_index))
+    }
+
+    fn range_along(
+        &self,
+        _alloc: Global,
+        dimension: usize,
+        chunk_index: u64,
+    ) -> Result<Option<(u64, u64)>, AllocError> {
+        Ok(self.axes().range_along(dimension, chunk_index))
+    }
+
+    fn regular_along(&self, dimension: usize) -> Option<NonZeroU64> {
+        self.axes().regular_along(dimension)
     }
 
     fn subset(
