@@ -1,4 +1,4 @@
-mod OneLines
+pub mod OneLines
 pub mod Known
 pub mod LineBytes
 pub mod Sent

@@ -15,7 +15,7 @@ mod stream_fault;
 mod transfer;
 mod watched;
 
-pub use line_text::{Escaped, one_line};
+pub use line_text::{Escaped, one_line, unbroken};
 pub use lines::Lines;
 pub use stream_fault::StreamFault;
 pub use transfer::{BUFFER_LEN, finish, read_to_end, send, write_all};

@@ -1,42 +1,97 @@
 //! Texts as one line.
-ghost use Rattle.std.specs.Prelude.{◌≡◌, ◌++◌, ◌^◌, ◌<◌, IfOk, OnOk};
+ghost use Rattle.std.specs.Prelude.{◌≡◌, ◌≤◌, ◌++◌, ◌^◌, ◌<◌, IfOk, IfSome, OnOk, length};
 ghost use Rattle.std.specs.Char.{digit_char};
-ghost use Rattle.streams.specs.OneLine.{IsOneLine, breaks_line as breaks, escape, escaped, line_of};
+ghost use Rattle.streams.specs.OneLine.{IsOneLine, escape, is_control as is_a_control, line_break as break_at, line_of, long_break as long_break_at};
+ghost use Rattle.streams.specs.OneLine.{unbroken as unbroken_text, written};
 
 use std::alloc::{AllocError, Global};
 use std::fmt;
 use std::fmt::{Display, Write};
 
-/// Returns a text as one line that a line feed ends. Each control character in it, and each line or paragraph separator, is escaped as in JSON: so no
-/// reader takes the line for two.
+/// Returns a text of UTF-8 as one line that a line feed ends. Each control character in it, and each line or paragraph separator, is escaped as in
+/// JSON: so no reader takes the line for two.
 ///
 /// # Errors
 /// Out of memory.
-pub fn one_line(alloc: Global, text: &str) -> Result<Vec<u8>, AllocError>
+pub fn one_line(alloc: Global, text: &[u8]) -> Result<Vec<u8>, AllocError>
     ensures one { IfOk result (λ line. IsOneLine line.items) }
     ensures says { IfOk result (λ line. line.items ≡ line_of text.now) }
 {
-    let mut line = Vec::with_capacity(alloc, text.len())?;
-    for character in text.chars() {
-        push_escaped(&mut line, character)?;
-    }
+    let mut line = unbroken(alloc, text)?;
     line.push(b'\n')?;
     Ok(line)
 }
 
-/// Appends a character, or the escape of one that breaks a line.
+/// Returns a text of UTF-8 with the same characters escaped, and without a line feed.
 ///
 /// # Errors
 /// Out of memory.
-fn push_escaped(line: &mut Vec<u8>, character: char) -> Result<(), AllocError>
-    ensures { OnOk result (line.new.items ≡ line.old.items ++ escaped character) }
+pub fn unbroken(alloc: Global, text: &[u8]) -> Result<Vec<u8>, AllocError>
+    ensures { IfOk result (λ line. line.items ≡ unbroken_text text.now) }
 {
-    if breaks_line(character) {
-        return push_escape(line, character as u32);
+    let mut line = Vec::with_capacity(alloc, text.len())?;
+    let mut rest = text;
+    while let Some((first, behind)) = rest.split_first() {
+        let more = push_first(&mut line, *first, behind)?;
+        rest = &behind[more..];
     }
-    let mut bytes = [0; 4];
-    line.extend_from_slice(character.encode_utf8(&mut bytes).as_bytes())?;
-    Ok(())
+    Ok(line)
+}
+
+/// Appends the first byte of a text, or the escape of the character that it begins. Returns how many of the bytes behind it belong to that character.
+///
+/// # Errors
+/// Out of memory.
+fn push_first(line: &mut Vec<u8>, first: u8, behind: &[u8]) -> Result<usize, AllocError>
+    ensures text { OnOk result (line.new.items
+        ≡ line.old.items ++ (written first (break_at first behind.now)).0) }
+    ensures more { IfOk result (λ more. more ≡ (written first (break_at first behind.now)).1) }
+    ensures within { IfOk result (λ more. more ≤ length behind.now) }
+{
+    match line_break(first, behind) {
+        Some((code, more)) => {
+            push_escape(line, code)?;
+            Ok(more)
+        }
+        None => {
+            line.push(first)?;
+            Ok(0)
+        }
+    }
+}
+
+/// The code of the character that breaks a line and begins with a byte, and how many of the bytes behind belong to it.
+fn line_break(first: u8, behind: &[u8]) -> Option<(u32, usize)>
+    ensures says { result ≡ break_at first behind.now }
+    ensures within { IfSome result (λ found. (found.0 < 2 ^ 16) × (found.1 ≤ length behind.now)) }
+{
+    if is_control(first) {
+        return Some((first as u32, 0));
+    }
+    long_break(first, behind)
+}
+
+/// The same of a character of more than one byte.
+fn long_break(first: u8, behind: &[u8]) -> Option<(u32, usize)>
+    ensures says { result ≡ long_break_at first behind.now }
+    ensures within { IfSome result (λ found. (found.0 < 2 ^ 16) × (found.1 ≤ length behind.now)) }
+{
+    let (second, last) = behind.split_first()?;
+    if first == 0xC2 && 0x80 <= *second && *second < 0xA0 {
+        return Some((*second as u32, 1));
+    }
+    let (third, _) = last.split_first()?;
+    if first == 0xE2 && *second == 0x80 && (*third == 0xA8 || *third == 0xA9) {
+        return Some((0x1F80 + *third as u32, 2));
+    }
+    None
+}
+
+/// Whether a byte is a control character of ASCII.
+fn is_control(byte: u8) -> bool
+    ensures { result ≡ is_a_control byte }
+{
+    byte < 0x20 || byte == 0x7F
 }
 
 /// Appends the escape of a character with this code: `\u` and four hexadecimal digits.
@@ -53,13 +108,6 @@ fn push_escape(line: &mut Vec<u8>, code: u32) -> Result<(), AllocError>
     line.push(hexadecimal(code >> 4 & 15))?;
     line.push(hexadecimal(code & 15))?;
     Ok(())
-}
-
-/// Whether some reader takes a character for the end of a line, or for a command: a control character, or a line or paragraph separator.
-fn breaks_line(character: char) -> bool
-    ensures { result ≡ breaks character }
-{
-    character.is_control() || character == '\u{2028}' || character == '\u{2029}'
 }
 
 /// The digit of a number below 16.
@@ -101,4 +149,9 @@ impl<W: Write> Write for Escaping<'_, W> {
         }
         Ok(())
     }
+}
+
+/// Whether some reader takes a character for the end of a line, or for a command: a control character, or a line or paragraph separator.
+fn breaks_line(character: char) -> bool {
+    character.is_control() || character == '\u{2028}' || character == '\u{2029}'
 }
