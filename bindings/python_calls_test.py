@@ -480,8 +480,11 @@ def counts(tally):
     # Chunks of 3 into chunks of 2, along 2^24 + 2^23 of the first: of three of the second two lie within one of the first, and one in two.
     size = 3 * 2**24
     grid, target = Grid([size] * 3, regular(3, 3, 3)), Grid([size] * 3, regular(2, 3, size))
-    right = Counts(None, size**3, None, size // 2 * (size // 3), (size // 3) ** 3)
+    right = Counts(2**73, size**3, 2**25, size // 2 * (size // 3), (size // 3) ** 3)
     tally.same("counts past 2^24 chunks", grid.counts(target), right)
+    listed = {"name": "rectilinear", "configuration": {"kind": "inline", "chunk_shapes": [[[1, 2**20 + 1]]]}}
+    right = Counts(None, 2**20 + 1, None, 2**20 + 1, 2**19 + 1)
+    tally.same("counts past 2^20 listed chunks", Grid([2**20 + 1], regular(2)).counts(Grid([2**20 + 1], listed)), right)
     row = grid.counts(target, ([0, 0, 0], [2**24, 7, 1]))
     along = 2**24 + 2**24 // 3
     right = Counts(along * 7 * 2**24, 2**25 * 21 * size, 2 * 2**24, 7 * 2**24, ((2**25 - 1) // 3 + 1) * 7 * 2**24)

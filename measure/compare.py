@@ -31,7 +31,7 @@ from built import builds  # noqa: E402
 from byte_ranges import byte_ranges, expanded, fault_of_ranges, great_boxes, small_boxes  # noqa: E402
 from call_names import CALLS, OF_BOX, OF_BYTES, OF_CHUNK, OF_INDEX, OF_KEYS, OF_RECTILINEAR, OF_REGION, OF_RESIZE  # noqa: E402
 from call_names import OF_TARGET, WALKS, WITH_ENCODING  # noqa: E402
-from chunk_grids import MOST_ALONG, Grid, check_box, first_of  # noqa: E402
+from chunk_grids import Grid, check_box, first_of  # noqa: E402
 from chunk_keys import Encoding  # noqa: E402
 from chunk_plans import changed_chunks, changed_chunks_by_numbers, chunks_by_numbers, fault_of_numbers, may_go_through, region, region_by_boxes  # noqa: E402
 from chunk_plans import counts as counts_by_element, counts_of_region  # noqa: E402
@@ -95,7 +95,7 @@ class Asking(Generator):
         """How an array of this shape is to be stored, and perhaps into which chunks, from which number on or which share."""
         metadata = self.grid_over(shape, self.random.choice(list(GRIDS)), max(shape, default=0) > 40)
         # So many chunks along a dimension would be gone through by the model, which takes long.
-        while any(2**12 < count <= MOST_ALONG for count in Grid(metadata, shape).grid_shape()):
+        while any(count > 2**12 for count in Grid(metadata, shape).grid_shape()):
             metadata = self.grid_over(shape, self.random.choice(list(GRIDS)), True)
         members = {"target": {"chunk_grid": metadata, "chunk_key_encoding": self.encoding()}}
         if self.one_in(2):

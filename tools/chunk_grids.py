@@ -242,8 +242,9 @@ class Grid:
         start, shape = self.written(target, chunks)
         if 0 in shape:
             return counts_of([dict.fromkeys(COUNTS, 0) for _ in shape], share)
-        few = max(shape, default=0) <= MOST_ALONG
-        return counts_of([counts_along(*row, few) for row in zip(self.dimensions, target.dimensions, start, shape)], share)
+        rows = [*zip(self.dimensions, target.dimensions, start, shape)]
+        walked = sum(count for *both, _, count in rows if any(d.listed for d in both))
+        return counts_of([counts_along(*row, walked <= MOST_WALKED) for row in rows], share)
 
     def group(self, to, encoding):
         """What is copied into a chunk of the target, which is a part of the array."""
@@ -306,14 +307,14 @@ def check_box(start, shape):
             raise Refused(f"box end exceeds {GREATEST} in dimension {place}")
 
 
-# The counts of a rechunking, and along how many chunks that are written those are counted that take a walk over them.
+# The counts of a rechunking, and over how many chunks that are written it is walked where edges are listed.
 COUNTS = ["copies", "elements", "largest_line", "lines", "source_chunks"]
-MOST_ALONG = 2**24
+MOST_WALKED = 2**20
 
 
 def counts_along(source, target, first, count, few):
     """The counts along one dimension, of so many chunks of the target from the first one on: chunk by chunk, if they are
-    few enough."""
+    few enough; and where both have one edge, by the multiples of either."""
 
     def reads(start, end):
         """How many chunks of the source hold the indices from one on up to another."""
@@ -323,8 +324,16 @@ def counts_along(source, target, first, count, few):
         return min(target.end(chunk), target.size)
 
     start, stop = target.start(first), end(first + count - 1)
-    each = [reads(target.start(chunk), end(chunk)) for chunk in range(first, first + count)] if few else None
-    walked = {"copies": each and sum(each), "largest_line": each and max(each)}
+    chunks = range(first, first + count)
+    if source.listed or target.listed:
+        each = [reads(target.start(chunk), end(chunk)) for chunk in chunks] if few else None
+        walked = {"copies": each and sum(each), "largest_line": each and max(each)}
+    else:
+        # Each copy begins where a chunk of either begins, and those into a chunk are as many as a common multiple further on.
+        edges = source.first_edge(), target.first_edge()
+        once, other, both = ((stop - 1) // edge - start // edge for edge in (*edges, math.lcm(*edges)))
+        some = {*chunks[: math.lcm(*edges) // edges[1] + 1], chunks[-1]}
+        walked = {"copies": 1 + once + other - both, "largest_line": max(reads(target.start(chunk), end(chunk)) for chunk in some)}
     return {**walked, "elements": stop - start, "lines": count, "source_chunks": reads(start, stop)}
 
 

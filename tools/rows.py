@@ -13,6 +13,7 @@ A file of `crates/chunkplan/rows` has rows of one subject. Each line of it is a 
 The lines of a resize may come in any order. They are listed here by chunk, without `number` and `of`.
 """
 import json
+import re
 import sys
 
 from built import CRATES
@@ -56,7 +57,9 @@ def error_of(text):
 
 
 def text(value):
-    return json.dumps(value, separators=(",", ":"), ensure_ascii=False, sort_keys=True)
+    """A value as the program prints it: no character in it breaks the line for some reader."""
+    printed = json.dumps(value, separators=(",", ":"), ensure_ascii=False, sort_keys=True)
+    return re.sub("[\x7f-\x9f\u2028\u2029]", lambda found: f"\\u{ord(found[0]):04x}", printed)
 
 
 def text_of(lines):

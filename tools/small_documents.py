@@ -46,7 +46,7 @@ def huge(random, room):
 
 
 def millions(random, room):
-    """Millions of chunks along each dimension, around the 2^24 up to which they are gone through."""
+    """Millions of chunks along each dimension, more and fewer than the 2^20 up to which they are gone through."""
     for _ in range(random.choice([1, 2, 3, 6, room])):
         count, target_count = (2 ** random.choice([16, 20, 23, 24, 24]) + random.randint(-1, 1) for _ in range(2))
         size = max(count, target_count) * power(random, 8)

@@ -12,8 +12,8 @@ class Counts(NamedTuple):
     for each chunk of the target that is written."""
 
     copies: int | None
-    """How many sources all items of `Grid.copies`, or `Grid.copies_of_region`, have together; None where more than 16777216 chunks are written along a
-    dimension."""
+    """How many sources all items of `Grid.copies`, or `Grid.copies_of_region`, have together. None if more than 1048576 chunks would be gone
+    through, along all dimensions together. Chunks that have one edge in both arrays aren't gone through."""
     elements: int
     """How many elements are moved."""
     largest_line: int | None

@@ -1,6 +1,5 @@
 -- A walk over what a rechunking copies, or over what is copied of a region: that it can go on, and what it gives.
 use Rattle.std.proofs.Common.{◌≡◌, ◌⊎◌, ◌∙◌, ℕ, List, [], ◌∷◌, ◌++◌, Option, Some, None, IfSome, Result, Ok, Err, IfOk, length, map, append_assoc, replicate}
-use Rattle.std.proofs.Common.{arith}
 use Rattle.std.proofs.Common.{append-nil, ap, inl, refl, subst, sym}
 use Rattle.std.specs.Iterator.{Drains, Yields}
 use Rattle.std.specs.List.{AllByRecursion, AllZip}
@@ -11,19 +10,18 @@ use Rattle.zarrs_chunk_base.specs.declared.incompatible_dimensionality_error.Inc
 use Rattle.zarrs_chunk_base.specs.declared.refusal.Refusal.{Refusal}
 use Rattle.zarrs_chunks.specs.Subsets.{IsCover}
 use Rattle.zarrs_chunks.specs.Walks.{chunks_in}
-use Rattle.zarrs_chunk_parts.specs.Plan.{IsPart, Meets}
-use Rattle.zarrs_chunk_plan.specs.Rechunking.{AreCopiesInto, AreTargets, Group, IsRechunking, array_box}
+use Rattle.zarrs_chunk_parts.specs.Plan.{Meets}
+use Rattle.zarrs_chunk_plan.specs.Rechunking.{AreTargets, Group, IsRechunking, array_box}
 use Rattle.zarrs_chunk_plan.specs.Region.{AreMovedInto, IsRegionCopy, moved, shifted}
 use Rattle.zarrs_chunk_plan.specs.declared.chunk_copies.ChunkCopies.{ChunkCopies}
 use Rattle.zarrs_chunk_plan.specs.declared.chunk_copies.Copies.{Copies}
 use Rattle.zarrs_chunk_parts.specs.declared.part.Part.{Part}
 use Rattle.zarrs_chunk_plan.specs.declared.stored_array.StoredArray.{StoredArray}
 use Rattle.zarrs_chunk_plan.specs.declared.walk.Parts.{Parts}
-use Rattle.zarrs_chunk_plan.specs.seen.Copies.{AreGroupsToCome, AreMovesToCome, CanCopy, CanMove, GivesCopies, HasAllParts, IsAboutCopies, IsPlanned}
+use Rattle.zarrs_chunk_plan.specs.seen.Copies.{AreMovesToCome, CanMove, GivesCopies, HasAllParts, IsAboutCopies, IsPlanned}
 use Rattle.zarrs_chunk_plan.specs.seen.Copies.{first_of, region_of, target_of, targets_to_come}
 use Rattle.zarrs_chunk_plan.specs.seen.Parts.{AnswersParts, ArePartsToCome, GivesPart, IsAbout, MeetSubset, all_chunks, chunks_to_come}
-use Rattle.zarrs_chunk_plan.proofs.Plans.{all_long, not_empty}
-use Rattle.zarrs_chunk_plan.proofs.Rechunkings.{counted_from_zeros}
+use Rattle.zarrs_chunk_plan.proofs.Plans.{not_empty}
 use Rattle.zarrs_chunk_plan.proofs.Walked.{one_came, plan_of}
 
 -- what `parts` answers of a box that isn't empty has to give the plan of reading it
@@ -40,18 +38,6 @@ planned_of dimensions grid encoding b (Ok None) some answers about meet all = tt
 planned_of dimensions grid encoding b (Err e) some answers about meet all = tt
 
 module _ {G E H F : Type 0} (source_dimensions : G → List Dimension) (target_dimensions : H → List Dimension) where
-  pub can_copy : (source : StoredArray G E) (target : H) (encoding : F) (walk : Copies G E H F) (targets : Parts H F) (wanted : Box)
-      → walk.source.now ≡ source → walk.targets ≡ targets → IsAbout target encoding (array_box (target_dimensions target)) targets
-      → chunks_to_come targets ≡ chunks_in wanted → array_sizes (source_dimensions source.grid) ≡ array_sizes (target_dimensions target)
-      → AllByRecursion (Meets (target_dimensions target) (array_box (target_dimensions target))) (chunks_in wanted)
-      → first_of walk ≡ replicate (length (target_dimensions target)) 0 → CanCopy source_dimensions target_dimensions walk
-  can_copy source target encoding walk targets wanted same_source same_targets about left one meet first = record {
-    one_array = rw (same_source, same_targets, about.same_grid) one;
-    whole_array = rw (same_targets, about.same_grid) about.same_subset;
-    from_zero = rw (same_targets, about.same_grid) first;
-    meet = rw (same_targets, about.same_grid, about.same_subset, left) meet;
-  }
-
   module _ (target_key : F → List ℕ → List ℕ → Type 0) (before : Copies G E H F) (to : Part) (targets : Parts H F)
       (steps : GivesPart target_dimensions target_key before.targets (Some (Ok to)) targets) where
     -- the chunk of the part has an element of the box
@@ -67,15 +53,6 @@ module _ {G E H F : Type 0} (source_dimensions : G → List Dimension) (target_d
     abbrev PlansFrom : Parts G E → Box → Type 0
     PlansFrom from b = IsPlanned source_dimensions before.source.now.grid before.source.now.encoding b from
 
-    -- those of a rechunking are read from where they are in the array
-    where_they_are : CanCopy source_dimensions target_dimensions before → shifted (first_of before) to.in_subset ≡ to.in_subset
-    where_they_are can =
-        let ds = target_dimensions before.targets.grid.now in
-        let (index, box, inside) = meets can.meet in
-        let long = all_long ds _ before.targets.array_subset to.chunk.items to index (steps.part can.meet) (box, inside) in
-        rw can.from_zero (ap (λ (start : List ℕ). let b : Box = record { start = start; shape = to.in_subset.shape } in b)
-        (counted_from_zeros (length ds) to.in_subset.start (omega arith)))
-
     pub gives_copies : (from : Parts G E)
         → ((¬ IsEmptyBox to.in_subset) → PlansFrom from (shifted (first_of before) to.in_subset))
         → (after : Copies G E H F) → after.targets ≡ targets → after.source.now ≡ before.source.now → first_of after ≡ first_of before
@@ -83,20 +60,12 @@ module _ {G E H F : Type 0} (source_dimensions : G → List Dimension) (target_d
     gives_copies from planned after same_targets same_source same_first =
         let about = steps.about in record {
           gives = rw same_targets steps.gives;
-          to = λ can. steps.part can.meet;
-          from = λ can. subst (PlansFrom from) (where_they_are can) (planned (has_some can.meet));
           about = record { same_source = same_source; targets = rw same_targets about };
-          can = λ can. record {
-            one_array = rw (same_source, same_targets, about.same_grid) can.one_array;
-            whole_array = rw (same_targets, about.same_subset, about.same_grid) can.whole_array;
-            from_zero = rw (same_first, same_targets, about.same_grid) can.from_zero;
-            meet = rw same_targets (steps.meet can.meet);
-          };
           all = rw same_targets steps.all;
           first = same_first;
-          moved_to = λ can. steps.part can.meet;
-          moved_from = λ can. planned (has_some can.meet);
-          can_move = λ can. record {
+          to = λ can. steps.part can.meet;
+          from = λ can. planned (has_some can.meet);
+          can = λ can. record {
             in_source = rw (same_first, same_source, same_targets, about.same_subset) can.in_source;
             meet = rw same_targets (steps.meet can.meet);
           };
@@ -114,180 +83,90 @@ module _ {G E H F : Type 0} (source_dimensions : G → List Dimension) (source_k
   abbrev IsOverTheSame : Copies G E H F → Type 0
   IsOverTheSame = IsAboutCopies begin.source.now (target_of begin) begin.targets.array_subset
 
-  -- what holds of a chunk and its group, and of a walk that gives such groups
-  module _ (IsGroup : List ℕ → Group → Type 0) (Can : Copies G E H F → Type 0) where
-    -- these chunks came, of which these are the groups
-    abbrev pub HaveCome : Copies G E H F → List Group → Type 0
-    HaveCome now groups = (came : List (List ℕ)) × (targets_to_come begin ≡ came ++ targets_to_come now) × AllZip IsGroup came groups
-        × IsAboutCopies begin.source.now (target_of begin) begin.targets.array_subset now
-        × Can now
-
-    pub none_came : (now : Copies G E H F) (groups : List Group) → now ≡ begin → groups ≡ [] → Can begin → HaveCome now groups
-    none_came now groups same none can =
-        let targets : IsAbout begin.targets.grid.now begin.targets.encoding.now begin.targets.array_subset begin.targets =
-        record { same_grid = refl; same_encoding = refl; same_subset = refl }
-        in
-        rw (same, none) ([], refl, tt, record { same_source = refl; targets = targets }, can)
-
-    pub all_came : (before after : Copies G E H F) (groups : List Group) → HaveCome before groups → GivesGroup before None after
-        → AllZip IsGroup (targets_to_come begin) groups
-    all_came before after groups (came, left, are, about, can) gives =
-        subst (λ chunks. AllZip IsGroup chunks groups) (sym (left ∙ ap (λ xs. came ++ xs) gives.gives.0 ∙ append-nil came)) are
-
-    module _ (is_group : (before after : Copies G E H F) (group : ChunkCopies G E) (from : List Part) → IsOverTheSame before → Can before
-        → GivesGroup before (Some (Ok group)) after → ArePartsToCome source_dimensions source_key group.from from
-        → IsGroup group.to.chunk.items (group.to, from))
-        (still : (before after : Copies G E H F) (group : ChunkCopies G E) → Can before → GivesGroup before (Some (Ok group)) after → Can after) where
-      pub one_more_came : (before after : Copies G E H F) (group : ChunkCopies G E) (from : List Part) (groups more : List Group)
-          → HaveCome before groups → GivesGroup before (Some (Ok group)) after
-          → ArePartsToCome source_dimensions source_key group.from from → more ≡ groups ++ (group.to, from) ∷ [] → HaveCome after more
-      one_more_came before after group from groups more (came, left, are, about, can) gives parts is =
-          let targets = about.targets in
-          let (now_came, all, now_are) = one_came IsGroup (targets_to_come begin) came (targets_to_come before) (targets_to_come after)
-          group.to.chunk.items (group.to, from) groups more left gives.gives are (is_group before after group from about can gives parts) is
-          in
-          let same = rw (about.same_source, targets.same_grid, targets.same_encoding, targets.same_subset) at gives.about in
-          (now_came, all, now_are, same, still before after group can gives)
-
-      -- what came and what is given from there up to the end are the groups to come
-      up_to_last : (now last end : Copies G E H F) (came groups : List Group) (given : List (ChunkCopies G E)) → HaveCome now came
-          → Yields GivesGroup now (map Ok given) last → GivesGroup last None end → AllZip (HasAllParts source_dimensions source_key) given groups
-          → AllZip IsGroup (targets_to_come begin) (came ++ groups)
-      up_to_last now last end came [] [] have same stops are =
-          subst (AllZip IsGroup (targets_to_come begin)) (sym (append-nil came))
-          (all_came now end came have (subst (λ walk. GivesGroup walk None end) (sym same) stops))
-      up_to_last now last end came ((to, from) ∷ groups) (group ∷ given) have (after, gives, rest) stops ((same, parts), are) =
-          let more = came ++ (to, from) ∷ [] in
-          let is : more ≡ came ++ (group.to, from) ∷ [] = ap (λ t. came ++ (t, from) ∷ []) (sym same) in
-          subst (AllZip IsGroup (targets_to_come begin)) (append_assoc came ((to, from) ∷ []) groups)
-          (up_to_last after last end more groups given (one_more_came now after group from came more have gives parts is) rest stops are)
-      up_to_last now last end came [] (_ ∷ _) have yields stops are = absurd are
-      up_to_last now last end came (_ ∷ _) [] have yields stops are = absurd are
-
-      -- so what a walk gives up to its end, each group with all of its parts, are the groups to come
-      pub all_given : (given : List (ChunkCopies G E)) (groups : List Group) → Can begin → Drains GivesGroup begin (map Ok given)
-          → AllZip (HasAllParts source_dimensions source_key) given groups → AllZip IsGroup (targets_to_come begin) groups
-      all_given given groups can (end, (last, yields, stops)) are =
-          up_to_last begin last end [] groups given (none_came begin [] refl refl can) yields stops are
-
-  -- ---- of a rechunking
-
-  abbrev pub IsGroupOf : List ℕ → Group → Type 0
-  IsGroupOf =
-      AreCopiesInto (source_dimensions begin.source.now.grid) (source_key begin.source.now.encoding) (target_dimensions begin.targets.grid.now)
-      (target_key begin.targets.encoding.now)
-
-  abbrev pub GroupsHaveCome : Copies G E H F → List Group → Type 0
-  GroupsHaveCome = HaveCome IsGroupOf (CanCopy source_dimensions target_dimensions)
-
-  pub first_group : (now : Copies G E H F) (groups : List Group) → now ≡ begin → groups ≡ [] → CanCopy source_dimensions target_dimensions begin
-      → GroupsHaveCome now groups
-  first_group = none_came IsGroupOf (CanCopy source_dimensions target_dimensions)
-
-  is_copied : (before after : Copies G E H F) (group : ChunkCopies G E) (from : List Part) → IsOverTheSame before
-      → CanCopy source_dimensions target_dimensions before → GivesGroup before (Some (Ok group)) after
-      → ArePartsToCome source_dimensions source_key group.from from → IsGroupOf group.to.chunk.items (group.to, from)
-  is_copied before after group from about can gives parts =
-      let planned = gives.from can in
-      let chunk = group.to.chunk.items in
-      let source = source_dimensions before.source.now.grid in
-      let source_is_key = source_key before.source.now.encoding in
-      let target = target_dimensions before.targets.grid.now in
-      let target_is_key = target_key before.targets.encoding.now in
-      let into : AreCopiesInto source source_is_key target target_is_key chunk (group.to, from) = record {
-        to = subst (λ b. IsPart target target_is_key b chunk group.to) can.whole_array (gives.to can);
-        from = plan_of source_dimensions source_key before.source.now.grid before.source.now.encoding group.to.in_subset planned.cover group.from from
-            planned.about planned.is_cover planned.left parts;
-      }
-      in
-      rw (← about.same_source, ← about.targets.same_grid, ← about.targets.same_encoding) into
-
-  still_copies : (before after : Copies G E H F) (group : ChunkCopies G E) → CanCopy source_dimensions target_dimensions before
-      → GivesGroup before (Some (Ok group)) after → CanCopy source_dimensions target_dimensions after
-  still_copies before after group can gives = gives.can can
-
-  pub one_more_group : (before after : Copies G E H F) (group : ChunkCopies G E) (from : List Part) (groups more : List Group)
-      → GroupsHaveCome before groups → GivesCopies source_dimensions target_dimensions target_key before (Some (Ok group)) after
-      → ArePartsToCome source_dimensions source_key group.from from → more ≡ groups ++ (group.to, from) ∷ [] → GroupsHaveCome after more
-  one_more_group = one_more_came IsGroupOf (CanCopy source_dimensions target_dimensions) is_copied still_copies
-
-  pub last_group : (before after : Copies G E H F) (groups : List Group) → GroupsHaveCome before groups
-      → GivesCopies source_dimensions target_dimensions target_key before None after
-      → AreGroupsToCome source_dimensions source_key target_dimensions target_key begin groups
-  last_group = all_came IsGroupOf (CanCopy source_dimensions target_dimensions)
-
-  pub all_groups_to_come : (given : List (ChunkCopies G E)) (groups : List Group) → CanCopy source_dimensions target_dimensions begin
-      → Drains GivesGroup begin (map Ok given) → AllZip (HasAllParts source_dimensions source_key) given groups
-      → AreGroupsToCome source_dimensions source_key target_dimensions target_key begin groups
-  all_groups_to_come = all_given IsGroupOf (CanCopy source_dimensions target_dimensions) is_copied still_copies
-
-  -- ---- of the copy of a region
-
+  -- what of the region goes into a chunk
   abbrev pub IsMoveOf : List ℕ → Group → Type 0
   IsMoveOf =
       AreMovedInto (source_dimensions begin.source.now.grid) (source_key begin.source.now.encoding) (target_dimensions begin.targets.grid.now)
       (target_key begin.targets.encoding.now) (region_of begin) begin.targets.array_subset.start
 
-  -- and it reads from the same element on
-  abbrev pub MovesOn : Copies G E H F → Type 0
-  MovesOn now = (first_of now ≡ first_of begin) × CanMove source_dimensions target_dimensions now
-
+  -- these chunks came, of which these are the groups, and the walk reads from the same element on
   abbrev pub MovesHaveCome : Copies G E H F → List Group → Type 0
-  MovesHaveCome = HaveCome IsMoveOf MovesOn
+  MovesHaveCome now groups = (came : List (List ℕ)) × (targets_to_come begin ≡ came ++ targets_to_come now) × AllZip IsMoveOf came groups
+      × IsOverTheSame now
+      × ((first_of now ≡ first_of begin) × CanMove source_dimensions target_dimensions now)
 
   pub first_move : (now : Copies G E H F) (groups : List Group) → now ≡ begin → groups ≡ [] → CanMove source_dimensions target_dimensions begin
       → MovesHaveCome now groups
-  first_move now groups same none can = none_came IsMoveOf MovesOn now groups same none (refl, can)
+  first_move now groups same none can =
+      let targets : IsAbout begin.targets.grid.now begin.targets.encoding.now begin.targets.array_subset begin.targets =
+      record { same_grid = refl; same_encoding = refl; same_subset = refl }
+      in
+      rw (same, none) ([], refl, tt, record { same_source = refl; targets = targets }, (refl, can))
 
-  is_moved : (before after : Copies G E H F) (group : ChunkCopies G E) (from : List Part) → IsOverTheSame before → MovesOn before
-      → GivesGroup before (Some (Ok group)) after → ArePartsToCome source_dimensions source_key group.from from
-      → IsMoveOf group.to.chunk.items (group.to, from)
-  is_moved before after group from about (same_first, can) gives parts =
-      let planned = gives.moved_from can in
+  pub one_more_move : (before after : Copies G E H F) (group : ChunkCopies G E) (from : List Part) (groups more : List Group)
+      → MovesHaveCome before groups → GivesGroup before (Some (Ok group)) after
+      → ArePartsToCome source_dimensions source_key group.from from → more ≡ groups ++ (group.to, from) ∷ [] → MovesHaveCome after more
+  one_more_move before after group from groups more (came, left, are, about, (same_first, can)) gives parts is =
+      let planned = gives.from can in
       let targets = about.targets in
       let read = shifted (first_of before) group.to.in_subset in
       let plan = plan_of source_dimensions source_key before.source.now.grid before.source.now.encoding read planned.cover group.from from
       planned.about planned.is_cover planned.left parts
       in
-      record {
-        to = rw (targets.same_grid, targets.same_encoding, targets.same_subset) at (gives.moved_to can);
+      let move : IsMoveOf group.to.chunk.items (group.to, from) = record {
+        to = rw (targets.same_grid, targets.same_encoding, targets.same_subset) at (gives.to can);
         from = rw (same_first, about.same_source) at plan;
       }
+      in
+      let (now_came, all, now_are) = one_came IsMoveOf (targets_to_come begin) came (targets_to_come before) (targets_to_come after)
+      group.to.chunk.items (group.to, from) groups more left gives.gives are move is
+      in
+      let same = rw (about.same_source, targets.same_grid, targets.same_encoding, targets.same_subset) at gives.about in
+      (now_came, all, now_are, same, (gives.first ∙ same_first, gives.can can))
 
-  still_moves : (before after : Copies G E H F) (group : ChunkCopies G E) → MovesOn before → GivesGroup before (Some (Ok group)) after → MovesOn after
-  still_moves before after group (same_first, can) gives = (gives.first ∙ same_first, gives.can_move can)
-
-  pub one_more_move : (before after : Copies G E H F) (group : ChunkCopies G E) (from : List Part) (groups more : List Group)
-      → MovesHaveCome before groups → GivesCopies source_dimensions target_dimensions target_key before (Some (Ok group)) after
-      → ArePartsToCome source_dimensions source_key group.from from → more ≡ groups ++ (group.to, from) ∷ [] → MovesHaveCome after more
-  one_more_move = one_more_came IsMoveOf MovesOn is_moved still_moves
-
-  pub last_move : (before after : Copies G E H F) (groups : List Group) → MovesHaveCome before groups
-      → GivesCopies source_dimensions target_dimensions target_key before None after
+  pub last_move : (before after : Copies G E H F) (groups : List Group) → MovesHaveCome before groups → GivesGroup before None after
       → AreMovesToCome source_dimensions source_key target_dimensions target_key begin groups
-  last_move = all_came IsMoveOf MovesOn
+  last_move before after groups (came, left, are, about, _) gives =
+      subst (λ chunks. AllZip IsMoveOf chunks groups) (sym (left ∙ ap (λ xs. came ++ xs) gives.gives.0 ∙ append-nil came)) are
 
+  -- what came and what is given from there up to the end are the groups to come
+  up_to_last : (now last end : Copies G E H F) (came groups : List Group) (given : List (ChunkCopies G E)) → MovesHaveCome now came
+      → Yields GivesGroup now (map Ok given) last → GivesGroup last None end → AllZip (HasAllParts source_dimensions source_key) given groups
+      → AreMovesToCome source_dimensions source_key target_dimensions target_key begin (came ++ groups)
+  up_to_last now last end came [] [] have same stops are =
+      subst (AreMovesToCome source_dimensions source_key target_dimensions target_key begin) (sym (append-nil came))
+      (last_move now end came have (subst (λ walk. GivesGroup walk None end) (sym same) stops))
+  up_to_last now last end came ((to, from) ∷ groups) (group ∷ given) have (after, gives, rest) stops ((same, parts), are) =
+      let more = came ++ (to, from) ∷ [] in
+      let is : more ≡ came ++ (group.to, from) ∷ [] = ap (λ t. came ++ (t, from) ∷ []) (sym same) in
+      subst (AreMovesToCome source_dimensions source_key target_dimensions target_key begin) (append_assoc came ((to, from) ∷ []) groups)
+      (up_to_last after last end more groups given (one_more_move now after group from came more have gives parts is) rest stops are)
+  up_to_last now last end came [] (_ ∷ _) have yields stops are = absurd are
+  up_to_last now last end came (_ ∷ _) [] have yields stops are = absurd are
+
+  -- so what a walk gives up to its end, each group with all of its parts, are the groups to come
   pub all_moves_to_come : (given : List (ChunkCopies G E)) (groups : List Group) → CanMove source_dimensions target_dimensions begin
       → Drains GivesGroup begin (map Ok given) → AllZip (HasAllParts source_dimensions source_key) given groups
       → AreMovesToCome source_dimensions source_key target_dimensions target_key begin groups
-  all_moves_to_come given groups can = all_given IsMoveOf MovesOn is_moved still_moves given groups (refl, can)
+  all_moves_to_come given groups can (end, (last, yields, stops)) are =
+      up_to_last begin last end [] groups given (first_move begin [] refl refl can) yields stops are
 
 -- the groups of all chunks that were to come are a rechunking
 pub rechunking_of : {G E H F : Type 0} (source_dimensions : G → List Dimension) (source_key : E → List ℕ → List ℕ → Type 0)
     (target_dimensions : H → List Dimension) (target_key : F → List ℕ → List ℕ → Type 0) (source : StoredArray G E)
-    (target : StoredArray H F) (array chunks targets : Box) (walk : Copies G E H F) (groups : List Group)
-    → IsAboutCopies source target array walk → IsBox targets
+    (target : StoredArray H F) (chunks targets : Box) (walk : Copies G E H F) (groups : List Group)
+    → IsAboutCopies source target (array_box (target_dimensions target.grid)) walk
+    → first_of walk ≡ replicate (length (target_dimensions target.grid)) 0 → IsBox targets
     → AreTargets (target_dimensions target.grid) chunks targets → targets_to_come walk ≡ chunks_in targets
-    → AreGroupsToCome source_dimensions source_key target_dimensions target_key walk groups
+    → AreMovesToCome source_dimensions source_key target_dimensions target_key walk groups
     → IsRechunking (source_dimensions source.grid) (source_key source.encoding) (target_dimensions target.grid) (target_key target.encoding) chunks
     groups
-rechunking_of source_dimensions source_key target_dimensions target_key source target array chunks targets walk
-    groups about is_box are left come = record {
-      targets = targets;
-      is_box = is_box;
-      are_targets = are;
-      are_groups = rw (← left, ← about.same_source, ← about.targets.same_grid, ← about.targets.same_encoding) come;
-    }
+rechunking_of source_dimensions source_key target_dimensions target_key source target chunks targets walk groups about first is_box are left come =
+    let of = about.targets in
+    let start : walk.targets.array_subset.start ≡ replicate (length (target_dimensions target.grid)) 0 = ap (λ b. b.start) of.same_subset in
+    let shape : walk.targets.array_subset.shape ≡ array_sizes (target_dimensions target.grid) = ap (λ b. b.shape) of.same_subset in
+    let into = rw (left, about.same_source, of.same_grid, of.same_encoding, first, shape, start) at come in
+    record { targets = targets; is_box = is_box; are_targets = are; are_groups = into }
 
 -- the groups of all chunks that were to come are the copy of a region
 pub region_copy_of : {G E H F : Type 0} (source_dimensions : G → List Dimension) (source_key : E → List ℕ → List ℕ → Type 0)

@@ -20,9 +20,8 @@ use Rattle.zarrs_chunk_plan.proofs.Exchanged.{what_it_is_of}
 use Rattle.zarrs_chunk_plan.proofs.MetCovers.{as_many_counters}
 use Rattle.zarrs_chunk_plan.proofs.MovedBoxes.{whole_within}
 use Rattle.zarrs_chunk_plan.proofs.Products.{met_by_all, sum_of_products}
-use Rattle.zarrs_chunk_plan.proofs.Rechunkings.{in_array, origin_of, some_copy, those_are}
+use Rattle.zarrs_chunk_plan.proofs.Rechunkings.{goes_into, in_array, some_copy_into, those_are}
 use Rattle.zarrs_chunk_plan.proofs.SameBoxes.{chunks_of_same}
-use Rattle.zarrs_chunk_plan.proofs.SomeRegions.{all_moved}
 
 -- the element of the array lies in one of the chunks
 abbrev pub IsWritten : List Dimension → Box → List ℕ → Type 0
@@ -69,12 +68,12 @@ module _ (source : List Dimension) (IsSourceKey : List ℕ → List ℕ → Type
   moved : (index : List ℕ) → IsWritten target targets index
       → (copy : Part × Part) × Contains (copies_of groups) copy × ((steps : List ℕ) × Moves source target copy steps index)
   moved index (below, (chunk, inside, box)) =
-      some_copy source IsSourceKey target IsTargetKey chains chunks groups plan index chunk below box ((are_targets chunk).0 inside).0
+      some_copy_into source IsSourceKey target IsTargetKey chunks groups plan chains index chunk below box ((are_targets chunk).0 inside).0
 
   is_written : (index steps : List ℕ) (copy : Part × Part) → AreBelow (array_sizes target) index → Contains (copies_of groups) copy
       → Moves source target copy steps index → IsWritten target targets index
   is_written index steps copy below among moves =
-      let of = origin_of source IsSourceKey target IsTargetKey chunks groups plan copy among in
+      let of = goes_into source IsSourceKey target IsTargetKey chunks groups plan copy among in
       (below, (of.chunk, (are_targets of.chunk).1 (of.inside, of.meets), subst (λ c. InBox target c index) of.to.numbers moves.in_target))
 
   -- a chunk that is read holds an element that is written
@@ -97,10 +96,9 @@ module _ (source : List Dimension) (IsSourceKey : List ℕ → List ℕ → Type
       let met = met_in all targets.start targets.shape in
       let many = as_many_counters source target (array_box target) (array_box target) targets chains taking in
       let is_box = taking.is_box in
-      let meet = each_meets source IsSourceKey target IsTargetKey (array_box target) at chains targets taking in
-      let moves = all_moved source IsSourceKey target IsTargetKey (chunks_in targets) groups meet are_groups in
       copies_of_all groups
-      ∙ ap sum (copies_each source IsSourceKey target IsTargetKey (array_box target) at chains targets taking (chunks_in targets) groups meet moves)
+      ∙ ap sum (copies_each source IsSourceKey target IsTargetKey (array_box target) at chains targets taking (chunks_in targets) groups
+      (each_meets source IsSourceKey target IsTargetKey (array_box target) at chains targets taking) are_groups)
       ∙ ap sum (met_by_all all targets.start targets.shape (omega (arith, taking.long, many)) (omega (arith, taking.long, many, is_box.lengths)))
       ∙ sum_of_products met
 
@@ -109,12 +107,10 @@ module _ (source : List Dimension) (IsSourceKey : List ℕ → List ℕ → Type
       → AreRechunkingCounts source target targets groups counts
   counts_are elements counts written are =
       let at = (array_box target).start in
-      let meet = each_meets source IsSourceKey target IsTargetKey (array_box target) at chains targets taking in
-      let moves = all_moved source IsSourceKey target IsTargetKey (chunks_in targets) groups meet are_groups in
       record {
-        lines = lines_are source IsSourceKey target IsTargetKey (array_box target) at chains targets taking groups moves elements counts are;
-        copies = copies_are source IsSourceKey target IsTargetKey (array_box target) at chains targets taking groups moves elements counts are;
-        largest_line = largest_is source IsSourceKey target IsTargetKey (array_box target) at chains targets taking groups moves elements counts are;
+        lines = lines_are source IsSourceKey target IsTargetKey (array_box target) at chains targets taking groups are_groups elements counts are;
+        copies = copies_are source IsSourceKey target IsTargetKey (array_box target) at chains targets taking groups are_groups elements counts are;
+        largest_line = largest_is source IsSourceKey target IsTargetKey (array_box target) at chains targets taking groups are_groups elements counts are;
         elements = many_same (IsInside elements) _ (product counts.elements.items)
             (λ index. (
               λ inside. let here = (written index).0 inside in (here.0, moved index here),

@@ -85,12 +85,12 @@ module _ (source : List Dimension) (IsSourceKey : List ℕ → List ℕ → Type
     lines_are = ap product are_counts.lines ∙ sym (in_box_many targets) ∙ sym (AllZip-long Into (chunks_in targets) groups are)
 
     pub copies_are : MatchOption counts.copies (¬ AreFew targets)
-        (λ factors. AreFew targets × (product factors.items ≡ length (copies_of groups)))
+        (λ factors. product factors.items ≡ length (copies_of groups))
     copies_are =
-        subst (λ n. MatchOption counts.copies (¬ AreFew targets) (λ factors. AreFew targets × (product factors.items ≡ n)))
+        subst (λ n. MatchOption counts.copies (¬ AreFew targets) (λ factors. product factors.items ≡ n))
         (ap sum (sym lengths) ∙ sym (copies_of_all groups)) are_counts.copies
 
-    pub largest_is : MatchOption counts.largest_line (¬ AreFew targets) (λ factors. AreFew targets × (product factors.items ≡ longest groups))
+    pub largest_is : MatchOption counts.largest_line (¬ AreFew targets) (λ factors. product factors.items ≡ longest groups)
     largest_is =
-        subst (λ n. MatchOption counts.largest_line (¬ AreFew targets) (λ factors. AreFew targets × (product factors.items ≡ n)))
+        subst (λ n. MatchOption counts.largest_line (¬ AreFew targets) (λ factors. product factors.items ≡ n))
         (ap (fold max 0) (sym lengths)) are_counts.largest_line

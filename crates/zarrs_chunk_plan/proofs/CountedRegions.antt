@@ -27,7 +27,7 @@ use Rattle.zarrs_chunk_plan.proofs.MetCovers.{zeros_none}
 use Rattle.zarrs_chunk_plan.proofs.MovedBoxes.{some_dimension}
 use Rattle.zarrs_chunk_plan.proofs.Plans.{not_empty, not_empty_if_inside, source_of, takes}
 use Rattle.zarrs_chunk_plan.proofs.Products.{of_none}
-use Rattle.zarrs_chunk_plan.proofs.Regions.{moves_region, read_is_box, some_copy}
+use Rattle.zarrs_chunk_plan.proofs.Regions.{moves_region, read_is_box, some_copy_of_region}
 use Rattle.zarrs_chunk_plan.proofs.SameBoxes.{chunks_of_same}
 
 module _ (source : List Dimension) (IsSourceKey : List ℕ → List ℕ → Type 0) (target : List Dimension) (IsTargetKey : List ℕ → List ℕ → Type 0)
@@ -57,7 +57,7 @@ module _ (source : List Dimension) (IsSourceKey : List ℕ → List ℕ → Type
   moved_by index inside =
       let (place, below, counts) = offset_of region.start region.shape index inside in
       let (copy, among, (steps, moves)) =
-      some_copy source IsSourceKey target IsTargetKey region at groups plan chains also_chains is_region taking.is_moved place below in
+      some_copy_of_region source IsSourceKey target IsTargetKey region at groups plan chains also_chains is_region taking.is_moved place below in
       (copy, among, (steps, counted_from at place, subst (λ x. MovesTo source target copy steps x (counted_from at place)) counts moves))
 
   -- a chunk that is read holds an element of the region
@@ -76,7 +76,7 @@ module _ (source : List Dimension) (IsSourceKey : List ℕ → List ℕ → Type
       in
       let (_, has) = takes source IsSourceKey read s copy.0 index is_from (box, inside) in
       let (place, below, moves) =
-      moves_region source IsSourceKey target IsTargetKey region at groups plan copy among has.steps has.below in
+      moves_region source IsSourceKey target IsTargetKey region at cover is_cover.is_box groups are_groups copy among has.steps has.below in
       (counted_from region.start place, moves.in_source, lie_within region.start region.shape place is_region.lengths below)
 
   pub counts_are : (counts : Counts) → AreTargetCounts source (counters source target region (moved at region)) region cover counts
@@ -140,8 +140,8 @@ module _ (source target : List Dimension) (also_chains : AllByRecursion IsChain 
       in
       record {
         lines = ap product are.lines ∙ product_of_none targets.shape none;
-        copies = match_option counts.copies (λ many. many (inl none)) (λ factors both. both.1 ∙ ap sum no_chunks) are.copies;
-        largest_line = match_option counts.largest_line (λ many. many (inl none)) (λ factors both. both.1 ∙ ap (fold max 0) no_chunks)
+        copies = match_option counts.copies (λ many. many (inl none)) (λ factors is. is ∙ ap sum no_chunks) are.copies;
+        largest_line = match_option counts.largest_line (λ many. many (inl none)) (λ factors is. is ∙ ap (fold max 0) no_chunks)
             are.largest_line;
         elements = none_are_many (IsInside region) (product counts.elements.items) are.elements outside;
         source_chunks = none_are_many (Meets source region) (product counts.source_chunks.items) are.source_chunks

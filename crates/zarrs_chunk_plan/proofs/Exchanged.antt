@@ -11,10 +11,11 @@ use Rattle.zarrs_chunks.proofs.ChunksInBoxes.{are_those_inside, chunks_once}
 use Rattle.zarrs_chunks.proofs.Meeting.{cover_meets}
 use Rattle.zarrs_chunk_parts.specs.Plan.{IsPart, Meets}
 use Rattle.zarrs_chunk_plan.specs.Rechunking.{AreCopiesInto, Group, IsExchanged, IsRechunking, all_chunks_box, array_box, copies_of}
+use Rattle.zarrs_chunk_plan.specs.Region.{shifted}
 use Rattle.zarrs_chunk_parts.specs.declared.part.Part.{Part}
 use Rattle.zarrs_chunk_plan.proofs.CopyLists.{Differ, copies_differ, copy_in, copy_of, pairs_follow}
 use Rattle.zarrs_chunk_plan.proofs.Plans.{added, all_long, counted_once, length_counted, not_empty, pair_of, parts_differ, source_of}
-use Rattle.zarrs_chunk_plan.proofs.Rechunkings.{in_array, is_counted, shared_start, those_are}
+use Rattle.zarrs_chunk_plan.proofs.Rechunkings.{in_array, is_counted, read_there, shared_start, those_are}
 use Rattle.zarrs_chunk_plan.proofs.SameBoxes.{same_box_of}
 
 -- a chunk has one origin
@@ -48,11 +49,11 @@ module _ (source : List Dimension) (IsSourceKey : List ℕ → List ℕ → Type
       let (t, parts, counted, into, in_parts) =
       copy_of (AreCopiesInto source IsSourceKey target IsTargetKey) (chunks_in plan.targets) groups plan.are_groups copy among in
       let (inside, meets) = (plan.are_targets t).0 ((are_those_inside plan.targets plan.is_box t).0 counted) in
-      let (s, in_cover, is_from) =
-      source_of (IsPart source IsSourceKey copy.1.in_subset) (chunks_in into.from.cover) parts into.from.are_parts copy.0 in_parts in
+      let read = read_there source IsSourceKey target IsTargetKey t (copy.1, parts) into meets in
+      let (s, in_cover, is_from) = source_of (IsPart source IsSourceKey copy.1.in_subset) (chunks_in read.cover) parts read.are_parts copy.0 in_parts in
       let some = not_empty target IsTargetKey (array_box target) t copy.1 into.to meets in
-      let (index, box, within) = (cover_meets source copy.1.in_subset into.from.cover chains into.to.boxes.from_subset.is_box some into.from.is_cover s).0
-      ((are_those_inside into.from.cover into.from.is_cover.is_box s).0 in_cover)
+      let (index, box, within) = (cover_meets source copy.1.in_subset read.cover chains into.to.boxes.from_subset.is_box some read.is_cover s).0
+      ((are_those_inside read.cover read.is_cover.is_box s).0 in_cover)
       in
       record { t = t; inside = inside; meets = meets; is_to = into.to; s = s; is_from = is_from; index = index; in_source = box; within = within }
 
@@ -148,11 +149,12 @@ module _ (source : List Dimension) (IsSourceKey : List ℕ → List ℕ → Type
       pair_of (AreCopiesInto target IsTargetKey source IsSourceKey) (chunks_in back_plan.targets) others back_plan.are_groups s in_targets in
       let there = (those_are source IsSourceKey s group.0 gives.to also_meets index).1 (box, (both_arrays index).1 in_all) in
       let any = not_empty source IsSourceKey (array_box source) s group.0 gives.to also_meets in
-      let t_meets = (cover_meets target group.0.in_subset gives.from.cover also_chains gives.to.boxes.from_subset.is_box any gives.from.is_cover t).1
+      let read = read_there target IsTargetKey source IsSourceKey s group gives also_meets in
+      let t_meets = (cover_meets target group.0.in_subset read.cover also_chains gives.to.boxes.from_subset.is_box any read.is_cover t).1
       (index, also, there)
       in
-      let (back, in_back, is_back) = pair_of (IsPart target IsTargetKey group.0.in_subset) (chunks_in gives.from.cover) group.1 gives.from.are_parts t
-      ((are_those_inside gives.from.cover gives.from.is_cover.is_box t).1 t_meets)
+      let (back, in_back, is_back) = pair_of (IsPart target IsTargetKey group.0.in_subset) (chunks_in read.cover) group.1 read.are_parts t
+      ((are_those_inside read.cover read.is_cover.is_box t).1 t_meets)
       in (
         (back, group.0),
         copy_in others group back in_groups in_back,
@@ -183,7 +185,7 @@ module _ (source : List Dimension) (IsSourceKey : List ℕ → List ℕ → Type
       pairs_follow Differ (λ copy other. copy.0.chunk.items ≡ other.0.chunk.items → IsTrue copy.0.whole ⊎ IsTrue other.0.whole → ⊥) (copies_of groups)
       (copies_differ (AreCopiesInto source IsSourceKey target IsTargetKey) (chunks_in plan.targets) groups plan.are_groups
       (chunks_once plan.targets plan.is_box) (λ chunk group into. into.to.numbers)
-      (λ chunk group into. parts_differ source IsSourceKey group.0.in_subset group.1 into.from))
+      (λ chunk group into. parts_differ source IsSourceKey (shifted (array_box target).start group.0.in_subset) group.1 into.from))
       (λ copy other among also differ same whole.
       let of = what_it_is_of source IsSourceKey target IsTargetKey chains chunks groups plan copy among in
       let other_of = what_it_is_of source IsSourceKey target IsTargetKey chains chunks groups plan other also in

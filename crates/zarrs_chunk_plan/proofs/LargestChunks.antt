@@ -1,6 +1,6 @@
 -- A chunk that is a longest one along each dimension is a largest one.
-use Rattle.std.proofs.Common.{◌≡◌, ℕ, zero, suc, ◌+◌, ◌<◌, ◌≤◌, List, [], ◌∷◌, ◌++◌, Contains, length, map, replicate, slice_index_or}
-use Rattle.std.proofs.Common.{arith, refl, subst, sym, ⊎_elim}
+use Rattle.std.proofs.Common.{◌≡◌, ◌⊎◌, ℕ, zero, suc, ◌+◌, ◌<◌, ◌≤◌, Bool, true, false, IsTrue, List, [], ◌∷◌, ◌++◌, Contains, length, map, replicate}
+use Rattle.std.proofs.Common.{arith, inl, inr, refl, slice_index_or, subst, sym, true≢false, ⊎_elim}
 use Rattle.std.proofs.lemmas.Bool.{cases_lt}
 use Rattle.std.proofs.lemmas.List.{get_or_append_left, get_or_push}
 use Rattle.std.specs.List.{AllByRecursion, AllZip}
@@ -11,7 +11,8 @@ use Rattle.zarrs_chunk_axes.specs.InBounds.{AreBelow}
 use Rattle.zarrs_chunks.proofs.FittingChunks.{counted_home}
 use Rattle.zarrs_chunk_parts.specs.Plan.{Meets}
 use Rattle.zarrs_chunk_plan.specs.Rechunking.{array_box}
-use Rattle.zarrs_chunk_plan.specs.Stages.{IsLargest}
+use Rattle.zarrs_chunk_plan.specs.Counts.{AreFew}
+use Rattle.zarrs_chunk_plan.specs.Stages.{AreUsed, HasManyChunks, IsLargest}
 use Rattle.zarrs_chunk_plan.specs.seen.Stages.{HasEdgeAlong}
 use Rattle.zarrs_chunk_plan.proofs.Plans.{not_empty_if_inside}
 use Rattle.zarrs_chunk_plan.proofs.Rechunkings.{in_array}
@@ -133,3 +134,8 @@ is_largest ds chunks chunk shape some start long meets named many below longest 
 } where
   inside : IsInside chunks chunk
   inside = rw start (below_inside (length ds) chunks.shape chunk long (omega (arith, many, long)) (λ k within. below k (omega (arith, long))))
+
+-- chunks are few enough, or too many
+pub few_or_many : (ds : List Dimension) (chunks : Box) (few : Bool) → AreUsed ds chunks → (AreFew chunks → IsTrue few) → HasManyChunks ds ⊎ IsTrue few
+few_or_many ds chunks true used are = inr refl
+few_or_many ds chunks false used are = inl (chunks, used, λ few. true≢false (sym (are few)))

@@ -15,6 +15,8 @@ pub mod CountedCopies
 pub mod CountedGroups
 pub mod CountedParts
 pub mod CountedRegions
+pub mod CountsTold
+pub mod Divisors
 pub mod EdgesTried
 pub mod EqualChunks
 pub mod Exchanged
@@ -24,11 +26,13 @@ pub mod HeldLines
 pub mod Joined
 pub mod Kept
 pub mod LargestChunks
+pub mod LongestChunks
 pub mod MarkedChunks
 pub mod MetChunks
 pub mod MetCovers
 pub mod MovedBoxes
 pub mod OneConfiguration
+pub mod OneDimension
 pub mod OutsideBoxes
 pub mod Plans
 pub mod Products
@@ -38,6 +42,8 @@ pub mod Rechunkings
 pub mod Regions
 pub mod ResizeLaws
 pub mod SameBoxes
+pub mod RegularCounts
+pub mod RegularDimensions
 pub mod ShareLists
 pub mod SomePlan
 pub mod SomeRegions

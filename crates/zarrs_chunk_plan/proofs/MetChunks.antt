@@ -1,5 +1,5 @@
 -- How many chunks of the source share elements with a chunk of the target: what is found of a cover is what is computed.
-use Rattle.std.proofs.Common.{◌≡◌, ◌↔◌, ℕ, zero, suc, ◌+◌, ◌-◌, ◌<◌, ◌≤◌, List, [], ◌∷◌, Contains, IsTrue, length, max, min}
+use Rattle.std.proofs.Common.{◌≡◌, ◌∙◌, ◌↔◌, ℕ, zero, suc, ◌+◌, ◌-◌, ◌<◌, ◌≤◌, List, [], ◌∷◌, Contains, IsTrue, length, max, min}
 use Rattle.std.proofs.Common.{refl, ap, ap₂, subst, sym, ⊎_elim, arith}
 use Rattle.std.proofs.lemmas.Bool.{cases_lt, le-ltb, lt-ltb}
 use Rattle.std.specs.List.{AllByRecursion}
@@ -42,10 +42,14 @@ home_is d chain c i here =
     home_from_is d chain i 0 c i here (omega arith) (omega (arith, at_most_start d chain c here.chunk))
 
 -- chunks from that of the first index of a range to that of its last
+pub met_is : (s : Dimension) → IsChain s → (low high first size : ℕ) → Holds s low first → Holds s high (first + (size - 1))
+    → met s first size ≡ suc high - low
+unfolding met
+met_is s chain low high first size lowest highest = rw (home_is s chain low first lowest, home_is s chain high (first + (size - 1)) highest) refl
+
 count_is : (s : Dimension) → IsChain s → (c n first size : ℕ) → 0 < n → Holds s c first → Holds s (c + (n - 1)) (first + (size - 1))
     → met s first size ≡ n
-unfolding met
-count_is s chain c n first size some low high = rw (home_is s chain c first low, home_is s chain (c + (n - 1)) (first + (size - 1)) high) (omega arith)
+count_is s chain c n first size some low high = met_is s chain c (c + (n - 1)) first size low high ∙ omega arith
 
 -- each of so many chunks behind another holds an element more
 steps_far : (d : Dimension) → IsChain d → (c k : ℕ) → IsTrue (d.has_chunk (c + k)) → d.start c + k ≤ d.start (c + k)

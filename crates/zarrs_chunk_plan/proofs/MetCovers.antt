@@ -1,5 +1,5 @@
 -- The cover of what a chunk of the target takes.
-use Rattle.std.proofs.Common.{◌≡◌, ◌≢◌, ◌↔◌, ◌⊎◌, ◌∙◌, ℕ, zero, suc, ◌+◌, ◌<◌, ◌≤◌, List, [], ◌∷◌, Ok, Some, get_or, length, set}
+use Rattle.std.proofs.Common.{◌≡◌, ◌≢◌, ◌↔◌, ◌⊎◌, ◌∙◌, ℕ, zero, suc, ◌+◌, ◌≤◌, List, [], ◌∷◌, Ok, Some, length}
 use Rattle.std.proofs.Common.{refl, ap, ap₂, inl, subst, sym, arith}
 use Rattle.std.proofs.lemmas.List.{length-map}
 use Rattle.std.specs.List.{AllByRecursion, AllZip}
@@ -7,7 +7,7 @@ use Rattle.zarrs_chunk_base.specs.ArraySubset.{Box, IsBox, IsEmptyBox, IsInside,
 use Rattle.zarrs_chunk_base.specs.Dimension.{Dimension, Holds, InBox, IsChain, array_sizes}
 use Rattle.zarrs_chunk_base.specs.Greatest.{AllFit, greatest}
 use Rattle.zarrs_chunk_base.proofs.Boxes.{within_lengths}
-use Rattle.zarrs_chunk_base.proofs.InEach.{length_numbers, length_values}
+use Rattle.zarrs_chunk_base.proofs.InEach.{length_values}
 use Rattle.zarrs_chunk_axes.specs.InBounds.{AreBelow}
 use Rattle.zarrs_chunks.specs.Subsets.{AnswersCover, IsCover, LookedBox}
 use Rattle.zarrs_chunks.specs.Walks.{counted_from}
@@ -15,14 +15,14 @@ use Rattle.zarrs_chunk_parts.specs.Plan.{AreShared, Meets}
 use Rattle.zarrs_chunk_plan.specs.Rechunking.{array_box}
 use Rattle.zarrs_chunk_plan.specs.Region.{shifted}
 use Rattle.zarrs_chunk_parts.specs.seen.Shared.{distances}
-use Rattle.zarrs_chunk_plan.specs.seen.Sources.{AreTaking, counters, met_by, met_in, taken_box, taken_sizes, taken_starts}
+use Rattle.zarrs_chunk_plan.specs.seen.Sources.{AreTaking, counters, met_by, taken_box, taken_sizes, taken_starts}
 use Rattle.zarrs_chunk_plan.proofs.BoxCover.{none_below}
 use Rattle.zarrs_chunk_plan.proofs.MetChunks.{cover_sizes, met_along_each, meets_take, shares_met, taken_common}
 use Rattle.zarrs_chunk_plan.proofs.MovedBoxes.{within_long, within_starts}
 use Rattle.zarrs_chunk_plan.proofs.Plans.{not_empty_if_inside}
 use Rattle.zarrs_chunk_plan.proofs.Rechunkings.{counted_from_zeros, in_array}
 use Rattle.zarrs_chunk_plan.proofs.SameBoxes.{same_box_of}
-use Rattle.zarrs_chunk_plan.proofs.Written.{RangesTake, all_taken, all_taken_has, counters_long, first_within, last_within, met_there, ranges_take, set_within}
+use Rattle.zarrs_chunk_plan.proofs.Written.{RangesTake, all_taken, all_taken_has, counters_long, first_within, last_within, ranges_take}
 use Rattle.zarrs_chunk_plan.proofs.Written.{starts_before_ends}
 
 -- the numbers of a shape fit
@@ -42,12 +42,6 @@ is_cover ds b cover r answers is some = (subst (AnswersCover ds b) is (answers (
 -- ---- what is found of a chunk and a box
 
 module _ (ds : List Dimension) (b : Box) (chunk : List ℕ) (meets : Meets ds b chunk) where
-  -- what the chunk takes isn't empty
-  taken_some : ¬ IsEmptyBox (taken_box ds b chunk)
-  taken_some =
-      not_empty_if_inside (taken_starts ds b.start chunk) (taken_sizes ds b.start b.shape chunk) meets.0
-      ((taken_common ds b chunk (meets_take ds b chunk meets) meets.0).1 (meets.1, meets.2))
-
   module _ (in_chunk in_subset : Box) (boxes : AreShared ds b chunk in_chunk in_subset) where
     -- what they share is what the chunk takes
     shared_is : boxes.shared ≡ taken_box ds b chunk
@@ -72,9 +66,6 @@ module _ (ds : List Dimension) (b : Box) (chunk : List ℕ) (meets : Meets ds b 
         let shapes = ap length boxes.from_subset.shape in
         omega (arith, boxes.is_box.lengths, boxes.from_subset.is_box.lengths)
 
-    share_some : (first : List ℕ) → ¬ IsEmptyBox (shifted first in_subset)
-    share_some first = rw sizes_are taken_some
-
 -- of the whole array that is its box of the array
 held_is : (ds : List Dimension) (chunk : List ℕ) (in_chunk in_subset : Box) → AreShared ds (array_box ds) chunk in_chunk in_subset
     → Meets ds (array_box ds) chunk → in_subset ≡ taken_box ds (array_box ds) chunk
@@ -95,7 +86,7 @@ module _ (source target : List Dimension) (region moved targets : Box) (chains :
   shape_long : length region.shape ≡ length source
   shape_long = within_long region.start region.shape (array_sizes source) taking.in_source ∙ length-map source (λ (d : Dimension). d.array_size)
 
-  moved_long : length moved.shape ≡ length target
+  pub moved_long : length moved.shape ≡ length target
   moved_long = within_long moved.start moved.shape (array_sizes target) taking.in_target ∙ length-map target (λ (d : Dimension). d.array_size)
 
   pub as_many_dimensions : length source ≡ length target
@@ -127,30 +118,6 @@ module _ (source target : List Dimension) (region moved targets : Box) (chains :
     taking_ranges =
         ranges_take target moved.start moved.shape targets.start targets.shape taking.long taking.is_box.lengths some
         (λ chunk within. meets_take target moved chunk (taking.meet chunk within))
-
-    -- along a dimension, of a chunk some steps behind the first one
-    pub met_along_is : (k steps : ℕ) (in_chunk in_subset cover : Box) (r : LookedBox) → k < length targets.shape
-        → steps < get_or targets.shape k 0
-        → (Meets target moved (set targets.start k (get_or targets.start k 0 + steps))
-        → AreShared target moved (set targets.start k (get_or targets.start k 0 + steps)) in_chunk in_subset)
-        → ((¬ IsEmptyBox (shifted region.start in_subset)) ⊎ (length source ≡ 0) → AnswersCover source (shifted region.start in_subset) r)
-        → r ≡ Ok (Some cover)
-        → (k < length cover.shape)
-        × (get_or cover.shape k 0 ≡ get_or (get_or (met_in (counters source target region moved) targets.start targets.shape) k []) steps 0)
-    met_along_is k steps in_chunk in_subset cover r within less shared answers is =
-        let chunk = set targets.start k (get_or targets.start k 0 + steps) in
-        let inside = set_within targets.start targets.shape k steps taking.is_box.lengths some within less in
-        let meets = taking.meet chunk inside in
-        let boxes = shared meets in
-        let read_some = share_some target moved chunk meets in_chunk in_subset boxes region.start in
-        let cover_is = is_cover source (shifted region.start in_subset) cover r answers is read_some in
-        let met = met_of_cover chunk in_chunk in_subset cover meets boxes cover_is in
-        let long = length_numbers Holds source cover.start (counted_from region.start in_subset.start) cover_is.first in (
-          omega (arith, cover_is.is_box.lengths, as_many_dimensions, taking.long, taking.is_box.lengths),
-          ap (λ xs. get_or xs k 0) met
-              ∙ met_there (counters source target region moved) targets.start targets.shape k steps (omega (arith, taking.long, as_many_counters))
-              taking.is_box.lengths within less,
-        )
 
 -- some ranges from 0 to 0 hold nothing
 pub zeros_none : (n : ℕ) → n ≢ 0 → IsEmptyBox (zero_box n)

@@ -1,7 +1,7 @@
 -- The boxes of the chunks that are below one list of numbers and not below another.
-use Rattle.std.proofs.Common.{◌≡◌, ◌≢◌, ◌↔◌, ◌⊎◌, ◌∙◌, ℕ, zero, suc, ◌+◌, ◌-◌, ◌<◌, ◌≤◌, true, false, List, [], ◌∷◌, ◌++◌, Contains, get_or, length}
+use Rattle.std.proofs.Common.{◌≡◌, ◌≢◌, ◌↔◌, ◌⊎◌, ◌∙◌, ℕ, zero, suc, ◌+◌, ◌-◌, ◌<◌, ◌≤◌, List, [], ◌∷◌, ◌++◌, Contains, get_or, length}
 use Rattle.std.proofs.Common.{Bool, append-nil, length-set, map, replicate, set, refl, ap, inl, inr, subst, sym, ⊎_elim, arith}
-use Rattle.std.proofs.lemmas.Bool.{cases_lt, true≢false}
+use Rattle.std.proofs.lemmas.Bool.{cases_lt}
 use Rattle.std.proofs.lemmas.Grind.{flat_map-append, same_number_lists}
 use Rattle.std.proofs.lemmas.List.{get_or-set_other, get_or-set_same}
 use Rattle.std.proofs.lemmas.List.Elements.{Contains-append_cases, Contains-append_left, Contains-append_right}
@@ -222,14 +222,3 @@ from_zero_below sizes b is_box is chunk =
     let inside : IsInside b chunk ↔ AreBelow sizes chunk =
     rw is (let both = below_from_zero (length sizes) sizes chunk refl in (λ h. both.1 h, λ h. both.0 h)) in
     (λ has. inside.0 (in_box.0 has), λ below. in_box.1 (inside.1 below))
-
--- all that the array as it was uses
-pub all_told : (before kept : List ℕ) (chunk : List ℕ) → AreBelow before chunk ↔ IsToldBefore true before kept chunk
-all_told before kept chunk = (λ below. (below, inl refl), λ told. told.0)
-
--- those that aren't kept
-pub others_told : (before kept : List ℕ) (chunk : List ℕ) → IsOutside kept before chunk ↔ IsToldBefore false before kept chunk
-others_told before kept chunk = (
-  λ (below, out). (below, inr out),
-  λ (below, wanted). (below, ⊎_elim (λ t. absurd (true≢false (sym t))) (λ out. out) wanted),
-)

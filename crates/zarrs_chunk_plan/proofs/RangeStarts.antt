@@ -1,7 +1,6 @@
 -- Where byte ranges begin, dimension by dimension.
 use Rattle.std.proofs.Common.{◌≡◌, ◌∙◌, ℕ, zero, suc, ◌+◌, ◌-◌, ◌*◌, ◌<◌, ◌≤◌, List, [], ◌∷◌, ◌++◌, Contains, drop, get_or, length, length-append, map}
 use Rattle.std.proofs.Common.{ap, ap₂, append-nil, append_assoc, arith, refl, subst, sym}
-use Rattle.std.proofs.Math.ListN.{drop_of_length-le}
 use Rattle.std.proofs.Math.Nat.{add-mul, mul-le-mul_right, mul_assoc, mul_comm}
 use Rattle.std.proofs.Math.Seq.{drop-cons}
 use Rattle.std.proofs.lemmas.List.{length-map}
@@ -153,9 +152,3 @@ module _ (counts : List ℕ) (i many : ℕ) (kept : many * product (drop i count
       let other = mul_comm (product (drop (i + 1) counts)) (many * get_or counts i 0) in
       let all = one_more_count within in
       omega arith
-
-  pub all_are : length counts ≤ i → many ≡ product counts
-  all_are past =
-      let none : drop i counts ≡ [] = drop_of_length-le counts past in
-      let one : many * 1 ≡ many = omega arith in
-      sym (ap (λ ns. many * product ns) none ∙ one) ∙ kept

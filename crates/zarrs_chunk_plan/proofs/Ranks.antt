@@ -74,12 +74,6 @@ module _ (shape : List ℕ) where
       let longer = ap length is in
       omega arith
 
-  pub rank_last : (numbers : List ℕ) → AreBelow shape numbers → after shape numbers ≡ [] → rank shape numbers + 1 ≡ length (row_major shape)
-  rank_last numbers below is =
-      let one = lists_after numbers below in
-      let none = ap length is in
-      omega arith
-
   pub rank_same : (numbers others : List ℕ) → AreBelow shape numbers → AreBelow shape others → rank shape numbers ≡ rank shape others
       → numbers ≡ others
   rank_same numbers others below also same =

@@ -1,8 +1,8 @@
--- The copies of a region: from where to where they move which elements, and that they differ.
+-- The copies of a region into the chunks of a box: from where to where they move which elements, and that they differ.
 use Rattle.std.proofs.Common.{◌≡◌, ◌⊎◌, ◌∙◌, ℕ, suc, ◌+◌, ◌-◌, ◌<◌, ◌≤◌, List, [], ◌∷◌, Contains, length, refl, ap, ap₂, inl, inr, subst, sym, ⊎_elim}
 use Rattle.std.proofs.Common.{arith, ◌≢◌, IsTrue}
-use Rattle.std.specs.List.{AllByRecursion, AllPairs}
-use Rattle.zarrs_chunk_base.specs.ArraySubset.{Box, IsBox, lasts}
+use Rattle.std.specs.List.{AllByRecursion, AllPairs, AllZip}
+use Rattle.zarrs_chunk_base.specs.ArraySubset.{Box, IsBox, IsInside, lasts}
 use Rattle.zarrs_chunk_base.specs.Dimension.{Dimension, InBox, IsChain, IsPlace, array_sizes}
 use Rattle.zarrs_chunk_base.specs.Greatest.{AllFit, greatest}
 use Rattle.zarrs_chunk_axes.specs.InBounds.{AreBelow}
@@ -113,20 +113,33 @@ module _ (source : List Dimension) (IsSourceKey : List ℕ → List ℕ → Type
         shifted_is_box region.start region.shape to.in_subset.start to.in_subset.shape is_region part some
         (place_below target IsTargetKey (moved at region) chunk to (lasts to.in_subset.start to.in_subset.shape) is last)
 
-  -- ---- the copies of a region
+  -- ---- the copies into the chunks of a box
 
   abbrev Into : List ℕ → Group → Type 0
   Into = AreMovedInto source IsSourceKey target IsTargetKey region at
 
-  module _ (groups : List Group) (plan : IsRegionCopy source IsSourceKey target IsTargetKey region at groups) where
+  module _ (targets : Box) (is_box : IsBox targets) (groups : List Group) (are : AllZip Into (chunks_in targets) groups) where
+    -- what a copy is of: a chunk of the target, which is one of the box, its part of that chunk, and its part of a chunk of the source
+    pub record IsCopyOf (copy : Part × Part) : Type 0 where
+      pub chunk : List ℕ
+      pub inside : IsInside targets chunk
+      pub to : IsPart target IsTargetKey (moved at region) chunk copy.1
+      pub s : List ℕ
+      pub from : IsPart source IsSourceKey (shifted region.start copy.1.in_subset) s copy.0
+
+    pub is_copy_of : (copy : Part × Part) → Contains (copies_of groups) copy → IsCopyOf copy
+    is_copy_of copy among =
+        let (chunk, parts, counted, into, in_parts) = copy_of Into (chunks_in targets) groups are copy among in
+        let read = shifted region.start copy.1.in_subset in
+        let (s, _, is_from) = source_of (IsPart source IsSourceKey read) (chunks_in into.from.cover) parts into.from.are_parts copy.0 in_parts in
+        record { chunk = chunk; inside = (are_those_inside targets is_box chunk).0 counted; to = into.to; s = s; from = is_from }
+
     -- each copy moves nothing but elements of the region
     pub moves_region : (copy : Part × Part) → Contains (copies_of groups) copy → (steps : List ℕ) → AreBelow copy.0.in_chunk.shape steps
         → (place : List ℕ) × AreBelow region.shape place × MovesBehind copy steps place
     moves_region copy among steps below =
-        let (chunk, parts, _, into, in_parts) = copy_of Into (chunks_in plan.cover) groups plan.are_groups copy among in
-        let read = shifted region.start copy.1.in_subset in
-        let (s, _, is_from) = source_of (IsPart source IsSourceKey read) (chunks_in into.from.cover) parts into.from.are_parts copy.0 in_parts in
-        let (in_region, moved_so) = moves chunk copy.1 into.to s copy.0 is_from steps below in
+        let of = is_copy_of copy among in
+        let (in_region, moved_so) = moves of.chunk copy.1 of.to of.s copy.0 of.from steps below in
         (counted_from copy.1.in_subset.start (counted_from copy.0.in_subset.start steps), in_region, moved_so)
 
     -- and those from where it has them to where they go
@@ -146,94 +159,76 @@ module _ (source : List Dimension) (IsSourceKey : List ℕ → List ℕ → Type
     pub has_keys : (copy : Part × Part) → Contains (copies_of groups) copy
         → IsSourceKey copy.0.chunk.items copy.0.key × IsTargetKey copy.1.chunk.items copy.1.key
     has_keys copy among =
-        let (chunk, parts, _, into, in_parts) = copy_of Into (chunks_in plan.cover) groups plan.are_groups copy among in
-        let read = shifted region.start copy.1.in_subset in
-        let (s, _, is_from) = source_of (IsPart source IsSourceKey read) (chunks_in into.from.cover) parts into.from.are_parts copy.0 in_parts in (
-          subst (λ c. IsSourceKey c copy.0.key) (sym is_from.numbers) is_from.key,
-          subst (λ c. IsTargetKey c copy.1.key) (sym into.to.numbers) into.to.key,
+        let of = is_copy_of copy among in (
+          subst (λ c. IsSourceKey c copy.0.key) (sym of.from.numbers) of.from.key,
+          subst (λ c. IsTargetKey c copy.1.key) (sym of.to.numbers) of.to.key,
         )
 
     -- from a box of the one chunk that has the shape of that of the other
     pub of_one_shape : (copy : Part × Part) → Contains (copies_of groups) copy → copy.0.in_chunk.shape ≡ copy.0.in_subset.shape
-    of_one_shape copy among =
-        let (chunk, parts, _, into, in_parts) = copy_of Into (chunks_in plan.cover) groups plan.are_groups copy among in
-        let read = shifted region.start copy.1.in_subset in
-        let (s, _, is_from) = source_of (IsPart source IsSourceKey read) (chunks_in into.from.cover) parts into.from.are_parts copy.0 in_parts in
-        sym is_from.boxes.from_chunk.shape ∙ is_from.boxes.from_subset.shape
+    of_one_shape copy among = let boxes = (is_copy_of copy among).from.boxes in sym boxes.from_chunk.shape ∙ boxes.from_subset.shape
 
     -- no two groups are under one key
     pub target_keys_differ : ((chunk other key : List ℕ) → AllFit chunk → AllFit other → length chunk ≡ length other → IsTargetKey chunk key
         → IsTargetKey other key → chunk ≡ other) → AllPairs (λ group other. group.0.key ≢ other.0.key) groups
     target_keys_differ exact =
-        let cover = plan.cover in
-        let is_box = plan.is_cover.is_box in
-        pairs_of Into (λ group other. group.0.key ≢ other.0.key) (chunks_in cover) groups plan.are_groups (chunks_once cover is_box)
+        pairs_of Into (λ group other. group.0.key ≢ other.0.key) (chunks_in targets) groups are (chunks_once targets is_box)
         (λ one other group next among also differ into into_other same.
-        differ (one_chunk target IsTargetKey (moved at region) exact cover is_box one other group.0 next.0 among also into.to into_other.to same))
+        differ (one_chunk target IsTargetKey (moved at region) exact targets is_box one other group.0 next.0 among also into.to into_other.to same))
 
-    module _ (chains : AllByRecursion IsChain source) (also_chains : AllByRecursion IsChain target) (is_region : IsBox region)
-        (is_moved : IsBox (moved at region)) where
-      region_long : (place : List ℕ) → AreBelow region.shape place → length place ≡ length region.start
-      region_long place below = length_below region.shape place below ∙ sym is_region.lengths
+    -- the copies differ in a chunk
+    pub differ_all : AllPairs Differ (copies_of groups)
+    differ_all =
+        copies_differ Into (chunks_in targets) groups are (chunks_once targets is_box) (λ chunk group into. into.to.numbers)
+        (λ chunk group into. parts_differ source IsSourceKey (shifted region.start group.0.in_subset) group.1 into.from)
 
-      moved_long : (place : List ℕ) → AreBelow region.shape place → length place ≡ length at
-      moved_long place below = length_below region.shape place below ∙ sym is_moved.lengths
+    -- each element that goes into a chunk of the box is moved by some copy
+    pub some_copy : AllByRecursion IsChain source → length at ≡ length region.shape
+        → ((chunk : List ℕ) (to : Part) → IsPart target IsTargetKey (moved at region) chunk to → Meets target (moved at region) chunk
+        → IsBox (shifted region.start to.in_subset))
+        → (place chunk : List ℕ) → AreBelow region.shape place → IsInside targets chunk → InBox target chunk (counted_from at place)
+        → (copy : Part × Part) × Contains (copies_of groups) copy × ((steps : List ℕ) × MovesBehind copy steps place)
+    some_copy chains also_long reads place chunk below within box =
+        let index = counted_from at place in
+        let inside = lie_within at region.shape place also_long below in
+        let (group, in_groups, into) = pair_of Into (chunks_in targets) groups are chunk ((are_those_inside targets is_box chunk).1 within) in
+        let to = group.0 in
+        let part = into.to.boxes.from_subset.is_box in
+        let (_, has) = takes target IsTargetKey (moved at region) chunk to index into.to (box, inside) in
+        let below_to = subst (λ shape. AreBelow shape has.steps) (sym (to_long chunk to into.to)) has.below in
+        let steps_many = length_below to.in_subset.shape has.steps below_to ∙ sym part.lengths in
+        let counted : List ℕ = counted_from to.in_subset.start has.steps in
+        let counted_many = length_counted to.in_subset.start has.steps steps_many in
+        let to_many = all_long target IsTargetKey (moved at region) chunk to index into.to (box, inside) in
+        let place_many = length_below region.shape place below ∙ sym also_long in
+        let place_is : place ≡ counted = counted_once at place counted place_many (omega arith) has.index_is in
+        let read = shifted region.start to.in_subset in
+        let is_read = reads chunk to into.to (index, box, inside) in
+        let at_source = counted_from read.start has.steps in
+        let (from, in_parts, (at_from, has_from)) = some_part source IsSourceKey read chains is_read group.1 into.from at_source
+        (lie_within read.start read.shape has.steps is_read.lengths below_to)
+        in
+        let (s, _, is_from) = source_of (IsPart source IsSourceKey read) (chunks_in into.from.cover) group.1 into.from.are_parts from in_parts in
+        let from_long = all_long source IsSourceKey read s from at_source is_from
+        (has_common source IsSourceKey read s from at_source at_from is_from has_from)
+        in
+        let from_steps_many = length_below from.in_chunk.shape has_from.steps has_from.below in
+        let from_counted_many = length_counted from.in_subset.start has_from.steps (omega arith) in
+        let steps_are : has.steps ≡ counted_from from.in_subset.start has_from.steps =
+        counted_once read.start has.steps (counted_from from.in_subset.start has_from.steps)
+        (length_below to.in_subset.shape has.steps below_to ∙ sym is_read.lengths) (omega arith) has_from.index_is
+        in
+        let (_, moved_so) = moves chunk to into.to s from is_from has_from.steps has_from.below in (
+          (from, to),
+          copy_in groups group from in_groups in_parts,
+          (
+            has_from.steps,
+            subst (λ x. MovesBehind (from, to) has_from.steps x) (ap (counted_from to.in_subset.start) (sym steps_are) ∙ sym place_is) moved_so,
+          ),
+        )
 
-      -- each element is moved by some copy
-      pub some_copy : (place : List ℕ) → AreBelow region.shape place
-          → (copy : Part × Part) × Contains (copies_of groups) copy × ((steps : List ℕ) × MovesBehind copy steps place)
-      some_copy place below =
-          let index = counted_from at place in
-          let inside = lie_within at region.shape place is_moved.lengths below in
-          let (chunk, within, box) = cover_holds target (moved at region) plan.cover also_chains is_moved plan.is_cover index inside in
-          let (group, in_groups, into) = pair_of Into (chunks_in plan.cover) groups plan.are_groups chunk
-          ((are_those_inside plan.cover plan.is_cover.is_box chunk).1 within)
-          in
-          let to = group.0 in
-          let part = into.to.boxes.from_subset.is_box in
-          let (_, has) = takes target IsTargetKey (moved at region) chunk to index into.to (box, inside) in
-          let below_to = subst (λ shape. AreBelow shape has.steps) (sym (to_long chunk to into.to)) has.below in
-          let steps_many = length_below to.in_subset.shape has.steps below_to ∙ sym part.lengths in
-          let counted : List ℕ = counted_from to.in_subset.start has.steps in
-          let counted_many = length_counted to.in_subset.start has.steps steps_many in
-          let long = all_long target IsTargetKey (moved at region) chunk to index into.to (box, inside) in
-          let place_is : place ≡ counted = counted_once at place counted (moved_long place below) (omega arith) has.index_is in
-          let read = shifted region.start to.in_subset in
-          let is_read = read_is_box chunk to into.to is_region (index, box, inside) in
-          let at_source = counted_from read.start has.steps in
-          let (from, in_parts, (at_from, has_from)) = some_part source IsSourceKey read chains is_read group.1 into.from at_source
-          (lie_within read.start read.shape has.steps is_read.lengths below_to)
-          in
-          let (s, _, is_from) = source_of (IsPart source IsSourceKey read) (chunks_in into.from.cover) group.1 into.from.are_parts from in_parts in
-          let from_long = all_long source IsSourceKey read s from at_source is_from
-          (has_common source IsSourceKey read s from at_source at_from is_from has_from)
-          in
-          let from_steps_many = length_below from.in_chunk.shape has_from.steps has_from.below in
-          let from_counted_many = length_counted from.in_subset.start has_from.steps (omega arith) in
-          let steps_are : has.steps ≡ counted_from from.in_subset.start has_from.steps =
-          counted_once read.start has.steps (counted_from from.in_subset.start has_from.steps)
-          (length_below to.in_subset.shape has.steps below_to ∙ sym is_read.lengths) (omega arith) has_from.index_is
-          in
-          let (_, moved_so) = moves chunk to into.to s from is_from has_from.steps has_from.below in (
-            (from, to),
-            copy_in groups group from in_groups in_parts,
-            (
-              has_from.steps,
-              subst (λ x. MovesBehind (from, to) has_from.steps x) (ap (counted_from to.in_subset.start) (sym steps_are) ∙ sym place_is) moved_so,
-            ),
-          )
-
-      -- and each element of the array that a whole chunk holds is written by one
-      pub whole_is_written : (group : Group) → Contains groups group → IsTrue group.0.whole → (index : List ℕ)
-          → InBox target group.0.chunk.items index → AreBelow (array_sizes target) index
-          → (copy : Part × Part) × Contains (copies_of groups) copy × ((steps : List ℕ) × (from : List ℕ) × MovesTo source target copy steps from index)
-      whole_is_written group has is_whole index box below =
-          let (chunk, among, into) = source_of Into (chunks_in plan.cover) groups plan.are_groups group has in
-          let inside = into.to.whole.0 is_whole index (subst (λ c. InBox target c index) into.to.numbers box) below in
-          let (place, below_shape, counts) = offset_of at region.shape index inside in
-          let (copy, in_copies, (steps, moves_so)) = some_copy place below_shape in
-          (copy, in_copies, (steps, counted_from region.start place, subst (MovesTo source target copy steps (counted_from region.start place)) counts moves_so))
-
+    module _ (chains : AllByRecursion IsChain source) (also_chains : AllByRecursion IsChain target) (long : length region.start ≡ length region.shape)
+        (also_long : length at ≡ length region.shape) where
       -- two copies that differ move no two elements from one index, nor to one
       apart : (copy other : Part × Part) → Contains (copies_of groups) copy → Contains (copies_of groups) other → Differ copy other
           → (steps also index next to next_to : List ℕ) → MovesTo source target copy steps index to → MovesTo source target other also next next_to
@@ -241,11 +236,11 @@ module _ (source : List Dimension) (IsSourceKey : List ℕ → List ℕ → Type
       apart copy other among also_among differ steps also index next to next_to moved_to again same =
           let (place, below, is, to_is) = moves_only copy among steps index to moved_to in
           let (next_place, next_below, next_is, next_to_is) = moves_only other also_among also next next_to again in
+          let many = length_below region.shape place below in
+          let next_many = length_below region.shape next_place next_below in
           let one : place ≡ next_place =
-          ⊎_elim
-          (λ same. counted_once region.start place next_place (region_long place below) (region_long next_place next_below) (sym is ∙ same ∙ next_is))
-          (λ same. counted_once at place next_place (moved_long place below) (moved_long next_place next_below) (sym to_is ∙ same ∙ next_to_is))
-          same
+          ⊎_elim (λ same. counted_once region.start place next_place (many ∙ sym long) (next_many ∙ sym long) (sym is ∙ same ∙ next_is))
+          (λ same. counted_once at place next_place (many ∙ sym also_long) (next_many ∙ sym also_long) (sym to_is ∙ same ∙ next_to_is)) same
           in
           let from : index ≡ next = is ∙ ap (counted_from region.start) one ∙ sym next_is in
           let where_to : to ≡ next_to = to_is ∙ ap (counted_from at) one ∙ sym next_to_is in
@@ -258,14 +253,8 @@ module _ (source : List Dimension) (IsSourceKey : List ℕ → List ℕ → Type
           (subst (InBox target copy.1.chunk.items) where_to moved_to.in_target) again.in_target))
           differ
 
-      differ_all : AllPairs Differ (copies_of groups)
-      differ_all =
-          copies_differ Into (chunks_in plan.cover) groups plan.are_groups (chunks_once plan.cover plan.is_cover.is_box)
-          (λ chunk group into. into.to.numbers)
-          (λ chunk group into. parts_differ source IsSourceKey (shifted region.start group.0.in_subset) group.1 into.from)
-
       -- so no element of the target's array is written by two
-      abbrev WriteApart : Part × Part → Part × Part → Type 0
+      abbrev pub WriteApart : Part × Part → Part × Part → Type 0
       WriteApart copy other =
           (steps also index next to : List ℕ) → MovesTo source target copy steps index to → MovesTo source target other also next to → ⊥
 
@@ -285,3 +274,29 @@ module _ (source : List Dimension) (IsSourceKey : List ℕ → List ℕ → Type
           pairs_follow Differ ReadApart (copies_of groups) differ_all
           (λ copy other among also_among differ steps also index to next moved_to again.
           apart copy other among also_among differ steps also index index to next moved_to again (inl refl))
+
+  -- ---- the copies of a region
+
+  module _ (groups : List Group) (plan : IsRegionCopy source IsSourceKey target IsTargetKey region at groups)
+      (chains : AllByRecursion IsChain source) (also_chains : AllByRecursion IsChain target) (is_region : IsBox region)
+      (is_moved : IsBox (moved at region)) where
+    -- each element of the region is moved by some copy
+    pub some_copy_of_region : (place : List ℕ) → AreBelow region.shape place
+        → (copy : Part × Part) × Contains (copies_of groups) copy × ((steps : List ℕ) × MovesBehind copy steps place)
+    some_copy_of_region place below =
+        let inside = lie_within at region.shape place is_moved.lengths below in
+        let (chunk, within, box) =
+        cover_holds target (moved at region) plan.cover also_chains is_moved plan.is_cover (counted_from at place) inside in
+        some_copy plan.cover plan.is_cover.is_box groups plan.are_groups chains is_moved.lengths
+        (λ chunk to is meets. read_is_box chunk to is is_region meets) place chunk below within box
+
+    -- and each element of the array that a whole chunk holds is written by one
+    pub whole_is_written : (group : Group) → Contains groups group → IsTrue group.0.whole → (index : List ℕ)
+        → InBox target group.0.chunk.items index → AreBelow (array_sizes target) index
+        → (copy : Part × Part) × Contains (copies_of groups) copy × ((steps : List ℕ) × (from : List ℕ) × MovesTo source target copy steps from index)
+    whole_is_written group has is_whole index box below =
+        let (chunk, among, into) = source_of Into (chunks_in plan.cover) groups plan.are_groups group has in
+        let inside = into.to.whole.0 is_whole index (subst (λ c. InBox target c index) into.to.numbers box) below in
+        let (place, below_shape, counts) = offset_of at region.shape index inside in
+        let (copy, in_copies, (steps, moves_so)) = some_copy_of_region place below_shape in
+        (copy, in_copies, (steps, counted_from region.start place, subst (MovesTo source target copy steps (counted_from region.start place)) counts moves_so))

@@ -1,4 +1,4 @@
--- Where each chunk has a key, each box of elements of the array has a plan, and each rechunking too: the parts ahead of a walk exist.
+-- Where each chunk has a key, each box of elements of the array has a plan: the parts ahead of a walk exist.
 use Rattle.std.proofs.Common.{◌≡◌, ◌∙◌, ℕ, suc, ◌+◌, ◌-◌, ◌<◌, ◌≤◌, List, [], ◌∷◌, Contains, ap, ap₂, length, map, refl, sym, arith}
 use Rattle.std.specs.List.{AllByRecursion, AllZip}
 use Rattle.zarrs_chunk_base.specs.ArraySubset.{AreWithin, Box, IsBox, IsEmptyBox, IsInside, ends, lasts}
@@ -15,11 +15,9 @@ use Rattle.zarrs_chunks.proofs.FittingChunks.{counted_home}
 use Rattle.zarrs_chunks.proofs.Meeting.{cover_meets}
 use Rattle.zarrs_chunks.proofs.UpTo.{ones_fit}
 use Rattle.zarrs_chunk_parts.specs.Plan.{IsPart, IsPlan, Meets}
-use Rattle.zarrs_chunk_plan.specs.Rechunking.{AreCopiesInto, AreTargets, Group, IsRechunking, array_box}
 use Rattle.zarrs_chunk_parts.specs.declared.part.Part.{Part}
 use Rattle.zarrs_chunk_plan.specs.seen.Parts.{HasKeys}
-use Rattle.zarrs_chunk_plan.proofs.Plans.{all_of_each, not_empty}
-use Rattle.zarrs_chunk_plan.proofs.Rechunkings.{in_array, those_are}
+use Rattle.zarrs_chunk_plan.proofs.Plans.{all_of_each}
 use Rattle.zarrs_chunk_parts.proofs.Shares.{boxes_are, from_chunk, from_start, has_all_of}
 use Rattle.zarrs_chunk_parts.proofs.Wholes.{test_rest}
 
@@ -125,35 +123,3 @@ module _ (ds : List Dimension) (IsKey : List ℕ → List ℕ → Type 0) (chain
   pub has_plan : (b : Box) → IsBox b → (¬ IsEmptyBox b) → ((index : List ℕ) → IsInside b index → AreBelow (array_sizes ds) index)
       → (parts : List Part) × IsPlan ds IsKey b parts
   has_plan b is_box some within = let (cover, is) = has_cover ds chains b is_box some within in plan_over b cover is_box some is
-
--- ---- the groups
-
-module _ (source : List Dimension) (IsSourceKey : List ℕ → List ℕ → Type 0) (target : List Dimension) (IsTargetKey : List ℕ → List ℕ → Type 0)
-    (chains : AllByRecursion IsChain source) (also_chains : AllByRecursion IsChain target) (keys : HasKeys IsSourceKey)
-    (also_keys : HasKeys IsTargetKey) (one_array : array_sizes source ≡ array_sizes target) (is_array : IsBox (array_box target)) where
-  has_group : (chunk : List ℕ) → Meets target (array_box target) chunk
-      → (group : Group) × AreCopiesInto source IsSourceKey target IsTargetKey chunk group
-  has_group chunk meets =
-      let (to, is) = has_part target IsTargetKey also_chains also_keys (array_box target) is_array chunk meets in
-      let some = not_empty target IsTargetKey (array_box target) chunk to is meets in
-      let (from, plan) = has_plan source IsSourceKey chains keys to.in_subset is.boxes.from_subset.is_box some
-      (λ other lies. rw one_array ((in_array target other).1 ((those_are target IsTargetKey chunk to is meets other).0 lies).1))
-      in
-      ((to, from), record { to = is; from = plan })
-
-  pub have_groups : (chunks : List (List ℕ)) → AllByRecursion (Meets target (array_box target)) chunks
-      → (groups : List Group) × AllZip (AreCopiesInto source IsSourceKey target IsTargetKey) chunks groups
-  have_groups [] meet = ([], tt)
-  have_groups (chunk ∷ chunks) meet =
-      let (group, into) = has_group chunk meet.0 in
-      let (groups, are) = have_groups chunks meet.1 in
-      (group ∷ groups, (into, are))
-
-  pub have_rechunking : (chunks targets : Box) → IsBox targets → AreTargets target chunks targets
-      → (groups : List Group) × IsRechunking source IsSourceKey target IsTargetKey chunks groups
-  have_rechunking chunks targets is_box are =
-      let meet = all_of_each (Meets target (array_box target)) (chunks_in targets)
-      (λ chunk has. ((are chunk).0 ((are_those_inside targets is_box chunk).0 has)).1)
-      in
-      let (groups, zipped) = have_groups (chunks_in targets) meet in
-      (groups, record { targets = targets; is_box = is_box; are_targets = are; are_groups = zipped })

@@ -1,5 +1,6 @@
--- Where each chunk has a key, the copy of a region of the array exists; and that of the whole array, to where it is, is a rechunking.
-use Rattle.std.proofs.Common.{◌≡◌, ℕ, ◌+◌, ◌-◌, ◌<◌, ◌≤◌, List, [], ◌∷◌, Contains, length, replicate, ap, drop, refl, subst, sym, take, zero, suc, arith}
+-- Where each chunk has a key, the copy of a region of the array exists, and a rechunking.
+use Rattle.std.proofs.Common.{◌≡◌, ℕ, ◌+◌, ◌-◌, ◌<◌, ◌≤◌, List, [], ◌∷◌, Contains, length, sym, arith}
+use Rattle.std.proofs.lemmas.List.{length-map}
 use Rattle.std.specs.List.{AllByRecursion, AllZip}
 use Rattle.zarrs_chunk_base.specs.ArraySubset.{AreWithin, Box, IsBox, IsEmptyBox, lasts}
 use Rattle.zarrs_chunk_base.specs.Dimension.{Dimension, IsChain, array_sizes}
@@ -9,15 +10,12 @@ use Rattle.zarrs_chunks.proofs.Covers.{head_some, tail_some}
 use Rattle.zarrs_chunks.proofs.Meeting.{cover_meets}
 use Rattle.zarrs_chunks.specs.Subsets.{IsCover}
 use Rattle.zarrs_chunks.specs.Walks.{chunks_in, counted_from}
-use Rattle.zarrs_chunk_parts.specs.Plan.{IsPart, IsPlan, Meets}
-use Rattle.zarrs_chunk_plan.specs.Rechunking.{AreCopiesInto, Group, array_box}
+use Rattle.zarrs_chunk_parts.specs.Plan.{Meets}
+use Rattle.zarrs_chunk_plan.specs.Rechunking.{AreTargets, Group, IsRechunking, array_box}
 use Rattle.zarrs_chunk_plan.specs.Region.{AreMovedInto, EndWithin, IsRegionCopy, LiesIn, moved, shifted}
-use Rattle.zarrs_chunk_plan.specs.declared.chunk_copies.Copies.{Copies}
-use Rattle.zarrs_chunk_parts.specs.declared.part.Part.{Part}
-use Rattle.zarrs_chunk_plan.specs.seen.Copies.{AreGroupsToCome, AreMovesToCome, CanCopy, first_of, targets_to_come}
 use Rattle.zarrs_chunk_plan.specs.seen.Parts.{HasKeys}
-use Rattle.zarrs_chunk_plan.proofs.Plans.{all_long, all_of_each, not_empty, place_below}
-use Rattle.zarrs_chunk_plan.proofs.Rechunkings.{counted_from_zeros}
+use Rattle.zarrs_chunk_plan.proofs.MovedBoxes.{whole_within}
+use Rattle.zarrs_chunk_plan.proofs.Plans.{all_of_each, not_empty, place_below}
 use Rattle.zarrs_chunk_plan.proofs.Regions.{read_is_box}
 use Rattle.zarrs_chunk_plan.proofs.SomePlan.{has_part, has_plan}
 use Rattle.zarrs_chunk_plan.proofs.Written.{last_within}
@@ -77,79 +75,19 @@ module _ (source : List Dimension) (IsSourceKey : List ℕ → List ℕ → Type
 
 -- ---- the whole array, to where it is
 
-module _ (source : List Dimension) (IsSourceKey : List ℕ → List ℕ → Type 0) (target : List Dimension) (IsTargetKey : List ℕ → List ℕ → Type 0) where
-  -- the elements that a chunk takes are read from where they are
-  read_there : (first : List ℕ) (chunk : List ℕ) (to : Part) → first ≡ replicate (length target) 0 → Meets target (array_box target) chunk
-      → IsPart target IsTargetKey (array_box target) chunk to → shifted first to.in_subset ≡ to.in_subset
-  read_there first chunk to from_zero (index, box, inside) is =
-      let long = all_long target IsTargetKey (array_box target) chunk to index is (box, inside) in
-      rw from_zero (ap (λ (start : List ℕ). let b : Box = record { start = start; shape = to.in_subset.shape } in b)
-      (counted_from_zeros (length target) to.in_subset.start (omega arith)))
-
-  -- so a rechunking moves the whole array
-  pub all_moved : (chunks : List (List ℕ)) (groups : List Group) → AllByRecursion (Meets target (array_box target)) chunks
-      → AllZip (AreCopiesInto source IsSourceKey target IsTargetKey) chunks groups
-      → AllZip (AreMovedInto source IsSourceKey target IsTargetKey (array_box target) (array_box target).start) chunks groups
-  all_moved [] [] meet are = tt
-  all_moved (chunk ∷ chunks) (group ∷ groups) meet are =
-      let same = read_there (replicate (length target) 0) chunk group.0 refl meet.0 are.0.to in
-      (record { to = are.0.to; from = subst (λ b. IsPlan source IsSourceKey b group.1) (sym same) are.0.from }, all_moved chunks groups meet.1 are.1)
-  all_moved [] (_ ∷ _) meet are = absurd are
-  all_moved (_ ∷ _) [] meet are = absurd are
-
-module _ (source : List Dimension) (IsSourceKey : List ℕ → List ℕ → Type 0) (target : List Dimension) (IsTargetKey : List ℕ → List ℕ → Type 0)
-    (region : Box) (from_zero : region.start ≡ replicate (length target) 0) where
-  copied : (chunk : List ℕ) (group : Group) → Meets target (array_box target) chunk
-      → AreMovedInto source IsSourceKey target IsTargetKey region (array_box target).start chunk group → region.shape ≡ array_sizes target
-      → AreCopiesInto source IsSourceKey target IsTargetKey chunk group
-  copied chunk group meets into shape =
-      let to = subst (λ sizes. IsPart target IsTargetKey (record { start = replicate (length target) 0; shape = sizes }) chunk group.0) shape into.to in
-      let same = read_there source IsSourceKey target IsTargetKey region.start chunk group.0 from_zero meets to in
-      record { to = to; from = subst (λ b. IsPlan source IsSourceKey b group.1) same into.from }
-
-  all_copied : (chunks : List (List ℕ)) (groups : List Group) → AllByRecursion (Meets target (array_box target)) chunks
-      → AllZip (AreMovedInto source IsSourceKey target IsTargetKey region (array_box target).start) chunks groups → region.shape ≡ array_sizes target
-      → AllZip (AreCopiesInto source IsSourceKey target IsTargetKey) chunks groups
-  all_copied [] [] meet are shape = tt
-  all_copied (chunk ∷ chunks) (group ∷ groups) meet are shape =
-      (copied chunk group meet.0 are.0 shape, all_copied chunks groups meet.1 are.1 shape)
-  all_copied [] (_ ∷ _) meet are shape = absurd are
-  all_copied (_ ∷ _) [] meet are shape = absurd are
-
--- and so are the groups of some of the chunks
-pub some_copied : (source : List Dimension) (IsSourceKey : List ℕ → List ℕ → Type 0) (target : List Dimension)
-    (IsTargetKey : List ℕ → List ℕ → Type 0) (chunks : List (List ℕ)) → AllByRecursion (Meets target (array_box target)) chunks
-    → (count first : ℕ) (groups : List Group)
-    → AllZip (AreMovedInto source IsSourceKey target IsTargetKey (array_box target) (array_box target).start) (take count (drop first chunks)) groups
-    → AllZip (AreCopiesInto source IsSourceKey target IsTargetKey) (take count (drop first chunks)) groups
-some_copied source IsSourceKey target IsTargetKey chunks meet count first groups are =
-    all_copied source IsSourceKey target IsTargetKey (array_box target) refl (take count (drop first chunks)) groups
-    (all_taken (drop first chunks) count (all_dropped chunks first meet)) are refl where
-      all_taken : (xs : List (List ℕ)) (k : ℕ) → AllByRecursion (Meets target (array_box target)) xs
-          → AllByRecursion (Meets target (array_box target)) (take k xs)
-      all_taken xs zero all = tt
-      all_taken [] (suc k) all = tt
-      all_taken (x ∷ xs) (suc k) all = (all.0, all_taken xs k all.1)
-
-      all_dropped : (xs : List (List ℕ)) (k : ℕ) → AllByRecursion (Meets target (array_box target)) xs
-          → AllByRecursion (Meets target (array_box target)) (drop k xs)
-      all_dropped xs zero all = all
-      all_dropped [] (suc k) all = tt
-      all_dropped (x ∷ xs) (suc k) all = all_dropped xs k all.1
-
--- what a walk over a rechunking moves are its groups
-pub moved_groups : {G E H F : Type 0} (source_dimensions : G → List Dimension) (source_key : E → List ℕ → List ℕ → Type 0)
-    (target_dimensions : H → List Dimension) (target_key : F → List ℕ → List ℕ → Type 0) (walk : Copies G E H F) (groups : List Group)
-    → CanCopy source_dimensions target_dimensions walk
-    → AreMovesToCome source_dimensions source_key target_dimensions target_key walk groups
-    → AreGroupsToCome source_dimensions source_key target_dimensions target_key walk groups
-moved_groups source_dimensions source_key target_dimensions target_key walk groups can are =
-    let target = target_dimensions walk.targets.grid.now in
-    let chunks = targets_to_come walk in
-    let meet = subst (λ b. AllByRecursion (Meets target b) chunks) can.whole_array can.meet in
-    let moves = subst (λ (b : Box). AllZip
-    (AreMovedInto (source_dimensions walk.source.now.grid) (source_key walk.source.now.encoding) target (target_key walk.targets.encoding.now)
-    (record { start = first_of walk; shape = b.shape }) b.start) chunks groups) can.whole_array are
+-- where each chunk has a key, there is a rechunking
+pub have_rechunking : (source : List Dimension) (IsSourceKey : List ℕ → List ℕ → Type 0) (target : List Dimension)
+    (IsTargetKey : List ℕ → List ℕ → Type 0) → AllByRecursion IsChain source → AllByRecursion IsChain target → HasKeys IsSourceKey
+    → HasKeys IsTargetKey → array_sizes source ≡ array_sizes target → IsBox (array_box target)
+    → (chunks targets : Box) → IsBox targets → AreTargets target chunks targets
+    → (groups : List Group) × IsRechunking source IsSourceKey target IsTargetKey chunks groups
+have_rechunking source IsSourceKey target IsTargetKey chains also_chains keys also_keys one_array is_array chunks targets is_box are =
+    let many : length (array_sizes target) ≡ length target = length-map target (λ (d : Dimension). d.array_size) in
+    let lies : LiesIn (array_box target) (array_sizes source) = rw (one_array, sym many) (whole_within (array_sizes target)) in
+    let meet = all_of_each (Meets target (array_box target)) (chunks_in targets)
+    (λ chunk has. ((are chunk).0 ((are_those_inside targets is_box chunk).0 has)).1)
     in
-    all_copied (source_dimensions walk.source.now.grid) (source_key walk.source.now.encoding) target (target_key walk.targets.encoding.now)
-    (record { start = first_of walk; shape = array_sizes target }) can.from_zero chunks groups meet moves refl
+    let (groups, zipped) = have_moves source IsSourceKey target IsTargetKey chains also_chains keys also_keys (array_box target)
+    (array_box target).start lies is_array is_array (chunks_in targets) meet
+    in
+    (groups, record { targets = targets; is_box = is_box; are_targets = are; are_groups = zipped })

@@ -10,7 +10,7 @@ use Rattle.zarrs_chunks.proofs.Chains.{same_box}
 use Rattle.zarrs_chunks.proofs.FittingChunks.{counted_home}
 use Rattle.zarrs_chunk_plan.specs.Rechunking.{Goes, Group, IsRechunking, Moves, all_chunks_box, copies_of}
 use Rattle.zarrs_chunk_parts.specs.declared.part.Part.{Part}
-use Rattle.zarrs_chunk_plan.proofs.Rechunkings.{has_keys, in_array, is_counted, moves_elements, some_copy}
+use Rattle.zarrs_chunk_plan.proofs.Rechunkings.{in_array, is_counted, keys_of_copy, moves_elements, some_copy_into}
 
 -- an index has one place in a chunk
 one_place : (ds : List Dimension) (chunk index one other : List ℕ) → IsPlace ds chunk index one → IsPlace ds chunk index other → one ≡ other
@@ -39,22 +39,25 @@ module _ (source target : List Dimension) (chains : AllByRecursion IsChain sourc
 
   -- and to where it does, where both are into one
   pub same_to : (from : List Dimension) → Moves source target copy steps index → Moves from target other also index
-      → (copy.1.chunk.items ≡ other.1.chunk.items) × (counted_from copy.0.in_subset.start steps ≡ counted_from other.0.in_subset.start also)
+      → (copy.1.chunk.items ≡ other.1.chunk.items) × (counted_from copy.1.in_chunk.start (counted_from copy.0.in_subset.start steps)
+      ≡ counted_from other.1.in_chunk.start (counted_from other.0.in_subset.start also))
   same_to from moved again =
       let chunk = same_box target copy.1.chunk.items other.1.chunk.items index also_chains moved.in_target again.in_target in (
         chunk,
         one_place target other.1.chunk.items index _ _
-            (subst (λ c. IsPlace target c index (counted_from copy.0.in_subset.start steps)) chunk moved.to) again.to,
+            (subst (λ c. IsPlace target c index (counted_from copy.1.in_chunk.start (counted_from copy.0.in_subset.start steps))) chunk
+            moved.to_place) again.to_place,
       )
 
   -- what the other one moves into it, the other way round
   pub same_between : (from : List Dimension) → Moves from source copy steps index → Moves source target other also index
-      → (copy.1.chunk.items ≡ other.0.chunk.items) × (counted_from copy.0.in_subset.start steps ≡ counted_from other.0.in_chunk.start also)
+      → (copy.1.chunk.items ≡ other.0.chunk.items) × (counted_from copy.1.in_chunk.start (counted_from copy.0.in_subset.start steps) ≡ counted_from other.0.in_chunk.start also)
   same_between from moved again =
       let chunk = same_box source copy.1.chunk.items other.0.chunk.items index chains moved.in_target again.in_source in (
         chunk,
         one_place source other.0.chunk.items index _ _
-            (subst (λ c. IsPlace source c index (counted_from copy.0.in_subset.start steps)) chunk moved.to) again.from,
+            (subst (λ c. IsPlace source c index (counted_from copy.1.in_chunk.start (counted_from copy.0.in_subset.start steps))) chunk
+            moved.to_place) again.from,
       )
 
 -- an element that is moved is one of the array
@@ -83,10 +86,10 @@ module _ (source : List Dimension) (IsSourceKey : List ℕ → List ℕ → Type
       let (m, _, box) = counted_home between index chains_between below_between in
       let inside = is_counted between chains_between m (index, box, (in_array between index).0 below_between) in
       let (one, among, (a, moved)) =
-      some_copy source IsSourceKey between IsKeyBetween chains (all_chunks_box between) first is_first index m below_between box inside
+      some_copy_into source IsSourceKey between IsKeyBetween (all_chunks_box between) first is_first chains index m below_between box inside
       in
-      let (_, _, asked) = has_keys source IsSourceKey target IsTargetKey chunks groups is_one goes.copy goes.among in
-      let (next, among_next, (b, moved_next)) = some_copy between IsKeyBetween target IsTargetKey chains_between chunks second is_second index
+      let (_, _, asked) = keys_of_copy source IsSourceKey target IsTargetKey chunks groups is_one goes.copy goes.among in
+      let (next, among_next, (b, moved_next)) = some_copy_into between IsKeyBetween target IsTargetKey chunks second is_second chains_between index
       goes.copy.1.chunk.items below goes.moves.in_target asked
       in
       let from_there = same_from source between chains chains_between one goes.copy a goes.steps index target moved goes.moves in
@@ -121,8 +124,8 @@ module _ (source : List Dimension) (IsSourceKey : List ℕ → List ℕ → Type
       → Goes source target groups index s from t to
   in_one chunk place goes next =
       let below = moved_below between IsKeyBetween target IsTargetKey chunks second is_second next.copy next.among next.steps index next.moves in
-      let (_, _, asked) = has_keys between IsKeyBetween target IsTargetKey chunks second is_second next.copy next.among in
-      let (one, among, (a, moved)) = some_copy source IsSourceKey target IsTargetKey chains chunks groups is_one index
+      let (_, _, asked) = keys_of_copy between IsKeyBetween target IsTargetKey chunks second is_second next.copy next.among in
+      let (one, among, (a, moved)) = some_copy_into source IsSourceKey target IsTargetKey chunks groups is_one chains index
       next.copy.1.chunk.items below next.moves.in_target asked
       in
       let from_there = same_from source target chains also_chains one goes.copy a goes.steps index between moved goes.moves in

@@ -26,7 +26,7 @@ RangesTake [] [] [] [] [] = Unit {0}
 RangesTake (d ∷ ds) (a ∷ at) (n ∷ shape) (c ∷ first) (k ∷ sizes) = RangeTakes d a n c k × RangesTake ds at shape first sizes
 RangesTake _ _ _ _ _ = ⊥
 
-take_long : (ds : List Dimension) (at shape first sizes : List ℕ) → RangesTake ds at shape first sizes
+pub take_long : (ds : List Dimension) (at shape first sizes : List ℕ) → RangesTake ds at shape first sizes
     → (length at ≡ length ds) × (length shape ≡ length ds) × (length first ≡ length ds) × (length sizes ≡ length ds)
 take_long [] [] [] [] [] takes = (refl, refl, refl, refl)
 take_long (d ∷ ds) (a ∷ at) (n ∷ shape) (c ∷ first) (k ∷ sizes) takes =

@@ -1,7 +1,7 @@
 -- How much a plan copies. Each count is a product of numbers that are found without a walk over the plan.
 -- Source: this library's own.
 use Rattle.std.specs.Prelude.{◌≡◌, ◌≢◌, ◌↔◌, ◌⊎◌, ◌*◌, ◌≤◌, ◌^◌, ℕ, List, [], ◌∷◌, MatchOption, fold, length, map, max, min}
-use Rattle.std.specs.List.{AllByRecursion, AllPairs, Contains}
+use Rattle.std.specs.List.{AllPairs, Contains, sum}
 use Rattle.zarrs_chunk_base.specs.ArraySubset.{Box, IsEmptyBox, IsInside}
 use Rattle.zarrs_chunk_base.specs.Dimension.{Dimension, array_sizes}
 use Rattle.zarrs_chunk_axes.specs.InBounds.{AreBelow}
@@ -23,9 +23,9 @@ abbrev pub product : List ℕ → ℕ
 product [] = 1
 product (n ∷ numbers) = n * product numbers
 
--- the chunks in a box are few enough to go through along each dimension: there are none, or along each at most 2 ^ 24
+-- the chunks in a box are few enough to go through, a dimension after another: there are none, or along all together at most 2 ^ 20
 abbrev pub AreFew : Box → Type 0
-AreFew chunks = IsEmptyBox chunks ⊎ AllByRecursion (λ size. size ≤ 2 ^ 24) chunks.shape
+AreFew chunks = IsEmptyBox chunks ⊎ (sum chunks.shape ≤ 2 ^ 20)
 
 -- how many copies the longest line has
 abbrev pub longest : List Group → ℕ
@@ -40,14 +40,14 @@ pub record AreReadCounts (subset : Box) (parts : List Part) (counts : Counts) : 
       (product counts.elements.items)
   pub source_chunks : AreMany (λ chunk. (part : Part) × Contains parts part × (part.chunk.items ≡ chunk)) (product counts.source_chunks.items)
 
--- The counts of a rechunking that writes the chunks in a box, of which these are the groups: each group is a line. Where the chunks aren't few, there
--- is no count of copies, and none of those of the longest line.
+-- The counts of a rechunking that writes the chunks in a box, of which these are the groups: each group is a line. Only if the chunks aren't few, either
+-- of two counts may be missing: that of copies, and that of the copies in the longest line.
 pub record AreRechunkingCounts (source target : List Dimension) (targets : Box) (groups : List Group) (counts : Counts) : Type 0 where
   pub lines : product counts.lines.items ≡ length groups
   pub copies : MatchOption counts.copies (¬ AreFew targets)
-      (λ factors. AreFew targets × (product factors.items ≡ length (copies_of groups)))
+      (λ factors. product factors.items ≡ length (copies_of groups))
   pub largest_line : MatchOption counts.largest_line (¬ AreFew targets)
-      (λ factors. AreFew targets × (product factors.items ≡ longest groups))
+      (λ factors. product factors.items ≡ longest groups)
   pub elements : AreMany
       (λ index. AreBelow (array_sizes target) index
       × ((copy : Part × Part) × Contains (copies_of groups) copy × ((steps : List ℕ) × Moves source target copy steps index)))
@@ -55,14 +55,14 @@ pub record AreRechunkingCounts (source target : List Dimension) (targets : Box) 
   pub source_chunks : AreMany (λ chunk. (copy : Part × Part) × Contains (copies_of groups) copy × (copy.0.chunk.items ≡ chunk))
       (product counts.source_chunks.items)
 
--- The counts of the copy of a region, where these chunks of the target take some of it, and these are the groups: each group is a line. Where the
--- chunks aren't few, there is no count of copies, and none of those of the longest line.
+-- The counts of the copy of a region. These chunks of the target take some of it, and these are the groups: each group is a line. Only if the chunks
+-- aren't few, either of two counts may be missing: that of copies, and that of the copies in the longest line.
 pub record AreRegionCounts (source target : List Dimension) (region targets : Box) (groups : List Group) (counts : Counts) : Type 0 where
   pub lines : product counts.lines.items ≡ length groups
   pub copies : MatchOption counts.copies (¬ AreFew targets)
-      (λ factors. AreFew targets × (product factors.items ≡ length (copies_of groups)))
+      (λ factors. product factors.items ≡ length (copies_of groups))
   pub largest_line : MatchOption counts.largest_line (¬ AreFew targets)
-      (λ factors. AreFew targets × (product factors.items ≡ longest groups))
+      (λ factors. product factors.items ≡ longest groups)
   pub elements : AreMany
       (λ index. IsInside region index
       × ((copy : Part × Part) × Contains (copies_of groups) copy

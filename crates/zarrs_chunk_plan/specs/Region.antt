@@ -2,8 +2,8 @@
 -- target that meets the moved box, the elements that it takes, and the parts of the source's chunks that have them. What is said of the copy is said
 -- of a region that isn't empty; that it lies in both arrays is `CanBeMoved`. Sources: Zarr V3 core, chunk grids and chunk key encodings; the copy of
 -- a region is this library's own.
-use Rattle.std.specs.Prelude.{◌≡◌, ◌≢◌, ℕ, ◌+◌, ◌≤◌, List, [], ◌∷◌, length}
-use Rattle.std.specs.List.{AllZip}
+use Rattle.std.specs.Prelude.{◌≡◌, ◌≢◌, ℕ, ◌+◌, ◌≤◌, List, [], ◌∷◌, length, map}
+use Rattle.std.specs.List.{AllZip, flat_map}
 use Rattle.zarrs_chunk_base.specs.ArraySubset.{Box}
 use Rattle.zarrs_chunk_base.specs.Dimension.{Dimension, InBox, IsPlace}
 use Rattle.zarrs_chunk_base.specs.Refusal.{TellsLengths}
@@ -11,10 +11,17 @@ use Rattle.zarrs_chunk_axes.specs.InBounds.{AreBelow}
 use Rattle.zarrs_chunks.specs.Subsets.{IsCover}
 use Rattle.zarrs_chunks.specs.Walks.{chunks_in, counted_from}
 use Rattle.zarrs_chunk_parts.specs.Plan.{IsPart, IsPlan}
-use Rattle.zarrs_chunk_plan.specs.Rechunking.{Group}
 use Rattle.zarrs_chunk_parts.specs.declared.part.Part.{Part}
 use Rattle.zarrs_chunk_plan.specs.declared.region_error.RegionError.{RegionError}
 use Rattle.zarrs_chunk_plan.specs.declared.region_error.RegionError.TheVariants.{Region, Target, At, PastSource, PastTarget}
+
+-- a chunk of the target with the elements that it takes, and the parts of the source's chunks that have them
+abbrev pub Group : Type 0
+Group = Part × List Part
+
+-- the copies, one after another: of each group each part of the source, and with it the target's chunk
+abbrev pub copies_of : List Group → List (Part × Part)
+copies_of = flat_map (λ group. map (λ from. (from, group.0)) group.1)
 
 -- a box, shifted by a list of numbers
 abbrev pub shifted : List ℕ → Box → Box

@@ -9,8 +9,6 @@ use Rattle.zarrs_chunks.specs.Subsets.{IsCover}
 use Rattle.zarrs_chunks.specs.Walks.{chunks_in}
 use Rattle.zarrs_chunk_plan.specs.Rechunking.{AreCopiesInto, AreTargets, Group}
 use Rattle.zarrs_chunk_plan.specs.Region.{AreMovedInto, moved}
-use Rattle.zarrs_chunk_plan.specs.declared.numbered_copies.SomeCopies.{SomeCopies}
-use Rattle.zarrs_chunk_plan.specs.seen.Copies.{groups_of}
 
 -- Of the groups of the rechunking into the chunks of a box, of which there are `count`, as far as a number counts them: at most `most`, from the one
 -- with the number `first` on. Each is that of a chunk that is written, and they come in row-major order of these chunks.
@@ -23,12 +21,6 @@ pub record AreSomeGroups (source : List Dimension) (IsSourceKey : List ℕ → L
   pub are_groups : AllZip (AreCopiesInto source IsSourceKey target IsTargetKey)
       (take (min (count - first) most) (drop first (chunks_in targets))) groups
 
--- some of the groups, and how many there are
-abbrev pub AreSomeCopies : (source : List Dimension) (IsSourceKey : List ℕ → List ℕ → Type 0)
-    (target : List Dimension) (IsTargetKey : List ℕ → List ℕ → Type 0) (chunks : Box) (first most : ℕ) (some : SomeCopies) → Type 0
-AreSomeCopies source IsSourceKey target IsTargetKey chunks first most some =
-    AreSomeGroups source IsSourceKey target IsTargetKey chunks first most some.in_all (groups_of some.groups.items)
-
 -- Of the groups of the copy of a region, of which there are `count`, as far as a number counts them: at most `most`, from the one with the number
 -- `first` on. Each is that of a chunk of the moved box's cover, and they come in row-major order of these chunks.
 pub record AreSomeMovedGroups (source : List Dimension) (IsSourceKey : List ℕ → List ℕ → Type 0)
@@ -39,9 +31,3 @@ pub record AreSomeMovedGroups (source : List Dimension) (IsSourceKey : List ℕ 
   pub in_all : count ≡ min (length (chunks_in cover)) greatest
   pub are_groups : AllZip (AreMovedInto source IsSourceKey target IsTargetKey region at)
       (take (min (count - first) most) (drop first (chunks_in cover))) groups
-
--- some of these groups, and how many there are
-abbrev pub AreSomeMoves : (source : List Dimension) (IsSourceKey : List ℕ → List ℕ → Type 0)
-    (target : List Dimension) (IsTargetKey : List ℕ → List ℕ → Type 0) (region : Box) (at : List ℕ) (first most : ℕ) (some : SomeCopies) → Type 0
-AreSomeMoves source IsSourceKey target IsTargetKey region at first most some =
-    AreSomeMovedGroups source IsSourceKey target IsTargetKey region at first most some.in_all (groups_of some.groups.items)

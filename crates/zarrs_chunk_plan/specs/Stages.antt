@@ -31,11 +31,7 @@ pub record AreUsed (ds : List Dimension) (chunks : Box) : Type 0 where
   pub is_box : IsBox chunks
   pub are_those : (chunk : List ℕ) → IsInside chunks chunk ↔ Meets ds (array_box ds) chunk
 
--- they are few enough to go through along each dimension by itself: none, or along each at most 2 ^ 24
-abbrev pub HasFewChunks : List Dimension → Type 0
-HasFewChunks ds = (chunks : Box) × AreUsed ds chunks × AreFew chunks
-
--- or too many
+-- they are too many to go through
 abbrev pub HasManyChunks : List Dimension → Type 0
 HasManyChunks ds = (chunks : Box) × AreUsed ds chunks × ¬ AreFew chunks
 
@@ -116,6 +112,6 @@ IsBoundFault source target ManyShapes = ⊥
 -- It says one of these, or that there are too many shapes to try.
 abbrev pub IsStagesFault : (source target : List Dimension) → StagesError → Type 0
 IsStagesFault source target ManyShapes =
-    (array_sizes source ≡ array_sizes target) × HasFewChunks source × HasFewChunks target
+    (array_sizes source ≡ array_sizes target)
     × ((largest other : List ℕ) × IsLargest source largest × IsLargest target other × (2 ^ 20 < shapes_tried (all_tried (array_sizes source) largest other)))
 IsStagesFault source target fault = IsBoundFault source target fault

@@ -6,6 +6,7 @@ pub mod Ends
 pub mod Outside
 pub mod Parts
 pub mod ReadCounts
+pub mod RegularCounts
 pub mod Rows
 pub mod Sources
 pub mod Stages

@@ -1,6 +1,6 @@
 //! How much a plan copies, without a walk over it.
-ghost use Rattle.std.specs.Prelude.{◌≡◌, ◌≢◌, ◌⊎◌, ◌≤◌, ◌↔◌, ℕ, IfErr, IfOk, IsTrue, List, MatchOption, fold, length, map, max, min};
-ghost use Rattle.std.specs.List.{AllByRecursion, AllZip, sum};
+ghost use Rattle.std.specs.Prelude.{◌≡◌, ◌≢◌, ◌⊎◌, ◌≤◌, ◌↔◌, ℕ, IfErr, IfOk, List, MatchOption, fold, length, map, max, min};
+ghost use Rattle.std.specs.List.{AllZip, sum};
 ghost use Rattle.zarrs_chunk_base.specs.ArraySubset.{Box, IsBox, IsEmptyBox, IsInside, ends};
 ghost use Rattle.zarrs_chunk_base.specs.Dimension.{InBox, array_sizes};
 ghost use Rattle.zarrs_chunk_base.specs.Refusal.{HasMemory, OrMemory};
@@ -18,6 +18,7 @@ ghost use Rattle.zarrs_chunk_plan.specs.seen.Sources.{AreTaking, counters};
 
 use crate::boxes_from_zero::whole_array;
 use crate::copies_error::CopiesError;
+use crate::few::are_few;
 use crate::rechunking::targets_of;
 use crate::region::moved_box;
 use crate::region_error::RegionError;
@@ -34,11 +35,12 @@ use zarrs_chunks::ChunkGridTraits;
 #[derive(Debug, Drop)]
 pub struct Counts {
     /// How many copies there are. In a rechunking and in the copy of a region these are pairs of a chunk of the source and one of the target between
-    /// which elements go; in a read, chunks that are read. `None` where some chunks are written, and along some dimension more than 2^24.
+    /// which elements go; in a read, chunks that are read. `None` only if the chunks that are written, added up over the dimensions, are more than 2^20.
+    /// A dimension that is regular in both arrays, along which elements keep their index, adds nothing to what is gone through.
     pub copies: Option<ArrayShape>,
     /// How many elements are copied.
     pub elements: ArrayShape,
-    /// How many copies the line has that has the most. `None` where `copies` is.
+    /// How many copies the line has that has the most. `None` only as `copies`.
     pub largest_line: Option<ArrayShape>,
     /// How many lines there are: chunks of the target that are written, or chunks that are read.
     pub lines: ArrayShape,
@@ -92,8 +94,9 @@ fn at_most_one(alloc: Global, numbers: &[u64]) -> Result<ArrayShape, AllocError>
 
 /// The counts of the plan of a rechunking into the chunks of a box.
 ///
-/// It takes the time of some look-ups for each chunk that is written along each dimension by itself, where none has more than 2^24 of them, and
-/// that of a few look-ups otherwise. Of an encoding that has no key for some chunk nothing is said.
+/// It takes some look-ups for each chunk that is written, along each dimension by itself, and only a few along a dimension that is regular in both
+/// grids. If the others have more than 2^20 chunks, added up, nothing is gone through, and there is no count of copies. Nothing is said of an encoding
+/// that has no key for some chunk.
 ///
 /// # Errors
 /// As of [`copies`](crate::copies).
@@ -141,8 +144,9 @@ pub fn counts_of_rechunking<
 
 /// The counts of the copy of a region to the box of its shape that begins at `at` in the target's array.
 ///
-/// It takes the time of some look-ups for each chunk of the target that takes some of the region, along each dimension by itself, where there are at
-/// most 2^24 of them along each, and that of a few look-ups otherwise. Of an encoding that has no key for some chunk nothing is said.
+/// It takes some look-ups for each chunk of the target that takes some of the region, along each dimension by itself, and only a few along a dimension
+/// that is regular in both grids, if the region stays where it is along it. If the others have more than 2^20 chunks, added up, nothing is gone through,
+/// and there is no count of copies. Nothing is said of an encoding that has no key for some chunk.
 ///
 /// # Errors
 /// As of [`copies_of_region`](crate::copies_of_region).
@@ -189,23 +193,6 @@ pub fn counts_of_region<
     Ok(counts_of_targets(alloc, &copied, region, &targets)?)
 }
 
-/// How many chunks of the target are gone through along a dimension, at most.
-const MOST_ALONG: u64 = 1 << 24;
-
-/// Whether the chunks in a box are few enough to go through along each dimension.
-pub(crate) fn are_few(chunks: &ArraySubset) -> bool
-    ensures { IsTrue result ↔ AreFew chunks.now }
-{
-    chunks.is_empty() || are_at_most(chunks.shape(), MOST_ALONG)
-}
-
-/// Whether each number is at most the other.
-fn are_at_most(numbers: &[u64], most: u64) -> bool
-    ensures { IsTrue result ↔ AllByRecursion (λ n. n ≤ most) numbers.now }
-{
-    numbers.iter().all(|n| *n <= most)
-}
-
 /// The counts of what goes into chunks of the target that each take some: the elements of a box of the source's array.
 ///
 /// # Errors
@@ -237,7 +224,7 @@ fn counts_of_targets<G: ChunkGridTraits, H: ChunkGridTraits>(
     })
 }
 
-/// How many copies there are, and how many into the chunk that gets the most, where there are few enough chunks of the target to go through.
+/// How many copies there are, and how many into the chunk that gets the most, where few enough chunks of the target have to be gone through.
 ///
 /// # Errors
 /// Out of memory.
@@ -249,15 +236,15 @@ fn copies_along<G: ChunkGridTraits, H: ChunkGridTraits>(
     requires { AreTaking (G.dimensions copied.now.source.now) (H.dimensions copied.now.target.now)
         copied.now.region.now copied.now.moved.now targets.now }
     ensures copies { IfOk result (λ both. MatchOption both.0 (¬ AreFew targets.now)
-        (λ factors. AreFew targets.now × (product factors.items ≡ sum (met_by_each
+        (λ factors. product factors.items ≡ sum (met_by_each
         (counters (G.dimensions copied.now.source.now) (H.dimensions copied.now.target.now)
-        copied.now.region.now copied.now.moved.now) targets.now)))) }
+        copied.now.region.now copied.now.moved.now) targets.now))) }
     ensures largest { IfOk result (λ both. MatchOption both.1 (¬ AreFew targets.now)
-        (λ factors. AreFew targets.now × (product factors.items ≡ fold max 0 (met_by_each
+        (λ factors. product factors.items ≡ fold max 0 (met_by_each
         (counters (G.dimensions copied.now.source.now) (H.dimensions copied.now.target.now)
-        copied.now.region.now copied.now.moved.now) targets.now)))) }
+        copied.now.region.now copied.now.moved.now) targets.now))) }
 {
-    if !are_few(targets) {
+    if !are_few(copied, targets) {
         return Ok((None, None));
     }
     let sources = sources_along_each(alloc, copied, targets)?;

@@ -8,7 +8,7 @@
 //! | No two parts have one key | [`no_two_parts_have_one_key`] |
 //! | The parts' boxes tile the box: each place in it lies in exactly one, they reach nowhere else, and none is empty | [`the_parts_tile_the_box`] |
 //! | Shares of a plan are together the plan | [`shares_are_together_the_plan`] |
-//! | What a walk that `copies` answers gives, one group after another, is a rechunking | [`the_walk_gives_the_rechunking`] |
+//! | What a walk that `copies` answers gives is a rechunking | [`the_walk_gives_the_rechunking`] |
 //! | Each element whose target chunk is asked for is moved, place to place, by exactly one copy | [`each_element_is_copied_once`] |
 //! | A copy whose part of the source is whole is the only one of that chunk | [`a_whole_part_is_the_only_one_of_its_chunk`] |
 //! | A rechunking the other way round has the same copies | [`the_other_way_round_has_the_same_copies`] |
@@ -25,7 +25,7 @@
 //! | A chunk that is kept holds each element at the place where it held it | [`a_kept_chunk_is_as_it_was`] |
 //! | An element that both arrays have stays in its chunk, at its place; its chunk is kept or written again | [`each_element_stays_in_its_chunk`] |
 //! | The chunk of an element that leaves is written again or deleted, that of one that comes is written again or new | [`each_element_that_leaves_or_comes_changes_its_chunk`] |
-ghost use Rattle.std.specs.Prelude.{◌≡◌, ◌≢◌, ◌↔◌, ◌⊎◌, ◌<◌, ℕ, [], Bool, IsTrue, true, false, List, Ok, Option, Some, length, map, option_map};
+ghost use Rattle.std.specs.Prelude.{◌≡◌, ◌≢◌, ◌↔◌, ◌⊎◌, ◌<◌, ℕ, [], Bool, IsTrue, true, false, List, Ok, Option, Some, length, map, option_map, replicate};
 ghost use Rattle.std.specs.Iterator.{Drains};
 ghost use Rattle.std.specs.List.{AllPairs, AllZip, Contains, flat_map, range_with_len};
 ghost use Rattle.zarrs_chunk_axes.specs.EqualEdges.{AreEqualEdges};
@@ -50,7 +50,7 @@ ghost use Rattle.zarrs_chunk_plan.specs.Strided.{form_of, ranges_of};
 ghost use Rattle.zarrs_chunk_plan.specs.declared.bytes.ByteRanges.{ByteRanges as ByteRangesValue};
 ghost use Rattle.zarrs_chunk_plan.specs.declared.bytes.MemoryOrder.{MemoryOrder as MemoryOrderValue};
 ghost use Rattle.zarrs_chunk_plan.specs.seen.Changes.{AreChangesToCome, CanChange, GivesChange, IsAboutResize, changes_to_come};
-ghost use Rattle.zarrs_chunk_plan.specs.seen.Copies.{AreGroupsToCome, AreMovesToCome, CanCopy, CanMove, GivesCopies, HasAllParts, IsAboutCopies, first_of, targets_to_come};
+ghost use Rattle.zarrs_chunk_plan.specs.seen.Copies.{AreMovesToCome, CanMove, GivesCopies, HasAllParts, IsAboutCopies, first_of, targets_to_come};
 ghost use Rattle.zarrs_chunk_plan.specs.seen.Parts.{AnswersNoParts, AnswersParts, ArePartsToCome, GivesPart, IsAbout, MeetSubset};
 
 use crate::{Change, Changes, ChunkChange, ChunkCopies, Copies, Part, Parts, StoredArray};
@@ -143,24 +143,20 @@ pub fn the_parts_tile_the_box<G: ChunkGridTraits, E: ChunkKeyEncodingTraits>(
     array_subset.is_a_box();
 }
 
-/// What a walk over a rechunking gives up to its end, each group with all of its parts, is its groups to come. Of a walk that `copies` answers
-/// these are a rechunking into the chunks that were asked for.
+/// What a walk that `copies` answers has to give is a rechunking into the chunks that were asked for. That the walk gives it up to its end is the law
+/// of [regions](the_walk_gives_the_region).
 pub fn the_walk_gives_the_rechunking<
     G: ChunkGridTraits,
     E: ChunkKeyEncodingTraits,
     H: ChunkGridTraits,
     F: ChunkKeyEncodingTraits,
 >(source: &StoredArray<G, E>, target: &StoredArray<H, F>)
-    ensures to_come { (walk : Copies G E H F) (given : List (ChunkCopies G E))
-        (groups : List Group) → CanCopy G.dimensions H.dimensions walk
-        → Drains (GivesCopies G.dimensions H.dimensions F.is_key) walk (map Ok given)
-        → AllZip (HasAllParts G.dimensions E.is_key) given groups
-        → AreGroupsToCome G.dimensions E.is_key H.dimensions F.is_key walk groups }
-    ensures rechunking { (chunks targets : Box) (walk : Copies G E H F) (groups : List Group)
+    ensures { (chunks targets : Box) (walk : Copies G E H F) (groups : List Group)
         → IsBox targets → AreTargets (H.dimensions target.now.grid) chunks targets
         → targets_to_come walk ≡ chunks_in targets
         → IsAboutCopies source.now target.now (array_box (H.dimensions target.now.grid)) walk
-        → AreGroupsToCome G.dimensions E.is_key H.dimensions F.is_key walk groups
+        → first_of walk ≡ replicate (length (H.dimensions target.now.grid)) 0
+        → AreMovesToCome G.dimensions E.is_key H.dimensions F.is_key walk groups
         → IsRechunking (G.dimensions source.now.grid) (E.is_key source.now.encoding)
         (H.dimensions target.now.grid) (F.is_key target.now.encoding) chunks groups }
 {}

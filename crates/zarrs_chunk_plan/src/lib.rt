@@ -23,8 +23,7 @@
 //! | `numbered_parts` | `some_parts`: some of the parts of that plan, from any one on |
 //! | `numbered_chunks` | the chunks in a box of chunk numbers, by their number; `some_chunks`: those from any one on |
 //! | `stored_array` | an array as it is stored: a grid and an encoding |
-//! | `rechunking` | `copies`: the plan of a rechunking; `targets_of`: the chunks that it writes |
-//! | `numbered_copies` | `some_copies`, `some_copies_of_region`: some of the groups of that plan, or of the copy of a region, from any one on |
+//! | `rechunking` | `copies`: the plan of a rechunking |
 //! | `region` | `copies_of_region`: the copy of a box of elements to another place, or another array |
 //! | `chunk_copies` | the walk over what a rechunking copies, or what is copied of a region, a chunk of the target after another |
 //! | `stored_chunks` | which chunks of the target a store has already, by the keys that it lists |
@@ -35,6 +34,8 @@
 //! | `outside` | the chunks below one list of numbers and not below another, as boxes |
 //! | `counts` | how much a plan copies, without a walk over it |
 //! | `sources` | how many chunks of the source share elements with those of the target, along each dimension |
+//! | `regular_counts` | the same of regular grids, computed |
+//! | `few` | whether chunks are few enough to go through |
 //! | `stages` | `shape_between`: the chunk shape of an array between, by which a rechunking goes in two stages under a bound; `hold_at_most`: whether one does |
 //! | `largest` | `largest_chunk`: the shape of a largest chunk |
 //! | `tried` | the edges that are tried for an array between |
@@ -61,12 +62,12 @@ mod chunks_between;
 mod clipping;
 mod copies_error;
 mod counts;
+mod few;
 mod fewest;
 mod largest;
 pub mod laws;
 mod moved;
 mod numbered_chunks;
-mod numbered_copies;
 mod numbered_parts;
 mod outside;
 mod plan;
@@ -74,6 +75,7 @@ mod range_starts;
 mod rechunking;
 mod region;
 mod region_error;
+mod regular_counts;
 mod resize;
 mod share;
 mod sources;
@@ -95,10 +97,9 @@ pub use copies_error::CopiesError;
 pub use counts::{Counts, counts_of_read, counts_of_rechunking, counts_of_region};
 pub use largest::largest_chunk;
 pub use numbered_chunks::{SomeChunks, some_chunks};
-pub use numbered_copies::{SomeCopies, some_copies, some_copies_of_region};
 pub use numbered_parts::{SomeParts, some_parts};
 pub use plan::parts;
-pub use rechunking::{copies, targets_of};
+pub use rechunking::copies;
 pub use region::{copies_of_region, place_in_target};
 pub use region_error::RegionError;
 pub use resize::{Change, ChunkChange, Held, changes};

@@ -1,13 +1,12 @@
 //! The plan of reading a box of elements.
 ghost use Rattle.std.specs.Prelude.{◌≡◌, ◌≢◌, ◌⊎◌, IfOk, IfSome, length};
 ghost use Rattle.zarrs_chunk_base.specs.ArraySubset.{IsEmptyBox};
-ghost use Rattle.zarrs_chunk_plan.specs.seen.Parts.{AnswersNoParts, AnswersParts, ArePartsToCome, IsAbout, MeetSubset, all_chunks, chunks_to_come};
+ghost use Rattle.zarrs_chunk_plan.specs.seen.Parts.{AnswersNoParts, AnswersParts, IsAbout, MeetSubset, all_chunks, chunks_to_come};
 
 use crate::walk::Parts;
-use std::alloc::{AllocError, Global};
+use std::alloc::Global;
 use zarrs_chunk_base::{ArraySubset, IncompatibleDimensionalityError, Refusal};
 use zarrs_chunk_keys::ChunkKeyEncodingTraits;
-use zarrs_chunk_parts::Part;
 use zarrs_chunks::ChunkGridTraits;
 
 /// What to read for a box of elements: which part of which chunk, under which key, and where in the answer it goes. `None` where the box has no
@@ -40,22 +39,4 @@ pub fn parts<'a, G: ChunkGridTraits, E: ChunkKeyEncodingTraits>(
         return Ok(None);
     };
     Ok(Some(Parts::new(alloc, grid, encoding, array_subset.clone()?, cover)?))
-}
-
-/// The parts that a walk has left.
-///
-/// # Errors
-/// Out of memory.
-pub(crate) fn all_parts<G: ChunkGridTraits, E: ChunkKeyEncodingTraits>(
-    alloc: Global,
-    walk: Parts<'_, G, E>,
-) -> Result<Vec<Part>, AllocError>
-    requires { MeetSubset G.dimensions walk }
-    ensures { IfOk result (λ all. ArePartsToCome G.dimensions E.is_key walk.entry all.items) }
-{
-    let mut all = Vec::new(alloc);
-    for part in walk {
-        all.push(part?)?;
-    }
-    Ok(all)
 }

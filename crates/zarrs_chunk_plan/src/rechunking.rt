@@ -6,7 +6,7 @@ ghost use Rattle.zarrs_chunk_base.specs.Refusal.{HasMemory, OrMemory};
 ghost use Rattle.zarrs_chunks.specs.Walks.{chunks_in};
 ghost use Rattle.zarrs_chunk_parts.specs.Plan.{Meets};
 ghost use Rattle.zarrs_chunk_plan.specs.Rechunking.{AreTargets, array_box};
-ghost use Rattle.zarrs_chunk_plan.specs.seen.Copies.{CanCopy, CanMove, IsAboutCopies, IsCopiesFault, all_targets, first_of, targets_to_come};
+ghost use Rattle.zarrs_chunk_plan.specs.seen.Copies.{CanMove, IsAboutCopies, IsCopiesFault, all_targets, first_of, targets_to_come};
 
 use crate::boxes_from_zero::{whole_array, zeros};
 use crate::chunk_copies::Copies;
@@ -45,7 +45,6 @@ pub fn copies<
         × (targets_to_come walk ≡ chunks_in targets)) }
     ensures about { IfOk result (IsAboutCopies source.now target.now
         (array_box (H.dimensions target.now.grid))) }
-    ensures can_copy { IfOk result (CanCopy G.dimensions H.dimensions) }
     ensures can_move { IfOk result (CanMove G.dimensions H.dimensions) }
     ensures first { IfOk result (λ walk. first_of walk
         ≡ replicate (length (H.dimensions target.now.grid)) 0) }
@@ -75,7 +74,7 @@ pub fn copies<
 ///
 /// # Errors
 /// As of [`copies`].
-pub fn targets_of<G: ChunkGridTraits, H: ChunkGridTraits>(
+pub(crate) fn targets_of<G: ChunkGridTraits, H: ChunkGridTraits>(
     alloc: Global,
     source: &G,
     target: &H,

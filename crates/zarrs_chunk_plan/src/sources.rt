@@ -1,17 +1,18 @@
 //! How many chunks of the source share elements with chunks of the target, along each dimension by itself.
-ghost use Rattle.std.specs.Prelude.{◌≡◌, ◌+◌, ◌<◌, ◌≤◌, [], IfOk, fold, length, max, slice_index_or};
-ghost use Rattle.std.specs.List.{slice_set, sum};
+ghost use Rattle.std.specs.Prelude.{◌≡◌, ◌<◌, [], IfOk, IfSome, Some, fold, length, max, slice_index_or};
+ghost use Rattle.std.specs.Int.NonZero.{non_zero_u64_get};
+ghost use Rattle.std.specs.List.{sum};
 ghost use Rattle.zarrs_chunk_base.specs.ArraySubset.{IsEmptyBox};
-ghost use Rattle.zarrs_chunk_base.specs.Greatest.{greatest};
+ghost use Rattle.zarrs_chunk_axes.specs.Along.{HoldsAlong, IsRegularAlong};
 ghost use Rattle.zarrs_chunk_plan.specs.Counts.{product};
 ghost use Rattle.zarrs_chunk_plan.specs.seen.Sources.{AreTaking, counters, met_in};
 ghost use Rattle.zarrs_chunk_plan.specs.seen.TargetCounts.{met_by_each};
 
-use crate::moved::shifted_box;
+use crate::regular_counts::met_by_whole;
 use std::alloc::{AllocError, Global};
+use std::num::NonZeroU64;
 use zarrs_chunk_base::{ArrayShape, ArraySubset};
-use zarrs_chunk_parts::{expect_answer, shared_elements};
-use zarrs_chunks::{ArrayIndicesTinyVec, ChunkGridTraits};
+use zarrs_chunks::ChunkGridTraits;
 
 /// A box of elements that goes from one array to another.
 #[derive(Drop)]
@@ -94,6 +95,67 @@ pub(crate) fn sources_along<G: ChunkGridTraits, H: ChunkGridTraits>(
         copied.now.region.now copied.now.moved.now)
         targets.now.start targets.now.shape) dimension [])) }
 {
+    let many = targets.shape()[dimension];
+    match regular_edges(copied, dimension) {
+        Some((edge, other)) if many > 2 => {
+            // The first and the last chunk may be cut by the box.
+            let first = sources_at(alloc, copied, targets, dimension, 0)?;
+            let last = sources_at(alloc, copied, targets, dimension, many - 1)?;
+            let whole = targets.start()[dimension] + 1;
+            let (sum, most) = met_by_whole(edge, other, whole, many - 2);
+            Ok((first + sum + last, first.max(most).max(last)))
+        }
+        _ => sources_one_by_one(alloc, copied, targets, dimension),
+    }
+}
+
+/// The edges of the source's chunks and of the target's along a dimension, where both are regular along it, and elements have the same index in both
+/// arrays.
+pub(crate) fn regular_edges<G: ChunkGridTraits, H: ChunkGridTraits>(
+    copied: &Move<G, H>,
+    dimension: usize,
+) -> Option<(NonZeroU64, NonZeroU64)>
+    requires region { dimension < length copied.now.region.now.start }
+    requires moved { dimension < length copied.now.moved.now.start }
+    ensures source { IfSome result (λ edges. IsRegularAlong (G.dimensions copied.now.source.now)
+        dimension (non_zero_u64_get edges.0)) }
+    ensures target { IfSome result (λ edges. IsRegularAlong (H.dimensions copied.now.target.now)
+        dimension (non_zero_u64_get edges.1)) }
+    ensures stays { IfSome result (λ _. slice_index_or copied.now.region.now.start dimension 0
+        ≡ slice_index_or copied.now.moved.now.start dimension 0) }
+{
+    if copied.region.start()[dimension] != copied.moved.start()[dimension] {
+        return None;
+    }
+    let edge = copied.source.regular_along(dimension)?;
+    let other = copied.target.regular_along(dimension)?;
+    Some((edge, other))
+}
+
+/// The same, a chunk of the target after another.
+///
+/// # Errors
+/// Out of memory.
+fn sources_one_by_one<G: ChunkGridTraits, H: ChunkGridTraits>(
+    alloc: Global,
+    copied: &Move<G, H>,
+    targets: &ArraySubset,
+    dimension: usize,
+) -> Result<(u64, u64), AllocError>
+    requires taking { AreTaking (G.dimensions copied.now.source.now)
+        (H.dimensions copied.now.target.now) copied.now.region.now copied.now.moved.now
+        targets.now }
+    requires some { ¬ IsEmptyBox targets.now }
+    requires dimension { dimension < length targets.now.shape }
+    ensures sum { IfOk result (λ along. along.0 ≡ sum (slice_index_or (met_in
+        (counters (G.dimensions copied.now.source.now) (H.dimensions copied.now.target.now)
+        copied.now.region.now copied.now.moved.now)
+        targets.now.start targets.now.shape) dimension [])) }
+    ensures most { IfOk result (λ along. along.1 ≡ fold max 0 (slice_index_or (met_in
+        (counters (G.dimensions copied.now.source.now) (H.dimensions copied.now.target.now)
+        copied.now.region.now copied.now.moved.now)
+        targets.now.start targets.now.shape) dimension [])) }
+{
     let mut sum = 0;
     let mut most = 0;
     for steps in 0..targets.shape()[dimension] {
@@ -127,29 +189,41 @@ fn sources_at<G: ChunkGridTraits, H: ChunkGridTraits>(
         copied.now.region.now copied.now.moved.now)
         targets.now.start targets.now.shape) dimension []) steps 0) }
 {
-    let chunk = chunk_along(alloc, targets.start(), dimension, steps)?;
-    let shared = shared_elements(alloc, copied.target, copied.moved, chunk.as_slice())?;
-    let read = shifted_box(alloc, copied.region.start(), &shared.in_subset)?;
-    let cover = expect_answer(copied.source.chunks_in_array_subset(alloc, &read))?;
-    Ok(cover.shape()[dimension])
+    let chunk = targets.start()[dimension] + steps;
+    let range = copied.target.range_along(alloc, dimension, chunk)?;
+    let (start, edge) = expect_found(range)?;
+    // What the chunk takes of the box, as steps behind the box's first element.
+    let at = copied.moved.start()[dimension];
+    let first = start.saturating_sub(at);
+    let end = start.saturating_add(edge).saturating_sub(at);
+    let last = end.min(copied.moved.shape()[dimension]) - 1;
+    let from = copied.region.start()[dimension];
+    let first = home_along(alloc, copied.source, dimension, from + first)?;
+    let last = home_along(alloc, copied.source, dimension, from + last)?;
+    Ok(last - first + 1)
 }
 
-/// The chunk that is so many steps along a dimension behind another.
+/// The chunk that holds an index along a dimension.
 ///
 /// # Errors
 /// Out of memory.
-pub(crate) fn chunk_along(
+fn home_along<G: ChunkGridTraits>(
     alloc: Global,
-    first: &[u64],
+    grid: &G,
     dimension: usize,
-    steps: u64,
-) -> Result<ArrayIndicesTinyVec, AllocError>
-    requires dimension { dimension < length first.now }
-    requires fits { slice_index_or first.now dimension 0 + steps ≤ greatest }
-    ensures { IfOk result (λ chunk. chunk.items
-        ≡ slice_set first.now dimension (slice_index_or first.now dimension 0 + steps)) }
+    index: u64,
+) -> Result<u64, AllocError>
+    ensures { IfOk result (HoldsAlong (G.dimensions grid.now) dimension index) }
 {
-    let mut chunk = ArrayIndicesTinyVec::from_slice(alloc, first)?;
-    chunk.as_mut_slice()[dimension] += steps;
-    Ok(chunk)
+    expect_found(grid.chunk_along(alloc, dimension, index)?)
+}
+
+/// What is found of a number that a chunk has: where there is nothing, it is out of memory.
+///
+/// # Errors
+/// Out of memory.
+pub(crate) fn expect_found<T: Drop>(found: Option<T>) -> Result<T, AllocError>
+    ensures { IfOk result (λ value. found ≡ Some value) }
+{
+    found.ok_or(AllocError)
 }

@@ -6,7 +6,7 @@
 //! between  [2048, 80, 1440]    first stage: 45 lines, each reads 2048 chunks of the source or fewer
 //! target   [8760, 10, 10]      second stage: 10368 lines, each reads 5 chunks of the array between
 //! ```
-ghost use Rattle.std.specs.Prelude.{◌≡◌, ◌≢◌, ◌↔◌, ◌<◌, ℕ, IfErr, IfOk, IfSome, IsTrue, List, length, map, min, option_map, replicate, reverse};
+ghost use Rattle.std.specs.Prelude.{◌≡◌, ◌≢◌, ◌↔◌, ◌⊎◌, ◌<◌, ℕ, IfErr, IfOk, IfSome, IsTrue, List, length, map, min, option_map, replicate, reverse};
 ghost use Rattle.std.specs.Int.NonZero.{non_zero_u64_get};
 ghost use Rattle.std.specs.List.{AllByRecursion};
 ghost use Rattle.zarrs_chunk_axes.specs.EqualEdges.{AreEqualEdges};
@@ -18,11 +18,12 @@ ghost use Rattle.zarrs_chunks.specs.seen.Grids.{regular_of};
 ghost use Rattle.zarrs_chunk_plan.specs.Counts.{product};
 ghost use Rattle.zarrs_chunk_parts.specs.Plan.{Meets};
 ghost use Rattle.zarrs_chunk_plan.specs.Rechunking.{array_box};
-ghost use Rattle.zarrs_chunk_plan.specs.Stages.{FindsShape, HasFewChunks, HoldAtMost, IsLargest, IsBoundFault, IsStagesFault, shapes_tried};
+ghost use Rattle.zarrs_chunk_plan.specs.Stages.{FindsShape, HasManyChunks, HoldAtMost, IsLargest, IsBoundFault, IsStagesFault, shapes_tried};
 ghost use Rattle.zarrs_chunk_plan.specs.seen.Ends.{AreEnds};
 ghost use Rattle.zarrs_chunk_plan.specs.seen.Stages.{AreRead, AreRows, edge_of, numbers_of, rows_of};
 
 use crate::boxes_from_zero::{all_chunks, whole_array};
+use crate::few::are_few;
 use crate::fewest::{Edge, fewest};
 use crate::largest::largest_chunk;
 use crate::rechunking::chunks_of_array;
@@ -41,10 +42,11 @@ const MOST_SHAPES: u64 = 1 << 20;
 /// array; where it has none, each has one. A worker that makes a chunk of the target, and reads the chunks of the source one after another, holds no
 /// more then ([`each_line_holds_at_most`](crate::laws::each_line_holds_at_most)).
 ///
-/// It takes the time of a look-up for each chunk along each dimension by itself.
+/// It takes the time of a look-up for each chunk along each dimension by itself that isn't regular.
 ///
 /// # Errors
-/// The grids are of arrays of different shapes; in one of them more than 2^24 chunks along some dimension hold elements; or out of memory.
+/// The grids are of arrays of different shapes; in one of them chunks are too many to go through, which they are only where more than 2^20 hold elements
+/// along all dimensions together; or out of memory.
 pub fn hold_at_most<G: ChunkGridTraits, H: ChunkGridTraits>(
     alloc: Global,
     source: &G,
@@ -56,8 +58,6 @@ pub fn hold_at_most<G: ChunkGridTraits, H: ChunkGridTraits>(
         × (IsTrue fits ↔ HoldAtMost most largest other)) }
     ensures one_array { IfOk result (λ _. array_sizes (G.dimensions source.now)
         ≡ array_sizes (H.dimensions target.now)) }
-    ensures few_of_source { IfOk result (λ _. HasFewChunks (G.dimensions source.now)) }
-    ensures few_of_target { IfOk result (λ _. HasFewChunks (H.dimensions target.now)) }
     ensures refused { IfErr result (OrMemory (IsBoundFault (G.dimensions source.now)
         (H.dimensions target.now))) }
     ensures shapes_first { array_sizes (G.dimensions source.now)
@@ -91,8 +91,8 @@ fn are_at_most(shape: &[u64], other: &[u64], most: u64) -> bool
 ///
 /// `None` where none fits.
 ///
-/// It takes the time of a look-up for each chunk along each dimension by itself, of the source, the target and each array that has an edge that is
-/// tried; and that of some multiplications for each shape.
+/// Along each dimension by itself it takes the time of a look-up for each chunk of the source, of the target and of each array that has an edge that is
+/// tried. A dimension that is regular in both grids takes only a few. Each shape takes some multiplications.
 ///
 /// # Errors
 /// As of [`hold_at_most`], the first that applies; then, there are more than 2^20 shapes to try; or out of memory.
@@ -109,14 +109,15 @@ pub fn shape_between<G: ChunkGridTraits, H: ChunkGridTraits>(
         ≡ array_sizes (H.dimensions target.now)) }
     ensures long { IfOk result (λ found. IfSome found (λ shape. length shape.items
         ≡ length (G.dimensions source.now))) }
-    ensures few_of_source { IfOk result (λ _. HasFewChunks (G.dimensions source.now)) }
-    ensures few_of_target { IfOk result (λ _. HasFewChunks (H.dimensions target.now)) }
     ensures refused { IfErr result (OrMemory (IsStagesFault (G.dimensions source.now)
         (H.dimensions target.now))) }
     ensures shapes_first { array_sizes (G.dimensions source.now)
         ≢ array_sizes (H.dimensions target.now) → HasMemory result }
 {
     let (largest, other) = largest_of_both(alloc, source, target)?;
+    if !are_few_between(alloc, source, target)? {
+        return Err(Refusal::Refused(StagesError::ManyChunks));
+    }
     let tried = all_tried(alloc, source.array_shape(), &largest, &other)?;
     if shapes_of(&tried) > MOST_SHAPES {
         return Err(Refusal::Refused(StagesError::ManyShapes));
@@ -127,6 +128,29 @@ pub fn shape_between<G: ChunkGridTraits, H: ChunkGridTraits>(
         Some(chosen) => Ok(Some(reversed(chosen.edges))),
         None => Ok(None),
     }
+}
+
+/// Whether the chunks of the target that hold elements are few enough to go through, where elements come from the source.
+///
+/// # Errors
+/// Out of memory.
+fn are_few_between<G: ChunkGridTraits, H: ChunkGridTraits>(
+    alloc: Global,
+    source: &G,
+    target: &H,
+) -> Result<bool, AllocError>
+    ensures { IfOk result (λ few. HasManyChunks (H.dimensions target.now) ⊎ IsTrue few) }
+{
+    let array = whole_array(alloc, target)?;
+    let chunks = chunks_of_array(alloc, target, &array)?;
+    chunks.is_a_box();
+    let copied = Move {
+        source,
+        target,
+        region: &array,
+        moved: &array,
+    };
+    Ok(are_few(&copied, &chunks))
 }
 
 /// The numbers in the opposite order.
@@ -161,8 +185,6 @@ fn largest_of_both<G: ChunkGridTraits, H: ChunkGridTraits>(
     ensures other { IfOk result (λ both. IsLargest (H.dimensions target.now) both.1.items) }
     ensures one_array { IfOk result (λ _. array_sizes (G.dimensions source.now)
         ≡ array_sizes (H.dimensions target.now)) }
-    ensures few_of_source { IfOk result (λ _. HasFewChunks (G.dimensions source.now)) }
-    ensures few_of_target { IfOk result (λ _. HasFewChunks (H.dimensions target.now)) }
     ensures refused { IfErr result (OrMemory (IsBoundFault (G.dimensions source.now)
         (H.dimensions target.now))) }
     ensures shapes_first { array_sizes (G.dimensions source.now)

@@ -8,7 +8,7 @@ pub enum StagesError {
     #[error("the source and the target have different array shapes")]
     ArrayShapes,
     /// Too many chunks of the source or of the target hold elements, to go through them.
-    #[error("the source or the target has more than 16777216 chunks along a dimension, too many to go through")]
+    #[error("the source or the target has more than 1048576 chunks along its dimensions, too many to go through")]
     ManyChunks,
     /// There are too many chunk shapes to try.
     #[error("there are more than 1048576 chunk shapes to try for the array between")]

@@ -3,9 +3,19 @@ use crate::rows::{append_part, check_text, row, some_of};
 use std::alloc::Global;
 use std::process::Abort;
 use std::test::Fail;
+use zarrs_chunk_keys::DefaultChunkKeyEncoding;
 use zarrs_chunk_plan::{
-    SomeChunks, SomeCopies, all_chunks, some_chunks, some_copies, some_copies_of_region,
+    ChunkCopies, Copies, SomeChunks, all_chunks, copies, copies_of_region, some_chunks,
 };
+use zarrs_chunks::RegularChunkGrid;
+
+type Walk<'a> = Copies<
+    'a,
+    RegularChunkGrid,
+    DefaultChunkKeyEncoding,
+    RegularChunkGrid,
+    DefaultChunkKeyEncoding,
+>;
 
 /// How many chunks there are in all, and then each of these chunks.
 fn line_of_chunks(alloc: Global, some: &SomeChunks) -> Result<String, Fail> {
@@ -27,14 +37,19 @@ fn chunks_are_asked_for_by_their_number(rt: HostRuntime) -> Result<(), Fail> {
     Ok(())
 }
 
-/// How many groups there are in all; then each of these groups, which is the target's part, and behind it the source's parts.
-fn lines_of(alloc: Global, some: &SomeCopies) -> Result<String, Fail> {
-    let mut lines = format!(in alloc; "{}\n", some.in_all)?;
-    for (to, from) in &some.groups {
+/// How many groups a walk has in all; then at most so many of them, from one on: the target's part, and behind it the source's parts.
+fn lines_of(alloc: Global, mut walk: Walk<'_>, first: u64, most: usize) -> Result<String, Fail> {
+    let mut lines = format!(in alloc; "{:?}\n", walk.in_all())?;
+    walk.skip_to(first)?;
+    for _ in 0..most {
+        let Some(group) = walk.next() else {
+            return Ok(lines);
+        };
+        let ChunkCopies { to, from } = group?;
         lines.push_str("to ")?;
-        append_part(alloc, &mut lines, to)?;
+        append_part(alloc, &mut lines, &to)?;
         for part in from {
-            append_part(alloc, &mut lines, part)?;
+            append_part(alloc, &mut lines, &part?)?;
         }
     }
     Ok(lines)
@@ -44,13 +59,10 @@ fn lines_of(alloc: Global, some: &SomeCopies) -> Result<String, Fail> {
 fn copied(alloc: Global, first: u64, most: usize) -> Result<String, Fail> {
     let (source, target) = (row(alloc, 7, 4)?, row(alloc, 7, 3)?);
     let all = all_chunks(alloc, &target.grid)?;
-    lines_of(
-        alloc,
-        &some_copies(alloc, &source, &target, &all, first, most)?,
-    )
+    lines_of(alloc, copies(alloc, &source, &target, &all)?, first, most)
 }
 
-const COPIES: &str = "3
+const COPIES: &str = "Some(3)
 to c/0/0/0/0/0 [0, 0, 0, 0, 0] [0, 0, 0, 0, 0] [1, 1, 1, 1, 3]
 c/0/0/0/0/0 [0, 0, 0, 0, 0] [0, 0, 0, 0, 0] [1, 1, 1, 1, 3]
 to c/0/0/0/0/1 [0, 0, 0, 0, 0] [0, 0, 0, 0, 3] [1, 1, 1, 1, 3]
@@ -60,7 +72,7 @@ to c/0/0/0/0/2 [0, 0, 0, 0, 0] [0, 0, 0, 0, 6] [1, 1, 1, 1, 1]
 c/0/0/0/0/1 [0, 0, 0, 0, 2] [0, 0, 0, 0, 0] [1, 1, 1, 1, 1]
 ";
 
-const COPIES_INTO_THE_SECOND: &str = "3
+const COPIES_INTO_THE_SECOND: &str = "Some(3)
 to c/0/0/0/0/1 [0, 0, 0, 0, 0] [0, 0, 0, 0, 3] [1, 1, 1, 1, 3]
 c/0/0/0/0/0 [0, 0, 0, 0, 3] [0, 0, 0, 0, 0] [1, 1, 1, 1, 1]
 c/0/0/0/0/1 [0, 0, 0, 0, 0] [0, 0, 0, 0, 1] [1, 1, 1, 1, 2]
@@ -72,7 +84,7 @@ fn a_group_is_asked_for_by_its_number(rt: HostRuntime) -> Result<(), Fail> {
     for (first, most, expected) in [
         (0, 9, COPIES),
         (1, 1, COPIES_INTO_THE_SECOND),
-        (3, 9, "3\n"),
+        (3, 9, "Some(3)\n"),
     ] {
         check_text(&rt, copied(rt.alloc(), first, most)?.as_str(), expected);
     }
@@ -83,11 +95,11 @@ fn a_group_is_asked_for_by_its_number(rt: HostRuntime) -> Result<(), Fail> {
 fn shifted(alloc: Global, count: u64, first: u64, most: usize) -> Result<String, Fail> {
     let (source, target) = (row(alloc, 7, 3)?, row(alloc, 12, 5)?);
     let (region, at) = (some_of(alloc, 1, count)?, [0, 0, 0, 0, 4]);
-    let some = some_copies_of_region(alloc, &source, &target, &region, &at, first, most)?;
-    lines_of(alloc, &some)
+    let walk = copies_of_region(alloc, &source, &target, &region, &at)?;
+    lines_of(alloc, walk, first, most)
 }
 
-const SHIFTED: &str = "2
+const SHIFTED: &str = "Some(2)
 to c/0/0/0/0/0 [0, 0, 0, 0, 4] [0, 0, 0, 0, 0] [1, 1, 1, 1, 1]
 c/0/0/0/0/0 [0, 0, 0, 0, 1] [0, 0, 0, 0, 0] [1, 1, 1, 1, 1]
 to c/0/0/0/0/1 [0, 0, 0, 0, 0] [0, 0, 0, 0, 1] [1, 1, 1, 1, 5]
@@ -96,7 +108,7 @@ c/0/0/0/0/1 [0, 0, 0, 0, 0] [0, 0, 0, 0, 1] [1, 1, 1, 1, 3]
 c/0/0/0/0/2 [0, 0, 0, 0, 0] [0, 0, 0, 0, 4] [1, 1, 1, 1, 1]
 ";
 
-const SHIFTED_TO_THE_SECOND: &str = "2
+const SHIFTED_TO_THE_SECOND: &str = "Some(2)
 to c/0/0/0/0/1 [0, 0, 0, 0, 0] [0, 0, 0, 0, 1] [1, 1, 1, 1, 5]
 c/0/0/0/0/0 [0, 0, 0, 0, 2] [0, 0, 0, 0, 0] [1, 1, 1, 1, 1]
 c/0/0/0/0/1 [0, 0, 0, 0, 0] [0, 0, 0, 0, 1] [1, 1, 1, 1, 3]
@@ -109,9 +121,9 @@ fn a_group_of_a_region_is_asked_for_by_its_number(rt: HostRuntime) -> Result<(),
     for (count, first, most, expected) in [
         (6, 0, 9, SHIFTED),
         (6, 1, 1, SHIFTED_TO_THE_SECOND),
-        (6, 2, 1, "2\n"),
-        (6, u64::MAX, 1, "2\n"),
-        (0, 0, 9, "0\n"),
+        (6, 2, 1, "Some(2)\n"),
+        (6, u64::MAX, 1, "Some(2)\n"),
+        (0, 0, 9, "Some(0)\n"),
     ] {
         check_text(
             &rt,

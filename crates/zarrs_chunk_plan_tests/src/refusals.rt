@@ -5,7 +5,7 @@ use std::process::Abort;
 use std::test::Fail;
 use zarrs_chunk_base::{ArraySubset, IncompatibleDimensionalityError, Refusal};
 use zarrs_chunk_plan::{
-    CopiesError, StagesError, changes, copies, counts_of_rechunking, hold_at_most, some_copies,
+    CopiesError, StagesError, changes, copies, counts_of_rechunking, hold_at_most,
 };
 use zarrs_chunks::RegularChunkGrid;
 
@@ -52,8 +52,6 @@ fn check_refused(
     let alloc = rt.alloc();
     let none = ArraySubset::new_empty(alloc, 2)?;
     let told = why(alloc, copies(alloc, source, target, &none))?;
-    check_text(rt, told.as_str(), expected);
-    let told = why(alloc, some_copies(alloc, source, target, &none, 0, 1))?;
     check_text(rt, told.as_str(), expected);
     let told = why(alloc, counts_of_rechunking(alloc, source, target, &none))?;
     check_text(rt, told.as_str(), expected);

@@ -1,4 +1,4 @@
-//! The factors of counts, the chunks that a rechunking writes, and the shapes of largest chunks.
+//! The factors of counts, the box of an array, and the shapes of largest chunks.
 use crate::rows::{Stored, check_text, edges_of, row, some_of};
 use std::alloc::Global;
 use std::num::NonZeroU64;
@@ -6,8 +6,7 @@ use std::process::Abort;
 use std::test::Fail;
 use zarrs_chunk_base::{ArraySubset, ChunkEdgeLengths, RunLengthElement};
 use zarrs_chunk_plan::{
-    Counts, all_chunks, counts_of_read, counts_of_rechunking, largest_chunk, targets_of,
-    whole_array,
+    Counts, all_chunks, counts_of_read, counts_of_rechunking, largest_chunk, whole_array,
 };
 use zarrs_chunks::{
     ChunkGridTraits, RectilinearChunkGrid, RegularBoundedChunkGrid, RegularChunkGrid,
@@ -54,24 +53,15 @@ fn counts_have_a_factor_for_each_dimension(rt: HostRuntime) -> Result<(), Fail> 
     Ok(())
 }
 
-/// Of the chunks of a target those from the second one on that are written.
-fn written(alloc: Global, source: &Stored, target: &Stored) -> Result<ArraySubset, Fail> {
-    Ok(targets_of(alloc, &source.grid, &target.grid, &some_of(alloc, 1, 9)?)?)
-}
-
 /// The start and the shape of a box.
 fn text_of_box(alloc: Global, found: &ArraySubset) -> Result<String, Fail> {
     Ok(format!(in alloc; "{:?} {:?}", found.start(), found.shape())?)
 }
 
-/// Of chunk numbers from 1 on the two that hold some of the row; and the box of the whole row.
 #[test]
-fn the_chunks_that_are_written_are_a_box(rt: HostRuntime) -> Result<(), Fail> {
+fn the_box_of_the_whole_row(rt: HostRuntime) -> Result<(), Fail> {
     let alloc = rt.alloc();
-    let (source, target) = (row(alloc, 7, 4)?, row(alloc, 7, 3)?);
-    let text = text_of_box(alloc, &written(alloc, &source, &target)?)?;
-    check_text(&rt, text.as_str(), "[0, 0, 0, 0, 1] [1, 1, 1, 1, 2]");
-    let text = text_of_box(alloc, &whole_array(alloc, &target.grid)?)?;
+    let text = text_of_box(alloc, &whole_array(alloc, &row(alloc, 7, 3)?.grid)?)?;
     check_text(&rt, text.as_str(), "[0, 0, 0, 0, 0] [1, 1, 1, 1, 7]");
     Ok(())
 }

@@ -13,14 +13,11 @@ use Rattle.zarrs_chunk_base.specs.ArraySubset.{Box, IsBox, IsEmptyBox}
 use Rattle.zarrs_chunk_base.specs.Dimension.{Dimension, array_sizes}
 use Rattle.zarrs_chunks.specs.Subsets.{IsCover}
 use Rattle.zarrs_chunks.specs.Walks.{chunks_in}
-use Rattle.zarrs_chunks.proofs.ChunksInBoxes.{are_those_inside}
 use Rattle.zarrs_chunk_parts.specs.Plan.{Meets}
 use Rattle.zarrs_chunk_plan.specs.Rechunking.{AreTargets, Group, array_box}
 use Rattle.zarrs_chunk_plan.specs.Region.{AreMovedInto, CanBeMoved, moved}
 use Rattle.zarrs_chunk_plan.specs.declared.chunk_copies.Copies.{Copies}
 use Rattle.zarrs_chunk_plan.specs.seen.Copies.{CanMove, IsAboutCopies, first_of, target_of, targets_to_come}
-use Rattle.zarrs_chunk_plan.proofs.Plans.{all_of_each}
-use Rattle.zarrs_chunk_plan.proofs.SomeRegions.{some_copied}
 use Rattle.zarrs_chunk_questions.specs.Pages.{IsCopiesAnswer, chunks_from, count_of, is_more, page_tree}
 use Rattle.zarrs_chunk_questions.specs.Regions.{IsRegionCopiesAnswer}
 use Rattle.zarrs_chunk_questions.specs.declared.plan_trees.PlanOf.{PlanOf}
@@ -115,19 +112,16 @@ module _ (source : List Dimension) (IsSourceKey : List ℕ → List ℕ → Type
       → IfSome page (λ t. IsCopiesAnswer source IsSourceKey target IsTargetKey chunks first most (view t))
   copies_page chunks targets None long is_box are page = tt
   copies_page chunks targets (Some t) long is_box are (groups, zipped, is) =
-      let in_all = count_of (chunks_in targets) in
-      let meet = all_of_each (Meets target (array_box target)) (chunks_in targets)
-      (λ chunk has. ((are chunk).0 ((are_those_inside targets is_box chunk).0 has)).1)
-      in (
+      (
         long,
-        in_all,
+        count_of (chunks_in targets),
         groups,
         record {
           targets = targets;
           is_box = is_box;
           are_targets = are;
           in_all = refl;
-          are_groups = some_copied source IsSourceKey target IsTargetKey (chunks_in targets) meet (min (in_all - first) most) first groups zipped;
+          are_groups = zipped;
         },
         is,
       )

@@ -41,15 +41,6 @@ module _ {C : Type 0} (numbers_of : C → List ℕ) where
   numbers_are [] (_ ∷ _) are = absurd are
   numbers_are (_ ∷ _) [] are = absurd are
 
-  -- what was made of each chunk was made of its numbers
-  pub made_of : {Y : Type 0} (R : List ℕ → Y → Type 0) (lists : List (List ℕ)) (chunks : List C) (ys : List Y)
-      → AllZip HasNumbers lists chunks → AllZip (λ chunk y. R (numbers_of chunk) y) chunks ys → AllZip R lists ys
-  made_of R [] [] ys are made = made
-  made_of R (numbers ∷ lists) (chunk ∷ chunks) (y ∷ ys) are made = (subst (λ n. R n y) are.0 made.0, made_of R lists chunks ys are.1 made.1)
-  made_of R (_ ∷ _) (_ ∷ _) [] are made = absurd made
-  made_of R [] (_ ∷ _) ys are made = absurd are
-  made_of R (_ ∷ _) [] ys are made = absurd are
-
 module _ (box : Box) (first : ℕ) (some : SomeChunks) where
   -- what holds of all chunks holds of some
   pub each_of_some : (P : List ℕ → Type 0) (most : ℕ) → AreSomeChunks box first most some → AllByRecursion P (chunks_in box)

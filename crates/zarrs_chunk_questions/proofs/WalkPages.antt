@@ -1,10 +1,9 @@
 -- The items of a walk over the chunks of a grid: the first ones, and those of chunks from one of them on.
-use Rattle.std.proofs.Common.{◌≡◌, ◌≢◌, ◌∙◌, ℕ, suc, ◌+◌, ◌-◌, ◌<◌, ◌≤◌, Bool, true, false, IfSome, List, [], ◌∷◌, ◌++◌, Option, Some, None, Result}
-use Rattle.std.proofs.Common.{Ok, IfOk, ap, ap₂, append-nil, cond}
-use Rattle.std.proofs.Common.{drop, length, map, min, refl, replicate, subst, sym, take, arith}
-use Rattle.std.proofs.lemmas.Bool.{le-ltb, lt-ltb}
-use Rattle.std.proofs.lemmas.List.{length-append, length-map, map-append, take-append-le, take_all}
-use Rattle.std.specs.List.{AllByRecursion, filter}
+use Rattle.std.proofs.Common.{◌≡◌, ◌≢◌, ◌∙◌, ℕ, ◌-◌, IfSome, List, [], ◌∷◌, Option, Some, None, Result}
+use Rattle.std.proofs.Common.{Ok, IfOk, ap, ap₂, cond}
+use Rattle.std.proofs.Common.{drop, length, map, min, refl, replicate, subst, sym, take}
+use Rattle.std.proofs.lemmas.List.{length-map}
+use Rattle.std.specs.List.{AllByRecursion}
 use Rattle.std.specs.declared.alloc.AllocError.{AllocError}
 use Rattle.serde_json.specs.Data.{Data}
 use Rattle.serde_json.specs.View.{view}
@@ -14,7 +13,7 @@ use Rattle.zarrs_chunk_axes.specs.InBounds.{AreBelow}
 use Rattle.zarrs_chunk_axes.specs.RowMajor.{row_major}
 use Rattle.zarrs_chunk_axes.proofs.RowMajor.{all_below, all_follow}
 use Rattle.zarrs_chunks.specs.Subsets.{AnswersSubset, LookedBox}
-use Rattle.zarrs_chunks.specs.Walks.{box_at, boxed, chunks_in, chunks_of, counted_from, ends_within}
+use Rattle.zarrs_chunks.specs.Walks.{box_at, boxed, chunks_in, chunks_of, counted_from}
 use Rattle.zarrs_chunks.proofs.ChunksInBoxes.{length_below}
 use Rattle.zarrs_chunks.proofs.FittingChunks.{box_fits, box_is, found_box, found_none, no_box}
 use Rattle.zarrs_chunk_base.specs.ArraySubset.{Box}
@@ -22,30 +21,11 @@ use Rattle.zarrs_chunk_plan.specs.Rechunking.{all_chunks_box}
 use Rattle.zarrs_chunk_plan.specs.SomeChunks.{AreSomeChunks}
 use Rattle.zarrs_chunk_plan.specs.declared.numbered_chunks.SomeChunks.{SomeChunks}
 use Rattle.zarrs_chunk_plan.proofs.Rechunkings.{counted_from_zeros}
-use Rattle.zarrs_chunk_questions.specs.Pages.{chunks_from, first_page, is_more, item_tree, item_trees, count_of, page_from, page_tree}
+use Rattle.zarrs_chunk_questions.specs.Pages.{chunks_from, first_page, is_more, item_trees, count_of, page_from, page_tree}
 use Rattle.zarrs_chunk_questions.specs.declared.call.WalkOf.{WalkOf}
-use Rattle.zarrs_chunk_questions.specs.declared.call.WalkOf.TheVariants.{Boxes, Chunks, ChunksAndBoxes}
 use Rattle.zarrs_chunk_questions.proofs.Listed.{numbers_are, wanted_chunks}
 
 -- ---- from the beginning
-
--- where no more follow
-pub last_page : (most : ℕ) (all items left : List Data) → all ≡ items ++ left → left ≡ [] → length items ≤ most
-    → page_tree items false ≡ first_page most all
-last_page most all items left is none few =
-    let same : all ≡ items = is ∙ ap (λ rest. items ++ rest) none ∙ append-nil items in
-    rw (same, take_all most items few, le-ltb most (length items) few) refl
-
--- where some follow
-pub page_before : (most : ℕ) (all items left after : List Data) (next : Data) → all ≡ items ++ left → left ≡ next ∷ after → length items ≡ most
-    → page_tree items true ≡ first_page most all
-page_before most all items left after next is more full =
-    let same : all ≡ items ++ next ∷ after = is ∙ ap (λ rest. items ++ rest) more in
-    let long : length all ≡ length items + suc (length after) = ap length same ∙ length-append items (next ∷ after) in
-    let below : most < length all = omega arith in
-    let taken : take most all ≡ items =
-    ap₂ take (sym full) same ∙ take-append-le (length items) items (next ∷ after) (omega arith) ∙ take_all (length items) items (omega arith) in
-    rw (taken, lt-ltb most (length all) below) refl
 
 -- of all that a walk has left
 pub first_of_all : (most : ℕ) (left items : List Data) → left ≡ items → (result : Result (Option Value) AllocError)
@@ -73,23 +53,6 @@ module _ (ds : List Dimension) (chunk : List ℕ) (answer : LookedBox) (answers 
       ap (λ fits. cond fits (chunk ∷ []) []) (no_box ds chunk chains below (found_none ds chunk answer answers none))
 
 -- ---- of one chunk more
-
-filter-append : {X : Type 0} (test : X → Bool) (xs ys : List X) → filter test (xs ++ ys) ≡ filter test xs ++ filter test ys
-filter-append test [] ys = refl
-filter-append test (x ∷ xs) ys = rw (filter-append test xs ys) (kept (test x)) where
-  kept : (b : Bool) → cond b (x ∷ (filter test xs ++ filter test ys)) (filter test xs ++ filter test ys)
-      ≡ cond b (x ∷ filter test xs) (filter test xs) ++ filter test ys
-  kept true = refl
-  kept false = refl
-
-pub items_and : (walk : WalkOf) (ds : List Dimension) (xs ys : List (List ℕ))
-    → item_trees walk ds (xs ++ ys) ≡ item_trees walk ds xs ++ item_trees walk ds ys
-items_and Chunks ds xs ys = map-append (item_tree Chunks ds) xs ys
-items_and Boxes ds xs ys =
-    ap (map (item_tree Boxes ds)) (filter-append (ends_within ds) xs ys) ∙ map-append (item_tree Boxes ds) (boxed ds xs) (boxed ds ys)
-items_and ChunksAndBoxes ds xs ys =
-    ap (map (item_tree ChunksAndBoxes ds)) (filter-append (ends_within ds) xs ys)
-    ∙ map-append (item_tree ChunksAndBoxes ds) (boxed ds xs) (boxed ds ys)
 
 -- ---- of the chunks that a grid counts
 

@@ -1,13 +1,8 @@
 -- What holds of each element of a list, and lists of one length, of which there are enough.
-use Rattle.std.proofs.Common.{ℕ, zero, suc, ◌+◌, ◌*◌, ◌<◌, ◌≤◌, List, [], ◌∷◌, length, get_or, arith, add-mul, mul-le-mul_right}
+use Rattle.std.proofs.Common.{ℕ, suc, ◌+◌, ◌*◌, ◌<◌, ◌≤◌, List, [], ◌∷◌, length, get_or, arith, add-mul, mul-le-mul_right}
 use Rattle.std.specs.List.{AllByRecursion}
 
 module _ {X : Type 0} (P : X → Type 0) where
-  pub all_at : (xs : List X) (k : ℕ) (d : X) → AllByRecursion P xs → k < length xs → P (get_or xs k d)
-  all_at [] k d all less = absurd (omega arith)
-  all_at (x ∷ xs) zero d all less = all.0
-  all_at (x ∷ xs) (suc k) d all less = all_at xs k d all.1 (omega arith)
-
   pub all_from : (xs : List X) (d : X) → ((k : ℕ) → k < length xs → P (get_or xs k d)) → AllByRecursion P xs
   all_from [] d each = tt
   all_from (x ∷ xs) d each = (each 0 (omega arith), all_from xs d (λ k less. each (suc k) (omega arith)))

@@ -70,9 +70,13 @@ mod tests {
         let line = r#"{"after":[4,2],"before":[3,3],"kept":[2,1]}"#;
         let found = read(line).unwrap();
         assert_eq!((found.before, found.after, found.kept), (vec![3, 3], vec![4, 2], vec![2, 1]));
-        for (from, to) in
-            [("[4,2]", "[4]"), ("[3,3]", "null"), ("kept", "keep"), (",\"kept\":[2,1]", ""), ("}", "")]
-        {
+        for (from, to) in [
+            ("[4,2]", "[4]"),
+            ("[3,3]", "null"),
+            ("kept", "keep"),
+            (",\"kept\":[2,1]", ""),
+            ("}", ""),
+        ] {
             assert!(read(&line.replacen(from, to, 1)).is_err(), "{from} {to}");
         }
     }

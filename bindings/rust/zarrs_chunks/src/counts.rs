@@ -32,8 +32,9 @@ use crate::subset::ArraySubset;
 #[derive(Debug, Clone, PartialEq, Eq, Hash)]
 #[non_exhaustive]
 pub struct Counts {
-    /// How many sources all chunks of the target have together. `None` where some chunks are
-    /// written, and along some dimension more than 16777216 of them.
+    /// How many sources all chunks of the target have together. `None` where more than
+    /// 1048576 chunks would be gone through, along all dimensions together; chunks that have one
+    /// edge in both arrays aren't.
     pub copies: Option<Vec<u64>>,
     /// How many elements are copied.
     pub elements: Vec<u64>,
@@ -111,7 +112,7 @@ impl Counts {
     /// let shape = [1_000_000_000, 4];
     /// let (grid, target) = (Grid::new(&shape, by_threes)?, Grid::new(&shape, by_twos)?);
     /// let counts = grid.counts(&target, None, (0, 1))?;
-    /// assert_eq!((counts.copies(), counts.lines()), (None, Some(1_000_000_000)));
+    /// assert_eq!((counts.copies(), counts.lines()), (Some(2_000_000_001), Some(1_000_000_000)));
     /// let chunks = ArraySubset::new_with_ranges(&[0..3000, 0..2])?;
     /// let counts = grid.counts(&target, Some(&chunks), (0, 1))?;
     /// assert_eq!((counts.copies(), counts.lines()), (Some(4000 * 3), Some(6000)));

@@ -1,7 +1,6 @@
 -- What is left of a walk over what a rechunking copies, or over what is copied of a region.
-use Rattle.std.specs.Prelude.{◌≡◌, ◌≢◌, ℕ, List, [], Option, Some, None, Result, Ok, Err, Vec, length, map, replicate}
+use Rattle.std.specs.Prelude.{◌≡◌, ◌≢◌, ℕ, List, [], Option, Some, None, Result, Ok, Err}
 use Rattle.std.specs.List.{AllZip}
-use Rattle.std.specs.declared.alloc.Global.{Global}
 use Rattle.std.specs.declared.alloc.AllocError.{AllocError}
 use Rattle.zarrs_chunk_base.specs.ArraySubset.{Box}
 use Rattle.zarrs_chunk_base.specs.Dimension.{Dimension, array_sizes}
@@ -9,13 +8,11 @@ use Rattle.zarrs_chunk_base.specs.Refusal.{TellsLengths}
 use Rattle.zarrs_chunks.specs.Subsets.{IsCover}
 use Rattle.zarrs_chunks.specs.Walks.{Gives, chunks_in}
 use Rattle.zarrs_chunk_parts.specs.Plan.{IsPart}
-use Rattle.zarrs_chunk_plan.specs.Rechunking.{AreCopiesInto, Group, array_box}
-use Rattle.zarrs_chunk_plan.specs.Region.{AreMovedInto, LiesIn, shifted}
+use Rattle.zarrs_chunk_plan.specs.Region.{AreMovedInto, Group, LiesIn, shifted}
 use Rattle.zarrs_chunk_plan.specs.declared.chunk_copies.ChunkCopies.{ChunkCopies}
 use Rattle.zarrs_chunk_plan.specs.declared.chunk_copies.Copies.{Copies}
 use Rattle.zarrs_chunk_plan.specs.declared.copies_error.CopiesError.{CopiesError}
 use Rattle.zarrs_chunk_plan.specs.declared.copies_error.CopiesError.TheVariants.{ArrayShapes, Chunks}
-use Rattle.zarrs_chunk_parts.specs.declared.part.Part.{Part}
 use Rattle.zarrs_chunk_plan.specs.declared.stored_array.StoredArray.{StoredArray}
 use Rattle.zarrs_chunk_plan.specs.declared.walk.Parts.{Parts}
 use Rattle.zarrs_chunk_plan.specs.seen.Parts.{ArePartsToCome, IsAbout, MeetSubset, all_chunks, chunks_to_come, offsets_to_come}
@@ -49,13 +46,6 @@ module _ {G E H F : Type 0} where
     pub same_source : walk.source.now ≡ source
     pub targets : IsAbout target.grid target.encoding array walk.targets
 
-  -- both grids are of one array, all of it is copied, from where it begins, and each chunk to come holds some of its elements
-  pub record CanCopy (source_dimensions : G → List Dimension) (target_dimensions : H → List Dimension) (walk : Copies G E H F) : Type 0 where
-    pub one_array : array_sizes (source_dimensions walk.source.now.grid) ≡ array_sizes (target_dimensions walk.targets.grid.now)
-    pub whole_array : walk.targets.array_subset ≡ array_box (target_dimensions walk.targets.grid.now)
-    pub from_zero : first_of walk ≡ replicate (length (target_dimensions walk.targets.grid.now)) 0
-    pub meet : MeetSubset target_dimensions walk.targets
-
   -- the elements that are copied lie in the source's array, and each chunk to come takes some of them
   pub record CanMove (source_dimensions : G → List Dimension) (target_dimensions : H → List Dimension) (walk : Copies G E H F) : Type 0 where
     pub in_source : LiesIn (region_of walk) (array_sizes (source_dimensions walk.source.now.grid))
@@ -78,46 +68,27 @@ IfGroup P (Some (Err _)) = Unit {0}
 IfGroup P None = Unit {0}
 
 -- `next` gives the group of the first chunk to come, and the others are to come then; nothing, at the end; or out of memory. The walk is
--- over the same as before. Of a walk as `copies` makes one, it is what is copied into the chunk; and so it is of one as `copies_of_region` does,
--- where the elements are read as far behind the first that is copied as they lie behind the first of the box.
+-- over the same as before. The elements that the chunk takes are read as far behind the first that is copied as they lie behind the first of the box.
 pub record GivesCopies {G E H F : Type 0} (source_dimensions : G → List Dimension) (target_dimensions : H → List Dimension)
     (target_key : F → List ℕ → List ℕ → Type 0)
     (before : Copies G E H F) (given : Option (Result (ChunkCopies G E) AllocError)) (after : Copies G E H F) : Type 0 where
   pub gives : Gives target_offsets targets_to_come (λ group. group.to.chunk.items) (λ offsets. offsets ≢ []) before given after
-  pub to : CanCopy source_dimensions target_dimensions before
-      → IfGroup (λ group. IsPart (target_dimensions before.targets.grid.now) (target_key before.targets.encoding.now) before.targets.array_subset
-      group.to.chunk.items group.to) given
-  pub from : CanCopy source_dimensions target_dimensions before
-      → IfGroup (λ group. IsPlanned source_dimensions before.source.now.grid before.source.now.encoding group.to.in_subset group.from) given
   pub about : IsAboutCopies before.source.now (target_of before) before.targets.array_subset after
-  pub can : CanCopy source_dimensions target_dimensions before → CanCopy source_dimensions target_dimensions after
   pub all : all_targets after ≡ all_targets before
   pub first : first_of after ≡ first_of before
-  pub moved_to : CanMove source_dimensions target_dimensions before
+  pub to : CanMove source_dimensions target_dimensions before
       → IfGroup (λ group. IsPart (target_dimensions before.targets.grid.now) (target_key before.targets.encoding.now) before.targets.array_subset
       group.to.chunk.items group.to) given
-  pub moved_from : CanMove source_dimensions target_dimensions before
+  pub from : CanMove source_dimensions target_dimensions before
       → IfGroup (λ group. IsPlanned source_dimensions before.source.now.grid before.source.now.encoding
       (shifted (first_of before) group.to.in_subset) group.from) given
-  pub can_move : CanMove source_dimensions target_dimensions before → CanMove source_dimensions target_dimensions after
+  pub can : CanMove source_dimensions target_dimensions before → CanMove source_dimensions target_dimensions after
 
 -- a group that `next` gave, with all parts that its own walk has to give
 abbrev pub HasAllParts : {G E : Type 0} → (G → List Dimension) → (E → List ℕ → List ℕ → Type 0) → ChunkCopies G E → Group → Type 0
 HasAllParts dimensions is_key given group = (given.to ≡ group.0) × ArePartsToCome dimensions is_key given.from group.1
 
--- groups, without where they lie in memory
-abbrev pub groups_of : List (Part × Vec Part Global) → List Group
-groups_of = map (λ group. (group.0, group.1.items))
-
 -- the groups that the walk has to give: one for each chunk to come
-abbrev pub AreGroupsToCome : {G E H F : Type 0} → (G → List Dimension) → (E → List ℕ → List ℕ → Type 0) → (H → List Dimension)
-    → (F → List ℕ → List ℕ → Type 0) → Copies G E H F → List Group → Type 0
-AreGroupsToCome source_dimensions source_key target_dimensions target_key walk =
-    AllZip
-    (AreCopiesInto (source_dimensions walk.source.now.grid) (source_key walk.source.now.encoding) (target_dimensions walk.targets.grid.now)
-    (target_key walk.targets.encoding.now)) (targets_to_come walk)
-
--- the same of a walk over a region
 abbrev pub AreMovesToCome : {G E H F : Type 0} → (G → List Dimension) → (E → List ℕ → List ℕ → Type 0) → (H → List Dimension)
     → (F → List ℕ → List ℕ → Type 0) → Copies G E H F → List Group → Type 0
 AreMovesToCome source_dimensions source_key target_dimensions target_key walk =

@@ -1,5 +1,5 @@
 -- How the shape of an array between is looked for: dimension by dimension what a shape would cost, and then a choice of one edge along each.
-use Rattle.std.specs.Prelude.{◌≡◌, ℕ, zero, suc, ◌+◌, ◌*◌, ◌≤◌, ◌<◌, List, [], ◌∷◌, MatchOption, Option, Some, None, Vec}
+use Rattle.std.specs.Prelude.{◌≡◌, ℕ, suc, ◌+◌, ◌*◌, ◌≤◌, ◌<◌, List, [], ◌∷◌, MatchOption, Option, Some, None, Vec}
 use Rattle.std.specs.Prelude.{cond, length, map, min, nat_lt, replicate, reverse, slice_index_or}
 use Rattle.std.specs.Int.NonZero.{non_zero_u64_get}
 use Rattle.std.specs.List.{AllByRecursion, AllZip, Contains, sum}
@@ -7,6 +7,7 @@ use Rattle.std.specs.declared.alloc.Global.{Global}
 use Rattle.zarrs_chunk_base.specs.ArraySubset.{Box}
 use Rattle.zarrs_chunk_base.specs.Dimension.{Dimension, HasEdge, array_sizes, grid_sizes}
 use Rattle.zarrs_chunk_base.specs.Greatest.{greatest}
+use Rattle.zarrs_chunk_axes.specs.Along.{Along}
 use Rattle.zarrs_chunk_axes.specs.EqualEdges.{AreEqualEdges}
 use Rattle.zarrs_chunk_axes.specs.RowMajor.{IsBefore}
 use Rattle.zarrs_chunk_plan.specs.Counts.{product}
@@ -17,9 +18,7 @@ use Rattle.zarrs_chunk_plan.specs.seen.Sources.{counters, met_in}
 
 -- chunk c of the dimension of this number is so many elements long
 abbrev pub HasEdgeAlong : List Dimension → (dimension c edge : ℕ) → Type 0
-HasEdgeAlong [] dimension c edge = ⊥
-HasEdgeAlong (d ∷ ds) zero c edge = HasEdge d c edge
-HasEdgeAlong (d ∷ ds) (suc dimension) c edge = HasEdgeAlong ds dimension c edge
+HasEdgeAlong ds dimension c edge = Along (λ d. HasEdge d c edge) ds dimension
 
 -- how many chunks of the source share elements with chunks of the target along a dimension, all together
 abbrev pub met_along_dimension : (source target : List Dimension) → (first sizes : List ℕ) → (dimension : ℕ) → ℕ

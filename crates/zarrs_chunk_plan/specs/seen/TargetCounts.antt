@@ -17,8 +17,8 @@ met_by_each counters targets = map (λ chunk. product (met_by counters chunk)) (
 pub record AreTargetCounts (source : List Dimension) (counters : List (ℕ → ℕ)) (copied targets : Box) (counts : Counts) : Type 0 where
   pub lines : counts.lines.items ≡ targets.shape
   pub copies : MatchOption counts.copies (¬ AreFew targets)
-      (λ factors. AreFew targets × (product factors.items ≡ sum (met_by_each counters targets)))
+      (λ factors. product factors.items ≡ sum (met_by_each counters targets))
   pub largest_line : MatchOption counts.largest_line (¬ AreFew targets)
-      (λ factors. AreFew targets × (product factors.items ≡ fold max 0 (met_by_each counters targets)))
+      (λ factors. product factors.items ≡ fold max 0 (met_by_each counters targets))
   pub elements : AreMany (IsInside copied) (product counts.elements.items)
   pub source_chunks : AreMany (Meets source copied) (product counts.source_chunks.items)

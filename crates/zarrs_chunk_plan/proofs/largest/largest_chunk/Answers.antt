@@ -6,7 +6,7 @@ use Rattle.zarrs_chunk_plan.proofs.largest.largest_chunk.Goals as goal
 pub returns-then-not-are_few-clause-few : goal.returns-then-not-are_few-clause-few
 returns-then-not-are_few-clause-few g c =
     let chunks = c.in_ok-chunks.ensures {u = tt} in
-    let many = (c.if-not-are_few.ensures {u = tt}).1 in
+    let many = c.if-not-are_few.ensures {u = tt} in
     (c.in_ok-chunks.chunks, record { is_box = c.is_a_box.ensures; are_those = chunks.named }, λ few. true≢false (sym (many few)))
 
 pub longest_along_each-requires-clause-long : goal.longest_along_each-requires-clause-long

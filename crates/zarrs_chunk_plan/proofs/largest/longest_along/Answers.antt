@@ -1,7 +1,9 @@
-use Rattle.std.proofs.Common.{◌≡◌, ◌<◌, ◌≤◌, List, ℕ, arith, inl, inr, refl, slice_index_or, subst, ⊎_elim}
+use Rattle.std.specs.Int.NonZero.{non_zero_u64_get}
+use Rattle.std.proofs.Common.{◌≡◌, ◌-◌, ◌<◌, ◌≤◌, List, ℕ, arith, inl, inr, refl, slice_index_or, subst, ⊎_elim}
 use Rattle.std.proofs.lemmas.Bool.{cases_lt}
 use Rattle.zarrs_chunk_plan.specs.seen.Stages.{HasEdgeAlong}
 use Rattle.zarrs_chunk_plan.proofs.LargestChunks.{one_edge}
+use Rattle.zarrs_chunk_plan.proofs.LongestChunks.{first_is_longest, last_is_longest, last_within}
 use Rattle.zarrs_chunk_plan.proofs.largest.longest_along.Goals as goal
 use Rattle.zarrs_chunk_plan.proofs.largest.longest_along.Goals.{else-edge-greatest, then-edge-greatest}
 
@@ -57,3 +59,27 @@ returns-clause-longest g c =
     let (among, at_least, at_most) = c.loop-chunk.invariant in
     let ended = rw c.shape.ensures.value at c.loop-chunk-test.false in
     λ other edge its less has is. let one = at_least its is in let two = at_most other edge (omega arith) has in omega arith
+
+pub returns-then-last-get-clause-longest : goal.returns-then-last-get-clause-longest
+returns-then-last-get-clause-longest g c =
+    let ds = g.G.ChunkGridTraits.dimensions c.args.grid.now in
+    let k = c.args.dimension in
+    let chains = g.met.G.ChunkGridTraits.chained c.args.grid.now in
+    let within = last_within ds c.args.chunks.now k c.requires.start c.requires.long c.requires.some c.requires.meet c.requires.dimension in
+    let last = rw c.shape.ensures.value at (c.in_ok-last.ensures {u = tt}) in
+    let longer = rw c.get.ensures.value at c.if-last-get.true in
+    λ other its most below has is.
+    last_is_longest ds k (non_zero_u64_get c.in-Some.edge) (slice_index_or c.args.chunks.now.shape k 0 - 1) c.in_ok-last.last chains c.in-Some.edge.ok
+    c.in-Some.ensures within last longer other its most (omega arith) has (rw c.shape.ensures.value at is)
+
+pub returns-else-last-get-clause-longest : goal.returns-else-last-get-clause-longest
+returns-else-last-get-clause-longest g c =
+    let ds = g.G.ChunkGridTraits.dimensions c.args.grid.now in
+    let k = c.args.dimension in
+    let chains = g.met.G.ChunkGridTraits.chained c.args.grid.now in
+    let within = last_within ds c.args.chunks.now k c.requires.start c.requires.long c.requires.some c.requires.meet c.requires.dimension in
+    let last = rw c.shape.ensures.value at (c.in_ok-last.ensures {u = tt}) in
+    let shorter = rw c.get.ensures.value at c.if-last-get.false in
+    λ other its most below has is.
+    first_is_longest ds k (non_zero_u64_get c.in-Some.edge) (slice_index_or c.args.chunks.now.shape k 0 - 1) c.in_ok-last.last chains c.in-Some.edge.ok
+    c.in-Some.ensures within last shorter other its most (omega arith) has is

@@ -1,88 +1,94 @@
-use Rattle.std.specs.Ordering.{ord_max}
-use Rattle.std.proofs.Common.{ℕ, nat_cmp, rules, tests, ◌≡◌, ◌∙◌, ◌+◌, [], ap, ap₂, fold, max, slice_index_or, sym, take, arith}
-use Rattle.std.proofs.lemmas.List.{take_all}
-use Rattle.std.proofs.lemmas.List.Sums.{fold_more, sum_by_more}
-use Rattle.std.specs.List.{sum}
-use Rattle.zarrs_chunk_plan.specs.seen.Sources.{counters, met_in}
-use Rattle.zarrs_chunk_plan.proofs.MetCovers.{as_many_counters, as_many_dimensions, as_many_starts, shape_fits, taking_ranges}
-use Rattle.zarrs_chunk_plan.proofs.Written.{sums_fit, table_long}
+use Rattle.std.specs.Int.NonZero.{non_zero_u64_get}
+use Rattle.std.proofs.Common.{arith}
+use Rattle.zarrs_chunk_plan.proofs.MetCovers.{as_many_starts, moved_long}
+use Rattle.zarrs_chunk_plan.proofs.RegularDimensions.{counted}
 use Rattle.zarrs_chunk_plan.proofs.sources.sources_along.Goals as goal
 
-greater : (a b : ℕ) → ord_max nat_cmp a b ≡ max a b
-greater a b = search (rules, tests)
-
-pub overflow_add-sum : goal.overflow_add-sum
-overflow_add-sum g c =
+pub regular_edges-requires-clause-region : goal.regular_edges-requires-clause-region
+regular_edges-requires-clause-region g c =
     let source = g.G.ChunkGridTraits.dimensions c.args.copied.now.source.now in
     let target = g.H.ChunkGridTraits.dimensions c.args.copied.now.target.now in
-    let region = c.args.copied.now.region.now in
-    let moved = c.args.copied.now.moved.now in
-    let targets = c.args.targets.now in
-    let taking = c.requires.taking in
     let chains = g.met.G.ChunkGridTraits.chained c.args.copied.now.source.now in
-    let fit = shape_fits moved.start moved.shape taking.is_moved in
-    let less = rw c.shape.ensures.value at c.loop-steps-test.true in
-    let lies = rw (sym taking.one_shape) at taking.in_source in
-    let fits = sums_fit source target region.start moved.start moved.shape targets.start targets.shape c.args.dimension c.loop-steps.steps chains
-    (g.met.H.ChunkGridTraits.chained c.args.copied.now.target.now)
-    (as_many_dimensions source target region moved targets chains taking) (as_many_starts source target region moved targets chains taking) lies fit
-    (taking_ranges source target region moved targets chains taking c.requires.some) c.requires.dimension less
-    in
-    let (sum, _) = c.loop-steps.invariant in
-    omega (arith, sum, c.in_ok-sources.ensures, fits)
+    let starts = as_many_starts source target c.args.copied.now.region.now c.args.copied.now.moved.now c.args.targets.now chains c.requires.taking in
+    omega (arith, c.requires.taking.long, c.requires.taking.is_box.lengths, c.requires.dimension)
 
-pub loop-steps-preserved : goal.loop-steps-preserved
-loop-steps-preserved g c =
+pub regular_edges-requires-clause-moved : goal.regular_edges-requires-clause-moved
+regular_edges-requires-clause-moved g c =
     let source = g.G.ChunkGridTraits.dimensions c.args.copied.now.source.now in
     let target = g.H.ChunkGridTraits.dimensions c.args.copied.now.target.now in
-    let region = c.args.copied.now.region.now in
-    let moved = c.args.copied.now.moved.now in
-    let targets = c.args.targets.now in
-    let taking = c.requires.taking in
-    let all = counters source target region moved in
-    let met = slice_index_or (met_in all targets.start targets.shape) c.args.dimension [] in
-    let less = rw c.shape.ensures.value at c.loop-steps-test.true in
-    let many = as_many_counters source target region moved targets (g.met.G.ChunkGridTraits.chained c.args.copied.now.source.now) taking in
-    let is_box = taking.is_box in
-    let long = table_long all targets.start targets.shape c.args.dimension (omega (arith, taking.long, many)) is_box.lengths c.requires.dimension in
-    let (sum, most) = c.loop-steps.invariant in (
-      ap₂ ◌+◌ sum c.in_ok-sources.ensures ∙ sym (sum_by_more (λ n. n) met c.loop-steps.steps 0 (omega arith)),
-      c.max-most.ensures ∙ greater c.loop-steps.most c.in_ok-sources.sources ∙ ap₂ max most c.in_ok-sources.ensures
-          ∙ sym (fold_more max 0 met c.loop-steps.steps 0 (omega arith)),
-    )
+    let chains = g.met.G.ChunkGridTraits.chained c.args.copied.now.source.now in
+    let long = moved_long source target c.args.copied.now.region.now c.args.copied.now.moved.now c.args.targets.now chains c.requires.taking in
+    omega (arith, c.requires.taking.long, c.requires.taking.is_box.lengths, c.requires.taking.is_moved.lengths, c.requires.dimension)
 
-pub returns-clause-sum : goal.returns-clause-sum
-returns-clause-sum g c =
+pub overflow_add-whole : goal.overflow_add-whole
+overflow_add-whole g c =
     let source = g.G.ChunkGridTraits.dimensions c.args.copied.now.source.now in
     let target = g.H.ChunkGridTraits.dimensions c.args.copied.now.target.now in
-    let region = c.args.copied.now.region.now in
-    let moved = c.args.copied.now.moved.now in
-    let targets = c.args.targets.now in
-    let taking = c.requires.taking in
-    let all = counters source target region moved in
-    let met = slice_index_or (met_in all targets.start targets.shape) c.args.dimension [] in
-    let ended = rw c.shape.ensures.value at c.loop-steps-test.false in
-    let end = rw c.shape.ensures.value at c.loop-steps.auto.steps-end in
-    let many = as_many_counters source target region moved targets (g.met.G.ChunkGridTraits.chained c.args.copied.now.source.now) taking in
-    let is_box = taking.is_box in
-    let long = table_long all targets.start targets.shape c.args.dimension (omega (arith, taking.long, many)) is_box.lengths c.requires.dimension in
-    let whole : take c.loop-steps.steps met ≡ met = take_all c.loop-steps.steps met (omega (arith, ended, end)) in
-    c.loop-steps.invariant.0 ∙ ap sum whole
+    let chains = g.met.G.ChunkGridTraits.chained c.args.copied.now.source.now in
+    let also = g.met.H.ChunkGridTraits.chained c.args.copied.now.target.now in
+    let more = rw c.shape.ensures.value at c.if-many-gt2.true in
+    let row = counted source target c.args.copied.now.region.now c.args.copied.now.moved.now c.args.targets.now c.args.dimension
+    (non_zero_u64_get c.in-Some.edge) (non_zero_u64_get c.in-Some.other) chains also c.requires.taking c.requires.some c.requires.dimension
+    c.in-Some.edge.ok c.in-Some.other.ok c.in-Some.ensures.source c.in-Some.ensures.target c.in-Some.ensures.stays more in
+    rw c.start.ensures.value (omega (arith, row.begin_fits))
 
-pub returns-clause-most : goal.returns-clause-most
-returns-clause-most g c =
+pub met_by_whole-sum-requires-clause-fits : goal.met_by_whole-sum-requires-clause-fits
+met_by_whole-sum-requires-clause-fits g c =
     let source = g.G.ChunkGridTraits.dimensions c.args.copied.now.source.now in
     let target = g.H.ChunkGridTraits.dimensions c.args.copied.now.target.now in
-    let region = c.args.copied.now.region.now in
-    let moved = c.args.copied.now.moved.now in
-    let targets = c.args.targets.now in
-    let taking = c.requires.taking in
-    let all = counters source target region moved in
-    let met = slice_index_or (met_in all targets.start targets.shape) c.args.dimension [] in
-    let ended = rw c.shape.ensures.value at c.loop-steps-test.false in
-    let end = rw c.shape.ensures.value at c.loop-steps.auto.steps-end in
-    let many = as_many_counters source target region moved targets (g.met.G.ChunkGridTraits.chained c.args.copied.now.source.now) taking in
-    let is_box = taking.is_box in
-    let long = table_long all targets.start targets.shape c.args.dimension (omega (arith, taking.long, many)) is_box.lengths c.requires.dimension in
-    let whole : take c.loop-steps.steps met ≡ met = take_all c.loop-steps.steps met (omega (arith, ended, end)) in
-    c.loop-steps.invariant.1 ∙ ap (fold max 0) whole
+    let chains = g.met.G.ChunkGridTraits.chained c.args.copied.now.source.now in
+    let also = g.met.H.ChunkGridTraits.chained c.args.copied.now.target.now in
+    let more = rw c.shape.ensures.value at c.if-many-gt2.true in
+    let row = counted source target c.args.copied.now.region.now c.args.copied.now.moved.now c.args.targets.now c.args.dimension
+    (non_zero_u64_get c.in-Some.edge) (non_zero_u64_get c.in-Some.other) chains also c.requires.taking c.requires.some c.requires.dimension
+    c.in-Some.edge.ok c.in-Some.other.ok c.in-Some.ensures.source c.in-Some.ensures.target c.in-Some.ensures.stays more in
+    rw (c.start.ensures.value, c.shape.ensures.value) (omega (arith, row.last_fits))
+
+pub overflow_add-result : goal.overflow_add-result
+overflow_add-result g c =
+    let source = g.G.ChunkGridTraits.dimensions c.args.copied.now.source.now in
+    let target = g.H.ChunkGridTraits.dimensions c.args.copied.now.target.now in
+    let chains = g.met.G.ChunkGridTraits.chained c.args.copied.now.source.now in
+    let also = g.met.H.ChunkGridTraits.chained c.args.copied.now.target.now in
+    let more = rw c.shape.ensures.value at c.if-many-gt2.true in
+    let row = counted source target c.args.copied.now.region.now c.args.copied.now.moved.now c.args.targets.now c.args.dimension
+    (non_zero_u64_get c.in-Some.edge) (non_zero_u64_get c.in-Some.other) chains also c.requires.taking c.requires.some c.requires.dimension
+    c.in-Some.edge.ok c.in-Some.other.ok c.in-Some.ensures.source c.in-Some.ensures.target c.in-Some.ensures.stays more in
+    let first = c.in_ok-first-in-Some.ensures {u = tt} in
+    let last = rw c.shape.ensures.value at (c.in_ok-last-in-Some.ensures {u = tt}) in
+    let whole = rw (c.start.ensures.value, c.shape.ensures.value) at c.met_by_whole-sum.ensures.sum in
+    omega (arith, first, whole, row.in_all, row.sum_fits)
+
+pub overflow_add-result-in-Some : goal.overflow_add-result-in-Some
+overflow_add-result-in-Some g c =
+    let source = g.G.ChunkGridTraits.dimensions c.args.copied.now.source.now in
+    let target = g.H.ChunkGridTraits.dimensions c.args.copied.now.target.now in
+    let chains = g.met.G.ChunkGridTraits.chained c.args.copied.now.source.now in
+    let also = g.met.H.ChunkGridTraits.chained c.args.copied.now.target.now in
+    let more = rw c.shape.ensures.value at c.if-many-gt2.true in
+    let row = counted source target c.args.copied.now.region.now c.args.copied.now.moved.now c.args.targets.now c.args.dimension
+    (non_zero_u64_get c.in-Some.edge) (non_zero_u64_get c.in-Some.other) chains also c.requires.taking c.requires.some c.requires.dimension
+    c.in-Some.edge.ok c.in-Some.other.ok c.in-Some.ensures.source c.in-Some.ensures.target c.in-Some.ensures.stays more in
+    let first = c.in_ok-first-in-Some.ensures {u = tt} in
+    let last = rw c.shape.ensures.value at (c.in_ok-last-in-Some.ensures {u = tt}) in
+    let whole = rw (c.start.ensures.value, c.shape.ensures.value) at c.met_by_whole-sum.ensures.sum in
+    omega (arith, first, last, whole, row.in_all, row.sum_fits)
+
+pub returns-in_ok-last-in-Some : goal.returns-in_ok-last-in-Some
+returns-in_ok-last-in-Some g c =
+    let source = g.G.ChunkGridTraits.dimensions c.args.copied.now.source.now in
+    let target = g.H.ChunkGridTraits.dimensions c.args.copied.now.target.now in
+    let chains = g.met.G.ChunkGridTraits.chained c.args.copied.now.source.now in
+    let also = g.met.H.ChunkGridTraits.chained c.args.copied.now.target.now in
+    let more = rw c.shape.ensures.value at c.if-many-gt2.true in
+    let row = counted source target c.args.copied.now.region.now c.args.copied.now.moved.now c.args.targets.now c.args.dimension
+    (non_zero_u64_get c.in-Some.edge) (non_zero_u64_get c.in-Some.other) chains also c.requires.taking c.requires.some c.requires.dimension
+    c.in-Some.edge.ok c.in-Some.other.ok c.in-Some.ensures.source c.in-Some.ensures.target c.in-Some.ensures.stays more in
+    let first = c.in_ok-first-in-Some.ensures {u = tt} in
+    let last = rw c.shape.ensures.value at (c.in_ok-last-in-Some.ensures {u = tt}) in
+    let sum = rw (c.start.ensures.value, c.shape.ensures.value) at c.met_by_whole-sum.ensures.sum in
+    let most = rw (c.start.ensures.value, c.shape.ensures.value) at c.met_by_whole-sum.ensures.most in
+    record {
+      sum = omega (arith, first, last, sum, row.in_all);
+      most = omega (arith, first, last, most, row.most, c.max.ensures, c.max-in-Some.ensures);
+    }

@@ -38,8 +38,8 @@ loop-dimension-preserved g c =
       c.in_ok-push-2.ensures.items ∙ ap₂ (λ xs x. xs ++ x ∷ []) most c.in_ok-sum.ensures.most ∙ sym greatest,
     )
 
-pub returns-then-is_empty-clause-in_all : goal.returns-then-is_empty-clause-in_all
-returns-then-is_empty-clause-in_all g c =
+pub returns-then-is_empty : goal.returns-then-is_empty
+returns-then-is_empty g c =
     let source = g.G.ChunkGridTraits.dimensions c.args.copied.now.source.now in
     let target = g.H.ChunkGridTraits.dimensions c.args.copied.now.target.now in
     let region = c.args.copied.now.region.now in
@@ -47,21 +47,15 @@ returns-then-is_empty-clause-in_all g c =
     let targets = c.args.targets.now in
     let empty = c.is_empty.ensures.0 c.if-is_empty.true in
     let copied = c.in_ok-to_vec.ensures.items_if_clones_equal (λ x y same. same) in
-    rw (copied, c.shape-shape.ensures.value, of_none (counters source target region moved) targets empty) (product_of_none targets.shape empty)
+    let also_copied = c.in_ok-to_vec-2.ensures.items_if_clones_equal (λ x y same. same) in
+    let none = of_none (counters source target region moved) targets empty in
+    record {
+      in_all = rw (copied, c.shape-shape.ensures.value, none) (product_of_none targets.shape empty);
+      most = rw (also_copied, c.shape-shape.ensures.value, none) (product_of_none targets.shape empty);
+    }
 
-pub returns-then-is_empty-clause-most : goal.returns-then-is_empty-clause-most
-returns-then-is_empty-clause-most g c =
-    let source = g.G.ChunkGridTraits.dimensions c.args.copied.now.source.now in
-    let target = g.H.ChunkGridTraits.dimensions c.args.copied.now.target.now in
-    let region = c.args.copied.now.region.now in
-    let moved = c.args.copied.now.moved.now in
-    let targets = c.args.targets.now in
-    let empty = c.is_empty.ensures.0 c.if-is_empty.true in
-    let copied = c.in_ok-to_vec-2.ensures.items_if_clones_equal (λ x y same. same) in
-    rw (copied, c.shape-shape.ensures.value, of_none (counters source target region moved) targets empty) (product_of_none targets.shape empty)
-
-pub returns-clause-in_all : goal.returns-clause-in_all
-returns-clause-in_all g c =
+pub returns : goal.returns
+returns g c =
     let source = g.G.ChunkGridTraits.dimensions c.args.copied.now.source.now in
     let target = g.H.ChunkGridTraits.dimensions c.args.copied.now.target.now in
     let region = c.args.copied.now.region.now in
@@ -77,23 +71,8 @@ returns-clause-in_all g c =
     let end = rw c.shape-shape.ensures.value at c.loop-dimension.auto.dimension-end in
     let whole : take c.loop-dimension.dimension met ≡ met = take_all c.loop-dimension.dimension met (omega (arith, ended, end)) in
     let each = met_by_all all targets.start targets.shape (omega (arith, taking.long, many)) (omega (arith, taking.long, many, is_box.lengths)) in
-    ap product (c.loop-dimension.invariant.0 ∙ ap (map sum) whole) ∙ sym (sum_of_products met) ∙ ap sum (sym each)
-
-pub returns-clause-most : goal.returns-clause-most
-returns-clause-most g c =
-    let source = g.G.ChunkGridTraits.dimensions c.args.copied.now.source.now in
-    let target = g.H.ChunkGridTraits.dimensions c.args.copied.now.target.now in
-    let region = c.args.copied.now.region.now in
-    let moved = c.args.copied.now.moved.now in
-    let targets = c.args.targets.now in
-    let taking = c.requires in
-    let all = counters source target region moved in
-    let met = met_in all targets.start targets.shape in
-    let many = as_many_counters source target region moved targets (g.met.G.ChunkGridTraits.chained c.args.copied.now.source.now) taking in
-    let is_box = taking.is_box in
-    let long = tables_long all targets.start targets.shape (omega (arith, taking.long, many)) is_box.lengths in
-    let ended = rw c.shape-shape.ensures.value at c.loop-dimension-test.false in
-    let end = rw c.shape-shape.ensures.value at c.loop-dimension.auto.dimension-end in
-    let whole : take c.loop-dimension.dimension met ≡ met = take_all c.loop-dimension.dimension met (omega (arith, ended, end)) in
-    let each = met_by_all all targets.start targets.shape (omega (arith, taking.long, many)) (omega (arith, taking.long, many, is_box.lengths)) in
-    ap product (c.loop-dimension.invariant.1 ∙ ap (map (fold max 0)) whole) ∙ sym (greatest_of_products met) ∙ ap (fold max 0) (sym each)
+    record {
+      in_all = ap product (c.loop-dimension.invariant.0 ∙ ap (map sum) whole) ∙ sym (sum_of_products met) ∙ ap sum (sym each);
+      most = ap product (c.loop-dimension.invariant.1 ∙ ap (map (fold max 0)) whole) ∙ sym (greatest_of_products met)
+          ∙ ap (fold max 0) (sym each);
+    }

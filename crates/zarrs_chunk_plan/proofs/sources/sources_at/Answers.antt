@@ -1,40 +1,140 @@
-use Rattle.std.proofs.Common.{arith}
-use Rattle.zarrs_chunk_plan.proofs.ByNumber.{sum_fits}
-use Rattle.zarrs_chunk_plan.proofs.MetCovers.{met_along_is}
+use Rattle.std.proofs.Common.{◌≡◌, ◌+◌, ◌-◌, arith, slice_index_or, subst}
+use Rattle.zarrs_chunk_axes.specs.Along.{HoldsAlong}
+use Rattle.zarrs_chunk_plan.proofs.OneDimension.{are_asked, steps_to_end}
 use Rattle.zarrs_chunk_plan.proofs.sources.sources_at.Goals as goal
 
-pub chunk_along-requires-clause-fits : goal.chunk_along-requires-clause-fits
-chunk_along-requires-clause-fits g c =
-    let targets = c.args.targets.now in
-    let is_box = c.requires.taking.is_box in
-    rw c.start.ensures.value
-    (sum_fits targets.start targets.shape c.args.dimension c.args.steps is_box.fits (omega (arith, is_box.lengths)) c.requires.dimension
-    c.requires.steps)
+pub overflow_add-chunk : goal.overflow_add-chunk
+overflow_add-chunk g c =
+    let source = g.G.ChunkGridTraits.dimensions c.args.copied.now.source.now in
+    let target = g.H.ChunkGridTraits.dimensions c.args.copied.now.target.now in
+    let asked = are_asked source target c.args.copied.now.region.now c.args.copied.now.moved.now c.args.targets.now c.args.dimension c.args.steps
+    (g.met.G.ChunkGridTraits.chained c.args.copied.now.source.now) c.requires.taking c.requires.some c.requires.dimension c.requires.steps in
+    rw c.start.ensures.value (omega (arith, asked.chunk_fits))
+
+pub bounds-start-dimension-2 : goal.bounds-start-dimension-2
+bounds-start-dimension-2 g c =
+    let source = g.G.ChunkGridTraits.dimensions c.args.copied.now.source.now in
+    let target = g.H.ChunkGridTraits.dimensions c.args.copied.now.target.now in
+    let asked = are_asked source target c.args.copied.now.region.now c.args.copied.now.moved.now c.args.targets.now c.args.dimension c.args.steps
+    (g.met.G.ChunkGridTraits.chained c.args.copied.now.source.now) c.requires.taking c.requires.some c.requires.dimension c.requires.steps in
+    rw c.start-2.ensures.value asked.in_start
 
 pub bounds-shape-dimension : goal.bounds-shape-dimension
 bounds-shape-dimension g c =
     let source = g.G.ChunkGridTraits.dimensions c.args.copied.now.source.now in
     let target = g.H.ChunkGridTraits.dimensions c.args.copied.now.target.now in
-    let region = c.args.copied.now.region.now in
-    let moved = c.args.copied.now.moved.now in
-    let targets = c.args.targets.now in
-    let shared = rw (c.as_slice.ensures, c.in_ok-chunk.ensures, c.start.ensures.value) at c.in_ok-shared.ensures.boxes in
-    let answers = rw (c.in_ok-read.ensures.value, c.start-2.ensures.value) at c.chunks_in_array_subset.ensures.answers in
-    rw c.shape.ensures.value
-    (met_along_is source target region moved targets (g.met.G.ChunkGridTraits.chained c.args.copied.now.source.now) c.requires.taking c.requires.some
-    c.args.dimension c.args.steps c.in_ok-shared.shared.in_chunk c.in_ok-shared.shared.in_subset c.in_ok-cover.cover
-    c.chunks_in_array_subset.result c.requires.dimension c.requires.steps shared answers c.in_ok-cover.ensures).0
+    let asked = are_asked source target c.args.copied.now.region.now c.args.copied.now.moved.now c.args.targets.now c.args.dimension c.args.steps
+    (g.met.G.ChunkGridTraits.chained c.args.copied.now.source.now) c.requires.taking c.requires.some c.requires.dimension c.requires.steps in
+    rw c.shape.ensures.value asked.in_shape
+
+pub overflow_sub-last : goal.overflow_sub-last
+overflow_sub-last g c =
+    let source = g.G.ChunkGridTraits.dimensions c.args.copied.now.source.now in
+    let target = g.H.ChunkGridTraits.dimensions c.args.copied.now.target.now in
+    let asked = are_asked source target c.args.copied.now.region.now c.args.copied.now.moved.now c.args.targets.now c.args.dimension c.args.steps
+    (g.met.G.ChunkGridTraits.chained c.args.copied.now.source.now) c.requires.taking c.requires.some c.requires.dimension c.requires.steps in
+    let at = c.args.copied.now.moved.now.start in
+    let found = rw (c.in_ok-start.ensures {u = tt}, c.start.ensures.value) at (c.in_ok-range.ensures {u = tt}) in
+    let takes = asked.takes c.in_ok-start.start c.in_ok-start.edge found in
+    let first = rw c.start-2.ensures.value at c.saturating_sub-first.ensures in
+    let end = rw c.start-2.ensures.value at c.saturating_sub-end.ensures in
+    let last = rw c.shape.ensures.value at c.min-last.ensures in
+    omega (arith, last, end, takes, c.saturating_add.ensures, asked.moved_fits)
+
+pub bounds-start-dimension-3 : goal.bounds-start-dimension-3
+bounds-start-dimension-3 g c =
+    let source = g.G.ChunkGridTraits.dimensions c.args.copied.now.source.now in
+    let target = g.H.ChunkGridTraits.dimensions c.args.copied.now.target.now in
+    let asked = are_asked source target c.args.copied.now.region.now c.args.copied.now.moved.now c.args.targets.now c.args.dimension c.args.steps
+    (g.met.G.ChunkGridTraits.chained c.args.copied.now.source.now) c.requires.taking c.requires.some c.requires.dimension c.requires.steps in
+    rw c.start-3.ensures.value asked.in_region
+
+pub overflow_add-from : goal.overflow_add-from
+overflow_add-from g c =
+    let source = g.G.ChunkGridTraits.dimensions c.args.copied.now.source.now in
+    let target = g.H.ChunkGridTraits.dimensions c.args.copied.now.target.now in
+    let asked = are_asked source target c.args.copied.now.region.now c.args.copied.now.moved.now c.args.targets.now c.args.dimension c.args.steps
+    (g.met.G.ChunkGridTraits.chained c.args.copied.now.source.now) c.requires.taking c.requires.some c.requires.dimension c.requires.steps in
+    let at = c.args.copied.now.moved.now.start in
+    let found = rw (c.in_ok-start.ensures {u = tt}, c.start.ensures.value) at (c.in_ok-range.ensures {u = tt}) in
+    let takes = asked.takes c.in_ok-start.start c.in_ok-start.edge found in
+    let first = rw c.start-2.ensures.value at c.saturating_sub-first.ensures in
+    let end = rw c.start-2.ensures.value at c.saturating_sub-end.ensures in
+    let last = rw c.shape.ensures.value at c.min-last.ensures in
+    let fits = asked.region_fits c.start-3.ensures.is_box in
+    rw c.start-3.ensures.value (omega (arith, first, takes, fits))
+
+pub overflow_add-from-2 : goal.overflow_add-from-2
+overflow_add-from-2 g c =
+    let source = g.G.ChunkGridTraits.dimensions c.args.copied.now.source.now in
+    let target = g.H.ChunkGridTraits.dimensions c.args.copied.now.target.now in
+    let asked = are_asked source target c.args.copied.now.region.now c.args.copied.now.moved.now c.args.targets.now c.args.dimension c.args.steps
+    (g.met.G.ChunkGridTraits.chained c.args.copied.now.source.now) c.requires.taking c.requires.some c.requires.dimension c.requires.steps in
+    let at = c.args.copied.now.moved.now.start in
+    let found = rw (c.in_ok-start.ensures {u = tt}, c.start.ensures.value) at (c.in_ok-range.ensures {u = tt}) in
+    let takes = asked.takes c.in_ok-start.start c.in_ok-start.edge found in
+    let first = rw c.start-2.ensures.value at c.saturating_sub-first.ensures in
+    let end = rw c.start-2.ensures.value at c.saturating_sub-end.ensures in
+    let last = rw c.shape.ensures.value at c.min-last.ensures in
+    let fits = asked.region_fits c.start-3.ensures.is_box in
+    rw c.start-3.ensures.value (omega (arith, last, fits))
+
+pub overflow_sub-result : goal.overflow_sub-result
+overflow_sub-result g c =
+    let source = g.G.ChunkGridTraits.dimensions c.args.copied.now.source.now in
+    let target = g.H.ChunkGridTraits.dimensions c.args.copied.now.target.now in
+    let asked = are_asked source target c.args.copied.now.region.now c.args.copied.now.moved.now c.args.targets.now c.args.dimension c.args.steps
+    (g.met.G.ChunkGridTraits.chained c.args.copied.now.source.now) c.requires.taking c.requires.some c.requires.dimension c.requires.steps in
+    let at = c.args.copied.now.moved.now.start in
+    let found = rw (c.in_ok-start.ensures {u = tt}, c.start.ensures.value) at (c.in_ok-range.ensures {u = tt}) in
+    let takes = asked.takes c.in_ok-start.start c.in_ok-start.edge found in
+    let first = rw c.start-2.ensures.value at c.saturating_sub-first.ensures in
+    let end = rw c.start-2.ensures.value at c.saturating_sub-end.ensures in
+    let last = rw c.shape.ensures.value at c.min-last.ensures in
+    let low = rw (c.start-3.ensures.value, first) at (c.in_ok-first.ensures {u = tt}) in
+    let high = rw c.start-3.ensures.value at (c.in_ok-last.ensures {u = tt}) in
+    let is_last : c.min-last.result - 1 ≡ steps_to_end (slice_index_or at c.args.dimension 0) (slice_index_or c.args.copied.now.moved.now.shape c.args.dimension 0) c.in_ok-start.start c.in_ok-start.edge - 1 =
+    omega (arith, last, end, c.saturating_add.ensures, asked.moved_fits) in
+    let met = asked.met c.in_ok-start.start c.in_ok-start.edge c.in_ok-first.first c.in_ok-last.last found
+    (record { first = low; last = subst (λ n. HoldsAlong source c.args.dimension (slice_index_or c.args.copied.now.region.now.start c.args.dimension 0 + n) c.in_ok-last.last) is_last high }) in
+    met.in_order
+
+pub overflow_add-result : goal.overflow_add-result
+overflow_add-result g c =
+    let source = g.G.ChunkGridTraits.dimensions c.args.copied.now.source.now in
+    let target = g.H.ChunkGridTraits.dimensions c.args.copied.now.target.now in
+    let asked = are_asked source target c.args.copied.now.region.now c.args.copied.now.moved.now c.args.targets.now c.args.dimension c.args.steps
+    (g.met.G.ChunkGridTraits.chained c.args.copied.now.source.now) c.requires.taking c.requires.some c.requires.dimension c.requires.steps in
+    let at = c.args.copied.now.moved.now.start in
+    let found = rw (c.in_ok-start.ensures {u = tt}, c.start.ensures.value) at (c.in_ok-range.ensures {u = tt}) in
+    let takes = asked.takes c.in_ok-start.start c.in_ok-start.edge found in
+    let first = rw c.start-2.ensures.value at c.saturating_sub-first.ensures in
+    let end = rw c.start-2.ensures.value at c.saturating_sub-end.ensures in
+    let last = rw c.shape.ensures.value at c.min-last.ensures in
+    let low = rw (c.start-3.ensures.value, first) at (c.in_ok-first.ensures {u = tt}) in
+    let high = rw c.start-3.ensures.value at (c.in_ok-last.ensures {u = tt}) in
+    let is_last : c.min-last.result - 1 ≡ steps_to_end (slice_index_or at c.args.dimension 0) (slice_index_or c.args.copied.now.moved.now.shape c.args.dimension 0) c.in_ok-start.start c.in_ok-start.edge - 1 =
+    omega (arith, last, end, c.saturating_add.ensures, asked.moved_fits) in
+    let met = asked.met c.in_ok-start.start c.in_ok-start.edge c.in_ok-first.first c.in_ok-last.last found
+    (record { first = low; last = subst (λ n. HoldsAlong source c.args.dimension (slice_index_or c.args.copied.now.region.now.start c.args.dimension 0 + n) c.in_ok-last.last) is_last high }) in
+    omega (arith, met.in_order, met.at_most, asked.moved_fits)
 
 pub returns : goal.returns
 returns g c =
     let source = g.G.ChunkGridTraits.dimensions c.args.copied.now.source.now in
     let target = g.H.ChunkGridTraits.dimensions c.args.copied.now.target.now in
-    let region = c.args.copied.now.region.now in
-    let moved = c.args.copied.now.moved.now in
-    let targets = c.args.targets.now in
-    let shared = rw (c.as_slice.ensures, c.in_ok-chunk.ensures, c.start.ensures.value) at c.in_ok-shared.ensures.boxes in
-    let answers = rw (c.in_ok-read.ensures.value, c.start-2.ensures.value) at c.chunks_in_array_subset.ensures.answers in
-    rw c.shape.ensures.value
-    (met_along_is source target region moved targets (g.met.G.ChunkGridTraits.chained c.args.copied.now.source.now) c.requires.taking c.requires.some
-    c.args.dimension c.args.steps c.in_ok-shared.shared.in_chunk c.in_ok-shared.shared.in_subset c.in_ok-cover.cover
-    c.chunks_in_array_subset.result c.requires.dimension c.requires.steps shared answers c.in_ok-cover.ensures).1
+    let asked = are_asked source target c.args.copied.now.region.now c.args.copied.now.moved.now c.args.targets.now c.args.dimension c.args.steps
+    (g.met.G.ChunkGridTraits.chained c.args.copied.now.source.now) c.requires.taking c.requires.some c.requires.dimension c.requires.steps in
+    let at = c.args.copied.now.moved.now.start in
+    let found = rw (c.in_ok-start.ensures {u = tt}, c.start.ensures.value) at (c.in_ok-range.ensures {u = tt}) in
+    let takes = asked.takes c.in_ok-start.start c.in_ok-start.edge found in
+    let first = rw c.start-2.ensures.value at c.saturating_sub-first.ensures in
+    let end = rw c.start-2.ensures.value at c.saturating_sub-end.ensures in
+    let last = rw c.shape.ensures.value at c.min-last.ensures in
+    let low = rw (c.start-3.ensures.value, first) at (c.in_ok-first.ensures {u = tt}) in
+    let high = rw c.start-3.ensures.value at (c.in_ok-last.ensures {u = tt}) in
+    let is_last : c.min-last.result - 1 ≡ steps_to_end (slice_index_or at c.args.dimension 0) (slice_index_or c.args.copied.now.moved.now.shape c.args.dimension 0) c.in_ok-start.start c.in_ok-start.edge - 1 =
+    omega (arith, last, end, c.saturating_add.ensures, asked.moved_fits) in
+    let met = asked.met c.in_ok-start.start c.in_ok-start.edge c.in_ok-first.first c.in_ok-last.last found
+    (record { first = low; last = subst (λ n. HoldsAlong source c.args.dimension (slice_index_or c.args.copied.now.region.now.start c.args.dimension 0 + n) c.in_ok-last.last) is_last high }) in
+    omega (arith, met.in_order, met.as_many)

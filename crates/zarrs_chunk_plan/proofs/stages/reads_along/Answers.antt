@@ -8,8 +8,8 @@ use Rattle.zarrs_chunk_plan.proofs.stages.reads_along.Goals as goal
 non_zero : (n : NonZeroU64) → 0 < non_zero_u64_get n
 non_zero n = n.ok
 
-pub sources_along-requires-clause-taking : goal.sources_along-requires-clause-taking
-sources_along-requires-clause-taking g c =
+pub sources_along-requires : goal.sources_along-requires
+sources_along-requires g c =
     let ends = c.args.ends.now in
     let are = c.requires.ends in
     let grid = regular_of c.in_ok-between.between in
@@ -20,10 +20,10 @@ sources_along-requires-clause-taking g c =
     are.is_box are.long are.chunks (g.met.H.ChunkGridTraits.chained ends.target.now) c.array_shape.ensures (c.in_ok-between.ensures)
     (non_zero c.args.edge) (λ empty. true≢false (sym ((c.if-is_empty.ensures {u = tt}).1 empty))) chunks.counted c.is_a_box.ensures
     in
-    known.into
+    record { taking = known.into; some = known.some; dimension = omega (arith, known.all_long, c.requires.dimension) }
 
-pub sources_along-requires-clause-some : goal.sources_along-requires-clause-some
-sources_along-requires-clause-some g c =
+pub sources_along-requires-2 : goal.sources_along-requires-2
+sources_along-requires-2 g c =
     let ends = c.args.ends.now in
     let are = c.requires.ends in
     let grid = regular_of c.in_ok-between.between in
@@ -34,63 +34,7 @@ sources_along-requires-clause-some g c =
     are.is_box are.long are.chunks (g.met.H.ChunkGridTraits.chained ends.target.now) c.array_shape.ensures (c.in_ok-between.ensures)
     (non_zero c.args.edge) (λ empty. true≢false (sym ((c.if-is_empty.ensures {u = tt}).1 empty))) chunks.counted c.is_a_box.ensures
     in
-    known.some
-
-pub sources_along-requires-clause-dimension : goal.sources_along-requires-clause-dimension
-sources_along-requires-clause-dimension g c =
-    let ends = c.args.ends.now in
-    let are = c.requires.ends in
-    let grid = regular_of c.in_ok-between.between in
-    let chunks = c.in_ok-chunks.ensures {u = tt} in
-    let known =
-    probe (g.G.ChunkGridTraits.dimensions ends.source.now) (g.H.ChunkGridTraits.dimensions ends.target.now) grid.dimensions
-    c.array_shape.result.now (non_zero_u64_get c.args.edge) ends.array.now c.in_ok-chunks.chunks ends.chunks.now are.one_array are.array are.is_array
-    are.is_box are.long are.chunks (g.met.H.ChunkGridTraits.chained ends.target.now) c.array_shape.ensures (c.in_ok-between.ensures)
-    (non_zero c.args.edge) (λ empty. true≢false (sym ((c.if-is_empty.ensures {u = tt}).1 empty))) chunks.counted c.is_a_box.ensures
-    in
-    omega (arith, known.all_long, c.requires.dimension)
-
-pub sources_along-requires-2-clause-taking : goal.sources_along-requires-2-clause-taking
-sources_along-requires-2-clause-taking g c =
-    let ends = c.args.ends.now in
-    let are = c.requires.ends in
-    let grid = regular_of c.in_ok-between.between in
-    let chunks = c.in_ok-chunks.ensures {u = tt} in
-    let known =
-    probe (g.G.ChunkGridTraits.dimensions ends.source.now) (g.H.ChunkGridTraits.dimensions ends.target.now) grid.dimensions
-    c.array_shape.result.now (non_zero_u64_get c.args.edge) ends.array.now c.in_ok-chunks.chunks ends.chunks.now are.one_array are.array are.is_array
-    are.is_box are.long are.chunks (g.met.H.ChunkGridTraits.chained ends.target.now) c.array_shape.ensures (c.in_ok-between.ensures)
-    (non_zero c.args.edge) (λ empty. true≢false (sym ((c.if-is_empty.ensures {u = tt}).1 empty))) chunks.counted c.is_a_box.ensures
-    in
-    known.from
-
-pub sources_along-requires-2-clause-some : goal.sources_along-requires-2-clause-some
-sources_along-requires-2-clause-some g c =
-    let ends = c.args.ends.now in
-    let are = c.requires.ends in
-    let grid = regular_of c.in_ok-between.between in
-    let chunks = c.in_ok-chunks.ensures {u = tt} in
-    let known =
-    probe (g.G.ChunkGridTraits.dimensions ends.source.now) (g.H.ChunkGridTraits.dimensions ends.target.now) grid.dimensions
-    c.array_shape.result.now (non_zero_u64_get c.args.edge) ends.array.now c.in_ok-chunks.chunks ends.chunks.now are.one_array are.array are.is_array
-    are.is_box are.long are.chunks (g.met.H.ChunkGridTraits.chained ends.target.now) c.array_shape.ensures (c.in_ok-between.ensures)
-    (non_zero c.args.edge) (λ empty. true≢false (sym ((c.if-is_empty.ensures {u = tt}).1 empty))) chunks.counted c.is_a_box.ensures
-    in
-    known.also
-
-pub sources_along-requires-2-clause-dimension : goal.sources_along-requires-2-clause-dimension
-sources_along-requires-2-clause-dimension g c =
-    let ends = c.args.ends.now in
-    let are = c.requires.ends in
-    let grid = regular_of c.in_ok-between.between in
-    let chunks = c.in_ok-chunks.ensures {u = tt} in
-    let known =
-    probe (g.G.ChunkGridTraits.dimensions ends.source.now) (g.H.ChunkGridTraits.dimensions ends.target.now) grid.dimensions
-    c.array_shape.result.now (non_zero_u64_get c.args.edge) ends.array.now c.in_ok-chunks.chunks ends.chunks.now are.one_array are.array are.is_array
-    are.is_box are.long are.chunks (g.met.H.ChunkGridTraits.chained ends.target.now) c.array_shape.ensures (c.in_ok-between.ensures)
-    (non_zero c.args.edge) (λ empty. true≢false (sym ((c.if-is_empty.ensures {u = tt}).1 empty))) chunks.counted c.is_a_box.ensures
-    in
-    omega (arith, known.chunks_long, c.requires.dimension)
+    record { taking = known.from; some = known.also; dimension = omega (arith, known.chunks_long, c.requires.dimension) }
 
 pub returns : goal.returns
 returns g c =

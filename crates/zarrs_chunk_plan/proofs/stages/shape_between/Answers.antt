@@ -9,49 +9,22 @@ use Rattle.zarrs_chunk_plan.proofs.EdgesTried.{all_ascend, all_positive, tried_l
 use Rattle.zarrs_chunk_plan.proofs.StageReads.{length_of}
 use Rattle.zarrs_chunk_plan.proofs.stages.shape_between.Goals as goal
 
-pub all_tried-requires-clause-shape : goal.all_tried-requires-clause-shape
-all_tried-requires-clause-shape g c =
+pub all_tried-requires : goal.all_tried-requires
+all_tried-requires g c =
     let source = g.G.ChunkGridTraits.dimensions c.args.source.now in
     let target = g.H.ChunkGridTraits.dimensions c.args.target.now in
-    let sizes = array_sizes source in
-    let largest = c.in_ok-largest.largest.items in
-    let other = c.in_ok-largest.other.items in
     let both = c.in_ok-largest.ensures {u = tt} in
     let sizes_long = length-map source (λ (d : Dimension). d.array_size) in
-    let one_long = largest_long source largest both.largest in
-    let two_long = largest_long target other both.other in
+    let one_long = largest_long source c.in_ok-largest.largest.items both.largest in
+    let two_long = largest_long target c.in_ok-largest.other.items both.other in
     let also_long = length_of source target both.one_array in
-    rw (c.array_shape.ensures, c.deref.ensures.value) (omega (arith, sizes_long, one_long))
+    record {
+      shape = rw (c.array_shape.ensures, c.deref.ensures.value) (omega (arith, sizes_long, one_long));
+      other = rw (c.array_shape.ensures, c.deref-2.ensures.value) (omega (arith, sizes_long, two_long, also_long));
+    }
 
-pub all_tried-requires-clause-other : goal.all_tried-requires-clause-other
-all_tried-requires-clause-other g c =
-    let source = g.G.ChunkGridTraits.dimensions c.args.source.now in
-    let target = g.H.ChunkGridTraits.dimensions c.args.target.now in
-    let sizes = array_sizes source in
-    let largest = c.in_ok-largest.largest.items in
-    let other = c.in_ok-largest.other.items in
-    let both = c.in_ok-largest.ensures {u = tt} in
-    let sizes_long = length-map source (λ (d : Dimension). d.array_size) in
-    let one_long = largest_long source largest both.largest in
-    let two_long = largest_long target other both.other in
-    let also_long = length_of source target both.one_array in
-    rw (c.array_shape.ensures, c.deref-2.ensures.value) (omega (arith, sizes_long, two_long, also_long))
-
-pub all_rows-requires-clause-positive : goal.all_rows-requires-clause-positive
-all_rows-requires-clause-positive g c =
-    let source = g.G.ChunkGridTraits.dimensions c.args.source.now in
-    let target = g.H.ChunkGridTraits.dimensions c.args.target.now in
-    let sizes = array_sizes source in
-    let largest = c.in_ok-largest.largest.items in
-    let other = c.in_ok-largest.other.items in
-    let both = c.in_ok-largest.ensures {u = tt} in
-    let tried = rw (c.array_shape.ensures, c.deref.ensures.value, c.deref-2.ensures.value) at c.in_ok-tried.ensures in
-    rw (c.deref-4.ensures.value, tried)
-    (all_positive sizes largest other (largest_positive source largest (g.met.G.ChunkGridTraits.chained c.args.source.now) both.largest)
-    (largest_positive target other (g.met.H.ChunkGridTraits.chained c.args.target.now) both.other))
-
-pub all_rows-requires-clause-long : goal.all_rows-requires-clause-long
-all_rows-requires-clause-long g c =
+pub all_rows-requires : goal.all_rows-requires
+all_rows-requires g c =
     let source = g.G.ChunkGridTraits.dimensions c.args.source.now in
     let target = g.H.ChunkGridTraits.dimensions c.args.target.now in
     let sizes = array_sizes source in
@@ -64,8 +37,14 @@ all_rows-requires-clause-long g c =
     let two_long = largest_long target other both.other in
     let also_long = length_of source target both.one_array in
     let long = tried_long sizes largest other (omega (arith, sizes_long, one_long)) (omega (arith, sizes_long, two_long, also_long)) in
-    rw c.deref-4.ensures.value
-    (sym (length-map c.in_ok-tried.tried.items (λ (row : Vec ℕ Global). row.items)) ∙ ap length tried ∙ long ∙ sizes_long)
+    record {
+      one_array = both.one_array;
+      positive = rw (c.deref-4.ensures.value, tried)
+          (all_positive sizes largest other (largest_positive source largest (g.met.G.ChunkGridTraits.chained c.args.source.now) both.largest)
+          (largest_positive target other (g.met.H.ChunkGridTraits.chained c.args.target.now) both.other));
+      long = rw c.deref-4.ensures.value
+          (sym (length-map c.in_ok-tried.tried.items (λ (row : Vec ℕ Global). row.items)) ∙ ap length tried ∙ long ∙ sizes_long);
+    }
 
 pub fewest-requires : goal.fewest-requires
 fewest-requires g c =

@@ -1,7 +1,7 @@
 use Rattle.std.proofs.Common.{◌≡◌, [], fold, max, slice_index_or, take}
 use Rattle.std.specs.List.{sum}
 use Rattle.zarrs_chunk_plan.specs.seen.Sources.{counters, met_in}
-use Rattle.zarrs_chunk_plan.proofs.sources.sources_along.Given as goal
+use Rattle.zarrs_chunk_plan.proofs.sources.sources_one_by_one.Given as goal
 
 -- the chunks of the target so far are counted
 abbrev pub invariant-loop-steps : goal.invariant-loop-steps
