@@ -12,6 +12,7 @@
 //! | `order` | the order of the lines as a document writes it |
 //! | `stage` | how much a worker may hold, and which stage is wanted, as a document writes them |
 //! | `ranges` | the byte ranges that a document wants in the lines of a read |
+//! | `opened` | the arrays that a document stores, and the walks over them |
 //! | `plan` | the plan that a document asks for |
 //! | `within` | the plan of a rechunking of which a worker holds at most so many elements |
 //! | `between` | the array between, by which a rechunking goes in two stages |
@@ -49,6 +50,7 @@ mod keys;
 mod known_members;
 mod line;
 mod missing;
+mod opened;
 mod order;
 mod part_ranges;
 mod plan;

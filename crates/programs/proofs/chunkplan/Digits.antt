@@ -49,11 +49,6 @@ numeral_some n text (more_digits {d = d} {front = front} before some below is te
     let no : length text ≡ 0 = ap length none in
     absurd (omega arith)
 
--- a digit is passed over where the number so far is 0 and it is 0 too
-pub passed_over : (n one : ℕ) (text : List ℕ) → HasText n text → one ≡ 0 → text ≡ [] → HasText (one + 10 * n) text
-passed_over n one text (no_text is empty) zero_is _ = no_text (omega arith) empty
-passed_over n one text (is_text more is) zero_is empty = absurd (numeral_some n text is empty)
-
 -- and else it is written
 pub written : (n one : ℕ) (text more : List ℕ) → HasText n text → one < 10 → (0 < one) ⊎ (text ≢ []) → more ≡ text ++ digit one ∷ []
     → HasText (one + 10 * n) more
@@ -65,11 +60,6 @@ written n one text more (no_text is empty) below why longer =
     is_text (omega arith) (one_digit (omega arith) (rw same text_is)))
     (λ filled. absurd (filled empty)) why
 written n one text more (is_text before is) below why longer = is_text (omega arith) (more_digits is before below (omega arith) longer)
-
--- at the end nothing was written of 0, whose numeral it has
-pub all_written : (n : ℕ) (text : List ℕ) → HasText n text → text ≢ [] → IsNumeral n text
-all_written n text (no_text is empty) filled = absurd (filled empty)
-all_written n text (is_text before is) filled = is
 
 pub zero_written : (n : ℕ) (text more : List ℕ) → HasText n text → text ≡ [] → more ≡ text ++ digit 0 ∷ [] → IsNumeral n more
 zero_written n text more (no_text is empty) _ longer = one_digit (omega arith) (rw is (longer ∙ ap (λ t. t ++ digit 0 ∷ []) empty))

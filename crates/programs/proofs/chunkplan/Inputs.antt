@@ -1,33 +1,18 @@
 -- What a step leaves that reads an input and sends its plan.
-use Rattle.std.proofs.Common.{◌≡◌, ◌∙◌, ◌⊎◌, ℕ, Bool, false, List, [], Option, Some, Result, Ok, Err, inl, inr, refl, ⊎_elim}
+use Rattle.std.proofs.Common.{◌≡◌, ◌∙◌, ◌⊎◌, ℕ, Bool, false, List, [], Option, Some, Result, Ok, Err, inl, inr, ⊎_elim}
 use Rattle.serde_json.specs.Data.{Data}
 use Rattle.zarrs_chunk_base.specs.Json.{IsJsonOf}
-use Rattle.streams.specs.Watched.{IsReadFailure}
 use Rattle.programs.specs.chunkplan.Document.{Document, IsDocument}
 use Rattle.programs.specs.chunkplan.DocumentFault.{IsInputFault}
 use Rattle.programs.specs.chunkplan.Keys.{HasKeysBehind, behind_first, first_line}
 use Rattle.programs.specs.chunkplan.PlanFault.{IsFaultBeside, IsFirstFault, beside_keys, no_first_document}
 use Rattle.programs.specs.chunkplan.Planned.{IsPlanOf, IsPlannedBeside, of_keys}
-use Rattle.programs.specs.chunkplan.RunFault.{of_stream}
 use Rattle.programs.specs.chunkplan.seen.Missing.{KeyStepLeaves}
 use Rattle.programs.specs.chunkplan.seen.Steps.{InputStepLeaves, StepLeaves}
 use Rattle.streams.specs.seen.Sent.{Output}
 use Rattle.programs.specs.declared.chunkplan.run_fault.RunFault.{RunFault}
 use Rattle.programs.specs.declared.chunkplan.run_fault.RunFault.TheVariants.{Memory, Read, Write}
-use Rattle.streams.specs.declared.stream_fault.StreamFault.{StreamFault}
-use Rattle.streams.specs.declared.stream_fault.StreamFault.TheVariants.{Memory as NoMemory, Read as ReadFailed, Write as WriteFailed}
 use Rattle.programs.proofs.chunkplan.RunOutcomes.{no_read}
-
-module _ (input : List ℕ) (left : Option (List ℕ)) (before : Output) where
-  -- reading stopped, and nothing was sent
-  pub reading_stops : (fault : StreamFault) (old new : Bool) → IsReadFailure fault old new → old ≡ false
-      → InputStepLeaves input (Err (of_stream fault)) new left before before
-  reading_stops ReadFailed old new is not_read = (is, refl, refl)
-  reading_stops NoMemory old new is not_read = (is ∙ not_read, refl, inl refl)
-  reading_stops WriteFailed old new never not_read = absurd never
-
-  pub memory_ends : (read : Bool) → read ≡ false → InputStepLeaves input (Err Memory) read left before before
-  memory_ends read not_read = (not_read, refl, inl refl)
 
 -- all was read, and then the plan was sent
 pub sent_after_reading : (input : List ℕ) (read : Bool) (left : Option (List ℕ)) (before after : Output) (r : Result (Unit {0}) RunFault)

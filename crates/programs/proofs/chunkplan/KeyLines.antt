@@ -208,10 +208,6 @@ module _ (target : List Dimension) (IsKeyOf : List ℕ → List ℕ → Type 0) 
       (λ yes. same.0 (told.0 yes), λ own. told.1 (same.1 own))
   if_of_target (Err _) tells = tt
 
-pub slash_is_foreign : (target : List Dimension) (IsKeyOf : List ℕ → List ℕ → Type 0) (key : List ℕ) → EndsInSlash key
-    → ¬ IsKeyOfTarget target IsKeyOf key
-slash_is_foreign target IsKeyOf key slash (chunk, meets, (no_slash, is)) = no_slash slash
-
 -- ---- why reading them stops
 
 pub reading_stops_keys : (told : StreamFault) (bytes : Option (List ℕ)) (start old new : Bool) → IsReadFailure told old new → old ≡ start

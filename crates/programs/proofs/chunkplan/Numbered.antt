@@ -59,9 +59,6 @@ module _ {Y : Type 0} (line : ℕ → Y → List ℕ) (begin : ℕ) where
 
   module _ (HaveCome MoreCome AreAll : List Y → Type 0) (IsOne : Y → Type 0) (n : ℕ) (before between after : Output)
       (sent : HasSent (Came HaveCome n) before between) (more : (came : List Y) (y : Y) → HaveCome came → IsOne y → MoreCome (came ++ y ∷ [])) where
-    abbrev With : List ℕ → Type 0
-    With = Behind (Came HaveCome n) (IsLineOf IsOne n)
-
     -- the line of one more was sent
     pub way_goes_on : HasSent (IsLineOf IsOne n) between after → HasSent (Came MoreCome (suc n)) before after
     way_goes_on step =

@@ -1,11 +1,11 @@
 -- A line in the pieces in which it is sent is the line.
 use Rattle.std.proofs.Common.{◌≡◌, ◌∙◌, ℕ, zero, suc, ◌<◌, ◌≤◌, Bool, true, false, List, []}
-use Rattle.std.proofs.Common.{◌∷◌, ◌++◌, codes, Option, None, Some, append_assoc, ap, refl, sym, ⊎_elim}
+use Rattle.std.proofs.Common.{◌∷◌, ◌++◌, codes, Option, None, Some, append_assoc, ap, ap₂, arith, refl, sym, ⊎_elim}
 use Rattle.std.proofs.lemmas.Grind.{fold-append}
 use Rattle.std.specs.List.{fold}
 use Rattle.json.specs.Json.{Json, null, boolean as boolean_json, number, string as string_json, array, object, Items, no_items, item, Members, no_members}
 use Rattle.json.specs.Json.{member}
-use Rattle.json.specs.Print.{begins, ends, print, print_from}
+use Rattle.json.specs.Print.{begins, ends, escape_byte, print, print_from, separator}
 use Rattle.json.specs.Token.{Token, begin_array, begin_object, boolean, end_array, end_object, key, string}
 use Rattle.json.specs.Tree.{items_tokens, json_tokens, members_tokens}
 use Rattle.json.proofs.Printed.Tokens.{print_from-append}
@@ -18,6 +18,8 @@ use Rattle.programs.specs.chunkplan.Document.{RangesWanted}
 use Rattle.programs.specs.chunkplan.Line.{box_json, chunk_json, count_json, end_members, group_json, group_line, lines_from, numbers_json, part_json}
 use Rattle.programs.specs.chunkplan.Line.{piece_json, pieces_items, place_name}
 use Rattle.programs.specs.chunkplan.seen.Pieces.{begin_of_line, begin_tokens, comma_before, end_of_line, end_tokens, piece_text, ranges_tokens, whole_tokens}
+use Rattle.streams.specs.OneLine.{unbroken}
+use Rattle.streams.proofs.OneLines.{unbroken-append}
 use Rattle.programs.specs.declared.chunkplan.line.Order.{Order}
 use Rattle.programs.specs.declared.chunkplan.line.Order.TheVariants.{Source, Target}
 
@@ -65,14 +67,104 @@ first_printed ts (suc n) t begins_value =
 begun_again : (b : Bool) (ts us : List Token) → ((c : Bool) → ended c us ≡ false) → ended b (ts ++ us) ≡ false
 begun_again b ts us none = fold-append (λ _ t. ends t) b ts us ∙ none (ended b ts)
 
+-- ---- pieces of the text, each with the characters escaped that break a line
+
+-- the text ends with this byte
+abbrev EndsWith : ℕ → List ℕ → Type 0
+EndsWith last text = (front : List ℕ) × (text ≡ front ++ last ∷ [])
+
+escaped_apart : (last : ℕ) → last < 128 → (xs ys : List ℕ) → EndsWith last xs → unbroken (xs ++ ys) ≡ unbroken xs ++ unbroken ys
+escaped_apart last ascii xs ys (front, is) = rw is (unbroken-append front ys last ascii)
+
+-- what is printed last is a bracket
+ends_with_bracket : (ts : List Token) → EndsWith 91 (print (ts ++ begin_array ∷ []))
+unfolding print_from
+ends_with_bracket ts =
+    let comma = separator (ended false ts) begin_array in
+    (print ts ++ comma, print_from-append false ts (begin_array ∷ []) ∙ sym (append_assoc (print ts) comma (91 ∷ [])))
+
+ends_with_brace : (ts : List Token) → EndsWith 125 (print (ts ++ end_object ∷ []))
+unfolding print_from
+ends_with_brace ts =
+    let none = separator (ended false ts) end_object in
+    (print ts ++ none, print_from-append false ts (end_object ∷ []) ∙ sym (append_assoc (print ts) none (125 ∷ [])))
+
+last_brace : (ms : Members) → (ts : List Token) × (members_tokens ms ≡ ts ++ end_object ∷ [])
+last_brace no_members = ([], refl)
+last_brace (member k j ms) =
+    let (ts, is) = last_brace ms in
+    (key k ∷ (json_tokens j ++ ts), ap (λ us. key k ∷ us) (ap (λ us. json_tokens j ++ us) is ∙ sym (append_assoc (json_tokens j) ts (end_object ∷ []))))
+
+object_ends : (json : Json) (ms : Members) → json ≡ object ms → EndsWith 125 (print (json_tokens json))
+object_ends json ms same =
+    let (ts, is) = last_brace ms in
+    let (front, ends) = ends_with_brace (begin_object ∷ ts) in
+    (front, ap (λ j. print (json_tokens j)) same ∙ ap (λ us. print (begin_object ∷ us)) is ∙ ends)
+
+-- a comma before a text stays as it is
+comma_stays : (at : Option ℕ) (text : List ℕ) → unbroken (comma_before at ++ text) ≡ comma_before at ++ unbroken text
+comma_stays (Some zero) text = refl
+comma_stays (Some (suc n)) text = unbroken-append [] text 44 (omega arith)
+comma_stays None text = unbroken-append [] text 44 (omega arith)
+
+-- the text of a piece as it is printed
+pub piece_escaped : (order : Order) (of : Part) (at : Option ℕ) (part : Part)
+    → unbroken (comma_before at ++ print (json_tokens (piece_json order of.in_chunk.start part))) ≡ piece_text order of at part
+piece_escaped order of at part = comma_stays at (print (json_tokens (piece_json order of.in_chunk.start part)))
+
+begin_ends : (order : Order) (at of : Option ℕ) (part : Part) → EndsWith 91 (print (begin_tokens order at of part))
+begin_ends Target at of part = ends_with_bracket (begin_object ∷ key (codes "from") ∷ [])
+begin_ends Source at of part =
+    let chunk = json_tokens (chunk_json part) in
+    let number = json_tokens (count_json at) in
+    let count = json_tokens (count_json of) in
+    let last : List Token = begin_array ∷ [] in
+    let third : List Token = key (codes "of") ∷ (count ++ key (codes "to") ∷ []) in
+    let second : List Token = key (codes "number") ∷ (number ++ third) in
+    let (front, ends) = ends_with_bracket (begin_object ∷ key (codes "from") ∷ (chunk ++ second)) in (
+      front,
+      ap (λ ts. print (begin_object ∷ key (codes "from") ∷ ts))
+          (ap (λ ts. chunk ++ key (codes "number") ∷ ts)
+          (ap (λ ts. number ++ key (codes "of") ∷ ts) (sym (append_assoc count (key (codes "to") ∷ []) last)) ∙ sym (append_assoc number third last))
+          ∙ sym (append_assoc chunk second last))
+          ∙ ends,
+    )
+
+-- the text that begins the line of a chunk of the target has no character to escape
+pub begin_escaped : (at of : Option ℕ) (part : Part) → unbroken (print (begin_tokens Target at of part)) ≡ print (begin_tokens Target at of part)
+unfolding print_from escape_byte
+begin_escaped at of part = refl
+
 module _ (of : Part) where
+  -- a piece, printed
+  abbrev printed : Order → Option ℕ → Part → List ℕ
+  printed order at part = comma_before at ++ print (json_tokens (piece_json order of.in_chunk.start part))
+
+  piece_ends : (order : Order) (at : Option ℕ) (part : Part) → EndsWith 125 (printed order at part)
+  piece_ends order at part =
+      let json = piece_json order of.in_chunk.start part in
+      let (front, ends) = object_ends json _ refl in
+      (comma_before at ++ front, ap (λ text. comma_before at ++ text) ends ∙ sym (append_assoc (comma_before at) front (125 ∷ [])))
+
+  pieces_escaped : (order : Order) (n : ℕ) (parts : List Part) (rest : List ℕ)
+      → unbroken (lines_from (λ n. printed order (counted n)) n parts ++ rest)
+      ≡ lines_from (λ n. piece_text order of (counted n)) n parts ++ unbroken rest
+  pieces_escaped order n [] rest = refl
+  pieces_escaped order n (part ∷ parts) rest =
+      let one = printed order (counted n) part in
+      let others = lines_from (λ n. printed order (counted n)) (suc n) parts in
+      ap unbroken (append_assoc one others rest)
+      ∙ escaped_apart 125 (omega arith) one (others ++ rest) (piece_ends order (counted n) part)
+      ∙ ap₂ (λ xs ys. xs ++ ys) (piece_escaped order of (counted n) part) (pieces_escaped order (suc n) parts rest)
+      ∙ sym (append_assoc (piece_text order of (counted n) part) _ _)
+
   piece_printed : (order : Order) (n : ℕ) (part : Part)
-      → print_from (some_came n) (json_tokens (piece_json order of.in_chunk.start part)) ≡ piece_text order of (counted n) part
+      → print_from (some_came n) (json_tokens (piece_json order of.in_chunk.start part)) ≡ printed order (counted n) part
   piece_printed order n part = first_printed _ n begin_object refl
 
   pieces_texts : (order : Order) (n : ℕ) (parts : List Part) (ts : List Token)
       → print_from (some_came n) (items_tokens (pieces_items order of.in_chunk.start parts) ++ ts)
-      ≡ lines_from (λ n. piece_text order of (counted n)) n parts ++ print_from false (end_array ∷ ts)
+      ≡ lines_from (λ n. printed order (counted n)) n parts ++ print_from false (end_array ∷ ts)
   unfolding print_from
   pieces_texts order zero [] ts = refl
   pieces_texts order (suc n) [] ts = refl
@@ -83,8 +175,8 @@ module _ (of : Part) where
       ap (print_from (some_came n)) (append_assoc js rest ts)
       ∙ print_from-append (some_came n) js (rest ++ ts)
       ∙ rw (json_ends (some_came n) json, piece_printed order n part)
-      (ap (λ text. piece_text order of (counted n) part ++ text) (pieces_texts order (suc n) others ts))
-      ∙ sym (append_assoc (piece_text order of (counted n) part) _ _)
+      (ap (λ text. printed order (counted n) part ++ text) (pieces_texts order (suc n) others ts))
+      ∙ sym (append_assoc (printed order (counted n) part) _ _)
 
   -- the tokens of a line: those before its pieces, the pieces, and those behind them
   line_tokens : (order : Order) (at all : Option ℕ) (parts : List Part) → (ts : List Token)
@@ -114,17 +206,21 @@ module _ (of : Part) where
       → group_line order at all (of, parts)
       ≡ (begin_of_line order at all of ++ lines_from (λ n. piece_text order of (counted n)) 0 parts) ++ end_of_line order at all of
   in_pieces order at all parts =
-      let texts = lines_from (λ n. piece_text order of (counted n)) 0 parts in
+      let texts = lines_from (λ n. printed order (counted n)) 0 parts in
       let first = begin_tokens order at all of in
-      let (ts, tokens, last, begun) = line_tokens order at all parts in
+      let last = print (end_tokens order at all of) in
+      let (ts, tokens, end, begun) = line_tokens order at all parts in
       let pieces = items_tokens (pieces_items order of.in_chunk.start parts) in
-      let rest : print_from (ended false first) (pieces ++ ts) ≡ texts ++ print (end_tokens order at all of) =
-      ap (λ b. print_from b (pieces ++ ts)) begun ∙ pieces_texts order 0 parts ts ∙ ap (λ us. texts ++ print us) (sym last)
+      let rest : print_from (ended false first) (pieces ++ ts) ≡ texts ++ last =
+      ap (λ b. print_from b (pieces ++ ts)) begun ∙ pieces_texts order 0 parts ts ∙ ap (λ us. texts ++ print us) (sym end)
       in
+      let whole = ap print tokens ∙ print_from-append false first (pieces ++ ts) ∙ ap (λ text. print first ++ text) rest in
+      let begin = begin_of_line order at all of in
+      let escaped = lines_from (λ n. piece_text order of (counted n)) 0 parts in
       ap (λ text. text ++ codes "\n")
-      (ap print tokens ∙ print_from-append false first (pieces ++ ts) ∙ ap (λ text. print first ++ text) rest
-      ∙ sym (append_assoc (print first) texts (print (end_tokens order at all of))))
-      ∙ append_assoc (print first ++ texts) (print (end_tokens order at all of)) (codes "\n")
+      (ap unbroken whole ∙ escaped_apart 91 (omega arith) (print first) (texts ++ last) (begin_ends order at all of)
+      ∙ ap (λ text. begin ++ text) (pieces_escaped order 0 parts last) ∙ sym (append_assoc begin escaped (unbroken last)))
+      ∙ append_assoc (begin ++ escaped) (unbroken last) (codes "\n")
 
 -- the tokens of a part of a read
 pub part_tokens : (at of : Option ℕ) (wanted : Option RangesWanted) (part : Part) → json_tokens (part_json at of wanted part)

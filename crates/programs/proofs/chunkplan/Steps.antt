@@ -1,13 +1,9 @@
 -- What a step leaves that sends the text of a plan, in other words.
-use Rattle.std.proofs.Common.{◌≡◌, ◌∙◌, ◌⊎◌, ℕ, List, Result, Ok, Err, inl, inr, refl, ⊎_elim}
-use Rattle.streams.specs.Watched.{IsWriteFailure}
-use Rattle.programs.specs.chunkplan.RunFault.{of_stream}
+use Rattle.std.proofs.Common.{◌≡◌, ◌⊎◌, ℕ, List, Result, Ok, Err, inl, inr, refl, ⊎_elim}
 use Rattle.programs.specs.chunkplan.seen.Steps.{HasBegun, StepLeaves}
 use Rattle.streams.specs.seen.Sent.{Output}
 use Rattle.programs.specs.declared.chunkplan.run_fault.RunFault.{RunFault}
 use Rattle.programs.specs.declared.chunkplan.run_fault.RunFault.TheVariants.{Memory, Write}
-use Rattle.streams.specs.declared.stream_fault.StreamFault.{StreamFault}
-use Rattle.streams.specs.declared.stream_fault.StreamFault.TheVariants.{Memory as NoMemory, Read as ReadFailed, Write as WriteFailed}
 
 module _ (P Q : List ℕ → Type 0) (F G : RunFault → Type 0) (step : (text : List ℕ) → P text → Q text)
     (blames : (fault : RunFault) → F fault → G fault)
@@ -28,11 +24,3 @@ early P F fault before none (inl is) = rw is (refl, inl refl)
 early P F Write before none (inr is) = absurd (none is)
 early P F Memory before none (inr is) = (refl, inl refl)
 early P F _ before none (inr is) = (refl, refl, is)
-
--- a write that failed, or memory that ran out, on the way to a text that had begun
-pub stops : (P : List ℕ → Type 0) (F : RunFault → Type 0) (before between after : Output) (fault : StreamFault)
-    → IsWriteFailure fault between.failed after.failed → between.failed ≡ before.failed → HasBegun P before after
-    → StepLeaves P F (Err (of_stream fault)) before after
-stops P F before between after WriteFailed now same begun = (now, begun)
-stops P F before between after NoMemory is same begun = (is ∙ same, inr begun)
-stops P F before between after ReadFailed never same begun = absurd never

@@ -5,19 +5,21 @@ use Rattle.std.proofs.lemmas.Option.{slice_get_within}
 use Rattle.std.proofs.lemmas.Slice.Zip.{AllZip-long, AllZip-right}
 use Rattle.std.specs.List.{AllZip}
 use Rattle.zarrs_chunk_base.specs.Dimension.{Dimension}
+use Rattle.zarrs_chunk_keys.specs.declared.chunk_key_encoding.named.ChunkKeyEncoding.{ChunkKeyEncoding}
 use Rattle.zarrs_chunk_plan.specs.Counted.{counted}
 use Rattle.zarrs_chunk_plan.specs.Rechunking.{Group}
 use Rattle.zarrs_chunk_plan.specs.StoredChunks.{IsListed}
 use Rattle.zarrs_chunk_plan.specs.declared.chunk_copies.Copies.{Copies}
 use Rattle.zarrs_chunk_plan.specs.declared.share.Share.{Share}
 use Rattle.zarrs_chunk_plan.specs.declared.stored_chunks.StoredChunks.{StoredChunks}
-use Rattle.zarrs_chunk_plan.specs.seen.Copies.{AreMovesToCome}
 use Rattle.zarrs_chunk_plan.specs.seen.StoredChunks.{Knows, is_stored}
 use Rattle.zarrs_chunk_plan.proofs.ByNumber.{counted_cases}
+use Rattle.zarrs_chunks.specs.declared.chunk_grid.named.ChunkGrid.{ChunkGrid}
 use Rattle.programs.specs.chunkplan.Keys.{AsStoreKey, IsKeysFault, IsMissingText, TellsThere}
 use Rattle.programs.specs.declared.chunkplan.line.Order.TheVariants.{Target}
 use Rattle.programs.specs.declared.chunkplan.run_fault.RunFault.{RunFault}
 use Rattle.programs.specs.chunkplan.seen.Missing.{HaveMarked, HaveNoted, is_left_out, share_unless_stored}
+use Rattle.programs.specs.chunkplan.seen.Opened.{CopiesToCome}
 
 both_true : (one other : Bool) → IsTrue (one && other) ↔ (IsTrue one × IsTrue other)
 both_true true true = (λ is. (refl, refl), λ is. refl)
@@ -87,11 +89,10 @@ module _ (target : List Dimension) (IsKeyOf : List ℕ → List ℕ → Type 0) 
 
 -- ---- what is sent of a walk, and why it stops
 
-module _ {G E H F : Type 0} (dimensions : G → List Dimension) (is_key : E → List ℕ → List ℕ → Type 0) (also : H → List Dimension)
-    (also_key : F → List ℕ → List ℕ → Type 0) (walk : Copies G E H F) where
+module _ (walk : Copies ChunkGrid ChunkKeyEncoding ChunkGrid ChunkKeyEncoding) where
   abbrev pub TextOf : (target : List Dimension) → (List ℕ → List ℕ → Type 0) → Share → List (List ℕ) → List ℕ → Type 0
-  TextOf target IsKeyOf share keys text = (groups : List Group) × AreMovesToCome dimensions is_key also also_key walk groups
+  TextOf target IsKeyOf share keys text = (groups : List Group) × CopiesToCome walk groups
       × IsMissingText target IsKeyOf keys share groups text
 
   abbrev pub FaultOf : List (List ℕ) → RunFault → Type 0
-  FaultOf keys fault = (groups : List Group) × AreMovesToCome dimensions is_key also also_key walk groups × IsKeysFault groups keys fault
+  FaultOf keys fault = (groups : List Group) × CopiesToCome walk groups × IsKeysFault groups keys fault

@@ -1,4 +1,4 @@
--- The lines of a plan: compact JSON, an object a line.
+-- The lines of a plan: compact JSON, an object a line. Characters that break a line for some reader are escaped.
 -- Source: RFC 8259, and JSON Lines; the members are this program's own.
 use Rattle.std.specs.Prelude.{ℕ, suc, List, [], ◌∷◌, ◌++◌, length, codes, cond, decimal, nat_le, Option, Some, None}
 use Rattle.json.specs.Json.{Json, null, boolean, number, string, array, object, Items, no_items, item, Members, no_members, member}
@@ -20,6 +20,7 @@ use Rattle.zarrs_chunk_plan.specs.declared.resize.Held.{Held}
 use Rattle.zarrs_chunk_plan.specs.declared.share.Share.{Share}
 use Rattle.zarrs_chunk_questions.specs.Order.{order_text}
 use Rattle.programs.specs.chunkplan.Document.{RangesWanted}
+use Rattle.streams.specs.OneLine.{line_of as one_line}
 use Rattle.programs.specs.declared.chunkplan.line.Order.{Order}
 use Rattle.programs.specs.declared.chunkplan.line.Order.TheVariants.{Source, Target}
 
@@ -42,7 +43,7 @@ count_json None = null
 
 -- the line of a value
 abbrev pub line_of : Json → List ℕ
-line_of json = print (json_tokens json) ++ codes "\n"
+line_of json = one_line (print (json_tokens json))
 
 -- The lines of a list, each by its number: they are counted from a first number on.
 abbrev pub lines_from : {X : Type 0} → (ℕ → X → List ℕ) → ℕ → List X → List ℕ

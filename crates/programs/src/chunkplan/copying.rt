@@ -10,40 +10,40 @@ ghost use Rattle.zarrs_chunk_plan.specs.Resize.{IsUsed};
 ghost use Rattle.zarrs_chunk_parts.specs.declared.part.Part.{Part as PartValue};
 ghost use Rattle.zarrs_chunk_plan.specs.declared.resize.ChunkChange.{ChunkChange as ChangeValue};
 ghost use Rattle.zarrs_chunk_plan.specs.seen.Changes.{AreChangesToCome, CanChange, all_changes, changes_to_come};
-ghost use Rattle.zarrs_chunk_plan.specs.seen.Copies.{AreMovesToCome, CanMove, all_targets, region_of};
-ghost use Rattle.zarrs_chunk_plan.specs.seen.Parts.{ArePartsToCome, HasKeys, MeetSubset};
+ghost use Rattle.zarrs_chunk_plan.specs.seen.Copies.{all_targets, region_of};
 ghost use Rattle.programs.specs.chunkplan.Line.{group_line, lines_from, resize_lines};
 ghost use Rattle.programs.specs.chunkplan.seen.Missing.{is_left_out as left_out, line_unless_stored};
+ghost use Rattle.programs.specs.chunkplan.seen.Opened.{CanGiveCopies, CanGiveParts, CopiesToCome, PartsToCome, dimensions_in, key_in};
 ghost use Rattle.programs.specs.chunkplan.seen.Pieces.{text_as};
 ghost use Rattle.programs.specs.chunkplan.seen.Steps.{StepLeaves};
 ghost use Rattle.streams.specs.seen.Sent.{output};
 
 use crate::chunkplan::RunFault;
 use crate::chunkplan::line::{Form, Order, change_line, line_begin, line_end, part_text};
+use crate::chunkplan::opened::{OpenedCopies, OpenedGroup, OpenedParts};
 use std::alloc::Global;
 use std::io::Write;
 use streams::{Watched, send};
-use zarrs_chunk_keys::ChunkKeyEncodingTraits;
-use zarrs_chunk_plan::{Changes, ChunkCopies, Copies, Part, Parts, StoredChunks};
-use zarrs_chunks::ChunkGridTraits;
+use zarrs_chunk_keys::ChunkKeyEncoding;
+use zarrs_chunk_plan::{Changes, ChunkCopies, Part, StoredChunks};
+use zarrs_chunks::ChunkGrid;
 
 /// Sends the text of each part that a walk has left, in one form; the first one has the number `first`.
 ///
 /// # Errors
 /// A write failed, or out of memory. What was sent by then is a beginning of these texts.
-pub(crate) fn write_parts<G: ChunkGridTraits, E: ChunkKeyEncodingTraits, W: Write>(
+pub(crate) fn write_parts<W: Write>(
     alloc: Global,
-    walk: Parts<'_, G, E>,
+    walk: OpenedParts<'_>,
     form: Form<'_>,
     first: Option<u64>,
     held_back: &mut Vec<u8>,
     writer: &mut Watched<W>,
 ) -> Result<(), RunFault>
-    requires meet { MeetSubset G.dimensions walk }
+    requires meet { CanGiveParts walk }
     requires is_box { IsBox walk.array_subset }
-    requires keys { HasKeys (E.is_key walk.encoding.now) }
     ensures { (begin : ℕ) → first ≡ counted begin → StepLeaves
-        (λ text. (parts : List PartValue) × ArePartsToCome G.dimensions E.is_key walk.entry parts
+        (λ text. (parts : List PartValue) × PartsToCome walk.entry parts
         × (text ≡ lines_from (λ number. text_as form.entry (counted number)) begin parts))
         (λ _. ⊥) result
         (output W.contents held_back.old.items writer.old)
@@ -63,30 +63,22 @@ pub(crate) fn write_parts<G: ChunkGridTraits, E: ChunkKeyEncodingTraits, W: Writ
 ///
 /// # Errors
 /// As `write_parts`.
-pub(crate) fn write_copies<
-    G: ChunkGridTraits,
-    E: ChunkKeyEncodingTraits,
-    H: ChunkGridTraits,
-    F: ChunkKeyEncodingTraits,
-    W: Write,
->(
+pub(crate) fn write_copies<W: Write>(
     alloc: Global,
-    walk: Copies<'_, G, E, H, F>,
+    walk: OpenedCopies<'_>,
     order: Order,
     first: Option<u64>,
     stored: Option<&StoredChunks>,
     held_back: &mut Vec<u8>,
     writer: &mut Watched<W>,
 ) -> Result<(), RunFault>
-    requires can { CanMove G.dimensions H.dimensions walk }
+    requires can { CanGiveCopies walk }
     requires is_box { IsBox walk.targets.array_subset }
     requires region { IsBox (region_of walk) }
-    requires keys { HasKeys (E.is_key walk.source.now.encoding) }
-    requires target_keys { HasKeys (F.is_key walk.targets.encoding.now) }
     requires numbered { (begin : ℕ) × (first ≡ counted begin) }
     ensures { (begin : ℕ) → first ≡ counted begin → StepLeaves
         (λ text. (groups : List Group)
-        × AreMovesToCome G.dimensions E.is_key H.dimensions F.is_key walk.entry groups
+        × CopiesToCome walk.entry groups
         × (text ≡ lines_from (λ number. line_unless_stored order
         (option_map (λ s. s.now) stored.entry) (counted number)
         (counted (length (all_targets walk.entry)))) begin groups))
@@ -104,9 +96,9 @@ pub(crate) fn write_copies<
 }
 
 /// Sends the line of one chunk, unless that is known to be stored, and would be written whole.
-fn write_unless_stored<G: ChunkGridTraits, E: ChunkKeyEncodingTraits, W: Write>(
+fn write_unless_stored<W: Write>(
     alloc: Global,
-    group: ChunkCopies<'_, G, E>,
+    group: OpenedGroup<'_>,
     order: Order,
     stored: Option<&StoredChunks>,
     number: Option<u64>,
@@ -114,12 +106,11 @@ fn write_unless_stored<G: ChunkGridTraits, E: ChunkKeyEncodingTraits, W: Write>(
     held_back: &mut Vec<u8>,
     writer: &mut Watched<W>,
 ) -> Result<(), RunFault>
-    requires meet { MeetSubset G.dimensions group.from }
+    requires meet { CanGiveParts group.from }
     requires is_box { IsBox group.from.array_subset }
-    requires keys { HasKeys (E.is_key group.from.encoding.now) }
     ensures { StepLeaves
         (λ text. (from : List PartValue)
-        × ArePartsToCome G.dimensions E.is_key group.entry.from from
+        × PartsToCome group.entry.from from
         × (text ≡ line_unless_stored order (option_map (λ s. s.now) stored.entry) number of
         (group.entry.to, from)))
         (λ _. ⊥) result
@@ -146,27 +137,21 @@ fn is_left_out(stored: Option<&StoredChunks>, number: Option<u64>, to: &Part) ->
 ///
 /// # Errors
 /// As `write_parts`.
-pub(crate) fn write_changes<
-    G: ChunkGridTraits,
-    H: ChunkGridTraits,
-    E: ChunkKeyEncodingTraits,
-    W: Write,
->(
+pub(crate) fn write_changes<W: Write>(
     alloc: Global,
-    walk: Changes<'_, G, H, E>,
+    walk: Changes<'_, ChunkGrid, ChunkGrid, ChunkKeyEncoding>,
     held_back: &mut Vec<u8>,
     writer: &mut Watched<W>,
 ) -> Result<(), RunFault>
-    requires can { CanChange G.dimensions H.dimensions walk }
-    requires used { AllByRecursion (λ chunk. IsUsed (G.dimensions walk.before.now) chunk
-        ⊎ IsUsed (H.dimensions walk.after.now) chunk) (changes_to_come walk) }
+    requires can { CanChange dimensions_in dimensions_in walk }
+    requires used { AllByRecursion (λ chunk. IsUsed (dimensions_in walk.before.now) chunk
+        ⊎ IsUsed (dimensions_in walk.after.now) chunk) (changes_to_come walk) }
     requires all { all_changes walk ≡ changes_to_come walk }
-    requires fit { AllFit (array_sizes (G.dimensions walk.before.now)) }
-    requires also_fit { AllFit (array_sizes (H.dimensions walk.after.now)) }
-    requires keys { HasKeys (E.is_key walk.encoding.now) }
+    requires fit { AllFit (array_sizes (dimensions_in walk.before.now)) }
+    requires also_fit { AllFit (array_sizes (dimensions_in walk.after.now)) }
     ensures { StepLeaves
         (λ text. (changes : List ChangeValue)
-        × AreChangesToCome G.dimensions H.dimensions E.is_key walk.entry changes
+        × AreChangesToCome dimensions_in dimensions_in key_in walk.entry changes
         × (text ≡ resize_lines changes))
         (λ _. ⊥) result
         (output W.contents held_back.old.items writer.old)
@@ -183,21 +168,20 @@ pub(crate) fn write_changes<
 }
 
 /// Sends the line of one chunk.
-fn write_group<G: ChunkGridTraits, E: ChunkKeyEncodingTraits, W: Write>(
+fn write_group<W: Write>(
     alloc: Global,
-    group: ChunkCopies<'_, G, E>,
+    group: OpenedGroup<'_>,
     order: Order,
     number: Option<u64>,
     of: Option<u64>,
     held_back: &mut Vec<u8>,
     writer: &mut Watched<W>,
 ) -> Result<(), RunFault>
-    requires meet { MeetSubset G.dimensions group.from }
+    requires meet { CanGiveParts group.from }
     requires is_box { IsBox group.from.array_subset }
-    requires keys { HasKeys (E.is_key group.from.encoding.now) }
     ensures { StepLeaves
         (λ text. (from : List PartValue)
-        × ArePartsToCome G.dimensions E.is_key group.entry.from from
+        × PartsToCome group.entry.from from
         × (text ≡ group_line order number of (group.entry.to, from)))
         (λ _. ⊥) result
         (output W.contents held_back.old.items writer.old)

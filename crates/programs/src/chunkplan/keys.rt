@@ -5,18 +5,18 @@ ghost use Rattle.std.specs.Str.{IsUtf8};
 ghost use Rattle.streams.specs.Watched.{has_failed, watched};
 ghost use Rattle.programs.specs.chunkplan.Keys.{AreKeys, HasKeysBehind, IsKeyOfTarget, unended};
 ghost use Rattle.programs.specs.chunkplan.seen.Missing.{HaveMarked, HaveNoted, IsKeysStop, with_line};
+ghost use Rattle.programs.specs.chunkplan.seen.Opened.{dimensions_of, key_of};
 ghost use Rattle.programs.specs.declared.chunkplan.run_fault.RunFault.TheVariants.{KeyNotText, Memory};
 ghost use Rattle.streams.specs.seen.Lines.{left};
 
 use crate::chunkplan::RunFault;
 use crate::chunkplan::line::foreign_line;
+use crate::chunkplan::opened::OpenedArray;
 use std::alloc::{AllocError, Global};
 use std::io::Read;
 use streams::{Lines, Watched};
 use zarrs_chunk_base::{StoreKey, read_json};
-use zarrs_chunk_keys::ChunkKeyEncodingTraits;
-use zarrs_chunk_plan::{StoredArray, StoredChunks};
-use zarrs_chunks::ChunkGridTraits;
+use zarrs_chunk_plan::StoredChunks;
 
 /// Whether a first line is a document in which `keys` is true.
 ///
@@ -39,9 +39,9 @@ pub(crate) fn has_keys_behind(alloc: Global, line: &[u8]) -> Result<bool, AllocE
 ///
 /// # Errors
 /// A read failed; a key is no text; or out of memory.
-pub(crate) fn note_keys<R: Read, H: ChunkGridTraits, F: ChunkKeyEncodingTraits>(
+pub(crate) fn note_keys<R: Read>(
     alloc: Global,
-    target: &StoredArray<H, F>,
+    target: &OpenedArray,
     stored: &mut StoredChunks,
     foreign: &mut Vec<u8>,
     lines: &mut Lines,
@@ -49,10 +49,10 @@ pub(crate) fn note_keys<R: Read, H: ChunkGridTraits, F: ChunkKeyEncodingTraits>(
 ) -> Result<(), RunFault>
     ensures noted { OnOk result ((bytes : List ℕ) (targets : List (List ℕ))
         → left lines.old (R.remaining (watched reader.old)) ≡ Some bytes
-        → HaveNoted (H.dimensions target.now.grid) (F.is_key target.now.encoding) targets []
+        → HaveNoted (dimensions_of target.now) (key_of target.now) targets []
         stored.old foreign.old.items
         → (keys : List (List ℕ)) × AreKeys bytes keys
-        × HaveNoted (H.dimensions target.now.grid) (F.is_key target.now.encoding) targets keys
+        × HaveNoted (dimensions_of target.now) (key_of target.now) targets keys
         stored.new foreign.new.items) }
     ensures end { OnOk result (IfSome (left lines.old (R.remaining (watched reader.old)))
         (λ _. R.remaining (watched reader.new) ≡ Some [])) }
@@ -78,17 +78,17 @@ pub(crate) fn note_keys<R: Read, H: ChunkGridTraits, F: ChunkKeyEncodingTraits>(
 ///
 /// # Errors
 /// The key is no text; or out of memory.
-fn note_line<H: ChunkGridTraits, F: ChunkKeyEncodingTraits>(
+fn note_line(
     alloc: Global,
-    target: &StoredArray<H, F>,
+    target: &OpenedArray,
     stored: &mut StoredChunks,
     foreign: &mut Vec<u8>,
     line: &[u8],
 ) -> Result<(), RunFault>
     ensures noted { OnOk result ((targets keys : List (List ℕ))
-        → HaveNoted (H.dimensions target.now.grid) (F.is_key target.now.encoding) targets keys
+        → HaveNoted (dimensions_of target.now) (key_of target.now) targets keys
         stored.old foreign.old.items
-        → HaveNoted (H.dimensions target.now.grid) (F.is_key target.now.encoding) targets
+        → HaveNoted (dimensions_of target.now) (key_of target.now) targets
         (with_line keys line.now) stored.new foreign.new.items) }
     ensures refused { IfErr result (λ fault. (fault ≡ Memory)
         ⊎ ((fault ≡ KeyNotText) × (line.now ≢ []) × (¬ IsUtf8 line.now))) }
@@ -111,21 +111,21 @@ fn note_line<H: ChunkGridTraits, F: ChunkKeyEncodingTraits>(
 ///
 /// # Errors
 /// Out of memory.
-fn note_key<H: ChunkGridTraits, F: ChunkKeyEncodingTraits>(
+fn note_key(
     alloc: Global,
-    target: &StoredArray<H, F>,
+    target: &OpenedArray,
     stored: &mut StoredChunks,
     key: &str,
 ) -> Result<bool, AllocError>
     ensures noted { OnOk result ((targets keys : List (List ℕ))
-        → HaveMarked (H.dimensions target.now.grid) (F.is_key target.now.encoding) targets keys
+        → HaveMarked (dimensions_of target.now) (key_of target.now) targets keys
         stored.old
-        → HaveMarked (H.dimensions target.now.grid) (F.is_key target.now.encoding) targets
+        → HaveMarked (dimensions_of target.now) (key_of target.now) targets
         (keys ++ key.now ∷ []) stored.new) }
     ensures of_target { IfOk result (λ is. (targets keys : List (List ℕ))
-        → HaveMarked (H.dimensions target.now.grid) (F.is_key target.now.encoding) targets keys
+        → HaveMarked (dimensions_of target.now) (key_of target.now) targets keys
         stored.old
-        → IsTrue is ↔ IsKeyOfTarget (H.dimensions target.now.grid) (F.is_key target.now.encoding)
+        → IsTrue is ↔ IsKeyOfTarget (dimensions_of target.now) (key_of target.now)
         key.now) }
 {
     match StoreKey::new(String::from_str(alloc, key)?) {

@@ -1,5 +1,5 @@
 //! The text of a line of a plan.
-ghost use Rattle.std.specs.Prelude.{◌≡◌, [], ◌∷◌, ◌++◌, codes, option_map, IfOk, OnOk};
+ghost use Rattle.std.specs.Prelude.{◌≡◌, [], ◌∷◌, codes, option_map, IfOk, OnOk};
 ghost use Rattle.json.specs.Print.{print};
 ghost use Rattle.json.specs.Token.{begin_array, begin_object, boolean, end_array, end_object, key, null, string};
 ghost use Rattle.json.specs.Tree.{json_tokens};
@@ -10,11 +10,13 @@ ghost use Rattle.programs.specs.chunkplan.Line.{chunk_json, part_json, place_nam
 ghost use Rattle.programs.specs.chunkplan.seen.Added.{Adds};
 ghost use Rattle.programs.specs.chunkplan.seen.Pieces.{begin_of_line, comma_before, end_of_line, piece_text, ranges_tokens, text_as, whole_tokens};
 ghost use Rattle.programs.specs.declared.chunkplan.line.Order.TheVariants.{Source, Target};
+ghost use Rattle.streams.specs.OneLine.{line_of as one_line_of};
 
 use crate::chunkplan::part_ranges::write_ranges;
 use crate::chunkplan::ranges::RangesAsked;
 use json::{Token, Writer};
 use std::alloc::{AllocError, Global};
+use streams::{one_line, unbroken};
 use zarrs_chunk_base::{ArraySubset, StoreKey};
 use zarrs_chunk_plan::{Change, ChunkChange, Held, Part, place_in_target};
 
@@ -80,7 +82,7 @@ fn part_line(
     write_numbers(&mut json, "shape", part.shape.as_slice())?;
     write_whole(&mut json, part.whole)?;
     json.end_object()?;
-    ended(json)
+    ended(alloc, json)
 }
 
 /// Writes the member `ranges`, where it is wanted.
@@ -119,7 +121,7 @@ fn piece_text(
     write_numbers(&mut json, "shape", part.shape.as_slice())?;
     write_whole_of_piece(&mut json, order, part)?;
     json.end_object()?;
-    Ok(json.into_inner())
+    unbroken(alloc, &json.into_inner())
 }
 
 /// What the box of the line's chunk is called in a piece of the line.
@@ -200,7 +202,7 @@ fn begin_of_source(
     write_count(&mut json, "of", of)?;
     json.key("to")?;
     json.begin_array()?;
-    Ok(json.into_inner())
+    unbroken(alloc, &json.into_inner())
 }
 
 /// The end of the line of a chunk, behind its pieces.
@@ -224,13 +226,13 @@ pub(crate) fn line_end(
 
 /// The end of the line of a chunk of the source.
 fn end_of_source(alloc: Global) -> Result<Vec<u8>, AllocError>
-    ensures { IfOk result (λ text. text.items ≡ print (end_array ∷ end_object ∷ [])
-        ++ codes "\n") }
+    ensures { IfOk result (λ text. text.items
+        ≡ one_line_of (print (end_array ∷ end_object ∷ []))) }
 {
     let mut json = Writer::new(Vec::with_capacity(alloc, LINE_LEN)?);
     json.end_array()?;
     json.end_object()?;
-    ended(json)
+    ended(alloc, json)
 }
 
 /// The end of the line of a chunk of the target.
@@ -249,7 +251,7 @@ fn end_of_target(
     write_chunk(&mut json, "to", to)?;
     write_whole(&mut json, to.whole)?;
     json.end_object()?;
-    ended(json)
+    ended(alloc, json)
 }
 
 /// The line of the change of a chunk, by its number in its walk.
@@ -276,7 +278,7 @@ pub(crate) fn change_line(
     write_held_shape(&mut json, "was_shape", &change.before)?;
     write_what(&mut json, change.what)?;
     json.end_object()?;
-    ended(json)
+    ended(alloc, json)
 }
 
 /// The line of a key that is none of the target's.
@@ -291,7 +293,7 @@ pub(crate) fn foreign_line(alloc: Global, key: &str) -> Result<Vec<u8>, AllocErr
     json.key("foreign")?;
     json.string(key)?;
     json.end_object()?;
-    ended(json)
+    ended(alloc, json)
 }
 
 /// Writes a member of this name: what a chunk holds of its array, as a box of it, or `null` where that is nothing.
@@ -346,14 +348,12 @@ fn word_of(what: Change) -> &'static str
     }
 }
 
-/// The text of a writer that was begun on nothing, with a line feed.
-fn ended(json: Writer) -> Result<Vec<u8>, AllocError>
+/// The line of a writer that was begun on nothing.
+fn ended(alloc: Global, json: Writer) -> Result<Vec<u8>, AllocError>
     requires { json.before ≡ [] }
-    ensures { IfOk result (λ line. line.items ≡ print json.tokens ++ codes "\n") }
+    ensures { IfOk result (λ line. line.items ≡ one_line_of (print json.tokens)) }
 {
-    let mut line = json.into_inner();
-    line.push(b'\n')?;
-    Ok(line)
+    one_line(alloc, &json.into_inner())
 }
 
 /// Writes a member of this name: the chunk that a line is for.

@@ -1,19 +1,18 @@
 //! What a plan still has to write where a store has some of it.
 ghost use Rattle.std.specs.Prelude.{◌≡◌, ℕ, List, Some, option_map};
 ghost use Rattle.zarrs_chunk_base.specs.ArraySubset.{IsBox};
-ghost use Rattle.zarrs_chunk_base.specs.Dimension.{array_sizes};
 ghost use Rattle.zarrs_chunk_keys.specs.seen.Encodings.{encoding_in};
 ghost use Rattle.zarrs_chunks.specs.seen.Grids.{grid_in};
 ghost use Rattle.documents.specs.Stored.{IsStored, stored_of};
 ghost use Rattle.zarrs_chunk_plan.specs.Rechunking.{Group};
-ghost use Rattle.zarrs_chunk_plan.specs.seen.Copies.{AreMovesToCome, CanMove, all_targets, region_of, target_of, targets_to_come};
-ghost use Rattle.zarrs_chunk_plan.specs.seen.Parts.{HasKeys};
+ghost use Rattle.zarrs_chunk_plan.specs.seen.Copies.{all_targets, region_of, target_of, targets_to_come};
 ghost use Rattle.streams.specs.Watched.{has_failed, watched};
 ghost use Rattle.programs.specs.chunkplan.Document.{AsksForLinesOfCopy, Document as PlanDocument, copy_to, document_of, lines_wanted, rechunk_to};
 ghost use Rattle.programs.specs.chunkplan.Keys.{IsKeysFault, IsMissingText};
 ghost use Rattle.programs.specs.chunkplan.PlanFault.{IsFaultBeside};
 ghost use Rattle.programs.specs.chunkplan.Planned.{IsPlannedBeside};
 ghost use Rattle.programs.specs.chunkplan.seen.Missing.{KeyStepLeaves};
+ghost use Rattle.programs.specs.chunkplan.seen.Opened.{CanGiveCopies, CopiesToCome, dimensions_of, key_of, sizes_of};
 ghost use Rattle.streams.specs.seen.Lines.{left};
 ghost use Rattle.streams.specs.seen.Sent.{output};
 
@@ -22,15 +21,14 @@ use crate::chunkplan::copying::send_text;
 use crate::chunkplan::document::{Document, Task, Wanted};
 use crate::chunkplan::keys::note_keys;
 use crate::chunkplan::line::Order;
+use crate::chunkplan::opened::{OpenedArray, OpenedCopies};
 use crate::chunkplan::plan::{open_target, or_all_chunks, or_zeros, write_share};
 use documents::Stored;
 use std::alloc::Global;
 use std::io::{Read, Write};
 use streams::{Lines, Watched};
 use zarrs_chunk_base::{ArraySubset, Refusal};
-use zarrs_chunk_keys::{ChunkKeyEncoding, ChunkKeyEncodingTraits};
-use zarrs_chunk_plan::{Copies, Share, StoredArray, copies, copies_of_region};
-use zarrs_chunks::{ChunkGrid, ChunkGridTraits};
+use zarrs_chunk_plan::{Share, copies, copies_of_region};
 
 /// Reads the keys behind a document, and sends the lines that it asks for of what isn't stored under any of them; and behind these the line of each
 /// key that is none of the target's.
@@ -86,7 +84,7 @@ pub(crate) fn write_beside_keys<R: Read, W: Write>(
 /// As `write_beside_keys`, of the rechunking of an array into all chunks of a target, or into those in a box.
 fn write_rechunking<R: Read, W: Write>(
     alloc: Global,
-    array: &StoredArray<ChunkGrid, ChunkKeyEncoding>,
+    array: &OpenedArray,
     shape: &[u64],
     target: Stored,
     chunks: Option<ArraySubset>,
@@ -99,7 +97,7 @@ fn write_rechunking<R: Read, W: Write>(
     ensures { (document : PlanDocument) (bytes : List ℕ)
         → IsStored document.stored document.shape (grid_in array.now.grid)
         (encoding_in array.now.encoding)
-        → document.shape ≡ shape.now → array_sizes (grid_in array.now.grid).dimensions ≡ shape.now
+        → document.shape ≡ shape.now → sizes_of array.now ≡ shape.now
         → document.task ≡ rechunk_to (stored_of target) chunks
         → document.wanted ≡ lines_wanted share.now
         → left lines.old (R.remaining (watched reader.old)) ≡ Some bytes
@@ -122,7 +120,7 @@ fn write_rechunking<R: Read, W: Write>(
 /// As `write_beside_keys`, of the copy of a region to an array of a shape, to begin there at an index.
 fn write_region<R: Read, W: Write>(
     alloc: Global,
-    array: &StoredArray<ChunkGrid, ChunkKeyEncoding>,
+    array: &OpenedArray,
     shape: &[u64],
     target: Stored,
     region: &ArraySubset,
@@ -159,17 +157,10 @@ fn write_region<R: Read, W: Write>(
 
 /// Reads the keys in the lines that a reader has left, and sends the lines of a share of all that a walk gives which is at its beginning, without
 /// those of chunks that are stored under one of the keys, and would be written whole.
-fn write_missing<
-    G: ChunkGridTraits,
-    E: ChunkKeyEncodingTraits,
-    H: ChunkGridTraits,
-    F: ChunkKeyEncodingTraits,
-    R: Read,
-    W: Write,
->(
+fn write_missing<R: Read, W: Write>(
     alloc: Global,
-    walk: Copies<'_, G, E, H, F>,
-    target: &StoredArray<H, F>,
+    walk: OpenedCopies<'_>,
+    target: &OpenedArray,
     share: &Share,
     lines: &mut Lines,
     reader: &mut Watched<R>,
@@ -177,20 +168,18 @@ fn write_missing<
     writer: &mut Watched<W>,
 ) -> Result<(), RunFault>
     requires target { target_of walk ≡ target.now }
-    requires can { CanMove G.dimensions H.dimensions walk }
+    requires can { CanGiveCopies walk }
     requires is_box { IsBox walk.targets.array_subset }
     requires region { IsBox (region_of walk) }
     requires all { all_targets walk ≡ targets_to_come walk }
-    requires keys { HasKeys (E.is_key walk.source.now.encoding) }
-    requires target_keys { HasKeys (F.is_key walk.targets.encoding.now) }
     ensures { (bytes : List ℕ) → left lines.old (R.remaining (watched reader.old)) ≡ Some bytes
         → KeyStepLeaves
         (λ keys text. (groups : List Group)
-        × AreMovesToCome G.dimensions E.is_key H.dimensions F.is_key walk.entry groups
-        × IsMissingText (H.dimensions target.now.grid) (F.is_key target.now.encoding) keys share.now
+        × CopiesToCome walk.entry groups
+        × IsMissingText (dimensions_of target.now) (key_of target.now) keys share.now
         groups text)
         (λ keys fault. (groups : List Group)
-        × AreMovesToCome G.dimensions E.is_key H.dimensions F.is_key walk.entry groups
+        × CopiesToCome walk.entry groups
         × IsKeysFault groups keys fault) bytes result
         (has_failed reader.old) (has_failed reader.new) (R.remaining (watched reader.new))
         (output W.contents held_back.old.items writer.old)

@@ -1,7 +1,6 @@
 //! The plan that a document asks for.
 ghost use Rattle.std.specs.Prelude.{◌≡◌, ◌⊎◌, false, IfErr, IfOk, List, None, length, option_map, replicate, unwrap_or};
 ghost use Rattle.zarrs_chunk_base.specs.ArraySubset.{Box, IsBox};
-ghost use Rattle.zarrs_chunk_base.specs.Dimension.{array_sizes};
 ghost use Rattle.zarrs_chunk_base.specs.Greatest.{AllFit};
 ghost use Rattle.zarrs_chunk_keys.specs.seen.Encodings.{encoding_in};
 ghost use Rattle.zarrs_chunks.specs.GridKinds.{IsGrid};
@@ -10,8 +9,7 @@ ghost use Rattle.zarrs_chunk_plan.specs.Rechunking.{Group, IsRechunking, all_chu
 ghost use Rattle.zarrs_chunk_plan.specs.Resize.{AreResized, IsResizePlan};
 ghost use Rattle.zarrs_chunk_parts.specs.declared.part.Part.{Part as PartValue};
 ghost use Rattle.zarrs_chunk_plan.specs.declared.resize.ChunkChange.{ChunkChange as ChangeValue};
-ghost use Rattle.zarrs_chunk_plan.specs.seen.Copies.{AreMovesToCome, CanMove, all_targets, region_of, targets_to_come};
-ghost use Rattle.zarrs_chunk_plan.specs.seen.Parts.{HasKeys};
+ghost use Rattle.zarrs_chunk_plan.specs.seen.Copies.{all_targets, region_of, targets_to_come};
 ghost use Rattle.documents.specs.Stored.{IsStored, stored_of};
 ghost use Rattle.programs.specs.chunkplan.CountsLine.{IsCountsLine};
 ghost use Rattle.programs.specs.chunkplan.Document.{counts_wanted, document_of, ranges_asked_of, wanted_of};
@@ -19,6 +17,7 @@ ghost use Rattle.programs.specs.chunkplan.Line.{read_lines, rechunking_lines, re
 ghost use Rattle.programs.specs.chunkplan.PlanFault.{IsChunksFault, IsCopyFault, IsPlanFault, IsReadFault, IsResizeFault, IsTargetFault};
 ghost use Rattle.programs.specs.chunkplan.Planned.{IsAsked, IsPlanned, IsReadPlan, IsReadText, IsRechunkingText, IsRegionPlan, IsRegionText};
 ghost use Rattle.programs.specs.chunkplan.seen.Missing.{share_unless_stored};
+ghost use Rattle.programs.specs.chunkplan.seen.Opened.{CanGiveCopies, CopiesToCome, dimensions_in, dimensions_of, key_of, sizes_of};
 ghost use Rattle.programs.specs.chunkplan.seen.Steps.{StepLeaves};
 ghost use Rattle.programs.specs.declared.chunkplan.line.Order.TheVariants.{Target};
 ghost use Rattle.programs.specs.declared.chunkplan.run_fault.RunFault.TheVariants.{Memory};
@@ -29,6 +28,7 @@ use crate::chunkplan::copying::{send_text, write_changes, write_copies, write_pa
 use crate::chunkplan::counting::counts_line;
 use crate::chunkplan::document::{Document, Task, Wanted};
 use crate::chunkplan::line::{Form, Order};
+use crate::chunkplan::opened::{OpenedArray, OpenedCopies};
 use crate::chunkplan::ranges::RangesAsked;
 use crate::chunkplan::within::write_within;
 use documents::{CreateFault, Stored};
@@ -36,10 +36,9 @@ use std::alloc::{AllocError, Global};
 use std::io::Write;
 use streams::Watched;
 use zarrs_chunk_base::{ArraySubset, IncompatibleDimensionalityError, Refusal};
-use zarrs_chunk_keys::{ChunkKeyEncoding, ChunkKeyEncodingTraits};
 use zarrs_chunk_plan::{
-    Copies, Counts, Share, StoredArray, StoredChunks, all_chunks, changes, copies,
-    copies_of_region, counts_of_read, counts_of_rechunking, counts_of_region, parts, whole_array,
+    Counts, Share, StoredChunks, all_chunks, changes, copies, copies_of_region, counts_of_read,
+    counts_of_rechunking, counts_of_region, parts, whole_array,
 };
 use zarrs_chunks::{ChunkGrid, ChunkGridTraits};
 
@@ -134,11 +133,10 @@ pub(crate) fn open_target(
     alloc: Global,
     stored: Stored,
     shape: &[u64],
-) -> Result<StoredArray<ChunkGrid, ChunkKeyEncoding>, RunFault>
+) -> Result<OpenedArray, RunFault>
     ensures made { IfOk result (λ made. IsStored (stored_of stored) shape.now
         (grid_in made.grid) (encoding_in made.encoding)) }
-    ensures sizes { IfOk result (λ made. array_sizes (grid_in made.grid).dimensions
-        ≡ shape.now) }
+    ensures sizes { IfOk result (λ made. sizes_of made ≡ shape.now) }
     ensures refused { IfErr result (λ fault. (fault ≡ Memory)
         ⊎ IsTargetFault (stored_of stored) shape.now fault) }
 {
@@ -184,12 +182,12 @@ pub(crate) fn or_zeros(
 }
 
 /// The box, or that of all elements of the array.
-fn or_whole_array<G: ChunkGridTraits>(
+fn or_whole_array(
     alloc: Global,
     subset: Option<ArraySubset>,
-    grid: &G,
+    grid: &ChunkGrid,
 ) -> Result<ArraySubset, AllocError>
-    ensures { IfOk result (λ b. b ≡ unwrap_or subset (array_box (G.dimensions grid.now))) }
+    ensures { IfOk result (λ b. b ≡ unwrap_or subset (array_box (dimensions_in grid.now))) }
 {
     match subset {
         Some(subset) => Ok(subset),
@@ -198,12 +196,12 @@ fn or_whole_array<G: ChunkGridTraits>(
 }
 
 /// The box, or that of all chunks of the grid.
-pub(crate) fn or_all_chunks<G: ChunkGridTraits>(
+pub(crate) fn or_all_chunks(
     alloc: Global,
     chunks: Option<ArraySubset>,
-    grid: &G,
+    grid: &ChunkGrid,
 ) -> Result<ArraySubset, AllocError>
-    ensures { IfOk result (λ b. b ≡ unwrap_or chunks (all_chunks_box (G.dimensions grid.now))) }
+    ensures { IfOk result (λ b. b ≡ unwrap_or chunks (all_chunks_box (dimensions_in grid.now))) }
 {
     match chunks {
         Some(chunks) => Ok(chunks),
@@ -212,9 +210,9 @@ pub(crate) fn or_all_chunks<G: ChunkGridTraits>(
 }
 
 /// Sends what is wanted of the plan of reading a box of elements, as it is or clipped to the array.
-fn write_read<G: ChunkGridTraits, E: ChunkKeyEncodingTraits, W: Write>(
+fn write_read<W: Write>(
     alloc: Global,
-    array: &StoredArray<G, E>,
+    array: &OpenedArray,
     subset: ArraySubset,
     clip: bool,
     ranges: &Option<RangesAsked>,
@@ -222,13 +220,12 @@ fn write_read<G: ChunkGridTraits, E: ChunkKeyEncodingTraits, W: Write>(
     held_back: &mut Vec<u8>,
     writer: &mut Watched<W>,
 ) -> Result<(), RunFault>
-    requires { HasKeys (E.is_key array.now.encoding) }
     ensures { StepLeaves
         (λ text. (asked : Box) × (parts : List PartValue)
-        × IsAsked clip (G.dimensions array.now.grid) subset asked
-        × IsReadPlan (G.dimensions array.now.grid) (E.is_key array.now.encoding) asked parts
+        × IsAsked clip (dimensions_of array.now) subset asked
+        × IsReadPlan (dimensions_of array.now) (key_of array.now) asked parts
         × IsReadText (wanted_of wanted.now) (option_map ranges_asked_of ranges.now) asked parts text)
-        (IsReadFault clip (G.dimensions array.now.grid) subset) result
+        (IsReadFault clip (dimensions_of array.now) subset) result
         (output W.contents held_back.old.items writer.old)
         (output W.contents held_back.new.items writer.new) }
 {
@@ -237,15 +234,15 @@ fn write_read<G: ChunkGridTraits, E: ChunkKeyEncodingTraits, W: Write>(
 }
 
 /// The box that is read for a box of elements: it itself, or what it has of the array, where it is clipped.
-fn asked_box<G: ChunkGridTraits>(
+fn asked_box(
     alloc: Global,
-    grid: &G,
+    grid: &ChunkGrid,
     subset: ArraySubset,
     clip: bool,
 ) -> Result<ArraySubset, RunFault>
-    ensures asked { IfOk result (IsAsked clip (G.dimensions grid.now) subset) }
+    ensures asked { IfOk result (IsAsked clip (dimensions_in grid.now) subset) }
     ensures refused { IfErr result (λ fault. (fault ≡ Memory)
-        ⊎ IsReadFault clip (G.dimensions grid.now) subset fault) }
+        ⊎ IsReadFault clip (dimensions_in grid.now) subset fault) }
 {
     if !clip {
         return Ok(subset);
@@ -258,22 +255,21 @@ fn asked_box<G: ChunkGridTraits>(
 }
 
 /// Sends what is wanted of the plan of reading a box of elements as it is.
-fn write_asked<G: ChunkGridTraits, E: ChunkKeyEncodingTraits, W: Write>(
+fn write_asked<W: Write>(
     alloc: Global,
-    array: &StoredArray<G, E>,
+    array: &OpenedArray,
     subset: &ArraySubset,
     ranges: &Option<RangesAsked>,
     wanted: &Wanted,
     held_back: &mut Vec<u8>,
     writer: &mut Watched<W>,
 ) -> Result<(), RunFault>
-    requires { HasKeys (E.is_key array.now.encoding) }
     ensures { StepLeaves
         (λ text. (parts : List PartValue)
-        × IsReadPlan (G.dimensions array.now.grid) (E.is_key array.now.encoding) subset.now parts
+        × IsReadPlan (dimensions_of array.now) (key_of array.now) subset.now parts
         × IsReadText (wanted_of wanted.now) (option_map ranges_asked_of ranges.now) subset.now parts
         text)
-        (IsReadFault false (G.dimensions array.now.grid) subset.now) result
+        (IsReadFault false (dimensions_of array.now) subset.now) result
         (output W.contents held_back.old.items writer.old)
         (output W.contents held_back.new.items writer.new) }
 {
@@ -292,22 +288,21 @@ fn write_asked<G: ChunkGridTraits, E: ChunkKeyEncodingTraits, W: Write>(
 }
 
 /// Sends a share of the plan of reading a box of elements, which has as many dimensions as the grid.
-fn write_parts_of<G: ChunkGridTraits, E: ChunkKeyEncodingTraits, W: Write>(
+fn write_parts_of<W: Write>(
     alloc: Global,
-    array: &StoredArray<G, E>,
+    array: &OpenedArray,
     subset: &ArraySubset,
     ranges: &Option<RangesAsked>,
     share: &Share,
     held_back: &mut Vec<u8>,
     writer: &mut Watched<W>,
 ) -> Result<(), RunFault>
-    requires keys { HasKeys (E.is_key array.now.encoding) }
-    requires lengths { length subset.now.start ≡ length (G.dimensions array.now.grid) }
+    requires lengths { length subset.now.start ≡ length (dimensions_of array.now) }
     ensures { StepLeaves
         (λ text. (parts : List PartValue)
-        × IsReadPlan (G.dimensions array.now.grid) (E.is_key array.now.encoding) subset.now parts
+        × IsReadPlan (dimensions_of array.now) (key_of array.now) subset.now parts
         × (text ≡ read_lines (option_map ranges_asked_of ranges.now) share.now parts))
-        (IsReadFault false (G.dimensions array.now.grid) subset.now) result
+        (IsReadFault false (dimensions_of array.now) subset.now) result
         (output W.contents held_back.old.items writer.old)
         (output W.contents held_back.new.items writer.new) }
 {
@@ -325,20 +320,19 @@ fn write_parts_of<G: ChunkGridTraits, E: ChunkKeyEncodingTraits, W: Write>(
 }
 
 /// Sends the counts of that plan.
-fn write_counts_of<G: ChunkGridTraits, E: ChunkKeyEncodingTraits, W: Write>(
+fn write_counts_of<W: Write>(
     alloc: Global,
-    array: &StoredArray<G, E>,
+    array: &OpenedArray,
     subset: &ArraySubset,
     held_back: &mut Vec<u8>,
     writer: &mut Watched<W>,
 ) -> Result<(), RunFault>
-    requires keys { HasKeys (E.is_key array.now.encoding) }
-    requires lengths { length subset.now.start ≡ length (G.dimensions array.now.grid) }
+    requires lengths { length subset.now.start ≡ length (dimensions_of array.now) }
     ensures { StepLeaves
         (λ text. (parts : List PartValue)
-        × IsReadPlan (G.dimensions array.now.grid) (E.is_key array.now.encoding) subset.now parts
+        × IsReadPlan (dimensions_of array.now) (key_of array.now) subset.now parts
         × IsReadText counts_wanted None subset.now parts text)
-        (IsReadFault false (G.dimensions array.now.grid) subset.now) result
+        (IsReadFault false (dimensions_of array.now) subset.now) result
         (output W.contents held_back.old.items writer.old)
         (output W.contents held_back.new.items writer.new) }
 {
@@ -368,34 +362,25 @@ fn write_counts<W: Write>(
 
 /// Sends what is wanted of the plan of a rechunking into the chunks of a box. In the order of the source, what is given as the source is the array as
 /// it is to be stored.
-pub(crate) fn write_rechunking<
-    G: ChunkGridTraits,
-    E: ChunkKeyEncodingTraits,
-    H: ChunkGridTraits,
-    F: ChunkKeyEncodingTraits,
-    W: Write,
->(
+pub(crate) fn write_rechunking<W: Write>(
     alloc: Global,
-    source: &StoredArray<G, E>,
-    target: &StoredArray<H, F>,
+    source: &OpenedArray,
+    target: &OpenedArray,
     chunks: &ArraySubset,
     order: Order,
     wanted: &Wanted,
     held_back: &mut Vec<u8>,
     writer: &mut Watched<W>,
 ) -> Result<(), RunFault>
-    requires one_array { array_sizes (G.dimensions source.now.grid)
-        ≡ array_sizes (H.dimensions target.now.grid) }
-    requires keys { HasKeys (E.is_key source.now.encoding) }
-    requires target_keys { HasKeys (F.is_key target.now.encoding) }
+    requires one_array { sizes_of source.now ≡ sizes_of target.now }
     ensures { StepLeaves
         (λ text. (groups : List Group)
-        × IsRechunking (G.dimensions source.now.grid) (E.is_key source.now.encoding)
-        (H.dimensions target.now.grid) (F.is_key target.now.encoding) chunks.now groups
-        × (length chunks.now.start ≡ length (H.dimensions target.now.grid))
-        × IsRechunkingText order (wanted_of wanted.now) (G.dimensions source.now.grid)
-        (H.dimensions target.now.grid) chunks.now groups text)
-        (IsChunksFault (H.dimensions target.now.grid) chunks.now) result
+        × IsRechunking (dimensions_of source.now) (key_of source.now)
+        (dimensions_of target.now) (key_of target.now) chunks.now groups
+        × (length chunks.now.start ≡ length (dimensions_of target.now))
+        × IsRechunkingText order (wanted_of wanted.now) (dimensions_of source.now)
+        (dimensions_of target.now) chunks.now groups text)
+        (IsChunksFault (dimensions_of target.now) chunks.now) result
         (output W.contents held_back.old.items writer.old)
         (output W.contents held_back.new.items writer.new) }
 {
@@ -412,32 +397,23 @@ pub(crate) fn write_rechunking<
 }
 
 /// Sends the counts of that plan.
-fn write_counts_of_groups<
-    G: ChunkGridTraits,
-    E: ChunkKeyEncodingTraits,
-    H: ChunkGridTraits,
-    F: ChunkKeyEncodingTraits,
-    W: Write,
->(
+fn write_counts_of_groups<W: Write>(
     alloc: Global,
-    source: &StoredArray<G, E>,
-    target: &StoredArray<H, F>,
+    source: &OpenedArray,
+    target: &OpenedArray,
     chunks: &ArraySubset,
     held_back: &mut Vec<u8>,
     writer: &mut Watched<W>,
 ) -> Result<(), RunFault>
-    requires one_array { array_sizes (G.dimensions source.now.grid)
-        ≡ array_sizes (H.dimensions target.now.grid) }
-    requires keys { HasKeys (E.is_key source.now.encoding) }
-    requires target_keys { HasKeys (F.is_key target.now.encoding) }
+    requires one_array { sizes_of source.now ≡ sizes_of target.now }
     ensures { StepLeaves
         (λ text. (groups : List Group)
-        × IsRechunking (G.dimensions source.now.grid) (E.is_key source.now.encoding)
-        (H.dimensions target.now.grid) (F.is_key target.now.encoding) chunks.now groups
-        × (length chunks.now.start ≡ length (H.dimensions target.now.grid))
-        × IsRechunkingText Target counts_wanted (G.dimensions source.now.grid)
-        (H.dimensions target.now.grid) chunks.now groups text)
-        (IsChunksFault (H.dimensions target.now.grid) chunks.now) result
+        × IsRechunking (dimensions_of source.now) (key_of source.now)
+        (dimensions_of target.now) (key_of target.now) chunks.now groups
+        × (length chunks.now.start ≡ length (dimensions_of target.now))
+        × IsRechunkingText Target counts_wanted (dimensions_of source.now)
+        (dimensions_of target.now) chunks.now groups text)
+        (IsChunksFault (dimensions_of target.now) chunks.now) result
         (output W.contents held_back.old.items writer.old)
         (output W.contents held_back.new.items writer.new) }
 {
@@ -449,33 +425,24 @@ fn write_counts_of_groups<
 }
 
 /// Sends a share of that plan.
-fn write_groups<
-    G: ChunkGridTraits,
-    E: ChunkKeyEncodingTraits,
-    H: ChunkGridTraits,
-    F: ChunkKeyEncodingTraits,
-    W: Write,
->(
+fn write_groups<W: Write>(
     alloc: Global,
-    source: &StoredArray<G, E>,
-    target: &StoredArray<H, F>,
+    source: &OpenedArray,
+    target: &OpenedArray,
     chunks: &ArraySubset,
     order: Order,
     share: &Share,
     held_back: &mut Vec<u8>,
     writer: &mut Watched<W>,
 ) -> Result<(), RunFault>
-    requires one_array { array_sizes (G.dimensions source.now.grid)
-        ≡ array_sizes (H.dimensions target.now.grid) }
-    requires keys { HasKeys (E.is_key source.now.encoding) }
-    requires target_keys { HasKeys (F.is_key target.now.encoding) }
+    requires one_array { sizes_of source.now ≡ sizes_of target.now }
     ensures { StepLeaves
         (λ text. (groups : List Group)
-        × IsRechunking (G.dimensions source.now.grid) (E.is_key source.now.encoding)
-        (H.dimensions target.now.grid) (F.is_key target.now.encoding) chunks.now groups
-        × (length chunks.now.start ≡ length (H.dimensions target.now.grid))
+        × IsRechunking (dimensions_of source.now) (key_of source.now)
+        (dimensions_of target.now) (key_of target.now) chunks.now groups
+        × (length chunks.now.start ≡ length (dimensions_of target.now))
         × (text ≡ rechunking_lines order share.now groups))
-        (IsChunksFault (H.dimensions target.now.grid) chunks.now) result
+        (IsChunksFault (dimensions_of target.now) chunks.now) result
         (output W.contents held_back.old.items writer.old)
         (output W.contents held_back.new.items writer.new) }
 {
@@ -488,30 +455,22 @@ fn write_groups<
 
 /// Sends the lines of a share of all that a walk gives which is at its beginning, without those of chunks that are known to be stored, and would be
 /// written whole.
-pub(crate) fn write_share<
-    G: ChunkGridTraits,
-    E: ChunkKeyEncodingTraits,
-    H: ChunkGridTraits,
-    F: ChunkKeyEncodingTraits,
-    W: Write,
->(
+pub(crate) fn write_share<W: Write>(
     alloc: Global,
-    mut walk: Copies<'_, G, E, H, F>,
+    mut walk: OpenedCopies<'_>,
     order: Order,
     share: &Share,
     stored: Option<&StoredChunks>,
     held_back: &mut Vec<u8>,
     writer: &mut Watched<W>,
 ) -> Result<(), RunFault>
-    requires can { CanMove G.dimensions H.dimensions walk }
+    requires can { CanGiveCopies walk }
     requires is_box { IsBox walk.targets.array_subset }
     requires region { IsBox (region_of walk) }
     requires all { all_targets walk ≡ targets_to_come walk }
-    requires keys { HasKeys (E.is_key walk.source.now.encoding) }
-    requires target_keys { HasKeys (F.is_key walk.targets.encoding.now) }
     ensures { StepLeaves
         (λ text. (groups : List Group)
-        × AreMovesToCome G.dimensions E.is_key H.dimensions F.is_key walk.entry groups
+        × CopiesToCome walk.entry groups
         × (text ≡ share_unless_stored order (option_map (λ s. s.now) stored.entry) share.now
         groups))
         (λ _. ⊥) result
@@ -523,31 +482,23 @@ pub(crate) fn write_share<
 }
 
 /// Sends what is wanted of the plan of the copy of a region.
-fn write_region<
-    G: ChunkGridTraits,
-    E: ChunkKeyEncodingTraits,
-    H: ChunkGridTraits,
-    F: ChunkKeyEncodingTraits,
-    W: Write,
->(
+fn write_region<W: Write>(
     alloc: Global,
-    source: &StoredArray<G, E>,
-    target: &StoredArray<H, F>,
+    source: &OpenedArray,
+    target: &OpenedArray,
     region: &ArraySubset,
     at: &[u64],
     wanted: &Wanted,
     held_back: &mut Vec<u8>,
     writer: &mut Watched<W>,
 ) -> Result<(), RunFault>
-    requires keys { HasKeys (E.is_key source.now.encoding) }
-    requires target_keys { HasKeys (F.is_key target.now.encoding) }
     ensures { StepLeaves
         (λ text. (groups : List Group)
-        × IsRegionPlan (G.dimensions source.now.grid) (E.is_key source.now.encoding)
-        (H.dimensions target.now.grid) (F.is_key target.now.encoding) region.now at.now groups
-        × IsRegionText (wanted_of wanted.now) (G.dimensions source.now.grid)
-        (H.dimensions target.now.grid) region.now at.now groups text)
-        (IsCopyFault (G.dimensions source.now.grid) (H.dimensions target.now.grid)
+        × IsRegionPlan (dimensions_of source.now) (key_of source.now)
+        (dimensions_of target.now) (key_of target.now) region.now at.now groups
+        × IsRegionText (wanted_of wanted.now) (dimensions_of source.now)
+        (dimensions_of target.now) region.now at.now groups text)
+        (IsCopyFault (dimensions_of source.now) (dimensions_of target.now)
         region.now at.now) result
         (output W.contents held_back.old.items writer.old)
         (output W.contents held_back.new.items writer.new) }
@@ -563,30 +514,22 @@ fn write_region<
 }
 
 /// Sends the counts of that plan.
-fn write_counts_of_region<
-    G: ChunkGridTraits,
-    E: ChunkKeyEncodingTraits,
-    H: ChunkGridTraits,
-    F: ChunkKeyEncodingTraits,
-    W: Write,
->(
+fn write_counts_of_region<W: Write>(
     alloc: Global,
-    source: &StoredArray<G, E>,
-    target: &StoredArray<H, F>,
+    source: &OpenedArray,
+    target: &OpenedArray,
     region: &ArraySubset,
     at: &[u64],
     held_back: &mut Vec<u8>,
     writer: &mut Watched<W>,
 ) -> Result<(), RunFault>
-    requires keys { HasKeys (E.is_key source.now.encoding) }
-    requires target_keys { HasKeys (F.is_key target.now.encoding) }
     ensures { StepLeaves
         (λ text. (groups : List Group)
-        × IsRegionPlan (G.dimensions source.now.grid) (E.is_key source.now.encoding)
-        (H.dimensions target.now.grid) (F.is_key target.now.encoding) region.now at.now groups
-        × IsRegionText counts_wanted (G.dimensions source.now.grid)
-        (H.dimensions target.now.grid) region.now at.now groups text)
-        (IsCopyFault (G.dimensions source.now.grid) (H.dimensions target.now.grid)
+        × IsRegionPlan (dimensions_of source.now) (key_of source.now)
+        (dimensions_of target.now) (key_of target.now) region.now at.now groups
+        × IsRegionText counts_wanted (dimensions_of source.now)
+        (dimensions_of target.now) region.now at.now groups text)
+        (IsCopyFault (dimensions_of source.now) (dimensions_of target.now)
         region.now at.now) result
         (output W.contents held_back.old.items writer.old)
         (output W.contents held_back.new.items writer.new) }
@@ -600,30 +543,22 @@ fn write_counts_of_region<
 }
 
 /// Sends a share of that plan.
-fn write_moves<
-    G: ChunkGridTraits,
-    E: ChunkKeyEncodingTraits,
-    H: ChunkGridTraits,
-    F: ChunkKeyEncodingTraits,
-    W: Write,
->(
+fn write_moves<W: Write>(
     alloc: Global,
-    source: &StoredArray<G, E>,
-    target: &StoredArray<H, F>,
+    source: &OpenedArray,
+    target: &OpenedArray,
     region: &ArraySubset,
     at: &[u64],
     share: &Share,
     held_back: &mut Vec<u8>,
     writer: &mut Watched<W>,
 ) -> Result<(), RunFault>
-    requires keys { HasKeys (E.is_key source.now.encoding) }
-    requires target_keys { HasKeys (F.is_key target.now.encoding) }
     ensures { StepLeaves
         (λ text. (groups : List Group)
-        × IsRegionPlan (G.dimensions source.now.grid) (E.is_key source.now.encoding)
-        (H.dimensions target.now.grid) (F.is_key target.now.encoding) region.now at.now groups
+        × IsRegionPlan (dimensions_of source.now) (key_of source.now)
+        (dimensions_of target.now) (key_of target.now) region.now at.now groups
         × (text ≡ rechunking_lines Target share.now groups))
-        (IsCopyFault (G.dimensions source.now.grid) (H.dimensions target.now.grid)
+        (IsCopyFault (dimensions_of source.now) (dimensions_of target.now)
         region.now at.now) result
         (output W.contents held_back.old.items writer.old)
         (output W.contents held_back.new.items writer.new) }
@@ -637,20 +572,19 @@ fn write_moves<
 }
 
 /// Sends the plan of a resize: a line for each chunk that changes, or also for each that is kept.
-fn write_resize<G: ChunkGridTraits, E: ChunkKeyEncodingTraits, H: ChunkGridTraits, W: Write>(
+fn write_resize<W: Write>(
     alloc: Global,
-    array: &StoredArray<G, E>,
-    after: &H,
+    array: &OpenedArray,
+    after: &ChunkGrid,
     keep: bool,
     held_back: &mut Vec<u8>,
     writer: &mut Watched<W>,
 ) -> Result<(), RunFault>
-    requires resized { AreResized (G.dimensions array.now.grid) (H.dimensions after.now) }
-    requires keys { HasKeys (E.is_key array.now.encoding) }
+    requires resized { AreResized (dimensions_of array.now) (dimensions_in after.now) }
     ensures { StepLeaves
         (λ text. (changes : List ChangeValue)
-        × IsResizePlan (G.dimensions array.now.grid) (H.dimensions after.now)
-        (E.is_key array.now.encoding) keep changes
+        × IsResizePlan (dimensions_of array.now) (dimensions_in after.now)
+        (key_of array.now) keep changes
         × (text ≡ resize_lines changes))
         (λ _. ⊥) result
         (output W.contents held_back.old.items writer.old)

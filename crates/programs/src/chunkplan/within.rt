@@ -1,12 +1,11 @@
 //! The plan of a rechunking of which a worker holds at most so many elements: in one stage, or in two, by an array between.
 ghost use Rattle.std.specs.Prelude.{◌≡◌, ◌⊎◌, ◌↔◌, ℕ, IfErr, IfOk, IsTrue, List, MatchOption, None};
-ghost use Rattle.zarrs_chunk_base.specs.Dimension.{array_sizes};
 ghost use Rattle.zarrs_chunk_plan.specs.Stages.{FindsShape, HoldAtMost, IsLargest, IsBoundFault, IsStagesFault};
-ghost use Rattle.zarrs_chunk_plan.specs.seen.Parts.{HasKeys};
 ghost use Rattle.programs.specs.chunkplan.Document.{wanted_of};
 ghost use Rattle.programs.specs.chunkplan.PlanFault.{IsBetweenFault, IsFaultWithin, IsOneStageFault, IsStagesCountsFault};
 ghost use Rattle.programs.specs.chunkplan.Planned.{AreCountsBetween, AreCountsOfAll, FitsOneStage, IsStageText, IsStagesCountsText, IsTextWithin, IsWholeText};
 ghost use Rattle.programs.specs.chunkplan.seen.Between.{TellsStages};
+ghost use Rattle.programs.specs.chunkplan.seen.Opened.{dimensions_of, key_of, sizes_of};
 ghost use Rattle.programs.specs.chunkplan.seen.Steps.{StepLeaves};
 ghost use Rattle.programs.specs.declared.chunkplan.run_fault.RunFault.TheVariants.{Memory};
 ghost use Rattle.streams.specs.seen.Sent.{output};
@@ -16,6 +15,7 @@ use crate::chunkplan::between::{Between, find_between};
 use crate::chunkplan::copying::send_text;
 use crate::chunkplan::document::Wanted;
 use crate::chunkplan::line::Order;
+use crate::chunkplan::opened::OpenedArray;
 use crate::chunkplan::plan::write_rechunking;
 use crate::chunkplan::stage::Stage;
 use crate::chunkplan::stages_line::{StagesCounts, stages_line};
@@ -23,11 +23,7 @@ use std::alloc::{AllocError, Global};
 use std::io::Write;
 use streams::Watched;
 use zarrs_chunk_base::Refusal;
-use zarrs_chunk_keys::ChunkKeyEncodingTraits;
-use zarrs_chunk_plan::{
-    Counts, StagesError, StoredArray, all_chunks, counts_of_rechunking, hold_at_most,
-};
-use zarrs_chunks::ChunkGridTraits;
+use zarrs_chunk_plan::{Counts, StagesError, all_chunks, counts_of_rechunking, hold_at_most};
 
 /// Sends what is wanted of a rechunking of which a worker holds at most so many elements: of one of its two stages, where one is asked for; or else
 /// the lines of one stage, or the counts of one stage and of two.
@@ -35,31 +31,22 @@ use zarrs_chunks::ChunkGridTraits;
 /// # Errors
 /// There is too much to go through; the lines of one stage would hold more; no array between fits; a write failed; or out of memory. Nothing has been
 /// written where it is none of the last two.
-pub(crate) fn write_within<
-    G: ChunkGridTraits,
-    E: ChunkKeyEncodingTraits,
-    H: ChunkGridTraits,
-    F: ChunkKeyEncodingTraits,
-    W: Write,
->(
+pub(crate) fn write_within<W: Write>(
     alloc: Global,
-    source: &StoredArray<G, E>,
-    target: &StoredArray<H, F>,
+    source: &OpenedArray,
+    target: &OpenedArray,
     most: u64,
     stage: Option<Stage>,
     wanted: &Wanted,
     held_back: &mut Vec<u8>,
     writer: &mut Watched<W>,
 ) -> Result<(), RunFault>
-    requires one_array { array_sizes (G.dimensions source.now.grid)
-        ≡ array_sizes (H.dimensions target.now.grid) }
-    requires keys { HasKeys (E.is_key source.now.encoding) }
-    requires target_keys { HasKeys (F.is_key target.now.encoding) }
+    requires one_array { sizes_of source.now ≡ sizes_of target.now }
     ensures { StepLeaves
-        (IsTextWithin (G.dimensions source.now.grid) (E.is_key source.now.encoding)
-        (H.dimensions target.now.grid) (F.is_key target.now.encoding) most stage
+        (IsTextWithin (dimensions_of source.now) (key_of source.now)
+        (dimensions_of target.now) (key_of target.now) most stage
         (wanted_of wanted.now))
-        (IsFaultWithin (G.dimensions source.now.grid) (H.dimensions target.now.grid) most stage
+        (IsFaultWithin (dimensions_of source.now) (dimensions_of target.now) most stage
         (wanted_of wanted.now)) result
         (output W.contents held_back.old.items writer.old)
         (output W.contents held_back.new.items writer.new) }
@@ -80,35 +67,26 @@ pub(crate) fn write_within<
 }
 
 /// Sends what is wanted of the plan of one of the two stages.
-fn write_stage<
-    G: ChunkGridTraits,
-    E: ChunkKeyEncodingTraits,
-    H: ChunkGridTraits,
-    F: ChunkKeyEncodingTraits,
-    W: Write,
->(
+fn write_stage<W: Write>(
     alloc: Global,
-    source: &StoredArray<G, E>,
-    target: &StoredArray<H, F>,
+    source: &OpenedArray,
+    target: &OpenedArray,
     most: u64,
     stage: Stage,
     wanted: &Wanted,
     held_back: &mut Vec<u8>,
     writer: &mut Watched<W>,
 ) -> Result<(), RunFault>
-    requires one_array { array_sizes (G.dimensions source.now.grid)
-        ≡ array_sizes (H.dimensions target.now.grid) }
-    requires keys { HasKeys (E.is_key source.now.encoding) }
-    requires target_keys { HasKeys (F.is_key target.now.encoding) }
+    requires one_array { sizes_of source.now ≡ sizes_of target.now }
     ensures { StepLeaves
-        (IsStageText (G.dimensions source.now.grid) (E.is_key source.now.encoding)
-        (H.dimensions target.now.grid) (F.is_key target.now.encoding) most stage
+        (IsStageText (dimensions_of source.now) (key_of source.now)
+        (dimensions_of target.now) (key_of target.now) most stage
         (wanted_of wanted.now))
-        (IsBetweenFault (G.dimensions source.now.grid) (H.dimensions target.now.grid) most) result
+        (IsBetweenFault (dimensions_of source.now) (dimensions_of target.now) most) result
         (output W.contents held_back.old.items writer.old)
         (output W.contents held_back.new.items writer.new) }
 {
-    let Some(between) = find_between(alloc, &source.grid, &target.grid, most)? else {
+    let Some(between) = find_between(alloc, source, target, most)? else {
         return Err(RunFault::NoShape);
     };
     match stage {
@@ -118,34 +96,25 @@ fn write_stage<
 }
 
 /// Sends what is wanted of the plan of a rechunking in one stage, where its lines hold few enough elements.
-fn write_one_stage<
-    G: ChunkGridTraits,
-    E: ChunkKeyEncodingTraits,
-    H: ChunkGridTraits,
-    F: ChunkKeyEncodingTraits,
-    W: Write,
->(
+fn write_one_stage<W: Write>(
     alloc: Global,
-    source: &StoredArray<G, E>,
-    target: &StoredArray<H, F>,
+    source: &OpenedArray,
+    target: &OpenedArray,
     most: u64,
     wanted: &Wanted,
     held_back: &mut Vec<u8>,
     writer: &mut Watched<W>,
 ) -> Result<(), RunFault>
-    requires one_array { array_sizes (G.dimensions source.now.grid)
-        ≡ array_sizes (H.dimensions target.now.grid) }
-    requires keys { HasKeys (E.is_key source.now.encoding) }
-    requires target_keys { HasKeys (F.is_key target.now.encoding) }
+    requires one_array { sizes_of source.now ≡ sizes_of target.now }
     ensures { StepLeaves
-        (λ text. FitsOneStage (G.dimensions source.now.grid) (H.dimensions target.now.grid) most
-        × IsWholeText (G.dimensions source.now.grid) (E.is_key source.now.encoding)
-        (H.dimensions target.now.grid) (F.is_key target.now.encoding) (wanted_of wanted.now) text)
-        (IsOneStageFault (G.dimensions source.now.grid) (H.dimensions target.now.grid) most) result
+        (λ text. FitsOneStage (dimensions_of source.now) (dimensions_of target.now) most
+        × IsWholeText (dimensions_of source.now) (key_of source.now)
+        (dimensions_of target.now) (key_of target.now) (wanted_of wanted.now) text)
+        (IsOneStageFault (dimensions_of source.now) (dimensions_of target.now) most) result
         (output W.contents held_back.old.items writer.old)
         (output W.contents held_back.new.items writer.new) }
 {
-    let fits = fits_one_stage(alloc, &source.grid, &target.grid, most)?;
+    let fits = fits_one_stage(alloc, source, target, most)?;
     if !fits {
         return Err(RunFault::NotInOneStage);
     }
@@ -153,32 +122,23 @@ fn write_one_stage<
 }
 
 /// Sends the line of the counts of one stage and of two.
-fn write_stages_counts<
-    G: ChunkGridTraits,
-    E: ChunkKeyEncodingTraits,
-    H: ChunkGridTraits,
-    F: ChunkKeyEncodingTraits,
-    W: Write,
->(
+fn write_stages_counts<W: Write>(
     alloc: Global,
-    source: &StoredArray<G, E>,
-    target: &StoredArray<H, F>,
+    source: &OpenedArray,
+    target: &OpenedArray,
     most: u64,
     held_back: &mut Vec<u8>,
     writer: &mut Watched<W>,
 ) -> Result<(), RunFault>
-    requires one_array { array_sizes (G.dimensions source.now.grid)
-        ≡ array_sizes (H.dimensions target.now.grid) }
-    requires keys { HasKeys (E.is_key source.now.encoding) }
-    requires target_keys { HasKeys (F.is_key target.now.encoding) }
+    requires one_array { sizes_of source.now ≡ sizes_of target.now }
     ensures { StepLeaves
-        (IsStagesCountsText (G.dimensions source.now.grid) (E.is_key source.now.encoding)
-        (H.dimensions target.now.grid) (F.is_key target.now.encoding) most)
-        (IsStagesCountsFault (G.dimensions source.now.grid) (H.dimensions target.now.grid)) result
+        (IsStagesCountsText (dimensions_of source.now) (key_of source.now)
+        (dimensions_of target.now) (key_of target.now) most)
+        (IsStagesCountsFault (dimensions_of source.now) (dimensions_of target.now)) result
         (output W.contents held_back.old.items writer.old)
         (output W.contents held_back.new.items writer.new) }
 {
-    let fits = fits_one_stage(alloc, &source.grid, &target.grid, most)?;
+    let fits = fits_one_stage(alloc, source, target, most)?;
     let one_stage = counts_of_all(alloc, source, target)?;
     let stages = counts_between(alloc, source, target, most)?;
     let line = stages_line(alloc, fits, &one_stage, &stages)?;
@@ -186,29 +146,21 @@ fn write_stages_counts<
 }
 
 /// The counts of the two stages; `None` where no array between fits.
-fn counts_between<
-    G: ChunkGridTraits,
-    E: ChunkKeyEncodingTraits,
-    H: ChunkGridTraits,
-    F: ChunkKeyEncodingTraits,
->(
+fn counts_between(
     alloc: Global,
-    source: &StoredArray<G, E>,
-    target: &StoredArray<H, F>,
+    source: &OpenedArray,
+    target: &OpenedArray,
     most: u64,
 ) -> Result<Option<StagesCounts>, RunFault>
-    requires one_array { array_sizes (G.dimensions source.now.grid)
-        ≡ array_sizes (H.dimensions target.now.grid) }
-    requires keys { HasKeys (E.is_key source.now.encoding) }
-    requires target_keys { HasKeys (F.is_key target.now.encoding) }
+    requires one_array { sizes_of source.now ≡ sizes_of target.now }
     ensures found { IfOk result (λ found. MatchOption found
-        (FindsShape (G.dimensions source.now.grid) (H.dimensions target.now.grid) most None)
-        (AreCountsBetween (G.dimensions source.now.grid) (E.is_key source.now.encoding)
-        (H.dimensions target.now.grid) (F.is_key target.now.encoding) most)) }
+        (FindsShape (dimensions_of source.now) (dimensions_of target.now) most None)
+        (AreCountsBetween (dimensions_of source.now) (key_of source.now)
+        (dimensions_of target.now) (key_of target.now) most)) }
     ensures refused { IfErr result (λ fault. (fault ≡ Memory) ⊎ TellsStages (IsStagesFault
-        (G.dimensions source.now.grid) (H.dimensions target.now.grid)) fault) }
+        (dimensions_of source.now) (dimensions_of target.now)) fault) }
 {
-    let Some(between) = find_between(alloc, &source.grid, &target.grid, most)? else {
+    let Some(between) = find_between(alloc, source, target, most)? else {
         return Ok(None);
     };
     let Between { shape, array } = between;
@@ -222,20 +174,20 @@ fn counts_between<
 }
 
 /// Whether the lines of a rechunking in one stage hold at most so many elements.
-fn fits_one_stage<G: ChunkGridTraits, H: ChunkGridTraits>(
+fn fits_one_stage(
     alloc: Global,
-    source: &G,
-    target: &H,
+    source: &OpenedArray,
+    target: &OpenedArray,
     most: u64,
 ) -> Result<bool, RunFault>
-    requires { array_sizes (G.dimensions source.now) ≡ array_sizes (H.dimensions target.now) }
+    requires { sizes_of source.now ≡ sizes_of target.now }
     ensures held { IfOk result (λ fits. (largest other : List ℕ)
-        × IsLargest (G.dimensions source.now) largest × IsLargest (H.dimensions target.now) other
+        × IsLargest (dimensions_of source.now) largest × IsLargest (dimensions_of target.now) other
         × (IsTrue fits ↔ HoldAtMost most largest other)) }
     ensures refused { IfErr result (λ fault. (fault ≡ Memory) ⊎ TellsStages (IsBoundFault
-        (G.dimensions source.now) (H.dimensions target.now)) fault) }
+        (dimensions_of source.now) (dimensions_of target.now)) fault) }
 {
-    match hold_at_most(alloc, source, target, most) {
+    match hold_at_most(alloc, &source.grid, &target.grid, most) {
         Ok(fits) => Ok(fits),
         // Never: the grids are of one array.
         Err(Refusal::Refused(StagesError::ArrayShapes)) => unreachable!(),
@@ -245,27 +197,18 @@ fn fits_one_stage<G: ChunkGridTraits, H: ChunkGridTraits>(
 }
 
 /// Sends what is wanted of the plan of a rechunking into all chunks of the target.
-fn write_whole<
-    G: ChunkGridTraits,
-    E: ChunkKeyEncodingTraits,
-    H: ChunkGridTraits,
-    F: ChunkKeyEncodingTraits,
-    W: Write,
->(
+fn write_whole<W: Write>(
     alloc: Global,
-    source: &StoredArray<G, E>,
-    target: &StoredArray<H, F>,
+    source: &OpenedArray,
+    target: &OpenedArray,
     wanted: &Wanted,
     held_back: &mut Vec<u8>,
     writer: &mut Watched<W>,
 ) -> Result<(), RunFault>
-    requires one_array { array_sizes (G.dimensions source.now.grid)
-        ≡ array_sizes (H.dimensions target.now.grid) }
-    requires keys { HasKeys (E.is_key source.now.encoding) }
-    requires target_keys { HasKeys (F.is_key target.now.encoding) }
+    requires one_array { sizes_of source.now ≡ sizes_of target.now }
     ensures { StepLeaves
-        (IsWholeText (G.dimensions source.now.grid) (E.is_key source.now.encoding)
-        (H.dimensions target.now.grid) (F.is_key target.now.encoding) (wanted_of wanted.now))
+        (IsWholeText (dimensions_of source.now) (key_of source.now)
+        (dimensions_of target.now) (key_of target.now) (wanted_of wanted.now))
         (λ _. ⊥) result
         (output W.contents held_back.old.items writer.old)
         (output W.contents held_back.new.items writer.new) }
@@ -281,23 +224,15 @@ fn write_whole<
 ///
 /// # Errors
 /// Out of memory.
-fn counts_of_all<
-    G: ChunkGridTraits,
-    E: ChunkKeyEncodingTraits,
-    H: ChunkGridTraits,
-    F: ChunkKeyEncodingTraits,
->(
+fn counts_of_all(
     alloc: Global,
-    source: &StoredArray<G, E>,
-    target: &StoredArray<H, F>,
+    source: &OpenedArray,
+    target: &OpenedArray,
 ) -> Result<Counts, AllocError>
-    requires one_array { array_sizes (G.dimensions source.now.grid)
-        ≡ array_sizes (H.dimensions target.now.grid) }
-    requires keys { HasKeys (E.is_key source.now.encoding) }
-    requires target_keys { HasKeys (F.is_key target.now.encoding) }
-    ensures { IfOk result (AreCountsOfAll (G.dimensions source.now.grid)
-        (E.is_key source.now.encoding) (H.dimensions target.now.grid)
-        (F.is_key target.now.encoding)) }
+    requires one_array { sizes_of source.now ≡ sizes_of target.now }
+    ensures { IfOk result (AreCountsOfAll (dimensions_of source.now)
+        (key_of source.now) (dimensions_of target.now)
+        (key_of target.now)) }
 {
     let chunks = all_chunks(alloc, &target.grid)?;
     match counts_of_rechunking(alloc, source, target, &chunks) {

@@ -1,12 +1,13 @@
 -- The array between, as the program makes it.
 use Rattle.std.specs.Prelude.{◌≡◌, ℕ, List, Some}
 use Rattle.zarrs_chunk_base.specs.Dimension.{Dimension, array_sizes}
-use Rattle.zarrs_chunk_keys.specs.seen.Encodings.{default_of}
+use Rattle.zarrs_chunk_keys.specs.seen.Encodings.{encoding_in}
 use Rattle.zarrs_chunks.specs.GridKinds.{grid_kind, regular}
-use Rattle.zarrs_chunks.specs.seen.Grids.{regular_of}
+use Rattle.zarrs_chunks.specs.seen.Grids.{grid_in}
 use Rattle.zarrs_chunk_plan.specs.Stages.{FindsShape}
 use Rattle.zarrs_chunk_plan.specs.declared.stages_error.StagesError.{StagesError}
 use Rattle.programs.specs.chunkplan.Planned.{between_keys}
+use Rattle.programs.specs.chunkplan.seen.Opened.{sizes_of}
 use Rattle.programs.specs.declared.chunkplan.between.Between.{Between}
 use Rattle.programs.specs.declared.chunkplan.run_fault.RunFault.{RunFault}
 use Rattle.programs.specs.declared.chunkplan.run_fault.RunFault.TheVariants.{Stages}
@@ -14,9 +15,9 @@ use Rattle.programs.specs.declared.chunkplan.run_fault.RunFault.TheVariants.{Sta
 -- an array of these sizes, in chunks with these edges
 pub record IsMadeOf (sizes edges : List ℕ) (b : Between) : Type 0 where
   pub shape : b.shape.items ≡ edges
-  pub is_regular : (grid_kind regular).makes (regular_of b.array.grid) sizes edges
-  pub same_sizes : array_sizes (regular_of b.array.grid).dimensions ≡ sizes
-  pub keys : default_of b.array.encoding ≡ between_keys
+  pub is_regular : (grid_kind regular).makes (grid_in b.array.grid) sizes edges
+  pub same_sizes : sizes_of b.array ≡ sizes
+  pub keys : encoding_in b.array.encoding ≡ between_keys
 
 -- the array between, for a bound
 pub record IsOpened (source target : List Dimension) (most : ℕ) (b : Between) : Type 0 where

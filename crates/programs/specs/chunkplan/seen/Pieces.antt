@@ -6,6 +6,7 @@ use Rattle.json.specs.Tree.{json_tokens, members_tokens}
 use Rattle.zarrs_chunk_parts.specs.declared.part.Part.{Part}
 use Rattle.programs.specs.chunkplan.Document.{RangesWanted, ranges_asked_of}
 use Rattle.programs.specs.chunkplan.Line.{chunk_json, count_json, end_members, line_of, part_json, part_ranges_json, piece_json}
+use Rattle.streams.specs.OneLine.{line_of as one_line, unbroken}
 use Rattle.programs.specs.declared.chunkplan.line.Form.{Form}
 use Rattle.programs.specs.declared.chunkplan.line.Form.TheVariants.{Line, Piece}
 use Rattle.programs.specs.declared.chunkplan.line.Order.{Order}
@@ -18,7 +19,7 @@ comma_before _ = codes ","
 
 -- the text of a piece, by its number, in the line of this part of a chunk
 abbrev pub piece_text : Order → (of : Part) → Option ℕ → Part → List ℕ
-piece_text order of at part = comma_before at ++ print (json_tokens (piece_json order of.in_chunk.start part))
+piece_text order of at part = comma_before at ++ unbroken (print (json_tokens (piece_json order of.in_chunk.start part)))
 
 -- the text of a part in one form, by its number: as a line of a read, or as a piece of the line of a chunk
 abbrev pub text_as : Form → Option ℕ → Part → List ℕ
@@ -49,7 +50,7 @@ end_tokens Source at of part = end_array ∷ end_object ∷ []
 
 -- the beginning of the line of a chunk, and its end
 abbrev pub begin_of_line : Order → (at of : Option ℕ) → Part → List ℕ
-begin_of_line order at of part = print (begin_tokens order at of part)
+begin_of_line order at of part = unbroken (print (begin_tokens order at of part))
 
 abbrev pub end_of_line : Order → (at of : Option ℕ) → Part → List ℕ
-end_of_line order at of part = print (end_tokens order at of part) ++ codes "\n"
+end_of_line order at of part = one_line (print (end_tokens order at of part))

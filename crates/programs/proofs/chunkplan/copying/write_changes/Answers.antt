@@ -6,12 +6,15 @@ use Rattle.zarrs_chunk_plan.specs.Counted.{counted}
 use Rattle.zarrs_chunk_plan.specs.declared.resize.ChunkChange.{ChunkChange}
 use Rattle.zarrs_chunk_plan.specs.seen.Changes.{all_changes, changes_to_come}
 use Rattle.zarrs_chunk_plan.proofs.SomeResizes.{AreChangesToCome, ChangesHaveCome, IsChangeOf, changes_ahead, first_change, last_change, one_more_change}
+use Rattle.zarrs_chunks.specs.seen.Grids.{chained_in}
 use Rattle.programs.specs.chunkplan.Line.{change_line, lines_from, resize_lines}
+use Rattle.programs.specs.chunkplan.seen.Opened.{dimensions_in, key_in}
 use Rattle.programs.specs.chunkplan.seen.Steps.{StepLeaves}
 use Rattle.streams.specs.seen.Sent.{Output, output}
 use Rattle.programs.specs.declared.chunkplan.run_fault.RunFault.{RunFault}
 use Rattle.programs.specs.declared.chunkplan.run_fault.RunFault.TheVariants.{Memory}
 use Rattle.streams.proofs.Sent.{sends_nothing}
+use Rattle.programs.proofs.chunkplan.Begun.{keys_in}
 use Rattle.programs.proofs.chunkplan.Numbered.{IsLineOf, IsTextOf, counted_first, way_ends, way_goes_on, way_memory, way_stops}
 use Rattle.programs.proofs.chunkplan.Steps.{step_follows}
 use Rattle.programs.proofs.chunkplan.copying.write_changes.Goals as goal
@@ -42,7 +45,7 @@ loop-change-init g c = (
     [],
     (
       [],
-      first_change g.G.ChunkGridTraits.dimensions g.H.ChunkGridTraits.dimensions g.E.ChunkKeyEncodingTraits.is_key c.args.walk
+      first_change dimensions_in dimensions_in key_in c.args.walk
           c.into_iter-change-iterator.result [] c.into_iter-change-iterator.ensures.into_iter_gives refl c.requires.can,
       omega arith,
       refl,
@@ -57,19 +60,16 @@ loop-change-preserved g c =
     let (n, number_is, sent) = c.loop-change.invariant in
     let change = c.in_ok-change.field-0 in
     let walk = c.args.walk in
-    let before = g.G.ChunkGridTraits.dimensions in
-    let after = g.H.ChunkGridTraits.dimensions in
-    let is_key = g.E.ChunkKeyEncodingTraits.is_key in
     let gives = rw c.in_ok-change.was at c.in-Some.ensures.steps in
     let (text, is, more, failed) = rw (c.deref.ensures.value, c.in_ok-line.ensures, c.in_all-of.ensures) at c.in_ok-send_text.ensures in (
       suc n,
       c.following-number.ensures n number_is,
-      way_goes_on (line_of_one (all_changes walk)) 0 (ChangesHaveCome before after is_key walk c.loop-change.change-iterator)
-          (ChangesHaveCome before after is_key walk c.next.new.self) (λ _. ⊥) (λ y. y ≡ change) n
+      way_goes_on (line_of_one (all_changes walk)) 0 (ChangesHaveCome dimensions_in dimensions_in key_in walk c.loop-change.change-iterator)
+          (ChangesHaveCome dimensions_in dimensions_in key_in walk c.next.new.self) (λ _. ⊥) (λ y. y ≡ change) n
           (output g.W.Write.contents c.args.held_back.now.items c.args.writer.now)
           (output g.W.Write.contents c.loop-change.held_back.items c.loop-change.writer)
           (output g.W.Write.contents c.send_text.new.held_back.items c.send_text.new.writer) sent
-          (λ came y have same. one_more_change before after is_key walk c.loop-change.change-iterator c.next.new.self change came (came ++ y ∷ []) have
+          (λ came y have same. one_more_change dimensions_in dimensions_in key_in walk c.loop-change.change-iterator c.next.new.self change came (came ++ y ∷ []) have
           gives (rw same refl))
           (text, (change, refl, is ∙ ap (λ number. change_line number (counted (length (all_changes walk))) change) number_is), more, failed),
     )
@@ -81,34 +81,28 @@ returns-in_err-change g c =
     let p = err_from_is_err_and c.from_residual.result c.from_residual.ensures.1 in
     let (n, number_is, sent) = c.loop-change.invariant in
     let walk = c.args.walk in
-    let before = g.G.ChunkGridTraits.dimensions in
-    let after = g.H.ChunkGridTraits.dimensions in
-    let is_key = g.E.ChunkKeyEncodingTraits.is_key in
     let first : Output = output g.W.Write.contents c.args.held_back.now.items c.args.writer.now in
     let now : Output = output g.W.Write.contents c.loop-change.held_back.items c.loop-change.writer in
     rw (p.1, p.2)
-    (in_lines (IsChangeOf before after is_key walk) (all_changes walk) (changes_to_come walk) c.requires.all (Err Memory) first now
-    (way_memory (line_of_one (all_changes walk)) 0 (ChangesHaveCome before after is_key walk c.loop-change.change-iterator)
-    (AreChangesToCome before after is_key walk) n first now sent
-    (changes_ahead before after is_key walk (g.met.G.ChunkGridTraits.chained walk.before.now) (g.met.H.ChunkGridTraits.chained walk.after.now)
-    c.requires.fit c.requires.also_fit c.requires.keys c.requires.can c.requires.used c.loop-change.change-iterator)))
+    (in_lines (IsChangeOf dimensions_in dimensions_in key_in walk) (all_changes walk) (changes_to_come walk) c.requires.all (Err Memory) first now
+    (way_memory (line_of_one (all_changes walk)) 0 (ChangesHaveCome dimensions_in dimensions_in key_in walk c.loop-change.change-iterator)
+    (AreChangesToCome dimensions_in dimensions_in key_in walk) n first now sent
+    (changes_ahead dimensions_in dimensions_in key_in walk (chained_in walk.before.now) (chained_in walk.after.now)
+    c.requires.fit c.requires.also_fit (keys_in walk.encoding.now) c.requires.can c.requires.used c.loop-change.change-iterator)))
 
 pub returns-in_err-line : goal.returns-in_err-line
 returns-in_err-line g c =
     let p = err_from_is_err_and c.from_residual-in_err-line.result c.from_residual-in_err-line.ensures.1 in
     let (n, number_is, sent) = c.loop-change.invariant in
     let walk = c.args.walk in
-    let before = g.G.ChunkGridTraits.dimensions in
-    let after = g.H.ChunkGridTraits.dimensions in
-    let is_key = g.E.ChunkKeyEncodingTraits.is_key in
     let first : Output = output g.W.Write.contents c.args.held_back.now.items c.args.writer.now in
     let now : Output = output g.W.Write.contents c.loop-change.held_back.items c.loop-change.writer in
     rw (p.1, p.2)
-    (in_lines (IsChangeOf before after is_key walk) (all_changes walk) (changes_to_come walk) c.requires.all (Err Memory) first now
-    (way_memory (line_of_one (all_changes walk)) 0 (ChangesHaveCome before after is_key walk c.loop-change.change-iterator)
-    (AreChangesToCome before after is_key walk) n first now sent
-    (changes_ahead before after is_key walk (g.met.G.ChunkGridTraits.chained walk.before.now) (g.met.H.ChunkGridTraits.chained walk.after.now)
-    c.requires.fit c.requires.also_fit c.requires.keys c.requires.can c.requires.used c.loop-change.change-iterator)))
+    (in_lines (IsChangeOf dimensions_in dimensions_in key_in walk) (all_changes walk) (changes_to_come walk) c.requires.all (Err Memory) first now
+    (way_memory (line_of_one (all_changes walk)) 0 (ChangesHaveCome dimensions_in dimensions_in key_in walk c.loop-change.change-iterator)
+    (AreChangesToCome dimensions_in dimensions_in key_in walk) n first now sent
+    (changes_ahead dimensions_in dimensions_in key_in walk (chained_in walk.before.now) (chained_in walk.after.now)
+    c.requires.fit c.requires.also_fit (keys_in walk.encoding.now) c.requires.can c.requires.used c.loop-change.change-iterator)))
 
 pub returns-in_err-send_text : goal.returns-in_err-send_text
 returns-in_err-send_text g c =
@@ -116,23 +110,20 @@ returns-in_err-send_text g c =
     let (n, number_is, sent) = c.loop-change.invariant in
     let change = c.in_ok-change.field-0 in
     let walk = c.args.walk in
-    let before = g.G.ChunkGridTraits.dimensions in
-    let after = g.H.ChunkGridTraits.dimensions in
-    let is_key = g.E.ChunkKeyEncodingTraits.is_key in
     let gives = rw c.in_ok-change.was at c.in-Some.ensures.steps in
     let between : Output = output g.W.Write.contents c.loop-change.held_back.items c.loop-change.writer in
     let last : Output = output g.W.Write.contents c.send_text.new.held_back.items c.send_text.new.writer in
     let Line : ℕ → ChunkChange → List ℕ = line_of_one (all_changes walk) in
     let of = counted (length (all_changes walk)) in
     let told = ap (λ of. change_line c.loop-change.number of change) c.in_all-of.ensures ∙ ap (λ number. change_line number of change) number_is in
-    let ahead = changes_ahead before after is_key walk (g.met.G.ChunkGridTraits.chained walk.before.now)
-    (g.met.H.ChunkGridTraits.chained walk.after.now) c.requires.fit c.requires.also_fit c.requires.keys c.requires.can c.requires.used in
+    let ahead = changes_ahead dimensions_in dimensions_in key_in walk (chained_in walk.before.now) (chained_in walk.after.now)
+    c.requires.fit c.requires.also_fit (keys_in walk.encoding.now) c.requires.can c.requires.used in
     rw (p.1, p.2)
     (in_lines _ (all_changes walk) _ c.requires.all (Err _) _ _
-    (way_stops Line 0 (ChangesHaveCome before after is_key walk c.loop-change.change-iterator)
-    (ChangesHaveCome before after is_key walk c.next.new.self) (AreChangesToCome before after is_key walk) (λ y. y ≡ change) n
+    (way_stops Line 0 (ChangesHaveCome dimensions_in dimensions_in key_in walk c.loop-change.change-iterator)
+    (ChangesHaveCome dimensions_in dimensions_in key_in walk c.next.new.self) (AreChangesToCome dimensions_in dimensions_in key_in walk) (λ y. y ≡ change) n
     (output g.W.Write.contents c.args.held_back.now.items c.args.writer.now) between last sent
-    (λ came y have same. one_more_change before after is_key walk c.loop-change.change-iterator c.next.new.self change came (came ++ y ∷ []) have gives
+    (λ came y have same. one_more_change dimensions_in dimensions_in key_in walk c.loop-change.change-iterator c.next.new.self change came (came ++ y ∷ []) have gives
     (rw same refl))
     (ahead c.loop-change.change-iterator) (ahead c.next.new.self) _
     (step_follows (λ sent. sent ≡ c.deref.result.now) (IsLineOf Line 0 (λ y. y ≡ change) n) (λ _. ⊥) (λ _. ⊥)
@@ -145,5 +136,5 @@ returns g c =
     let walk = c.args.walk in
     in_lines _ (all_changes walk) _ c.requires.all (Ok tt) _ _
     (way_ends (line_of_one (all_changes walk)) 0 _ _ n _ _ sent
-    (λ came have. last_change g.G.ChunkGridTraits.dimensions g.H.ChunkGridTraits.dimensions g.E.ChunkKeyEncodingTraits.is_key walk
+    (λ came have. last_change dimensions_in dimensions_in key_in walk
     c.loop-change.change-iterator c.next.new.self came have c.in-None.ensures.steps))

@@ -3,6 +3,7 @@ use Rattle.zarrs_chunk_plan.proofs.SomeResizes.{ChangesHaveCome}
 use Rattle.zarrs_chunk_plan.specs.Counted.{counted}
 use Rattle.zarrs_chunk_plan.specs.seen.Changes.{all_changes}
 use Rattle.programs.specs.chunkplan.Line.{change_line}
+use Rattle.programs.specs.chunkplan.seen.Opened.{dimensions_in, key_in}
 use Rattle.programs.specs.chunkplan.seen.Steps.{HasSent}
 use Rattle.streams.specs.seen.Sent.{output}
 use Rattle.programs.proofs.chunkplan.Numbered.{Came}
@@ -14,5 +15,5 @@ invariant-loop-change g l =
     (n : ℕ) × (l.number ≡ counted n)
     × HasSent
     (Came (λ n. change_line (counted n) (counted (length (all_changes l.fn.walk)))) 0
-    (ChangesHaveCome g.G.ChunkGridTraits.dimensions g.H.ChunkGridTraits.dimensions g.E.ChunkKeyEncodingTraits.is_key l.fn.walk l.change-iterator) n)
+    (ChangesHaveCome dimensions_in dimensions_in key_in l.fn.walk l.change-iterator) n)
     (output g.W.Write.contents l.initial.held_back.items l.initial.writer) (output g.W.Write.contents l.held_back.items l.writer)

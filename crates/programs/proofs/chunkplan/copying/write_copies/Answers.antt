@@ -3,13 +3,13 @@ use Rattle.std.proofs.lemmas.Result.{err_from_is_err_and}
 use Rattle.zarrs_chunk_plan.specs.Counted.{counted}
 use Rattle.zarrs_chunk_plan.specs.Rechunking.{Group}
 use Rattle.zarrs_chunk_parts.specs.declared.part.Part.{Part}
-use Rattle.zarrs_chunk_plan.specs.seen.Copies.{AreMovesToCome, all_targets}
-use Rattle.zarrs_chunk_plan.specs.seen.Parts.{ArePartsToCome}
-use Rattle.zarrs_chunk_plan.proofs.Copied.{MovesHaveCome, first_move, last_move, one_more_move}
+use Rattle.zarrs_chunk_plan.specs.seen.Copies.{all_targets}
+use Rattle.zarrs_chunk_plan.proofs.Copied.{first_move, last_move, one_more_move}
 use Rattle.programs.specs.chunkplan.seen.Missing.{line_unless_stored}
+use Rattle.programs.specs.chunkplan.seen.Opened.{CopiesToCome, PartsToCome, dimensions_in, key_in}
 use Rattle.streams.specs.seen.Sent.{Output, output}
 use Rattle.streams.proofs.Sent.{sends_nothing}
-use Rattle.programs.proofs.chunkplan.Begun.{moves_ahead}
+use Rattle.programs.proofs.chunkplan.Begun.{CopiesHaveCome, copies_ahead}
 use Rattle.programs.proofs.chunkplan.Numbered.{IsLineOf, way_ends, way_goes_on, way_memory, way_stops}
 use Rattle.programs.proofs.chunkplan.Steps.{step_follows}
 use Rattle.programs.proofs.chunkplan.copying.write_copies.Goals as goal
@@ -22,7 +22,7 @@ loop-group-init g c = λ begin is_first. (
     [],
     (
       [],
-      first_move g.G.ChunkGridTraits.dimensions g.E.ChunkKeyEncodingTraits.is_key g.H.ChunkGridTraits.dimensions g.F.ChunkKeyEncodingTraits.is_key
+      first_move dimensions_in key_in dimensions_in key_in
           c.args.walk c.into_iter-group-iterator.result [] c.into_iter-group-iterator.ensures.into_iter_gives refl c.requires.can,
       omega arith,
       refl,
@@ -36,23 +36,19 @@ pub loop-group-preserved : goal.loop-group-preserved
 loop-group-preserved g c = λ begin is_first.
     let (n, number_is, sent) = c.loop-group.invariant begin is_first in
     let group = c.in_ok-group.field-0 in
-    let dimensions = g.G.ChunkGridTraits.dimensions in
-    let is_key = g.E.ChunkKeyEncodingTraits.is_key in
-    let also = g.H.ChunkGridTraits.dimensions in
-    let also_key = g.F.ChunkKeyEncodingTraits.is_key in
     let gives = rw c.in_ok-group.was at c.in-Some.ensures.steps in
     let (text, (from, are, is), more, failed) = rw c.in_all-of.ensures at c.in_ok-write_unless_stored.ensures in (
       suc n,
       c.following-number.ensures n number_is,
       way_goes_on (λ n. line_unless_stored c.args.order (option_map (λ s. s.now) c.args.stored) (counted n) (counted (length (all_targets c.args.walk)))) begin
-          (MovesHaveCome dimensions is_key also also_key c.args.walk c.loop-group.group-iterator)
-          (MovesHaveCome dimensions is_key also also_key c.args.walk c.next.new.self) (λ _. ⊥)
-          (λ y. (from : List Part) × ArePartsToCome dimensions is_key group.from from × (y ≡ (group.to, from))) n
+          (CopiesHaveCome c.args.walk c.loop-group.group-iterator)
+          (CopiesHaveCome c.args.walk c.next.new.self) (λ _. ⊥)
+          (λ y. (from : List Part) × PartsToCome group.from from × (y ≡ (group.to, from))) n
           (output g.W.Write.contents c.args.held_back.now.items c.args.writer.now)
           (output g.W.Write.contents c.loop-group.held_back.items c.loop-group.writer)
           (output g.W.Write.contents c.write_unless_stored.new.held_back.items c.write_unless_stored.new.writer) sent
           (λ came y have (from, are, same).
-          one_more_move dimensions is_key also also_key c.args.walk c.loop-group.group-iterator c.next.new.self group
+          one_more_move dimensions_in key_in dimensions_in key_in c.args.walk c.loop-group.group-iterator c.next.new.self group
           from came (came ++ y ∷ []) have gives are (rw same refl)) (
             text,
             (
@@ -71,15 +67,7 @@ write_unless_stored-requires-clause-meet g c =
     c.loop-group.invariant c.requires.numbered.0 c.requires.numbered.1
     in
     let gives = rw c.in_ok-group.was at c.in-Some.ensures.steps in
-    (gives.moved_from can).meet
-
-pub write_unless_stored-requires-clause-keys : goal.write_unless_stored-requires-clause-keys
-write_unless_stored-requires-clause-keys g c =
-    let (n, number_is, (text, (came, (chunks, left, are, about, (same_first, can)), many, lines), sends, same)) =
-    c.loop-group.invariant c.requires.numbered.0 c.requires.numbered.1
-    in
-    let gives = rw c.in_ok-group.was at c.in-Some.ensures.steps in
-    rw ((gives.moved_from can).about.same_encoding, about.same_source) c.requires.keys
+    (gives.from can).meet
 
 -- ---- where it stops
 
@@ -89,33 +77,25 @@ returns-in_err-group g c = λ begin is_first.
     let (n, number_is, sent) = c.loop-group.invariant begin is_first in
     rw (p.1, p.2)
     (way_memory (λ n. line_unless_stored c.args.order (option_map (λ s. s.now) c.args.stored) (counted n) (counted (length (all_targets c.args.walk)))) begin _ _ n _ _ sent
-    (moves_ahead g.G.ChunkGridTraits.dimensions g.E.ChunkKeyEncodingTraits.is_key g.H.ChunkGridTraits.dimensions g.F.ChunkKeyEncodingTraits.is_key
-    c.args.walk (g.met.G.ChunkGridTraits.chained c.args.walk.source.now.grid) (g.met.H.ChunkGridTraits.chained c.args.walk.targets.grid.now)
-    c.requires.keys c.requires.target_keys c.requires.is_box c.requires.region c.requires.can c.loop-group.group-iterator))
+    (copies_ahead c.args.walk c.requires.is_box c.requires.region c.requires.can c.loop-group.group-iterator))
 
 pub returns-in_err-write_unless_stored : goal.returns-in_err-write_unless_stored
 returns-in_err-write_unless_stored g c = λ begin is_first.
     let p = err_from_is_err_and c.from_residual-in_err-write_unless_stored.result c.from_residual-in_err-write_unless_stored.ensures.1 in
     let (n, number_is, sent) = c.loop-group.invariant begin is_first in
     let group = c.in_ok-group.field-0 in
-    let dimensions = g.G.ChunkGridTraits.dimensions in
-    let is_key = g.E.ChunkKeyEncodingTraits.is_key in
-    let also = g.H.ChunkGridTraits.dimensions in
-    let also_key = g.F.ChunkKeyEncodingTraits.is_key in
     let gives = rw c.in_ok-group.was at c.in-Some.ensures.steps in
     let between : Output = output g.W.Write.contents c.loop-group.held_back.items c.loop-group.writer in
     let after : Output = output g.W.Write.contents c.write_unless_stored.new.held_back.items c.write_unless_stored.new.writer in
     let of = counted (length (all_targets c.args.walk)) in
     let Line : ℕ → Group → List ℕ = λ n. line_unless_stored c.args.order (option_map (λ s. s.now) c.args.stored) (counted n) of in
-    let IsOne : Group → Type 0 = λ y. (from : List Part) × ArePartsToCome dimensions is_key group.from from × (y ≡ (group.to, from)) in
-    let ahead = moves_ahead dimensions is_key also also_key c.args.walk (g.met.G.ChunkGridTraits.chained c.args.walk.source.now.grid)
-    (g.met.H.ChunkGridTraits.chained c.args.walk.targets.grid.now) c.requires.keys c.requires.target_keys c.requires.is_box c.requires.region
-    c.requires.can in
+    let IsOne : Group → Type 0 = λ y. (from : List Part) × PartsToCome group.from from × (y ≡ (group.to, from)) in
+    let ahead = copies_ahead c.args.walk c.requires.is_box c.requires.region c.requires.can in
     rw (p.1, p.2)
-    (way_stops Line begin (MovesHaveCome dimensions is_key also also_key c.args.walk c.loop-group.group-iterator)
-    (MovesHaveCome dimensions is_key also also_key c.args.walk c.next.new.self) (AreMovesToCome dimensions is_key also also_key c.args.walk) IsOne n
+    (way_stops Line begin (CopiesHaveCome c.args.walk c.loop-group.group-iterator)
+    (CopiesHaveCome c.args.walk c.next.new.self) (CopiesToCome c.args.walk) IsOne n
     (output g.W.Write.contents c.args.held_back.now.items c.args.writer.now) between after sent
-    (λ came y have (from, are, same). one_more_move dimensions is_key also also_key c.args.walk c.loop-group.group-iterator c.next.new.self group
+    (λ came y have (from, are, same). one_more_move dimensions_in key_in dimensions_in key_in c.args.walk c.loop-group.group-iterator c.next.new.self group
     from came (came ++ y ∷ []) have gives are (rw same refl))
     (ahead c.loop-group.group-iterator) (ahead c.next.new.self) _
     (step_follows _ (IsLineOf Line begin IsOne n) (λ _. ⊥) (λ _. ⊥)
@@ -131,5 +111,5 @@ pub returns : goal.returns
 returns g c = λ begin is_first.
     let (n, number_is, sent) = c.loop-group.invariant begin is_first in
     way_ends (λ n. line_unless_stored c.args.order (option_map (λ s. s.now) c.args.stored) (counted n) (counted (length (all_targets c.args.walk)))) begin _ _ n _ _ sent
-    (λ came have. last_move g.G.ChunkGridTraits.dimensions g.E.ChunkKeyEncodingTraits.is_key g.H.ChunkGridTraits.dimensions
-    g.F.ChunkKeyEncodingTraits.is_key c.args.walk c.loop-group.group-iterator c.next.new.self came have c.in-None.ensures.steps)
+    (λ came have. last_move dimensions_in key_in dimensions_in
+    key_in c.args.walk c.loop-group.group-iterator c.next.new.self came have c.in-None.ensures.steps)

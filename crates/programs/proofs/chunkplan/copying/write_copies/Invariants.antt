@@ -1,10 +1,10 @@
 use Rattle.std.proofs.Common.{◌≡◌, ℕ, length, option_map}
-use Rattle.zarrs_chunk_plan.proofs.Copied.{MovesHaveCome}
 use Rattle.zarrs_chunk_plan.specs.Counted.{counted}
 use Rattle.zarrs_chunk_plan.specs.seen.Copies.{all_targets}
 use Rattle.programs.specs.chunkplan.seen.Missing.{line_unless_stored}
 use Rattle.programs.specs.chunkplan.seen.Steps.{HasSent}
 use Rattle.streams.specs.seen.Sent.{output}
+use Rattle.programs.proofs.chunkplan.Begun.{CopiesHaveCome}
 use Rattle.programs.proofs.chunkplan.Numbered.{Came}
 use Rattle.programs.proofs.chunkplan.copying.write_copies.Given as goal
 
@@ -14,6 +14,5 @@ invariant-loop-group g l =
     (begin : ℕ) → l.fn.first ≡ counted begin → (n : ℕ) × (l.number ≡ counted n)
     × HasSent
     (Came (λ n. line_unless_stored l.fn.order (option_map (λ s. s.now) l.fn.stored) (counted n) (counted (length (all_targets l.fn.walk)))) begin
-    (MovesHaveCome g.G.ChunkGridTraits.dimensions g.E.ChunkKeyEncodingTraits.is_key g.H.ChunkGridTraits.dimensions g.F.ChunkKeyEncodingTraits.is_key
-    l.fn.walk l.group-iterator) n)
+    (CopiesHaveCome l.fn.walk l.group-iterator) n)
     (output g.W.Write.contents l.initial.held_back.items l.initial.writer) (output g.W.Write.contents l.held_back.items l.writer)

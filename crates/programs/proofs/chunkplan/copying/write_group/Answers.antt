@@ -1,14 +1,14 @@
 use Rattle.std.proofs.Common.{◌≡◌, ◌∙◌, ℕ, List, [], ◌++◌, Option, Err, append_assoc, inl, refl, sym}
 use Rattle.std.proofs.lemmas.Result.{err_from_is_err_and}
-use Rattle.std.specs.List.{AllByRecursion}
 use Rattle.zarrs_chunk_base.specs.ArraySubset.{IsBox}
-use Rattle.zarrs_chunk_base.specs.Dimension.{Dimension, IsChain}
+use Rattle.zarrs_chunk_keys.specs.declared.chunk_key_encoding.named.ChunkKeyEncoding.{ChunkKeyEncoding}
 use Rattle.zarrs_chunk_plan.specs.Counted.{counted}
 use Rattle.zarrs_chunk_parts.specs.declared.part.Part.{Part}
 use Rattle.zarrs_chunk_plan.specs.declared.walk.Parts.{Parts}
-use Rattle.zarrs_chunk_plan.specs.seen.Parts.{ArePartsToCome, HasKeys, MeetSubset}
 use Rattle.zarrs_chunk_plan.proofs.Walked.{at_first}
+use Rattle.zarrs_chunks.specs.declared.chunk_grid.named.ChunkGrid.{ChunkGrid}
 use Rattle.programs.specs.chunkplan.Line.{group_line, lines_from}
+use Rattle.programs.specs.chunkplan.seen.Opened.{CanGiveParts, PartsToCome, dimensions_in, key_in}
 use Rattle.programs.specs.chunkplan.seen.Pieces.{begin_of_line, end_of_line, piece_text}
 use Rattle.programs.specs.declared.chunkplan.line.Order.{Order}
 use Rattle.streams.specs.seen.Sent.{output}
@@ -52,14 +52,13 @@ module _ (AreAll : List Part → Type 0) (order : Order) (of : Part) where
         (parts, are, rw (whole, ends, both, is, lines) (sym (in_pieces of order at all parts)))
 
 -- what the walk would give from here on
-module _ {G E : Type 0} (dimensions : G → List Dimension) (is_key : E → List ℕ → List ℕ → Type 0) (walk : Parts G E)
-    (chains : AllByRecursion IsChain (dimensions walk.grid.now)) (keys : HasKeys (is_key walk.encoding.now)) (is_box : IsBox walk.array_subset)
-    (meet : MeetSubset dimensions walk) (order : Order) (of : Part) (at all : Option ℕ) where
-  some_line : (parts : List Part) × ArePartsToCome dimensions is_key walk parts
-  some_line = parts_ahead dimensions is_key walk chains keys is_box walk [] (at_first dimensions is_key walk walk [] refl refl meet)
+module _ (walk : Parts ChunkGrid ChunkKeyEncoding) (is_box : IsBox walk.array_subset) (meet : CanGiveParts walk) (order : Order) (of : Part)
+    (at all : Option ℕ) where
+  some_line : (parts : List Part) × PartsToCome walk parts
+  some_line = parts_ahead walk is_box walk [] (at_first dimensions_in key_in walk walk [] refl refl meet)
 
-  begun : Begins (Head (ArePartsToCome dimensions is_key walk) order of at all) (IsLine (ArePartsToCome dimensions is_key walk) order of at all)
-  begun = head_begins (ArePartsToCome dimensions is_key walk) order of at all some_line.0 some_line.1
+  begun : Begins (Head (PartsToCome walk) order of at all) (IsLine (PartsToCome walk) order of at all)
+  begun = head_begins (PartsToCome walk) order of at all some_line.0 some_line.1
 
 pub returns-in_err-begin : goal.returns-in_err-begin
 returns-in_err-begin g c = let p = err_from_is_err_and c.from_residual.result c.from_residual.ensures.1 in rw (p.1, p.2) (refl, inl refl)
@@ -68,9 +67,7 @@ pub returns-in_err-send_text : goal.returns-in_err-send_text
 returns-in_err-send_text g c =
     let p = err_from_is_err_and c.from_residual-in_err-send_text.result c.from_residual-in_err-send_text.ensures.1 in
     let group = c.args.group in
-    let dimensions = g.G.ChunkGridTraits.dimensions in
-    let is_key = g.E.ChunkKeyEncodingTraits.is_key in
-    let AreAll = ArePartsToCome dimensions is_key group.from in
+    let AreAll = PartsToCome group.from in
     let IsHead = Head AreAll c.args.order group.to c.args.number c.args.of in
     let first = step_follows _ IsHead (λ _. ⊥) (λ _. ⊥) (λ text is. is ∙ c.deref.ensures.value ∙ c.in_ok-begin.ensures) (λ fault none. none)
     (output g.W.Write.contents c.args.held_back.now.items c.args.writer.now)
@@ -78,17 +75,14 @@ returns-in_err-send_text g c =
     in
     rw (p.1, p.2)
     (stops_whole IsHead _
-    (begun dimensions is_key group.from (g.met.G.ChunkGridTraits.chained group.from.grid.now) c.requires.keys c.requires.is_box c.requires.meet
-    c.args.order group.to c.args.number c.args.of)
+    (begun group.from c.requires.is_box c.requires.meet c.args.order group.to c.args.number c.args.of)
     _ _ _ first)
 
 pub returns-in_err-write_parts : goal.returns-in_err-write_parts
 returns-in_err-write_parts g c =
     let p = err_from_is_err_and c.from_residual-in_err-write_parts.result c.from_residual-in_err-write_parts.ensures.1 in
     let group = c.args.group in
-    let dimensions = g.G.ChunkGridTraits.dimensions in
-    let is_key = g.E.ChunkKeyEncodingTraits.is_key in
-    let AreAll = ArePartsToCome dimensions is_key group.from in
+    let AreAll = PartsToCome group.from in
     let order = c.args.order in
     let first = rw (c.deref.ensures.value, c.in_ok-begin.ensures) at c.in_ok-send_text.ensures in
     rw (p.1, p.2)
@@ -97,15 +91,14 @@ returns-in_err-write_parts g c =
     (output g.W.Write.contents c.args.held_back.now.items c.args.writer.now)
     (output g.W.Write.contents c.send_text.new.held_back.items c.send_text.new.writer)
     (output g.W.Write.contents c.write_parts.new.held_back.items c.write_parts.new.writer) first
-    (begun dimensions is_key group.from (g.met.G.ChunkGridTraits.chained group.from.grid.now) c.requires.keys c.requires.is_box c.requires.meet
-    order group.to c.args.number c.args.of)
+    (begun group.from c.requires.is_box c.requires.meet order group.to c.args.number c.args.of)
     (pieces_begin AreAll order group.to c.args.number c.args.of) _ (c.in_err-write_parts.ensures 0 (sym counted_first)))
 
 pub returns-in_err-end : goal.returns-in_err-end
 returns-in_err-end g c =
     let p = err_from_is_err_and c.from_residual-in_err-end.result c.from_residual-in_err-end.ensures.1 in
     let group = c.args.group in
-    let AreAll = ArePartsToCome g.G.ChunkGridTraits.dimensions g.E.ChunkKeyEncodingTraits.is_key group.from in
+    let AreAll = PartsToCome group.from in
     let order = c.args.order in
     let before = output g.W.Write.contents c.args.held_back.now.items c.args.writer.now in
     let between = output g.W.Write.contents c.send_text.new.held_back.items c.send_text.new.writer in
@@ -121,7 +114,7 @@ returns-in_err-end g c =
 pub returns : goal.returns
 returns g c =
     let group = c.args.group in
-    let AreAll = ArePartsToCome g.G.ChunkGridTraits.dimensions g.E.ChunkKeyEncodingTraits.is_key group.from in
+    let AreAll = PartsToCome group.from in
     let order = c.args.order in
     let before = output g.W.Write.contents c.args.held_back.now.items c.args.writer.now in
     let between = output g.W.Write.contents c.send_text.new.held_back.items c.send_text.new.writer in

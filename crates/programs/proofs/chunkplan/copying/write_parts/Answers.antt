@@ -2,12 +2,12 @@ use Rattle.std.proofs.Common.{◌≡◌, ◌∙◌, ℕ, suc, List, [], ◌∷�
 use Rattle.std.proofs.lemmas.Result.{err_from_is_err_and}
 use Rattle.zarrs_chunk_plan.specs.Counted.{counted}
 use Rattle.zarrs_chunk_parts.specs.declared.part.Part.{Part}
-use Rattle.zarrs_chunk_plan.specs.seen.Parts.{ArePartsToCome}
-use Rattle.zarrs_chunk_plan.proofs.Walked.{HaveCome, at_first, at_last, one_more}
+use Rattle.zarrs_chunk_plan.proofs.Walked.{at_first, at_last, one_more}
+use Rattle.programs.specs.chunkplan.seen.Opened.{PartsToCome, dimensions_in, key_in}
 use Rattle.programs.specs.chunkplan.seen.Pieces.{text_as}
 use Rattle.streams.specs.seen.Sent.{Output, output}
 use Rattle.streams.proofs.Sent.{sends_nothing}
-use Rattle.programs.proofs.chunkplan.Begun.{parts_ahead}
+use Rattle.programs.proofs.chunkplan.Begun.{PartsHaveCome, parts_ahead}
 use Rattle.programs.proofs.chunkplan.Numbered.{IsLineOf, way_ends, way_goes_on, way_memory, way_stops}
 use Rattle.programs.proofs.chunkplan.Steps.{step_follows}
 use Rattle.programs.proofs.chunkplan.copying.write_parts.Goals as goal
@@ -20,7 +20,7 @@ loop-part-init g c = λ begin is_first. (
     [],
     (
       [],
-      at_first g.G.ChunkGridTraits.dimensions g.E.ChunkKeyEncodingTraits.is_key c.args.walk c.into_iter-part-iterator.result []
+      at_first dimensions_in key_in c.args.walk c.into_iter-part-iterator.result []
           c.into_iter-part-iterator.ensures.into_iter_gives refl c.requires.meet,
       omega arith,
       refl,
@@ -34,18 +34,16 @@ pub loop-part-preserved : goal.loop-part-preserved
 loop-part-preserved g c = λ begin is_first.
     let (n, number_is, sent) = c.loop-part.invariant begin is_first in
     let part = c.in_ok-part.field-0 in
-    let dimensions = g.G.ChunkGridTraits.dimensions in
-    let is_key = g.E.ChunkKeyEncodingTraits.is_key in
     let gives = rw c.in_ok-part.was at c.in-Some.ensures.steps in
     let (text, is, more, failed) = rw (c.deref.ensures.value, c.in_ok-text.ensures) at c.in_ok-send_text.ensures in (
       suc n,
       c.following-number.ensures n number_is,
-      way_goes_on (λ n. text_as c.args.form (counted n)) begin (HaveCome dimensions is_key c.args.walk c.loop-part.part-iterator)
-          (HaveCome dimensions is_key c.args.walk c.next.new.self) (λ _. ⊥) (λ p. p ≡ part) n
+      way_goes_on (λ n. text_as c.args.form (counted n)) begin (PartsHaveCome c.args.walk c.loop-part.part-iterator)
+          (PartsHaveCome c.args.walk c.next.new.self) (λ _. ⊥) (λ p. p ≡ part) n
           (output g.W.Write.contents c.args.held_back.now.items c.args.writer.now)
           (output g.W.Write.contents c.loop-part.held_back.items c.loop-part.writer)
           (output g.W.Write.contents c.send_text.new.held_back.items c.send_text.new.writer) sent
-          (λ came p have same. one_more dimensions is_key c.args.walk c.loop-part.part-iterator c.next.new.self part came (came ++ p ∷ []) have gives
+          (λ came p have same. one_more dimensions_in key_in c.args.walk c.loop-part.part-iterator c.next.new.self part came (came ++ p ∷ []) have gives
           (rw same refl))
           (text, (part, refl, is ∙ ap (λ number. text_as c.args.form number part) number_is), more, failed),
     )
@@ -58,8 +56,7 @@ returns-in_err-part g c = λ begin is_first.
     let (n, number_is, sent) = c.loop-part.invariant begin is_first in
     rw (p.1, p.2)
     (way_memory (λ n. text_as c.args.form (counted n)) begin _ _ n _ _ sent
-    (parts_ahead g.G.ChunkGridTraits.dimensions g.E.ChunkKeyEncodingTraits.is_key c.args.walk (g.met.G.ChunkGridTraits.chained c.args.walk.grid.now)
-    c.requires.keys c.requires.is_box c.loop-part.part-iterator))
+    (parts_ahead c.args.walk c.requires.is_box c.loop-part.part-iterator))
 
 pub returns-in_err-text : goal.returns-in_err-text
 returns-in_err-text g c = λ begin is_first.
@@ -67,27 +64,24 @@ returns-in_err-text g c = λ begin is_first.
     let (n, number_is, sent) = c.loop-part.invariant begin is_first in
     rw (p.1, p.2)
     (way_memory (λ n. text_as c.args.form (counted n)) begin _ _ n _ _ sent
-    (parts_ahead g.G.ChunkGridTraits.dimensions g.E.ChunkKeyEncodingTraits.is_key c.args.walk (g.met.G.ChunkGridTraits.chained c.args.walk.grid.now)
-    c.requires.keys c.requires.is_box c.loop-part.part-iterator))
+    (parts_ahead c.args.walk c.requires.is_box c.loop-part.part-iterator))
 
 pub returns-in_err-send_text : goal.returns-in_err-send_text
 returns-in_err-send_text g c = λ begin is_first.
     let p = err_from_is_err_and c.from_residual-in_err-send_text.result c.from_residual-in_err-send_text.ensures.1 in
     let (n, number_is, sent) = c.loop-part.invariant begin is_first in
     let part = c.in_ok-part.field-0 in
-    let dimensions = g.G.ChunkGridTraits.dimensions in
-    let is_key = g.E.ChunkKeyEncodingTraits.is_key in
     let gives = rw c.in_ok-part.was at c.in-Some.ensures.steps in
     let between : Output = output g.W.Write.contents c.loop-part.held_back.items c.loop-part.writer in
     let after : Output = output g.W.Write.contents c.send_text.new.held_back.items c.send_text.new.writer in
     let Line : ℕ → Part → List ℕ = λ n. text_as c.args.form (counted n) in
     let of_number = ap (λ number. text_as c.args.form number part) number_is in
-    let ahead = parts_ahead dimensions is_key c.args.walk (g.met.G.ChunkGridTraits.chained c.args.walk.grid.now) c.requires.keys c.requires.is_box in
+    let ahead = parts_ahead c.args.walk c.requires.is_box in
     rw (p.1, p.2)
-    (way_stops Line begin (HaveCome dimensions is_key c.args.walk c.loop-part.part-iterator) (HaveCome dimensions is_key c.args.walk c.next.new.self)
-    (ArePartsToCome dimensions is_key c.args.walk) (λ p. p ≡ part) n
+    (way_stops Line begin (PartsHaveCome c.args.walk c.loop-part.part-iterator) (PartsHaveCome c.args.walk c.next.new.self)
+    (PartsToCome c.args.walk) (λ p. p ≡ part) n
     (output g.W.Write.contents c.args.held_back.now.items c.args.writer.now) between after sent
-    (λ came p have same. one_more dimensions is_key c.args.walk c.loop-part.part-iterator c.next.new.self part came (came ++ p ∷ []) have gives
+    (λ came p have same. one_more dimensions_in key_in c.args.walk c.loop-part.part-iterator c.next.new.self part came (came ++ p ∷ []) have gives
     (rw same refl))
     (ahead c.loop-part.part-iterator) (ahead c.next.new.self) _
     (step_follows (λ sent. sent ≡ c.deref.result.now) (IsLineOf Line begin (λ p. p ≡ part) n) (λ _. ⊥) (λ _. ⊥)
@@ -98,5 +92,5 @@ pub returns : goal.returns
 returns g c = λ begin is_first.
     let (n, number_is, sent) = c.loop-part.invariant begin is_first in
     way_ends (λ n. text_as c.args.form (counted n)) begin _ _ n _ _ sent
-    (λ came have. at_last g.G.ChunkGridTraits.dimensions g.E.ChunkKeyEncodingTraits.is_key c.args.walk c.loop-part.part-iterator c.next.new.self came
+    (λ came have. at_last dimensions_in key_in c.args.walk c.loop-part.part-iterator c.next.new.self came
     have c.in-None.ensures.steps)

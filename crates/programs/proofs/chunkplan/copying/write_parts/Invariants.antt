@@ -1,9 +1,9 @@
 use Rattle.std.proofs.Common.{◌≡◌, ℕ}
-use Rattle.zarrs_chunk_plan.proofs.Walked.{HaveCome}
 use Rattle.zarrs_chunk_plan.specs.Counted.{counted}
 use Rattle.programs.specs.chunkplan.seen.Pieces.{text_as}
 use Rattle.programs.specs.chunkplan.seen.Steps.{HasSent}
 use Rattle.streams.specs.seen.Sent.{output}
+use Rattle.programs.proofs.chunkplan.Begun.{PartsHaveCome}
 use Rattle.programs.proofs.chunkplan.Numbered.{Came}
 use Rattle.programs.proofs.chunkplan.copying.write_parts.Given as goal
 
@@ -13,5 +13,5 @@ invariant-loop-part g l =
     (begin : ℕ) → l.fn.first ≡ counted begin → (n : ℕ) × (l.number ≡ counted n)
     × HasSent
     (Came (λ n. text_as l.fn.form (counted n)) begin
-    (HaveCome g.G.ChunkGridTraits.dimensions g.E.ChunkKeyEncodingTraits.is_key l.fn.walk l.part-iterator) n)
+    (PartsHaveCome l.fn.walk l.part-iterator) n)
     (output g.W.Write.contents l.initial.held_back.items l.initial.writer) (output g.W.Write.contents l.held_back.items l.writer)

@@ -1,6 +1,7 @@
 use Rattle.std.proofs.Common.{◌∙◌, [], cond, ap, refl, sym}
 use Rattle.zarrs_chunk_plan.proofs.Walked.{at_first}
 use Rattle.programs.specs.chunkplan.Line.{group_line}
+use Rattle.programs.specs.chunkplan.seen.Opened.{dimensions_in, key_in}
 use Rattle.streams.specs.seen.Sent.{output}
 use Rattle.streams.proofs.Sent.{sends_nothing}
 use Rattle.programs.proofs.chunkplan.Begun.{parts_ahead}
@@ -10,9 +11,8 @@ use Rattle.programs.proofs.chunkplan.copying.write_unless_stored.Goals as goal
 pub returns-then-is_left_out : goal.returns-then-is_left_out
 returns-then-is_left_out g c =
     let group = c.args.group in
-    let (from, are) = parts_ahead g.G.ChunkGridTraits.dimensions g.E.ChunkKeyEncodingTraits.is_key group.from
-    (g.met.G.ChunkGridTraits.chained group.from.grid.now) c.requires.keys c.requires.is_box group.from []
-    (at_first g.G.ChunkGridTraits.dimensions g.E.ChunkKeyEncodingTraits.is_key group.from group.from [] refl refl c.requires.meet)
+    let (from, are) = parts_ahead group.from c.requires.is_box group.from []
+    (at_first dimensions_in key_in group.from group.from [] refl refl c.requires.meet)
     in
     let left = sym c.is_left_out.ensures ∙ c.if-is_left_out.true in (
       [],

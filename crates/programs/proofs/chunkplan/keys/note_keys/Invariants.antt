@@ -1,6 +1,7 @@
 use Rattle.std.proofs.Common.{◌≡◌, [], ℕ, List, Some}
 use Rattle.streams.specs.Watched.{has_failed, watched}
 use Rattle.programs.specs.chunkplan.seen.Missing.{HaveNoted}
+use Rattle.programs.specs.chunkplan.seen.Opened.{dimensions_of, key_of}
 use Rattle.streams.specs.seen.Lines.{left}
 use Rattle.programs.proofs.chunkplan.KeyLines.{HaveCome}
 use Rattle.programs.proofs.chunkplan.keys.note_keys.Given as goal
@@ -11,9 +12,9 @@ invariant-loop g l =
     ((bytes : List ℕ) → left l.initial.lines (g.R.Read.remaining (watched l.initial.reader)) ≡ Some bytes
     → (came : List (List ℕ)) × (rest : List ℕ) × (left l.lines (g.R.Read.remaining (watched l.reader)) ≡ Some rest) × HaveCome bytes came rest
     × ((targets : List (List ℕ))
-    → HaveNoted (g.H.ChunkGridTraits.dimensions l.fn.target.grid) (g.F.ChunkKeyEncodingTraits.is_key l.fn.target.encoding) targets []
+    → HaveNoted (dimensions_of l.fn.target) (key_of l.fn.target) targets []
     l.initial.stored l.initial.foreign.items
-    → HaveNoted (g.H.ChunkGridTraits.dimensions l.fn.target.grid) (g.F.ChunkKeyEncodingTraits.is_key l.fn.target.encoding) targets came
+    → HaveNoted (dimensions_of l.fn.target) (key_of l.fn.target) targets came
     l.stored l.foreign.items))
     × (l.line.items ≡ [])
     × (has_failed l.reader ≡ has_failed l.initial.reader)

@@ -1,22 +1,23 @@
 use Rattle.std.proofs.Common.{◌≡◌, ◌≢◌, ◌∙◌, ◌++◌, ◌==◌, [], ap, length, sym, true≢false}
 use Rattle.programs.specs.chunkplan.Keys.{foreign_json}
 use Rattle.programs.specs.chunkplan.Line.{line_of}
+use Rattle.programs.specs.chunkplan.seen.Opened.{dimensions_of, key_of}
 use Rattle.programs.proofs.chunkplan.KeyLines.{other_noted, own_noted, with_key}
 use Rattle.programs.proofs.chunkplan.keys.note_line.Goals as goal
 
 pub returns-then-branch-clause-noted : goal.returns-then-branch-clause-noted
-returns-then-branch-clause-noted g c = λ targets keys noted.
+returns-then-branch-clause-noted c = λ targets keys noted.
     let line = c.args.line.now in
     let some : line ≢ [] = λ none. true≢false (sym (ap (λ xs. length xs == 0) none) ∙ sym c.is_empty.ensures ∙ c.if-is_empty.false) in
     let same = c.in-Ok.ensures.cases.0 in
     let marked = (rw same at c.in_ok-note_key.ensures.noted) targets keys noted.marked in
     let told = (rw same at c.in_ok-note_key.ensures.of_target) targets keys noted.marked in
     rw (with_key keys line some)
-    (own_noted (g.H.ChunkGridTraits.dimensions c.args.target.now.grid) (g.F.ChunkKeyEncodingTraits.is_key c.args.target.now.encoding) line targets keys
+    (own_noted (dimensions_of c.args.target.now) (key_of c.args.target.now) line targets keys
     c.args.stored.now c.note_key.new.stored c.args.foreign.now.items noted marked c.in-Ok.ensures.cases.1 (told.0 c.if-branch.true))
 
 pub returns-clause-noted : goal.returns-clause-noted
-returns-clause-noted g c = λ targets keys noted.
+returns-clause-noted c = λ targets keys noted.
     let line = c.args.line.now in
     let some : line ≢ [] = λ none. true≢false (sym (ap (λ xs. length xs == 0) none) ∙ sym c.is_empty.ensures ∙ c.if-is_empty.false) in
     let same = c.in-Ok.ensures.cases.0 in
@@ -26,6 +27,6 @@ returns-clause-noted g c = λ targets keys noted.
     c.in_ok-extend_from_slice.ensures.items
     ∙ ap (λ xs. c.args.foreign.now.items ++ xs) (c.deref.ensures.value ∙ c.in_ok-line.ensures ∙ ap (λ key. line_of (foreign_json key)) same) in
     rw (with_key keys line some, text)
-    (other_noted (g.H.ChunkGridTraits.dimensions c.args.target.now.grid) (g.F.ChunkKeyEncodingTraits.is_key c.args.target.now.encoding) line targets
+    (other_noted (dimensions_of c.args.target.now) (key_of c.args.target.now) line targets
     keys c.args.stored.now c.note_key.new.stored c.args.foreign.now.items noted marked
     c.in-Ok.ensures.cases.1 (λ own. true≢false (sym (told.1 own) ∙ c.if-branch.false)))

@@ -1,3 +1,7 @@
+use Rattle.std.proofs.Common.{◌≡◌, ◌∙◌, ap}
+use Rattle.programs.specs.chunkplan.seen.Pieces.{begin_of_line}
+use Rattle.programs.specs.declared.chunkplan.line.Order.TheVariants.{Source}
+use Rattle.streams.specs.OneLine.{unbroken}
 use Rattle.programs.proofs.chunkplan.Tokens.{then, wrote}
 use Rattle.programs.proofs.chunkplan.line.begin_of_source.Goals as goal
 
@@ -10,4 +14,7 @@ returns c =
     (then _ _ _ _ _ c.in_ok-write_count-2.ensures
     (then _ _ _ _ _ (wrote _ _ _ c.in_ok-key.ensures) (wrote _ _ _ c.in_ok-begin_array.ensures)))))
     in
-    rw (all.tokens, all.before, c.new-json.ensures.tokens, c.new-json.ensures.before, c.in_ok-with_capacity.ensures.items) at c.into_inner.ensures.items
+    let printed = rw (all.tokens, all.before, c.new-json.ensures.tokens, c.new-json.ensures.before, c.in_ok-with_capacity.ensures.items)
+    at c.into_inner.ensures.items in
+    let same : unbroken c.deref.result.now ≡ begin_of_line Source c.args.number c.args.of c.args.from.now = ap unbroken (c.deref.ensures.value ∙ printed) in
+    rw same at c.unbroken.ensures

@@ -1,4 +1,10 @@
-use Rattle.programs.proofs.chunkplan.Pieces.{piece_tokens}
+use Rattle.std.proofs.Common.{◌≡◌, ◌∙◌, ◌++◌, ap}
+use Rattle.json.specs.Print.{print}
+use Rattle.json.specs.Tree.{json_tokens}
+use Rattle.programs.specs.chunkplan.Line.{piece_json}
+use Rattle.programs.specs.chunkplan.seen.Pieces.{comma_before, piece_text}
+use Rattle.streams.specs.OneLine.{unbroken}
+use Rattle.programs.proofs.chunkplan.Pieces.{piece_escaped, piece_tokens}
 use Rattle.programs.proofs.chunkplan.Tokens.{then, wrote}
 use Rattle.programs.proofs.chunkplan.line.piece_text.Goals as goal
 
@@ -16,5 +22,11 @@ returns c =
     (then _ _ _ _ _ shape
     (then _ _ _ _ _ c.in_ok-write_whole_of_piece.ensures (wrote _ _ _ c.in_ok-end_object.ensures)))))))
     in
-    rw (piece_tokens c.args.order c.args.of.now.in_chunk.start c.args.part.now)
-    (rw (all.tokens, all.before, c.new-json.ensures.tokens, c.new-json.ensures.before, c.in_ok-begin_piece.ensures) at c.into_inner.ensures.items)
+    let printed = rw (all.tokens, all.before, c.new-json.ensures.tokens, c.new-json.ensures.before, c.in_ok-begin_piece.ensures)
+    at c.into_inner.ensures.items in
+    let first = c.args.of.now.in_chunk.start in
+    let text : c.into_inner.result.items ≡ comma_before c.args.number ++ print (json_tokens (piece_json c.args.order first c.args.part.now)) =
+    rw (piece_tokens c.args.order first c.args.part.now) printed in
+    let same : unbroken c.deref.result.now ≡ piece_text c.args.order c.args.of.now c.args.number c.args.part.now =
+    ap unbroken (c.deref.ensures.value ∙ text) ∙ piece_escaped c.args.order c.args.of.now c.args.number c.args.part.now in
+    rw same at c.unbroken.ensures

@@ -1,23 +1,24 @@
 use Rattle.std.proofs.Common.{◌≡◌, ◌∙◌, ◌<◌, ◌≤◌, ◌^◌, ◌++◌, ℕ, List, [], Some, Err, ap, arith, length, refl, subst, sym}
 use Rattle.std.proofs.lemmas.Result.{err_from_is_err_and}
 use Rattle.std.proofs.lemmas.Slice.Zip.{AllZip-long}
-use Rattle.std.specs.List.{AllByRecursion}
 use Rattle.zarrs_chunk_base.specs.ArraySubset.{IsBox}
-use Rattle.zarrs_chunk_base.specs.Dimension.{Dimension, IsChain}
+use Rattle.zarrs_chunk_base.specs.Dimension.{Dimension}
+use Rattle.zarrs_chunk_keys.specs.declared.chunk_key_encoding.named.ChunkKeyEncoding.{ChunkKeyEncoding}
 use Rattle.zarrs_chunk_plan.specs.Rechunking.{Group}
 use Rattle.zarrs_chunk_plan.specs.Region.{AreMovedInto}
 use Rattle.zarrs_chunk_plan.specs.declared.chunk_copies.Copies.{Copies}
 use Rattle.zarrs_chunk_plan.specs.declared.share.Share.{Share}
 use Rattle.zarrs_chunk_plan.specs.declared.stored_chunks.StoredChunks.{StoredChunks}
-use Rattle.zarrs_chunk_plan.specs.seen.Copies.{AreMovesToCome, CanMove, all_targets, region_of, targets_to_come}
-use Rattle.zarrs_chunk_plan.specs.seen.Parts.{HasKeys}
+use Rattle.zarrs_chunk_plan.specs.seen.Copies.{all_targets, region_of, targets_to_come}
 use Rattle.zarrs_chunk_plan.specs.seen.StoredChunks.{Knows}
 use Rattle.zarrs_chunk_plan.proofs.Copied.{first_move}
+use Rattle.zarrs_chunks.specs.declared.chunk_grid.named.ChunkGrid.{ChunkGrid}
 use Rattle.programs.specs.chunkplan.Keys.{IsMissingText}
 use Rattle.programs.specs.chunkplan.seen.Missing.{HaveNoted, share_unless_stored}
+use Rattle.programs.specs.chunkplan.seen.Opened.{CanGiveCopies, CopiesToCome, dimensions_in, dimensions_of, key_in, key_of}
 use Rattle.programs.specs.declared.chunkplan.line.Order.TheVariants.{Target}
 use Rattle.streams.specs.seen.Sent.{Output, output}
-use Rattle.programs.proofs.chunkplan.Begun.{moves_ahead}
+use Rattle.programs.proofs.chunkplan.Begun.{copies_ahead}
 use Rattle.programs.proofs.chunkplan.Behind.{Begins, Behind, ends_behind, stops_whole}
 use Rattle.programs.proofs.chunkplan.KeyLines.{some_keys}
 use Rattle.programs.proofs.chunkplan.KeySteps.{noting_stops, sent_after_keys}
@@ -25,35 +26,30 @@ use Rattle.programs.proofs.chunkplan.StoredLines.{FaultOf, TextOf, missing_text,
 use Rattle.programs.proofs.chunkplan.missing.write_missing.Goals as goal
 
 -- a walk has groups to give
-module _ {G E H F : Type 0} (dimensions : G → List Dimension) (is_key : E → List ℕ → List ℕ → Type 0) (also : H → List Dimension)
-    (also_key : F → List ℕ → List ℕ → Type 0) (walk : Copies G E H F) (chains : AllByRecursion IsChain (dimensions walk.source.now.grid))
-    (also_chains : AllByRecursion IsChain (also walk.targets.grid.now)) (keys : HasKeys (is_key walk.source.now.encoding))
-    (also_keys : HasKeys (also_key walk.targets.encoding.now)) (is_box : IsBox walk.targets.array_subset) (is_region : IsBox (region_of walk))
-    (can : CanMove dimensions also walk) where
-  some_groups : (groups : List Group) × AreMovesToCome dimensions is_key also also_key walk groups
+module _ (walk : Copies ChunkGrid ChunkKeyEncoding ChunkGrid ChunkKeyEncoding) (is_box : IsBox walk.targets.array_subset)
+    (is_region : IsBox (region_of walk)) (can : CanGiveCopies walk) where
+  some_groups : (groups : List Group) × CopiesToCome walk groups
   some_groups =
-      moves_ahead dimensions is_key also also_key walk chains also_chains keys also_keys is_box is_region can walk []
-      (first_move dimensions is_key also also_key walk walk [] refl refl can)
+      copies_ahead walk is_box is_region can walk [] (first_move dimensions_in key_in dimensions_in key_in walk walk [] refl refl can)
 
 -- the lines of what isn't stored, and behind them those of the foreign keys
-module _ {G E H F : Type 0} (dimensions : G → List Dimension) (is_key : E → List ℕ → List ℕ → Type 0) (also : H → List Dimension)
-    (also_key : F → List ℕ → List ℕ → Type 0) (walk : Copies G E H F) (all : all_targets walk ≡ targets_to_come walk)
+module _ (walk : Copies ChunkGrid ChunkKeyEncoding ChunkGrid ChunkKeyEncoding) (all : all_targets walk ≡ targets_to_come walk)
     (few : length (all_targets walk) < 2 ^ 29) (target : List Dimension) (IsKeyOf : List ℕ → List ℕ → Type 0) (keys : List (List ℕ))
     (stored : StoredChunks) (foreign : List ℕ) (noted : HaveNoted target IsKeyOf (all_targets walk) keys stored foreign) (share : Share) where
   abbrev AreLines : List ℕ → Type 0
-  AreLines text = (groups : List Group) × AreMovesToCome dimensions is_key also also_key walk groups
+  AreLines text = (groups : List Group) × CopiesToCome walk groups
       × (text ≡ share_unless_stored Target (Some stored) share groups)
 
   abbrev IsWhole : List ℕ → Type 0
-  IsWhole text = (groups : List Group) × AreMovesToCome dimensions is_key also also_key walk groups
+  IsWhole text = (groups : List Group) × CopiesToCome walk groups
       × IsMissingText target IsKeyOf keys share groups text
 
-  both : (groups : List Group) → AreMovesToCome dimensions is_key also also_key walk groups
+  both : (groups : List Group) → CopiesToCome walk groups
       → IsMissingText target IsKeyOf keys share groups (share_unless_stored Target (Some stored) share groups ++ foreign)
   both groups moves =
       missing_text target IsKeyOf (all_targets walk) keys stored groups
-      (AreMovedInto (dimensions walk.source.now.grid) (is_key walk.source.now.encoding) (also walk.targets.grid.now)
-      (also_key walk.targets.encoding.now) (region_of walk) walk.targets.array_subset.start)
+      (AreMovedInto (dimensions_in walk.source.now.grid) (key_in walk.source.now.encoding) (dimensions_in walk.targets.grid.now)
+      (key_in walk.targets.encoding.now) (region_of walk) walk.targets.array_subset.start)
       (λ chunk group of. of.to.numbers) (rw all moves) few foreign noted share
 
   lines_begin : Begins AreLines IsWhole
@@ -66,10 +62,7 @@ pub returns-in_default : goal.returns-in_default
 returns-in_default g c = λ bytes is.
     let walk = c.args.walk in
     let (keys, are) = some_keys bytes in
-    let (groups, moves) = some_groups g.G.ChunkGridTraits.dimensions g.E.ChunkKeyEncodingTraits.is_key g.H.ChunkGridTraits.dimensions
-    g.F.ChunkKeyEncodingTraits.is_key walk (g.met.G.ChunkGridTraits.chained walk.source.now.grid)
-    (g.met.H.ChunkGridTraits.chained walk.targets.grid.now) c.requires.keys c.requires.target_keys c.requires.is_box c.requires.region c.requires.can
-    in
+    let (groups, moves) = some_groups walk c.requires.is_box c.requires.region c.requires.can in
     let long = ap length c.requires.all ∙ sym (AllZip-long _ (targets_to_come walk) groups moves) in
     let many : 2 ^ 29 ≤ length (all_targets walk) = rw c.in_default.is at c.in_ok-stored.ensures.none in
     (refl, refl, refl, keys, are, (groups, moves, omega (arith, long, many)))
@@ -78,28 +71,22 @@ pub returns-in_err-note_keys : goal.returns-in_err-note_keys
 returns-in_err-note_keys g c = λ bytes is.
     let p = err_from_is_err_and c.from_residual-in_err-note_keys.result c.from_residual-in_err-note_keys.ensures.1 in
     let walk = c.args.walk in
-    let (groups, moves) = some_groups g.G.ChunkGridTraits.dimensions g.E.ChunkKeyEncodingTraits.is_key g.H.ChunkGridTraits.dimensions
-    g.F.ChunkKeyEncodingTraits.is_key walk (g.met.G.ChunkGridTraits.chained walk.source.now.grid)
-    (g.met.H.ChunkGridTraits.chained walk.targets.grid.now) c.requires.keys c.requires.target_keys c.requires.is_box c.requires.region c.requires.can
-    in
+    let (groups, moves) = some_groups walk c.requires.is_box c.requires.region c.requires.can in
     let long = ap length c.requires.all ∙ sym (AllZip-long _ (targets_to_come walk) groups moves) in
     let few : length (all_targets walk) < 2 ^ 29 = rw c.in-Some.is at c.in_ok-stored.ensures.few in
     rw (p.1, p.2)
-    (noting_stops (TextOf g.G.ChunkGridTraits.dimensions g.E.ChunkKeyEncodingTraits.is_key g.H.ChunkGridTraits.dimensions
-    g.F.ChunkKeyEncodingTraits.is_key walk (g.H.ChunkGridTraits.dimensions c.args.target.now.grid)
-    (g.F.ChunkKeyEncodingTraits.is_key c.args.target.now.encoding) c.args.share.now)
-    (FaultOf g.G.ChunkGridTraits.dimensions g.E.ChunkKeyEncodingTraits.is_key g.H.ChunkGridTraits.dimensions
-    g.F.ChunkKeyEncodingTraits.is_key walk) bytes _ _ _ _ _ (rw is at c.in_err-note_keys.ensures.refused)
+    (noting_stops (TextOf walk (dimensions_of c.args.target.now) (key_of c.args.target.now) c.args.share.now)
+    (FaultOf walk) bytes _ _ _ _ _ (rw is at c.in_err-note_keys.ensures.refused)
     (λ keys key there not_text. (groups, moves, (omega (arith, long, few), key, there, not_text))))
 
 pub returns-in_err-write_share : goal.returns-in_err-write_share
 returns-in_err-write_share g c = λ bytes is.
     let p = err_from_is_err_and c.from_residual-in_err-write_share.result c.from_residual-in_err-write_share.ensures.1 in
     let walk = c.args.walk in
-    let target = g.H.ChunkGridTraits.dimensions c.args.target.now.grid in
-    let IsKeyOf = g.F.ChunkKeyEncodingTraits.is_key c.args.target.now.encoding in
+    let target = dimensions_of c.args.target.now in
+    let IsKeyOf = key_of c.args.target.now in
     let few : length (all_targets walk) < 2 ^ 29 = rw c.in-Some.is at c.in_ok-stored.ensures.few in
-    let knows = subst (λ to. Knows (g.H.ChunkGridTraits.dimensions to.grid) (g.F.ChunkKeyEncodingTraits.is_key to.encoding) (all_targets walk) []
+    let knows = subst (λ to. Knows (dimensions_in to.grid) (key_in to.encoding) (all_targets walk) []
     c.in-Some.stored) c.requires.target (rw c.in-Some.is at c.in_ok-stored.ensures.none)
     in
     let (keys, are, noted) = c.in_ok-note_keys.ensures.noted bytes (all_targets walk) is
@@ -107,25 +94,21 @@ returns-in_err-write_share g c = λ bytes is.
     in
     let before : Output = output g.W.Write.contents c.args.held_back.now.items c.args.writer.now in
     let after : Output = output g.W.Write.contents c.write_share.new.held_back.items c.write_share.new.writer in
-    let begins = lines_begin g.G.ChunkGridTraits.dimensions g.E.ChunkKeyEncodingTraits.is_key g.H.ChunkGridTraits.dimensions
-    g.F.ChunkKeyEncodingTraits.is_key walk c.requires.all few target IsKeyOf keys c.note_keys.new.stored c.note_keys.new.foreign.items noted
+    let begins = lines_begin walk c.requires.all few target IsKeyOf keys c.note_keys.new.stored c.note_keys.new.foreign.items noted
     c.args.share.now
     in
     rw (p.1, p.2)
-    (sent_after_keys (TextOf g.G.ChunkGridTraits.dimensions g.E.ChunkKeyEncodingTraits.is_key g.H.ChunkGridTraits.dimensions
-    g.F.ChunkKeyEncodingTraits.is_key walk (g.H.ChunkGridTraits.dimensions c.args.target.now.grid)
-    (g.F.ChunkKeyEncodingTraits.is_key c.args.target.now.encoding) c.args.share.now)
-    (FaultOf g.G.ChunkGridTraits.dimensions g.E.ChunkKeyEncodingTraits.is_key g.H.ChunkGridTraits.dimensions
-    g.F.ChunkKeyEncodingTraits.is_key walk) bytes _ _ before after keys _ are c.in_ok-note_keys.ensures.failed (rw is at c.in_ok-note_keys.ensures.end) (Err _)
+    (sent_after_keys (TextOf walk (dimensions_of c.args.target.now) (key_of c.args.target.now) c.args.share.now)
+    (FaultOf walk) bytes _ _ before after keys _ are c.in_ok-note_keys.ensures.failed (rw is at c.in_ok-note_keys.ensures.end) (Err _)
     (stops_whole _ _ begins before after _ c.in_err-write_share.ensures))
 
 pub returns : goal.returns
 returns g c = λ bytes is.
     let walk = c.args.walk in
-    let target = g.H.ChunkGridTraits.dimensions c.args.target.now.grid in
-    let IsKeyOf = g.F.ChunkKeyEncodingTraits.is_key c.args.target.now.encoding in
+    let target = dimensions_of c.args.target.now in
+    let IsKeyOf = key_of c.args.target.now in
     let few : length (all_targets walk) < 2 ^ 29 = rw c.in-Some.is at c.in_ok-stored.ensures.few in
-    let knows = subst (λ to. Knows (g.H.ChunkGridTraits.dimensions to.grid) (g.F.ChunkKeyEncodingTraits.is_key to.encoding) (all_targets walk) []
+    let knows = subst (λ to. Knows (dimensions_in to.grid) (key_in to.encoding) (all_targets walk) []
     c.in-Some.stored) c.requires.target (rw c.in-Some.is at c.in_ok-stored.ensures.none)
     in
     let (keys, are, noted) = c.in_ok-note_keys.ensures.noted bytes (all_targets walk) is
@@ -134,18 +117,13 @@ returns g c = λ bytes is.
     let before : Output = output g.W.Write.contents c.args.held_back.now.items c.args.writer.now in
     let between : Output = output g.W.Write.contents c.write_share.new.held_back.items c.write_share.new.writer in
     let after : Output = output g.W.Write.contents c.send_text.new.held_back.items c.send_text.new.writer in
-    let begins = lines_begin g.G.ChunkGridTraits.dimensions g.E.ChunkKeyEncodingTraits.is_key g.H.ChunkGridTraits.dimensions
-    g.F.ChunkKeyEncodingTraits.is_key walk c.requires.all few target IsKeyOf keys c.note_keys.new.stored c.note_keys.new.foreign.items noted
+    let begins = lines_begin walk c.requires.all few target IsKeyOf keys c.note_keys.new.stored c.note_keys.new.foreign.items noted
     c.args.share.now
     in
-    let ends = whole g.G.ChunkGridTraits.dimensions g.E.ChunkKeyEncodingTraits.is_key g.H.ChunkGridTraits.dimensions
-    g.F.ChunkKeyEncodingTraits.is_key walk c.requires.all few target IsKeyOf keys c.note_keys.new.stored c.note_keys.new.foreign.items noted
+    let ends = whole walk c.requires.all few target IsKeyOf keys c.note_keys.new.stored c.note_keys.new.foreign.items noted
     c.args.share.now
     in
-    sent_after_keys (TextOf g.G.ChunkGridTraits.dimensions g.E.ChunkKeyEncodingTraits.is_key g.H.ChunkGridTraits.dimensions
-    g.F.ChunkKeyEncodingTraits.is_key walk (g.H.ChunkGridTraits.dimensions c.args.target.now.grid)
-    (g.F.ChunkKeyEncodingTraits.is_key c.args.target.now.encoding) c.args.share.now)
-    (FaultOf g.G.ChunkGridTraits.dimensions g.E.ChunkKeyEncodingTraits.is_key g.H.ChunkGridTraits.dimensions
-    g.F.ChunkKeyEncodingTraits.is_key walk) bytes _ _ before after keys _ are c.in_ok-note_keys.ensures.failed (rw is at c.in_ok-note_keys.ensures.end) c.send_text.result
+    sent_after_keys (TextOf walk (dimensions_of c.args.target.now) (key_of c.args.target.now) c.args.share.now)
+    (FaultOf walk) bytes _ _ before after keys _ are c.in_ok-note_keys.ensures.failed (rw is at c.in_ok-note_keys.ensures.end) c.send_text.result
     (ends_behind _ (λ text. text ≡ c.note_keys.new.foreign.items) _ before between after c.in_ok-write_share.ensures begins ends c.send_text.result
     (rw c.deref.ensures.value at c.send_text.ensures))

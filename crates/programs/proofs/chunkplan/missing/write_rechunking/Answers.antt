@@ -2,22 +2,18 @@ use Rattle.std.proofs.Common.{◌≡◌, ◌∙◌, ℕ, List, inl, inr, length,
 use Rattle.std.proofs.lemmas.Result.{err_from_is_err_and}
 use Rattle.zarrs_chunk_base.specs.ArraySubset.{Box}
 use Rattle.zarrs_chunk_base.specs.Dimension.{Dimension}
-use Rattle.zarrs_chunk_keys.specs.ChunkKey.{IsKey}
-use Rattle.zarrs_chunk_keys.specs.declared.chunk_key_encoding.named.ChunkKeyEncoding.{ChunkKeyEncoding}
 use Rattle.zarrs_chunk_keys.specs.seen.Encodings.{encoding_in}
-use Rattle.zarrs_chunk_keys.proofs.OneKey.{has_key}
-use Rattle.zarrs_chunks.specs.declared.chunk_grid.named.ChunkGrid.{ChunkGrid}
 use Rattle.zarrs_chunks.specs.seen.Grids.{grid_in}
 use Rattle.zarrs_chunk_plan.specs.Rechunking.{Group, IsRechunking, all_chunks_box}
 use Rattle.zarrs_chunk_plan.specs.declared.copies_error.CopiesError.{CopiesError}
 use Rattle.zarrs_chunk_plan.specs.declared.copies_error.CopiesError.TheVariants.{ArrayShapes, Chunks}
-use Rattle.zarrs_chunk_plan.specs.seen.Copies.{AreMovesToCome, IsCopiesFault}
+use Rattle.zarrs_chunk_plan.specs.seen.Copies.{IsCopiesFault}
 use Rattle.zarrs_chunk_plan.proofs.Copied.{rechunking_of}
-use Rattle.zarrs_chunk_plan.proofs.SomeRegions.{moved_groups}
 use Rattle.documents.specs.Stored.{stored_of}
 use Rattle.programs.specs.chunkplan.PlanFault.{IsChunksFault, IsFaultBeside, of_chunks, of_keys, of_plan}
 use Rattle.programs.specs.chunkplan.PlanFault.{of_target}
 use Rattle.programs.specs.chunkplan.Planned.{ArePlanned, IsPlannedBeside, of_rechunking}
+use Rattle.programs.specs.chunkplan.seen.Opened.{CopiesToCome, dimensions_in, dimensions_of, key_in, key_of}
 use Rattle.programs.specs.declared.chunkplan.run_fault.RunFault.TheVariants.{Copies}
 use Rattle.streams.specs.seen.Sent.{output}
 use Rattle.programs.proofs.chunkplan.KeyLines.{some_keys}
@@ -25,20 +21,6 @@ use Rattle.programs.proofs.chunkplan.KeySteps.{early_beside, key_step_follows}
 use Rattle.programs.proofs.chunkplan.RunOutcomes.{no_read_beside, no_write_beside}
 use Rattle.programs.proofs.chunkplan.StoredLines.{FaultOf, TextOf}
 use Rattle.programs.proofs.chunkplan.missing.write_rechunking.Goals as goal
-
-abbrev dimensions : ChunkGrid → List Dimension
-dimensions grid = (grid_in grid).dimensions
-
-abbrev keys_of : ChunkKeyEncoding → List ℕ → List ℕ → Type 0
-keys_of encoding = IsKey (encoding_in encoding)
-
--- ---- each chunk has a key
-
-pub write_missing-requires-clause-keys : goal.write_missing-requires-clause-keys
-write_missing-requires-clause-keys g c = has_key (encoding_in c.in-Ok.walk.source.now.encoding)
-
-pub write_missing-requires-clause-target_keys : goal.write_missing-requires-clause-target_keys
-write_missing-requires-clause-target_keys g c = has_key (encoding_in c.in-Ok.walk.targets.encoding.now)
 
 -- ---- what is sent, and why it stops
 
@@ -61,19 +43,19 @@ returns-in-Ok g c = λ document bytes stored shape_is sizes task wanted is.
     let to = c.in_ok-target.target in
     let said = c.in-Ok.ensures in
     let (targets, is_box, targets_are, left) = said.targets in
-    let planned : (groups : List Group) → AreMovesToCome dimensions keys_of dimensions keys_of c.in-Ok.walk groups
+    let planned : (groups : List Group) → CopiesToCome c.in-Ok.walk groups
     → ArePlanned document (grid_in to.grid) (encoding_in to.encoding) groups = λ groups moves.
     of_rechunking (stored_of c.args.target) c.args.chunks (grid_in array.grid) (encoding_in array.encoding)
     task stored made_target
-    (subst (λ b. length b.start ≡ length (dimensions to.grid)) c.in_ok-chunks.ensures said.lengths)
-    (subst (λ b. IsRechunking (dimensions array.grid) (keys_of array.encoding) (dimensions to.grid) (keys_of to.encoding) b groups)
+    (subst (λ b. length b.start ≡ length (dimensions_of to)) c.in_ok-chunks.ensures said.lengths)
+    (subst (λ b. IsRechunking (dimensions_of array) (key_of array) (dimensions_of to) (key_of to) b groups)
     c.in_ok-chunks.ensures
-    (rechunking_of dimensions keys_of dimensions keys_of array to _ c.in_ok-chunks.chunks targets c.in-Ok.walk groups said.about
-    is_box targets_are left (moved_groups dimensions keys_of dimensions keys_of c.in-Ok.walk groups said.can_copy moves)))
+    (rechunking_of dimensions_in key_in dimensions_in key_in array to c.in_ok-chunks.chunks targets c.in-Ok.walk groups said.about said.first
+    is_box targets_are left moves))
     in
     key_step_follows
-    (TextOf dimensions keys_of dimensions keys_of c.in-Ok.walk (dimensions to.grid) (keys_of to.encoding) c.args.share.now)
-    (IsPlannedBeside document) (FaultOf dimensions keys_of dimensions keys_of c.in-Ok.walk) (IsFaultBeside document)
+    (TextOf c.in-Ok.walk (dimensions_of to) (key_of to) c.args.share.now)
+    (IsPlannedBeside document) (FaultOf c.in-Ok.walk) (IsFaultBeside document)
     (λ keys text (groups, moves, missing). record {
       target = grid_in to.grid;
       encoding = encoding_in to.encoding;
@@ -108,9 +90,9 @@ returns-in-Err-Refused g c = λ document bytes stored shape_is sizes task wanted
       are,
       of_plan (of_chunks (stored_of c.args.target) c.args.chunks (grid_in array.grid) (grid_in to.grid)
           (encoding_in array.encoding) (encoding_in to.encoding) task stored made_target
-          (subst (λ e. IsChunksFault (dimensions to.grid) (unwrap_or c.args.chunks (all_chunks_box (dimensions to.grid))) (Copies e))
+          (subst (λ e. IsChunksFault (dimensions_of to) (unwrap_or c.args.chunks (all_chunks_box (dimensions_of to))) (Copies e))
           (sym refused.error-is)
-          (subst (λ b. IsChunksFault (dimensions to.grid) b (Copies refused.error)) c.in_ok-chunks.ensures
-          (chunks_fault _ _ (dimensions to.grid) c.in_ok-chunks.chunks refused.error (sizes ∙ sym also)
+          (subst (λ b. IsChunksFault (dimensions_of to) b (Copies refused.error)) c.in_ok-chunks.ensures
+          (chunks_fault _ _ (dimensions_of to) c.in_ok-chunks.chunks refused.error (sizes ∙ sym also)
           (rw refused.field-0-is at refused.ensures.refused))))),
     )

@@ -1,14 +1,8 @@
-use Rattle.std.proofs.Common.{◌≡◌, ◌∙◌, ℕ, List, ap, inl, inr, option_map, rules, subst, ⊎_elim}
+use Rattle.std.proofs.Common.{◌≡◌, ◌∙◌, List, ap, inl, inr, option_map, rules, subst, ⊎_elim}
 use Rattle.std.proofs.lemmas.Result.{err_from_is_err_and}
-use Rattle.zarrs_chunk_base.specs.Dimension.{Dimension}
-use Rattle.zarrs_chunk_keys.specs.ChunkKey.{IsKey}
-use Rattle.zarrs_chunk_keys.specs.declared.chunk_key_encoding.named.ChunkKeyEncoding.{ChunkKeyEncoding}
 use Rattle.zarrs_chunk_keys.specs.seen.Encodings.{encoding_in}
-use Rattle.zarrs_chunk_keys.proofs.OneKey.{has_key}
-use Rattle.zarrs_chunks.specs.declared.chunk_grid.named.ChunkGrid.{ChunkGrid}
 use Rattle.zarrs_chunks.specs.seen.Grids.{grid_in}
 use Rattle.zarrs_chunk_plan.specs.Rechunking.{Group}
-use Rattle.zarrs_chunk_plan.specs.seen.Copies.{AreMovesToCome}
 use Rattle.zarrs_chunk_plan.proofs.Copied.{region_copy_of}
 use Rattle.zarrs_chunk_plan.proofs.Taken.{no_parts}
 use Rattle.documents.specs.Stored.{stored_of}
@@ -16,25 +10,12 @@ use Rattle.programs.specs.chunkplan.PlanFault.{IsCopyFault, IsFaultBeside, of_ke
 use Rattle.programs.specs.chunkplan.PlanFault.{of_region as of_region_fault}
 use Rattle.programs.specs.chunkplan.Planned.{ArePlanned, IsPlannedBeside, IsRegionPlan, begins_at, of_region}
 use Rattle.programs.specs.chunkplan.RunFault.{of_region as of_region_error}
+use Rattle.programs.specs.chunkplan.seen.Opened.{CopiesToCome, dimensions_in, dimensions_of, key_in, key_of}
 use Rattle.streams.specs.seen.Sent.{output}
 use Rattle.programs.proofs.chunkplan.KeySteps.{early_beside, key_step_follows}
 use Rattle.programs.proofs.chunkplan.RunOutcomes.{no_read_beside, no_write_beside}
 use Rattle.programs.proofs.chunkplan.StoredLines.{FaultOf, TextOf}
 use Rattle.programs.proofs.chunkplan.missing.write_region.Goals as goal
-
-abbrev dimensions : ChunkGrid → List Dimension
-dimensions grid = (grid_in grid).dimensions
-
-abbrev keys_of : ChunkKeyEncoding → List ℕ → List ℕ → Type 0
-keys_of encoding = IsKey (encoding_in encoding)
-
--- ---- each chunk has a key
-
-pub write_missing-requires-clause-keys : goal.write_missing-requires-clause-keys
-write_missing-requires-clause-keys g c = has_key (encoding_in c.in-Ok.walk.source.now.encoding)
-
-pub write_missing-requires-clause-target_keys : goal.write_missing-requires-clause-target_keys
-write_missing-requires-clause-target_keys g c = has_key (encoding_in c.in-Ok.walk.targets.encoding.now)
 
 -- ---- what is sent, and why it stops
 
@@ -62,22 +43,22 @@ returns-in-Ok g c = λ document bytes stored task wanted is.
     let at = option_map (λ v. v.items) c.args.at in
     let first = c.deref.result.now in
     let begins : first ≡ begins_at region at = search rules in
-    let planned : (groups : List Group) → AreMovesToCome dimensions keys_of dimensions keys_of walk groups
+    let planned : (groups : List Group) → CopiesToCome walk groups
     → ArePlanned document (grid_in to.grid) (encoding_in to.encoding) groups = λ groups moves.
     of_region c.args.shape.now (stored_of c.args.target) region at (grid_in array.grid) (encoding_in array.encoding)
     task stored made_target
-    (subst (λ to_first. IsRegionPlan (dimensions array.grid) (keys_of array.encoding) (dimensions to.grid) (keys_of to.encoding) region to_first groups)
+    (subst (λ to_first. IsRegionPlan (dimensions_of array) (key_of array) (dimensions_of to) (key_of to) region to_first groups)
     begins (record {
       can = said.lies;
       some = λ filled.
           let (cover, covers, left) = said.targets filled in
-          region_copy_of dimensions keys_of dimensions keys_of array to region first cover walk groups said.about said.first covers left moves;
+          region_copy_of dimensions_in key_in dimensions_in key_in array to region first cover walk groups said.about said.first covers left moves;
       none = λ empty. no_parts _ _ groups (said.empty empty) moves;
     }))
     in
     key_step_follows
-    (TextOf dimensions keys_of dimensions keys_of walk (dimensions to.grid) (keys_of to.encoding) c.args.share.now)
-    (IsPlannedBeside document) (FaultOf dimensions keys_of dimensions keys_of walk) (IsFaultBeside document)
+    (TextOf walk (dimensions_of to) (key_of to) c.args.share.now)
+    (IsPlannedBeside document) (FaultOf walk) (IsFaultBeside document)
     (λ keys text (groups, moves, missing). record {
       target = grid_in to.grid;
       encoding = encoding_in to.encoding;
@@ -105,5 +86,5 @@ returns-in-Err-Refused g c = λ document bytes stored task wanted is.
     (output g.W.Write.contents c.args.held_back.now.items c.args.writer.now) _ (no_read_beside document) (no_write_beside document)
     (inr (λ keys. of_plan (of_region_fault c.args.shape.now (stored_of c.args.target) region at (grid_in array.grid) (grid_in to.grid)
     (encoding_in array.encoding) (encoding_in to.encoding) task stored made_target
-    (subst (λ first. IsCopyFault (dimensions array.grid) (dimensions to.grid) region first c.from.result) begins
+    (subst (λ first. IsCopyFault (dimensions_of array) (dimensions_of to) region first c.from.result) begins
     (refused.error, rw refused.field-0-is at refused.ensures.refused, c.from.ensures ∙ ap of_region_error refused.error-is)))))

@@ -1,6 +1,7 @@
 use Rattle.std.proofs.Common.{false}
 use Rattle.programs.specs.chunkplan.CountsLine.{IsCountsLine}
 use Rattle.programs.specs.chunkplan.PlanFault.{IsReadFault}
+use Rattle.programs.specs.chunkplan.seen.Opened.{dimensions_of}
 use Rattle.streams.specs.seen.Sent.{output}
 use Rattle.programs.proofs.chunkplan.CountedPlans.{counted_parts}
 use Rattle.programs.proofs.chunkplan.Steps.{step_follows}
@@ -11,9 +12,8 @@ returns-in-Ok-Some g c =
     let is = c.in-Ok-Some.field-0-is in
     let said = c.in-Ok-Some.ensures in
     let counts = c.in-Ok-Some.counts in
-    let ds = g.G.ChunkGridTraits.dimensions c.args.array.now.grid in
-    let (parts, plan, are) = counted_parts ds (g.E.ChunkKeyEncodingTraits.is_key c.args.array.now.encoding)
-    (g.met.G.ChunkGridTraits.chained c.args.array.now.grid) c.requires.keys c.args.subset.now counts c.is_a_box.ensures c.requires.lengths
+    let ds = dimensions_of c.args.array.now in
+    let (parts, plan, are) = counted_parts c.args.array.now c.args.subset.now counts c.is_a_box.ensures c.requires.lengths
     (rw is at said.empty) (rw is at said.answers)
     in
     step_follows (IsCountsLine counts) _ (λ _. ⊥) (IsReadFault false ds c.args.subset.now)

@@ -1,6 +1,6 @@
 use Rattle.zarrs_chunk_plan.proofs.Copied.{rechunking_of}
-use Rattle.zarrs_chunk_plan.proofs.SomeRegions.{moved_groups}
 use Rattle.programs.specs.chunkplan.PlanFault.{IsChunksFault}
+use Rattle.programs.specs.chunkplan.seen.Opened.{dimensions_in, dimensions_of, key_in}
 use Rattle.streams.specs.seen.Sent.{output}
 use Rattle.programs.proofs.chunkplan.Steps.{step_follows}
 use Rattle.programs.proofs.chunkplan.plan.write_groups.Goals as goal
@@ -10,15 +10,11 @@ returns-in-Ok g c =
     let walk = c.in-Ok.walk in
     let said = c.in-Ok.ensures in
     let (targets, is_box, are, left) = said.targets in
-    let source = g.G.ChunkGridTraits.dimensions in
-    let source_key = g.E.ChunkKeyEncodingTraits.is_key in
-    let target = g.H.ChunkGridTraits.dimensions in
-    let target_key = g.F.ChunkKeyEncodingTraits.is_key in
-    step_follows _ _ (λ _. ⊥) (IsChunksFault (target c.args.target.now.grid) c.args.chunks.now)
+    step_follows _ _ (λ _. ⊥) (IsChunksFault (dimensions_of c.args.target.now) c.args.chunks.now)
     (λ text (groups, moves, lines). (
       groups,
-      rechunking_of source source_key target target_key c.args.source.now c.args.target.now _ c.args.chunks.now targets walk groups said.about is_box
-          are left (moved_groups source source_key target target_key walk groups said.can_copy moves),
+      rechunking_of dimensions_in key_in dimensions_in key_in c.args.source.now c.args.target.now c.args.chunks.now targets walk groups said.about
+          said.first is_box are left moves,
       said.lengths,
       lines,
     ))

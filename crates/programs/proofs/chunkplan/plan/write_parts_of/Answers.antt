@@ -6,6 +6,7 @@ use Rattle.zarrs_chunk_plan.specs.seen.Parts.{all_chunks}
 use Rattle.programs.specs.chunkplan.Document.{ranges_asked_of}
 use Rattle.programs.specs.chunkplan.Line.{line_of, lines_from, part_json}
 use Rattle.programs.specs.chunkplan.PlanFault.{IsReadFault}
+use Rattle.programs.specs.chunkplan.seen.Opened.{dimensions_in, dimensions_of, key_in}
 use Rattle.streams.specs.seen.Sent.{output}
 use Rattle.programs.proofs.chunkplan.Begun.{parts_of_share, share_meets}
 use Rattle.programs.proofs.chunkplan.ReadPlans.{is_read_plan}
@@ -18,7 +19,7 @@ write_parts-requires-clause-meet g c =
     let is = c.in-Ok-Some.field-0-is in
     let said = c.in-Ok-Some.ensures in
     let shared = c.in_ok-first-in-Ok-Some.ensures in
-    share_meets g.G.ChunkGridTraits.dimensions g.E.ChunkKeyEncodingTraits.is_key walk c.share.new.self c.args.share.now shared.about
+    share_meets walk c.share.new.self c.args.share.now shared.about
     (shared.left ∙ ap (share_of c.args.share.now) (rw is at said.all)) (rw is at said.meet)
 
 pub returns-in_err-first-in-Ok-Some : goal.returns-in_err-first-in-Ok-Some
@@ -31,21 +32,18 @@ returns-in_ok-first-in-Ok-Some g c =
     let is = c.in-Ok-Some.field-0-is in
     let said = c.in-Ok-Some.ensures in
     let shared = c.in_ok-first-in-Ok-Some.ensures in
-    let dimensions = g.G.ChunkGridTraits.dimensions in
-    let is_key = g.E.ChunkKeyEncodingTraits.is_key in
     let about = rw is at said.about in
     let all_come = rw is at said.all in
     let many = c.requires.lengths in
-    step_follows _ _ (λ _. ⊥) (IsReadFault false (dimensions c.args.array.now.grid) c.args.subset.now)
+    step_follows _ _ (λ _. ⊥) (IsReadFault false (dimensions_of c.args.array.now) c.args.subset.now)
     (λ text (parts, are, lines).
     let (all, are_all, is_share, long) =
-    parts_of_share dimensions is_key walk c.share.new.self share shared.about (shared.left ∙ ap (share_of share) all_come) (rw is at said.meet)
-    (rw about.same_grid (g.met.G.ChunkGridTraits.chained c.args.array.now.grid)) (rw about.same_encoding c.requires.keys)
+    parts_of_share walk c.share.new.self share shared.about (shared.left ∙ ap (share_of share) all_come) (rw is at said.meet)
     (rw about.same_subset c.is_a_box.ensures) parts are
     in
     let count : length (all_chunks walk) ≡ length all = ap length all_come ∙ sym long in (
       all,
-      is_read_plan dimensions is_key c.args.array.now.grid c.args.array.now.encoding c.args.subset.now walk all
+      is_read_plan dimensions_in key_in c.args.array.now.grid c.args.array.now.encoding c.args.subset.now walk all
           c.is_a_box.ensures many about (rw is at said.empty) (rw is at said.answers) are_all,
       lines
           ∙ ap

@@ -4,7 +4,6 @@ use Rattle.std.proofs.lemmas.List.{length-replicate}
 use Rattle.zarrs_chunk_base.specs.Dimension.{Dimension}
 use Rattle.zarrs_chunk_keys.specs.ChunkKey.{IsKey}
 use Rattle.zarrs_chunk_keys.specs.seen.Encodings.{encoding_in}
-use Rattle.zarrs_chunk_keys.proofs.OneKey.{has_key}
 use Rattle.zarrs_chunks.specs.seen.Grids.{grid_in}
 use Rattle.zarrs_chunk_plan.specs.Rechunking.{IsRechunking, all_chunks_box}
 use Rattle.zarrs_chunk_plan.specs.declared.copies_error.CopiesError.TheVariants.{Chunks}
@@ -25,42 +24,10 @@ use Rattle.programs.proofs.chunkplan.RunOutcomes.{no_failed_write}
 use Rattle.programs.proofs.chunkplan.Steps.{early, step_follows}
 use Rattle.programs.proofs.chunkplan.plan.write_plan.Goals as goal
 
--- ---- each chunk has a key
-
-pub write_read-requires : goal.write_read-requires
-write_read-requires g c = has_key (encoding_in c.in_ok-array.array.encoding)
-
-pub write_rechunking-requires-clause-keys : goal.write_rechunking-requires-clause-keys
-write_rechunking-requires-clause-keys g c = has_key (encoding_in c.in_ok-array.array.encoding)
-
-pub write_rechunking-requires-clause-target_keys : goal.write_rechunking-requires-clause-target_keys
-write_rechunking-requires-clause-target_keys g c = has_key (encoding_in c.in_ok-target-in-Rechunk.target.encoding)
-
-pub write_rechunking-requires-in-RechunkBySource-clause-keys : goal.write_rechunking-requires-in-RechunkBySource-clause-keys
-write_rechunking-requires-in-RechunkBySource-clause-keys g c = has_key (encoding_in c.in_ok-target-in-RechunkBySource.target.encoding)
-
-pub write_rechunking-requires-in-RechunkBySource-clause-target_keys : goal.write_rechunking-requires-in-RechunkBySource-clause-target_keys
-write_rechunking-requires-in-RechunkBySource-clause-target_keys g c = has_key (encoding_in c.in_ok-array.array.encoding)
-
-pub write_within-requires-clause-keys : goal.write_within-requires-clause-keys
-write_within-requires-clause-keys g c = has_key (encoding_in c.in_ok-array.array.encoding)
-
-pub write_within-requires-clause-target_keys : goal.write_within-requires-clause-target_keys
-write_within-requires-clause-target_keys g c = has_key (encoding_in c.in_ok-target-in-RechunkWithin.target.encoding)
-
-pub write_region-requires-clause-keys : goal.write_region-requires-clause-keys
-write_region-requires-clause-keys g c = has_key (encoding_in c.in_ok-array.array.encoding)
-
-pub write_region-requires-clause-target_keys : goal.write_region-requires-clause-target_keys
-write_region-requires-clause-target_keys g c = has_key (encoding_in c.in_ok-target-in-Copy.target.encoding)
-
-pub write_resize-requires-clause-keys : goal.write_resize-requires-clause-keys
-write_resize-requires-clause-keys g c = has_key (encoding_in c.in_ok-array.array.encoding)
-
 -- ---- both grids of a resize are made of one configuration
 
-pub write_resize-requires-clause-resized : goal.write_resize-requires-clause-resized
-write_resize-requires-clause-resized g c =
+pub write_resize-requires : goal.write_resize-requires-clause-resized
+write_resize-requires g c =
     one_configuration (stored_of c.args.document.stored).chunk_grid _ _ (grid_in c.in_ok-array.array.grid) (grid_in c.in_ok-after-in-Resize.after)
     c.in_ok-array.ensures.made.is_grid c.in_ok-after-in-Resize.ensures.made
 

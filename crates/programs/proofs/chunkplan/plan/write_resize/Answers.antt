@@ -1,5 +1,6 @@
 use Rattle.zarrs_chunk_plan.specs.seen.Changes.{changes_to_come}
 use Rattle.zarrs_chunk_plan.proofs.SomeResizes.{asked_are_used}
+use Rattle.programs.specs.chunkplan.seen.Opened.{dimensions_in, dimensions_of}
 use Rattle.streams.specs.seen.Sent.{output}
 use Rattle.programs.proofs.chunkplan.Steps.{step_follows}
 use Rattle.programs.proofs.chunkplan.plan.write_resize.Goals as goal
@@ -11,7 +12,7 @@ pub write_changes-requires-clause-used : goal.write_changes-requires-clause-used
 write_changes-requires-clause-used g c =
     let about = c.in-Ok.ensures.about in
     rw (about.same_before, about.same_after)
-    (asked_are_used (g.G.ChunkGridTraits.dimensions c.args.array.now.grid) (g.H.ChunkGridTraits.dimensions c.args.after.now) c.args.keep
+    (asked_are_used (dimensions_of c.args.array.now) (dimensions_in c.args.after.now) c.args.keep
     (changes_to_come c.in-Ok.walk) (c.in-Ok.ensures.changed c.requires.resized))
 
 pub write_changes-requires-clause-fit : goal.write_changes-requires-clause-fit
@@ -23,9 +24,6 @@ pub write_changes-requires-clause-also_fit : goal.write_changes-requires-clause-
 write_changes-requires-clause-also_fit g c =
     let about = c.in-Ok.ensures.about in
     rw about.same_after (rw c.array_shape-2.ensures at c.fit-2.ensures)
-
-pub write_changes-requires-clause-keys : goal.write_changes-requires-clause-keys
-write_changes-requires-clause-keys g c = rw c.in-Ok.ensures.about.same_encoding c.requires.keys
 
 pub returns-in-Ok : goal.returns-in-Ok
 returns-in-Ok g c =

@@ -6,15 +6,14 @@ use Rattle.zarrs_chunk_plan.specs.seen.Copies.{all_targets}
 use Rattle.programs.specs.chunkplan.Line.{lines_from}
 use Rattle.programs.specs.chunkplan.seen.Missing.{line_unless_stored}
 use Rattle.streams.specs.seen.Sent.{output}
-use Rattle.programs.proofs.chunkplan.Begun.{moves_of_share, share_can_move}
+use Rattle.programs.proofs.chunkplan.Begun.{copies_of_share, share_can_copy}
 use Rattle.programs.proofs.chunkplan.Steps.{step_follows}
 use Rattle.programs.proofs.chunkplan.plan.write_share.Goals as goal
 
 pub write_copies-requires-clause-can : goal.write_copies-requires-clause-can
 write_copies-requires-clause-can g c =
     let shared = c.in_ok-first.ensures in
-    share_can_move g.G.ChunkGridTraits.dimensions g.E.ChunkKeyEncodingTraits.is_key g.H.ChunkGridTraits.dimensions g.F.ChunkKeyEncodingTraits.is_key
-    c.args.walk c.share.new.self c.args.share.now shared.about shared.first (shared.left ∙ ap (share_of c.args.share.now) c.requires.all) c.requires.can
+    share_can_copy c.args.walk c.share.new.self c.args.share.now shared.about shared.first (shared.left ∙ ap (share_of c.args.share.now) c.requires.all) c.requires.can
 
 pub write_copies-requires-clause-numbered : goal.write_copies-requires-clause-numbered
 write_copies-requires-clause-numbered g c = (_, c.in_ok-first.ensures.before)
@@ -30,10 +29,8 @@ returns g c =
     step_follows _ _ (λ _. ⊥) (λ _. ⊥)
     (λ text (groups, come, lines).
     let (all, come_all, is_share, long) =
-    moves_of_share g.G.ChunkGridTraits.dimensions g.E.ChunkKeyEncodingTraits.is_key g.H.ChunkGridTraits.dimensions
-    g.F.ChunkKeyEncodingTraits.is_key walk c.share.new.self share shared.about shared.first (shared.left ∙ ap (share_of share) c.requires.all)
-    c.requires.can (g.met.G.ChunkGridTraits.chained walk.source.now.grid) (g.met.H.ChunkGridTraits.chained walk.targets.grid.now) c.requires.keys
-    c.requires.target_keys c.requires.is_box c.requires.region groups come
+    copies_of_share walk c.share.new.self share shared.about shared.first (shared.left ∙ ap (share_of share) c.requires.all)
+    c.requires.can c.requires.is_box c.requires.region groups come
     in
     let count : length (all_targets walk) ≡ length all = ap length c.requires.all ∙ sym long in (
       all,

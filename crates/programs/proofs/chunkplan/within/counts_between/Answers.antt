@@ -1,24 +1,17 @@
 use Rattle.std.proofs.Common.{subst}
 use Rattle.zarrs_chunk_keys.specs.ChunkKey.{IsKey}
-use Rattle.zarrs_chunk_keys.specs.seen.Encodings.{default_of}
-use Rattle.zarrs_chunk_keys.proofs.OneKey.{has_key}
-use Rattle.zarrs_chunks.specs.seen.Grids.{regular_of}
+use Rattle.zarrs_chunks.specs.seen.Grids.{grid_in}
 use Rattle.programs.specs.chunkplan.Planned.{AreCountsOfAll}
+use Rattle.programs.specs.chunkplan.seen.Opened.{dimensions_of, key_of}
 use Rattle.programs.proofs.chunkplan.within.counts_between.Goals as goal
 
-pub counts_of_all-requires-clause-target_keys : goal.counts_of_all-requires-clause-target_keys
-counts_of_all-requires-clause-target_keys g c = has_key (default_of c.in-Some.between.array.encoding)
-
-pub counts_of_all-requires-2-clause-keys : goal.counts_of_all-requires-2-clause-keys
-counts_of_all-requires-2-clause-keys g c = has_key (default_of c.in-Some.between.array.encoding)
-
 pub returns-clause-found : goal.returns-clause-found
-returns-clause-found g c =
-    let source = g.G.ChunkGridTraits.dimensions c.args.source.now.grid in
-    let source_key = g.E.ChunkKeyEncodingTraits.is_key c.args.source.now.encoding in
-    let target = g.H.ChunkGridTraits.dimensions c.args.target.now.grid in
-    let target_key = g.F.ChunkKeyEncodingTraits.is_key c.args.target.now.encoding in
-    let between = regular_of c.in-Some.between.array.grid in
+returns-clause-found c =
+    let source = dimensions_of c.args.source.now in
+    let source_key = key_of c.args.source.now in
+    let target = dimensions_of c.args.target.now in
+    let target_key = key_of c.args.target.now in
+    let between = grid_in c.in-Some.between.array.grid in
     let opened = rw c.in-Some.is at c.in_ok-between.ensures.found in
     record {
       finds = opened.finds;

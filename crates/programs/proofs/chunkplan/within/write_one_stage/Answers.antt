@@ -1,4 +1,5 @@
 use Rattle.programs.specs.chunkplan.PlanFault.{IsOneStageFault}
+use Rattle.programs.specs.chunkplan.seen.Opened.{dimensions_of}
 use Rattle.streams.specs.seen.Sent.{output}
 use Rattle.programs.proofs.chunkplan.Steps.{step_follows}
 use Rattle.programs.proofs.chunkplan.within.write_one_stage.Goals as goal
@@ -7,7 +8,7 @@ pub returns : goal.returns
 returns g c =
     let (largest, other, is_largest, is_other, held) = c.in_ok-fits.ensures.held in
     step_follows _ _ (λ _. ⊥)
-    (IsOneStageFault (g.G.ChunkGridTraits.dimensions c.args.source.now.grid) (g.H.ChunkGridTraits.dimensions c.args.target.now.grid) c.args.most)
+    (IsOneStageFault (dimensions_of c.args.source.now) (dimensions_of c.args.target.now) c.args.most)
     (λ text is. ((largest, other, is_largest, is_other, held.0 c.if-not-fits.false), is))
     (λ fault none. absurd none)
     (output g.W.Write.contents c.args.held_back.now.items c.args.writer.now)

@@ -1,32 +1,25 @@
 use Rattle.std.proofs.Common.{subst}
 use Rattle.zarrs_chunk_keys.specs.ChunkKey.{IsKey}
-use Rattle.zarrs_chunk_keys.specs.seen.Encodings.{default_of}
-use Rattle.zarrs_chunk_keys.proofs.OneKey.{has_key}
-use Rattle.zarrs_chunks.specs.seen.Grids.{regular_of}
+use Rattle.zarrs_chunks.specs.seen.Grids.{grid_in}
 use Rattle.programs.specs.chunkplan.Document.{wanted_of}
 use Rattle.programs.specs.chunkplan.PlanFault.{IsBetweenFault}
 use Rattle.programs.specs.chunkplan.Planned.{IsStageText, IsWholeText}
+use Rattle.programs.specs.chunkplan.seen.Opened.{dimensions_of, key_of}
 use Rattle.programs.specs.declared.chunkplan.stage.Stage.TheVariants.{First, Second}
 use Rattle.streams.specs.seen.Sent.{output}
 use Rattle.programs.proofs.chunkplan.Steps.{step_follows}
 use Rattle.programs.proofs.chunkplan.within.write_stage.Goals as goal
 
-pub write_whole-requires-clause-target_keys : goal.write_whole-requires-clause-target_keys
-write_whole-requires-clause-target_keys g c = has_key (default_of c.in-Some.between.array.encoding)
-
-pub write_whole-requires-in-Second-clause-keys : goal.write_whole-requires-in-Second-clause-keys
-write_whole-requires-in-Second-clause-keys g c = has_key (default_of c.in-Some.between.array.encoding)
-
 pub returns-in-First : goal.returns-in-First
 returns-in-First g c =
-    let source = g.G.ChunkGridTraits.dimensions c.args.source.now.grid in
-    let source_key = g.E.ChunkKeyEncodingTraits.is_key c.args.source.now.encoding in
-    let target = g.H.ChunkGridTraits.dimensions c.args.target.now.grid in
-    let target_key = g.F.ChunkKeyEncodingTraits.is_key c.args.target.now.encoding in
+    let source = dimensions_of c.args.source.now in
+    let source_key = key_of c.args.source.now in
+    let target = dimensions_of c.args.target.now in
+    let target_key = key_of c.args.target.now in
     let most = c.args.most in
     let wanted = wanted_of c.args.wanted.now in
     let b = c.in-Some.between in
-    let between = regular_of b.array.grid in
+    let between = grid_in b.array.grid in
     let opened = rw c.in-Some.is at c.in_ok-between.ensures.found in
     rw c.in-First.is
     (step_follows _ (IsStageText source source_key target target_key most First wanted) (λ _. ⊥) (IsBetweenFault source target most)
@@ -42,14 +35,14 @@ returns-in-First g c =
 
 pub returns : goal.returns
 returns g c =
-    let source = g.G.ChunkGridTraits.dimensions c.args.source.now.grid in
-    let source_key = g.E.ChunkKeyEncodingTraits.is_key c.args.source.now.encoding in
-    let target = g.H.ChunkGridTraits.dimensions c.args.target.now.grid in
-    let target_key = g.F.ChunkKeyEncodingTraits.is_key c.args.target.now.encoding in
+    let source = dimensions_of c.args.source.now in
+    let source_key = key_of c.args.source.now in
+    let target = dimensions_of c.args.target.now in
+    let target_key = key_of c.args.target.now in
     let most = c.args.most in
     let wanted = wanted_of c.args.wanted.now in
     let b = c.in-Some.between in
-    let between = regular_of b.array.grid in
+    let between = grid_in b.array.grid in
     let opened = rw c.in-Some.is at c.in_ok-between.ensures.found in
     rw c.in-Second.is
     (step_follows _ (IsStageText source source_key target target_key most Second wanted) (λ _. ⊥) (IsBetweenFault source target most)

@@ -1,6 +1,7 @@
 use Rattle.std.proofs.Common.{◌∙◌, subst, sym}
 use Rattle.programs.specs.chunkplan.PlanFault.{IsStagesCountsFault}
 use Rattle.programs.specs.chunkplan.StagesLine.{IsStagesLine}
+use Rattle.programs.specs.chunkplan.seen.Opened.{dimensions_of}
 use Rattle.streams.specs.seen.Sent.{output}
 use Rattle.programs.proofs.chunkplan.Steps.{step_follows}
 use Rattle.programs.proofs.chunkplan.within.write_stages_counts.Goals as goal
@@ -10,7 +11,7 @@ returns g c =
     let (largest, other, is_largest, is_other, held) = c.in_ok-fits.ensures.held in
     let stages = c.in_ok-stages.stages in
     step_follows _ _ (λ _. ⊥)
-    (IsStagesCountsFault (g.G.ChunkGridTraits.dimensions c.args.source.now.grid) (g.H.ChunkGridTraits.dimensions c.args.target.now.grid))
+    (IsStagesCountsFault (dimensions_of c.args.source.now) (dimensions_of c.args.target.now))
     (λ text is. record {
       largest = largest;
       is_largest = is_largest;
