@@ -60,7 +60,7 @@ PIPES = {
     "source": f'{PLAN.format("--by-source")} | {WORKER.format("--alone " + RESUMED)} && ./check_done.py "$TARGET" "$ROOM/done" --by-source "$SOURCE"',
     "keys": f'{PLAN.format("--keys")} | {WORKER.format("")} && ./verify.py "$SOURCE" "$TARGET"',
 }
-ENGINES = [name for name in ("xargs_shares", "xargs_files", "parallel_shares", "parallel_pipe") if "parallel" not in name or shutil.which("parallel")]
+ENGINES = [name for name in ("xargs_shares", "parallel_shares", "parallel_pipe") if "parallel" not in name or shutil.which("parallel")]
 WAYS = {
     **PIPES,
     **{name: f'engines/{name}.sh "$SOURCE" "$TARGET" "$ROOM" $AGAIN' for name in ENGINES},

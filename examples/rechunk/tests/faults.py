@@ -39,7 +39,6 @@ MARK = "RECHUNK_RUN"  # in the environment of each process of a run
 ENGINES = {
     # what an engine wants to be there
     "xargs_shares": lambda: True,
-    "xargs_files": lambda: True,
     "parallel_shares": lambda: shutil.which("parallel"),
     "parallel_pipe": lambda: shutil.which("parallel"),
     "dask": lambda: importlib.util.find_spec("distributed"),

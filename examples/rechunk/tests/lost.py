@@ -365,7 +365,10 @@ def many_chunks(chunkplan, generator, moves):
             expected = f"check_done.py: {of - left} of {of} chunks weren't done: {', '.join(map(str, range(left, left + 5)))}, ..\n"
             yield f"check_done.py {words[:1]}", (told.returncode, told.stderr) == (1, expected)
         told = tool("make_between.py", *ends, room / "between", "--max-elements", 3, **limits)
-        yield "make_between.py", told.returncode == 1 and "too many to go through" in told.stderr and len(told.stderr.splitlines()) == 1
+        expected = f"by chunks of [1] two stages read {2 * count} chunks; one reads {count}\n"
+        yield "make_between.py", (told.returncode, told.stdout, told.stderr) == (0, expected, "")
+        told = tool("make_between.py", *ends, room / "none", "--max-elements", 1, **limits)
+        yield "make_between.py of 1", told.returncode == 1 and "no chunks" in told.stderr and len(told.stderr.splitlines()) == 1
         yield "fingerprint.py", tool("fingerprint.py", ends[1], **limits).returncode == 0
         told = tool("resize_array.py", ends[1], count + 1, **limits)
         yield "resize_array.py", (told.returncode, told.stderr) == (0, "") and open_array(ends[1]).shape == [count + 1]

@@ -99,7 +99,7 @@ COPIES = {
 
 
 def copies(chunkplan, generator, count):
-    runs = [(what, worker) for what in COPIES] + [(JOINED, engine(name)) for name in ("xargs_shares", "xargs_files")]
+    runs = [(what, worker) for what in COPIES] + [(JOINED, engine("xargs_shares"))]
     for what, run in runs:
         shape, regions = COPIES[what]
         with tempfile.TemporaryDirectory() as room:
