@@ -111,20 +111,19 @@ module _ (source : List Dimension) (IsSourceKey : List ℕ → List ℕ → Type
       (AreMovedInto source IsSourceKey target IsTargetKey (array_box target) (array_box target).start) (chunks_in targets) first most (view t))
       → IfSome page (λ t. IsCopiesAnswer source IsSourceKey target IsTargetKey chunks first most (view t))
   copies_page chunks targets None long is_box are page = tt
-  copies_page chunks targets (Some t) long is_box are (groups, zipped, is) =
-      (
-        long,
-        count_of (chunks_in targets),
-        groups,
-        record {
-          targets = targets;
-          is_box = is_box;
-          are_targets = are;
-          in_all = refl;
-          are_groups = zipped;
-        },
-        is,
-      )
+  copies_page chunks targets (Some t) long is_box are (groups, zipped, is) = (
+    long,
+    count_of (chunks_in targets),
+    groups,
+    record {
+      targets = targets;
+      is_box = is_box;
+      are_targets = are;
+      in_all = refl;
+      are_groups = zipped;
+    },
+    is,
+  )
 
   -- of an empty list
   no_groups : (IsGroup : List ℕ → Group → Type 0) (chunks : List (List ℕ)) (t : Data) → chunks ≡ []
