@@ -6,24 +6,21 @@
 //! |---|---|
 //! | `rows` | the arrays that are planned, the boxes of their elements, and the lines of parts |
 //! | `walks` | walks that stay ended, and that go to any part or group |
-//! | `pages` | chunks and groups from a number on, with how many there are in all |
-//! | `sizes` | the factors of counts, the chunks that are written, and the shapes of largest chunks |
+//! | `largest` | the shapes of largest chunks |
 //! | `marks` | which chunks of a plan a store has |
 //! | `refusals` | what no program asks for, since it plans one array at a time |
 //! | `laws` | the laws |
 #![tactic(auto)]
 
 #[cfg(test)]
+mod largest;
+#[cfg(test)]
 mod laws;
 #[cfg(test)]
 mod marks;
 #[cfg(test)]
-mod pages;
-#[cfg(test)]
 mod refusals;
 #[cfg(test)]
 mod rows;
-#[cfg(test)]
-mod sizes;
 #[cfg(test)]
 mod walks;

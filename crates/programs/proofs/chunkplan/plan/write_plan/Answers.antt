@@ -26,10 +26,12 @@ use Rattle.programs.proofs.chunkplan.plan.write_plan.Goals as goal
 
 -- ---- both grids of a resize are made of one configuration
 
-pub write_resize-requires : goal.write_resize-requires-clause-resized
+pub write_resize-requires : goal.write_resize-requires
 write_resize-requires g c =
-    one_configuration (stored_of c.args.document.stored).chunk_grid _ _ (grid_in c.in_ok-array.array.grid) (grid_in c.in_ok-after-in-Resize.after)
-    c.in_ok-array.ensures.made.is_grid c.in_ok-after-in-Resize.ensures.made
+    record {
+      resized = one_configuration (stored_of c.args.document.stored).chunk_grid _ _ (grid_in c.in_ok-array.array.grid)
+          (grid_in c.in_ok-after-in-Resize.after) c.in_ok-array.ensures.made.is_grid c.in_ok-after-in-Resize.ensures.made;
+    }
 
 -- ---- the box of all chunks has the grid's number of dimensions
 
