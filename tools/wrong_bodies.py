@@ -38,6 +38,8 @@ def fault_of(crate, path):
         elif word == "old":
             old = text
         elif word in ("new", "new:"):
+            if text == old:
+                return f"it changes nothing: {old.strip()}"
             if texts[file].count(old) != 1:
                 return f"its text stands {texts[file].count(old)} times in {file.relative_to(TOP)}: {old.strip()}"
             texts[file] = texts[file].replace(old, text)
