@@ -32,14 +32,7 @@ pub all_below : (sizes numbers : List ℕ) → length numbers ≡ length sizes
 all_below [] [] same = (λ _. tt, λ _. tt)
 all_below (size ∷ sizes) (n ∷ numbers) same =
     let rest = all_below sizes numbers (omega arith) in (λ all. (all.0, rest.0 all.1), λ below. (below.0, rest.1 below.1))
-all_below [] (_ ∷ _) same = absurd (omega arith)
-all_below (_ ∷ _) [] same = absurd (omega arith)
-
-pub below_long : (sizes numbers : List ℕ) → AreBelow sizes numbers → length numbers ≡ length sizes
-below_long [] [] below = refl
-below_long (_ ∷ sizes) (_ ∷ numbers) below = ap suc (below_long sizes numbers below.1)
-below_long [] (_ ∷ _) below = absurd below
-below_long (_ ∷ _) [] below = absurd below
+all_below _ _ same = absurd (omega arith)
 
 -- a box that isn't empty has a chunk
 some_below : (shape : List ℕ) → (¬ IsEmptyBox (record { start = []; shape = shape })) → 0 < length (row_major shape)

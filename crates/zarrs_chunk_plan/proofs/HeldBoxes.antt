@@ -1,38 +1,20 @@
--- What a chunk holds of the whole array, as a box of the array.
-use Rattle.std.proofs.Common.{◌≡◌, ◌↔◌, ◌∙◌, ℕ, ◌+◌, ◌-◌, ◌<◌, ◌≤◌, IsTrue, List, [], ◌∷◌, length, min, ap, ap₂, sym, arith}
+-- What a chunk holds of the whole array.
+use Rattle.std.proofs.Common.{◌≡◌, ◌↔◌, ◌∙◌, ℕ, ◌<◌, List, [], ◌∷◌, length, ap, ap₂, sym, arith}
+use Rattle.std.specs.List.{AllZip}
 use Rattle.zarrs_chunk_base.specs.ArraySubset.{Box, IsInside}
 use Rattle.zarrs_chunk_base.specs.Dimension.{Dimension, Holds, InBox, array_sizes}
 use Rattle.zarrs_chunk_base.proofs.Boxes.{within_lengths}
 use Rattle.zarrs_chunk_base.proofs.InEach.{length_values}
 use Rattle.zarrs_chunk_axes.specs.InBounds.{AreBelow}
-use Rattle.zarrs_chunks.specs.Walks.{starts_at}
 use Rattle.zarrs_chunk_parts.specs.Plan.{AreShared, Meets}
 use Rattle.zarrs_chunk_plan.specs.Rechunking.{array_box}
 use Rattle.zarrs_chunk_plan.specs.Resize.{HasElementOf, IsUsed}
+use Rattle.zarrs_chunk_plan.specs.seen.Used.{HoldsSome}
 use Rattle.zarrs_chunk_plan.proofs.Rechunkings.{counted_from_zeros, in_array}
-
--- how many elements of the array a chunk holds
-abbrev pub held : Dimension → ℕ → ℕ
-held d chunk = min (d.end chunk) d.array_size - d.start chunk
-
-abbrev pub sizes_of : List Dimension → List ℕ → List ℕ
-sizes_of (d ∷ ds) (c ∷ chunk) = held d c ∷ sizes_of ds chunk
-sizes_of _ _ = []
-
-abbrev pub held_box : List Dimension → List ℕ → Box
-held_box ds chunk = record { start = starts_at ds chunk; shape = sizes_of ds chunk }
-
--- ---- the chunk in each dimension
-
--- the chunk holds an element of the array
-abbrev pub HoldsSome : Dimension → ℕ → Type 0
-HoldsSome d c = IsTrue (d.has_chunk c) × (d.start c < d.end c) × (d.start c < d.array_size)
 
 -- a chunk that holds an element of the array does so in each dimension
 abbrev pub AllHoldSome : List Dimension → List ℕ → Type 0
-AllHoldSome [] [] = Unit {0}
-AllHoldSome (d ∷ ds) (c ∷ chunk) = HoldsSome d c × AllHoldSome ds chunk
-AllHoldSome _ _ = ⊥
+AllHoldSome = AllZip HoldsSome
 
 pub hold_some : (ds : List Dimension) (chunk index : List ℕ) → InBox ds chunk index → AreBelow (array_sizes ds) index → AllHoldSome ds chunk
 hold_some [] [] [] box below = tt
@@ -46,28 +28,6 @@ hold_some _ _ _ box below = absurd box
 
 pub meets_hold : (ds : List Dimension) (chunk : List ℕ) → Meets ds (array_box ds) chunk → AllHoldSome ds chunk
 meets_hold ds chunk (index, box, inside) = hold_some ds chunk index box ((in_array ds index).1 inside)
-
--- what the chunk shares with the array is its box of the array
-pub held_common : (ds : List Dimension) (chunk : List ℕ) → AllHoldSome ds chunk → (index : List ℕ)
-    → IsInside (held_box ds chunk) index ↔ (InBox ds chunk index × AreBelow (array_sizes ds) index)
-held_common [] [] some [] = (λ _. (tt, tt), λ _. tt)
-held_common [] [] some (_ ∷ _) = (λ within. absurd within, λ both. absurd both.0)
-held_common (d ∷ ds) (c ∷ chunk) some [] = (λ within. absurd within, λ both. absurd both.0)
-held_common (d ∷ ds) (c ∷ chunk) some (i ∷ index) =
-    let rest = held_common ds chunk some.1 index in
-    let (has, any, less) = some.0 in (
-      λ within.
-          let from : d.start c ≤ i = within.0 in
-          let below : i < d.start c + held d c = within.1 in
-          let (box, small) = rest.0 within.2 in
-          ((record { chunk = has; from = from; below = omega arith }, box), (omega arith, small)),
-      λ both.
-          let from : d.start c ≤ i = both.0.0.from in
-          let below : i < d.end c = both.0.0.below in
-          let small : i < d.array_size = both.1.0 in
-          (from, omega arith, rest.1 (both.0.1, both.1.1)),
-    )
-held_common _ _ some index = absurd some
 
 -- what is found of a chunk and the whole array are the elements that the chunk holds
 pub found_are : (ds : List Dimension) (chunk : List ℕ) (in_chunk in_subset : Box) → AreShared ds (array_box ds) chunk in_chunk in_subset

@@ -6,9 +6,6 @@ use Rattle.std.proofs.lemmas.List.Kept.{AllPairs-cons}
 use Rattle.zarrs_chunks.proofs.ChunksInBoxes.{source_of}
 
 module _ {X : Type 0} where
-  deeper : (x : X) (xs : List X) (y : X) → Contains xs y → Contains (x ∷ xs) y
-  deeper x xs y (k, within, is) = (suc k, omega arith, is)
-
   pub pairs_of_both : (Q : X → X → Type 0) (xs ys : List X) → AllPairs Q xs → AllPairs Q ys
       → ((x y : X) → Contains xs x → Contains ys y → Q x y) → AllPairs Q (xs ++ ys)
   pairs_of_both Q [] ys one other across = other
@@ -17,7 +14,7 @@ module _ {X : Type 0} where
       (All-append (Q x) xs ys (λ k d within. one zero (suc k) d (omega arith) (omega arith))
       (λ k d within. across x (get_or ys k d) (zero, omega arith, refl) (Contains-get_or ys k d within)))
       (pairs_of_both Q xs ys (λ i j d before within. one (suc i) (suc j) d (omega arith) (omega arith)) other
-      (λ y z among also. across y z (deeper x xs y among) also))
+      (λ y z among also. across y z (Contains-append_right (x ∷ []) xs y among) also))
 
 module _ {X Y : Type 0} (f : X → Y) where
   pub pairs_mapped : (Q : Y → Y → Type 0) (xs : List X) → AllPairs (λ x z. Q (f x) (f z)) xs → AllPairs Q (map f xs)
@@ -34,7 +31,7 @@ module _ {X Y : Type 0} (f : X → List Y) where
   in_some [] y (k, within, is) = absurd (omega arith)
   in_some (x ∷ xs) y has =
       ⊎_elim (λ here. (x, (zero, omega arith, refl), here))
-      (λ there. let (z, among, in_z) = in_some xs y there in (z, deeper x xs z among, in_z))
+      (λ there. let (z, among, in_z) = in_some xs y there in (z, Contains-append_right (x ∷ []) xs z among, in_z))
       (Contains-append_cases (f x) (flat_map f xs) y has)
 
   pub in_joined : (xs : List X) (x : X) (y : Y) → Contains xs x → Contains (f x) y → Contains (flat_map f xs) y
@@ -47,7 +44,7 @@ module _ {X Y : Type 0} (f : X → List Y) where
   pairs_joined Q [] each across = λ i j d before within. absurd (omega arith)
   pairs_joined Q (x ∷ xs) each across =
       pairs_of_both Q (f x) (flat_map f xs) (each x (zero, omega arith, refl))
-      (pairs_joined Q xs (λ z among. each z (deeper x xs z among)) (λ i j d before within. across (suc i) (suc j) d (omega arith) (omega arith)))
+      (pairs_joined Q xs (λ z among. each z (Contains-append_right (x ∷ []) xs z among)) (λ i j d before within. across (suc i) (suc j) d (omega arith) (omega arith)))
       (λ y w has also.
       let (z, (k, counted, is), in_z) = in_some xs w also in
       across zero (suc k) z (omega arith) (omega arith) y w has (subst (λ v. Contains (f v) w) (sym is) in_z))

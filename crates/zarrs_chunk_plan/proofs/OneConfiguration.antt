@@ -6,6 +6,7 @@ use Rattle.zarrs_chunk_base.specs.Grid.{Grid}
 use Rattle.zarrs_chunk_base.specs.Kinds.{IsMadeOf}
 use Rattle.zarrs_chunk_base.specs.Metadata.{Extension}
 use Rattle.zarrs_chunk_base.specs.RunLength.{edges_of_lengths}
+use Rattle.zarrs_chunk_base.proofs.InEach.{length_values}
 use Rattle.zarrs_chunk_base.proofs.KindsByName.{AreFound, same_kind}
 use Rattle.zarrs_chunk_axes.specs.Bounded.{IsBounded}
 use Rattle.zarrs_chunk_axes.specs.EqualEdges.{IsEqualEdges}
@@ -60,24 +61,12 @@ either_holds d other size also (listed edges) = listed_holds d other size also e
 
 module _ {X : Type 0} (R : Dimension → ℕ → X → Type 0)
     (holds : (d other : Dimension) (size also : ℕ) (x : X) → R d size x → R other also x → HoldsToo d other) where
-  are_resized : (before after : List Dimension) (shape other : List ℕ) (xs : List X) → InEach R before shape xs → InEach R after other xs
-      → AreResized before after
+  are_resized : (before : List Dimension) (shape : List ℕ) (xs : List X) (after : List Dimension) (other : List ℕ) → InEach R before shape xs
+      → InEach R after other xs → AreResized before after
   are_resized [] [] [] [] [] is are = tt
-  are_resized (d ∷ before) (e ∷ after) (size ∷ shape) (also ∷ other) (x ∷ xs) is are =
-      (both_ways d e (holds d e size also x is.0 are.0) (holds e d also size x are.0 is.0), are_resized before after shape other xs is.1 are.1)
-  are_resized [] [] [] [] (_ ∷ _) is are = absurd is
-  are_resized [] [] [] (_ ∷ _) [] is are = absurd are
-  are_resized [] [] [] (_ ∷ _) (_ ∷ _) is are = absurd is
-  are_resized [] [] (_ ∷ _) other xs is are = absurd is
-  are_resized [] (_ ∷ _) shape [] xs is are = absurd are
-  are_resized [] (_ ∷ _) [] (_ ∷ _) [] is are = absurd are
-  are_resized [] (_ ∷ _) [] (_ ∷ _) (_ ∷ _) is are = absurd is
-  are_resized [] (_ ∷ _) (_ ∷ _) (_ ∷ _) xs is are = absurd is
-  are_resized (_ ∷ _) after [] other xs is are = absurd is
-  are_resized (_ ∷ _) after (_ ∷ _) other [] is are = absurd is
-  are_resized (_ ∷ _) [] (_ ∷ _) [] (_ ∷ _) is are = absurd are
-  are_resized (_ ∷ _) [] (_ ∷ _) (_ ∷ _) (_ ∷ _) is are = absurd are
-  are_resized (_ ∷ _) (_ ∷ _) (_ ∷ _) [] (_ ∷ _) is are = absurd are
+  are_resized (d ∷ before) (size ∷ shape) (x ∷ xs) (e ∷ after) (also ∷ other) is are =
+      (both_ways d e (holds d e size also x is.0 are.0) (holds e d also size x are.0 is.0), are_resized before shape xs after other is.1 are.1)
+  are_resized _ _ xs after other is are = absurd (first_of (assumption, omega (arith, length_values R after other xs are)))
 
 -- ---- of one configuration
 
@@ -92,13 +81,13 @@ are_found rectilinear = refl
 of_kind : (kind : GridKind) (shape other : List ℕ) (before after : Grid) (said : (grid_kind kind).Said) → (grid_kind kind).makes before shape said
     → (grid_kind kind).makes after other said → AreResized before.dimensions after.dimensions
 of_kind regular shape other before after edges is are =
-    are_resized IsEqualEdges equal_holds before.dimensions after.dimensions shape other edges is.0 are.0
+    are_resized IsEqualEdges equal_holds before.dimensions shape edges after.dimensions other is.0 are.0
 of_kind regular_bounded shape other before after edges is are =
-    are_resized IsBounded bounded_holds before.dimensions after.dimensions shape other edges is.0 are.0
+    are_resized IsBounded bounded_holds before.dimensions shape edges after.dimensions other is.0 are.0
 of_kind rectangular shape other before after edges is are =
-    are_resized IsEqualOrListed either_holds before.dimensions after.dimensions shape other edges is.0 are.0
+    are_resized IsEqualOrListed either_holds before.dimensions shape edges after.dimensions other is.0 are.0
 of_kind rectilinear shape other before after lengths is are =
-    are_resized IsEqualOrListed either_holds before.dimensions after.dimensions shape other (map edges_of_lengths lengths) is.0 are.0
+    are_resized IsEqualOrListed either_holds before.dimensions shape (map edges_of_lengths lengths) after.dimensions other is.0 are.0
 
 -- the configuration stands for one value alone
 of_one_kind : (kind : GridKind) (e : Extension) (shape other : List ℕ) (before after : Grid) → IsMadeOf (grid_kind kind) e shape before

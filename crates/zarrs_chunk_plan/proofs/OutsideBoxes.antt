@@ -1,11 +1,10 @@
 -- The boxes of the chunks that are below one list of numbers and not below another.
-use Rattle.std.proofs.Common.{◌≡◌, ◌≢◌, ◌↔◌, ◌⊎◌, ◌∙◌, ℕ, zero, suc, ◌+◌, ◌-◌, ◌<◌, ◌≤◌, List, [], ◌∷◌, ◌++◌, Contains, get_or, length}
+use Rattle.std.proofs.Common.{◌≡◌, ◌≢◌, ◌↔◌, ◌⊎◌, ◌∙◌, ℕ, zero, suc, ◌+◌, ◌-◌, ◌<◌, ◌≤◌, List, [], ◌∷◌, ◌++◌, Contains, get_or, length, min}
 use Rattle.std.proofs.Common.{Bool, append-nil, length-set, map, replicate, set, refl, ap, inl, inr, subst, sym, ⊎_elim, arith}
 use Rattle.std.proofs.lemmas.Bool.{cases_lt}
 use Rattle.std.proofs.lemmas.Grind.{flat_map-append, same_number_lists}
 use Rattle.std.proofs.lemmas.List.{get_or-set_other, get_or-set_same}
 use Rattle.std.proofs.lemmas.List.Elements.{Contains-append_cases, Contains-append_left, Contains-append_right}
-use Rattle.std.specs.List.{AllZip}
 use Rattle.zarrs_chunk_base.specs.ArraySubset.{AreWithin, Box, IsBox, IsEmptyBox, IsInside}
 use Rattle.zarrs_chunk_axes.specs.InBounds.{AreBelow}
 use Rattle.zarrs_chunks.specs.Walks.{chunks_in, counted_from}
@@ -14,7 +13,6 @@ use Rattle.zarrs_chunk_plan.specs.seen.Outside.{AreOnce, IsOutside, IsToldBefore
 use Rattle.zarrs_chunk_plan.proofs.Between.{none_below}
 use Rattle.zarrs_chunk_plan.proofs.BoxCover.{below_from_zero}
 use Rattle.zarrs_chunk_plan.proofs.Joined.{pairs_of_both}
-use Rattle.zarrs_chunk_plan.proofs.Kept.{lesser_below}
 
 -- ---- what a box gets that grows along one dimension
 
@@ -47,8 +45,7 @@ together (n ∷ shape) (suc k) size (c ∷ chunk) within grows =
 
 pub parted : (shape : List ℕ) (k size : ℕ) (chunk : List ℕ) → k < length shape → AreBelow shape chunk → ¬ AddedTo shape k size chunk
 parted [] k size chunk within below added = absurd (omega arith)
-parted (n ∷ shape) zero size [] within below added = below
-parted (n ∷ shape) (suc k) size [] within below added = below
+parted (_ ∷ _) k size [] within below added = below
 parted (n ∷ shape) zero size (c ∷ chunk) within below added =
     let less : c < n = below.0 in
     let from : n ≤ c = added.0 in
@@ -66,26 +63,37 @@ pub record HasGrown (inner outer : List ℕ) (left : ℕ) (shape : List ℕ) (bo
   pub apart : (chunk : List ℕ) → AreBelow inner chunk → ¬ Contains (chunks_of_boxes boxes) chunk
   pub once : AreOnce (chunks_of_boxes boxes)
 
-each_within : (inner outer : List ℕ) → AllZip ◌≤◌ inner outer → (k : ℕ) → k < length outer → get_or inner k 0 ≤ get_or outer k 0
-each_within (m ∷ inner) (n ∷ outer) all zero within = all.0
-each_within (m ∷ inner) (n ∷ outer) all (suc k) within = each_within inner outer all.1 k (omega arith)
-each_within [] [] all k within = absurd (omega arith)
-each_within [] (_ ∷ _) all k within = absurd all
-each_within (_ ∷ _) [] all k within = absurd all
+-- of two lists the lesser numbers
+lesser_long : (inner outer : List ℕ) → length inner ≡ length outer → length (lesser inner outer) ≡ length outer
+lesser_long [] [] same = refl
+lesser_long (_ ∷ inner) (_ ∷ outer) same = ap suc (lesser_long inner outer (omega arith))
+lesser_long _ _ same = absurd (omega arith)
 
-both_long : (inner outer : List ℕ) → AllZip ◌≤◌ inner outer → length inner ≡ length outer
-both_long [] [] all = refl
-both_long (_ ∷ inner) (_ ∷ outer) all = ap suc (both_long inner outer all.1)
-both_long [] (_ ∷ _) all = absurd all
-both_long (_ ∷ _) [] all = absurd all
+lesser_within : (inner outer : List ℕ) → length inner ≡ length outer → (k : ℕ) → k < length outer → get_or (lesser inner outer) k 0 ≤ get_or outer k 0
+lesser_within (m ∷ inner) (n ∷ outer) same zero within = omega arith
+lesser_within (m ∷ inner) (n ∷ outer) same (suc k) within = lesser_within inner outer (omega arith) k (omega arith)
+lesser_within _ _ same k within = absurd (omega arith)
+
+lesser_below : (inner outer chunk : List ℕ) → length inner ≡ length outer
+    → AreBelow (lesser inner outer) chunk ↔ (AreBelow inner chunk × AreBelow outer chunk)
+lesser_below [] [] chunk same = (λ h. (h, h), λ (h, _). h)
+lesser_below (m ∷ inner) (n ∷ outer) (c ∷ chunk) same =
+    let rest = lesser_below inner outer chunk (omega arith) in (
+      λ below. let less : c < min m n = below.0 in let (first, second) = rest.0 below.1 in ((omega arith, first), (omega arith, second)),
+      λ (first, second).
+          let less : c < m = first.0 in
+          let also : c < n = second.0 in
+          (omega arith, rest.1 (first.1, second.1)),
+    )
+lesser_below _ _ _ same = (λ h. absurd (first_of (assumption, omega arith)), λ (h, _). absurd (first_of (assumption, omega arith)))
 
 none_in : (chunk : List ℕ) → ¬ Contains (chunks_of_boxes []) chunk
 none_in chunk (k, within, is) = omega arith
 
-pub not_grown : (inner outer : List ℕ) → AllZip ◌≤◌ inner outer → HasGrown inner outer (length outer) inner []
-not_grown inner outer all = record {
-  long = both_long inner outer all;
-  within = each_within inner outer all;
+pub not_grown : (inner outer : List ℕ) → length inner ≡ length outer → HasGrown (lesser inner outer) outer (length outer) (lesser inner outer) []
+not_grown inner outer same = record {
+  long = lesser_long inner outer same;
+  within = lesser_within inner outer same;
   grown = λ k from below. absurd (omega arith);
   those = λ chunk. (λ below. inl below, λ either. ⊎_elim (λ below. below) (λ has. absurd (none_in chunk has)) either);
   apart = λ chunk below. none_in chunk;
@@ -163,33 +171,29 @@ grown_more inner outer left shape boxes more added below_all so_far is_box are b
         let within = so_far.within k below in
         omega arith
 
-module _ (inner outer shape : List ℕ) (boxes : List Box) (all : HasGrown inner outer 0 shape boxes) where
+module _ (inner outer shape : List ℕ) (boxes : List Box) (same : length inner ≡ length outer)
+    (all : HasGrown (lesser inner outer) outer 0 shape boxes) where
   all_grown : shape ≡ outer
   all_grown =
       let long = all.long in
       same_number_lists shape outer all.long (λ k below. all.grown k (omega arith) (omega arith))
 
   pub are_outside : (chunk : List ℕ) → Contains (chunks_of_boxes boxes) chunk ↔ IsOutside inner outer chunk
-  are_outside chunk = (
-    λ has. (subst (λ xs. AreBelow xs chunk) all_grown ((all.those chunk).1 (inr has)), λ in_inner. all.apart chunk in_inner has),
-    λ (below, out).
-        ⊎_elim (λ in_inner. absurd (out in_inner)) (λ has. has)
-        ((all.those chunk).0 (subst (λ xs. AreBelow xs chunk) (sym all_grown) below)),
-  )
+  are_outside chunk =
+      let both = lesser_below inner outer chunk same in (
+        λ has.
+            let below = subst (λ xs. AreBelow xs chunk) all_grown ((all.those chunk).1 (inr has)) in
+            (below, λ in_inner. all.apart chunk (both.1 (in_inner, below)) has),
+        λ (below, out).
+            ⊎_elim (λ in_both. absurd (out (both.0 in_both).0)) (λ has. has)
+            ((all.those chunk).0 (subst (λ xs. AreBelow xs chunk) (sym all_grown) below)),
+      )
 
 -- ---- the boxes of two lists
 
--- those outside of what both have are those that aren't in the first one
-pub outside_both : (before after : List ℕ) → length before ≡ length after → (chunk : List ℕ)
-    → IsOutside (lesser before after) after chunk ↔ IsOutside before after chunk
-outside_both before after same chunk = (
-  λ (below, out). (below, λ was. out ((lesser_below before after chunk same).1 (was, below))),
-  λ (below, out). (below, λ both. out ((lesser_below before after chunk same).0 both).0),
-)
-
-module _ (keeps : Bool) (before after kept : List ℕ) (same : length before ≡ length after) (old added : List Box)
+module _ (keeps : Bool) (before after kept : List ℕ) (old added : List Box)
     (are_old : (chunk : List ℕ) → Contains (chunks_of_boxes old) chunk ↔ IsToldBefore keeps before kept chunk)
-    (are_added : (chunk : List ℕ) → Contains (chunks_of_boxes added) chunk ↔ IsOutside (lesser before after) after chunk) where
+    (are_added : (chunk : List ℕ) → Contains (chunks_of_boxes added) chunk ↔ IsOutside before after chunk) where
   both_lists : chunks_of_boxes (old ++ added) ≡ chunks_of_boxes old ++ chunks_of_boxes added
   both_lists = flat_map-append chunks_in old added
 
@@ -197,22 +201,18 @@ module _ (keeps : Bool) (before after kept : List ℕ) (same : length before ≡
       → Contains (chunks_of_boxes (old ++ added)) chunk ↔ (IsToldBefore keeps before kept chunk ⊎ IsOutside before after chunk)
   told_of chunk = rw both_lists (
     λ has.
-        ⊎_elim (λ first. inl ((are_old chunk).0 first)) (λ second. inr ((outside_both before after same chunk).0 ((are_added chunk).0 second)))
+        ⊎_elim (λ first. inl ((are_old chunk).0 first)) (λ second. inr ((are_added chunk).0 second))
         (Contains-append_cases (chunks_of_boxes old) (chunks_of_boxes added) chunk has),
     λ told.
         ⊎_elim (λ first. Contains-append_left (chunks_of_boxes old) (chunks_of_boxes added) chunk ((are_old chunk).1 first))
-        (λ second.
-        Contains-append_right (chunks_of_boxes old) (chunks_of_boxes added) chunk
-        ((are_added chunk).1 ((outside_both before after same chunk).1 second)))
+        (λ second. Contains-append_right (chunks_of_boxes old) (chunks_of_boxes added) chunk ((are_added chunk).1 second))
         told,
   )
 
   pub told_once : AreOnce (chunks_of_boxes old) → AreOnce (chunks_of_boxes added) → AreOnce (chunks_of_boxes (old ++ added))
   told_once one other = rw both_lists
       (pairs_of_both (λ first second. first ≢ second) (chunks_of_boxes old) (chunks_of_boxes added) one other
-      (λ first second was new is.
-      ((outside_both before after same second).0 ((are_added second).0 new)).1
-      (subst (AreBelow before) is ((are_old first).0 was).0)))
+      (λ first second was new is. ((are_added second).0 new).1 (subst (AreBelow before) is ((are_old first).0 was).0)))
 
 -- the chunks of the box that begins at 0
 pub from_zero_below : (sizes : List ℕ) (b : Box) → IsBox b → b ≡ record { start = replicate (length sizes) 0; shape = sizes } → (chunk : List ℕ)

@@ -2,69 +2,52 @@
 use Rattle.std.proofs.Common.{◌≡◌, ◌≢◌, ◌↔◌, ◌⊎◌, ◌∙◌, ℕ, ◌≤◌, Bool, false, List, [], ◌∷◌, Contains, length, refl, inl, inr, subst, sym, ⊎_elim}
 use Rattle.std.proofs.Common.{arith}
 use Rattle.std.specs.List.{AllByRecursion, AllPairs}
-use Rattle.zarrs_chunk_base.specs.Dimension.{Dimension, InBox, IsChain, IsPlace, array_sizes}
+use Rattle.zarrs_chunk_base.specs.Dimension.{Dimension, Holds, InBox, InEach, IsChain, IsPlace, array_sizes}
 use Rattle.zarrs_chunk_base.specs.Greatest.{AllFit, greatest}
+use Rattle.zarrs_chunk_base.proofs.InEach.{by_dimension, length_numbers}
 use Rattle.zarrs_chunk_axes.specs.InBounds.{AreBelow}
 use Rattle.zarrs_chunks.proofs.Chains.{at_most_start}
 use Rattle.zarrs_chunk_plan.specs.Resize.{AreResized, HasElementOf, IsAsked, IsChange, IsChanged, IsKept, IsResizePlan, IsUsed}
 use Rattle.zarrs_chunk_plan.specs.declared.resize.Change.{Change}
 use Rattle.zarrs_chunk_plan.specs.declared.resize.Change.TheVariants.{Delete, Keep, New, Rewrite}
 use Rattle.zarrs_chunk_plan.specs.declared.resize.ChunkChange.{ChunkChange}
-use Rattle.zarrs_chunk_plan.proofs.Kept.{AllKept, kept_is_all, same_start}
+use Rattle.zarrs_chunk_plan.specs.seen.Used.{KeptAlong}
+use Rattle.zarrs_chunk_plan.proofs.Kept.{is_used, kept_is_all, kept_used, same_start}
 use Rattle.zarrs_chunk_plan.proofs.HeldBoxes.{AllHoldSome, hold_some, meets_hold}
 use Rattle.zarrs_chunk_plan.proofs.Plans.{pair_of, pairs_of, source_of}
-use Rattle.zarrs_chunk_plan.proofs.Rechunkings.{in_array}
 
 -- ---- a chunk that begins where it did
 
-AllStart : List Dimension → List Dimension → List ℕ → Type 0
-AllStart [] [] [] = Unit {0}
-AllStart (d ∷ ds) (e ∷ es) (c ∷ chunk) = (d.start c ≡ e.start c) × AllStart ds es chunk
-AllStart _ _ _ = ⊥
+abbrev AllStart : List Dimension → List ℕ → List Dimension → Type 0
+AllStart = InEach (λ d c e. d.start c ≡ e.start c)
 
-same_place : (ds es : List Dimension) (chunk index place : List ℕ) → AllStart ds es chunk → IsPlace ds chunk index place ↔ IsPlace es chunk index place
-unfolding AllStart
+same_place : (ds : List Dimension) (chunk : List ℕ) (es : List Dimension) (index place : List ℕ) → AllStart ds chunk es
+    → IsPlace ds chunk index place ↔ IsPlace es chunk index place
 same_place [] [] [] index place start = (λ h. h, λ h. h)
-same_place (d ∷ ds) (e ∷ es) (c ∷ chunk) [] place start = (λ h. absurd h, λ h. absurd h)
-same_place (d ∷ ds) (e ∷ es) (c ∷ chunk) (i ∷ index) [] start = (λ h. absurd h, λ h. absurd h)
-same_place (d ∷ ds) (e ∷ es) (c ∷ chunk) (i ∷ index) (p ∷ place) start =
-    let rest = same_place ds es chunk index place start.1 in
+same_place (d ∷ ds) (c ∷ chunk) (e ∷ es) (i ∷ index) (p ∷ place) start =
+    let rest = same_place ds chunk es index place start.1 in
     let same = start.0 in (
       λ h. let is = h.0 in (omega arith, rest.0 h.1),
       λ h. let is = h.0 in (omega arith, rest.1 h.1),
     )
-same_place [] [] (_ ∷ _) index place start = absurd start
-same_place [] (_ ∷ _) chunk index place start = absurd start
-same_place (_ ∷ _) [] chunk index place start = absurd start
-same_place (_ ∷ _) (_ ∷ _) [] index place start = absurd start
+same_place _ _ _ _ _ start = (λ h. absurd assumption, λ h. absurd assumption)
 
-kept_start : (ds es : List Dimension) (chunk : List ℕ) → AllKept ds es chunk → AllStart ds es chunk
-unfolding AllStart
-kept_start [] [] [] kept = tt
-kept_start (d ∷ ds) (e ∷ es) (c ∷ chunk) kept = (kept.0.start, kept_start ds es chunk kept.1)
-kept_start [] [] (_ ∷ _) kept = absurd kept
-kept_start [] (_ ∷ _) chunk kept = absurd kept
-kept_start (_ ∷ _) [] chunk kept = absurd kept
-kept_start (_ ∷ _) (_ ∷ _) [] kept = absurd kept
-
-used_start : (ds es : List Dimension) (chunk : List ℕ) → AreResized ds es → AllHoldSome ds chunk → AllHoldSome es chunk → AllStart ds es chunk
-unfolding AllStart
+used_start : (ds es : List Dimension) (chunk : List ℕ) → AreResized ds es → AllHoldSome ds chunk → AllHoldSome es chunk → AllStart ds chunk es
 used_start [] [] [] resized some after = tt
 used_start (d ∷ ds) (e ∷ es) (c ∷ chunk) resized some after =
     (same_start d e resized.0 c some.0 after.0, used_start ds es chunk resized.1 some.1 after.1)
-used_start [] [] (_ ∷ _) resized some after = absurd some
-used_start [] (_ ∷ _) chunk resized some after = absurd resized
-used_start (_ ∷ _) [] chunk resized some after = absurd resized
-used_start (_ ∷ _) (_ ∷ _) [] resized some after = absurd some
+used_start _ _ _ resized some after = absurd assumption
 
 pub kept_place : (ds es : List Dimension) (chunk index place : List ℕ) → IsKept ds es chunk
     → IsPlace ds chunk index place ↔ IsPlace es chunk index place
-kept_place ds es chunk index place kept = same_place ds es chunk index place (kept_start ds es chunk (kept_is_all ds es chunk kept))
+kept_place ds es chunk index place kept =
+    same_place ds chunk es index place
+    (by_dimension (λ d c e. KeptAlong d e c) AllStart tt (λ d c e ds chunk es here rest. (here.start, rest)) ds chunk es (kept_is_all ds es chunk kept))
 
 pub stays_in_place : (ds es : List Dimension) → AreResized ds es → (chunk index : List ℕ) → HasElementOf ds chunk index
     → HasElementOf es chunk index → (place : List ℕ) → IsPlace ds chunk index place ↔ IsPlace es chunk index place
 stays_in_place ds es resized chunk index (box, below) (also, small) place =
-    same_place ds es chunk index place
+    same_place ds chunk es index place
     (used_start ds es chunk resized (hold_some ds chunk index box below) (hold_some es chunk index also small))
 
 -- ---- an index that both arrays have
@@ -72,25 +55,13 @@ stays_in_place ds es resized chunk index (box, below) (also, small) place =
 pub stays : (ds es : List Dimension) → AreResized ds es → (chunk index : List ℕ) → AreBelow (array_sizes ds) index → AreBelow (array_sizes es) index
     → InBox ds chunk index ↔ InBox es chunk index
 stays [] [] resized chunk index below also = (λ h. h, λ h. h)
-stays (d ∷ ds) (e ∷ es) resized [] index below also = (λ h. absurd h, λ h. absurd h)
-stays (d ∷ ds) (e ∷ es) resized (c ∷ chunk) [] below also = absurd below
 stays (d ∷ ds) (e ∷ es) resized (c ∷ chunk) (i ∷ index) below also =
     let here = resized.0.same_chunk c i below.0 also.0 in
     let rest = stays ds es resized.1 chunk index below.1 also.1 in
     (λ h. (here.0 h.0, rest.0 h.1), λ h. (here.1 h.0, rest.1 h.1))
-stays [] (_ ∷ _) resized chunk index below also = absurd resized
-stays (_ ∷ _) [] resized chunk index below also = absurd resized
+stays _ _ resized _ _ below also = (λ h. absurd assumption, λ h. absurd assumption)
 
 -- ---- what becomes of a chunk
-
--- a chunk that holds an element of the array is used
-pub is_used : (ds : List Dimension) (chunk index : List ℕ) → HasElementOf ds chunk index → IsUsed ds chunk
-is_used ds chunk index (box, below) = (index, box, (in_array ds index).0 below)
-
--- and so is one that is kept, after as before
-kept_used : (ds es : List Dimension) (chunk : List ℕ) → IsKept ds es chunk → IsUsed es chunk
-kept_used ds es chunk kept =
-    let (index, box, inside) = kept.used in is_used es chunk index ((kept.elements index).0 (box, (in_array ds index).1 inside))
 
 module _ (ds es : List Dimension) (chunk : List ℕ) where
   pub one_what : (what other : Change) → IsChanged ds es chunk what → IsChanged ds es chunk other → what ≡ other
@@ -154,14 +125,10 @@ used_fits (d ∷ ds) (c ∷ chunk) chains fit some =
     let small : d.array_size ≤ greatest = fit.0 in
     let first = at_most_start d chains.0 c has in
     (omega arith, used_fits ds chunk chains.1 fit.1 some.1)
-used_fits [] (_ ∷ _) chains fit some = absurd some
-used_fits (_ ∷ _) [] chains fit some = absurd some
+used_fits _ _ chains fit some = absurd some
 
-held_long : (ds : List Dimension) (chunk : List ℕ) → AllHoldSome ds chunk → length chunk ≡ length ds
-held_long [] [] some = refl
-held_long (d ∷ ds) (c ∷ chunk) some = let rest = held_long ds chunk some.1 in omega arith
-held_long [] (_ ∷ _) some = absurd some
-held_long (_ ∷ _) [] some = absurd some
+used_long : (ds : List Dimension) (chunk : List ℕ) → IsUsed ds chunk → length chunk ≡ length ds
+used_long ds chunk (index, box, inside) = length_numbers Holds ds chunk index box
 
 module _ (ds es : List Dimension) (IsKey : List ℕ → List ℕ → Type 0) (keeps : Bool) (changes : List ChunkChange)
     (plan : IsResizePlan ds es IsKey keeps changes) where
@@ -188,6 +155,6 @@ module _ (ds es : List Dimension) (IsKey : List ℕ → List ℕ → Type 0) (ke
       told : (chunk : List ℕ) → Contains plan.chunks chunk → AllFit chunk × (length chunk ≡ length ds)
       told chunk among =
           ⊎_elim
-          (λ used. let some = meets_hold ds chunk used in (used_fits ds chunk chains fit some, held_long ds chunk some))
-          (λ used. let some = meets_hold es chunk used in (used_fits es chunk also also_fit some, held_long es chunk some ∙ sym same))
+          (λ used. (used_fits ds chunk chains fit (meets_hold ds chunk used), used_long ds chunk used))
+          (λ used. (used_fits es chunk also also_fit (meets_hold es chunk used), used_long es chunk used ∙ sym same))
           ((plan.are_chunks.are_those chunk).0 among).used

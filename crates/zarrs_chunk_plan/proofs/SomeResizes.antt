@@ -10,8 +10,9 @@ use Rattle.zarrs_chunk_base.specs.ArraySubset.{IsBox, ends}
 use Rattle.zarrs_chunk_base.specs.Dimension.{Dimension, IsChain, array_sizes}
 use Rattle.zarrs_chunk_base.specs.Greatest.{AllFit, greatest}
 use Rattle.zarrs_chunk_plan.specs.Rechunking.{array_box}
-use Rattle.zarrs_chunk_plan.specs.Resize.{AreChanged, IsChange, IsHeld, IsUsed}
+use Rattle.zarrs_chunk_plan.specs.Resize.{AreChanged, IsChange, IsChanged, IsHeld, IsUsed, MayHold}
 use Rattle.zarrs_chunk_plan.specs.declared.chunk_changes.Changes.{Changes}
+use Rattle.zarrs_chunk_plan.specs.declared.resize.Change.{Change}
 use Rattle.zarrs_chunk_plan.specs.declared.resize.Change.TheVariants.{Delete, Keep, New, Rewrite}
 use Rattle.zarrs_chunk_plan.specs.declared.resize.ChunkChange.{ChunkChange}
 use Rattle.zarrs_chunk_plan.specs.declared.resize.Held.{Held}
@@ -74,40 +75,30 @@ module _ {G H E : Type 0} (dimensions_before : G → List Dimension) (dimensions
 
   module _ (chains : AllByRecursion IsChain Before) (also_chains : AllByRecursion IsChain After) (fit : AllFit (array_sizes Before))
       (also_fit : AllFit (array_sizes After)) (keys : HasKeys (is_key walk.encoding.now)) (can : CanChange dimensions_before dimensions_after walk) where
+    change_of : (chunk key : List ℕ) → is_key walk.encoding.now chunk key → (before after : Option Held) (what : Change) → MayHold Before chunk before
+        → MayHold After chunk after → IsChanged Before After chunk what → (change : ChunkChange) × IsChangeOf chunk change
+    change_of chunk key is before after what held holds changed = (
+      record { key = key; chunk = record { items = chunk; capacity = 0 }; before = before; after = after; what = what },
+      record { numbers = refl; key = is; held = held; holds = holds; what = changed },
+    )
+
     by_both : (chunk : List ℕ) → IsUsed Before chunk → IsUsed After chunk → (change : ChunkChange) × IsChangeOf chunk change
     by_both chunk used also =
         let (held, is_held, (key, is)) = has_held (is_key walk.encoding.now) keys Before chains fit chunk used in
         let (holds, is_holds, _) = has_held (is_key walk.encoding.now) keys After also_chains also_fit chunk also in
-        ⊎_elim
-        (λ below. (
-          record { key = key; chunk = record { items = chunk; capacity = 0 }; before = Some held; after = Some holds; what = Keep },
-          record { numbers = refl; key = is; held = (used, is_held); holds = (also, is_holds); what = (can.kept chunk).0 below },
-        ))
-        (λ above. (
-          record { key = key; chunk = record { items = chunk; capacity = 0 }; before = Some held; after = Some holds; what = Rewrite },
-          record {
-            numbers = refl;
-            key = is;
-            held = (used, is_held);
-            holds = (also, is_holds);
-            what = (used, also, λ kept. above ((can.kept chunk).1 kept));
-          },
-        ))
+        let change = λ (what : Change). change_of chunk key is (Some held) (Some holds) what (used, is_held) (also, is_holds) in
+        ⊎_elim (λ below. change Keep ((can.kept chunk).0 below)) (λ above. change Rewrite (used, also, λ kept. above ((can.kept chunk).1 kept)))
         (below_or_not walk.uses.kept.items chunk)
 
     by_first : (chunk : List ℕ) → IsUsed Before chunk → (¬ IsUsed After chunk) → (change : ChunkChange) × IsChangeOf chunk change
     by_first chunk used unused =
-        let (held, is_held, (key, is)) = has_held (is_key walk.encoding.now) keys Before chains fit chunk used in (
-          record { key = key; chunk = record { items = chunk; capacity = 0 }; before = Some held; after = None; what = Delete },
-          record { numbers = refl; key = is; held = (used, is_held); holds = unused; what = (used, unused) },
-        )
+        let (held, is_held, (key, is)) = has_held (is_key walk.encoding.now) keys Before chains fit chunk used in
+        change_of chunk key is (Some held) None Delete (used, is_held) unused (used, unused)
 
     by_second : (chunk : List ℕ) → IsUsed After chunk → (¬ IsUsed Before chunk) → (change : ChunkChange) × IsChangeOf chunk change
     by_second chunk used unused =
-        let (holds, is_holds, (key, is)) = has_held (is_key walk.encoding.now) keys After also_chains also_fit chunk used in (
-          record { key = key; chunk = record { items = chunk; capacity = 0 }; before = None; after = Some holds; what = New },
-          record { numbers = refl; key = is; held = unused; holds = (used, is_holds); what = (used, unused) },
-        )
+        let (holds, is_holds, (key, is)) = has_held (is_key walk.encoding.now) keys After also_chains also_fit chunk used in
+        change_of chunk key is None (Some holds) New unused (used, is_holds) (used, unused)
 
     has_change : (chunk : List ℕ) → IsUsedByOne chunk → (change : ChunkChange) × IsChangeOf chunk change
     has_change chunk used =

@@ -1,10 +1,10 @@
 //! The chunks that are below one list of numbers and not below another, as boxes.
 ghost use Rattle.std.specs.Prelude.{◌≡◌, ◌↔◌, ◌⊎◌, ◌<◌, ◌≤◌, ◌++◌, ℕ, IfOk, List, OnOk, get_or, length, set};
-ghost use Rattle.std.specs.List.{AllZip, Contains};
+ghost use Rattle.std.specs.List.{Contains};
 ghost use Rattle.zarrs_chunk_base.specs.ArraySubset.{IsBox, IsInside};
 ghost use Rattle.zarrs_chunk_axes.specs.InBounds.{AreBelow};
 ghost use Rattle.zarrs_chunks.specs.Walks.{chunks_in};
-ghost use Rattle.zarrs_chunk_plan.specs.seen.Outside.{AreOnce, IsOutside, chunks_of_boxes};
+ghost use Rattle.zarrs_chunk_plan.specs.seen.Outside.{AreOnce, IsOutside, chunks_of_boxes, lesser};
 
 use crate::boxes_from_zero::{box_from_zero, zeros};
 use std::alloc::{AllocError, Global};
@@ -34,12 +34,12 @@ pub(crate) fn outside(
     inner: &[u64],
     outer: &[u64],
 ) -> Result<Vec<ArraySubset>, AllocError>
-    requires { AllZip ◌≤◌ inner.now outer.now }
+    requires { length inner.now ≡ length outer.now }
     ensures those { IfOk result (λ boxes. (chunk : List ℕ)
         → Contains (chunks_of_boxes boxes.items) chunk ↔ IsOutside inner.now outer.now chunk) }
     ensures once { IfOk result (λ boxes. AreOnce (chunks_of_boxes boxes.items)) }
 {
-    let mut shape = Vec::from_slice(alloc, inner)?;
+    let mut shape = lesser(alloc, inner, outer)?;
     let mut boxes = Vec::with_capacity(alloc, outer.len())?;
     for dimension in (0..outer.len()).rev() {
         let added = added_part(alloc, &shape, dimension, outer[dimension])?;
@@ -47,6 +47,19 @@ pub(crate) fn outside(
         shape[dimension] = outer[dimension];
     }
     Ok(boxes)
+}
+
+/// The lesser of each two numbers.
+///
+/// # Errors
+/// Out of memory.
+fn lesser(alloc: Global, one: &[u64], other: &[u64]) -> Result<ArrayShape, AllocError>
+    ensures { IfOk result (λ v. v.items ≡ lesser one.now other.now) }
+{
+    let mut least = Vec::with_capacity(alloc, one.len())?;
+    let pairs = one.iter().zip(other);
+    least.extend(pairs.map(|(size, limit)| (*size).min(*limit)))?;
+    Ok(least)
 }
 
 /// Appends a box, unless it is empty.

@@ -1,16 +1,16 @@
 //! The plan of a resize: which chunks of an array that gets another shape stay as they are stored, and which don't.
-ghost use Rattle.std.specs.Prelude.{◌≡◌, ◌≢◌, ◌↔◌, ◌⊎◌, ◌≤◌, ℕ, IfErr, IfOk, List, MatchResult, length};
-ghost use Rattle.std.specs.List.{AllZip, Contains};
+ghost use Rattle.std.specs.Prelude.{◌≡◌, ◌≢◌, ◌↔◌, ◌⊎◌, ℕ, IfErr, IfOk, List, MatchResult, length};
+ghost use Rattle.std.specs.List.{Contains};
 ghost use Rattle.zarrs_chunk_base.specs.Refusal.{HasMemory, OrMemory, RefusesLength, TellsLengths};
 ghost use Rattle.zarrs_chunk_axes.specs.InBounds.{AreBelow};
 ghost use Rattle.zarrs_chunk_plan.specs.Resize.{AreChanged, AreResized, IsKept, IsUsed};
 ghost use Rattle.zarrs_chunk_plan.specs.seen.Changes.{CanChange, IsAboutResize, all_changes, changes_to_come};
-ghost use Rattle.zarrs_chunk_plan.specs.seen.Outside.{AreOnce, IsOutside, IsToldBefore, chunks_of_boxes, lesser};
+ghost use Rattle.zarrs_chunk_plan.specs.seen.Outside.{AreOnce, IsOutside, IsToldBefore, chunks_of_boxes};
 
 use crate::changed::ChangedChunks;
 use crate::chunk_changes::Changes;
 use crate::outside::{below, outside};
-use crate::used::{kept_along, lesser, used_along};
+use crate::used::{kept_along, used_along};
 use std::alloc::{AllocError, Global};
 use zarrs_chunk_base::{ArraySubset, IncompatibleDimensionalityError, Refusal, StoreKey};
 use zarrs_chunk_keys::ChunkKeyEncodingTraits;
@@ -130,12 +130,11 @@ pub(crate) fn uses_of<G: ChunkGridTraits, H: ChunkGridTraits>(
     ensures kept { AreResized (G.dimensions before.now) (H.dimensions after.now)
         → IfOk result (λ uses. (chunk : List ℕ) → AreBelow uses.kept.items chunk
         ↔ IsKept (G.dimensions before.now) (H.dimensions after.now) chunk) }
-    ensures at_most { IfOk result (λ uses. AllZip ◌≤◌ uses.kept.items uses.before.items) }
-    ensures in_both { IfOk result (λ uses.
-        AllZip ◌≤◌ uses.kept.items (lesser uses.before.items uses.after.items)) }
     ensures dimensions { IfOk result (λ uses. length uses.before.items
         ≡ length (G.dimensions before.now)) }
     ensures lengths { IfOk result (λ uses. length uses.after.items ≡ length uses.before.items) }
+    ensures kept_lengths { IfOk result (λ uses. length uses.kept.items
+        ≡ length uses.before.items) }
 {
     let used_before = used_along(alloc, before)?;
     let used_after = used_along(alloc, after)?;
@@ -156,8 +155,8 @@ fn boxes_of_changes(
     uses: &ChangedChunks,
     keeps: bool,
 ) -> Result<Vec<ArraySubset>, AllocError>
-    requires at_most { AllZip ◌≤◌ uses.now.kept.items uses.now.before.items }
-    requires lengths { length uses.now.after.items ≡ length uses.now.before.items }
+    requires kept { length uses.now.kept.items ≡ length uses.now.before.items }
+    requires after { length uses.now.after.items ≡ length uses.now.before.items }
     ensures those { IfOk result (λ boxes. (chunk : List ℕ)
         → Contains (chunks_of_boxes boxes.items) chunk
         ↔ (IsToldBefore keeps uses.now.before.items uses.now.kept.items chunk
@@ -165,8 +164,7 @@ fn boxes_of_changes(
     ensures once { IfOk result (λ boxes. AreOnce (chunks_of_boxes boxes.items)) }
 {
     let mut boxes = boxes_before(alloc, uses, keeps)?;
-    let both = lesser(alloc, &uses.before, &uses.after)?;
-    let mut added = outside(alloc, &both, &uses.after)?;
+    let mut added = outside(alloc, &uses.before, &uses.after)?;
     boxes.append(&mut added)?;
     Ok(boxes)
 }
@@ -180,7 +178,7 @@ fn boxes_before(
     uses: &ChangedChunks,
     keeps: bool,
 ) -> Result<Vec<ArraySubset>, AllocError>
-    requires at_most { AllZip ◌≤◌ uses.now.kept.items uses.now.before.items }
+    requires { length uses.now.kept.items ≡ length uses.now.before.items }
     ensures those { IfOk result (λ boxes. (chunk : List ℕ)
         → Contains (chunks_of_boxes boxes.items) chunk
         ↔ IsToldBefore keeps uses.now.before.items uses.now.kept.items chunk) }

@@ -1,15 +1,14 @@
 //! How many chunks of a grid hold elements of its array along each dimension, and how many of them a resize keeps.
-ghost use Rattle.std.specs.Prelude.{◌≡◌, ◌↔◌, ◌-◌, ◌≤◌, ℕ, IfOk, IsTrue, List, cond, length, map};
-ghost use Rattle.std.specs.List.{AllZip, Contains};
+ghost use Rattle.std.specs.Prelude.{◌≡◌, ◌↔◌, ◌<◌, ◌≤◌, ℕ, IfOk, List, length};
 ghost use Rattle.zarrs_chunk_axes.specs.InBounds.{AreBelow};
 ghost use Rattle.zarrs_chunk_plan.specs.Rechunking.{array_box};
 ghost use Rattle.zarrs_chunk_plan.specs.Resize.{AreResized, IsHeld, IsKept, IsUsed};
-ghost use Rattle.zarrs_chunk_plan.specs.seen.Outside.{lesser};
-ghost use Rattle.zarrs_chunk_plan.specs.seen.Used.{kept_sizes};
+ghost use Rattle.zarrs_chunk_plan.specs.seen.Used.{HasExtentAlong, KeepsAlong};
 
 use crate::boxes_from_zero::whole_array;
 use crate::rechunking::chunks_of_array;
 use crate::resize::Held;
+use crate::sources::expect_found;
 use std::alloc::{AllocError, Global};
 use zarrs_chunk_base::{ArrayShape, ArraySubset};
 use zarrs_chunk_parts::shared_elements;
@@ -54,20 +53,7 @@ pub(crate) fn held_by<G: ChunkGridTraits>(
     })
 }
 
-/// What a chunk holds of a grid's array.
-///
-/// # Errors
-/// Out of memory.
-fn held_in<G: ChunkGridTraits>(alloc: Global, grid: &G, chunk: &[u64]) -> Result<Held, AllocError>
-    ensures { IsUsed (G.dimensions grid.now) chunk.now
-        → IfOk result (IsHeld (G.dimensions grid.now) chunk.now) }
-{
-    let array = whole_array(alloc, grid)?;
-    held_by(alloc, grid, &array, chunk)
-}
-
-/// For each dimension how many chunks are kept, where so many hold elements of the array as it was, and so many of the array as it is to be. Of those
-/// that do both only the last may differ.
+/// Returns how many chunks a resize keeps along each dimension, where so many hold elements of the array before it, and so many after it.
 ///
 /// # Errors
 /// Out of memory.
@@ -78,6 +64,8 @@ pub(crate) fn kept_along<G: ChunkGridTraits, H: ChunkGridTraits>(
     used_before: &[u64],
     used_after: &[u64],
 ) -> Result<ArrayShape, AllocError>
+    requires before { length used_before.now ≡ length (G.dimensions before.now) }
+    requires after { length used_after.now ≡ length (H.dimensions after.now) }
     requires lengths { length used_before.now ≡ length used_after.now }
     ensures kept { AreResized (G.dimensions before.now) (H.dimensions after.now)
         → ((chunk : List ℕ) → AreBelow used_before.now chunk
@@ -86,93 +74,58 @@ pub(crate) fn kept_along<G: ChunkGridTraits, H: ChunkGridTraits>(
         ↔ IsUsed (H.dimensions after.now) chunk)
         → IfOk result (λ kept. (chunk : List ℕ) → AreBelow kept.items chunk
         ↔ IsKept (G.dimensions before.now) (H.dimensions after.now) chunk) }
-    ensures at_most { IfOk result (λ kept. AllZip ◌≤◌ kept.items used_before.now) }
-    ensures in_both { IfOk result (λ kept.
-        AllZip ◌≤◌ kept.items (lesser used_before.now used_after.now)) }
+    ensures lengths { IfOk result (λ kept. length kept.items ≡ length used_before.now) }
 {
-    let both = lesser(alloc, used_before, used_after)?;
-    if has_zero(&both) {
-        return Ok(both);
-    }
-    let last = all_less_one(alloc, &both)?;
-    let one = held_in(alloc, before, &last)?;
-    let other = held_in(alloc, after, &last)?;
-    let kept = kept_sizes(
-        alloc,
-        &both,
-        &one.shape,
-        &other.shape,
-        one.elements.shape(),
-        other.elements.shape(),
-    )?;
-    if kept.len() != both.len() {
-        // Never: what is held has a number for each dimension.
-        return Err(AllocError);
+    let mut kept = Vec::with_capacity(alloc, used_before.len())?;
+    for dimension in 0..used_before.len() {
+        let both = used_before[dimension].min(used_after[dimension]);
+        kept.push(kept_in(alloc, before, after, dimension, both)?)?;
     }
     Ok(kept)
 }
 
-/// The lesser of each two numbers.
+/// Returns how many chunks a resize keeps along a dimension, where so many hold elements of both arrays. Only the last of them may differ.
 ///
 /// # Errors
 /// Out of memory.
-pub(crate) fn lesser(alloc: Global, one: &[u64], other: &[u64]) -> Result<ArrayShape, AllocError>
-    ensures { IfOk result (λ v. v.items ≡ lesser one.now other.now) }
-{
-    let mut least = Vec::with_capacity(alloc, one.len())?;
-    let pairs = one.iter().zip(other);
-    least.extend(pairs.map(|(size, limit)| (*size).min(*limit)))?;
-    Ok(least)
-}
-
-/// Whether a number is 0.
-fn has_zero(sizes: &[u64]) -> bool
-    ensures { IsTrue result ↔ Contains sizes.now 0 }
-{
-    sizes.contains(&0)
-}
-
-/// Each number less one.
-///
-/// # Errors
-/// Out of memory.
-fn all_less_one(alloc: Global, sizes: &[u64]) -> Result<ArrayShape, AllocError>
-    ensures { IfOk result (λ v. v.items ≡ map (λ n. n - 1) sizes.now) }
-{
-    let mut lasts = Vec::with_capacity(alloc, sizes.len())?;
-    lasts.extend(sizes.iter().map(|size| size.saturating_sub(1)))?;
-    Ok(lasts)
-}
-
-/// For each dimension so many chunks, or one less, where the last one had another edge along it than it is to have, or held another number of
-/// elements than it is to hold.
-///
-/// # Errors
-/// Out of memory.
-fn kept_sizes(
+fn kept_in<G: ChunkGridTraits, H: ChunkGridTraits>(
     alloc: Global,
-    both: &[u64],
-    edges: &[u64],
-    next_edges: &[u64],
-    counts: &[u64],
-    next_counts: &[u64],
-) -> Result<ArrayShape, AllocError>
-    ensures { IfOk result (λ v. v.items ≡ kept_sizes both.now edges.now next_edges.now
-        counts.now next_counts.now) }
+    before: &G,
+    after: &H,
+    dimension: usize,
+    both: u64,
+) -> Result<u64, AllocError>
+    requires before { dimension < length (G.dimensions before.now) }
+    requires after { dimension < length (H.dimensions after.now) }
+    ensures at_most { IfOk result (λ kept. kept ≤ both) }
+    ensures kept { 0 < both → IfOk result (KeepsAlong (G.dimensions before.now)
+        (H.dimensions after.now) dimension both) }
 {
-    let edges = edges.iter().zip(next_edges);
-    let counts = counts.iter().zip(next_counts);
-    let ranges = both.iter().zip(edges.zip(counts));
-    let mut kept = Vec::with_capacity(alloc, both.len())?;
-    kept.extend(ranges.map(|(size, ((edge, next_edge), (count, next_count)))| {
-        kept_size(*size, edge == next_edge && count == next_count)
-    }))?;
-    Ok(kept)
+    if both == 0 {
+        return Ok(0);
+    }
+    let last = both - 1;
+    let one = extent_along(alloc, before, dimension, last)?;
+    let other = extent_along(alloc, after, dimension, last)?;
+    Ok(if one == other { both } else { last })
 }
 
-/// So many chunks where the last one is the same, or else one less.
-fn kept_size(both: u64, same: bool) -> u64
-    ensures { result ≡ cond same both (both - 1) }
+/// Returns how long a chunk is along a dimension, and how many elements of the array it holds there.
+///
+/// # Errors
+/// Out of memory.
+fn extent_along<G: ChunkGridTraits>(
+    alloc: Global,
+    grid: &G,
+    dimension: usize,
+    chunk: u64,
+) -> Result<(u64, u64), AllocError>
+    requires { dimension < length (G.dimensions grid.now) }
+    ensures { IfOk result (HasExtentAlong (G.dimensions grid.now) dimension chunk) }
 {
-    if same { both } else { both.saturating_sub(1) }
+    let range = grid.range_along(alloc, dimension, chunk)?;
+    let (start, edge) = expect_found(range)?;
+    let size = grid.array_shape()[dimension];
+    let held = edge.min(size.saturating_sub(start));
+    Ok((edge, held))
 }

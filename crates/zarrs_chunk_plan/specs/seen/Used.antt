@@ -1,12 +1,36 @@
--- How many chunks along a dimension a resize keeps.
-use Rattle.std.specs.Prelude.{ℕ, ◌-◌, ◌&&◌, List, cond, map, nat_eq}
-use Rattle.std.specs.List.{zip}
+-- What a resize keeps along one dimension.
+use Rattle.std.specs.Prelude.{◌≡◌, ◌↔◌, ◌-◌, ◌<◌, ℕ, IsTrue, List, min}
+use Rattle.zarrs_chunk_base.specs.Dimension.{Dimension, HasEdge}
+use Rattle.zarrs_chunk_axes.specs.Along.{Along}
+use Rattle.zarrs_chunk_plan.specs.Resize.{IsResized}
 
--- all of them, or all but the last, where its edge, or how many elements it holds, differs
-abbrev pub kept_size : (both edge next_edge count next_count : ℕ) → ℕ
-kept_size both edge next_edge count next_count = cond (nat_eq edge next_edge && nat_eq count next_count) both (both - 1)
+-- the chunk holds an element of the array
+abbrev pub HoldsSome : Dimension → ℕ → Type 0
+HoldsSome d c = IsTrue (d.has_chunk c) × (d.start c < d.end c) × (d.start c < d.array_size)
 
--- and so along each dimension
-abbrev pub kept_sizes : (both edges next_edges counts next_counts : List ℕ) → List ℕ
-kept_sizes both edges next_edges counts next_counts =
-    map (λ p. kept_size p.0 p.1.0.0 p.1.0.1 p.1.1.0 p.1.1.1) (zip both (zip (zip edges next_edges) (zip counts next_counts)))
+-- the chunk holds elements of both arrays, begins and ends where it did, and so do the elements that it holds
+pub record KeptAlong (before after : Dimension) (c : ℕ) : Type 0 where
+  pub some : HoldsSome before c
+  pub some_after : HoldsSome after c
+  pub start : before.start c ≡ after.start c
+  pub end : before.end c ≡ after.end c
+  pub last : min (before.end c) before.array_size ≡ min (after.end c) after.array_size
+
+-- the chunk is as long as the first number says, and holds as many elements of the array as the second one
+pub record HasExtent (d : Dimension) (c : ℕ) (extent : ℕ × ℕ) : Type 0 where
+  pub edge : HasEdge d c extent.0
+  pub held : min (d.end c) d.array_size - d.start c ≡ extent.1
+
+-- and so along the dimension of this number
+abbrev pub HasExtentAlong : List Dimension → (dimension c : ℕ) → ℕ × ℕ → Type 0
+HasExtentAlong ds dimension c extent = Along (λ d. HasExtent d c extent) ds dimension
+
+-- if so many chunks hold elements of both arrays, so many of them are kept
+abbrev pub Keeps : (both kept : ℕ) → Dimension → Dimension → Type 0
+Keeps both kept before after =
+    IsResized before after → ((c : ℕ) → c < both → HoldsSome before c × HoldsSome after c)
+    → (c : ℕ) → c < kept ↔ ((c < both) × KeptAlong before after c)
+
+-- and so along the dimension of this number
+abbrev pub KeepsAlong : (before after : List Dimension) → (dimension both kept : ℕ) → Type 0
+KeepsAlong before after dimension both kept = Along (λ d. Along (Keeps both kept d) after dimension) before dimension

@@ -3,7 +3,8 @@ use Rattle.std.proofs.lemmas.Bool.{ne_eqb, true≢false}
 use Rattle.std.proofs.Common.{sym, ◌∙◌}
 use Rattle.std.proofs.lemmas.Iterator.{YieldsList-from_slice, YieldsList-from_zip, cases_from_all}
 use Rattle.zarrs_chunk_parts.proofs.Wholes.{tells_all}
-use Rattle.zarrs_chunk_plan.proofs.ChunksChanged.{all_below, below_long}
+use Rattle.zarrs_chunks.proofs.ChunksInBoxes.{length_below}
+use Rattle.zarrs_chunk_plan.proofs.ChunksChanged.{all_below}
 use Rattle.zarrs_chunk_plan.proofs.chunk_changes.are_below.Goals as goal
 
 pub returns-then-numbers-sizes : goal.returns-then-numbers-sizes
@@ -21,5 +22,5 @@ pub returns-else-numbers-sizes : goal.returns-else-numbers-sizes
 returns-else-numbers-sizes c =
     let differ = ne_eqb (length c.args.numbers.now) (length c.args.sizes.now) c.if-numbers-sizes.false in (
       λ t. absurd (true≢false (sym t ∙ differ)),
-      λ below. absurd (c.if-numbers-sizes.false (below_long c.args.sizes.now c.args.numbers.now below)),
+      λ below. absurd (c.if-numbers-sizes.false (length_below c.args.sizes.now c.args.numbers.now below)),
     )

@@ -1,28 +1,18 @@
-use Rattle.std.proofs.Common.{sym}
-use Rattle.zarrs_chunk_plan.proofs.Kept.{lesser_second}
 use Rattle.zarrs_chunk_plan.proofs.OutsideBoxes.{told_of, told_once}
 use Rattle.zarrs_chunk_plan.proofs.resize.boxes_of_changes.Goals as goal
-
-pub outside-requires : goal.outside-requires
-outside-requires c =
-    let uses = c.args.uses.now in
-    let both = rw (c.deref.ensures.value, c.deref-2.ensures.value) at c.in_ok-both.ensures in
-    rw (c.deref-3.ensures.value, c.deref-4.ensures.value, both) (lesser_second uses.before.items uses.after.items (sym c.requires.lengths))
 
 pub returns-clause-those : goal.returns-clause-those
 returns-clause-those c = λ chunk.
     let uses = c.args.uses.now in
-    let both = rw (c.deref.ensures.value, c.deref-2.ensures.value) at c.in_ok-both.ensures in
-    let added = rw (c.deref-3.ensures.value, c.deref-4.ensures.value, both) at c.in_ok-added.ensures.those in
+    let added = rw (c.deref.ensures.value, c.deref-2.ensures.value) at c.in_ok-added.ensures.those in
     rw c.in_ok-append.ensures.items
-    (told_of c.args.keeps uses.before.items uses.after.items uses.kept.items (sym c.requires.lengths) c.in_ok-boxes.boxes.items
-    c.in_ok-added.added.items c.in_ok-boxes.ensures.those added chunk)
+    (told_of c.args.keeps uses.before.items uses.after.items uses.kept.items c.in_ok-boxes.boxes.items c.in_ok-added.added.items
+    c.in_ok-boxes.ensures.those added chunk)
 
 pub returns-clause-once : goal.returns-clause-once
 returns-clause-once c =
     let uses = c.args.uses.now in
-    let both = rw (c.deref.ensures.value, c.deref-2.ensures.value) at c.in_ok-both.ensures in
-    let added = rw (c.deref-3.ensures.value, c.deref-4.ensures.value, both) at c.in_ok-added.ensures.those in
+    let added = rw (c.deref.ensures.value, c.deref-2.ensures.value) at c.in_ok-added.ensures.those in
     rw c.in_ok-append.ensures.items
-    (told_once c.args.keeps uses.before.items uses.after.items uses.kept.items (sym c.requires.lengths) c.in_ok-boxes.boxes.items
-    c.in_ok-added.added.items c.in_ok-boxes.ensures.those added c.in_ok-boxes.ensures.once c.in_ok-added.ensures.once)
+    (told_once c.args.keeps uses.before.items uses.after.items uses.kept.items c.in_ok-boxes.boxes.items c.in_ok-added.added.items
+    c.in_ok-boxes.ensures.those added c.in_ok-boxes.ensures.once c.in_ok-added.ensures.once)

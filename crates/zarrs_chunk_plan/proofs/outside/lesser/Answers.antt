@@ -2,7 +2,7 @@ use Rattle.std.proofs.Common.{rules, zip, ◌≡◌, map, min, tests}
 use Rattle.std.proofs.lemmas.Iterator.{YieldsList-from_map, YieldsList-from_slice, YieldsList-from_zip}
 use Rattle.std.proofs.lemmas.Iterator.Adapters.{items_from_extend}
 use Rattle.std.proofs.lemmas.Iterator.Consumers.{YieldsList-at}
-use Rattle.zarrs_chunk_plan.proofs.used.lesser.Goals as goal
+use Rattle.zarrs_chunk_plan.proofs.outside.lesser.Goals as goal
 
 pub returns : goal.returns
 returns c =
