@@ -6,11 +6,11 @@ use Rattle.std.specs.List.{AllByRecursion}
 use Rattle.zarrs_chunk_base.specs.Dimension.{Dimension, Holds, InBox, InEach, IsChain, IsShape, array_sizes}
 use Rattle.zarrs_chunk_axes.specs.Along.{IsRangeAlong}
 use Rattle.zarrs_chunk_axes.specs.InBounds.{AreBelow}
-use Rattle.zarrs_chunks.specs.Walks.{lengths_at}
 use Rattle.zarrs_chunk_plan.specs.Resize.{AreResized, HasElementOf, IsKept, IsResized, IsUsed}
 use Rattle.zarrs_chunk_plan.specs.seen.Used.{HasExtent, HasExtentAlong, HoldsSome, KeepsAlong, KeptAlong}
 use Rattle.zarrs_chunk_plan.proofs.HeldBoxes.{AllHoldSome, meets_hold}
 use Rattle.zarrs_chunk_plan.proofs.Rechunkings.{in_array}
+use Rattle.zarrs_chunk_plan.proofs.SomePlan.{has_shape}
 
 -- ---- one dimension
 
@@ -215,21 +215,11 @@ pub kept_used : (ds es : List Dimension) (chunk : List ℕ) → IsKept ds es chu
 kept_used ds es chunk kept =
     let (index, box, inside) = kept.used in is_used es chunk index ((kept.elements index).0 (box, (in_array ds index).1 inside))
 
--- how long a chunk is in each dimension
-is_shape_at : (ds : List Dimension) (chunk index : List ℕ) → InBox ds chunk index → IsShape ds chunk (lengths_at ds chunk)
-is_shape_at [] [] [] box = tt
-is_shape_at (d ∷ ds) (c ∷ chunk) (i ∷ index) box =
-    let from = box.0.from in
-    let below = box.0.below in
-    (record { chunk = box.0.chunk; edge = omega arith }, is_shape_at ds chunk index box.1)
-is_shape_at _ _ _ box = absurd box
-
 pub kept_is_all : (ds es : List Dimension) (chunk : List ℕ) → IsKept ds es chunk → AllKept ds chunk es
 kept_is_all ds es chunk kept =
     let (index, box, inside) = kept.used in
-    let shape = is_shape_at ds chunk index box in
-    each_kept ds chunk index (lengths_at ds chunk) es box ((in_array ds index).1 inside) kept.elements shape
-    ((kept.shape (lengths_at ds chunk)).0 shape)
+    let (edges, shape) = has_shape ds chunk index box in
+    each_kept ds chunk index edges es box ((in_array ds index).1 inside) kept.elements shape ((kept.shape edges).0 shape)
 
 -- ---- what is computed
 

@@ -1,20 +1,23 @@
 -- What holds of each plan of a resize.
-use Rattle.std.proofs.Common.{◌≡◌, ◌≢◌, ◌↔◌, ◌⊎◌, ◌∙◌, ℕ, ◌≤◌, Bool, false, List, [], ◌∷◌, Contains, length, refl, inl, inr, subst, sym, ⊎_elim}
+use Rattle.std.proofs.Common.{◌≡◌, ◌≢◌, ◌↔◌, ◌⊎◌, ◌∙◌, ℕ, Bool, false, List, [], ◌∷◌, Contains, length, refl, inl, inr, subst, sym, ⊎_elim}
 use Rattle.std.proofs.Common.{arith}
 use Rattle.std.specs.List.{AllByRecursion, AllPairs}
 use Rattle.zarrs_chunk_base.specs.Dimension.{Dimension, Holds, InBox, InEach, IsChain, IsPlace, array_sizes}
-use Rattle.zarrs_chunk_base.specs.Greatest.{AllFit, greatest}
+use Rattle.zarrs_chunk_base.specs.Greatest.{AllFit}
 use Rattle.zarrs_chunk_base.proofs.InEach.{by_dimension, length_numbers}
 use Rattle.zarrs_chunk_axes.specs.InBounds.{AreBelow}
-use Rattle.zarrs_chunks.proofs.Chains.{at_most_start}
+use Rattle.zarrs_chunks.proofs.ChunksInBoxes.{inside_fits}
+use Rattle.zarrs_chunk_plan.specs.Rechunking.{array_box}
 use Rattle.zarrs_chunk_plan.specs.Resize.{AreResized, HasElementOf, IsAsked, IsChange, IsChanged, IsKept, IsResizePlan, IsUsed}
 use Rattle.zarrs_chunk_plan.specs.declared.resize.Change.{Change}
 use Rattle.zarrs_chunk_plan.specs.declared.resize.Change.TheVariants.{Delete, Keep, New, Rewrite}
 use Rattle.zarrs_chunk_plan.specs.declared.resize.ChunkChange.{ChunkChange}
 use Rattle.zarrs_chunk_plan.specs.seen.Used.{KeptAlong}
 use Rattle.zarrs_chunk_plan.proofs.Kept.{is_used, kept_is_all, kept_used, same_start}
-use Rattle.zarrs_chunk_plan.proofs.HeldBoxes.{AllHoldSome, hold_some, meets_hold}
+use Rattle.zarrs_chunk_plan.proofs.HeldBoxes.{AllHoldSome, hold_some}
 use Rattle.zarrs_chunk_plan.proofs.Plans.{pair_of, pairs_of, source_of}
+use Rattle.zarrs_chunk_plan.proofs.SomePlan.{chunk_fits}
+use Rattle.zarrs_chunk_plan.proofs.SomeResizes.{array_is_box}
 
 -- ---- a chunk that begins where it did
 
@@ -66,21 +69,10 @@ stays _ _ resized _ _ below also = (λ h. absurd assumption, λ h. absurd assump
 module _ (ds es : List Dimension) (chunk : List ℕ) where
   pub one_what : (what other : Change) → IsChanged ds es chunk what → IsChanged ds es chunk other → what ≡ other
   one_what Keep Keep is also = refl
-  one_what Keep Rewrite is (_, _, not) = absurd (not is)
-  one_what Keep Delete is (_, unused) = absurd (unused (kept_used ds es chunk is))
-  one_what Keep New is (_, unused) = absurd (unused is.used)
-  one_what Rewrite Keep (_, _, not) also = absurd (not also)
   one_what Rewrite Rewrite is also = refl
-  one_what Rewrite Delete (_, used, _) (_, unused) = absurd (unused used)
-  one_what Rewrite New (used, _, _) (_, unused) = absurd (unused used)
-  one_what Delete Keep (_, unused) also = absurd (unused (kept_used ds es chunk also))
-  one_what Delete Rewrite (_, unused) (_, used, _) = absurd (unused used)
   one_what Delete Delete is also = refl
-  one_what Delete New (used, _) (_, unused) = absurd (unused used)
-  one_what New Keep (_, unused) also = absurd (unused also.used)
-  one_what New Rewrite (_, unused) (used, _, _) = absurd (unused used)
-  one_what New Delete (_, unused) (used, _) = absurd (unused used)
   one_what New New is also = refl
+  one_what _ _ is also = absurd (grind (arith, kept_used ds es chunk))
 
   module _ (index : List ℕ) where
     pub in_both : HasElementOf ds chunk index → HasElementOf es chunk index → (what : Change) → IsChanged ds es chunk what
@@ -118,14 +110,9 @@ asked_of_coming ds es chunk index has none =
 -- ---- the plan
 
 -- the numbers of a chunk that holds elements of an array fit, as those of its elements do
-used_fits : (ds : List Dimension) (chunk : List ℕ) → AllByRecursion IsChain ds → AllFit (array_sizes ds) → AllHoldSome ds chunk → AllFit chunk
-used_fits [] [] chains fit some = tt
-used_fits (d ∷ ds) (c ∷ chunk) chains fit some =
-    let (has, any, less) = some.0 in
-    let small : d.array_size ≤ greatest = fit.0 in
-    let first = at_most_start d chains.0 c has in
-    (omega arith, used_fits ds chunk chains.1 fit.1 some.1)
-used_fits _ _ chains fit some = absurd some
+used_fits : (ds : List Dimension) (chunk : List ℕ) → AllByRecursion IsChain ds → AllFit (array_sizes ds) → IsUsed ds chunk → AllFit chunk
+used_fits ds chunk chains fit (index, box, inside) =
+    chunk_fits ds chains chunk index box (inside_fits (array_box ds).start (array_sizes ds) index (array_is_box ds fit).fits inside)
 
 used_long : (ds : List Dimension) (chunk : List ℕ) → IsUsed ds chunk → length chunk ≡ length ds
 used_long ds chunk (index, box, inside) = length_numbers Holds ds chunk index box
@@ -155,6 +142,6 @@ module _ (ds es : List Dimension) (IsKey : List ℕ → List ℕ → Type 0) (ke
       told : (chunk : List ℕ) → Contains plan.chunks chunk → AllFit chunk × (length chunk ≡ length ds)
       told chunk among =
           ⊎_elim
-          (λ used. (used_fits ds chunk chains fit (meets_hold ds chunk used), used_long ds chunk used))
-          (λ used. (used_fits es chunk also also_fit (meets_hold es chunk used), used_long es chunk used ∙ sym same))
+          (λ used. (used_fits ds chunk chains fit used, used_long ds chunk used))
+          (λ used. (used_fits es chunk also also_fit used, used_long es chunk used ∙ sym same))
           ((plan.are_chunks.are_those chunk).0 among).used

@@ -23,7 +23,7 @@ use Rattle.zarrs_chunk_parts.proofs.Wholes.{test_rest}
 
 -- ---- one chunk
 
-has_shape : (ds : List Dimension) (chunk index : List ℕ) → InBox ds chunk index → (edges : List ℕ) × IsShape ds chunk edges
+pub has_shape : (ds : List Dimension) (chunk index : List ℕ) → InBox ds chunk index → (edges : List ℕ) × IsShape ds chunk edges
 has_shape =
     by_dimension Holds (λ ds chunk index. (edges : List ℕ) × IsShape ds chunk edges) ([], tt)
     (λ d c i ds chunk index here rest.
@@ -33,7 +33,7 @@ has_shape =
     ((d.end c - d.start c) ∷ edges, (record { chunk = here.chunk; edge = omega arith }, are)))
 
 -- a chunk that holds an index of 64-bit numbers has such numbers
-chunk_fits : (ds : List Dimension) → AllByRecursion IsChain ds → (chunk index : List ℕ) → InBox ds chunk index → AllFit index → AllFit chunk
+pub chunk_fits : (ds : List Dimension) → AllByRecursion IsChain ds → (chunk index : List ℕ) → InBox ds chunk index → AllFit index → AllFit chunk
 chunk_fits ds chains chunk index = chunks_small (λ n. n ≤ greatest) (λ m n low fits. omega arith) ds chunk index chains
 
 -- ---- the cover of a box of elements of the array
@@ -75,6 +75,14 @@ has_cover ds chains b is_box some within =
 
 -- ---- the parts
 
+pub each_has : {X Y : Type 0} (P : X → Type 0) (R : X → Y → Type 0) → ((x : X) → P x → (y : Y) × R x y) → (xs : List X) → AllByRecursion P xs
+    → (ys : List Y) × AllZip R xs ys
+each_has P R has [] all = ([], tt)
+each_has P R has (x ∷ xs) all =
+    let (y, is) = has x all.0 in
+    let (ys, are) = each_has P R has xs all.1 in
+    (y ∷ ys, (is, are))
+
 module _ (ds : List Dimension) (IsKey : List ℕ → List ℕ → Type 0) (chains : AllByRecursion IsChain ds) (keys : HasKeys IsKey) where
   pub has_part : (b : Box) → IsBox b → (chunk : List ℕ) → Meets ds b chunk → (part : Part) × IsPart ds IsKey b chunk part
   has_part b is_box chunk meets =
@@ -105,11 +113,7 @@ module _ (ds : List Dimension) (IsKey : List ℕ → List ℕ → Type 0) (chain
 
   pub have_parts : (b : Box) → IsBox b → (chunks : List (List ℕ)) → AllByRecursion (Meets ds b) chunks
       → (parts : List Part) × AllZip (IsPart ds IsKey b) chunks parts
-  have_parts b is_box [] meet = ([], tt)
-  have_parts b is_box (chunk ∷ chunks) meet =
-      let (part, is) = has_part b is_box chunk meet.0 in
-      let (parts, are) = have_parts b is_box chunks meet.1 in
-      (part ∷ parts, (is, are))
+  have_parts b is_box = each_has (Meets ds b) (IsPart ds IsKey b) (has_part b is_box)
 
   -- over a cover there is a plan
   pub plan_over : (b cover : Box) → IsBox b → (¬ IsEmptyBox b) → IsCover ds b cover → (parts : List Part) × IsPlan ds IsKey b parts

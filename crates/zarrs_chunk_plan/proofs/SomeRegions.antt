@@ -17,7 +17,7 @@ use Rattle.zarrs_chunk_plan.specs.seen.Parts.{HasKeys}
 use Rattle.zarrs_chunk_plan.proofs.MovedBoxes.{whole_within}
 use Rattle.zarrs_chunk_plan.proofs.Plans.{all_of_each, not_empty, place_below}
 use Rattle.zarrs_chunk_plan.proofs.Regions.{read_is_box}
-use Rattle.zarrs_chunk_plan.proofs.SomePlan.{has_part, has_plan}
+use Rattle.zarrs_chunk_plan.proofs.SomePlan.{each_has, has_part, has_plan}
 use Rattle.zarrs_chunk_plan.proofs.Written.{last_within}
 
 -- an index in a box of a region that lies in the array is one of the array
@@ -56,11 +56,7 @@ module _ (source : List Dimension) (IsSourceKey : List ℕ → List ℕ → Type
 
   pub have_moves : (chunks : List (List ℕ)) → AllByRecursion (Meets target (moved at region)) chunks
       → (groups : List Group) × AllZip (AreMovedInto source IsSourceKey target IsTargetKey region at) chunks groups
-  have_moves [] meet = ([], tt)
-  have_moves (chunk ∷ chunks) meet =
-      let (group, into) = has_move chunk meet.0 in
-      let (groups, are) = have_moves chunks meet.1 in
-      (group ∷ groups, (into, are))
+  have_moves = each_has (Meets target (moved at region)) (AreMovedInto source IsSourceKey target IsTargetKey region at) has_move
 
   -- so where the moved box has a cover, the region has a copy
   pub have_region : (cover : Box) → (¬ IsEmptyBox region) → IsCover target (moved at region) cover

@@ -1,14 +1,15 @@
 -- Where each chunk has a key, each chunk that one of a resize's arrays uses has a change; and the changes that came of a walk, one for each chunk that
 -- came, are at the end all that were to come.
-use Rattle.std.proofs.Common.{◌≡◌, ◌⊎◌, ◌∙◌, ℕ, ◌≤◌, List, [], ◌∷◌, ◌++◌, Option, Some, None, Ok, length, replicate, ap, refl, subst, sym}
-use Rattle.std.proofs.Common.{append-nil, append_assoc, map, Bool, Result, ⊎_elim, arith}
+use Rattle.std.proofs.Common.{◌≡◌, ◌↔◌, ◌⊎◌, ◌∙◌, ℕ, ◌≤◌, List, [], ◌∷◌, ◌++◌, Option, Some, None, Ok, length, replicate, ap, refl, subst, sym}
+use Rattle.std.proofs.Common.{append-nil, map, Bool, Result, ⊎_elim, arith}
 use Rattle.std.specs.declared.alloc.AllocError.{AllocError}
 use Rattle.std.proofs.lemmas.List.{length-map, length-replicate}
-use Rattle.std.specs.Iterator.{Drains, Yields}
+use Rattle.std.specs.Iterator.{Drains}
 use Rattle.std.specs.List.{AllByRecursion, AllZip}
 use Rattle.zarrs_chunk_base.specs.ArraySubset.{IsBox, ends}
 use Rattle.zarrs_chunk_base.specs.Dimension.{Dimension, IsChain, array_sizes}
 use Rattle.zarrs_chunk_base.specs.Greatest.{AllFit, greatest}
+use Rattle.zarrs_chunk_axes.specs.InBounds.{AreBelow}
 use Rattle.zarrs_chunk_plan.specs.Rechunking.{array_box}
 use Rattle.zarrs_chunk_plan.specs.Resize.{AreChanged, IsChange, IsChanged, IsHeld, IsUsed, MayHold}
 use Rattle.zarrs_chunk_plan.specs.declared.chunk_changes.Changes.{Changes}
@@ -22,8 +23,8 @@ use Rattle.zarrs_chunk_plan.proofs.AskedChunks.{below_or_not}
 use Rattle.zarrs_chunk_plan.proofs.Plans.{all_of_each}
 use Rattle.zarrs_chunk_plan.proofs.Rechunkings.{in_array}
 use Rattle.zarrs_chunk_plan.proofs.ShareLists.{both_zipped}
-use Rattle.zarrs_chunk_plan.proofs.SomePlan.{has_part}
-use Rattle.zarrs_chunk_plan.proofs.Walked.{one_came}
+use Rattle.zarrs_chunk_plan.proofs.SomePlan.{each_has, has_part}
+use Rattle.zarrs_chunk_plan.proofs.Walked.{all_given, one_came}
 
 -- ---- what one chunk holds
 
@@ -35,7 +36,7 @@ from_zero : (shape : List ℕ) (n : ℕ) → length shape ≡ n → AllFit shape
 from_zero shape n same fit =
     rw (← same) (record { lengths = length-replicate (length shape) 0; fits = ends_fit shape fit })
 
-array_is_box : (ds : List Dimension) → AllFit (array_sizes ds) → IsBox (array_box ds)
+pub array_is_box : (ds : List Dimension) → AllFit (array_sizes ds) → IsBox (array_box ds)
 array_is_box ds fit = from_zero (array_sizes ds) (length ds) (length-map ds (λ d. d.array_size)) fit
 
 -- a chunk that is used holds something, and has a key
@@ -54,6 +55,12 @@ has_held IsKey keys ds chains fit chunk used =
       },
       (part.key, is.key),
     )
+
+may_hold : (ds : List Dimension) (chunk used : List ℕ) → AreBelow used chunk ↔ IsUsed ds chunk → (IsUsed ds chunk → (held : Held) × IsHeld ds chunk held)
+    → (held : Option Held) × MayHold ds chunk held
+may_hold ds chunk used named holds =
+    ⊎_elim (λ below. let (held, is) = holds (named.0 below) in (Some held, (named.0 below, is))) (λ none. (None, λ is_used. none (named.1 is_used)))
+    (below_or_not used chunk)
 
 -- ---- what becomes of one chunk
 
@@ -75,48 +82,29 @@ module _ {G H E : Type 0} (dimensions_before : G → List Dimension) (dimensions
 
   module _ (chains : AllByRecursion IsChain Before) (also_chains : AllByRecursion IsChain After) (fit : AllFit (array_sizes Before))
       (also_fit : AllFit (array_sizes After)) (keys : HasKeys (is_key walk.encoding.now)) (can : CanChange dimensions_before dimensions_after walk) where
-    change_of : (chunk key : List ℕ) → is_key walk.encoding.now chunk key → (before after : Option Held) (what : Change) → MayHold Before chunk before
-        → MayHold After chunk after → IsChanged Before After chunk what → (change : ChunkChange) × IsChangeOf chunk change
-    change_of chunk key is before after what held holds changed = (
-      record { key = key; chunk = record { items = chunk; capacity = 0 }; before = before; after = after; what = what },
-      record { numbers = refl; key = is; held = held; holds = holds; what = changed },
-    )
-
-    by_both : (chunk : List ℕ) → IsUsed Before chunk → IsUsed After chunk → (change : ChunkChange) × IsChangeOf chunk change
-    by_both chunk used also =
-        let (held, is_held, (key, is)) = has_held (is_key walk.encoding.now) keys Before chains fit chunk used in
-        let (holds, is_holds, _) = has_held (is_key walk.encoding.now) keys After also_chains also_fit chunk also in
-        let change = λ (what : Change). change_of chunk key is (Some held) (Some holds) what (used, is_held) (also, is_holds) in
-        ⊎_elim (λ below. change Keep ((can.kept chunk).0 below)) (λ above. change Rewrite (used, also, λ kept. above ((can.kept chunk).1 kept)))
+    becomes : (chunk : List ℕ) (before after : Option Held) → MayHold Before chunk before → MayHold After chunk after → IsUsedByOne chunk
+        → (what : Change) × IsChanged Before After chunk what
+    becomes chunk (Some _) (Some _) held holds used =
+        ⊎_elim (λ below. (Keep, (can.kept chunk).0 below)) (λ above. (Rewrite, (held.0, holds.0, λ kept. above ((can.kept chunk).1 kept))))
         (below_or_not walk.uses.kept.items chunk)
-
-    by_first : (chunk : List ℕ) → IsUsed Before chunk → (¬ IsUsed After chunk) → (change : ChunkChange) × IsChangeOf chunk change
-    by_first chunk used unused =
-        let (held, is_held, (key, is)) = has_held (is_key walk.encoding.now) keys Before chains fit chunk used in
-        change_of chunk key is (Some held) None Delete (used, is_held) unused (used, unused)
-
-    by_second : (chunk : List ℕ) → IsUsed After chunk → (¬ IsUsed Before chunk) → (change : ChunkChange) × IsChangeOf chunk change
-    by_second chunk used unused =
-        let (holds, is_holds, (key, is)) = has_held (is_key walk.encoding.now) keys After also_chains also_fit chunk used in
-        change_of chunk key is None (Some holds) New unused (used, is_holds) (used, unused)
+    becomes chunk (Some _) None held holds used = (Delete, (held.0, holds))
+    becomes chunk None (Some _) held holds used = (New, (holds.0, held))
+    becomes chunk None None held holds used = absurd (⊎_elim held holds used)
 
     has_change : (chunk : List ℕ) → IsUsedByOne chunk → (change : ChunkChange) × IsChangeOf chunk change
     has_change chunk used =
-        ⊎_elim
-        (λ below. let first = (can.used_before chunk).0 below in
-        ⊎_elim (λ also. by_both chunk first ((can.used_after chunk).0 also))
-        (λ none. by_first chunk first (λ second. none ((can.used_after chunk).1 second)))
-        (below_or_not walk.uses.after.items chunk))
-        (λ none. let unused : ¬ IsUsed Before chunk = λ first. none ((can.used_before chunk).1 first) in
-        ⊎_elim (λ first. absurd (unused first)) (λ second. by_second chunk second unused) used)
-        (below_or_not walk.uses.before.items chunk)
+        let first = has_held (is_key walk.encoding.now) keys Before chains fit chunk in
+        let second = has_held (is_key walk.encoding.now) keys After also_chains also_fit chunk in
+        let (key, is) = ⊎_elim (λ is_used. (first is_used).2) (λ is_used. (second is_used).2) used in
+        let (before, held) = may_hold Before chunk walk.uses.before.items (can.used_before chunk) (λ is_used. ((first is_used).0, (first is_used).1)) in
+        let (after, holds) = may_hold After chunk walk.uses.after.items (can.used_after chunk) (λ is_used. ((second is_used).0, (second is_used).1)) in
+        let (what, changed) = becomes chunk before after held holds used in (
+          record { key = key; chunk = record { items = chunk; capacity = 0 }; before = before; after = after; what = what },
+          record { numbers = refl; key = is; held = held; holds = holds; what = changed },
+        )
 
     pub have_changes : (chunks : List (List ℕ)) → AllByRecursion IsUsedByOne chunks → (changes : List ChunkChange) × AllZip IsChangeOf chunks changes
-    have_changes [] used = ([], tt)
-    have_changes (chunk ∷ chunks) used =
-        let (change, is) = has_change chunk used.0 in
-        let (changes, are) = have_changes chunks used.1 in
-        (change ∷ changes, (is, are))
+    have_changes = each_has IsUsedByOne IsChangeOf has_change
 
 -- ---- the changes that came of a walk
 
@@ -159,20 +147,10 @@ module _ {G H E : Type 0} (dimensions_before : G → List Dimension) (dimensions
   last_change before after changes (came, left, are, about, can) gives =
       subst (λ chunks. AllZip IsOne chunks changes) (sym (left ∙ ap (λ xs. came ++ xs) gives.gives.0 ∙ append-nil came)) are
 
-  -- what came and what is given from there up to the end are the changes to come
-  up_to_end : (now last end : Changes G H E) (came given : List ChunkChange) → ChangesHaveCome now came
-      → Yields Gives now (map Ok given) last → Gives last None end → AreChangesToCome (came ++ given)
-  up_to_end now last end came [] have same stops =
-      subst AreChangesToCome (sym (append-nil came)) (last_change now end came have (subst (λ walk. Gives walk None end) (sym same) stops))
-  up_to_end now last end came (change ∷ given) have (after, gives, rest) stops =
-      let more = came ++ change ∷ [] in
-      subst AreChangesToCome (append_assoc came (change ∷ []) given)
-      (up_to_end after last end more given (one_more_change now after change came more have gives refl) rest stops)
-
   -- so what a walk gives up to its end are the changes to come
   pub all_changes_to_come : (given : List ChunkChange) → CanChange dimensions_before dimensions_after begin → Drains Gives begin (map Ok given)
       → AreChangesToCome given
-  all_changes_to_come given can (end, (last, yields, stops)) = up_to_end begin last end [] given (first_change begin [] refl refl can) yields stops
+  all_changes_to_come given can = all_given Gives ChangesHaveCome AreChangesToCome one_more_change last_change begin given (first_change begin [] refl refl can)
 
   -- what came and what would still come are all that were to come
   pub changes_ahead : AllByRecursion IsChain (dimensions_before begin.before.now) → AllByRecursion IsChain (dimensions_after begin.after.now)

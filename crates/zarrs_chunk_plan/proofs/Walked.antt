@@ -1,5 +1,6 @@
 -- The parts that came of a walk, one for each chunk that came; at the end they are a plan.
-use Rattle.std.proofs.Common.{◌≡◌, ◌∙◌, ℕ, List, [], ◌∷◌, ◌++◌, Some, None, Ok, map, append_assoc, append-nil, ap, refl, subst, sym}
+use Rattle.std.proofs.Common.{◌≡◌, ◌∙◌, ℕ, List, [], ◌∷◌, ◌++◌, Option, Some, None, Result, Ok, map, append_assoc, append-nil, ap, refl, subst, sym}
+use Rattle.std.specs.declared.alloc.AllocError.{AllocError}
 use Rattle.std.proofs.lemmas.Slice.Zip.{all_zipped_more}
 use Rattle.std.specs.Iterator.{Drains, Yields}
 use Rattle.std.specs.List.{AllZip}
@@ -21,6 +22,22 @@ one_came R all came before after x y ys more left gives are is longer = (
   left ∙ ap (λ xs. came ++ xs) gives ∙ sym (append_assoc came (x ∷ []) after),
   rw longer (all_zipped_more R came ys x y are is),
 )
+
+-- what a walk gives up to its end is all, where what came is known of each walk, and at the end is all
+module _ {W Y : Type 0} (Gives : W → Option (Result Y AllocError) → W → Type 0) (HaveCome : W → List Y → Type 0) (AreAll : List Y → Type 0)
+    (one_more : (before after : W) (y : Y) (ys more : List Y) → HaveCome before ys → Gives before (Some (Ok y)) after → more ≡ ys ++ y ∷ []
+    → HaveCome after more)
+    (at_last : (before after : W) (ys : List Y) → HaveCome before ys → Gives before None after → AreAll ys) where
+  up_to_end : (now last end : W) (came given : List Y) → HaveCome now came → Yields Gives now (map Ok given) last → Gives last None end
+      → AreAll (came ++ given)
+  up_to_end now last end came [] have same stops =
+      subst AreAll (sym (append-nil came)) (at_last now end came have (subst (λ walk. Gives walk None end) (sym same) stops))
+  up_to_end now last end came (y ∷ given) have (after, gives, rest) stops =
+      let more = came ++ y ∷ [] in
+      subst AreAll (append_assoc came (y ∷ []) given) (up_to_end after last end more given (one_more now after y came more have gives refl) rest stops)
+
+  pub all_given : (begin : W) (given : List Y) → HaveCome begin [] → Drains Gives begin (map Ok given) → AreAll given
+  all_given begin given first (end, (last, yields, stops)) = up_to_end begin last end [] given first yields stops
 
 module _ {G E : Type 0} (dimensions : G → List Dimension) (is_key : E → List ℕ → List ℕ → Type 0) (begin : Parts G E) where
   abbrev pub IsPartOf : List ℕ → Part → Type 0
@@ -47,22 +64,12 @@ module _ {G E : Type 0} (dimensions : G → List Dimension) (is_key : E → List
   at_last before after parts (came, left, are, about, meet) gives =
       subst (λ chunks. AllZip IsPartOf chunks parts) (sym (left ∙ ap (λ xs. came ++ xs) gives.gives.0 ∙ append-nil came)) are
 
-  -- what came and what is given from there up to the end are the parts to come
-  up_to_end : (now last end : Parts G E) (came given : List Part) → HaveCome now came
-      → Yields (GivesPart dimensions is_key) now (map Ok given) last → GivesPart dimensions is_key last None end
-      → ArePartsToCome dimensions is_key begin (came ++ given)
-  up_to_end now last end came [] have same stops =
-      subst (ArePartsToCome dimensions is_key begin) (sym (append-nil came))
-      (at_last now end came have (subst (λ walk. GivesPart dimensions is_key walk None end) (sym same) stops))
-  up_to_end now last end came (part ∷ given) have (after, gives, rest) stops =
-      let more = came ++ part ∷ [] in
-      subst (ArePartsToCome dimensions is_key begin) (append_assoc came (part ∷ []) given)
-      (up_to_end after last end more given (one_more now after part came more have gives refl) rest stops)
-
   -- so what a walk gives up to its end are the parts to come
   pub all_to_come : (given : List Part) → MeetSubset dimensions begin → Drains (GivesPart dimensions is_key) begin (map Ok given)
       → ArePartsToCome dimensions is_key begin given
-  all_to_come given meet (end, (last, yields, stops)) = up_to_end begin last end [] given (at_first begin [] refl refl meet) yields stops
+  all_to_come given meet =
+      all_given (GivesPart dimensions is_key) HaveCome (ArePartsToCome dimensions is_key begin) one_more at_last begin given
+      (at_first begin [] refl refl meet)
 
 -- the parts of all chunks of the cover are a plan
 pub plan_of : {G E : Type 0} (dimensions : G → List Dimension) (is_key : E → List ℕ → List ℕ → Type 0) (grid : G) (encoding : E) (subset cover : Box)
