@@ -143,7 +143,7 @@ elements_stay (d ∷ ds) (c ∷ chunk) (e ∷ es) (i ∷ index) kept =
           let (others, small) = rest.1 (box.1, below.1) in
           ((record { chunk = kept.0.some.0; from = omega arith; below = omega arith }, others), (omega arith, small)),
     )
-elements_stay _ _ _ _ kept = (λ (box, _). absurd assumption, λ (box, _). absurd assumption)
+elements_stay _ _ _ _ kept = (λ h. absurd assumption, λ h. absurd assumption)
 
 shape_stays : (ds : List Dimension) (chunk : List ℕ) (es : List Dimension) (edges : List ℕ) → AllKept ds chunk es
     → IsShape ds chunk edges ↔ IsShape es chunk edges
