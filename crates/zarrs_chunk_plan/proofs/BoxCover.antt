@@ -66,8 +66,7 @@ first_chunks : (ds : List Dimension) (chunk : List ℕ) → AllByRecursion IsCha
 first_chunks [] [] chains box = refl
 first_chunks (d ∷ ds) (c ∷ chunk) chains box =
     ap₂ (λ x xs. x ∷ xs) (first_chunk d chains.0 c box.0) (first_chunks ds chunk chains.1 box.1)
-first_chunks [] (_ ∷ _) chains box = absurd box
-first_chunks (_ ∷ _) [] chains box = absurd box
+first_chunks _ _ chains box = absurd box
 
 pub cover_start : (ds : List Dimension) (r : LookedBox)
     → (IsEmptyBox (array_box ds) → length ds ≢ 0 → AnswersEmptyCover ds r)
@@ -89,5 +88,4 @@ below_from_zero (suc n) (size ∷ shape) (c ∷ chunk) same =
       λ below. let less : c < size = below.0 in (omega arith, omega arith, rest.0 below.1),
       λ within. let less : c < 0 + size = within.1 in (omega arith, rest.1 within.2),
     )
-below_from_zero zero (_ ∷ _) chunk same = absurd (omega arith)
-below_from_zero (suc n) [] chunk same = absurd (omega arith)
+below_from_zero _ _ chunk same = absurd (omega arith)

@@ -39,10 +39,7 @@ shape_positive (d ∷ ds) (c ∷ chunk) (s ∷ shape) chains is =
     let some : d.start c < d.end c = chain.not_empty c here.chunk in
     let long : d.start c + s ≡ d.end c = here.edge in
     (omega arith, shape_positive ds chunk shape chains.1 is.1)
-shape_positive [] [] (_ ∷ _) chains is = absurd is
-shape_positive [] (_ ∷ _) _ chains is = absurd is
-shape_positive (_ ∷ _) [] _ chains is = absurd is
-shape_positive (_ ∷ _) (_ ∷ _) [] chains is = absurd is
+shape_positive _ _ _ chains is = absurd is
 
 pub largest_positive : (ds : List Dimension) (shape : List ℕ) → AllByRecursion IsChain ds → IsLargest ds shape → AllByRecursion (λ e. 0 < e) shape
 largest_positive ds shape chains is =
@@ -110,8 +107,7 @@ contained f (y ∷ xs) n (suc k, within, is) =
 shape_of : (rows : List (List Edge)) (choice : List Edge) → IsChoice rows choice → IsTried (map (map edge_of) rows) (map edge_of choice)
 shape_of [] [] is = tt
 shape_of (row ∷ rows) (e ∷ choice) is = (contains_map edge_of row e is.0, shape_of rows choice is.1)
-shape_of [] (_ ∷ _) is = absurd is
-shape_of (_ ∷ _) [] is = absurd is
+shape_of _ _ is = absurd is
 
 choice_of : (rows : List (List Edge)) (shape : List ℕ) → IsTried (map (map edge_of) rows) shape
     → (choice : List Edge) × IsChoice rows choice × (map edge_of choice ≡ shape)
@@ -120,8 +116,7 @@ choice_of (row ∷ rows) (n ∷ shape) is =
     let (e, in_row, same) = contained edge_of row n is.0 in
     let (choice, chosen, also) = choice_of rows shape is.1 in
     (e ∷ choice, (in_row, chosen), ap₂ (λ x xs. x ∷ xs) same also)
-choice_of [] (_ ∷ _) is = absurd is
-choice_of (_ ∷ _) [] is = absurd is
+choice_of _ _ is = absurd is
 
 edges_positive : (choice : List Edge) → AllByRecursion (λ e. 0 < e) (map edge_of choice)
 edges_positive [] = tt

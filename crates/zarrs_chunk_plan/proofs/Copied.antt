@@ -141,8 +141,7 @@ module _ {G E H F : Type 0} (source_dimensions : G → List Dimension) (source_k
       let is : more ≡ came ++ (group.to, from) ∷ [] = ap (λ t. came ++ (t, from) ∷ []) (sym same) in
       subst (AreMovesToCome source_dimensions source_key target_dimensions target_key begin) (append_assoc came ((to, from) ∷ []) groups)
       (up_to_last after last end more groups given (one_more_move now after group from came more have gives parts is) rest stops are)
-  up_to_last now last end came [] (_ ∷ _) have yields stops are = absurd are
-  up_to_last now last end came (_ ∷ _) [] have yields stops are = absurd are
+  up_to_last now last end came _ _ have yields stops are = absurd are
 
   -- so what a walk gives up to its end, each group with all of its parts, are the groups to come
   pub all_moves_to_come : (given : List (ChunkCopies G E)) (groups : List Group) → CanMove source_dimensions target_dimensions begin

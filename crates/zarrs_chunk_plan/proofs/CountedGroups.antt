@@ -68,8 +68,7 @@ module _ (source : List Dimension) (IsSourceKey : List ℕ → List ℕ → Type
   copies_each [] [] meet are = refl
   copies_each (chunk ∷ chunks) (group ∷ groups) meet are =
       ap₂ (λ n ns. n ∷ ns) (copies_into chunk group meet.0 are.0) (copies_each chunks groups meet.1 are.1)
-  copies_each [] (_ ∷ _) meet are = absurd are
-  copies_each (_ ∷ _) [] meet are = absurd are
+  copies_each _ _ meet are = absurd are
 
   pub each_meets : AllByRecursion (Meets target (moved at region)) (chunks_in targets)
   each_meets =

@@ -104,25 +104,20 @@ only_ones (n ∷ sizes) (suc many) (e ∷ shape) long is =
       one : Contains (1 ∷ []) e → e ≡ 1
       one (zero, within, same) = sym same
       one (suc k, within, same) = absurd (omega arith)
-only_ones [] zero (_ ∷ _) long is = absurd is
-only_ones [] (suc many) _ long is = absurd (omega arith)
-only_ones (_ ∷ _) zero _ long is = absurd (omega arith)
-only_ones (_ ∷ _) (suc many) [] long is = absurd is
+only_ones _ _ _ long is = absurd (first_of (assumption, omega arith))
 
 pub tried_long : (sizes shape other : List ℕ) → length shape ≡ length sizes → length other ≡ length sizes
     → length (all_tried sizes shape other) ≡ length sizes
 tried_long [] shape other long also = refl
 tried_long (n ∷ sizes) (e ∷ shape) (f ∷ other) long also = ap suc (tried_long sizes shape other (omega arith) (omega arith))
-tried_long (n ∷ sizes) [] other long also = absurd (omega arith)
-tried_long (n ∷ sizes) (e ∷ shape) [] long also = absurd (omega arith)
+tried_long _ _ _ long also = absurd (omega arith)
 
 pub tried_at : (sizes shape other : List ℕ) (k : ℕ) → length shape ≡ length sizes → length other ≡ length sizes → k < length sizes
     → slice_index_or (all_tried sizes shape other) k [] ≡ edges_tried (slice_index_or sizes k 0) (slice_index_or shape k 0) (slice_index_or other k 0)
 tried_at [] shape other k long also within = absurd (omega arith)
 tried_at (n ∷ sizes) (e ∷ shape) (f ∷ other) zero long also within = refl
 tried_at (n ∷ sizes) (e ∷ shape) (f ∷ other) (suc k) long also within = tried_at sizes shape other k (omega arith) (omega arith) (omega arith)
-tried_at (n ∷ sizes) [] other k long also within = absurd (omega arith)
-tried_at (n ∷ sizes) (e ∷ shape) [] k long also within = absurd (omega arith)
+tried_at _ _ _ k long also within = absurd (omega arith)
 
 -- ---- products up to the greatest number
 

@@ -59,26 +59,17 @@ pub are_chains : (ds : List Dimension) (sizes edges : List ℕ) → AreEqualEdge
     → AllByRecursion IsChain ds
 are_chains [] [] [] are some = tt
 are_chains (d ∷ ds) (n ∷ sizes) (e ∷ edges) are some = (is_chain d n e are.0 some.0, are_chains ds sizes edges are.1 some.1)
-are_chains [] [] (_ ∷ _) are some = absurd are
-are_chains [] (_ ∷ _) _ are some = absurd are
-are_chains (_ ∷ _) [] _ are some = absurd are
-are_chains (_ ∷ _) (_ ∷ _) [] are some = absurd are
+are_chains _ _ _ are some = absurd are
 
 pub sizes_are : (ds : List Dimension) (sizes edges : List ℕ) → AreEqualEdges ds sizes edges → array_sizes ds ≡ sizes
 sizes_are [] [] [] are = refl
 sizes_are (d ∷ ds) (n ∷ sizes) (e ∷ edges) are = let here = are.0 in ap₂ (λ x xs. x ∷ xs) here.array_size (sizes_are ds sizes edges are.1)
-sizes_are [] [] (_ ∷ _) are = absurd are
-sizes_are [] (_ ∷ _) _ are = absurd are
-sizes_are (_ ∷ _) [] _ are = absurd are
-sizes_are (_ ∷ _) (_ ∷ _) [] are = absurd are
+sizes_are _ _ _ are = absurd are
 
 pub edges_long : (ds : List Dimension) (sizes edges : List ℕ) → AreEqualEdges ds sizes edges → length edges ≡ length ds
 edges_long [] [] [] are = refl
 edges_long (d ∷ ds) (n ∷ sizes) (e ∷ edges) are = ap suc (edges_long ds sizes edges are.1)
-edges_long [] [] (_ ∷ _) are = absurd are
-edges_long [] (_ ∷ _) _ are = absurd are
-edges_long (_ ∷ _) [] _ are = absurd are
-edges_long (_ ∷ _) (_ ∷ _) [] are = absurd are
+edges_long _ _ _ are = absurd are
 
 all_held : (ds : List Dimension) (sizes edges chunk : List ℕ) → AreEqualEdges ds sizes edges → AreBelow (grid_sizes ds) chunk
     → (¬ Contains (array_sizes ds) 0) → (index : List ℕ) × InBox ds chunk index × AreBelow (array_sizes ds) index
@@ -93,12 +84,7 @@ all_held (d ∷ ds) (n ∷ sizes) (e ∷ edges) (c ∷ chunk) are below some =
     (i ∷ index, (held, box), (within, all)) where
       none_there : (m : ℕ) → m ≡ 0 → m ≡ 0
       none_there m is = is
-all_held [] [] [] (_ ∷ _) are below some = absurd below
-all_held [] [] (_ ∷ _) _ are below some = absurd are
-all_held [] (_ ∷ _) _ _ are below some = absurd are
-all_held (_ ∷ _) [] _ _ are below some = absurd are
-all_held (_ ∷ _) (_ ∷ _) [] _ are below some = absurd are
-all_held (_ ∷ _) (_ ∷ _) (_ ∷ _) [] are below some = absurd below
+all_held _ _ _ _ are below some = absurd (first_of (assumption, omega arith))
 
 pub counted_meet : (ds : List Dimension) (sizes edges : List ℕ) → AreEqualEdges ds sizes edges → (¬ IsEmptyBox (array_box ds))
     → (chunk : List ℕ) → IsInside (all_chunks_box ds) chunk → Meets ds (array_box ds) chunk
@@ -116,14 +102,7 @@ shape_is (d ∷ ds) (n ∷ sizes) (e ∷ edges) (c ∷ chunk) (s ∷ shape) are 
     let end : d.end c ≡ (c + 1) * e = here.end c in
     let long : d.start c + s ≡ d.end c = this.edge in
     (omega arith, shape_is ds sizes edges chunk shape are.1 is.1)
-shape_is [] [] [] [] (_ ∷ _) are is = absurd is
-shape_is [] [] [] (_ ∷ _) _ are is = absurd is
-shape_is [] [] (_ ∷ _) _ _ are is = absurd are
-shape_is [] (_ ∷ _) _ _ _ are is = absurd are
-shape_is (_ ∷ _) [] _ _ _ are is = absurd are
-shape_is (_ ∷ _) (_ ∷ _) [] _ _ are is = absurd are
-shape_is (_ ∷ _) (_ ∷ _) (_ ∷ _) [] _ are is = absurd is
-shape_is (_ ∷ _) (_ ∷ _) (_ ∷ _) (_ ∷ _) [] are is = absurd is
+shape_is _ _ _ _ _ are is = absurd (first_of (assumption, omega arith))
 
 pub none_longer : (ds : List Dimension) (sizes edges : List ℕ) → AreEqualEdges ds sizes edges → NoneIsLonger ds edges
 none_longer ds sizes edges are chunk shape meets is = shape_is ds sizes edges chunk shape are is

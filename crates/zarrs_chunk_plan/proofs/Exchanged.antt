@@ -23,9 +23,7 @@ one_origin : (ds : List Dimension) (chunk one other : List ℕ) → IsOrigin ds 
 one_origin [] [] [] [] is also = refl
 one_origin (d ∷ ds) (c ∷ chunk) (o ∷ one) (p ∷ other) is also =
     ap₂ (λ x xs. x ∷ xs) (sym is.0.start ∙ also.0.start) (one_origin ds chunk one other is.1 also.1)
-one_origin [] [] [] (_ ∷ _) is also = absurd also
-one_origin (_ ∷ _) (_ ∷ _) (_ ∷ _) [] is also = absurd also
-one_origin _ _ _ _ is also = absurd is
+one_origin _ _ _ _ is also = absurd (first_of (assumption, omega arith))
 
 -- ---- what a copy is of
 

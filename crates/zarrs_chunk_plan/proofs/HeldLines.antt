@@ -15,8 +15,7 @@ use Rattle.zarrs_chunk_plan.proofs.Rechunkings.{those_are}
 product_least : (shape edges : List ℕ) → AllZip ◌≤◌ shape edges → product shape ≤ product edges
 product_least [] [] less = omega arith
 product_least (s ∷ shape) (e ∷ edges) less = mul-le-mul less.0 (product_least shape edges less.1)
-product_least [] (_ ∷ _) less = absurd less
-product_least (_ ∷ _) [] less = absurd less
+product_least _ _ less = absurd less
 
 module _ (source : List Dimension) (IsSourceKey : List ℕ → List ℕ → Type 0) (target : List Dimension) (IsTargetKey : List ℕ → List ℕ → Type 0)
     (chains : AllByRecursion IsChain source) (one_array : array_sizes source ≡ array_sizes target) (chunks : Box) (groups : List Group)

@@ -25,8 +25,7 @@ pub edge_along : (ds : List Dimension) (chunk shape : List ℕ) (k : ℕ) → Is
 edge_along [] chunk shape k is within = absurd (omega arith)
 edge_along (d ∷ ds) (c ∷ chunk) (e ∷ shape) zero is within = is.0
 edge_along (d ∷ ds) (c ∷ chunk) (e ∷ shape) (suc k) is within = edge_along ds chunk shape k is.1 (omega arith)
-edge_along (d ∷ ds) [] _ k is within = absurd is
-edge_along (d ∷ ds) (c ∷ chunk) [] k is within = absurd is
+edge_along _ _ _ k is within = absurd is
 
 -- a chunk has one edge along a dimension
 pub one_edge : (ds : List Dimension) (k c edge other : ℕ) → HasEdgeAlong ds k c edge → HasEdgeAlong ds k c other → edge ≡ other
@@ -43,12 +42,7 @@ at_least : (ds : List Dimension) (chunk shape largest : List ℕ) → IsShape ds
 at_least [] [] [] [] is long each = tt
 at_least (d ∷ ds) (c ∷ chunk) (e ∷ shape) (l ∷ largest) is long each =
     (each 0 (omega arith), at_least ds chunk shape largest is.1 (omega arith) (λ k within. each (suc k) (omega arith)))
-at_least [] [] (_ ∷ _) largest is long each = absurd is
-at_least [] (_ ∷ _) _ largest is long each = absurd is
-at_least [] [] [] (_ ∷ _) is long each = absurd (omega arith)
-at_least (d ∷ ds) [] _ largest is long each = absurd is
-at_least (d ∷ ds) (c ∷ chunk) [] largest is long each = absurd is
-at_least (d ∷ ds) (c ∷ chunk) (e ∷ shape) [] is long each = absurd (omega arith)
+at_least _ _ _ _ is long each = absurd (first_of (assumption, omega arith))
 
 -- what holds of the numbers of a list, and of one more behind them
 pub pushed : (P : ℕ → ℕ → Type 0) (xs : List ℕ) (x n : ℕ) → length xs ≡ n → ((k : ℕ) → k < n → P k (slice_index_or xs k 0)) → P n x
@@ -67,8 +61,7 @@ pub inside_below : (n : ℕ) (shape chunk : List ℕ) (k : ℕ) → AreWithin (r
 inside_below zero shape chunk k within less = absurd (omega arith)
 inside_below (suc n) (s ∷ shape) (c ∷ chunk) zero within less = let below = within.1 in omega arith
 inside_below (suc n) (s ∷ shape) (c ∷ chunk) (suc k) within less = inside_below n shape chunk k within.2 (omega arith)
-inside_below (suc n) [] _ k within less = absurd within
-inside_below (suc n) (s ∷ shape) [] k within less = absurd within
+inside_below _ _ _ k within less = absurd within
 
 below_inside : (n : ℕ) (shape chunk : List ℕ) → length shape ≡ n → length chunk ≡ n
     → ((k : ℕ) → k < n → slice_index_or chunk k 0 < slice_index_or shape k 0) → AreWithin (replicate n 0) shape chunk
@@ -76,10 +69,7 @@ below_inside zero [] [] long also each = tt
 below_inside (suc n) (s ∷ shape) (c ∷ chunk) long also each =
     let here : c < s = each 0 (omega arith) in
     (omega arith, omega arith, below_inside n shape chunk (omega arith) (omega arith) (λ k within. each (suc k) (omega arith)))
-below_inside zero [] (_ ∷ _) long also each = absurd (omega arith)
-below_inside zero (_ ∷ _) _ long also each = absurd (omega arith)
-below_inside (suc n) [] _ long also each = absurd (omega arith)
-below_inside (suc n) (_ ∷ _) [] long also each = absurd (omega arith)
+below_inside _ _ _ long also each = absurd (omega arith)
 
 -- ---- the array
 

@@ -49,8 +49,7 @@ starts_within (d ∷ ds) (c ∷ chunk) (i ∷ index) zero box below within =
     let less : i < d.array_size = below.0 in
     (box.0.chunk, omega arith)
 starts_within (d ∷ ds) (c ∷ chunk) (i ∷ index) (suc k) box below within = starts_within ds chunk index k box.1 below.1 (omega arith)
-starts_within (d ∷ ds) [] _ k box below within = absurd box
-starts_within (d ∷ ds) (_ ∷ _) [] k box below within = absurd box
+starts_within _ _ _ k box below within = absurd box
 
 -- the last chunk along a dimension of a box from 0 on, of chunks that hold elements
 pub last_within : (ds : List Dimension) (chunks : Box) (k : ℕ) → chunks.start ≡ replicate (length ds) 0 → length chunks.shape ≡ length ds

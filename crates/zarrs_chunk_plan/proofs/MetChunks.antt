@@ -159,12 +159,7 @@ cover_sizes [] [] [] start shape chains some e f low high = refl
 cover_sizes (d ∷ ds) (c ∷ first) (k ∷ sizes) (a ∷ start) (n ∷ shape) chains some e f low high =
     ap₂ (λ x xs. x ∷ xs) (sym (count_is d chains.0 c k a n (head_some k sizes some) low.0 high.0))
     (cover_sizes ds first sizes start shape chains.1 (tail_some k sizes some) (omega arith) (omega arith) low.1 high.1)
-cover_sizes [] [] (_ ∷ _) start shape chains some e f low high = absurd (omega arith)
-cover_sizes [] (_ ∷ _) sizes start shape chains some e f low high = absurd low
-cover_sizes (_ ∷ _) [] sizes start shape chains some e f low high = absurd low
-cover_sizes (_ ∷ _) (_ ∷ _) [] start shape chains some e f low high = absurd (omega arith)
-cover_sizes (_ ∷ _) (_ ∷ _) (_ ∷ _) [] shape chains some e f low high = absurd low
-cover_sizes (_ ∷ _) (_ ∷ _) (_ ∷ _) (_ ∷ _) [] chains some e f low high = absurd (omega arith)
+cover_sizes _ _ _ _ _ chains some e f low high = absurd (first_of (assumption, omega arith))
 
 -- and those are as many as are computed, where the box is what a chunk holds of another one, counted from elsewhere
 pub shares_met : (source target : List Dimension) (first at shape chunk steps : List ℕ) → AllTakeSome target at shape chunk

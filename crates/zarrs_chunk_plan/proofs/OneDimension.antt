@@ -69,12 +69,7 @@ all_met (s ∷ source) (t ∷ target) (f ∷ from) (a ∷ at) (n ∷ shape) (c �
 all_met (s ∷ source) (t ∷ target) (f ∷ from) (a ∷ at) (n ∷ shape) (c ∷ chunk) (suc k) start edge low high chains takes e g within range ends =
     all_met source target from at shape chunk k start edge low high chains.1 takes.1 (omega arith) (omega arith) (omega arith) range
     (record { first = ends.first; last = ends.last })
-all_met _ [] _ _ _ _ k start edge low high chains takes e g within range ends = absurd (omega arith)
-all_met [] (_ ∷ _) _ _ _ _ k start edge low high chains takes e g within range ends = absurd (omega arith)
-all_met (_ ∷ _) (_ ∷ _) [] _ _ _ k start edge low high chains takes e g within range ends = absurd (omega arith)
-all_met (_ ∷ _) (_ ∷ _) (_ ∷ _) [] _ _ k start edge low high chains takes e g within range ends = absurd takes
-all_met (_ ∷ _) (_ ∷ _) (_ ∷ _) (_ ∷ _) [] _ k start edge low high chains takes e g within range ends = absurd takes
-all_met (_ ∷ _) (_ ∷ _) (_ ∷ _) (_ ∷ _) (_ ∷ _) [] k start edge low high chains takes e g within range ends = absurd takes
+all_met _ _ _ _ _ _ k start edge low high chains takes e g within range ends = absurd (first_of (assumption, omega arith))
 
 -- the chunk takes some of the range
 pub takes_along : (ds : List Dimension) (at shape chunk : List ℕ) (k start edge : ℕ) → AllTakeSome ds at shape chunk → k < length ds
@@ -87,10 +82,7 @@ takes_along (d ∷ ds) (a ∷ at) (n ∷ shape) (c ∷ chunk) zero start edge (s
     omega arith
 takes_along (d ∷ ds) (a ∷ at) (n ∷ shape) (c ∷ chunk) (suc k) start edge some within range =
     takes_along ds at shape chunk k start edge some.1 (omega arith) range
-takes_along [] _ _ _ k start edge some within range = absurd (omega arith)
-takes_along (_ ∷ _) [] _ _ k start edge some within range = absurd some
-takes_along (_ ∷ _) (_ ∷ _) [] _ k start edge some within range = absurd some
-takes_along (_ ∷ _) (_ ∷ _) (_ ∷ _) [] k start edge some within range = absurd some
+takes_along _ _ _ _ k start edge some within range = absurd (first_of (assumption, omega arith))
 
 -- ---- of a chunk of the target that takes some
 

@@ -93,9 +93,7 @@ place_from_origin [] [] [] [] is same = tt
 place_from_origin (d ∷ ds) (c ∷ chunk) (o ∷ origin) (p ∷ place) is same =
     let start = is.0.start in
     (omega arith, place_from_origin ds chunk origin place is.1 (omega arith))
-place_from_origin [] [] [] (_ ∷ _) is same = absurd (omega arith)
-place_from_origin (_ ∷ _) (_ ∷ _) (_ ∷ _) [] is same = absurd (omega arith)
-place_from_origin _ _ _ _ is same = absurd is
+place_from_origin _ _ _ _ is same = absurd (first_of (assumption, omega arith))
 
 -- a box that has something in it has as many sizes as starts
 pub within_sizes : (start shape index : List ℕ) → AreWithin start shape index → length shape ≡ length start

@@ -28,9 +28,7 @@ place_once [] [] [] [] [] is also = refl
 place_once (d ∷ ds) (c ∷ chunk) (i ∷ index) (j ∷ other) (p ∷ place) is also =
     let here : i ≡ j = sym is.0 ∙ also.0 in
     ap₂ (λ x xs. x ∷ xs) here (place_once ds chunk index other place is.1 also.1)
-place_once [] [] [] (_ ∷ _) [] is also = absurd also
-place_once (_ ∷ _) (_ ∷ _) (_ ∷ _) [] (_ ∷ _) is also = absurd also
-place_once _ _ _ _ _ is also = absurd is
+place_once _ _ _ _ _ is also = absurd (first_of (assumption, omega arith))
 
 -- a box that lies in another one, counted from its first element, lies in it as a box of the array
 pub shifted_is_box : (first shape start counts : List ℕ) → IsBox (record { start = first; shape = shape }) → length start ≡ length counts

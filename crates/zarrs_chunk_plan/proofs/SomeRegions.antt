@@ -30,12 +30,7 @@ inside_array (f ∷ first) (n ∷ shape) (size ∷ sizes) (s ∷ start) (count �
     let end : f + n ≤ size = lies.0 in
     let before : i < f + s + count = within.1 in
     (omega arith, inside_array first shape sizes start counts index lies.1 (tail_some count counts some) below.1 within.2)
-inside_array (_ ∷ _) (_ ∷ _) (_ ∷ _) (_ ∷ _) (_ ∷ _) [] lies some below within = absurd within
-inside_array (_ ∷ _) (_ ∷ _) (_ ∷ _) (_ ∷ _) [] index lies some below within = absurd below
-inside_array (_ ∷ _) (_ ∷ _) (_ ∷ _) [] counts index lies some below within = absurd below
-inside_array [] [] [] start [] (_ ∷ _) lies some below within = absurd within
-inside_array [] [] [] start (_ ∷ _) index lies some below within = absurd within
-inside_array _ _ _ _ _ _ lies some below within = absurd lies
+inside_array _ _ _ _ _ _ lies some below within = absurd (first_of (assumption, omega arith))
 
 module _ (source : List Dimension) (IsSourceKey : List ℕ → List ℕ → Type 0) (target : List Dimension) (IsTargetKey : List ℕ → List ℕ → Type 0)
     (chains : AllByRecursion IsChain source) (also_chains : AllByRecursion IsChain target) (keys : HasKeys IsSourceKey)

@@ -19,9 +19,7 @@ one_place (d ∷ ds) (c ∷ chunk) (i ∷ index) (p ∷ one) (q ∷ other) is al
     let first = is.0 in
     let second = also.0 in
     ap₂ (λ x xs. x ∷ xs) (omega arith) (one_place ds chunk index one other is.1 also.1)
-one_place [] [] [] [] (_ ∷ _) is also = absurd also
-one_place (_ ∷ _) (_ ∷ _) (_ ∷ _) (_ ∷ _) [] is also = absurd also
-one_place _ _ _ _ _ is also = absurd is
+one_place _ _ _ _ _ is also = absurd (first_of (assumption, omega arith))
 
 -- ---- where a copy moves an element
 

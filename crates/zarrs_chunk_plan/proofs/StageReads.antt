@@ -138,8 +138,7 @@ chosen_from source target chunks dimension (row ∷ rows) (e ∷ choice) are is 
       in_row [] all (k, within, is) = absurd (omega arith)
       in_row (x ∷ row) all (zero, within, is) = subst (λ (y : Edge). AreRead source target chunks dimension (edge_of y) y.first y.second) is all.0
       in_row (x ∷ row) all (suc k, within, is) = in_row row all.1 (k, omega arith, is)
-chosen_from source target chunks dimension [] (_ ∷ _) are is = absurd is
-chosen_from source target chunks dimension (_ ∷ _) [] are is = absurd is
+chosen_from source target chunks dimension _ _ are is = absurd is
 
 chosen_at : (source target : List Dimension) (chunks : Box) (dimension : ℕ) (choice : List Edge) (k : ℕ) → AreChosen source target chunks dimension choice
     → k < length choice → AreRead source target chunks (dimension + k) (slice_index_or (map edge_of choice) k 0)

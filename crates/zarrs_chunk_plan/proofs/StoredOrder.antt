@@ -20,40 +20,28 @@ ends_last : (start shape edges : List ℕ) (s n e : ℕ) → EndWithin start sha
     → EndWithin (start ++ s ∷ []) (shape ++ n ∷ []) (edges ++ e ∷ [])
 ends_last [] [] [] s n e within last = (last, tt)
 ends_last (_ ∷ start) (_ ∷ shape) (_ ∷ edges) s n e within last = (within.0, ends_last start shape edges s n e within.1 last)
-ends_last [] [] (_ ∷ _) s n e within last = absurd within
-ends_last [] (_ ∷ _) edges s n e within last = absurd within
-ends_last (_ ∷ _) [] edges s n e within last = absurd within
-ends_last (_ ∷ _) (_ ∷ _) [] s n e within last = absurd within
+ends_last _ _ _ s n e within last = absurd within
 
 ends_reversed : (start shape edges : List ℕ) → EndWithin start shape edges → EndWithin (reverse start) (reverse shape) (reverse edges)
 ends_reversed [] [] [] within = tt
 ends_reversed (s ∷ start) (n ∷ shape) (e ∷ edges) within =
     rw (first_last s start, first_last n shape, first_last e edges)
     (ends_last (reverse start) (reverse shape) (reverse edges) s n e (ends_reversed start shape edges within.1) within.0)
-ends_reversed [] [] (_ ∷ _) within = absurd within
-ends_reversed [] (_ ∷ _) edges within = absurd within
-ends_reversed (_ ∷ _) [] edges within = absurd within
-ends_reversed (_ ∷ _) (_ ∷ _) [] within = absurd within
+ends_reversed _ _ _ within = absurd within
 
 inside_last : (start shape index : List ℕ) (s n i : ℕ) → AreWithin start shape index → s ≤ i → i < s + n
     → AreWithin (start ++ s ∷ []) (shape ++ n ∷ []) (index ++ i ∷ [])
 inside_last [] [] [] s n i within from below = (from, below, tt)
 inside_last (_ ∷ start) (_ ∷ shape) (_ ∷ index) s n i (low, high, within) from below =
     (low, high, inside_last start shape index s n i within from below)
-inside_last [] [] (_ ∷ _) s n i within from below = absurd within
-inside_last [] (_ ∷ _) index s n i within from below = absurd within
-inside_last (_ ∷ _) [] index s n i within from below = absurd within
-inside_last (_ ∷ _) (_ ∷ _) [] s n i within from below = absurd within
+inside_last _ _ _ s n i within from below = absurd within
 
 inside_reversed : (start shape index : List ℕ) → AreWithin start shape index → AreWithin (reverse start) (reverse shape) (reverse index)
 inside_reversed [] [] [] within = tt
 inside_reversed (s ∷ start) (n ∷ shape) (i ∷ index) (from, below, within) =
     rw (first_last s start, first_last n shape, first_last i index)
     (inside_last (reverse start) (reverse shape) (reverse index) s n i (inside_reversed start shape index within) from below)
-inside_reversed [] [] (_ ∷ _) within = absurd within
-inside_reversed [] (_ ∷ _) index within = absurd within
-inside_reversed (_ ∷ _) [] index within = absurd within
-inside_reversed (_ ∷ _) (_ ∷ _) [] within = absurd within
+inside_reversed _ _ _ within = absurd within
 
 zero_reversed : (numbers : List ℕ) → Contains (reverse numbers) 0 → Contains numbers 0
 zero_reversed [] has = has
@@ -137,12 +125,7 @@ place_below (s ∷ start) (n ∷ shape) (e ∷ edges) (i ∷ index) (ends, lies)
     let next = add-mul i 1 (product edges) in
     let single : 1 * product edges ≡ product edges = omega arith in
     omega arith
-place_below [] [] (_ ∷ _) index lies within = absurd lies
-place_below [] (_ ∷ _) edges index lies within = absurd lies
-place_below (_ ∷ _) [] edges index lies within = absurd lies
-place_below (_ ∷ _) (_ ∷ _) [] index lies within = absurd lies
-place_below (_ ∷ _) (_ ∷ _) (_ ∷ _) [] lies within = absurd within
-place_below [] [] [] (_ ∷ _) lies within = absurd within
+place_below _ _ _ _ lies within = absurd (first_of (assumption, omega arith))
 
 placed_below : (order : MemoryOrder) (start shape edges index : List ℕ) → EndWithin start shape edges → AreWithin start shape index
     → place (in_order order edges) (in_order order index) < product edges

@@ -26,10 +26,7 @@ lies_tested : (start shape edges : List ℕ) → EndWithin start shape edges →
 lies_tested [] [] [] lies = refl
 lies_tested (s ∷ start) (n ∷ shape) (e ∷ edges) (ends, lies) =
     ap (λ b. cond b (lies_in start shape edges) false) (le-leb (s + n) e ends) ∙ lies_tested start shape edges lies
-lies_tested [] [] (_ ∷ _) lies = absurd lies
-lies_tested [] (_ ∷ _) edges lies = absurd lies
-lies_tested (_ ∷ _) [] edges lies = absurd lies
-lies_tested (_ ∷ _) (_ ∷ _) [] lies = absurd lies
+lies_tested _ _ _ lies = absurd lies
 
 lies_at : (b : Bool) (s n e : ℕ) (start shape edges : List ℕ) → nat_le (s + n) e ≡ b → (lies_in start shape edges ≡ true → EndWithin start shape edges)
     → cond b (lies_in start shape edges) false ≡ true → EndWithin (s ∷ start) (n ∷ shape) (e ∷ edges)

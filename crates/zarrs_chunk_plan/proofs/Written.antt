@@ -66,10 +66,7 @@ ranges_take (_ ∷ _) [] shape (c ∷ first) (k ∷ sizes) e f some each =
     absurd (each (c ∷ first) (first_within (c ∷ first) (k ∷ sizes) f some))
 ranges_take (_ ∷ _) (_ ∷ _) [] (c ∷ first) (k ∷ sizes) e f some each =
     absurd (each (c ∷ first) (first_within (c ∷ first) (k ∷ sizes) f some))
-ranges_take [] at shape [] (_ ∷ _) e f some each = absurd (omega arith)
-ranges_take [] at shape (_ ∷ _) sizes e f some each = absurd (omega arith)
-ranges_take (_ ∷ _) at shape [] sizes e f some each = absurd (omega arith)
-ranges_take (_ ∷ _) at shape (_ ∷ _) [] e f some each = absurd (omega arith)
+ranges_take _ at shape _ _ e f some each = absurd (omega arith)
 
 -- a chunk that is some steps along one dimension behind the first one
 pub set_within : (first sizes : List ℕ) (k j : ℕ) → length first ≡ length sizes → (¬ Contains sizes 0) → k < length sizes → j < get_or sizes k 0
@@ -79,9 +76,7 @@ set_within (a ∷ first) (n ∷ sizes) zero j e some within less =
 set_within (a ∷ first) (n ∷ sizes) (suc k) j e some within less =
     let here = head_some n sizes some in
     (omega arith, omega arith, set_within first sizes k j (omega arith) (tail_some n sizes some) (omega arith) less)
-set_within [] [] k j e some within less = absurd (omega arith)
-set_within [] (_ ∷ _) k j e some within less = absurd (omega arith)
-set_within (_ ∷ _) [] k j e some within less = absurd (omega arith)
+set_within _ _ k j e some within less = absurd (omega arith)
 
 -- has the count that stands in the table
 pub met_there : (counters : List (ℕ → ℕ)) (first sizes : List ℕ) (k j : ℕ) → length first ≡ length counters → length first ≡ length sizes
@@ -91,7 +86,6 @@ met_there (f ∷ counters) (a ∷ first) (n ∷ sizes) zero j e g within less =
     sym (get_or-map-range_with_len f a n j (a + j) 0 less refl)
 met_there (f ∷ counters) (a ∷ first) (n ∷ sizes) (suc k) j e g within less =
     met_there counters first sizes k j (omega arith) (omega arith) (omega arith) less
-met_there [] [] [] k j e g within less = absurd (omega arith)
 met_there _ _ _ k j e g within less = absurd (omega arith)
 
 pub tables_long : (counters : List (ℕ → ℕ)) (first sizes : List ℕ) → length first ≡ length counters → length first ≡ length sizes
@@ -105,7 +99,6 @@ pub table_long : (counters : List (ℕ → ℕ)) (first sizes : List ℕ) (k : �
 table_long (f ∷ counters) (a ∷ first) (n ∷ sizes) zero e g within = length-map-range_with_len f a n
 table_long (f ∷ counters) (a ∷ first) (n ∷ sizes) (suc k) e g within =
     table_long counters first sizes k (omega arith) (omega arith) (omega arith)
-table_long [] [] [] k e g within = absurd (omega arith)
 table_long _ _ _ k e g within = absurd (omega arith)
 
 pub counters_long : (source target : List Dimension) (first at shape : List ℕ) → length source ≡ length target → length first ≡ length target
