@@ -3,13 +3,15 @@ use Rattle.std.proofs.Common.{◌≡◌, ◌↔◌, ◌∙◌, ℕ, zero, suc, �
 use Rattle.std.proofs.lemmas.List.{length-map, length-replicate}
 use Rattle.std.specs.List.{AllByRecursion, AllPairs, AllZip, flat_map}
 use Rattle.zarrs_chunk_base.specs.ArraySubset.{AreWithin, Box, IsBox, IsInside}
-use Rattle.zarrs_chunk_base.specs.Dimension.{Dimension, InBox, IsChain, array_sizes}
+use Rattle.zarrs_chunk_base.specs.Dimension.{Dimension, Holds, InBox, IsChain, array_sizes}
+use Rattle.zarrs_chunk_base.proofs.Boxes.{within_lengths}
+use Rattle.zarrs_chunk_base.proofs.InEach.{length_values}
 use Rattle.zarrs_chunk_axes.specs.InBounds.{AreBelow}
 use Rattle.zarrs_chunks.specs.Walks.{counted_from}
 use Rattle.zarrs_chunks.proofs.Chains.{same_box}
 use Rattle.zarrs_chunks.proofs.ChunksInBoxes.{length_below}
 use Rattle.zarrs_chunks.proofs.FittingChunks.{counted_home}
-use Rattle.zarrs_chunk_parts.specs.Plan.{IsCommon, IsPart, IsPlan, Meets}
+use Rattle.zarrs_chunk_parts.specs.Plan.{AreShared, IsCommon, IsPart, IsPlan, Meets}
 use Rattle.zarrs_chunk_plan.specs.Rechunking.{AreCopiesInto, Group, IsRechunking, Moves, ShareOut, all_chunks_box, array_box, copies_of}
 use Rattle.zarrs_chunk_plan.specs.Region.{MovesTo, shifted}
 use Rattle.zarrs_chunk_parts.specs.declared.part.Part.{Part}
@@ -50,17 +52,29 @@ is_counted ds chains chunk (index, box, inside) =
 
 -- ---- a chunk of the target
 
+-- what is found of a chunk and the whole array is what they share
+module _ (ds : List Dimension) (chunk : List ℕ) (in_chunk in_subset : Box) (boxes : AreShared ds (array_box ds) chunk in_chunk in_subset)
+    (meets : Meets ds (array_box ds) chunk) where
+  found_start : boxes.shared.start ≡ in_subset.start
+  found_start =
+      let (index, box, inside) = meets in
+      let many = length_values Holds ds chunk index box in
+      let long = within_lengths _ _ index ((boxes.elements index).1 (box, inside)) in
+      let shapes = ap length boxes.from_subset.shape in
+      boxes.from_subset.start
+      ∙ counted_from_zeros (length ds) in_subset.start (omega (arith, boxes.is_box.lengths, boxes.from_subset.is_box.lengths))
+
+  pub found_are : (index : List ℕ) → IsInside in_subset index ↔ IsCommon ds (array_box ds) chunk index
+  found_are index = rw (found_start, boxes.from_subset.shape) at (boxes.elements index)
+
 module _ (ds : List Dimension) (IsKey : List ℕ → List ℕ → Type 0) (chunk : List ℕ) (to : Part) (is : IsPart ds IsKey (array_box ds) chunk to)
     (meets : Meets ds (array_box ds) chunk) where
   pub shared_start : is.boxes.shared.start ≡ to.in_subset.start
-  shared_start =
-      let (index, box, inside) = meets in
-      let long = all_long ds IsKey (array_box ds) chunk to index is (box, inside) in
-      is.boxes.from_subset.start ∙ counted_from_zeros (length ds) to.in_subset.start (omega arith)
+  shared_start = found_start ds chunk to.in_chunk to.in_subset is.boxes meets
 
   -- what lies in its box of the array is what it shares with the array
   pub those_are : (index : List ℕ) → IsInside to.in_subset index ↔ IsCommon ds (array_box ds) chunk index
-  those_are index = rw (shared_start, is.boxes.from_subset.shape) at (is.boxes.elements index)
+  those_are = found_are ds chunk to.in_chunk to.in_subset is.boxes meets
 
 -- what a chunk takes, counted from 0, is where it is in the array
 pub from_there : (target : List Dimension) (IsTargetKey : List ℕ → List ℕ → Type 0) (chunk : List ℕ) (to : Part)

@@ -20,8 +20,8 @@ use Rattle.zarrs_chunk_plan.specs.declared.resize.Held.{Held}
 use Rattle.zarrs_chunk_plan.specs.seen.Changes.{CanChange, GivesChange, IsAboutResize, changes_to_come}
 use Rattle.zarrs_chunk_plan.specs.seen.Parts.{HasKeys}
 use Rattle.zarrs_chunk_plan.proofs.AskedChunks.{below_or_not}
+use Rattle.zarrs_chunk_plan.proofs.HeldBoxes.{held_elements}
 use Rattle.zarrs_chunk_plan.proofs.Plans.{all_of_each}
-use Rattle.zarrs_chunk_plan.proofs.Rechunkings.{in_array}
 use Rattle.zarrs_chunk_plan.proofs.ShareLists.{both_zipped}
 use Rattle.zarrs_chunk_plan.proofs.SomePlan.{each_has, has_part}
 use Rattle.zarrs_chunk_plan.proofs.Walked.{all_given, one_came}
@@ -47,10 +47,9 @@ has_held IsKey keys ds chains fit chunk used =
       record { elements = is.boxes.shared; shape = part.shape },
       record {
         is_box = is.boxes.is_box;
-        elements = λ index. (
-          λ inside. let common = (is.boxes.elements index).0 inside in (common.0, (in_array ds index).1 common.1),
-          λ has. (is.boxes.elements index).1 (has.0, (in_array ds index).0 has.1),
-        );
+        elements = λ index.
+            let held = held_elements ds chunk index in
+            (λ inside. held.0 ((is.boxes.elements index).0 inside), λ has. (is.boxes.elements index).1 (held.1 has));
         shape = is.shape;
       },
       (part.key, is.key),
