@@ -49,7 +49,7 @@ pub(crate) fn outside(
     Ok(boxes)
 }
 
-/// The lesser of each two numbers.
+/// Returns the lesser of each two numbers.
 ///
 /// # Errors
 /// Out of memory.

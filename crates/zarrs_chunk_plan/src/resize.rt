@@ -130,8 +130,6 @@ pub(crate) fn uses_of<G: ChunkGridTraits, H: ChunkGridTraits>(
     ensures kept { AreResized (G.dimensions before.now) (H.dimensions after.now)
         → IfOk result (λ uses. (chunk : List ℕ) → AreBelow uses.kept.items chunk
         ↔ IsKept (G.dimensions before.now) (H.dimensions after.now) chunk) }
-    ensures dimensions { IfOk result (λ uses. length uses.before.items
-        ≡ length (G.dimensions before.now)) }
     ensures lengths { IfOk result (λ uses. length uses.after.items ≡ length uses.before.items) }
     ensures kept_lengths { IfOk result (λ uses. length uses.kept.items
         ≡ length uses.before.items) }

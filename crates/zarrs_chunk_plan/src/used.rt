@@ -53,7 +53,7 @@ pub(crate) fn held_by<G: ChunkGridTraits>(
     })
 }
 
-/// Returns how many chunks a resize keeps along each dimension, where so many hold elements of the array before it, and so many after it.
+/// Returns how many chunks a resize keeps along each dimension. Two lists say how many hold elements of the array before it, and after it.
 ///
 /// # Errors
 /// Out of memory.
@@ -84,7 +84,7 @@ pub(crate) fn kept_along<G: ChunkGridTraits, H: ChunkGridTraits>(
     Ok(kept)
 }
 
-/// Returns how many chunks a resize keeps along a dimension, where so many hold elements of both arrays. Only the last of them may differ.
+/// Returns how many chunks a resize keeps along a dimension, of those that hold elements of both arrays. Only the last of them may differ.
 ///
 /// # Errors
 /// Out of memory.
