@@ -24,25 +24,12 @@ module _ (before after : List Dimension) (used used_after kept : List ℕ)
     (keeps : Bool) where
   asked : (chunk : List ℕ)
       → (IsToldBefore keeps used kept chunk ⊎ IsOutside used used_after chunk) ↔ IsAsked before after keeps chunk
-  asked chunk = (
-    λ told.
-        ⊎_elim
-        (λ (below, wanted). record {
-          used = inl ((named chunk).0 below);
-          wanted = ⊎_elim (λ all. inl all) (λ out. inr (λ is_kept. out ((are_kept chunk).1 is_kept))) wanted;
-        })
-        (λ (below, out). record {
-          used = inr ((named_after chunk).0 below);
-          wanted = inr (λ is_kept. out ((named chunk).1 is_kept.used));
-        })
-        told,
-    λ is_asked.
-        let wanted = ⊎_elim (λ all. inl all) (λ out. inr (λ below. out ((are_kept chunk).0 below))) is_asked.wanted in
-        ⊎_elim (λ below. inl (below, wanted))
-        (λ out.
-        ⊎_elim (λ is_used. absurd (out ((named chunk).1 is_used))) (λ is_used. inr ((named_after chunk).1 is_used, out)) is_asked.used)
-        (below_or_not used chunk),
-  )
+  asked chunk =
+      let is_used = named chunk in
+      let is_used_after = named_after chunk in
+      let is_kept = are_kept chunk in
+      let tested = below_or_not used chunk in
+      grind arith
 
   pub are_changed : (chunks : List (List ℕ)) → AreOnce chunks
       → ((chunk : List ℕ) → Contains chunks chunk ↔ (IsToldBefore keeps used kept chunk ⊎ IsOutside used used_after chunk))

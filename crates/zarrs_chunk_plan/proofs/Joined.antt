@@ -1,11 +1,14 @@
 -- Lists that are made of other lists, one after another: what is in them, and what holds of each two of it.
-use Rattle.std.proofs.Common.{zero, suc, List, [], ◌∷◌, ◌++◌, Contains, get_or, map, refl, subst, sym, ⊎_elim, arith}
+use Rattle.std.proofs.Common.{◌↔◌, ◌⊎◌, zero, suc, List, [], ◌∷◌, ◌++◌, Contains, get_or, map, refl, subst, sym, ⊎_elim, arith}
 use Rattle.std.specs.List.{AllPairs, flat_map}
 use Rattle.std.proofs.lemmas.List.Elements.{All-append, Contains-append_cases, Contains-append_left, Contains-append_right, Contains-get_or}
 use Rattle.std.proofs.lemmas.List.Kept.{AllPairs-cons}
 use Rattle.zarrs_chunks.proofs.ChunksInBoxes.{source_of}
 
 module _ {X : Type 0} where
+  pub has_either : (xs ys : List X) (x : X) → Contains (xs ++ ys) x ↔ (Contains xs x ⊎ Contains ys x)
+  has_either xs ys x = (Contains-append_cases xs ys x, ⊎_elim (Contains-append_left xs ys x) (Contains-append_right xs ys x))
+
   pub pairs_of_both : (Q : X → X → Type 0) (xs ys : List X) → AllPairs Q xs → AllPairs Q ys
       → ((x y : X) → Contains xs x → Contains ys y → Q x y) → AllPairs Q (xs ++ ys)
   pairs_of_both Q [] ys one other across = other

@@ -4,7 +4,6 @@ use Rattle.std.proofs.Common.{Bool, append-nil, length-set, map, replicate, set,
 use Rattle.std.proofs.lemmas.Bool.{cases_lt}
 use Rattle.std.proofs.lemmas.Grind.{flat_map-append, same_number_lists}
 use Rattle.std.proofs.lemmas.List.{get_or-set_other, get_or-set_same}
-use Rattle.std.proofs.lemmas.List.Elements.{Contains-append_cases, Contains-append_left, Contains-append_right}
 use Rattle.zarrs_chunk_base.specs.ArraySubset.{AreWithin, Box, IsBox, IsEmptyBox, IsInside}
 use Rattle.zarrs_chunk_axes.specs.InBounds.{AreBelow}
 use Rattle.zarrs_chunks.specs.Walks.{chunks_in, counted_from}
@@ -12,7 +11,7 @@ use Rattle.zarrs_chunks.proofs.ChunksInBoxes.{are_those_inside, chunks_once}
 use Rattle.zarrs_chunk_plan.specs.seen.Outside.{AreOnce, IsOutside, IsToldBefore, chunks_of_boxes, lesser}
 use Rattle.zarrs_chunk_plan.proofs.Between.{none_below}
 use Rattle.zarrs_chunk_plan.proofs.BoxCover.{below_from_zero}
-use Rattle.zarrs_chunk_plan.proofs.Joined.{pairs_of_both}
+use Rattle.zarrs_chunk_plan.proofs.Joined.{has_either, pairs_of_both}
 
 -- ---- what a box gets that grows along one dimension
 
@@ -124,52 +123,26 @@ grown_more inner outer left shape boxes more added below_all so_far is_box are b
     record {
       long = length-set shape left size ∙ long;
       within = λ k below.
-          ⊎_elim (λ (less : k < left). other k size below (omega arith)) (λ (le : left ≤ k).
-          ⊎_elim (λ (more : left < k). other k size below (omega arith))
-          (λ (at_most : k ≤ left).
-          let same : k ≡ left = omega arith in
-          let set_to = get_or-set_same shape left size 0 (omega arith) in
-          rw (same, set_to) (let le : size ≤ size = omega arith in le))
-          (cases_lt left k))
-          (cases_lt k left);
+          let was = so_far.within k below in
+          grind (arith, get_or-set_same, get_or-set_other);
       grown = λ k from below.
-          ⊎_elim (λ (more : left < k).
-          get_or-set_other shape left k size 0 (λ same. let no : k ≡ left = same in absurd (omega arith)) ∙ so_far.grown k (omega arith) below)
-          (λ (at_most : k ≤ left).
-          let same : k ≡ left = omega arith in
-          rw same (get_or-set_same shape left size 0 (omega arith)))
-          (cases_lt left k);
-      those = λ chunk. rw are (
-        λ below.
-            ⊎_elim
-            (λ was. ⊎_elim (λ in_inner. inl in_inner)
-            (λ has. inr (Contains-append_left (chunks_of_boxes boxes) (chunks_in added) chunk has)) ((so_far.those chunk).0 was))
-            (λ inside. inr (Contains-append_right (chunks_of_boxes boxes) (chunks_in added) chunk ((in_added chunk).1 inside)))
-            ((both chunk).0 below),
-        λ either.
-            ⊎_elim (λ in_inner. (both chunk).1 (inl ((so_far.those chunk).1 (inl in_inner))))
-            (λ has.
-            ⊎_elim (λ was. (both chunk).1 (inl ((so_far.those chunk).1 (inr was))))
-            (λ new. (both chunk).1 (inr ((in_added chunk).0 new)))
-            (Contains-append_cases (chunks_of_boxes boxes) (chunks_in added) chunk has))
-            either,
-      );
-      apart = λ chunk in_inner. rw are
-          (λ has.
-          ⊎_elim (λ was. so_far.apart chunk in_inner was)
-          (λ new. differ chunk ((so_far.those chunk).1 (inl in_inner)) ((in_added chunk).0 new))
-          (Contains-append_cases (chunks_of_boxes boxes) (chunks_in added) chunk has));
+          let was = so_far.grown k in
+          grind (arith, get_or-set_same, get_or-set_other);
+      those = λ chunk.
+          let was = so_far.those chunk in
+          let now = both chunk in
+          let new = in_added chunk in
+          let has = has_either (chunks_of_boxes boxes) (chunks_in added) chunk in
+          rw are (grind arith);
+      apart = λ chunk in_inner.
+          let was = so_far.apart chunk in_inner in
+          let new = differ chunk ((so_far.those chunk).1 (inl in_inner)) in
+          rw are (λ has. ⊎_elim was (λ h. new ((in_added chunk).0 h)) ((has_either (chunks_of_boxes boxes) (chunks_in added) chunk).0 has));
       once = rw are
           (pairs_of_both (λ one other. one ≢ other) (chunks_of_boxes boxes) (chunks_in added) so_far.once (chunks_once added is_box)
           (λ one other was new same.
           differ other ((so_far.those other).1 (inr (subst (Contains (chunks_of_boxes boxes)) same was))) ((in_added other).0 new)));
     }
-  where
-    other : (k size : ℕ) → k < length outer → k ≢ left → get_or (set shape left size) k 0 ≤ get_or outer k 0
-    other k size below differs =
-        let same = get_or-set_other shape left k size 0 differs in
-        let within = so_far.within k below in
-        omega arith
 
 module _ (inner outer shape : List ℕ) (boxes : List Box) (same : length inner ≡ length outer)
     (all : HasGrown (lesser inner outer) outer 0 shape boxes) where
@@ -199,15 +172,11 @@ module _ (keeps : Bool) (before after kept : List ℕ) (old added : List Box)
 
   pub told_of : (chunk : List ℕ)
       → Contains (chunks_of_boxes (old ++ added)) chunk ↔ (IsToldBefore keeps before kept chunk ⊎ IsOutside before after chunk)
-  told_of chunk = rw both_lists (
-    λ has.
-        ⊎_elim (λ first. inl ((are_old chunk).0 first)) (λ second. inr ((are_added chunk).0 second))
-        (Contains-append_cases (chunks_of_boxes old) (chunks_of_boxes added) chunk has),
-    λ told.
-        ⊎_elim (λ first. Contains-append_left (chunks_of_boxes old) (chunks_of_boxes added) chunk ((are_old chunk).1 first))
-        (λ second. Contains-append_right (chunks_of_boxes old) (chunks_of_boxes added) chunk ((are_added chunk).1 second))
-        told,
-  )
+  told_of chunk =
+      let was = are_old chunk in
+      let new = are_added chunk in
+      let has = has_either (chunks_of_boxes old) (chunks_of_boxes added) chunk in
+      rw both_lists (grind arith)
 
   pub told_once : AreOnce (chunks_of_boxes old) → AreOnce (chunks_of_boxes added) → AreOnce (chunks_of_boxes (old ++ added))
   told_once one other = rw both_lists

@@ -1,6 +1,7 @@
 -- Boxes that hold the same are the same.
 use Rattle.std.proofs.Common.{◌≡◌, ◌↔◌, ◌∙◌, ℕ, ◌+◌, ◌-◌, ◌<◌, ◌≤◌, List, [], ◌∷◌, map, refl, ap, ap₂, sym, ⊎_elim, arith}
 use Rattle.zarrs_chunk_base.specs.ArraySubset.{AreWithin, Box, IsBox, IsEmptyBox, IsInside}
+use Rattle.zarrs_chunk_base.proofs.Boxes.{within_lengths}
 use Rattle.zarrs_chunks.specs.Walks.{chunks_in, counted_from}
 use Rattle.zarrs_chunk_plan.proofs.Between.{none_below}
 use Rattle.zarrs_chunk_plan.proofs.Plans.{empty_or_some, not_empty_if_inside}
@@ -17,39 +18,28 @@ same_ranges a n b m i from below same =
     (omega (arith, first.0, first_back.0), omega (arith, first.0, first_back.0, last.1, last_back.1))
 
 -- two boxes with the same members, of which there is one
-pub same_lists : (start shape other others index : List ℕ) → AreWithin start shape index
+same_lists : (start shape index other others : List ℕ) → AreWithin start shape index → AreWithin other others index
     → ((x : List ℕ) → AreWithin start shape x ↔ AreWithin other others x) → (start ≡ other) × (shape ≡ others)
-same_lists [] [] other others [] within same = no_ranges other others ((same []).0 within) where
-  no_ranges : (other others : List ℕ) → AreWithin other others [] → ([] ≡ other) × ([] ≡ others)
-  no_ranges [] [] _ = (refl, refl)
-  no_ranges [] (_ ∷ _) h = absurd h
-  no_ranges (_ ∷ _) [] h = absurd h
-  no_ranges (_ ∷ _) (_ ∷ _) h = absurd h
-same_lists (a ∷ start) (n ∷ shape) (b ∷ other) (m ∷ others) (i ∷ index) within same =
-    let also = (same (i ∷ index)).0 within in
+same_lists [] [] [] [] [] within also same = (refl, refl)
+same_lists (a ∷ start) (n ∷ shape) (i ∷ index) (b ∷ other) (m ∷ others) within also same =
     let (first, size) = same_ranges a n b m i within.0 within.1
     (λ j. (
       λ h. let both = (same (j ∷ index)).0 (h.0, h.1, within.2) in (both.0, both.1),
       λ h. let both = (same (j ∷ index)).1 (h.0, h.1, also.2) in (both.0, both.1),
     ))
     in
-    let (rest, sizes) = same_lists start shape other others index within.2
+    let (rest, sizes) = same_lists start shape index other others within.2 also.2
     (λ x. (
       λ h. ((same (i ∷ x)).0 (within.0, within.1, h)).2,
       λ h. ((same (i ∷ x)).1 (also.0, also.1, h)).2,
     ))
     in
     (ap₂ (λ x xs. x ∷ xs) first rest, ap₂ (λ x xs. x ∷ xs) size sizes)
-same_lists (a ∷ start) (n ∷ shape) [] others (i ∷ index) within same = absurd (no_list others ((same (i ∷ index)).0 within)) where
-  no_list : (others : List ℕ) → AreWithin [] others (i ∷ index) → ⊥
-  no_list [] h = h
-  no_list (_ ∷ _) h = h
-same_lists (a ∷ start) (n ∷ shape) (_ ∷ _) [] (i ∷ index) within same = absurd ((same (i ∷ index)).0 within)
-same_lists _ _ other others index within same = absurd within
+same_lists _ _ index other others within also same = absurd (first_of (assumption, omega (arith, within_lengths other others index also)))
 
 pub same_box_of : (one other : Box) (index : List ℕ) → IsInside one index → ((x : List ℕ) → IsInside one x ↔ IsInside other x) → one ≡ other
 same_box_of one other index inside same =
-    let (start, shape) = same_lists one.start one.shape other.start other.shape index inside same in
+    let (start, shape) = same_lists one.start one.shape index other.start other.shape inside ((same index).0 inside) same in
     ap₂ (λ (first sizes : List ℕ). record { start = first; shape = sizes }) start shape
 
 -- boxes of chunk numbers that hold the same have the same chunks
