@@ -1,6 +1,5 @@
 -- The chunks of which a change is asked for are those that are told.
-use Rattle.std.proofs.Common.{◌↔◌, ◌⊎◌, ℕ, ◌<◌, ◌≤◌, Bool, List, [], ◌∷◌, Contains, inl, inr, ⊎_elim, arith}
-use Rattle.std.proofs.lemmas.Bool.{cases_lt}
+use Rattle.std.proofs.Common.{◌↔◌, ◌⊎◌, ℕ, Bool, List, [], ◌∷◌, Contains, inl, inr, arith}
 use Rattle.zarrs_chunk_base.specs.Dimension.{Dimension}
 use Rattle.zarrs_chunk_axes.specs.InBounds.{AreBelow}
 use Rattle.zarrs_chunk_plan.specs.Resize.{AreChanged, IsAsked, IsKept, IsUsed}
@@ -9,13 +8,8 @@ use Rattle.zarrs_chunk_plan.specs.seen.Outside.{AreOnce, IsOutside, IsToldBefore
 -- numbers are below sizes, or they aren't
 pub below_or_not : (sizes numbers : List ℕ) → AreBelow sizes numbers ⊎ (¬ AreBelow sizes numbers)
 below_or_not [] [] = inl tt
-below_or_not [] (_ ∷ _) = inr (λ below. below)
-below_or_not (_ ∷ _) [] = inr (λ below. below)
-below_or_not (size ∷ sizes) (n ∷ numbers) =
-    ⊎_elim
-    (λ (less : n < size). ⊎_elim (λ below. inl (less, below)) (λ not. inr (λ below. not below.1)) (below_or_not sizes numbers))
-    (λ (past : size ≤ n). inr (λ below. let less : n < size = below.0 in absurd (omega arith)))
-    (cases_lt n size)
+below_or_not (size ∷ sizes) (n ∷ numbers) = let rest = below_or_not sizes numbers in grind arith
+below_or_not _ _ = inr (λ below. below)
 
 module _ (before after : List Dimension) (used used_after kept : List ℕ)
     (named : (chunk : List ℕ) → AreBelow used chunk ↔ IsUsed before chunk)

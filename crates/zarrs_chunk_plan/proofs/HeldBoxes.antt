@@ -1,5 +1,5 @@
 -- What a chunk holds of the whole array.
-use Rattle.std.proofs.Common.{◌↔◌, ℕ, ◌<◌, List, [], ◌∷◌, arith}
+use Rattle.std.proofs.Common.{◌↔◌, ℕ, List, [], ◌∷◌, arith}
 use Rattle.std.specs.List.{AllZip}
 use Rattle.zarrs_chunk_base.specs.Dimension.{Dimension, InBox, array_sizes}
 use Rattle.zarrs_chunk_axes.specs.InBounds.{AreBelow}
@@ -16,11 +16,7 @@ AllHoldSome = AllZip HoldsSome
 pub hold_some : (ds : List Dimension) (chunk index : List ℕ) → InBox ds chunk index → AreBelow (array_sizes ds) index → AllHoldSome ds chunk
 hold_some [] [] [] box below = tt
 hold_some (d ∷ ds) (c ∷ chunk) (i ∷ index) box below =
-    let here = box.0 in
-    let from = here.from in
-    let end = here.below in
-    let less : i < d.array_size = below.0 in
-    ((here.chunk, omega arith, omega arith), hold_some ds chunk index box.1 below.1)
+    let rest = hold_some ds chunk index box.1 below.1 in grind arith
 hold_some _ _ _ box below = absurd box
 
 pub meets_hold : (ds : List Dimension) (chunk : List ℕ) → Meets ds (array_box ds) chunk → AllHoldSome ds chunk

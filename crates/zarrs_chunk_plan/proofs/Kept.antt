@@ -22,19 +22,9 @@ module _ (d e : Dimension) (resized : IsResized d e) where
   -- a chunk that holds elements of both arrays begins where it did
   pub same_start : (c : ℕ) → HoldsSome d c → HoldsSome e c → d.start c ≡ e.start c
   same_start c some after =
-      let (has, any, less) = some in
-      let (has_after, any_after, less_after) = after in
-      ⊎_elim
-      (λ (before : d.start c < e.start c).
-      let there = (resized.same_chunk c (d.start c) (omega arith) (omega arith)).0 (record { chunk = has; from = omega arith; below = omega arith }) in
-      let from : e.start c ≤ d.start c = there.from in
-      absurd (omega arith))
-      (λ (le : e.start c ≤ d.start c).
-      let there = (resized.same_chunk c (e.start c) (omega arith) (omega arith)).1
-      (record { chunk = has_after; from = omega arith; below = omega arith }) in
-      let from : d.start c ≤ e.start c = there.from in
-      omega arith)
-      (cases_lt (d.start c) (e.start c))
+      let before = resized.same_chunk c (d.start c) in
+      let later = resized.same_chunk c (e.start c) in
+      grind arith
 
   module _ (chain : IsChain d) (chain_after : IsChain e) (both : ℕ) (all : (c : ℕ) → c < both → HoldsSome d c × HoldsSome e c) (some : 0 < both)
       (one other : ℕ × ℕ) (extent : HasExtent d (both - 1) one) (extent_after : HasExtent e (both - 1) other) where
@@ -43,38 +33,24 @@ module _ (d e : Dimension) (resized : IsResized d e) where
     earlier_kept c before =
         let (some, after) = all c (omega arith) in
         let (next, next_after) = all (c + 1) before in
-        let (next_has, next_any, next_less) = next in
-        let (after_has, after_any, after_less) = next_after in
-        let end : d.start (c + 1) ≡ d.end c = (chain.no_gap c next_has).1 in
-        let end_after : e.start (c + 1) ≡ e.end c = (chain_after.no_gap c after_has).1 in
-        let same : d.start (c + 1) ≡ e.start (c + 1) = same_start (c + 1) next next_after in
-        record { some = some; some_after = after; start = same_start c some after; end = omega arith; last = omega arith }
+        let gap = chain.no_gap c next.0 in
+        let gap_after = chain_after.no_gap c next_after.0 in
+        let start = same_start c some after in
+        let next_start = same_start (c + 1) next next_after in
+        grind arith
 
     -- and so is the last one, if its extent is the same
     last_kept : one ≡ other → KeptAlong d e (both - 1)
     last_kept same =
         let (some, after) = all (both - 1) (omega arith) in
         let start = same_start (both - 1) some after in
-        let (_, any, less) = some in
-        let (_, any_after, less_after) = after in
         let also = subst (HasExtent e (both - 1)) (sym same) extent_after in
-        let edge = extent.edge.edge in
-        let edge_after = also.edge.edge in
-        let held = extent.held in
-        let held_after = also.held in
-        record { some = some; some_after = after; start = start; end = omega arith; last = omega arith }
+        grind arith
 
     last_same : KeptAlong d e (both - 1) → one ≡ other
     last_same kept =
-        let start = kept.start in
-        let end = kept.end in
-        let last = kept.last in
-        let edge = extent.edge.edge in
-        let edge_after = extent_after.edge.edge in
-        let last_before = extent.held in
-        let last_after = extent_after.held in
-        let same_edge : one.0 ≡ other.0 = omega arith in
-        let same_held : one.1 ≡ other.1 = omega arith in
+        let same_edge : one.0 ≡ other.0 = grind arith in
+        let same_held : one.1 ≡ other.1 = grind arith in
         ap₂ (λ (a b : ℕ). let extent : ℕ × ℕ = (a, b) in extent) same_edge same_held
 
     counted : (kept : ℕ) → IsCount one other both kept → (c : ℕ) → c < kept ↔ ((c < both) × KeptAlong d e c)
@@ -107,10 +83,7 @@ keeps_along _ _ k both kept one other chains also some extent extent_after count
 -- the extent of a chunk with this range
 pub extent_of_range : (ds : List Dimension) (k c start edge held : ℕ) → IsRangeAlong ds k c (start, edge)
     → held ≡ min edge (slice_index_or (array_sizes ds) k 0 - start) → HasExtentAlong ds k c (edge, held)
-extent_of_range (d ∷ ds) zero c start edge held range is =
-    let begins : d.start c ≡ start = range.start.start in
-    let long : d.start c + edge ≡ d.end c = range.edge.edge in
-    record { edge = range.edge; held = omega arith }
+extent_of_range (d ∷ ds) zero c start edge held range is = grind arith
 extent_of_range (d ∷ ds) (suc k) c start edge held range is = extent_of_range ds k c start edge held range is
 extent_of_range [] k c start edge held range is = absurd range
 
@@ -125,24 +98,8 @@ elements_stay : (ds : List Dimension) (chunk : List ℕ) (es : List Dimension) (
 elements_stay [] [] [] index kept = (λ h. h, λ h. h)
 elements_stay (d ∷ ds) (c ∷ chunk) (e ∷ es) (i ∷ index) kept =
     let rest = elements_stay ds chunk es index kept.1 in
-    let start = kept.0.start in
-    let end = kept.0.end in
-    let last = kept.0.last in (
-      λ (box, below).
-          let held = box.0 in
-          let from : d.start c ≤ i = held.from in
-          let before : i < d.end c = held.below in
-          let less : i < d.array_size = below.0 in
-          let (others, small) = rest.0 (box.1, below.1) in
-          ((record { chunk = kept.0.some_after.0; from = omega arith; below = omega arith }, others), (omega arith, small)),
-      λ (box, below).
-          let held = box.0 in
-          let from : e.start c ≤ i = held.from in
-          let before : i < e.end c = held.below in
-          let less : i < e.array_size = below.0 in
-          let (others, small) = rest.1 (box.1, below.1) in
-          ((record { chunk = kept.0.some.0; from = omega arith; below = omega arith }, others), (omega arith, small)),
-    )
+    let here = kept.0 in
+    grind arith
 elements_stay _ _ _ _ kept = (λ h. absurd assumption, λ h. absurd assumption)
 
 shape_stays : (ds : List Dimension) (chunk : List ℕ) (es : List Dimension) (edges : List ℕ) → AllKept ds chunk es
@@ -150,41 +107,20 @@ shape_stays : (ds : List Dimension) (chunk : List ℕ) (es : List Dimension) (ed
 shape_stays [] [] [] edges kept = (λ h. h, λ h. h)
 shape_stays (d ∷ ds) (c ∷ chunk) (e ∷ es) (edge ∷ edges) kept =
     let rest = shape_stays ds chunk es edges kept.1 in
-    let start = kept.0.start in
-    let end = kept.0.end in (
-      λ h. let is = h.0.edge in (record { chunk = kept.0.some_after.0; edge = omega arith }, rest.0 h.1),
-      λ h. let is = h.0.edge in (record { chunk = kept.0.some.0; edge = omega arith }, rest.1 h.1),
-    )
+    let here = kept.0 in
+    grind arith
 shape_stays _ _ _ _ kept = (λ h. absurd assumption, λ h. absurd assumption)
 
 one_kept : (d e : Dimension) (c i edge : ℕ) → Holds d c i → i < d.array_size
     → ((j : ℕ) → (Holds d c j × (j < d.array_size)) ↔ (Holds e c j × (j < e.array_size)))
     → d.start c + edge ≡ d.end c → e.start c + edge ≡ e.end c → KeptAlong d e c
 one_kept d e c i edge holds less same long long_after =
-    let has = holds.chunk in
-    let from = holds.from in
-    let below = holds.below in
-    let (after, less_after) = (same i).0 (holds, less) in
-    let has_after = after.chunk in
-    let from_after = after.from in
-    let below_after = after.below in
-    let first = (same (d.start c)).0 (record { chunk = has; from = omega arith; below = omega arith }, omega arith) in
-    let first_after = (same (e.start c)).1 (record { chunk = has_after; from = omega arith; below = omega arith }, omega arith) in
-    let before = first.0.from in
-    let before_after = first_after.0.from in
-    let end = min (d.end c) d.array_size - 1 in
-    let end_after = min (e.end c) e.array_size - 1 in
-    let last = (same end).0 (record { chunk = has; from = omega arith; below = omega arith }, omega arith) in
-    let last_after = (same end_after).1 (record { chunk = has_after; from = omega arith; below = omega arith }, omega arith) in
-    let last_below = last.1 in
-    let after_below = last_after.1 in
-    record {
-      some = (has, omega arith, omega arith);
-      some_after = (has_after, omega arith, omega arith);
-      start = omega arith;
-      end = omega arith;
-      last = omega arith;
-    }
+    let here = same i in
+    let first = same (d.start c) in
+    let first_after = same (e.start c) in
+    let last = same (min (d.end c) d.array_size - 1) in
+    let last_after = same (min (e.end c) e.array_size - 1) in
+    grind arith
 
 each_kept : (ds : List Dimension) (chunk index edges : List ℕ) (es : List Dimension) → InBox ds chunk index → AreBelow (array_sizes ds) index
     → ((x : List ℕ) → HasElementOf ds chunk x ↔ HasElementOf es chunk x) → IsShape ds chunk edges → IsShape es chunk edges → AllKept ds chunk es
@@ -192,17 +128,8 @@ each_kept [] [] [] [] [] box below same shape also = tt
 each_kept (d ∷ ds) (c ∷ chunk) (i ∷ index) (edge ∷ edges) (e ∷ es) box below same shape also =
     let (after, below_after) = (same (i ∷ index)).0 (box, below) in (
       one_kept d e c i edge box.0 below.0
-          (λ j. (
-            λ h. let (there, less) = (same (j ∷ index)).0 ((h.0, box.1), (h.1, below.1)) in (there.0, less.0),
-            λ h. let (there, less) = (same (j ∷ index)).1 ((h.0, after.1), (h.1, below_after.1)) in (there.0, less.0),
-          ))
-          shape.0.edge also.0.edge,
-      each_kept ds chunk index edges es box.1 below.1
-          (λ x. (
-            λ h. let (there, less) = (same (i ∷ x)).0 ((box.0, h.0), (below.0, h.1)) in (there.1, less.1),
-            λ h. let (there, less) = (same (i ∷ x)).1 ((after.0, h.0), (below_after.0, h.1)) in (there.1, less.1),
-          ))
-          shape.1 also.1,
+          (λ j. let there = same (j ∷ index) in grind arith) shape.0.edge also.0.edge,
+      each_kept ds chunk index edges es box.1 below.1 (λ x. let there = same (i ∷ x) in grind arith) shape.1 also.1,
     )
 each_kept _ _ _ _ _ box below same shape also = absurd assumption
 
@@ -228,10 +155,9 @@ kept_below : (used next kept chunk : List ℕ) → length used ≡ length next �
     → AreBelow kept chunk → AreBelow used chunk × AreBelow next chunk
 kept_below [] [] [] [] same long least below = (tt, tt)
 kept_below (u ∷ used) (v ∷ next) (n ∷ kept) (c ∷ chunk) same long least below =
-    let (first, second) = kept_below used next kept chunk (omega arith) (omega arith) (λ k within. least (suc k) (omega arith)) below.1 in
+    let rest = kept_below used next kept chunk (omega arith) (omega arith) (λ k within. least (suc k) (omega arith)) below.1 in
     let here : n ≤ min u v = least 0 (omega arith) in
-    let less : c < n = below.0 in
-    ((omega arith, first), (omega arith, second))
+    grind arith
 kept_below _ _ _ _ same long least below = absurd (first_of (assumption, omega arith))
 
 kept_in_each : (ds es : List Dimension) (chunk used next kept : List ℕ) → AreResized ds es → length kept ≡ length used
@@ -246,10 +172,8 @@ kept_in_each (d ∷ ds) (e ∷ es) (c ∷ chunk) (u ∷ used) (v ∷ next) (n �
     let first = keeps 0 (omega arith) (omega arith) resized.0
     (λ x (within : x < min u v). ((some (x ∷ chunk) (omega arith, below.1)).0, (after (x ∷ chunk) (omega arith, also.1)).0)) c in
     let rest = kept_in_each ds es chunk used next kept resized.1 (omega arith) (λ k within. keeps (suc k) (omega arith))
-    (λ x within. (some (c ∷ x) (less, within)).1) (λ x within. (after (c ∷ x) (also_less, within)).1) here.1 below.1 also.1 in (
-      λ h. ((first.0 h.0).1, rest.0 h.1),
-      λ h. (first.1 (omega arith, h.0), rest.1 h.1),
-    )
+    (λ x within. (some (c ∷ x) (less, within)).1) (λ x within. (after (c ∷ x) (also_less, within)).1) here.1 below.1 also.1 in
+    grind arith
 kept_in_each _ _ _ _ _ _ resized long keeps some after here below also = absurd (first_of (assumption, omega arith))
 
 module _ (ds es : List Dimension) (used next kept : List ℕ) (resized : AreResized ds es) (same : length used ≡ length next)

@@ -1,7 +1,6 @@
 -- The boxes of the chunks that are below one list of numbers and not below another.
-use Rattle.std.proofs.Common.{◌≡◌, ◌≢◌, ◌↔◌, ◌⊎◌, ◌∙◌, ℕ, zero, suc, ◌+◌, ◌-◌, ◌<◌, ◌≤◌, List, [], ◌∷◌, ◌++◌, Contains, get_or, length, min}
+use Rattle.std.proofs.Common.{◌≡◌, ◌≢◌, ◌↔◌, ◌⊎◌, ◌∙◌, ℕ, zero, suc, ◌-◌, ◌<◌, ◌≤◌, List, [], ◌∷◌, ◌++◌, Contains, get_or, length}
 use Rattle.std.proofs.Common.{Bool, append-nil, length-set, map, replicate, set, refl, ap, inl, inr, subst, sym, ⊎_elim, arith}
-use Rattle.std.proofs.lemmas.Bool.{cases_lt}
 use Rattle.std.proofs.lemmas.Grind.{flat_map-append, same_number_lists}
 use Rattle.std.proofs.lemmas.List.{get_or-set_other, get_or-set_same}
 use Rattle.zarrs_chunk_base.specs.ArraySubset.{AreWithin, Box, IsBox, IsEmptyBox, IsInside}
@@ -24,31 +23,15 @@ together [] k size chunk within grows = absurd (omega arith)
 together (n ∷ shape) zero size [] within grows = (λ h. absurd h, λ h. ⊎_elim (λ a. absurd a) (λ a. absurd a) h)
 together (n ∷ shape) (suc k) size [] within grows = (λ h. absurd h, λ h. ⊎_elim (λ a. absurd a) (λ a. absurd a) h)
 together (n ∷ shape) zero size (c ∷ chunk) within grows =
-    let others = below_from_zero (length shape) shape chunk refl in (
-      λ below.
-          let less : c < size = below.0 in
-          ⊎_elim (λ (here : c < n). inl (here, below.1)) (λ (le : n ≤ c). inr (le, omega arith, others.0 below.1)) (cases_lt c n),
-      λ either.
-          ⊎_elim (λ below. let less : c < n = below.0 in (omega arith, below.1))
-          (λ added. let less : c < n + (size - n) = added.1 in (omega arith, others.1 added.2)) either,
-    )
+    let others = below_from_zero (length shape) shape chunk refl in grind arith
 together (n ∷ shape) (suc k) size (c ∷ chunk) within grows =
-    let rest = together shape k size chunk (omega arith) grows in (
-      λ below.
-          let less : c < n = below.0 in
-          ⊎_elim (λ here. inl (less, here)) (λ added. inr (omega arith, omega arith, added)) (rest.0 below.1),
-      λ either.
-          ⊎_elim (λ below. (below.0, rest.1 (inl below.1)))
-          (λ added. let less : c < 0 + n = added.1 in (omega arith, rest.1 (inr added.2))) either,
-    )
+    let rest = together shape k size chunk (omega arith) grows in grind arith
 
 pub parted : (shape : List ℕ) (k size : ℕ) (chunk : List ℕ) → k < length shape → AreBelow shape chunk → ¬ AddedTo shape k size chunk
 parted [] k size chunk within below added = absurd (omega arith)
 parted (_ ∷ _) k size [] within below added = below
 parted (n ∷ shape) zero size (c ∷ chunk) within below added =
-    let less : c < n = below.0 in
-    let from : n ≤ c = added.0 in
-    absurd (omega arith)
+    absurd (grind arith)
 parted (n ∷ shape) (suc k) size (c ∷ chunk) within below added = parted shape k size chunk (omega arith) below.1 added.2
 
 -- ---- the boxes so far
@@ -77,13 +60,7 @@ lesser_below : (inner outer chunk : List ℕ) → length inner ≡ length outer
     → AreBelow (lesser inner outer) chunk ↔ (AreBelow inner chunk × AreBelow outer chunk)
 lesser_below [] [] chunk same = (λ h. (h, h), λ (h, _). h)
 lesser_below (m ∷ inner) (n ∷ outer) (c ∷ chunk) same =
-    let rest = lesser_below inner outer chunk (omega arith) in (
-      λ below. let less : c < min m n = below.0 in let (first, second) = rest.0 below.1 in ((omega arith, first), (omega arith, second)),
-      λ (first, second).
-          let less : c < m = first.0 in
-          let also : c < n = second.0 in
-          (omega arith, rest.1 (first.1, second.1)),
-    )
+    let rest = lesser_below inner outer chunk (omega arith) in grind arith
 lesser_below _ _ _ same = (λ h. absurd (first_of (assumption, omega arith)), λ (h, _). absurd (first_of (assumption, omega arith)))
 
 none_in : (chunk : List ℕ) → ¬ Contains (chunks_of_boxes []) chunk
@@ -153,14 +130,10 @@ module _ (inner outer shape : List ℕ) (boxes : List Box) (same : length inner 
 
   pub are_outside : (chunk : List ℕ) → Contains (chunks_of_boxes boxes) chunk ↔ IsOutside inner outer chunk
   are_outside chunk =
-      let both = lesser_below inner outer chunk same in (
-        λ has.
-            let below = subst (λ xs. AreBelow xs chunk) all_grown ((all.those chunk).1 (inr has)) in
-            (below, λ in_inner. all.apart chunk (both.1 (in_inner, below)) has),
-        λ (below, out).
-            ⊎_elim (λ in_both. absurd (out (both.0 in_both).0)) (λ has. has)
-            ((all.those chunk).0 (subst (λ xs. AreBelow xs chunk) (sym all_grown) below)),
-      )
+      let both = lesser_below inner outer chunk same in
+      let those = rw all_grown at (all.those chunk) in
+      let apart = all.apart chunk in
+      grind arith
 
 -- ---- the boxes of two lists
 

@@ -28,11 +28,7 @@ same_place : (ds : List Dimension) (chunk : List ℕ) (es : List Dimension) (ind
     → IsPlace ds chunk index place ↔ IsPlace es chunk index place
 same_place [] [] [] index place start = (λ h. h, λ h. h)
 same_place (d ∷ ds) (c ∷ chunk) (e ∷ es) (i ∷ index) (p ∷ place) start =
-    let rest = same_place ds chunk es index place start.1 in
-    let same = start.0 in (
-      λ h. let is = h.0 in (omega arith, rest.0 h.1),
-      λ h. let is = h.0 in (omega arith, rest.1 h.1),
-    )
+    let rest = same_place ds chunk es index place start.1 in grind arith
 same_place _ _ _ _ _ start = (λ h. absurd assumption, λ h. absurd assumption)
 
 used_start : (ds es : List Dimension) (chunk : List ℕ) → AreResized ds es → AllHoldSome ds chunk → AllHoldSome es chunk → AllStart ds chunk es
@@ -60,8 +56,7 @@ pub stays : (ds es : List Dimension) → AreResized ds es → (chunk index : Lis
 stays [] [] resized chunk index below also = (λ h. h, λ h. h)
 stays (d ∷ ds) (e ∷ es) resized (c ∷ chunk) (i ∷ index) below also =
     let here = resized.0.same_chunk c i below.0 also.0 in
-    let rest = stays ds es resized.1 chunk index below.1 also.1 in
-    (λ h. (here.0 h.0, rest.0 h.1), λ h. (here.1 h.0, rest.1 h.1))
+    let rest = stays ds es resized.1 chunk index below.1 also.1 in grind arith
 stays _ _ resized _ _ below also = (λ h. absurd assumption, λ h. absurd assumption)
 
 -- ---- what becomes of a chunk
@@ -79,22 +74,19 @@ module _ (ds es : List Dimension) (chunk : List ℕ) where
         → (what ≡ Keep) ⊎ (what ≡ Rewrite)
     in_both has also Keep is = inl refl
     in_both has also Rewrite is = inr refl
-    in_both has also Delete (_, unused) = absurd (unused (is_used es chunk index also))
-    in_both has also New (_, unused) = absurd (unused (is_used ds chunk index has))
+    in_both has also _ is = absurd (grind (arith, is_used ds chunk index, is_used es chunk index))
 
     pub leaving : HasElementOf ds chunk index → (¬ HasElementOf es chunk index) → (what : Change) → IsChanged ds es chunk what
         → (what ≡ Rewrite) ⊎ (what ≡ Delete)
-    leaving has gone Keep is = absurd (gone ((is.elements index).0 has))
     leaving has gone Rewrite is = inl refl
     leaving has gone Delete is = inr refl
-    leaving has gone New (_, unused) = absurd (unused (is_used ds chunk index has))
+    leaving has gone _ is = absurd (grind (arith, is_used ds chunk index))
 
     pub coming : HasElementOf es chunk index → (¬ HasElementOf ds chunk index) → (what : Change) → IsChanged ds es chunk what
         → (what ≡ Rewrite) ⊎ (what ≡ New)
-    coming has none Keep is = absurd (none ((is.elements index).1 has))
     coming has none Rewrite is = inl refl
-    coming has none Delete (_, unused) = absurd (unused (is_used es chunk index has))
     coming has none New is = inr refl
+    coming has none _ is = absurd (grind (arith, is_used es chunk index))
 
 -- a chunk that loses an element, or gets one, isn't kept
 pub asked_of_leaving : (ds es : List Dimension) (chunk index : List ℕ) → HasElementOf ds chunk index → (¬ HasElementOf es chunk index)

@@ -10,30 +10,20 @@ use Rattle.zarrs_chunk_plan.proofs.Written.{first_within}
 -- two ranges with the same numbers, of which there are some
 same_ranges : (a n b m i : ℕ) → a ≤ i → i < a + n → ((j : ℕ) → ((a ≤ j) × (j < a + n)) ↔ ((b ≤ j) × (j < b + m))) → (a ≡ b) × (n ≡ m)
 same_ranges a n b m i from below same =
-    let also = (same i).0 (from, below) in
-    let first = (same a).0 (omega arith, omega arith) in
-    let last = (same (a + (n - 1))).0 (omega arith, omega arith) in
-    let first_back = (same b).1 (omega arith, omega arith) in
-    let last_back = (same (b + (m - 1))).1 (omega arith, omega arith) in
-    (omega (arith, first.0, first_back.0), omega (arith, first.0, first_back.0, last.1, last_back.1))
+    let also = same i in
+    let first = same a in
+    let last = same (a + (n - 1)) in
+    let first_back = same b in
+    let last_back = same (b + (m - 1)) in
+    grind arith
 
 -- two boxes with the same members, of which there is one
 same_lists : (start shape index other others : List ℕ) → AreWithin start shape index → AreWithin other others index
     → ((x : List ℕ) → AreWithin start shape x ↔ AreWithin other others x) → (start ≡ other) × (shape ≡ others)
 same_lists [] [] [] [] [] within also same = (refl, refl)
 same_lists (a ∷ start) (n ∷ shape) (i ∷ index) (b ∷ other) (m ∷ others) within also same =
-    let (first, size) = same_ranges a n b m i within.0 within.1
-    (λ j. (
-      λ h. let both = (same (j ∷ index)).0 (h.0, h.1, within.2) in (both.0, both.1),
-      λ h. let both = (same (j ∷ index)).1 (h.0, h.1, also.2) in (both.0, both.1),
-    ))
-    in
-    let (rest, sizes) = same_lists start shape index other others within.2 also.2
-    (λ x. (
-      λ h. ((same (i ∷ x)).0 (within.0, within.1, h)).2,
-      λ h. ((same (i ∷ x)).1 (also.0, also.1, h)).2,
-    ))
-    in
+    let (first, size) = same_ranges a n b m i within.0 within.1 (λ j. let there = same (j ∷ index) in grind arith) in
+    let (rest, sizes) = same_lists start shape index other others within.2 also.2 (λ x. let there = same (i ∷ x) in grind arith) in
     (ap₂ (λ x xs. x ∷ xs) first rest, ap₂ (λ x xs. x ∷ xs) size sizes)
 same_lists _ _ index other others within also same = absurd (first_of (assumption, omega (arith, within_lengths other others index also)))
 
