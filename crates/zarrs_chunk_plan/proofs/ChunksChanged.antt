@@ -60,9 +60,8 @@ next_box boxes k d within = ap chunks_of_boxes (drop-cons boxes k d within)
 -- ---- counts
 
 pub sum_counted : (m n : ℕ) (sum : Option ℕ) → SomeIff sum (m + n < 2 ^ 64) (m + n) → sum ≡ counted (m + n)
-sum_counted m n (Some sum) is =
-    ⊎_elim (λ (low, some). ap Some is.1 ∙ sym some) (λ (past, none). absurd (omega arith)) (counted_cases (m + n))
-sum_counted m n None is = ⊎_elim (λ (low, some). absurd (omega arith)) (λ (past, none). sym none) (counted_cases (m + n))
+sum_counted m n (Some sum) is = let cases = counted_cases (m + n) in grind arith
+sum_counted m n None is = let cases = counted_cases (m + n) in grind arith
 
 pub counted_is : (m count : ℕ) → Some count ≡ counted m → (count ≡ m) × (m ≤ greatest)
 counted_is m count is =
@@ -70,9 +69,9 @@ counted_is m count is =
 
 pub not_counted : (m n : ℕ) → None ≡ counted m → counted (m + n) ≡ None
 not_counted m n is =
-    ⊎_elim (λ (fits, some). absurd (none-some m (is ∙ some)))
-    (λ (past, _). ⊎_elim (λ (low, some). absurd (omega arith)) (λ (high, none). none) (counted_cases (m + n)))
-    (counted_cases m)
+    let cases = counted_cases m in
+    let all = counted_cases (m + n) in
+    grind arith
 
 -- so many were counted, and one box more
 pub one_box_counted : (boxes : List Box) (k n count all : ℕ) (b : Box) → k < length boxes → get_or boxes k b ≡ b

@@ -1,6 +1,6 @@
 -- Which chunks a resize keeps, dimension by dimension.
-use Rattle.std.proofs.Common.{◌≡◌, ◌≢◌, ◌↔◌, ◌⊎◌, ℕ, zero, suc, ◌+◌, ◌-◌, ◌<◌, ◌≤◌, List, [], ◌∷◌, arith, length, min, slice_index_or}
-use Rattle.std.proofs.Common.{ap₂, inl, inr, subst, sym, ⊎_elim}
+use Rattle.std.proofs.Common.{◌≡◌, ◌↔◌, ◌⊎◌, ℕ, zero, suc, ◌+◌, ◌-◌, ◌<◌, ◌≤◌, List, [], ◌∷◌, arith, length, min, slice_index_or}
+use Rattle.std.proofs.Common.{ap₂, subst, sym, ⊎_elim}
 use Rattle.std.proofs.lemmas.Bool.{cases_lt}
 use Rattle.std.specs.List.{AllByRecursion}
 use Rattle.zarrs_chunk_base.specs.Dimension.{Dimension, Holds, InBox, InEach, IsChain, IsShape, array_sizes}
@@ -14,9 +14,17 @@ use Rattle.zarrs_chunk_plan.proofs.SomePlan.{has_shape}
 
 -- ---- one dimension
 
--- all are kept, or all but the last one, if its extent differs
-abbrev pub IsCount : (one other : ℕ × ℕ) → (both kept : ℕ) → Type 0
-IsCount one other both kept = ((one ≡ other) × (kept ≡ both)) ⊎ ((one ≢ other) × (kept ≡ both - 1))
+-- all are kept, or all but the last one, if that one isn't the same
+abbrev pub IsCount : (Same : Type 0) (both kept : ℕ) → Type 0
+IsCount Same both kept = (Same × (kept ≡ both)) ⊎ ((¬ Same) × (kept ≡ both - 1))
+
+first_are : (P : ℕ → Type 0) (both : ℕ) → 0 < both → ((c : ℕ) → c + 1 < both → P c) → (Same : Type 0) → (Same → P (both - 1))
+    → (P (both - 1) → Same) → (kept : ℕ) → IsCount Same both kept → (c : ℕ) → c < kept ↔ ((c < both) × P c)
+first_are P both some earlier Same if_same same kept counts c =
+    ⊎_elim (λ (before : c + 1 < both). let is = earlier c before in grind arith)
+    (λ (past : both ≤ c + 1). ⊎_elim (λ (at : both - 1 ≡ c). let is = subst P at in let back = subst P (sym at) in grind arith)
+    (λ (at : both ≤ c). grind arith) (grind arith))
+    (cases_lt (c + 1) both)
 
 module _ (d e : Dimension) (resized : IsResized d e) where
   -- a chunk that holds elements of both arrays begins where it did
@@ -53,27 +61,12 @@ module _ (d e : Dimension) (resized : IsResized d e) where
         let same_held : one.1 ≡ other.1 = grind arith in
         ap₂ (λ (a b : ℕ). let extent : ℕ × ℕ = (a, b) in extent) same_edge same_held
 
-    counted : (kept : ℕ) → IsCount one other both kept → (c : ℕ) → c < kept ↔ ((c < both) × KeptAlong d e c)
-    counted kept (inl (same, is)) c = (
-      λ less. (
-        omega arith,
-        ⊎_elim (λ (before : c + 1 < both). earlier_kept c before)
-            (λ (past : both ≤ c + 1). let at : both - 1 ≡ c = omega arith in subst (KeptAlong d e) at (last_kept same))
-            (cases_lt (c + 1) both),
-      ),
-      λ (less, _). omega arith,
-    )
-    counted kept (inr (differ, is)) c = (
-      λ less. (omega arith, earlier_kept c (omega arith)),
-      λ (less, here).
-          ⊎_elim (λ (before : c + 1 < both). omega arith)
-          (λ (past : both ≤ c + 1). let at : c ≡ both - 1 = omega arith in absurd (differ (last_same (subst (KeptAlong d e) at here))))
-          (cases_lt (c + 1) both),
-    )
+    counted : (kept : ℕ) → IsCount (one ≡ other) both kept → (c : ℕ) → c < kept ↔ ((c < both) × KeptAlong d e c)
+    counted = first_are (KeptAlong d e) both some earlier_kept (one ≡ other) last_kept last_same
 
 -- so it is along each dimension
 pub keeps_along : (ds es : List Dimension) (k both kept : ℕ) (one other : ℕ × ℕ) → AllByRecursion IsChain ds → AllByRecursion IsChain es → 0 < both
-    → HasExtentAlong ds k (both - 1) one → HasExtentAlong es k (both - 1) other → IsCount one other both kept → KeepsAlong ds es k both kept
+    → HasExtentAlong ds k (both - 1) one → HasExtentAlong es k (both - 1) other → IsCount (one ≡ other) both kept → KeepsAlong ds es k both kept
 keeps_along (d ∷ ds) (e ∷ es) zero both kept one other chains also some extent extent_after counts =
     λ resized all. counted d e resized chains.0 also.0 both all some one other extent extent_after kept counts
 keeps_along (d ∷ ds) (e ∷ es) (suc k) both kept one other chains also some extent extent_after counts =
