@@ -84,7 +84,7 @@ pub(crate) fn kept_along<G: ChunkGridTraits, H: ChunkGridTraits>(
     Ok(kept)
 }
 
-/// Returns how many chunks a resize keeps along a dimension, of those that hold elements of both arrays. Only the last of them may differ.
+/// Returns how many of the first `both` chunks along a dimension, which hold elements of both arrays, a resize keeps. Only the last of them may differ.
 ///
 /// # Errors
 /// Out of memory.
