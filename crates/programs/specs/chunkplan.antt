@@ -4,6 +4,7 @@ pub mod DocumentFault
 pub mod Keys
 pub mod Known
 pub mod Line
+pub mod MemberRules
 pub mod PlanFault
 pub mod Planned
 pub mod Run

@@ -6,6 +6,7 @@
 //! | `document` | the document that a JSON tree stands for |
 //! | `keys` | the keys behind a document |
 //! | `known_members` | the members that a document may have |
+//! | `member_rules` | which members go together |
 //! | `boxes` | a box as a document writes it |
 //! | `flag` | a flag as a document writes it |
 //! | `share` | a share of a plan as a document writes it |
@@ -49,6 +50,7 @@ mod flag;
 mod keys;
 mod known_members;
 mod line;
+mod member_rules;
 mod missing;
 mod opened;
 mod order;
@@ -65,6 +67,7 @@ mod within;
 use document::parse;
 use keys::has_keys_behind;
 pub use known_members::UnknownMember;
+pub use member_rules::MemberRule;
 use missing::write_beside_keys;
 use plan::write_plan;
 pub use run_fault::RunFault;

@@ -161,7 +161,7 @@ def worker(chunkplan, generator, count):
         yield "a broken source", told.returncode == 1 and "chunk 1.0 of" in told.stderr and told.stdout == ""
         for words in (("--keys",), ("--subset", "0,0", "9,9")):
             run = subprocess.run([chunkplan], input=tool("document_of.py", *ends, "--by-source", *words).stdout, capture_output=True, text=True)
-            yield f"no plan {words}", (run.returncode, run.stdout) == (1, "") and "doesn't go with `order`" in run.stderr
+            yield f"no plan {words}", (run.returncode, run.stdout) == (1, "") and "field `order` can't be combined with" in run.stderr
 
 
 def made_anew(chunkplan, generator, count):

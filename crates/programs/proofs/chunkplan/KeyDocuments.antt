@@ -1,17 +1,42 @@
 -- What a document before keys asks for.
-use Rattle.std.proofs.Common.{◌≡◌, ◌⊎◌, ◌∙◌, ℕ, Bool, true, false, IsSome, List, Option, None, Some, ap, codes, inl, inr, is_some, refl, sym, true≢false}
+use Rattle.std.proofs.Common.{◌≡◌, ◌⊎◌, ◌∙◌, ℕ, Bool, true, false, not, ◌&&◌, Contains, IsFalse, IsSome, List, Option, None, Some, ap, codes, inl, inr, is_some, refl, sym, true≢false, arith}
 use Rattle.std.proofs.lemmas.Option.{none-some, same_Some}
 use Rattle.serde_json.specs.Data.{Data}
 use Rattle.serde_json.specs.Find.{get}
 use Rattle.zarrs_chunk_base.specs.ArraySubset.{Box}
 use Rattle.zarrs_chunk_base.specs.Json.{IsJsonOf}
+use Rattle.zarrs_chunk_axes.proofs.RowMajorOrder.{of_one}
 use Rattle.zarrs_chunk_plan.specs.declared.share.Share.{Share}
 use Rattle.documents.specs.Stored.{Stored}
 use Rattle.programs.specs.chunkplan.Document.{Document, HasFlag, HasWanted, AsksForLinesOfCopy, IsDocument, IsTask, Task, Wanted, copy_to, counts_wanted}
 use Rattle.programs.specs.chunkplan.Document.{HasOrder, lines_wanted, read_of, rechunk_by_source, rechunk_to, rechunk_within, resize_to}
 use Rattle.programs.specs.chunkplan.Keys.{HasKeysBehind}
+use Rattle.programs.specs.chunkplan.MemberRules.{Fit, Rule, excludes, is_broken, needs, rules}
 use Rattle.programs.specs.declared.chunkplan.line.Order.{Order}
 use Rattle.programs.specs.declared.chunkplan.line.Order.TheVariants.{Source, Target}
+
+-- ---- what a document has that breaks no rule
+
+kept : (d : Data) → Fit d → (rule : Rule) → Contains rules rule → IsFalse (is_broken d rule)
+kept d fit rule among = of_one (λ rule. IsFalse (is_broken d rule)) rules rule fit among
+
+-- what a member needs
+is_beside : (d : Data) → Fit d → (member other : List ℕ) → Contains rules (needs member other) → IsSome (get member d) → IsSome (get other d)
+is_beside d fit member other among there = is_there (is_some (get member d)) (is_some (get other d)) (kept d fit (needs member other) among) there
+  where
+    is_there : (one two : Bool) → (one && not two) ≡ false → one ≡ true → two ≡ true
+    is_there true true kept there = refl
+    is_there true false kept there = absurd (true≢false kept)
+    is_there false two kept there = absurd (true≢false (sym there))
+
+-- and nothing that it excludes
+none_beside : (d : Data) → Fit d → (member other : List ℕ) → Contains rules (excludes member other) → IsSome (get member d) → get other d ≡ None
+none_beside d fit member other among there = is_none (is_some (get member d)) (get other d) (kept d fit (excludes member other) among) there
+  where
+    is_none : (one : Bool) (two : Option Data) → (one && is_some two) ≡ false → one ≡ true → two ≡ None
+    is_none true None kept there = refl
+    is_none true (Some m) kept there = absurd (true≢false kept)
+    is_none false two kept there = absurd (true≢false (sym there))
 
 -- a flag that is true is there
 flag_is_there : (d : Data) (field : List ℕ) → HasFlag d field true → (m : Data) × (get field d ≡ Some m)
@@ -56,9 +81,10 @@ copy_of_lines line d document json stands (other, also, flag) =
     let same : other ≡ d = same_Some other d (sym also.1 ∙ json.1) in
     let (m, there) = flag_is_there d (codes "keys") (rw same at flag) in
     let some = ap is_some there in
-    let fitting = stands.fitting in (
-      are_lines d document.wanted stands.wanted (fitting.keys.of_lines some),
-      is_copy d document.task stands.task (fitting.keys.of_target some) (λ resized. (fitting.resize.of_resize resized).0)
-          (λ ordered. not_missing d m (codes "keys") there (fitting.order.alone ordered).1.1.1.0)
-          (λ bounded. not_missing d m (codes "keys") there (fitting.bound.alone bounded).1.1.0),
+    let fit = stands.fitting in (
+      are_lines d document.wanted stands.wanted (none_beside d fit (codes "keys") (codes "counts") (21, omega arith, refl) some),
+      is_copy d document.task stands.task (is_beside d fit (codes "keys") (codes "target") (20, omega arith, refl) some)
+          (none_beside d fit (codes "resize") (codes "target") (0, omega arith, refl))
+          (λ ordered. not_missing d m (codes "keys") there (none_beside d fit (codes "order") (codes "keys") (26, omega arith, refl) ordered))
+          (λ bounded. not_missing d m (codes "keys") there (none_beside d fit (codes "max_elements") (codes "keys") (34, omega arith, refl) bounded)),
     )

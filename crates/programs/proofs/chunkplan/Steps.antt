@@ -1,6 +1,8 @@
 -- What a step leaves that sends the text of a plan, in other words.
-use Rattle.std.proofs.Common.{◌≡◌, ◌⊎◌, ℕ, List, Result, Ok, Err, inl, inr, refl, ⊎_elim}
-use Rattle.programs.specs.chunkplan.seen.Steps.{HasBegun, StepLeaves}
+use Rattle.std.proofs.Common.{◌≡◌, ◌⊎◌, ℕ, IfOk, List, Result, Ok, Err, Vec, inl, inr, refl, ⊎_elim}
+use Rattle.std.specs.declared.alloc.AllocError.{AllocError}
+use Rattle.std.specs.declared.alloc.Global.{Global}
+use Rattle.programs.specs.chunkplan.seen.Steps.{HasBegun, IsMade, StepLeaves}
 use Rattle.streams.specs.seen.Sent.{Output}
 use Rattle.programs.specs.declared.chunkplan.run_fault.RunFault.{RunFault}
 use Rattle.programs.specs.declared.chunkplan.run_fault.RunFault.TheVariants.{Memory, Write}
@@ -16,6 +18,18 @@ module _ (P Q : List ℕ → Type 0) (F G : RunFault → Type 0) (step : (text :
   step_follows (Err Memory) (same, which) = (same, ⊎_elim inl (λ begun. inr (begun_follows begun)) which)
   step_follows (Err Write) leaves = (leaves.0, begun_follows leaves.1)
   step_follows (Err _) leaves = (leaves.0, leaves.1, blames _ leaves.2)
+
+-- a text that was made has what its maker promises
+pub made_text : (P : List ℕ → Type 0) (made : Result (Vec ℕ Global) AllocError) → IfOk made (λ text. P text.items) → (text : List ℕ) → IsMade made text
+    → P text
+made_text P (Ok bytes) has text is = rw is has
+made_text P (Err e) has text none = absurd none
+
+-- so has what was sent of it
+pub step_made : (P : List ℕ → Type 0) (made : Result (Vec ℕ Global) AllocError) → IfOk made (λ text. P text.items) → (before after : Output)
+    (r : Result (Unit {0}) RunFault) → StepLeaves (IsMade made) (λ _. ⊥) r before after → StepLeaves P (λ _. ⊥) r before after
+step_made P made has before after r =
+    step_follows (IsMade made) P (λ _. ⊥) (λ _. ⊥) (made_text P made has) (λ fault none. none) before after r
 
 -- a fault before anything was sent
 pub early : (P : List ℕ → Type 0) (F : RunFault → Type 0) (fault : RunFault) (before : Output) → (¬ F Write) → (fault ≡ Memory) ⊎ F fault

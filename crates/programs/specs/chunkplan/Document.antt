@@ -3,11 +3,10 @@
 -- `order`, or `max_elements` and `stage`, if they are wanted; for the copy of a region, `target` and `subset`, and `at` if it is wanted. `share` or
 -- `counts` says what is wanted of the plan, if not all lines; beside a target, `keys` that keys of its store stand behind the document. For a resize
 -- it has `resize`, and `keep` if it is wanted, and none of these. What else an array's `zarr.json` has may stand in it and in the target.
-use Rattle.std.specs.Prelude.{◌≡◌, ◌⊎◌, ◌==◌, ◌^◌, ℕ, Bool, true, false, if◌then◌else◌, List, [], ◌∷◌, Option, Some, None, IsSome, bytes_eq, codes}
+use Rattle.std.specs.Prelude.{◌≡◌, ◌⊎◌, ◌==◌, ◌^◌, ℕ, Bool, true, false, if◌then◌else◌, List, [], Option, Some, None, bytes_eq, codes}
 use Rattle.std.specs.Prelude.{MatchOption}
 use Rattle.std.specs.Prelude.{nat_lt, option_and_then, option_map}
 use Rattle.std.specs.Int.NonZero.{non_zero_u64_get}
-use Rattle.std.specs.List.{AllByRecursion}
 use Rattle.serde_json.specs.Data.{Data}
 use Rattle.serde_json.specs.Find.{as_bool, as_str, get}
 use Rattle.zarrs_chunk_base.specs.ArraySubset.{Box, IsBox}
@@ -19,6 +18,7 @@ use Rattle.zarrs_chunk_questions.specs.Order.{order_in}
 use Rattle.documents.specs.Document.{HasStored, shape_in}
 use Rattle.documents.specs.Stored.{Stored, stored_of}
 use Rattle.programs.specs.chunkplan.Known.{Agree, HasOnly, known_members, zarr_json_members}
+use Rattle.programs.specs.chunkplan.MemberRules.{Fit}
 use Rattle.programs.specs.declared.chunkplan.line.Order.{Order}
 use Rattle.programs.specs.declared.chunkplan.line.Order.TheVariants.{Source, Target}
 use Rattle.programs.specs.declared.chunkplan.ranges.RangesAsked.{RangesAsked}
@@ -181,72 +181,6 @@ IsCopying d task = (m : Data) × (get (codes "target") d ≡ Some m) × IsTaskTo
 abbrev pub IsTask : Data → Task → Type 0
 IsTask d (resize_to shape keep) = HasNumbers d (codes "resize") (Some shape) × HasFlag d (codes "keep") keep
 IsTask d task = (get (codes "resize") d ≡ None) × IsCopying d task
-
--- `clip` stands beside no target, `chunks` beside one without a `subset`, and `at` beside both
-pub record FitTask (d : Data) : Type 0 where
-  pub of_read : get (codes "target") d ≡ None → (get (codes "chunks") d ≡ None) × (get (codes "at") d ≡ None)
-  pub of_target : IsSome (get (codes "target") d) → get (codes "clip") d ≡ None
-  pub of_rechunking : IsSome (get (codes "target") d) → get (codes "subset") d ≡ None → get (codes "at") d ≡ None
-  pub of_region : IsSome (get (codes "target") d) → IsSome (get (codes "subset") d) → get (codes "chunks") d ≡ None
-
--- the members that stand beside no `resize`
-abbrev pub not_of_resize : List (List ℕ)
-not_of_resize =
-    codes "target" ∷ codes "subset" ∷ codes "clip" ∷ codes "chunks" ∷ codes "at" ∷ codes "share" ∷ codes "counts" ∷ codes "keys"
-    ∷ codes "order" ∷ codes "item_size" ∷ codes "memory_order" ∷ codes "max_ranges" ∷ codes "max_elements" ∷ codes "stage" ∷ []
-
--- none of these members is there
-abbrev pub HasNone : List (List ℕ) → Data → Type 0
-HasNone members d = AllByRecursion (λ name. get name d ≡ None) members
-
--- `keep` stands beside `resize` alone
-pub record FitResize (d : Data) : Type 0 where
-  pub of_resize : IsSome (get (codes "resize") d) → HasNone not_of_resize d
-  pub of_others : get (codes "resize") d ≡ None → get (codes "keep") d ≡ None
-
--- `keys` stands beside a target, and beside no `counts`
-pub record FitKeys (d : Data) : Type 0 where
-  pub of_target : IsSome (get (codes "keys") d) → IsSome (get (codes "target") d)
-  pub of_lines : IsSome (get (codes "keys") d) → get (codes "counts") d ≡ None
-
--- the members that don't go with `order`
-abbrev pub not_of_order : List (List ℕ)
-not_of_order = codes "subset" ∷ codes "chunks" ∷ codes "counts" ∷ codes "keys" ∷ []
-
--- `order` stands beside a target, and beside none of those
-pub record FitOrder (d : Data) : Type 0 where
-  pub of_target : IsSome (get (codes "order") d) → IsSome (get (codes "target") d)
-  pub alone : IsSome (get (codes "order") d) → HasNone not_of_order d
-
--- the members that stand beside `item_size` alone
-abbrev pub only_with_item_size : List (List ℕ)
-only_with_item_size = codes "memory_order" ∷ codes "max_ranges" ∷ []
-
--- `item_size` stands beside no target and no `counts`, and those two beside it alone
-pub record FitRanges (d : Data) : Type 0 where
-  pub of_read : IsSome (get (codes "item_size") d) → get (codes "target") d ≡ None
-  pub of_lines : IsSome (get (codes "item_size") d) → get (codes "counts") d ≡ None
-  pub of_item : get (codes "item_size") d ≡ None → HasNone only_with_item_size d
-
--- the members that don't go with `max_elements`
-abbrev pub not_of_bound : List (List ℕ)
-not_of_bound = codes "subset" ∷ codes "chunks" ∷ codes "keys" ∷ codes "order" ∷ []
-
--- `max_elements` stands beside a target, and beside none of those; and `stage` beside it alone
-pub record FitBound (d : Data) : Type 0 where
-  pub of_target : IsSome (get (codes "max_elements") d) → IsSome (get (codes "target") d)
-  pub alone : IsSome (get (codes "max_elements") d) → HasNone not_of_bound d
-  pub of_stage : get (codes "max_elements") d ≡ None → get (codes "stage") d ≡ None
-
--- and `share` beside no `counts`
-pub record Fit (d : Data) : Type 0 where
-  pub resize : FitResize d
-  pub task : FitTask d
-  pub keys : FitKeys d
-  pub order : FitOrder d
-  pub ranges : FitRanges d
-  pub bound : FitBound d
-  pub of_counts : IsSome (get (codes "counts") d) → get (codes "share") d ≡ None
 
 -- the lines of a rechunking in the order of the target, or of the copy of a region, are asked for
 abbrev pub AsksForLinesOfCopy : Document → Type 0

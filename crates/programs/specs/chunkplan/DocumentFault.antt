@@ -1,5 +1,5 @@
 -- The first fault of an input that is no document.
-use Rattle.std.specs.Prelude.{◌≡◌, ◌⊎◌, ℕ, Bool, false, ◌≤◌, List, [], ◌∷◌, Option, IsSome, Some, None, codes}
+use Rattle.std.specs.Prelude.{◌≡◌, ◌⊎◌, ℕ, Bool, false, ◌≤◌, IsTrue, List, [], ◌∷◌, Option, IsSome, Some, None, codes}
 use Rattle.serde_json.specs.Data.{Data}
 use Rattle.serde_json.specs.Find.{as_bool, as_object, get}
 use Rattle.zarrs_chunk_base.specs.ArraySubset.{Box as ElementBox}
@@ -11,19 +11,14 @@ use Rattle.zarrs_chunk_plan.specs.declared.bytes.MemoryOrder.TheVariants.{C}
 use Rattle.zarrs_chunk_questions.specs.Order.{order_in}
 use Rattle.documents.specs.Document.{HasAll, HasStored, IsObjectOf, IsShapeFault, IsStoredFault, IsTextFault, shape_in}
 use Rattle.documents.specs.Stored.{Stored}
-use Rattle.programs.specs.chunkplan.Document.{Fit, FitKeys, FitResize, FitTask, HasBox, HasFlag, HasNumbers, HasWanted, IsOfArray, IsOfType, Wanted}
-use Rattle.programs.specs.chunkplan.Document.{FitBound, FitOrder, FitRanges, HasIfAny, HasOr, HasOrder, not_of_bound, not_of_order, not_of_resize}
-use Rattle.programs.specs.chunkplan.Document.{line_order_in, most_in, only_with_item_size, stage_in}
+use Rattle.programs.specs.chunkplan.Document.{HasBox, HasFlag, HasNumbers, HasWanted, IsOfArray, IsOfType, Wanted}
+use Rattle.programs.specs.chunkplan.Document.{HasIfAny, HasOr, HasOrder}
+use Rattle.programs.specs.chunkplan.Document.{line_order_in, most_in, stage_in}
 use Rattle.programs.specs.chunkplan.Known.{Agree, Differ, HasOnly, IsFirstUnknown, known_members, zarr_json_members}
+use Rattle.programs.specs.chunkplan.MemberRules.{Fit, is_broken, rule_of, rules}
 use Rattle.programs.specs.chunkplan.RunFault.{of_document}
 use Rattle.programs.specs.declared.chunkplan.run_fault.RunFault.{RunFault}
-use Rattle.programs.specs.declared.chunkplan.run_fault.RunFault.TheVariants.{AtOfNoRegion, BoundOfNoTarget, Box, ChunksOfNoTarget, ChunksOfRegion}
-use Rattle.programs.specs.declared.chunkplan.run_fault.RunFault.TheVariants.{ClipOfTarget}
-use Rattle.programs.specs.declared.chunkplan.run_fault.RunFault.TheVariants.{ItemSizeOfCounts, ItemSizeOfTarget, KeepOfNoResize, KeysOfCounts}
-use Rattle.programs.specs.declared.chunkplan.run_fault.RunFault.TheVariants.{KeysOfNoTarget, Missing, NoItemSize, NotOfBound, NotOfOrder, NotOfResize}
-use Rattle.programs.specs.declared.chunkplan.run_fault.RunFault.TheVariants.{OrderOfNoTarget}
-use Rattle.programs.specs.declared.chunkplan.run_fault.RunFault.TheVariants.{OtherDataType, OtherShape, ShareOfCounts, StageOfNoBound, Unknown}
-use Rattle.programs.specs.declared.chunkplan.run_fault.RunFault.TheVariants.{UnknownOfTarget}
+use Rattle.programs.specs.declared.chunkplan.run_fault.RunFault.TheVariants.{Box, Misfit, Missing, OtherDataType, OtherShape, Unknown, UnknownOfTarget}
 use Rattle.programs.specs.declared.chunkplan.run_fault.RunFault.TheVariants.{WrongValue}
 use Rattle.programs.specs.declared.chunkplan.line.Order.TheVariants.{Target}
 use Rattle.documents.specs.declared.document_fault.DocumentFault.{DocumentFault}
@@ -64,72 +59,10 @@ document_members = codes "shape" ∷ codes "chunk_grid" ∷ codes "chunk_key_enc
 abbrev pub HasMembers : Data → Type 0
 HasMembers = HasAll document_members
 
--- there is a target and no `clip`
-abbrev pub HasTargetAlone : Data → Type 0
-HasTargetAlone d = IsSome (get (codes "target") d) × (get (codes "clip") d ≡ None)
-
--- the fault says which member doesn't go with what is asked for, the first of `clip`, `chunks` and `at`
-abbrev pub IsTaskMisfit : Data → RunFault → Type 0
-IsTaskMisfit d ClipOfTarget = IsSome (get (codes "target") d) × IsSome (get (codes "clip") d)
-IsTaskMisfit d ChunksOfNoTarget = (get (codes "target") d ≡ None) × IsSome (get (codes "chunks") d)
-IsTaskMisfit d ChunksOfRegion = HasTargetAlone d × IsSome (get (codes "subset") d) × IsSome (get (codes "chunks") d)
-IsTaskMisfit d AtOfNoRegion =
-    (((get (codes "target") d ≡ None) × (get (codes "chunks") d ≡ None)) ⊎ (HasTargetAlone d × (get (codes "subset") d ≡ None)))
-    × IsSome (get (codes "at") d)
-IsTaskMisfit d _ = ⊥
-
--- this member is the first of some that is there, where none is to be
-abbrev pub IsFirstThere : List (List ℕ) → Data → List ℕ → Type 0
-IsFirstThere members d = IsFirst (λ name. IsSome (get name d)) members
-
--- the fault says that there are `keys`, and no target, or counts; the first of these
-abbrev pub IsKeysMisfit : Data → RunFault → Type 0
-IsKeysMisfit d KeysOfNoTarget = IsSome (get (codes "keys") d) × (get (codes "target") d ≡ None)
-IsKeysMisfit d KeysOfCounts = IsSome (get (codes "keys") d) × IsSome (get (codes "target") d) × IsSome (get (codes "counts") d)
-IsKeysMisfit d _ = ⊥
-
--- the fault says that there is `order`, and no target, or one of the members that don't go with it; the first of these
-abbrev pub IsOrderMisfit : Data → RunFault → Type 0
-IsOrderMisfit d OrderOfNoTarget = IsSome (get (codes "order") d) × (get (codes "target") d ≡ None)
-IsOrderMisfit d (NotOfOrder told) =
-    IsSome (get (codes "order") d) × IsSome (get (codes "target") d) × IsFirstThere not_of_order d told.now
-IsOrderMisfit d _ = ⊥
-
--- the fault says that there is `item_size`, and a target or counts, or that one of the members is there that go with it alone; the first of these
-abbrev pub IsRangesMisfit : Data → RunFault → Type 0
-IsRangesMisfit d ItemSizeOfTarget = IsSome (get (codes "item_size") d) × IsSome (get (codes "target") d)
-IsRangesMisfit d ItemSizeOfCounts =
-    IsSome (get (codes "item_size") d) × (get (codes "target") d ≡ None) × IsSome (get (codes "counts") d)
-IsRangesMisfit d (NoItemSize told) = (get (codes "item_size") d ≡ None) × IsFirstThere only_with_item_size d told.now
-IsRangesMisfit d _ = ⊥
-
--- the fault says that there is `max_elements`, and no target, or one of the members that don't go with it, or that there is `stage` without it; the
--- first of these
-abbrev pub IsBoundMisfit : Data → RunFault → Type 0
-IsBoundMisfit d BoundOfNoTarget = IsSome (get (codes "max_elements") d) × (get (codes "target") d ≡ None)
-IsBoundMisfit d (NotOfBound told) =
-    IsSome (get (codes "max_elements") d) × IsSome (get (codes "target") d) × IsFirstThere not_of_bound d told.now
-IsBoundMisfit d StageOfNoBound = (get (codes "max_elements") d ≡ None) × IsSome (get (codes "stage") d)
-IsBoundMisfit d _ = ⊥
-
--- The first member that doesn't go with the others: with `resize`, the first of `not_of_resize`; without it, `keep`; then as of the task; then
--- `keys`; then `order`; then as of byte ranges; then as of `max_elements` and `stage`; last, a share beside counts.
+-- the fault tells the first rule that the document breaks
 abbrev pub IsMisfit : Data → RunFault → Type 0
-IsMisfit d (NotOfResize told) = IsSome (get (codes "resize") d) × IsFirstThere not_of_resize d told.now
-IsMisfit d KeepOfNoResize = (get (codes "resize") d ≡ None) × IsSome (get (codes "keep") d)
-IsMisfit d KeysOfNoTarget = FitResize d × FitTask d × IsKeysMisfit d KeysOfNoTarget
-IsMisfit d KeysOfCounts = FitResize d × FitTask d × IsKeysMisfit d KeysOfCounts
-IsMisfit d OrderOfNoTarget = FitResize d × FitTask d × FitKeys d × IsOrderMisfit d OrderOfNoTarget
-IsMisfit d (NotOfOrder told) = FitResize d × FitTask d × FitKeys d × IsOrderMisfit d (NotOfOrder told)
-IsMisfit d ItemSizeOfTarget = FitResize d × FitTask d × FitKeys d × FitOrder d × IsRangesMisfit d ItemSizeOfTarget
-IsMisfit d ItemSizeOfCounts = FitResize d × FitTask d × FitKeys d × FitOrder d × IsRangesMisfit d ItemSizeOfCounts
-IsMisfit d (NoItemSize told) = FitResize d × FitTask d × FitKeys d × FitOrder d × IsRangesMisfit d (NoItemSize told)
-IsMisfit d BoundOfNoTarget = FitResize d × FitTask d × FitKeys d × FitOrder d × FitRanges d × IsBoundMisfit d BoundOfNoTarget
-IsMisfit d (NotOfBound told) = FitResize d × FitTask d × FitKeys d × FitOrder d × FitRanges d × IsBoundMisfit d (NotOfBound told)
-IsMisfit d StageOfNoBound = FitResize d × FitTask d × FitKeys d × FitOrder d × FitRanges d × IsBoundMisfit d StageOfNoBound
-IsMisfit d ShareOfCounts = FitResize d × FitTask d × FitKeys d × FitOrder d × FitRanges d × FitBound d
-    × IsSome (get (codes "counts") d) × IsSome (get (codes "share") d)
-IsMisfit d fault = FitResize d × IsTaskMisfit d fault
+IsMisfit d (Misfit rule) = IsFirst (λ rule. IsTrue (is_broken d rule)) rules (rule_of rule)
+IsMisfit _ _ = ⊥
 
 -- the fault says why a member's value is no box: it is no list of two lists of sizes, or these make no box
 abbrev pub IsBoxFormFault : Data → List ℕ → RunFault → Type 0

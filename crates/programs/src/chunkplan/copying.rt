@@ -15,13 +15,13 @@ ghost use Rattle.programs.specs.chunkplan.Line.{group_line, lines_from, resize_l
 ghost use Rattle.programs.specs.chunkplan.seen.Missing.{is_left_out as left_out, line_unless_stored};
 ghost use Rattle.programs.specs.chunkplan.seen.Opened.{CanGiveCopies, CanGiveParts, CopiesToCome, PartsToCome, dimensions_in, key_in};
 ghost use Rattle.programs.specs.chunkplan.seen.Pieces.{text_as};
-ghost use Rattle.programs.specs.chunkplan.seen.Steps.{StepLeaves};
+ghost use Rattle.programs.specs.chunkplan.seen.Steps.{IsMade, StepLeaves};
 ghost use Rattle.streams.specs.seen.Sent.{output};
 
 use crate::chunkplan::RunFault;
 use crate::chunkplan::line::{Form, Order, change_line, line_begin, line_end, part_text};
 use crate::chunkplan::opened::{OpenedCopies, OpenedGroup, OpenedParts};
-use std::alloc::Global;
+use std::alloc::{AllocError, Global};
 use std::io::Write;
 use streams::{Watched, send};
 use zarrs_chunk_keys::ChunkKeyEncoding;
@@ -51,8 +51,7 @@ pub(crate) fn write_parts<W: Write>(
 {
     let mut number = first;
     for part in walk {
-        let text = part_text(alloc, &part?, number, form)?;
-        send_text(&text, held_back, writer)?;
+        send_text(part_text(alloc, &part?, number, form), held_back, writer)?;
         number = following(number);
     }
     Ok(())
@@ -160,8 +159,7 @@ pub(crate) fn write_changes<W: Write>(
     let of = walk.in_all();
     let mut number = Some(0);
     for change in walk {
-        let line = change_line(alloc, &change?, number, of)?;
-        send_text(&line, held_back, writer)?;
+        send_text(change_line(alloc, &change?, number, of), held_back, writer)?;
         number = following(number);
     }
     Ok(())
@@ -188,28 +186,26 @@ fn write_group<W: Write>(
         (output W.contents held_back.new.items writer.new) }
 {
     let ChunkCopies { to, from } = group;
-    let begin = line_begin(alloc, order, &to, number, of)?;
-    send_text(&begin, held_back, writer)?;
+    send_text(line_begin(alloc, order, &to, number, of), held_back, writer)?;
     let form = Form::Piece(order, &to);
     write_parts(alloc, from, form, Some(0), held_back, writer)?;
-    let end = line_end(alloc, order, &to, number, of)?;
-    send_text(&end, held_back, writer)
+    send_text(line_end(alloc, order, &to, number, of), held_back, writer)
 }
 
-/// Sends a text.
+/// Sends a text that was made, if there was memory for it.
 ///
 /// # Errors
 /// As `write_parts`.
 pub(crate) fn send_text<W: Write>(
-    text: &[u8],
+    text: Result<Vec<u8>, AllocError>,
     held_back: &mut Vec<u8>,
     writer: &mut Watched<W>,
 ) -> Result<(), RunFault>
-    ensures { StepLeaves (λ sent. sent ≡ text.now) (λ _. ⊥) result
+    ensures { StepLeaves (IsMade text) (λ _. ⊥) result
         (output W.contents held_back.old.items writer.old)
         (output W.contents held_back.new.items writer.new) }
 {
-    send(text, held_back, writer)?;
+    send(&text?, held_back, writer)?;
     Ok(())
 }
 

@@ -1,17 +1,15 @@
 //! The program's document.
-ghost use Rattle.std.specs.Prelude.{◌≡◌, ◌⊎◌, IsSome, MatchOption, MatchResult, None, Some, codes, map};
+ghost use Rattle.std.specs.Prelude.{◌≡◌, ◌⊎◌, MatchResult, None, Some, codes};
 ghost use Rattle.serde_json.specs.Data.{Data};
 ghost use Rattle.serde_json.specs.Find.{get};
 ghost use Rattle.serde_json.specs.View.{view};
 ghost use Rattle.zarrs_chunk_base.specs.Json.{IsJsonOf};
 ghost use Rattle.documents.specs.Document.{HasStored};
 ghost use Rattle.documents.specs.Stored.{stored_of};
-ghost use Rattle.programs.specs.chunkplan.Document.{Fit, FitBound, FitKeys, FitOrder, FitRanges, FitResize, FitTask};
-ghost use Rattle.programs.specs.chunkplan.Document.{HasNone, HasWanted, IsCopying, IsDocument, IsOfArray, IsOfType, IsTask, IsTaskTo};
+ghost use Rattle.programs.specs.chunkplan.Document.{HasWanted, IsCopying, IsDocument, IsOfArray, IsOfType, IsTask, IsTaskTo};
 ghost use Rattle.programs.specs.chunkplan.Document.{document_of, task_of, wanted_of};
-ghost use Rattle.programs.specs.chunkplan.DocumentFault.{HasWantedFault, IsBoundMisfit, IsCopyingFault, IsFirstThere, IsFormFault};
-ghost use Rattle.programs.specs.chunkplan.DocumentFault.{IsInputFault, IsKeysMisfit, IsMisfit, IsOrderMisfit, IsRangesMisfit, IsTargetMisfit};
-ghost use Rattle.programs.specs.chunkplan.DocumentFault.{IsTargetStoredFault, IsTaskFault, IsTaskMisfit, IsTaskToFault, IsTypeMisfit, IsUnknownFault};
+ghost use Rattle.programs.specs.chunkplan.DocumentFault.{HasWantedFault, IsCopyingFault, IsFormFault, IsInputFault, IsTargetMisfit};
+ghost use Rattle.programs.specs.chunkplan.DocumentFault.{IsTargetStoredFault, IsTaskFault, IsTaskToFault, IsTypeMisfit, IsUnknownFault};
 ghost use Rattle.programs.specs.chunkplan.Known.{HasOnly, IsFirstUnknown, known_members, zarr_json_members};
 ghost use Rattle.programs.specs.declared.chunkplan.run_fault.RunFault.TheVariants.{Memory, UnknownOfTarget};
 ghost use Rattle.documents.specs.declared.document_fault.DocumentFault.TheVariants.{Memory as DocumentMemory};
@@ -21,6 +19,7 @@ use crate::chunkplan::boxes::{member_box, member_numbers, read_box};
 use crate::chunkplan::flag::member_flag;
 use crate::chunkplan::known_members::{DOCUMENT, UnknownMember, ZARR_JSON, agree, check_known};
 use crate::chunkplan::line::Order;
+use crate::chunkplan::member_rules::check_rules;
 use crate::chunkplan::order::member_order;
 use crate::chunkplan::ranges::{RangesAsked, member_ranges};
 use crate::chunkplan::share::member_share;
@@ -63,33 +62,6 @@ pub(crate) enum Task {
         keep: bool,
     },
 }
-
-/// The members that don't go with a resize, in the order in which they are refused.
-const NOT_OF_RESIZE: [&str; 14] = [
-    "target",
-    "subset",
-    "clip",
-    "chunks",
-    "at",
-    "share",
-    "counts",
-    "keys",
-    "order",
-    "item_size",
-    "memory_order",
-    "max_ranges",
-    "max_elements",
-    "stage",
-];
-
-/// The members that don't go with an order of the lines, in the order in which they are refused.
-const NOT_OF_ORDER: [&str; 4] = ["subset", "chunks", "counts", "keys"];
-
-/// The members that go with `item_size` alone, in the order in which they are refused.
-const OF_ITEM_SIZE: [&str; 2] = ["memory_order", "max_ranges"];
-
-/// The members that don't go with a bound of how many elements a worker holds, in the order in which they are refused.
-const NOT_OF_BOUND: [&str; 4] = ["subset", "chunks", "keys", "order"];
 
 /// What is wanted of a plan.
 #[derive(Drop)]
@@ -137,7 +109,7 @@ fn document_from(alloc: Global, mut tree: Value) -> Result<Document, RunFault>
     required_member(&tree, "shape", "shape")?;
     required_member(&tree, "chunk_grid", "chunk_grid")?;
     required_member(&tree, "chunk_key_encoding", "chunk_key_encoding")?;
-    check_fitting(&tree)?;
+    check_rules(&tree)?;
     let shape = read_shape(alloc, &tree, "shape")?;
     let wanted = wanted_from(alloc, &tree)?;
     let keys = member_flag(&tree, "keys")?;
@@ -173,141 +145,6 @@ fn wanted_from(alloc: Global, tree: &Value) -> Result<Wanted, RunFault>
         return Ok(Wanted::Counts);
     }
     Ok(Wanted::Lines(member_share(alloc, tree)?))
-}
-
-/// Refuses a member that doesn't go with the others.
-fn check_fitting(tree: &Value) -> Result<(), RunFault>
-    ensures { MatchResult result (λ _. Fit (view tree.now))
-        (IsMisfit (view tree.now)) }
-{
-    check_fitting_resize(tree)?;
-    check_fitting_task(tree)?;
-    check_fitting_keys(tree)?;
-    check_fitting_order(tree)?;
-    check_fitting_ranges(tree)?;
-    check_fitting_bound(tree)?;
-    if tree.get("counts").is_some() && tree.get("share").is_some() {
-        return Err(RunFault::ShareOfCounts);
-    }
-    Ok(())
-}
-
-/// Refuses a member that doesn't go with a resize, where there is one, and else `keep`.
-fn check_fitting_resize(tree: &Value) -> Result<(), RunFault>
-    ensures { MatchResult result (λ _. FitResize (view tree.now))
-        (IsMisfit (view tree.now)) }
-{
-    match tree.get("resize") {
-        Some(_) => match first_there(tree, &NOT_OF_RESIZE) {
-            Some(field) => Err(RunFault::NotOfResize(field)),
-            None => Ok(()),
-        },
-        None => refuse(tree, "keep", RunFault::KeepOfNoResize),
-    }
-}
-
-/// The first of some members that is there.
-fn first_there(tree: &Value, fields: &[&'static str]) -> Option<&'static str>
-    ensures { MatchOption result (HasNone (map (λ name. name.now) fields.now) (view tree.now))
-        (λ name. IsFirstThere (map (λ name. name.now) fields.now) (view tree.now) name.now) }
-{
-    for field in fields {
-        if tree.get(*field).is_some() {
-            return Some(*field);
-        }
-    }
-    None
-}
-
-/// Refuses a member that doesn't go with what is asked for.
-fn check_fitting_task(tree: &Value) -> Result<(), RunFault>
-    ensures { MatchResult result (λ _. FitTask (view tree.now))
-        (IsTaskMisfit (view tree.now)) }
-{
-    if tree.get("target").is_none() {
-        refuse(tree, "chunks", RunFault::ChunksOfNoTarget)?;
-        return refuse(tree, "at", RunFault::AtOfNoRegion);
-    }
-    refuse(tree, "clip", RunFault::ClipOfTarget)?;
-    if tree.get("subset").is_none() {
-        refuse(tree, "at", RunFault::AtOfNoRegion)
-    } else {
-        refuse(tree, "chunks", RunFault::ChunksOfRegion)
-    }
-}
-
-/// Refuses `keys` beside no target, and beside counts.
-fn check_fitting_keys(tree: &Value) -> Result<(), RunFault>
-    ensures { MatchResult result (λ _. FitKeys (view tree.now))
-        (IsKeysMisfit (view tree.now)) }
-{
-    if tree.get("keys").is_none() {
-        return Ok(());
-    }
-    if tree.get("target").is_none() {
-        return Err(RunFault::KeysOfNoTarget);
-    }
-    refuse(tree, "counts", RunFault::KeysOfCounts)
-}
-
-/// Refuses `order` beside no target, and beside a member that doesn't go with it.
-fn check_fitting_order(tree: &Value) -> Result<(), RunFault>
-    ensures { MatchResult result (λ _. FitOrder (view tree.now))
-        (IsOrderMisfit (view tree.now)) }
-{
-    if tree.get("order").is_none() {
-        return Ok(());
-    }
-    if tree.get("target").is_none() {
-        return Err(RunFault::OrderOfNoTarget);
-    }
-    match first_there(tree, &NOT_OF_ORDER) {
-        Some(field) => Err(RunFault::NotOfOrder(field)),
-        None => Ok(()),
-    }
-}
-
-/// Refuses `item_size` beside a target, and beside counts, and what goes with it alone where there is no `item_size`.
-fn check_fitting_ranges(tree: &Value) -> Result<(), RunFault>
-    ensures { MatchResult result (λ _. FitRanges (view tree.now))
-        (IsRangesMisfit (view tree.now)) }
-{
-    if tree.get("item_size").is_none() {
-        return match first_there(tree, &OF_ITEM_SIZE) {
-            Some(field) => Err(RunFault::NoItemSize(field)),
-            None => Ok(()),
-        };
-    }
-    refuse(tree, "target", RunFault::ItemSizeOfTarget)?;
-    refuse(tree, "counts", RunFault::ItemSizeOfCounts)
-}
-
-/// Refuses `max_elements` beside no target, and beside a member that doesn't go with it, and `stage` where there is no `max_elements`.
-fn check_fitting_bound(tree: &Value) -> Result<(), RunFault>
-    ensures { MatchResult result (λ _. FitBound (view tree.now))
-        (IsBoundMisfit (view tree.now)) }
-{
-    if tree.get("max_elements").is_none() {
-        return refuse(tree, "stage", RunFault::StageOfNoBound);
-    }
-    if tree.get("target").is_none() {
-        return Err(RunFault::BoundOfNoTarget);
-    }
-    match first_there(tree, &NOT_OF_BOUND) {
-        Some(field) => Err(RunFault::NotOfBound(field)),
-        None => Ok(()),
-    }
-}
-
-/// Refuses a member of this name, by this fault.
-fn refuse(tree: &Value, field: &str, fault: RunFault) -> Result<(), RunFault>
-    ensures { MatchResult result (λ _. get field.now (view tree.now) ≡ None)
-        (λ told. (told ≡ fault) × IsSome (get field.now (view tree.now))) }
-{
-    match tree.get(field) {
-        Some(_) => Err(fault),
-        None => Ok(()),
-    }
 }
 
 /// Refuses a target that has a member that isn't known, or another shape or data type than the array.

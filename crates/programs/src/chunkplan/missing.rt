@@ -199,5 +199,5 @@ fn write_missing<R: Read, W: Write>(
         held_back,
         writer,
     )?;
-    send_text(&foreign, held_back, writer)
+    send_text(Ok(foreign), held_back, writer)
 }

@@ -356,8 +356,7 @@ fn write_counts<W: Write>(
         (output W.contents held_back.old.items writer.old)
         (output W.contents held_back.new.items writer.new) }
 {
-    let line = counts_line(alloc, counts)?;
-    send_text(&line, held_back, writer)
+    send_text(counts_line(alloc, counts), held_back, writer)
 }
 
 /// Sends what is wanted of the plan of a rechunking into the chunks of a box. In the order of the source, what is given as the source is the array as

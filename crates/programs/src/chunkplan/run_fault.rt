@@ -4,6 +4,7 @@ ghost use Rattle.programs.specs.chunkplan.RunFault.{of_create, of_document, of_r
 ghost use Rattle.programs.specs.declared.chunkplan.run_fault.RunFault.TheVariants.{Memory};
 
 use crate::chunkplan::known_members::UnknownMember;
+use crate::chunkplan::member_rules::MemberRule;
 use documents::{CreateFault, DocumentFault};
 use std::alloc::AllocError;
 use streams::StreamFault;
@@ -40,57 +41,9 @@ pub enum RunFault {
     /// A member of the document is no box.
     #[error("field `{0}`: {1}")]
     Box(&'static str, ArraySubsetError),
-    /// The document has a box of the target's chunks, and no target.
-    #[error("field `chunks` is for a rechunking: give a `target` too, or leave it out")]
-    ChunksOfNoTarget,
-    /// The document has a box of the target's chunks, and a region.
-    #[error("field `chunks` is for a rechunking of a whole array: leave out `subset`, or leave it out")]
-    ChunksOfRegion,
-    /// The document says where a region begins in the target's array, and has no region, or no target.
-    #[error("field `at` is for the copy of a region: give `subset` and `target` too, or leave it out")]
-    AtOfNoRegion,
-    /// The document says whether the box that it reads is clipped, and has a target.
-    #[error("field `clip` is for a read: leave out `target`, or leave it out")]
-    ClipOfTarget,
-    /// The document has a share, and asks for counts.
-    #[error("field `share` is for lines: leave out `counts`, or leave it out")]
-    ShareOfCounts,
-    /// The document has a member that doesn't go with a resize.
-    #[error("field `{0}` isn't for a resize: leave it out, or leave out `resize`")]
-    NotOfResize(&'static str),
-    /// The document says whether kept chunks are wanted, and has no resize.
-    #[error("field `keep` is for a resize: give `resize` too, or leave it out")]
-    KeepOfNoResize,
-    /// The document says whether keys stand behind it, and has no target.
-    #[error("field `keys` is for a target: give `target` too, or leave it out")]
-    KeysOfNoTarget,
-    /// The document says whether keys stand behind it, and asks for counts.
-    #[error("field `keys` is for lines: leave out `counts`, or leave it out")]
-    KeysOfCounts,
-    /// The document says in which order the lines come, and has no target.
-    #[error("field `order` is for a rechunking: give `target` too, or leave it out")]
-    OrderOfNoTarget,
-    /// The document has a member that doesn't go with an order of the lines.
-    #[error("field `{0}` doesn't go with `order`: leave out one of them")]
-    NotOfOrder(&'static str),
-    /// The document asks for byte ranges, and has a target.
-    #[error("field `item_size` is for a read: leave out `target`, or leave it out")]
-    ItemSizeOfTarget,
-    /// The document asks for byte ranges, and for counts.
-    #[error("field `item_size` is for lines: leave out `counts`, or leave it out")]
-    ItemSizeOfCounts,
-    /// The document says how byte ranges are wanted, and not how long an element is.
-    #[error("field `{0}` is for byte ranges: give `item_size` too, or leave it out")]
-    NoItemSize(&'static str),
-    /// The document says how many elements a worker may hold, and has no target.
-    #[error("field `max_elements` is for a rechunking: give `target` too, or leave it out")]
-    BoundOfNoTarget,
-    /// The document has a member that doesn't go with how many elements a worker may hold.
-    #[error("field `{0}` doesn't go with `max_elements`: leave out one of them")]
-    NotOfBound(&'static str),
-    /// The document asks for a stage, and doesn't say how many elements a worker may hold.
-    #[error("field `stage` is for a rechunking in two stages: give `max_elements` too, or leave it out")]
-    StageOfNoBound,
+    /// A member of the document doesn't go with the others.
+    #[error(transparent)]
+    Misfit(MemberRule),
     /// The document says that keys stand behind it, and isn't the first line.
     #[error("field `keys`: the document is to be the first line, and each line behind it a key")]
     KeysOfLongDocument,

@@ -141,8 +141,8 @@ fn write_stages_counts<W: Write>(
     let fits = fits_one_stage(alloc, source, target, most)?;
     let one_stage = counts_of_all(alloc, source, target)?;
     let stages = counts_between(alloc, source, target, most)?;
-    let line = stages_line(alloc, fits, &one_stage, &stages)?;
-    send_text(&line, held_back, writer)
+    let line = stages_line(alloc, fits, &one_stage, &stages);
+    send_text(line, held_back, writer)
 }
 
 /// The counts of the two stages; `None` where no array between fits.

@@ -1,11 +1,17 @@
 -- What a step leaves that sends the text of a plan.
-use Rattle.std.specs.Prelude.{◌≡◌, ◌⊎◌, ℕ, Bool, true, false, List, [], Option, Some, Result, Ok, Err}
+use Rattle.std.specs.Prelude.{◌≡◌, ◌⊎◌, ℕ, Bool, true, false, List, [], IsOkAnd, Option, Some, Result, Ok, Err, Vec}
+use Rattle.std.specs.declared.alloc.AllocError.{AllocError}
+use Rattle.std.specs.declared.alloc.Global.{Global}
 use Rattle.programs.specs.chunkplan.Keys.{HasKeysBehind, first_line}
 use Rattle.programs.specs.chunkplan.PlanFault.{IsFirstFault}
 use Rattle.programs.specs.chunkplan.Planned.{IsPlanOf}
 use Rattle.streams.specs.seen.Sent.{Output, Sends}
 use Rattle.programs.specs.declared.chunkplan.run_fault.RunFault.{RunFault}
 use Rattle.programs.specs.declared.chunkplan.run_fault.RunFault.TheVariants.{Memory, Read, Write}
+
+-- the text that was made, if there was memory for it
+abbrev pub IsMade : Result (Vec ℕ Global) AllocError → List ℕ → Type 0
+IsMade made text = IsOkAnd made (λ bytes. text ≡ bytes.items)
 
 -- a text of which Planned holds was sent, or a beginning of it
 abbrev pub HasBegun : (Planned : List ℕ → Type 0) → Output → Output → Type 0

@@ -16,7 +16,7 @@ use Rattle.programs.specs.declared.chunkplan.run_fault.RunFault.TheVariants.{Mem
 use Rattle.streams.proofs.Sent.{sends_nothing}
 use Rattle.programs.proofs.chunkplan.Begun.{keys_in}
 use Rattle.programs.proofs.chunkplan.Numbered.{IsLineOf, IsTextOf, counted_first, way_ends, way_goes_on, way_memory, way_stops}
-use Rattle.programs.proofs.chunkplan.Steps.{step_follows}
+use Rattle.programs.proofs.chunkplan.Steps.{made_text, step_follows}
 use Rattle.programs.proofs.chunkplan.copying.write_changes.Goals as goal
 
 -- the line of a change, of as many as these chunks are
@@ -61,7 +61,9 @@ loop-change-preserved g c =
     let change = c.in_ok-change.field-0 in
     let walk = c.args.walk in
     let gives = rw c.in_ok-change.was at c.in-Some.ensures.steps in
-    let (text, is, more, failed) = rw (c.deref.ensures.value, c.in_ok-line.ensures, c.in_all-of.ensures) at c.in_ok-send_text.ensures in (
+    let of = counted (length (all_changes walk)) in
+    let (text, made, more, failed) = c.in_ok-send_text.ensures in
+    let is = made_text (λ text. text ≡ change_line c.loop-change.number of change) c.change_line.result (rw c.in_all-of.ensures at c.change_line.ensures) text made in (
       suc n,
       c.following-number.ensures n number_is,
       way_goes_on (line_of_one (all_changes walk)) 0 (ChangesHaveCome dimensions_in dimensions_in key_in walk c.loop-change.change-iterator)
@@ -79,20 +81,6 @@ loop-change-preserved g c =
 pub returns-in_err-change : goal.returns-in_err-change
 returns-in_err-change g c =
     let p = err_from_is_err_and c.from_residual.result c.from_residual.ensures.1 in
-    let (n, number_is, sent) = c.loop-change.invariant in
-    let walk = c.args.walk in
-    let first : Output = output g.W.Write.contents c.args.held_back.now.items c.args.writer.now in
-    let now : Output = output g.W.Write.contents c.loop-change.held_back.items c.loop-change.writer in
-    rw (p.1, p.2)
-    (in_lines (IsChangeOf dimensions_in dimensions_in key_in walk) (all_changes walk) (changes_to_come walk) c.requires.all (Err Memory) first now
-    (way_memory (line_of_one (all_changes walk)) 0 (ChangesHaveCome dimensions_in dimensions_in key_in walk c.loop-change.change-iterator)
-    (AreChangesToCome dimensions_in dimensions_in key_in walk) n first now sent
-    (changes_ahead dimensions_in dimensions_in key_in walk (chained_in walk.before.now) (chained_in walk.after.now)
-    c.requires.fit c.requires.also_fit (keys_in walk.encoding.now) c.requires.can c.requires.used c.loop-change.change-iterator)))
-
-pub returns-in_err-line : goal.returns-in_err-line
-returns-in_err-line g c =
-    let p = err_from_is_err_and c.from_residual-in_err-line.result c.from_residual-in_err-line.ensures.1 in
     let (n, number_is, sent) = c.loop-change.invariant in
     let walk = c.args.walk in
     let first : Output = output g.W.Write.contents c.args.held_back.now.items c.args.writer.now in
@@ -126,9 +114,9 @@ returns-in_err-send_text g c =
     (λ came y have same. one_more_change dimensions_in dimensions_in key_in walk c.loop-change.change-iterator c.next.new.self change came (came ++ y ∷ []) have gives
     (rw same refl))
     (ahead c.loop-change.change-iterator) (ahead c.next.new.self) _
-    (step_follows (λ sent. sent ≡ c.deref.result.now) (IsLineOf Line 0 (λ y. y ≡ change) n) (λ _. ⊥) (λ _. ⊥)
-    (λ text is. (change, refl, is ∙ c.deref.ensures.value ∙ c.in_ok-line.ensures ∙ told)) (λ fault none. none) between last (Err _)
-    c.in_err-send_text.ensures)))
+    (step_follows _ (IsLineOf Line 0 (λ y. y ≡ change) n) (λ _. ⊥) (λ _. ⊥)
+    (λ text made. (change, refl, made_text (λ text. text ≡ change_line c.loop-change.number c.in_all-of.result change) c.change_line.result c.change_line.ensures text made ∙ told))
+    (λ fault none. none) between last (Err _) c.in_err-send_text.ensures)))
 
 pub returns : goal.returns
 returns g c =

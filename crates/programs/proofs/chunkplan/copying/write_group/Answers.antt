@@ -1,4 +1,4 @@
-use Rattle.std.proofs.Common.{◌≡◌, ◌∙◌, ℕ, List, [], ◌++◌, Option, Err, append_assoc, inl, refl, sym}
+use Rattle.std.proofs.Common.{◌≡◌, ◌∙◌, ℕ, List, [], ◌++◌, Option, Ok, Err, append_assoc, sym}
 use Rattle.std.proofs.lemmas.Result.{err_from_is_err_and}
 use Rattle.zarrs_chunk_base.specs.ArraySubset.{IsBox}
 use Rattle.zarrs_chunk_keys.specs.declared.chunk_key_encoding.named.ChunkKeyEncoding.{ChunkKeyEncoding}
@@ -13,10 +13,10 @@ use Rattle.programs.specs.chunkplan.seen.Pieces.{begin_of_line, end_of_line, pie
 use Rattle.programs.specs.declared.chunkplan.line.Order.{Order}
 use Rattle.streams.specs.seen.Sent.{output}
 use Rattle.programs.proofs.chunkplan.Begun.{parts_ahead}
-use Rattle.programs.proofs.chunkplan.Behind.{Begins, Behind, ends_behind, memory_after, sent_behind, stops_behind, stops_whole}
+use Rattle.programs.proofs.chunkplan.Behind.{Begins, Behind, ends_behind, sent_behind, stops_behind, stops_whole}
 use Rattle.programs.proofs.chunkplan.Numbered.{IsTextOf, counted_first}
 use Rattle.programs.proofs.chunkplan.Pieces.{in_pieces}
-use Rattle.programs.proofs.chunkplan.Steps.{step_follows}
+use Rattle.programs.proofs.chunkplan.Steps.{step_made}
 use Rattle.programs.proofs.chunkplan.copying.write_group.Goals as goal
 
 -- ---- the line, as far as it was sent
@@ -60,16 +60,13 @@ module _ (walk : Parts ChunkGrid ChunkKeyEncoding) (is_box : IsBox walk.array_su
   begun : Begins (Head (PartsToCome walk) order of at all) (IsLine (PartsToCome walk) order of at all)
   begun = head_begins (PartsToCome walk) order of at all some_line.0 some_line.1
 
-pub returns-in_err-begin : goal.returns-in_err-begin
-returns-in_err-begin g c = let p = err_from_is_err_and c.from_residual.result c.from_residual.ensures.1 in rw (p.1, p.2) (refl, inl refl)
-
 pub returns-in_err-send_text : goal.returns-in_err-send_text
 returns-in_err-send_text g c =
-    let p = err_from_is_err_and c.from_residual-in_err-send_text.result c.from_residual-in_err-send_text.ensures.1 in
+    let p = err_from_is_err_and c.from_residual.result c.from_residual.ensures.1 in
     let group = c.args.group in
     let AreAll = PartsToCome group.from in
     let IsHead = Head AreAll c.args.order group.to c.args.number c.args.of in
-    let first = step_follows _ IsHead (λ _. ⊥) (λ _. ⊥) (λ text is. is ∙ c.deref.ensures.value ∙ c.in_ok-begin.ensures) (λ fault none. none)
+    let first = step_made IsHead c.line_begin.result c.line_begin.ensures
     (output g.W.Write.contents c.args.held_back.now.items c.args.writer.now)
     (output g.W.Write.contents c.send_text.new.held_back.items c.send_text.new.writer) (Err _) c.in_err-send_text.ensures
     in
@@ -84,32 +81,15 @@ returns-in_err-write_parts g c =
     let group = c.args.group in
     let AreAll = PartsToCome group.from in
     let order = c.args.order in
-    let first = rw (c.deref.ensures.value, c.in_ok-begin.ensures) at c.in_ok-send_text.ensures in
+    let before = output g.W.Write.contents c.args.held_back.now.items c.args.writer.now in
+    let between = output g.W.Write.contents c.send_text.new.held_back.items c.send_text.new.writer in
+    let IsHead = Head AreAll order group.to c.args.number c.args.of in
+    let first = step_made IsHead c.line_begin.result c.line_begin.ensures before between (Ok tt) c.in_ok-send_text.ensures in
     rw (p.1, p.2)
-    (stops_behind (Head AreAll order group.to c.args.number c.args.of) (Pieces AreAll order group.to)
-    (IsLine AreAll order group.to c.args.number c.args.of)
-    (output g.W.Write.contents c.args.held_back.now.items c.args.writer.now)
-    (output g.W.Write.contents c.send_text.new.held_back.items c.send_text.new.writer)
+    (stops_behind IsHead (Pieces AreAll order group.to) (IsLine AreAll order group.to c.args.number c.args.of) before between
     (output g.W.Write.contents c.write_parts.new.held_back.items c.write_parts.new.writer) first
     (begun group.from c.requires.is_box c.requires.meet order group.to c.args.number c.args.of)
     (pieces_begin AreAll order group.to c.args.number c.args.of) _ (c.in_err-write_parts.ensures 0 (sym counted_first)))
-
-pub returns-in_err-end : goal.returns-in_err-end
-returns-in_err-end g c =
-    let p = err_from_is_err_and c.from_residual-in_err-end.result c.from_residual-in_err-end.ensures.1 in
-    let group = c.args.group in
-    let AreAll = PartsToCome group.from in
-    let order = c.args.order in
-    let before = output g.W.Write.contents c.args.held_back.now.items c.args.writer.now in
-    let between = output g.W.Write.contents c.send_text.new.held_back.items c.send_text.new.writer in
-    let now = output g.W.Write.contents c.write_parts.new.held_back.items c.write_parts.new.writer in
-    let IsHead = Head AreAll order group.to c.args.number c.args.of in
-    let ArePieces = Pieces AreAll order group.to in
-    let first = rw (c.deref.ensures.value, c.in_ok-begin.ensures) at c.in_ok-send_text.ensures in
-    rw (p.1, p.2)
-    (memory_after (Behind IsHead ArePieces) (IsLine AreAll order group.to c.args.number c.args.of)
-    (pieces_begin AreAll order group.to c.args.number c.args.of) before now
-    (sent_behind IsHead ArePieces (λ _. ⊥) before between now first (c.in_ok-write_parts.ensures 0 (sym counted_first))))
 
 pub returns : goal.returns
 returns g c =
@@ -121,11 +101,9 @@ returns g c =
     let now = output g.W.Write.contents c.write_parts.new.held_back.items c.write_parts.new.writer in
     let IsHead = Head AreAll order group.to c.args.number c.args.of in
     let ArePieces = Pieces AreAll order group.to in
-    let first = rw (c.deref.ensures.value, c.in_ok-begin.ensures) at c.in_ok-send_text.ensures in
-    let ends = rw (c.deref-2.ensures.value) at c.send_text-2.ensures in
-    ends_behind (Behind IsHead ArePieces) (λ text. text ≡ c.in_ok-end.end.items) (IsLine AreAll order group.to c.args.number c.args.of) before now _
+    let first = step_made IsHead c.line_begin.result c.line_begin.ensures before between (Ok tt) c.in_ok-send_text.ensures in
+    let IsEnd : List ℕ → Type 0 = λ text. text ≡ end_of_line order c.args.number c.args.of group.to in
+    ends_behind (Behind IsHead ArePieces) IsEnd (IsLine AreAll order group.to c.args.number c.args.of) before now _
     (sent_behind IsHead ArePieces (λ _. ⊥) before between now first (c.in_ok-write_parts.ensures 0 (sym counted_first)))
-    (pieces_begin AreAll order group.to c.args.number c.args.of)
-    (λ text (most, last, both, is, all).
-    is_line AreAll order group.to c.args.number c.args.of text (most, last, both, is ∙ c.in_ok-end.ensures, all))
-    c.send_text-2.result ends
+    (pieces_begin AreAll order group.to c.args.number c.args.of) (is_line AreAll order group.to c.args.number c.args.of) c.send_text-2.result
+    (step_made IsEnd c.line_end.result c.line_end.ensures now _ c.send_text-2.result c.send_text-2.ensures)

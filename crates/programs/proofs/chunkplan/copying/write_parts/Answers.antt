@@ -9,7 +9,7 @@ use Rattle.streams.specs.seen.Sent.{Output, output}
 use Rattle.streams.proofs.Sent.{sends_nothing}
 use Rattle.programs.proofs.chunkplan.Begun.{PartsHaveCome, parts_ahead}
 use Rattle.programs.proofs.chunkplan.Numbered.{IsLineOf, way_ends, way_goes_on, way_memory, way_stops}
-use Rattle.programs.proofs.chunkplan.Steps.{step_follows}
+use Rattle.programs.proofs.chunkplan.Steps.{made_text, step_follows}
 use Rattle.programs.proofs.chunkplan.copying.write_parts.Goals as goal
 
 pub loop-part-init : goal.loop-part-init
@@ -35,7 +35,8 @@ loop-part-preserved g c = λ begin is_first.
     let (n, number_is, sent) = c.loop-part.invariant begin is_first in
     let part = c.in_ok-part.field-0 in
     let gives = rw c.in_ok-part.was at c.in-Some.ensures.steps in
-    let (text, is, more, failed) = rw (c.deref.ensures.value, c.in_ok-text.ensures) at c.in_ok-send_text.ensures in (
+    let (text, made, more, failed) = c.in_ok-send_text.ensures in
+    let is = made_text (λ text. text ≡ text_as c.args.form c.loop-part.number part) c.part_text.result c.part_text.ensures text made in (
       suc n,
       c.following-number.ensures n number_is,
       way_goes_on (λ n. text_as c.args.form (counted n)) begin (PartsHaveCome c.args.walk c.loop-part.part-iterator)
@@ -53,14 +54,6 @@ loop-part-preserved g c = λ begin is_first.
 pub returns-in_err-part : goal.returns-in_err-part
 returns-in_err-part g c = λ begin is_first.
     let p = err_from_is_err_and c.from_residual.result c.from_residual.ensures.1 in
-    let (n, number_is, sent) = c.loop-part.invariant begin is_first in
-    rw (p.1, p.2)
-    (way_memory (λ n. text_as c.args.form (counted n)) begin _ _ n _ _ sent
-    (parts_ahead c.args.walk c.requires.is_box c.loop-part.part-iterator))
-
-pub returns-in_err-text : goal.returns-in_err-text
-returns-in_err-text g c = λ begin is_first.
-    let p = err_from_is_err_and c.from_residual-in_err-text.result c.from_residual-in_err-text.ensures.1 in
     let (n, number_is, sent) = c.loop-part.invariant begin is_first in
     rw (p.1, p.2)
     (way_memory (λ n. text_as c.args.form (counted n)) begin _ _ n _ _ sent
@@ -84,9 +77,9 @@ returns-in_err-send_text g c = λ begin is_first.
     (λ came p have same. one_more dimensions_in key_in c.args.walk c.loop-part.part-iterator c.next.new.self part came (came ++ p ∷ []) have gives
     (rw same refl))
     (ahead c.loop-part.part-iterator) (ahead c.next.new.self) _
-    (step_follows (λ sent. sent ≡ c.deref.result.now) (IsLineOf Line begin (λ p. p ≡ part) n) (λ _. ⊥) (λ _. ⊥)
-    (λ text is. (part, refl, is ∙ c.deref.ensures.value ∙ c.in_ok-text.ensures ∙ of_number)) (λ fault none. none) between after (Err _)
-    c.in_err-send_text.ensures))
+    (step_follows _ (IsLineOf Line begin (λ p. p ≡ part) n) (λ _. ⊥) (λ _. ⊥)
+    (λ text made. (part, refl, made_text (λ text. text ≡ text_as c.args.form c.loop-part.number part) c.part_text.result c.part_text.ensures text made ∙ of_number))
+    (λ fault none. none) between after (Err _) c.in_err-send_text.ensures))
 
 pub returns : goal.returns
 returns g c = λ begin is_first.

@@ -37,13 +37,13 @@ returns-in_err-required_member-3 c =
     rw (p.1, p.2) (inr (no_member tree _ _ (λ none. inr (shape, inr (grid, inl (none, refl))))
     c.in_ok-check_document.ensures c.in_err-required_member-3.ensures))
 
-pub returns-in_err-check_fitting : goal.returns-in_err-check_fitting
-returns-in_err-check_fitting c =
-    let p = err_from_is_err_and c.from_residual-in_err-check_fitting.result c.from_residual-in_err-check_fitting.ensures.1 in
+pub returns-in_err-check_rules : goal.returns-in_err-check_rules
+returns-in_err-check_rules c =
+    let p = err_from_is_err_and c.from_residual-in_err-check_rules.result c.from_residual-in_err-check_rules.ensures.1 in
     let tree = view c.args.tree in
     let members : HasMembers tree =
     has_members tree _ _ _ c.in_ok-required_member.ensures c.in_ok-required_member-2.ensures c.in_ok-required_member-3.ensures in
-    rw (p.1, p.2) (inr (misfit c.in_ok-check_document.ensures members c.in_err-check_fitting.ensures))
+    rw (p.1, p.2) (inr (misfit c.in_ok-check_document.ensures members c.in_err-check_rules.ensures))
 
 pub returns-in_err-shape : goal.returns-in_err-shape
 returns-in_err-shape c =
@@ -53,7 +53,7 @@ returns-in_err-shape c =
     has_members tree _ _ _ c.in_ok-required_member.ensures c.in_ok-required_member-2.ensures c.in_ok-required_member-3.ensures in
     rw (p.1, p.2)
     (⊎_elim (λ memory. inl (ap of_document memory))
-    (λ is. inr (no_shape tree _ _ c.in_ok-check_document.ensures members c.in_ok-check_fitting.ensures c.in_ok-required_member.ensures is))
+    (λ is. inr (no_shape tree _ _ c.in_ok-check_document.ensures members c.in_ok-check_rules.ensures c.in_ok-required_member.ensures is))
     c.in_err-shape.ensures)
 
 pub returns-in_err-wanted : goal.returns-in_err-wanted
@@ -64,7 +64,7 @@ returns-in_err-wanted c =
     has_members tree _ _ _ c.in_ok-required_member.ensures c.in_ok-required_member-2.ensures c.in_ok-required_member-3.ensures in
     rw (p.1, p.2)
     (⊎_elim (λ memory. inl memory)
-    (λ is. inr (misformed_wanted c.in_ok-check_document.ensures members c.in_ok-check_fitting.ensures (ap is_some c.in_ok-shape.ensures) is))
+    (λ is. inr (misformed_wanted c.in_ok-check_document.ensures members c.in_ok-check_rules.ensures (ap is_some c.in_ok-shape.ensures) is))
     c.in_err-wanted.ensures)
 
 pub returns-in_err-keys : goal.returns-in_err-keys
@@ -74,7 +74,7 @@ returns-in_err-keys c =
     let members : HasMembers tree =
     has_members tree _ _ _ c.in_ok-required_member.ensures c.in_ok-required_member-2.ensures c.in_ok-required_member-3.ensures in
     rw (p.1, p.2)
-    (inr (misformed_keys (wanted_of c.in_ok-wanted.wanted) c.in_ok-check_document.ensures members c.in_ok-check_fitting.ensures
+    (inr (misformed_keys (wanted_of c.in_ok-wanted.wanted) c.in_ok-check_document.ensures members c.in_ok-check_rules.ensures
     (ap is_some c.in_ok-shape.ensures) c.in_ok-wanted.ensures c.in_err-keys.ensures))
 
 pub returns-in_err-stored : goal.returns-in_err-stored
@@ -86,7 +86,7 @@ returns-in_err-stored c =
     rw (p.1, p.2)
     (⊎_elim (λ memory. inl (ap of_document memory))
     (λ is. inr (misformed_stored _ (wanted_of c.in_ok-wanted.wanted) c.in_ok-keys.keys c.in_ok-check_document.ensures members
-    c.in_ok-check_fitting.ensures (ap is_some c.in_ok-shape.ensures) c.in_ok-wanted.ensures c.in_ok-keys.ensures is refl))
+    c.in_ok-check_rules.ensures (ap is_some c.in_ok-shape.ensures) c.in_ok-wanted.ensures c.in_ok-keys.ensures is refl))
     c.in_err-stored.ensures.stored)
 
 pub returns-in_err-task : goal.returns-in_err-task
@@ -98,7 +98,7 @@ returns-in_err-task c =
     rw (p.1, p.2)
     (⊎_elim (λ memory. inl memory)
     (λ is. inr (misformed_task (wanted_of c.in_ok-wanted.wanted) c.in_ok-keys.keys (stored_of c.in_ok-stored.stored) c.in_ok-check_document.ensures
-    members c.in_ok-check_fitting.ensures (ap is_some c.in_ok-shape.ensures) c.in_ok-wanted.ensures c.in_ok-keys.ensures
+    members c.in_ok-check_rules.ensures (ap is_some c.in_ok-shape.ensures) c.in_ok-wanted.ensures c.in_ok-keys.ensures
     c.in_ok-stored.ensures.stored
     (is_task_fault tree (view c.take_stored.new.tree) c.in_ok-stored.ensures.others _ is)))
     c.in_err-task.ensures)
@@ -106,7 +106,7 @@ returns-in_err-task c =
 pub returns : goal.returns
 returns c = record {
   known = c.in_ok-check_document.ensures;
-  fitting = c.in_ok-check_fitting.ensures;
+  fitting = c.in_ok-check_rules.ensures;
   shape = c.in_ok-shape.ensures;
   wanted = c.in_ok-wanted.ensures;
   keys = c.in_ok-keys.ensures;

@@ -126,4 +126,4 @@ returns g c = λ bytes is.
     sent_after_keys (TextOf walk (dimensions_of c.args.target.now) (key_of c.args.target.now) c.args.share.now)
     (FaultOf walk) bytes _ _ before after keys _ are c.in_ok-note_keys.ensures.failed (rw is at c.in_ok-note_keys.ensures.end) c.send_text.result
     (ends_behind _ (λ text. text ≡ c.note_keys.new.foreign.items) _ before between after c.in_ok-write_share.ensures begins ends c.send_text.result
-    (rw c.deref.ensures.value at c.send_text.ensures))
+    c.send_text.ensures)

@@ -1,9 +1,8 @@
-use Rattle.std.proofs.Common.{◌∙◌, subst, sym}
 use Rattle.programs.specs.chunkplan.PlanFault.{IsStagesCountsFault}
 use Rattle.programs.specs.chunkplan.StagesLine.{IsStagesLine}
 use Rattle.programs.specs.chunkplan.seen.Opened.{dimensions_of}
 use Rattle.streams.specs.seen.Sent.{output}
-use Rattle.programs.proofs.chunkplan.Steps.{step_follows}
+use Rattle.programs.proofs.chunkplan.Steps.{made_text, step_follows}
 use Rattle.programs.proofs.chunkplan.within.write_stages_counts.Goals as goal
 
 pub returns : goal.returns
@@ -12,7 +11,7 @@ returns g c =
     let stages = c.in_ok-stages.stages in
     step_follows _ _ (λ _. ⊥)
     (IsStagesCountsFault (dimensions_of c.args.source.now) (dimensions_of c.args.target.now))
-    (λ text is. record {
+    (λ text made. record {
       largest = largest;
       is_largest = is_largest;
       other = other;
@@ -23,7 +22,7 @@ returns g c =
       are_one = c.in_ok-one_stage.ensures;
       stages = stages;
       are_two = c.in_ok-stages.ensures.found;
-      is = subst (λ l. IsStagesLine c.in_ok-fits.fits c.in_ok-one_stage.one_stage stages l) (sym (is ∙ c.deref.ensures.value)) c.in_ok-line.ensures;
+      is = made_text (IsStagesLine c.in_ok-fits.fits c.in_ok-one_stage.one_stage stages) c.stages_line-line.result c.stages_line-line.ensures text made;
     })
     (λ fault none. absurd none)
     (output g.W.Write.contents c.args.held_back.now.items c.args.writer.now)
