@@ -1,5 +1,5 @@
 -- A walk over what a rechunking copies, or over what is copied of a region: that it can go on, and what it gives.
-use Rattle.std.proofs.Common.{◌≡◌, ◌⊎◌, ◌∙◌, ℕ, List, [], ◌∷◌, ◌++◌, Option, Some, None, IfSome, Result, Ok, Err, IfOk, length, map, append_assoc, replicate}
+use Rattle.std.proofs.Common.{◌≡◌, ◌⊎◌, ◌∙◌, ℕ, List, [], ◌∷◌, ◌++◌, Option, Some, None, IfSome, Result, Ok, Err, IfOk, length, map, append_assoc}
 use Rattle.std.proofs.Common.{append-nil, ap, inl, refl, subst, sym}
 use Rattle.std.specs.Iterator.{Drains, Yields}
 use Rattle.std.specs.List.{AllByRecursion, AllZip}
@@ -8,11 +8,10 @@ use Rattle.zarrs_chunk_base.specs.ArraySubset.{Box, IsBox, IsEmptyBox}
 use Rattle.zarrs_chunk_base.specs.Dimension.{Dimension, array_sizes}
 use Rattle.zarrs_chunk_base.specs.declared.incompatible_dimensionality_error.IncompatibleDimensionalityError.{IncompatibleDimensionalityError}
 use Rattle.zarrs_chunk_base.specs.declared.refusal.Refusal.{Refusal}
-use Rattle.zarrs_chunks.specs.Subsets.{IsCover}
 use Rattle.zarrs_chunks.specs.Walks.{chunks_in}
 use Rattle.zarrs_chunk_parts.specs.Plan.{Meets}
-use Rattle.zarrs_chunk_plan.specs.Rechunking.{AreTargets, Group, IsRechunking, array_box}
-use Rattle.zarrs_chunk_plan.specs.Region.{AreMovedInto, IsRegionCopy, moved, shifted}
+use Rattle.zarrs_chunk_plan.specs.Rechunking.{AreTargets, Group}
+use Rattle.zarrs_chunk_plan.specs.Region.{AreMovedInto, CanBeMoved, IsCopy, moved, shifted}
 use Rattle.zarrs_chunk_plan.specs.declared.chunk_copies.ChunkCopies.{ChunkCopies}
 use Rattle.zarrs_chunk_plan.specs.declared.chunk_copies.Copies.{Copies}
 use Rattle.zarrs_chunk_parts.specs.declared.part.Part.{Part}
@@ -150,35 +149,20 @@ module _ {G E H F : Type 0} (source_dimensions : G → List Dimension) (source_k
   all_moves_to_come given groups can (end, (last, yields, stops)) are =
       up_to_last begin last end [] groups given (first_move begin [] refl refl can) yields stops are
 
--- the groups of all chunks that were to come are a rechunking
-pub rechunking_of : {G E H F : Type 0} (source_dimensions : G → List Dimension) (source_key : E → List ℕ → List ℕ → Type 0)
+-- the groups of all chunks that were to come are the copy
+pub copy_of : {G E H F : Type 0} (source_dimensions : G → List Dimension) (source_key : E → List ℕ → List ℕ → Type 0)
     (target_dimensions : H → List Dimension) (target_key : F → List ℕ → List ℕ → Type 0) (source : StoredArray G E)
-    (target : StoredArray H F) (chunks targets : Box) (walk : Copies G E H F) (groups : List Group)
-    → IsAboutCopies source target (array_box (target_dimensions target.grid)) walk
-    → first_of walk ≡ replicate (length (target_dimensions target.grid)) 0 → IsBox targets
-    → AreTargets (target_dimensions target.grid) chunks targets → targets_to_come walk ≡ chunks_in targets
+    (target : StoredArray H F) (region : Box) (at : List ℕ) (Chosen : List ℕ → Type 0) (targets : Box) (walk : Copies G E H F) (groups : List Group)
+    → CanBeMoved (array_sizes (source_dimensions source.grid)) (array_sizes (target_dimensions target.grid)) region at
+    → IsAboutCopies source target (moved at region) walk → first_of walk ≡ region.start → IsBox targets
+    → AreTargets (target_dimensions target.grid) (moved at region) Chosen targets → targets_to_come walk ≡ chunks_in targets
     → AreMovesToCome source_dimensions source_key target_dimensions target_key walk groups
-    → IsRechunking (source_dimensions source.grid) (source_key source.encoding) (target_dimensions target.grid) (target_key target.encoding) chunks
+    → IsCopy (source_dimensions source.grid) (source_key source.encoding) (target_dimensions target.grid) (target_key target.encoding) region at Chosen
     groups
-rechunking_of source_dimensions source_key target_dimensions target_key source target chunks targets walk groups about first is_box are left come =
+copy_of source_dimensions source_key target_dimensions target_key source target region at Chosen targets walk groups can about first is_box are left
+    come =
     let of = about.targets in
-    let start : walk.targets.array_subset.start ≡ replicate (length (target_dimensions target.grid)) 0 = ap (λ b. b.start) of.same_subset in
-    let shape : walk.targets.array_subset.shape ≡ array_sizes (target_dimensions target.grid) = ap (λ b. b.shape) of.same_subset in
+    let start : walk.targets.array_subset.start ≡ at = ap (λ b. b.start) of.same_subset in
+    let shape : walk.targets.array_subset.shape ≡ region.shape = ap (λ b. b.shape) of.same_subset in
     let into = rw (left, about.same_source, of.same_grid, of.same_encoding, first, shape, start) at come in
-    record { targets = targets; is_box = is_box; are_targets = are; are_groups = into }
-
--- the groups of all chunks that were to come are the copy of a region
-pub region_copy_of : {G E H F : Type 0} (source_dimensions : G → List Dimension) (source_key : E → List ℕ → List ℕ → Type 0)
-    (target_dimensions : H → List Dimension) (target_key : F → List ℕ → List ℕ → Type 0) (source : StoredArray G E)
-    (target : StoredArray H F) (region : Box) (at : List ℕ) (cover : Box) (walk : Copies G E H F) (groups : List Group)
-    → IsAboutCopies source target (moved at region) walk → first_of walk ≡ region.start
-    → IsCover (target_dimensions target.grid) (moved at region) cover → targets_to_come walk ≡ chunks_in cover
-    → AreMovesToCome source_dimensions source_key target_dimensions target_key walk groups
-    → IsRegionCopy (source_dimensions source.grid) (source_key source.encoding) (target_dimensions target.grid) (target_key target.encoding) region at
-    groups
-region_copy_of source_dimensions source_key target_dimensions target_key source target region at cover walk groups about first is left come =
-    let targets = about.targets in
-    let start : walk.targets.array_subset.start ≡ at = ap (λ b. b.start) targets.same_subset in
-    let shape : walk.targets.array_subset.shape ≡ region.shape = ap (λ b. b.shape) targets.same_subset in
-    let are = rw (left, about.same_source, targets.same_grid, targets.same_encoding, first, shape, start) at come in
-    record { cover = cover; is_cover = is; are_groups = are }
+    record { can = can; targets = targets; is_box = is_box; are_targets = are; are_groups = into }

@@ -14,7 +14,6 @@ pub mod CopyLists
 pub mod CountedCopies
 pub mod CountedGroups
 pub mod CountedParts
-pub mod CountedRegions
 pub mod CountsTold
 pub mod Divisors
 pub mod EdgesTried

@@ -1,6 +1,6 @@
 -- The cover of what a chunk of the target takes.
-use Rattle.std.proofs.Common.{◌≡◌, ◌≢◌, ◌↔◌, ◌⊎◌, ◌∙◌, ℕ, zero, suc, ◌+◌, ◌≤◌, List, [], ◌∷◌, Ok, Some, length}
-use Rattle.std.proofs.Common.{refl, ap, ap₂, inl, subst, sym, arith}
+use Rattle.std.proofs.Common.{◌≡◌, ◌≢◌, ◌↔◌, ◌∙◌, ℕ, zero, suc, ◌+◌, ◌≤◌, List, [], ◌∷◌, length}
+use Rattle.std.proofs.Common.{refl, ap, ap₂, subst, sym, arith}
 use Rattle.std.proofs.lemmas.List.{length-map}
 use Rattle.std.specs.List.{AllByRecursion, AllZip}
 use Rattle.zarrs_chunk_base.specs.ArraySubset.{Box, IsBox, IsEmptyBox, IsInside, ends, lasts, zero_box}
@@ -9,7 +9,7 @@ use Rattle.zarrs_chunk_base.specs.Greatest.{AllFit, greatest}
 use Rattle.zarrs_chunk_base.proofs.Boxes.{within_lengths}
 use Rattle.zarrs_chunk_base.proofs.InEach.{length_values}
 use Rattle.zarrs_chunk_axes.specs.InBounds.{AreBelow}
-use Rattle.zarrs_chunks.specs.Subsets.{AnswersCover, IsCover, LookedBox}
+use Rattle.zarrs_chunks.specs.Subsets.{IsCover}
 use Rattle.zarrs_chunks.specs.Walks.{counted_from}
 use Rattle.zarrs_chunk_parts.specs.Plan.{AreShared, Meets}
 use Rattle.zarrs_chunk_plan.specs.Rechunking.{array_box}
@@ -34,10 +34,6 @@ shape_fits (a ∷ start) (n ∷ shape) is =
     (omega arith, shape_fits start shape others)
 shape_fits [] (_ ∷ _) is = absurd (omega (arith, is.lengths))
 shape_fits (_ ∷ _) [] is = absurd (omega (arith, is.lengths))
-
-pub is_cover : (ds : List Dimension) (b cover : Box) (r : LookedBox) → ((¬ IsEmptyBox b) ⊎ (length ds ≡ 0) → AnswersCover ds b r)
-    → r ≡ Ok (Some cover) → (¬ IsEmptyBox b) → IsCover ds b cover
-is_cover ds b cover r answers is some = (subst (AnswersCover ds b) is (answers (inl some))).1
 
 -- ---- what is found of a chunk and a box
 

@@ -1,10 +1,14 @@
 -- Boxes that lie in an array.
-use Rattle.std.proofs.Common.{◌≡◌, ◌≢◌, ◌↔◌, ℕ, suc, ◌+◌, ◌≤◌, List, [], ◌∷◌, Contains, length, replicate, zip}
-use Rattle.std.proofs.Common.{refl, ap, arith}
+use Rattle.std.proofs.Common.{◌≡◌, ◌≢◌, ◌↔◌, ℕ, suc, ◌+◌, ◌<◌, ◌≤◌, List, [], ◌∷◌, Contains, length, replicate, zip}
+use Rattle.std.proofs.Common.{refl, ap, arith, subst, sym}
+use Rattle.std.proofs.lemmas.List.{length-map}
 use Rattle.std.specs.List.{AllByRecursion}
-use Rattle.zarrs_chunk_base.specs.ArraySubset.{IsBox}
+use Rattle.zarrs_chunk_base.specs.ArraySubset.{AreWithin, Box, IsBox, IsEmptyBox}
+use Rattle.zarrs_chunk_base.specs.Dimension.{Dimension, array_sizes}
 use Rattle.zarrs_chunk_base.specs.Greatest.{AllFit, greatest}
-use Rattle.zarrs_chunk_plan.specs.Region.{EndWithin}
+use Rattle.zarrs_chunk_axes.specs.InBounds.{AreBelow}
+use Rattle.zarrs_chunk_plan.specs.Rechunking.{array_box}
+use Rattle.zarrs_chunk_plan.specs.Region.{CanBeMoved, EndWithin, LiesIn}
 
 -- each range ends within the array exactly where all do
 pub all_end_within : (start shape sizes : List ℕ) → length start ≡ length sizes → length shape ≡ length sizes
@@ -39,7 +43,35 @@ within_starts _ _ _ within = absurd within
 pub some_dimension : (start shape sizes : List ℕ) → EndWithin start shape sizes → Contains shape 0 → length sizes ≢ 0
 some_dimension start shape sizes within (k, counted, is) none = let long = within_long start shape sizes within in absurd (omega arith)
 
+-- what lies in it is an index of the array
+pub within_below : (start shape sizes index : List ℕ) → EndWithin start shape sizes → AreWithin start shape index → AreBelow sizes index
+within_below [] [] [] [] lies within = tt
+within_below (s ∷ start) (n ∷ shape) (size ∷ sizes) (i ∷ index) lies within =
+    let end : s + n ≤ size = lies.0 in
+    let before : i < s + n = within.1 in
+    (omega arith, within_below start shape sizes index lies.1 within.2)
+within_below [] [] [] (_ ∷ _) lies within = absurd within
+within_below (_ ∷ _) (_ ∷ _) (_ ∷ _) [] lies within = absurd within
+within_below _ _ _ _ lies within = absurd lies
+
 -- the whole array lies in itself
 pub whole_within : (sizes : List ℕ) → EndWithin (replicate (length sizes) 0) sizes sizes
 whole_within [] = tt
 whole_within (size ∷ sizes) = (omega arith, whole_within sizes)
+
+pub whole_lies : (ds : List Dimension) → LiesIn (array_box ds) (array_sizes ds)
+whole_lies ds =
+    let many : length (array_sizes ds) ≡ length ds = length-map ds (λ (d : Dimension). d.array_size) in rw (sym many) (whole_within (array_sizes ds))
+
+-- so it can stay where it is, where both arrays have one shape
+pub can_stay : (source target : List Dimension) → array_sizes source ≡ array_sizes target
+    → CanBeMoved (array_sizes source) (array_sizes target) (array_box target) (array_box target).start
+can_stay source target one_array = record {
+  in_source = subst (LiesIn (array_box target)) (sym one_array) (whole_lies target);
+  in_target = whole_lies target;
+}
+
+-- where an empty box lies there are dimensions
+pub lies_some : (ds : List Dimension) (b : Box) → LiesIn b (array_sizes ds) → IsEmptyBox b → length ds ≢ 0
+lies_some ds b lies empty =
+    let many = length-map ds (λ (d : Dimension). d.array_size) in subst (λ n. n ≢ 0) many (some_dimension b.start b.shape (array_sizes ds) lies empty)

@@ -39,6 +39,11 @@ from_zero f (d ∷ ds) (i ∷ index) =
     )
 from_zero f _ _ = (λ h. absurd h, λ h. absurd h)
 
+-- the place of an index of the array is that index
+pub same_place : (ds : List Dimension) (index : List ℕ) → AreBelow (array_sizes ds) index → counted_from (array_box ds).start index ≡ index
+same_place ds index below =
+    counted_from_zeros (length ds) index (length_below (array_sizes ds) index below ∙ length-map ds (λ (d : Dimension). d.array_size))
+
 -- an index below the array shape is one of the array
 pub in_array : (ds : List Dimension) (index : List ℕ) → AreBelow (array_sizes ds) index ↔ IsInside (array_box ds) index
 in_array = from_zero (λ d. d.array_size)
@@ -101,11 +106,6 @@ module _ (source : List Dimension) (IsSourceKey : List ℕ → List ℕ → Type
   zeros_long : length Whole.start ≡ length Whole.shape
   zeros_long = length-replicate (length target) 0 ∙ sym (length-map target (λ (d : Dimension). d.array_size))
 
-  -- the place of an index of the array is that index
-  same_place : (index : List ℕ) → AreBelow (array_sizes target) index → counted_from Whole.start index ≡ index
-  same_place index below =
-      counted_from_zeros (length target) index (length_below (array_sizes target) index below ∙ length-map target (λ (d : Dimension). d.array_size))
-
   reads : (chunk : List ℕ) (to : Part) → IsPart target IsTargetKey Whole chunk to → Meets target Whole chunk
       → IsBox (shifted Whole.start to.in_subset)
   reads chunk to is meets = subst IsBox (sym (from_there target IsTargetKey chunk to is meets)) is.boxes.from_subset.is_box
@@ -133,7 +133,7 @@ module _ (source : List Dimension) (IsSourceKey : List ℕ → List ℕ → Type
         → InBox target chunk index → IsInside chunks chunk
         → (copy : Part × Part) × Contains (copies_of groups) copy × ((steps : List ℕ) × Moves source target copy steps index)
     some_copy_into chains index chunk below box inside =
-        let same = same_place index below in
+        let same = same_place target index below in
         let within = (plan.are_targets chunk).1 (inside, (index, box, (in_array target index).0 below)) in
         let (copy, among, (steps, moves)) = some_copy source IsSourceKey target IsTargetKey Whole Whole.start plan.targets plan.is_box groups
         plan.are_groups chains zeros_long reads index chunk below within (subst (InBox target chunk) (sym same) box)
@@ -157,7 +157,7 @@ module _ (source : List Dimension) (IsSourceKey : List ℕ → List ℕ → Type
         let (index, in_array, moves) = moves_region source IsSourceKey target IsTargetKey Whole Whole.start plan.targets plan.is_box groups
         plan.are_groups copy among steps below
         in
-        (index, in_array, subst (λ x. MovesTo source target copy steps x x) (same_place index in_array) moves)
+        (index, in_array, subst (λ x. MovesTo source target copy steps x x) (same_place target index in_array) moves)
 
     -- under the keys of its chunks, of which that of the target is one of those that were asked for
     pub keys_of_copy : (copy : Part × Part) → Contains (copies_of groups) copy

@@ -10,12 +10,13 @@ use Rattle.zarrs_chunks.specs.Walks.{chunks_in, counted_from}
 use Rattle.zarrs_chunks.proofs.Chains.{same_box}
 use Rattle.zarrs_chunks.proofs.ChunksInBoxes.{are_those_inside, chunks_once, length_below, lie_within, offset_of}
 use Rattle.zarrs_chunks.proofs.Covers.{head_some, tail_some}
-use Rattle.zarrs_chunks.proofs.Meeting.{cover_holds}
+use Rattle.zarrs_chunks.proofs.FittingChunks.{counted_home}
 use Rattle.zarrs_chunk_parts.specs.Plan.{HasElement, IsPart, Meets}
 use Rattle.zarrs_chunk_plan.specs.Rechunking.{Group, copies_of}
 use Rattle.zarrs_chunk_plan.specs.Region.{AreMovedInto, IsRegionCopy, MovesTo, moved, shifted}
 use Rattle.zarrs_chunk_parts.specs.declared.part.Part.{Part}
 use Rattle.zarrs_chunk_plan.proofs.CopyLists.{Differ, copies_differ, copy_in, copy_of, pairs_follow}
+use Rattle.zarrs_chunk_plan.proofs.MovedBoxes.{within_below}
 use Rattle.zarrs_chunk_plan.proofs.Plans.{added, all_long, counted_once, has_common, has_place, length_counted, not_empty, pair_of, parts_differ, place_below}
 use Rattle.zarrs_chunk_plan.proofs.Plans.{one_chunk, pairs_of, some_part, source_of, takes}
 use Rattle.zarrs_chunk_plan.proofs.Written.{last_within}
@@ -141,7 +142,7 @@ module _ (source : List Dimension) (IsSourceKey : List ℕ → List ℕ → Type
         (counted_from copy.1.in_subset.start (counted_from copy.0.in_subset.start steps), in_region, moved_so)
 
     -- and those from where it has them to where they go
-    moves_only : (copy : Part × Part) → Contains (copies_of groups) copy → (steps index to : List ℕ) → MovesTo source target copy steps index to
+    pub moves_only : (copy : Part × Part) → Contains (copies_of groups) copy → (steps index to : List ℕ) → MovesTo source target copy steps index to
         → (place : List ℕ) × AreBelow region.shape place × (index ≡ counted_from region.start place) × (to ≡ counted_from at place)
     moves_only copy among steps index to moved_to =
         let (place, in_region, also) = moves_region copy among steps moved_to.below in (
@@ -283,17 +284,19 @@ module _ (source : List Dimension) (IsSourceKey : List ℕ → List ℕ → Type
         → (copy : Part × Part) × Contains (copies_of groups) copy × ((steps : List ℕ) × MovesBehind copy steps place)
     some_copy_of_region place below =
         let inside = lie_within at region.shape place is_moved.lengths below in
-        let (chunk, within, box) =
-        cover_holds target (moved at region) plan.cover also_chains is_moved plan.is_cover (counted_from at place) inside in
-        some_copy plan.cover plan.is_cover.is_box groups plan.are_groups chains is_moved.lengths
-        (λ chunk to is meets. read_is_box chunk to is is_region meets) place chunk below within box
+        let (chunk, _, box) = counted_home target (counted_from at place) also_chains
+        (within_below at region.shape (array_sizes target) (counted_from at place) plan.can.in_target inside)
+        in
+        some_copy plan.targets plan.is_box groups plan.are_groups chains is_moved.lengths
+        (λ chunk to is meets. read_is_box chunk to is is_region meets) place chunk below
+        ((plan.are_targets chunk).1 (tt, (counted_from at place, box, inside))) box
 
     -- and each element of the array that a whole chunk holds is written by one
     pub whole_is_written : (group : Group) → Contains groups group → IsTrue group.0.whole → (index : List ℕ)
         → InBox target group.0.chunk.items index → AreBelow (array_sizes target) index
         → (copy : Part × Part) × Contains (copies_of groups) copy × ((steps : List ℕ) × (from : List ℕ) × MovesTo source target copy steps from index)
     whole_is_written group has is_whole index box below =
-        let (chunk, among, into) = source_of Into (chunks_in plan.cover) groups plan.are_groups group has in
+        let (chunk, among, into) = source_of Into (chunks_in plan.targets) groups plan.are_groups group has in
         let inside = into.to.whole.0 is_whole index (subst (λ c. InBox target c index) into.to.numbers box) below in
         let (place, below_shape, counts) = offset_of at region.shape index inside in
         let (copy, in_copies, (steps, moves_so)) = some_copy_of_region place below_shape in

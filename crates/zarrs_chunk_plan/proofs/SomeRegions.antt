@@ -1,20 +1,17 @@
 -- Where each chunk has a key, the copy of a region of the array exists, and a rechunking.
-use Rattle.std.proofs.Common.{◌≡◌, ℕ, ◌+◌, ◌-◌, ◌<◌, ◌≤◌, List, [], ◌∷◌, Contains, length, sym, arith}
-use Rattle.std.proofs.lemmas.List.{length-map}
+use Rattle.std.proofs.Common.{◌≡◌, ℕ, ◌+◌, ◌-◌, ◌<◌, ◌≤◌, List, [], ◌∷◌, Contains, arith}
 use Rattle.std.specs.List.{AllByRecursion, AllZip}
-use Rattle.zarrs_chunk_base.specs.ArraySubset.{AreWithin, Box, IsBox, IsEmptyBox, lasts}
+use Rattle.zarrs_chunk_base.specs.ArraySubset.{AreWithin, Box, IsBox, IsInside, lasts}
 use Rattle.zarrs_chunk_base.specs.Dimension.{Dimension, IsChain, array_sizes}
 use Rattle.zarrs_chunk_axes.specs.InBounds.{AreBelow}
 use Rattle.zarrs_chunks.proofs.ChunksInBoxes.{are_those_inside}
 use Rattle.zarrs_chunks.proofs.Covers.{head_some, tail_some}
-use Rattle.zarrs_chunks.proofs.Meeting.{cover_meets}
-use Rattle.zarrs_chunks.specs.Subsets.{IsCover}
 use Rattle.zarrs_chunks.specs.Walks.{chunks_in, counted_from}
 use Rattle.zarrs_chunk_parts.specs.Plan.{Meets}
 use Rattle.zarrs_chunk_plan.specs.Rechunking.{AreTargets, Group, IsRechunking, array_box}
-use Rattle.zarrs_chunk_plan.specs.Region.{AreMovedInto, EndWithin, IsRegionCopy, LiesIn, moved, shifted}
+use Rattle.zarrs_chunk_plan.specs.Region.{AreMovedInto, EndWithin, IsCopy, LiesIn, moved, shifted}
 use Rattle.zarrs_chunk_plan.specs.seen.Parts.{HasKeys}
-use Rattle.zarrs_chunk_plan.proofs.MovedBoxes.{whole_within}
+use Rattle.zarrs_chunk_plan.proofs.MovedBoxes.{can_stay}
 use Rattle.zarrs_chunk_plan.proofs.Plans.{all_of_each, not_empty, place_below}
 use Rattle.zarrs_chunk_plan.proofs.Regions.{read_is_box}
 use Rattle.zarrs_chunk_plan.proofs.SomePlan.{each_has, has_part, has_plan}
@@ -53,16 +50,24 @@ module _ (source : List Dimension) (IsSourceKey : List ℕ → List ℕ → Type
       → (groups : List Group) × AllZip (AreMovedInto source IsSourceKey target IsTargetKey region at) chunks groups
   have_moves = each_has (Meets target (moved at region)) (AreMovedInto source IsSourceKey target IsTargetKey region at) has_move
 
-  -- so where the moved box has a cover, the region has a copy
-  pub have_region : (cover : Box) → (¬ IsEmptyBox region) → IsCover target (moved at region) cover
-      → (groups : List Group) × IsRegionCopy source IsSourceKey target IsTargetKey region at groups
-  have_region cover some is =
-      let meet = all_of_each (Meets target (moved at region)) (chunks_in cover)
-      (λ chunk has.
-      (cover_meets target (moved at region) cover also_chains is_moved some is chunk).0 ((are_those_inside cover is.is_box chunk).0 has))
+  -- so there is a copy into any chosen chunks
+  pub have_copy : LiesIn (moved at region) (array_sizes target) → (Chosen : List ℕ → Type 0) (targets : Box) → IsBox targets
+      → AreTargets target (moved at region) Chosen targets
+      → (groups : List Group) × IsCopy source IsSourceKey target IsTargetKey region at Chosen groups
+  have_copy lies_there Chosen targets is_box are =
+      let meet = all_of_each (Meets target (moved at region)) (chunks_in targets)
+      (λ chunk has. ((are chunk).0 ((are_those_inside targets is_box chunk).0 has)).1)
       in
-      let (groups, zipped) = have_moves (chunks_in cover) meet in
-      (groups, record { cover = cover; is_cover = is; are_groups = zipped })
+      let (groups, zipped) = have_moves (chunks_in targets) meet in (
+        groups,
+        record {
+          can = record { in_source = lies; in_target = lies_there };
+          targets = targets;
+          is_box = is_box;
+          are_targets = are;
+          are_groups = zipped;
+        },
+      )
 
 -- ---- the whole array, to where it is
 
@@ -70,15 +75,9 @@ module _ (source : List Dimension) (IsSourceKey : List ℕ → List ℕ → Type
 pub have_rechunking : (source : List Dimension) (IsSourceKey : List ℕ → List ℕ → Type 0) (target : List Dimension)
     (IsTargetKey : List ℕ → List ℕ → Type 0) → AllByRecursion IsChain source → AllByRecursion IsChain target → HasKeys IsSourceKey
     → HasKeys IsTargetKey → array_sizes source ≡ array_sizes target → IsBox (array_box target)
-    → (chunks targets : Box) → IsBox targets → AreTargets target chunks targets
+    → (chunks targets : Box) → IsBox targets → AreTargets target (array_box target) (IsInside chunks) targets
     → (groups : List Group) × IsRechunking source IsSourceKey target IsTargetKey chunks groups
 have_rechunking source IsSourceKey target IsTargetKey chains also_chains keys also_keys one_array is_array chunks targets is_box are =
-    let many : length (array_sizes target) ≡ length target = length-map target (λ (d : Dimension). d.array_size) in
-    let lies : LiesIn (array_box target) (array_sizes source) = rw (one_array, sym many) (whole_within (array_sizes target)) in
-    let meet = all_of_each (Meets target (array_box target)) (chunks_in targets)
-    (λ chunk has. ((are chunk).0 ((are_those_inside targets is_box chunk).0 has)).1)
-    in
-    let (groups, zipped) = have_moves source IsSourceKey target IsTargetKey chains also_chains keys also_keys (array_box target)
-    (array_box target).start lies is_array is_array (chunks_in targets) meet
-    in
-    (groups, record { targets = targets; is_box = is_box; are_targets = are; are_groups = zipped })
+    let can = can_stay source target one_array in
+    have_copy source IsSourceKey target IsTargetKey chains also_chains keys also_keys (array_box target) (array_box target).start can.in_source is_array
+    is_array can.in_target (IsInside chunks) targets is_box are

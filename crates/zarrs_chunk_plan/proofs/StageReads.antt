@@ -355,7 +355,7 @@ module _ (source target : List Dimension) (chains : AllByRecursion IsChain sourc
         let is_all = subst IsBox (same_box_of plan.targets all first ((same first).1 (is_counted between between_chains first meets)) same) plan.is_box in
         let taking = into_taking source target between (map edge_of choice) one_array are positive is_array some all refl is_all in
         let met = met_in (counters source between (array_box between) (array_box between)) all.start all.shape in
-        let counted = copies_many source AnyKey between AnyKey chains all taking all (λ chunk. (λ inside. (inside, meet chunk inside), λ both. both.0)) groups plan in
+        let counted = copies_many source AnyKey between AnyKey (array_box between) (array_box between).start chains all taking (IsInside all) (λ chunk. (λ inside. (inside, meet chunk inside), λ both. both.0)) groups plan in
         let many = as_many_counters source between (array_box between) (array_box between) all chains taking in
         let met_long = tables_long (counters source between (array_box between) (array_box between)) all.start all.shape
         (omega (arith, taking.long, many)) is_all.lengths in
@@ -376,7 +376,7 @@ module _ (source target : List Dimension) (chains : AllByRecursion IsChain sourc
         let taking = from_taking source target between (map edge_of choice) one_array are positive is_array some chunks is_box long named in
         let met = met_in (counters between target (array_box target) (array_box target)) chunks.start chunks.shape in
         let counted =
-        copies_many between AnyKey target AnyKey between_chains chunks taking (all_chunks_box target)
+        copies_many between AnyKey target AnyKey (array_box target) (array_box target).start between_chains chunks taking (IsInside (all_chunks_box target))
         (λ chunk. (λ inside. let meets = (named chunk).0 inside in (is_counted target target_chains chunk meets, meets), λ both. (named chunk).1 both.1))
         groups plan
         in

@@ -3,11 +3,9 @@
 use Rattle.std.specs.Prelude.{◌≡◌, ◌≢◌, ◌↔◌, ◌⊎◌, ◌*◌, ◌≤◌, ◌^◌, ℕ, List, [], ◌∷◌, MatchOption, fold, length, map, max, min}
 use Rattle.std.specs.List.{AllPairs, Contains, sum}
 use Rattle.zarrs_chunk_base.specs.ArraySubset.{Box, IsEmptyBox, IsInside}
-use Rattle.zarrs_chunk_base.specs.Dimension.{Dimension, array_sizes}
-use Rattle.zarrs_chunk_axes.specs.InBounds.{AreBelow}
+use Rattle.zarrs_chunk_base.specs.Dimension.{Dimension}
 use Rattle.zarrs_chunk_parts.specs.Plan.{HasElement}
-use Rattle.zarrs_chunk_plan.specs.Rechunking.{Group, Moves, copies_of}
-use Rattle.zarrs_chunk_plan.specs.Region.{MovesTo}
+use Rattle.zarrs_chunk_plan.specs.Region.{Group, MovesTo, copies_of}
 use Rattle.zarrs_chunk_plan.specs.declared.counts.Counts.{Counts}
 use Rattle.zarrs_chunk_parts.specs.declared.part.Part.{Part}
 
@@ -40,24 +38,9 @@ pub record AreReadCounts (subset : Box) (parts : List Part) (counts : Counts) : 
       (product counts.elements.items)
   pub source_chunks : AreMany (λ chunk. (part : Part) × Contains parts part × (part.chunk.items ≡ chunk)) (product counts.source_chunks.items)
 
--- The counts of a rechunking that writes the chunks in a box, of which these are the groups: each group is a line. Only if the chunks aren't few, either
--- of two counts may be missing: that of copies, and that of the copies in the longest line.
-pub record AreRechunkingCounts (source target : List Dimension) (targets : Box) (groups : List Group) (counts : Counts) : Type 0 where
-  pub lines : product counts.lines.items ≡ length groups
-  pub copies : MatchOption counts.copies (¬ AreFew targets)
-      (λ factors. product factors.items ≡ length (copies_of groups))
-  pub largest_line : MatchOption counts.largest_line (¬ AreFew targets)
-      (λ factors. product factors.items ≡ longest groups)
-  pub elements : AreMany
-      (λ index. AreBelow (array_sizes target) index
-      × ((copy : Part × Part) × Contains (copies_of groups) copy × ((steps : List ℕ) × Moves source target copy steps index)))
-      (product counts.elements.items)
-  pub source_chunks : AreMany (λ chunk. (copy : Part × Part) × Contains (copies_of groups) copy × (copy.0.chunk.items ≡ chunk))
-      (product counts.source_chunks.items)
-
 -- The counts of the copy of a region. These chunks of the target take some of it, and these are the groups: each group is a line. Only if the chunks
 -- aren't few, either of two counts may be missing: that of copies, and that of the copies in the longest line.
-pub record AreRegionCounts (source target : List Dimension) (region targets : Box) (groups : List Group) (counts : Counts) : Type 0 where
+pub record AreCopyCounts (source target : List Dimension) (region targets : Box) (groups : List Group) (counts : Counts) : Type 0 where
   pub lines : product counts.lines.items ≡ length groups
   pub copies : MatchOption counts.copies (¬ AreFew targets)
       (λ factors. product factors.items ≡ length (copies_of groups))
@@ -70,11 +53,3 @@ pub record AreRegionCounts (source target : List Dimension) (region targets : Bo
       (product counts.elements.items)
   pub source_chunks : AreMany (λ chunk. (copy : Part × Part) × Contains (copies_of groups) copy × (copy.0.chunk.items ≡ chunk))
       (product counts.source_chunks.items)
-
--- nothing is copied: each count is 0, and none is left out
-pub record CountNothing (counts : Counts) : Type 0 where
-  pub lines : product counts.lines.items ≡ 0
-  pub copies : MatchOption counts.copies ⊥ (λ factors. product factors.items ≡ 0)
-  pub largest_line : MatchOption counts.largest_line ⊥ (λ factors. product factors.items ≡ 0)
-  pub elements : product counts.elements.items ≡ 0
-  pub source_chunks : product counts.source_chunks.items ≡ 0

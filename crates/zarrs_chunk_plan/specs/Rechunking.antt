@@ -1,14 +1,14 @@
 -- A rechunking: the copy of the whole array to where it is.
 -- Sources: Zarr V3 core, chunk grids and chunk key encodings; the plan is this library's own.
-use Rattle.std.specs.Prelude.{◌≡◌, ◌↔◌, ℕ, List, length, replicate}
-use Rattle.std.specs.List.{AllPairs, AllZip, Contains}
-use Rattle.zarrs_chunk_base.specs.ArraySubset.{Box, IsBox, IsInside}
+use Rattle.std.specs.Prelude.{◌≡◌, ℕ, List, length, replicate}
+use Rattle.std.specs.List.{AllPairs, Contains}
+use Rattle.zarrs_chunk_base.specs.ArraySubset.{Box, IsInside}
 use Rattle.zarrs_chunk_base.specs.Dimension.{Dimension, array_sizes, grid_sizes}
-use Rattle.zarrs_chunks.specs.Walks.{chunks_in, counted_from}
+use Rattle.zarrs_chunks.specs.Walks.{counted_from}
 use Rattle.zarrs_chunk_parts.specs.Plan.{Meets}
 use Rattle.zarrs_chunk_parts.specs.declared.part.Part.{Part}
-use Rattle.zarrs_chunk_plan.specs.Region.{AreMovedInto, MovesTo}
-pub use Rattle.zarrs_chunk_plan.specs.Region.{Group, copies_of}
+use Rattle.zarrs_chunk_plan.specs.Region.{AreMovedInto, IsCopy, MovesTo}
+pub use Rattle.zarrs_chunk_plan.specs.Region.{AreTargets, Group, copies_of}
 
 -- the box of all elements of the array
 abbrev pub array_box : List Dimension → Box
@@ -18,21 +18,14 @@ array_box ds = record { start = replicate (length ds) 0; shape = array_sizes ds 
 abbrev pub all_chunks_box : List Dimension → Box
 all_chunks_box ds = record { start = replicate (length ds) 0; shape = grid_sizes ds }
 
--- the chunks that are written: those of a box of chunk numbers that hold elements of the array
-abbrev pub AreTargets : List Dimension → Box → Box → Type 0
-AreTargets ds chunks targets = (chunk : List ℕ) → IsInside targets chunk ↔ (IsInside chunks chunk × Meets ds (array_box ds) chunk)
-
 module _ (source : List Dimension) (IsSourceKey : List ℕ → List ℕ → Type 0) (target : List Dimension) (IsTargetKey : List ℕ → List ℕ → Type 0) where
   -- what is copied into a chunk of the target
   abbrev pub AreCopiesInto : List ℕ → Group → Type 0
   AreCopiesInto = AreMovedInto source IsSourceKey target IsTargetKey (array_box target) (array_box target).start
 
-  -- the rechunking into the chunks of a box: a group for each that holds elements of the array, in row-major order
-  pub record IsRechunking (chunks : Box) (groups : List Group) : Type 0 where
-    pub targets : Box
-    pub is_box : IsBox targets
-    pub are_targets : AreTargets target chunks targets
-    pub are_groups : AllZip AreCopiesInto (chunks_in targets) groups
+  -- the rechunking into the chunks of a box
+  abbrev pub IsRechunking : (chunks : Box) → List Group → Type 0
+  IsRechunking chunks = IsCopy source IsSourceKey target IsTargetKey (array_box target) (array_box target).start (IsInside chunks)
 
 -- a copy moves the element at an index to the same index
 abbrev pub Moves : (source target : List Dimension) → Part × Part → (steps index : List ℕ) → Type 0

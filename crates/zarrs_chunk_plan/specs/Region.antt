@@ -1,16 +1,14 @@
--- The copy of a region: a box of elements of one array goes to a box of the same shape in another array, or in the same one. For each chunk of the
--- target that meets the moved box, the elements that it takes, and the parts of the source's chunks that have them. What is said of the copy is said
--- of a region that isn't empty; that it lies in both arrays is `CanBeMoved`. Sources: Zarr V3 core, chunk grids and chunk key encodings; the copy of
--- a region is this library's own.
-use Rattle.std.specs.Prelude.{◌≡◌, ◌≢◌, ℕ, ◌+◌, ◌≤◌, List, [], ◌∷◌, length, map}
+-- Copies. A region, which is a box of elements of one array, goes to a box of the same shape in another array, or in the same one: for each chunk of the
+-- target that takes some of it, the elements that it takes, and the parts of the source's chunks that have them.
+-- Sources: Zarr V3 core, chunk grids and chunk key encodings; the copy is this library's own.
+use Rattle.std.specs.Prelude.{◌≡◌, ◌≢◌, ◌↔◌, ℕ, ◌+◌, ◌≤◌, List, [], ◌∷◌, length, map}
 use Rattle.std.specs.List.{AllZip, flat_map}
-use Rattle.zarrs_chunk_base.specs.ArraySubset.{Box}
-use Rattle.zarrs_chunk_base.specs.Dimension.{Dimension, InBox, IsPlace}
+use Rattle.zarrs_chunk_base.specs.ArraySubset.{Box, IsBox, IsInside}
+use Rattle.zarrs_chunk_base.specs.Dimension.{Dimension, InBox, IsPlace, array_sizes}
 use Rattle.zarrs_chunk_base.specs.Refusal.{TellsLengths}
 use Rattle.zarrs_chunk_axes.specs.InBounds.{AreBelow}
-use Rattle.zarrs_chunks.specs.Subsets.{IsCover}
 use Rattle.zarrs_chunks.specs.Walks.{chunks_in, counted_from}
-use Rattle.zarrs_chunk_parts.specs.Plan.{IsPart, IsPlan}
+use Rattle.zarrs_chunk_parts.specs.Plan.{IsPart, IsPlan, Meets}
 use Rattle.zarrs_chunk_parts.specs.declared.part.Part.{Part}
 use Rattle.zarrs_chunk_plan.specs.declared.region_error.RegionError.{RegionError}
 use Rattle.zarrs_chunk_plan.specs.declared.region_error.RegionError.TheVariants.{Region, Target, At, PastSource, PastTarget}
@@ -60,6 +58,14 @@ IsRegionFault source target region at PastSource =
 IsRegionFault source target region at PastTarget =
     LiesIn region source × (length target ≡ length source) × (length at ≡ length source) × (¬ LiesIn (moved at region) target)
 
+-- the chunks that are written: those of the chosen ones that hold some of a box of elements
+abbrev pub AreTargets : List Dimension → Box → (Chosen : List ℕ → Type 0) → Box → Type 0
+AreTargets ds b Chosen targets = (chunk : List ℕ) → IsInside targets chunk ↔ (Chosen chunk × Meets ds b chunk)
+
+-- each chunk is chosen
+abbrev pub AnyChunk : List ℕ → Type 0
+AnyChunk _ = Unit {0}
+
 module _ (source : List Dimension) (IsSourceKey : List ℕ → List ℕ → Type 0) (target : List Dimension) (IsTargetKey : List ℕ → List ℕ → Type 0)
     (region : Box) (at : List ℕ) where
   -- what of a region is copied into a chunk of the target: the plan of reading, from where they are in the source, the elements of the moved box
@@ -68,11 +74,17 @@ module _ (source : List Dimension) (IsSourceKey : List ℕ → List ℕ → Type
     pub to : IsPart target IsTargetKey (moved at region) chunk group.0
     pub from : IsPlan source IsSourceKey (shifted region.start group.0.in_subset) group.1
 
-  -- the copy of a region: a group for each chunk of the moved box's cover, in row-major order
-  pub record IsRegionCopy (groups : List Group) : Type 0 where
-    pub cover : Box
-    pub is_cover : IsCover target (moved at region) cover
-    pub are_groups : AllZip AreMovedInto (chunks_in cover) groups
+  -- the copy of a region, which lies in both arrays, into chosen chunks: a group for each that takes some of it, in row-major order
+  pub record IsCopy (Chosen : List ℕ → Type 0) (groups : List Group) : Type 0 where
+    pub can : CanBeMoved (array_sizes source) (array_sizes target) region at
+    pub targets : Box
+    pub is_box : IsBox targets
+    pub are_targets : AreTargets target (moved at region) Chosen targets
+    pub are_groups : AllZip AreMovedInto (chunks_in targets) groups
+
+  -- into all
+  abbrev pub IsRegionCopy : List Group → Type 0
+  IsRegionCopy = IsCopy AnyChunk
 
 -- A copy moves the element at an index of the source's array to an index of the target's: so many steps after the first element of the source's box
 -- lies the one, and as many after the first of where this box goes the other. Where it goes is `in_subset` of the source's part, counted from the

@@ -5,29 +5,18 @@ use Rattle.std.specs.List.{AllZip}
 use Rattle.zarrs_chunk_base.specs.ArraySubset.{Box, IsBox}
 use Rattle.zarrs_chunk_base.specs.Dimension.{Dimension}
 use Rattle.zarrs_chunk_base.specs.Greatest.{greatest}
-use Rattle.zarrs_chunks.specs.Subsets.{IsCover}
 use Rattle.zarrs_chunks.specs.Walks.{chunks_in}
-use Rattle.zarrs_chunk_plan.specs.Rechunking.{AreCopiesInto, AreTargets, Group}
+use Rattle.zarrs_chunk_plan.specs.Rechunking.{AreTargets, Group}
 use Rattle.zarrs_chunk_plan.specs.Region.{AreMovedInto, moved}
 
--- Of the groups of the rechunking into the chunks of a box, of which there are `count`, as far as a number counts them: at most `most`, from the one
--- with the number `first` on. Each is that of a chunk that is written, and they come in row-major order of these chunks.
+-- Of the groups of a copy into chosen chunks, of which there are `count`, as far as a number counts them: at most `most`, from the one with the number
+-- `first` on. Each is that of a chunk that is written, and they come in row-major order of these chunks.
 pub record AreSomeGroups (source : List Dimension) (IsSourceKey : List ℕ → List ℕ → Type 0)
-    (target : List Dimension) (IsTargetKey : List ℕ → List ℕ → Type 0) (chunks : Box) (first most count : ℕ) (groups : List Group) : Type 0 where
+    (target : List Dimension) (IsTargetKey : List ℕ → List ℕ → Type 0) (region : Box) (at : List ℕ) (Chosen : List ℕ → Type 0)
+    (first most count : ℕ) (groups : List Group) : Type 0 where
   pub targets : Box
   pub is_box : IsBox targets
-  pub are_targets : AreTargets target chunks targets
+  pub are_targets : AreTargets target (moved at region) Chosen targets
   pub in_all : count ≡ min (length (chunks_in targets)) greatest
-  pub are_groups : AllZip (AreCopiesInto source IsSourceKey target IsTargetKey)
-      (take (min (count - first) most) (drop first (chunks_in targets))) groups
-
--- Of the groups of the copy of a region, of which there are `count`, as far as a number counts them: at most `most`, from the one with the number
--- `first` on. Each is that of a chunk of the moved box's cover, and they come in row-major order of these chunks.
-pub record AreSomeMovedGroups (source : List Dimension) (IsSourceKey : List ℕ → List ℕ → Type 0)
-    (target : List Dimension) (IsTargetKey : List ℕ → List ℕ → Type 0) (region : Box) (at : List ℕ) (first most count : ℕ)
-    (groups : List Group) : Type 0 where
-  pub cover : Box
-  pub is_cover : IsCover target (moved at region) cover
-  pub in_all : count ≡ min (length (chunks_in cover)) greatest
   pub are_groups : AllZip (AreMovedInto source IsSourceKey target IsTargetKey region at)
-      (take (min (count - first) most) (drop first (chunks_in cover))) groups
+      (take (min (count - first) most) (drop first (chunks_in targets))) groups

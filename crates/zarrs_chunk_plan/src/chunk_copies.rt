@@ -34,30 +34,6 @@ pub struct Copies<'a, G, E, H, F> {
     targets: Parts<'a, H, F>,
 }
 
-impl<'a, G, E, H, F> Copies<'a, G, E, H, F> {
-    ghost use Rattle.std.specs.Prelude.{◌≡◌};
-
-    /// A walk over what is copied into the chunks of the target that a walk gives. The first element of the box that this is over lies at `first` in
-    /// the source's array.
-    pub(crate) fn new(
-        alloc: Global,
-        source: &'a StoredArray<G, E>,
-        first: ArrayIndices,
-        targets: Parts<'a, H, F>,
-    ) -> Copies<'a, G, E, H, F>
-        ensures targets { result.targets ≡ targets.entry }
-        ensures same_source { result.source.now ≡ source.now }
-        ensures first { result.first.items ≡ first.items }
-    {
-        Copies {
-            alloc,
-            source,
-            first,
-            targets,
-        }
-    }
-}
-
 impl<'a, G, E, H: ChunkGridTraits, F: ChunkKeyEncodingTraits> Copies<'a, G, E, H, F> {
     ghost use Rattle.std.specs.Prelude.{◌≡◌, IfOk, OnErr, OnOk, drop, length};
     ghost use Rattle.zarrs_chunk_plan.specs.Counted.{counted};
@@ -121,10 +97,45 @@ impl<
     H: ChunkGridTraits,
     F: ChunkKeyEncodingTraits,
 > Copies<'a, G, E, H, F> {
-    ghost use Rattle.std.specs.Prelude.{IfOk, IfSome};
-    ghost use Rattle.zarrs_chunk_base.specs.ArraySubset.{IsEmptyBox};
-    ghost use Rattle.zarrs_chunk_plan.specs.Region.{shifted};
-    ghost use Rattle.zarrs_chunk_plan.specs.seen.Copies.{IsPlanned, first_of};
+    ghost use Rattle.std.specs.Prelude.{◌≡◌, ℕ, IfOk, IfSome, List};
+    ghost use Rattle.zarrs_chunk_base.specs.ArraySubset.{IsEmptyBox, IsInside};
+    ghost use Rattle.zarrs_chunk_base.specs.Dimension.{array_sizes};
+    ghost use Rattle.zarrs_chunks.specs.Walks.{chunks_in};
+    ghost use Rattle.zarrs_chunk_parts.specs.Plan.{Meets};
+    ghost use Rattle.zarrs_chunk_plan.specs.Region.{EndWithin, shifted};
+    ghost use Rattle.zarrs_chunk_plan.specs.seen.Copies.{CanMove, IsAboutCopies, IsPlanned, all_targets, first_of, targets_to_come};
+
+    /// A walk over what is copied into chunks of the target that each take some of a box of elements. The first element of this lies at `first` in the
+    /// source's array.
+    ///
+    /// # Errors
+    /// Out of memory.
+    pub(crate) fn new(
+        alloc: Global,
+        source: &'a StoredArray<G, E>,
+        target: &'a StoredArray<H, F>,
+        first: ArrayIndices,
+        elements: ArraySubset,
+        targets: ArraySubset,
+    ) -> Result<Copies<'a, G, E, H, F>, AllocError>
+        requires in_source { EndWithin first.items elements.shape
+            (array_sizes (G.dimensions source.now.grid)) }
+        requires meet { (chunk : List ℕ) → IsInside targets chunk
+            → Meets (H.dimensions target.now.grid) elements chunk }
+        ensures left { IfOk result (λ walk. targets_to_come walk ≡ chunks_in targets) }
+        ensures about { IfOk result (IsAboutCopies source.now target.now elements) }
+        ensures can_move { IfOk result (CanMove G.dimensions H.dimensions) }
+        ensures first { IfOk result (λ walk. first_of walk ≡ first.items) }
+        ensures all { IfOk result (λ walk. all_targets walk ≡ targets_to_come walk) }
+    {
+        targets.is_a_box();
+        Ok(Copies {
+            alloc,
+            source,
+            first,
+            targets: Parts::new(alloc, &target.grid, &target.encoding, elements, targets)?,
+        })
+    }
 
     /// The parts of the source's chunks that have a box of the elements that are copied, which is counted from the first of them.
     ///

@@ -5,11 +5,10 @@ ghost use Rattle.zarrs_chunk_base.specs.ArraySubset.{Box, IsBox, IsEmptyBox, IsI
 ghost use Rattle.zarrs_chunk_base.specs.Dimension.{InBox, array_sizes};
 ghost use Rattle.zarrs_chunk_base.specs.Refusal.{HasMemory, OrMemory};
 ghost use Rattle.zarrs_chunk_axes.specs.InBounds.{AreBelow};
-ghost use Rattle.zarrs_chunks.specs.Subsets.{IsCover};
-ghost use Rattle.zarrs_chunk_plan.specs.Counts.{AreFew, AreRechunkingCounts, AreRegionCounts, CountNothing, product};
+ghost use Rattle.zarrs_chunk_plan.specs.Counts.{AreCopyCounts, AreFew, product};
 ghost use Rattle.zarrs_chunk_parts.specs.Plan.{Meets};
 ghost use Rattle.zarrs_chunk_plan.specs.Rechunking.{AreTargets, Group, IsRechunking, array_box};
-ghost use Rattle.zarrs_chunk_plan.specs.Region.{CanBeMoved, IsRegionCopy, IsRegionFault, moved};
+ghost use Rattle.zarrs_chunk_plan.specs.Region.{AnyChunk, CanBeMoved, IsRegionCopy, IsRegionFault, moved};
 ghost use Rattle.zarrs_chunk_plan.specs.seen.Copies.{IsCopiesFault};
 ghost use Rattle.zarrs_chunk_plan.specs.seen.ReadCounts.{AnswersCounts, AnswersNoCounts};
 ghost use Rattle.zarrs_chunk_parts.specs.seen.Shared.{distances};
@@ -19,7 +18,7 @@ ghost use Rattle.zarrs_chunk_plan.specs.seen.Sources.{AreTaking, counters};
 use crate::boxes_from_zero::whole_array;
 use crate::copies_error::CopiesError;
 use crate::few::are_few;
-use crate::rechunking::targets_of;
+use crate::rechunking::{chunks_with, targets_of};
 use crate::region::moved_box;
 use crate::region_error::RegionError;
 use crate::sources::{Move, sources_along_each};
@@ -27,7 +26,7 @@ use crate::stored_array::StoredArray;
 use std::alloc::{AllocError, Global};
 use zarrs_chunk_base::{ArrayShape, ArraySubset, IncompatibleDimensionalityError, Refusal};
 use zarrs_chunk_keys::ChunkKeyEncodingTraits;
-use zarrs_chunk_parts::{box_of, expect_answer, shared_elements, steps_to};
+use zarrs_chunk_parts::{box_of, shared_elements, steps_to};
 use zarrs_chunks::ChunkGridTraits;
 
 /// How much a plan copies. Each count is the product of the numbers in its list: it may be larger than any integer type holds. These are found
@@ -112,11 +111,13 @@ pub fn counts_of_rechunking<
     chunks: &ArraySubset,
 ) -> Result<Counts, Refusal<CopiesError>>
     ensures counts { IfOk result (λ counts. (targets : Box) × IsBox targets
-        × AreTargets (H.dimensions target.now.grid) chunks.now targets
+        × AreTargets (H.dimensions target.now.grid) (array_box (H.dimensions target.now.grid))
+        (IsInside chunks.now) targets
         × ((groups : List Group) → IsRechunking (G.dimensions source.now.grid)
         (E.is_key source.now.encoding) (H.dimensions target.now.grid) (F.is_key target.now.encoding)
-        chunks.now groups → AreRechunkingCounts (G.dimensions source.now.grid)
-        (H.dimensions target.now.grid) targets groups counts)) }
+        chunks.now groups → AreCopyCounts (G.dimensions source.now.grid)
+        (H.dimensions target.now.grid) (array_box (H.dimensions target.now.grid)) targets groups
+        counts)) }
     ensures is_box { IfOk result (λ _. IsBox (array_box (H.dimensions target.now.grid))) }
     ensures one_array { IfOk result (λ _. array_sizes (G.dimensions source.now.grid)
         ≡ array_sizes (H.dimensions target.now.grid)) }
@@ -162,13 +163,12 @@ pub fn counts_of_region<
     region: &ArraySubset,
     at: &[u64],
 ) -> Result<Counts, Refusal<RegionError>>
-    ensures counts { (¬ IsEmptyBox region.now) → IfOk result (λ counts. (cover : Box)
-        × IsCover (H.dimensions target.now.grid) (moved at.now region.now) cover
+    ensures counts { IfOk result (λ counts. (targets : Box) × IsBox targets
+        × AreTargets (H.dimensions target.now.grid) (moved at.now region.now) AnyChunk targets
         × ((groups : List Group) → IsRegionCopy (G.dimensions source.now.grid)
         (E.is_key source.now.encoding) (H.dimensions target.now.grid) (F.is_key target.now.encoding)
-        region.now at.now groups → AreRegionCounts (G.dimensions source.now.grid)
-        (H.dimensions target.now.grid) region.now cover groups counts)) }
-    ensures empty { IsEmptyBox region.now → IfOk result CountNothing }
+        region.now at.now groups → AreCopyCounts (G.dimensions source.now.grid)
+        (H.dimensions target.now.grid) region.now targets groups counts)) }
     ensures is_box { IfOk result (λ _. IsBox (moved at.now region.now)) }
     ensures lies { IfOk result (λ _. CanBeMoved (array_sizes (G.dimensions source.now.grid))
         (array_sizes (H.dimensions target.now.grid)) region.now at.now) }
@@ -180,9 +180,7 @@ pub fn counts_of_region<
 {
     region.is_a_box();
     let moved = moved_box(alloc, &source.grid, &target.grid, region, at)?;
-    // The box has a cover: it lies in the target's array.
-    let found = target.grid.chunks_in_array_subset(alloc, &moved);
-    let targets = expect_answer(found)?;
+    let targets = chunks_with(alloc, &target.grid, &moved)?;
     targets.is_a_box();
     let copied = Move {
         source: &source.grid,
@@ -212,8 +210,7 @@ fn counts_of_targets<G: ChunkGridTraits, H: ChunkGridTraits>(
         (counters (G.dimensions copied.now.source.now) (H.dimensions copied.now.target.now)
         copied.now.region.now copied.now.moved.now) elements.now targets.now) }
 {
-    let found = copied.source.chunks_in_array_subset(alloc, elements);
-    let cover = expect_answer(found)?;
+    let cover = chunks_with(alloc, copied.source, elements)?;
     let (copies, largest_line) = copies_along(alloc, copied, targets)?;
     Ok(Counts {
         copies,

@@ -36,12 +36,11 @@ ghost use Rattle.zarrs_chunk_base.specs.Greatest.{AllFit};
 ghost use Rattle.zarrs_chunk_base.specs.Grid.{Grid};
 ghost use Rattle.zarrs_chunk_base.specs.Metadata.{Extension};
 ghost use Rattle.zarrs_chunks.specs.GridKinds.{IsGrid};
-ghost use Rattle.zarrs_chunks.specs.Subsets.{IsCover};
 ghost use Rattle.zarrs_chunks.specs.Walks.{chunks_in, counted_from};
 ghost use Rattle.zarrs_chunk_plan.specs.Bytes.{FindsRanges};
 ghost use Rattle.zarrs_chunk_parts.specs.Plan.{HasElement, IsPart, IsPlan};
 ghost use Rattle.zarrs_chunk_plan.specs.Rechunking.{AreTargets, Goes, Group, IsExchanged, IsRechunking, Moves, ShareOut, all_chunks_box, array_box, copies_of};
-ghost use Rattle.zarrs_chunk_plan.specs.Region.{IsRegionCopy, MovesTo, moved};
+ghost use Rattle.zarrs_chunk_plan.specs.Region.{AnyChunk, CanBeMoved, IsRegionCopy, MovesTo, moved};
 ghost use Rattle.zarrs_chunk_plan.specs.Resize.{AreChanged, AreResized, HasElementOf, IsAsked, IsChange, IsChanged, IsKept, IsResizePlan, IsUsed};
 ghost use Rattle.zarrs_chunk_plan.specs.declared.resize.Change.TheVariants.{Delete, Keep, New, Rewrite};
 ghost use Rattle.zarrs_chunk_plan.specs.Shares.{numbered_share};
@@ -151,8 +150,11 @@ pub fn the_walk_gives_the_rechunking<
     H: ChunkGridTraits,
     F: ChunkKeyEncodingTraits,
 >(source: &StoredArray<G, E>, target: &StoredArray<H, F>)
-    ensures { (chunks targets : Box) (walk : Copies G E H F) (groups : List Group)
-        → IsBox targets → AreTargets (H.dimensions target.now.grid) chunks targets
+    ensures { array_sizes (G.dimensions source.now.grid)
+        ≡ array_sizes (H.dimensions target.now.grid)
+        → (chunks targets : Box) (walk : Copies G E H F) (groups : List Group)
+        → IsBox targets → AreTargets (H.dimensions target.now.grid)
+        (array_box (H.dimensions target.now.grid)) (IsInside chunks) targets
         → targets_to_come walk ≡ chunks_in targets
         → IsAboutCopies source.now target.now (array_box (H.dimensions target.now.grid)) walk
         → first_of walk ≡ replicate (length (H.dimensions target.now.grid)) 0
@@ -321,7 +323,7 @@ pub fn rechunkings_that_share_out_are_the_whole_one<
 {}
 
 /// What a walk over a region gives up to its end, each group with all of its parts, is its groups to come. Of a walk that `copies_of_region` answers
-/// these are the copy of the region; of an empty region there are none.
+/// these are the copy of the region.
 pub fn the_walk_gives_the_region<
     G: ChunkGridTraits,
     E: ChunkKeyEncodingTraits,
@@ -333,16 +335,16 @@ pub fn the_walk_gives_the_region<
         → Drains (GivesCopies G.dimensions H.dimensions F.is_key) walk (map Ok given)
         → AllZip (HasAllParts G.dimensions E.is_key) given groups
         → AreMovesToCome G.dimensions E.is_key H.dimensions F.is_key walk groups }
-    ensures region { (region : Box) (at : List ℕ) (cover : Box) (walk : Copies G E H F)
-        (groups : List Group) → IsCover (H.dimensions target.now.grid) (moved at region) cover
-        → targets_to_come walk ≡ chunks_in cover
+    ensures region { (region : Box) (at : List ℕ) (targets : Box) (walk : Copies G E H F)
+        (groups : List Group) → CanBeMoved (array_sizes (G.dimensions source.now.grid))
+        (array_sizes (H.dimensions target.now.grid)) region at → IsBox targets
+        → AreTargets (H.dimensions target.now.grid) (moved at region) AnyChunk targets
+        → targets_to_come walk ≡ chunks_in targets
         → IsAboutCopies source.now target.now (moved at region) walk
         → first_of walk ≡ region.start
         → AreMovesToCome G.dimensions E.is_key H.dimensions F.is_key walk groups
         → IsRegionCopy (G.dimensions source.now.grid) (E.is_key source.now.encoding)
         (H.dimensions target.now.grid) (F.is_key target.now.encoding) region at groups }
-    ensures none { (walk : Copies G E H F) (groups : List Group) → targets_to_come walk ≡ []
-        → AreMovesToCome G.dimensions E.is_key H.dimensions F.is_key walk groups → groups ≡ [] }
 {}
 
 /// Each element of a region is moved by exactly one copy, from its place in the chunk of the source that holds it to its new place in the chunk of

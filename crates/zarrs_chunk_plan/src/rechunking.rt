@@ -1,6 +1,6 @@
 //! The plan of a rechunking.
 ghost use Rattle.std.specs.Prelude.{◌≡◌, ◌≢◌, ◌↔◌, ℕ, IfErr, IfOk, IsTrue, List, length, replicate};
-ghost use Rattle.zarrs_chunk_base.specs.ArraySubset.{Box, IsBox, IsInside};
+ghost use Rattle.zarrs_chunk_base.specs.ArraySubset.{Box, IsBox, IsEmptyBox, IsInside};
 ghost use Rattle.zarrs_chunk_base.specs.Dimension.{array_sizes};
 ghost use Rattle.zarrs_chunk_base.specs.Refusal.{HasMemory, OrMemory};
 ghost use Rattle.zarrs_chunks.specs.Walks.{chunks_in};
@@ -12,7 +12,6 @@ use crate::boxes_from_zero::{whole_array, zeros};
 use crate::chunk_copies::Copies;
 use crate::copies_error::CopiesError;
 use crate::stored_array::StoredArray;
-use crate::walk::Parts;
 use std::alloc::{AllocError, Global};
 use zarrs_chunk_base::{ArraySubset, IncompatibleDimensionalityError, Refusal};
 use zarrs_chunk_keys::ChunkKeyEncodingTraits;
@@ -41,7 +40,8 @@ pub fn copies<
     chunks: &ArraySubset,
 ) -> Result<Copies<'a, G, E, H, F>, Refusal<CopiesError>>
     ensures targets { IfOk result (λ walk. (targets : Box) × IsBox targets
-        × AreTargets (H.dimensions target.now.grid) chunks.now targets
+        × AreTargets (H.dimensions target.now.grid) (array_box (H.dimensions target.now.grid))
+        (IsInside chunks.now) targets
         × (targets_to_come walk ≡ chunks_in targets)) }
     ensures about { IfOk result (IsAboutCopies source.now target.now
         (array_box (H.dimensions target.now.grid))) }
@@ -64,9 +64,8 @@ pub fn copies<
 {
     let targets = targets_of(alloc, &source.grid, &target.grid, chunks)?;
     let array = whole_array(alloc, &target.grid)?;
-    let walk = Parts::new(alloc, &target.grid, &target.encoding, array, targets)?;
     let first = zeros(alloc, target.grid.dimensionality())?;
-    Ok(Copies::new(alloc, source, first, walk))
+    Ok(Copies::new(alloc, source, target, first, array, targets)?)
 }
 
 /// The chunks of the target that a rechunking writes: of a box of chunk numbers those that hold elements of the array, as a box of chunk numbers.
@@ -80,7 +79,8 @@ pub(crate) fn targets_of<G: ChunkGridTraits, H: ChunkGridTraits>(
     target: &H,
     chunks: &ArraySubset,
 ) -> Result<ArraySubset, Refusal<CopiesError>>
-    ensures targets { IfOk result (AreTargets (H.dimensions target.now) chunks.now) }
+    ensures targets { IfOk result (AreTargets (H.dimensions target.now)
+        (array_box (H.dimensions target.now)) (IsInside chunks.now)) }
     ensures is_box { IfOk result IsBox }
     ensures long { IfOk result (λ targets. length targets.start
         ≡ length (H.dimensions target.now)) }
@@ -138,5 +138,25 @@ pub(crate) fn chunks_of_array<G: ChunkGridTraits>(
 {
     array.is_a_box();
     let cover = grid.chunks_in_array_subset(alloc, array);
+    Ok(expect_answer(cover)?)
+}
+
+/// The box of the chunks that hold some of a box of elements of a grid's array.
+///
+/// # Errors
+/// Out of memory.
+pub(crate) fn chunks_with<G: ChunkGridTraits>(
+    alloc: Global,
+    grid: &G,
+    elements: &ArraySubset,
+) -> Result<ArraySubset, AllocError>
+    requires { IsEmptyBox elements.now → length (G.dimensions grid.now) ≢ 0 }
+    ensures lengths { IfOk result (λ chunks. length chunks.start
+        ≡ length (G.dimensions grid.now)) }
+    ensures named { IfOk result (λ chunks. (chunk : List ℕ) → IsInside chunks chunk
+        ↔ Meets (G.dimensions grid.now) elements.now chunk) }
+{
+    elements.is_a_box();
+    let cover = grid.chunks_in_array_subset(alloc, elements);
     Ok(expect_answer(cover)?)
 }

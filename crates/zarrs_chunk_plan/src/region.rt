@@ -1,22 +1,21 @@
 //! The copy of a region.
-ghost use Rattle.std.specs.Prelude.{◌≡◌, [], IfErr, IfOk, MatchResult};
-ghost use Rattle.zarrs_chunk_base.specs.ArraySubset.{Box, IsBox, IsEmptyBox};
+ghost use Rattle.std.specs.Prelude.{◌≡◌, IfErr, IfOk, MatchResult};
+ghost use Rattle.zarrs_chunk_base.specs.ArraySubset.{Box, IsBox};
 ghost use Rattle.zarrs_chunk_base.specs.Dimension.{array_sizes};
 ghost use Rattle.zarrs_chunk_base.specs.Refusal.{HasMemory, OrMemory};
-ghost use Rattle.zarrs_chunks.specs.Subsets.{IsCover};
 ghost use Rattle.zarrs_chunks.specs.Walks.{chunks_in};
-ghost use Rattle.zarrs_chunk_plan.specs.Region.{CanBeMoved, IsRegionFault, moved, shifted};
+ghost use Rattle.zarrs_chunk_plan.specs.Region.{AnyChunk, AreTargets, CanBeMoved, IsRegionFault, moved, shifted};
 ghost use Rattle.zarrs_chunk_plan.specs.seen.Copies.{CanMove, IsAboutCopies, all_targets, first_of, targets_to_come};
 
 use crate::chunk_copies::Copies;
 use crate::moved::{lies_in, shifted_box};
-use crate::plan::parts;
+use crate::rechunking::chunks_with;
 use crate::region_error::RegionError;
 use crate::stored_array::StoredArray;
 use std::alloc::{AllocError, Global};
 use zarrs_chunk_base::{ArraySubset, IncompatibleDimensionalityError, Refusal};
 use zarrs_chunk_keys::ChunkKeyEncodingTraits;
-use zarrs_chunk_parts::{Part, box_of, expect_answer};
+use zarrs_chunk_parts::{Part, box_of};
 use zarrs_chunks::ChunkGridTraits;
 
 /// What is copied of a region: a box of elements of the source's array goes to the box of its shape that begins at `at` in the target's array, which
@@ -44,10 +43,9 @@ pub fn copies_of_region<
     region: &ArraySubset,
     at: &[u64],
 ) -> Result<Copies<'a, G, E, H, F>, Refusal<RegionError>>
-    ensures targets { (¬ IsEmptyBox region.now) → IfOk result (λ walk. (cover : Box)
-        × IsCover (H.dimensions target.now.grid) (moved at.now region.now) cover
-        × (targets_to_come walk ≡ chunks_in cover)) }
-    ensures empty { IsEmptyBox region.now → IfOk result (λ walk. targets_to_come walk ≡ []) }
+    ensures targets { IfOk result (λ walk. (targets : Box) × IsBox targets
+        × AreTargets (H.dimensions target.now.grid) (moved at.now region.now) AnyChunk targets
+        × (targets_to_come walk ≡ chunks_in targets)) }
     ensures first { IfOk result (λ walk. first_of walk ≡ region.now.start) }
     ensures about { IfOk result (IsAboutCopies source.now target.now (moved at.now region.now)) }
     ensures can_move { IfOk result (CanMove G.dimensions H.dimensions) }
@@ -62,11 +60,10 @@ pub fn copies_of_region<
         (array_sizes (H.dimensions target.now.grid)) region.now at.now) → HasMemory result }
 {
     let moved = moved_box(alloc, &source.grid, &target.grid, region, at)?;
-    // The box has a cover: it lies in the target's array.
-    let found = parts(alloc, &target.grid, &target.encoding, &moved);
-    let targets = expect_answer(found)?;
+    let targets = chunks_with(alloc, &target.grid, &moved)?;
+    targets.is_a_box();
     let first = Vec::from_slice(alloc, region.start())?;
-    Ok(Copies::new(alloc, source, first, targets))
+    Ok(Copies::new(alloc, source, target, first, moved, targets)?)
 }
 
 /// The box of the target's array that a region of the source's goes to, to begin at `at`.

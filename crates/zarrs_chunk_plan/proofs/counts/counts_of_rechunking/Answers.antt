@@ -1,5 +1,7 @@
 use Rattle.std.proofs.Common.{◌∙◌, sym}
-use Rattle.zarrs_chunk_plan.proofs.CountedCopies.{are_taking, counts_are}
+use Rattle.zarrs_chunk_base.specs.ArraySubset.{IsInside}
+use Rattle.zarrs_chunk_plan.specs.Rechunking.{array_box}
+use Rattle.zarrs_chunk_plan.proofs.CountedCopies.{are_taking, counts_are, held_taken}
 use Rattle.zarrs_chunk_plan.proofs.MetCovers.{as_many_dimensions, some_dimensions}
 use Rattle.zarrs_chunk_plan.proofs.counts.counts_of_rechunking.Goals as goal
 
@@ -37,8 +39,12 @@ returns-clause-counts g c =
       found.targets,
       λ groups plan.
           counts_are source (g.E.ChunkKeyEncodingTraits.is_key c.args.source.now.encoding) target
-          (g.F.ChunkKeyEncodingTraits.is_key c.args.target.now.encoding)
-          (g.met.G.ChunkGridTraits.chained c.args.source.now.grid) targets taking c.args.chunks.now found.targets groups plan
-          c.in_ok-elements.elements c.in_ok-counts_of_targets.field-0 c.in_ok-elements.ensures.elements
+          (g.F.ChunkKeyEncodingTraits.is_key c.args.target.now.encoding) (array_box target) (array_box target).start
+          (g.met.G.ChunkGridTraits.chained c.args.source.now.grid) targets taking (IsInside c.args.chunks.now) found.targets groups plan found.array
+          c.in_ok-elements.elements c.in_ok-counts_of_targets.field-0
+          (λ index.
+          let held = c.in_ok-elements.ensures.elements index in
+          let taken = held_taken target targets index in
+          (λ inside. taken.0 (held.0 inside), λ goes. held.1 (taken.1 goes)))
           (rw c.in_ok-array.ensures.elements at c.in_ok-counts_of_targets.ensures),
     )

@@ -1,57 +1,48 @@
-use Rattle.zarrs_chunk_plan.specs.Region.{moved}
-use Rattle.zarrs_chunk_plan.specs.seen.Sources.{counters}
-use Rattle.zarrs_chunk_plan.proofs.CountedRegions.{count_nothing, counts_are, lies_some, taking}
-use Rattle.zarrs_chunk_plan.proofs.MetCovers.{is_cover}
+use Rattle.zarrs_chunk_plan.specs.Region.{AnyChunk, moved}
+use Rattle.zarrs_chunk_plan.proofs.CountedCopies.{all_taken, any_chunk, counts_are, some_taking}
+use Rattle.zarrs_chunk_plan.proofs.MovedBoxes.{lies_some}
 use Rattle.zarrs_chunk_plan.proofs.counts.counts_of_region.Goals as goal
+
+pub chunks_with-requires : goal.chunks_with-requires
+chunks_with-requires g c = λ empty.
+    lies_some (g.H.ChunkGridTraits.dimensions c.args.target.now.grid) (moved c.args.at.now c.args.region.now) c.in_ok-moved.ensures.lies.in_target
+    (rw c.in_ok-moved.ensures.value at empty)
 
 pub counts_of_targets-requires-clause-taking : goal.counts_of_targets-requires-clause-taking
 counts_of_targets-requires-clause-taking g c =
-    let source = g.G.ChunkGridTraits.dimensions c.args.source.now.grid in
-    let target = g.H.ChunkGridTraits.dimensions c.args.target.now.grid in
-    rw c.in_ok-moved.ensures.value
-    (taking source target (g.met.H.ChunkGridTraits.chained c.args.target.now.grid) c.args.region.now
-    c.args.at.now c.in_ok-moved.ensures.lies c.in_ok-moved.ensures.is_box c.in_ok-targets.targets
-    c.is_a_box-2.ensures c.chunks_in_array_subset-found.result c.in_ok-targets.ensures
-    (rw c.in_ok-moved.ensures.value at c.chunks_in_array_subset-found.ensures.empty)
-    (rw c.in_ok-moved.ensures.value at c.chunks_in_array_subset-found.ensures.answers))
+    let found = c.in_ok-moved.ensures in
+    let named = rw found.value at c.in_ok-targets.ensures.named in
+    rw found.value
+    (some_taking (g.G.ChunkGridTraits.dimensions c.args.source.now.grid) (g.H.ChunkGridTraits.dimensions c.args.target.now.grid) c.args.region.now
+    c.args.at.now found.lies found.is_box c.in_ok-targets.targets c.is_a_box-2.ensures c.in_ok-targets.ensures.lengths (λ chunk. (named chunk).0))
 
 pub counts_of_targets-requires-clause-dimensions : goal.counts_of_targets-requires-clause-dimensions
 counts_of_targets-requires-clause-dimensions g c = λ empty.
     lies_some (g.G.ChunkGridTraits.dimensions c.args.source.now.grid) c.args.region.now c.in_ok-moved.ensures.lies.in_source empty
 
 pub returns-clause-counts : goal.returns-clause-counts
-returns-clause-counts g c = λ some.
+returns-clause-counts g c =
     let source = g.G.ChunkGridTraits.dimensions c.args.source.now.grid in
     let target = g.H.ChunkGridTraits.dimensions c.args.target.now.grid in
     let region = c.args.region.now in
     let at = c.args.at.now in
-    let cover = c.in_ok-targets.targets in
-    let are = taking source target (g.met.H.ChunkGridTraits.chained c.args.target.now.grid) c.args.region.now
-    c.args.at.now c.in_ok-moved.ensures.lies c.in_ok-moved.ensures.is_box c.in_ok-targets.targets
-    c.is_a_box-2.ensures c.chunks_in_array_subset-found.result c.in_ok-targets.ensures
-    (rw c.in_ok-moved.ensures.value at c.chunks_in_array_subset-found.ensures.empty)
-    (rw c.in_ok-moved.ensures.value at c.chunks_in_array_subset-found.ensures.answers)
+    let found = c.in_ok-moved.ensures in
+    let targets = c.in_ok-targets.targets in
+    let named = rw found.value at c.in_ok-targets.ensures.named in
+    let taking = some_taking source target region at found.lies found.is_box targets c.is_a_box-2.ensures c.in_ok-targets.ensures.lengths
+    (λ chunk. (named chunk).0)
     in
-    let is = is_cover target (moved at region) cover c.chunks_in_array_subset-found.result
-    (rw c.in_ok-moved.ensures.value at c.chunks_in_array_subset-found.ensures.answers) c.in_ok-targets.ensures some
-    in (
-      cover,
-      is,
+    let are = any_chunk target (moved at region) targets named in
+    let source_key = g.E.ChunkKeyEncodingTraits.is_key c.args.source.now.encoding in
+    let target_key = g.F.ChunkKeyEncodingTraits.is_key c.args.target.now.encoding in
+    let chains = g.met.G.ChunkGridTraits.chained c.args.source.now.grid in (
+      targets,
+      c.is_a_box-2.ensures,
+      are,
       λ groups plan.
-          counts_are source (g.E.ChunkKeyEncodingTraits.is_key c.args.source.now.encoding) target
-          (g.F.ChunkKeyEncodingTraits.is_key c.args.target.now.encoding) region at (g.met.G.ChunkGridTraits.chained c.args.source.now.grid)
-          (g.met.H.ChunkGridTraits.chained c.args.target.now.grid) c.is_a_box.ensures some cover is are groups plan
-          c.in_ok-counts_of_targets.field-0 (rw c.in_ok-moved.ensures.value at c.in_ok-counts_of_targets.ensures),
+          counts_are source source_key target target_key region at chains targets taking AnyChunk are groups plan c.is_a_box.ensures region
+          c.in_ok-counts_of_targets.field-0
+          (all_taken source source_key target target_key region at chains targets taking AnyChunk are
+          (g.met.H.ChunkGridTraits.chained c.args.target.now.grid) c.is_a_box.ensures (λ chunk. tt))
+          (rw found.value at c.in_ok-counts_of_targets.ensures),
     )
-
-pub returns-clause-empty : goal.returns-clause-empty
-returns-clause-empty g c = λ empty.
-    let source = g.G.ChunkGridTraits.dimensions c.args.source.now.grid in
-    let target = g.H.ChunkGridTraits.dimensions c.args.target.now.grid in
-    count_nothing source target (g.met.H.ChunkGridTraits.chained c.args.target.now.grid) c.args.region.now
-    c.args.at.now c.in_ok-moved.ensures.lies c.in_ok-moved.ensures.is_box c.in_ok-targets.targets
-    c.is_a_box-2.ensures c.chunks_in_array_subset-found.result c.in_ok-targets.ensures
-    (rw c.in_ok-moved.ensures.value at c.chunks_in_array_subset-found.ensures.empty)
-    (rw c.in_ok-moved.ensures.value at c.chunks_in_array_subset-found.ensures.answers) empty
-    (counters source target c.args.region.now (moved c.args.at.now c.args.region.now)) c.in_ok-counts_of_targets.field-0
-    (rw c.in_ok-moved.ensures.value at c.in_ok-counts_of_targets.ensures)

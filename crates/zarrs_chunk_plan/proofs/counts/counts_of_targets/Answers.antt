@@ -3,19 +3,13 @@ use Rattle.zarrs_chunk_base.specs.ArraySubset.{IsInside}
 use Rattle.zarrs_chunk_plan.specs.Counts.{AreMany, product}
 use Rattle.zarrs_chunk_parts.specs.Plan.{Meets}
 use Rattle.zarrs_chunk_plan.proofs.BoxCounts.{box_many}
-use Rattle.zarrs_chunk_plan.proofs.BoxCover.{cover_names}
 use Rattle.zarrs_chunk_plan.proofs.counts.counts_of_targets.Goals as goal
 
 pub returns : goal.returns
 returns g c =
     let source = g.G.ChunkGridTraits.dimensions c.args.copied.now.source.now in
-    let chains = g.met.G.ChunkGridTraits.chained c.args.copied.now.source.now in
     let elements = c.args.elements.now in
     let cover = c.in_ok-cover.cover in
-    let names = cover_names source elements c.requires.dimensions c.chunks_in_array_subset-found.result
-    c.chunks_in_array_subset-found.ensures.empty c.chunks_in_array_subset-found.ensures.answers cover c.in_ok-cover.ensures chains
-    c.shape.ensures.is_box
-    in
     record {
       lines = c.in_ok-to_vec-2.ensures.items_if_clones_equal (λ x y same. same) ∙ c.shape-2.ensures.value;
       copies = c.in_ok-copies.ensures.copies;
@@ -25,5 +19,5 @@ returns g c =
           (box_many elements (IsInside elements) c.shape.ensures.is_box (λ index. (λ inside. inside, λ inside. inside)));
       source_chunks = subst (λ items. AreMany (Meets source elements) (product items))
           (sym (c.in_ok-to_vec-3.ensures.items_if_clones_equal (λ x y same. same) ∙ c.shape-3.ensures.value))
-          (box_many cover (Meets source elements) c.shape-3.ensures.is_box names);
+          (box_many cover (Meets source elements) c.shape-3.ensures.is_box c.in_ok-cover.ensures.named);
     }

@@ -3,7 +3,7 @@ use Rattle.zarrs_chunk_plan.proofs.laws.each_chunk_of_a_region_has_one_group.Goa
 
 pub returns-clause-one_key : goal.returns-clause-one_key
 returns-clause-one_key g c = λ region at groups plan.
-    target_keys_differ _ _ _ _ region at plan.cover plan.is_cover.is_box groups plan.are_groups
+    target_keys_differ _ _ _ _ region at plan.targets plan.is_box groups plan.are_groups
     (g.met.F.ChunkKeyEncodingTraits.exact c.args.target.now.encoding)
 
 pub returns-clause-whole : goal.returns-clause-whole

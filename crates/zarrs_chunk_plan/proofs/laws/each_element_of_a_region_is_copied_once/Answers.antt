@@ -8,20 +8,20 @@ returns-clause-one g c = λ region at groups is_region is_moved plan.
 
 pub returns-clause-no_other : goal.returns-clause-no_other
 returns-clause-no_other g c = λ region at groups is_region is_moved plan.
-    no_other_to _ _ _ _ region at plan.cover plan.is_cover.is_box groups plan.are_groups (g.met.G.ChunkGridTraits.chained c.args.source.now.grid)
+    no_other_to _ _ _ _ region at plan.targets plan.is_box groups plan.are_groups (g.met.G.ChunkGridTraits.chained c.args.source.now.grid)
     (g.met.H.ChunkGridTraits.chained c.args.target.now.grid) is_region.lengths is_moved.lengths
 
 pub returns-clause-no_other_source : goal.returns-clause-no_other_source
 returns-clause-no_other_source g c = λ region at groups is_region is_moved plan.
-    no_other_from _ _ _ _ region at plan.cover plan.is_cover.is_box groups plan.are_groups (g.met.G.ChunkGridTraits.chained c.args.source.now.grid)
+    no_other_from _ _ _ _ region at plan.targets plan.is_box groups plan.are_groups (g.met.G.ChunkGridTraits.chained c.args.source.now.grid)
     (g.met.H.ChunkGridTraits.chained c.args.target.now.grid) is_region.lengths is_moved.lengths
 
 pub returns-clause-nothing_else : goal.returns-clause-nothing_else
 returns-clause-nothing_else g c = λ region at groups plan.
-    moves_region _ _ _ _ region at plan.cover plan.is_cover.is_box groups plan.are_groups
+    moves_region _ _ _ _ region at plan.targets plan.is_box groups plan.are_groups
 
 pub returns-clause-keys : goal.returns-clause-keys
-returns-clause-keys g c = λ region at groups plan. has_keys _ _ _ _ region at plan.cover plan.is_cover.is_box groups plan.are_groups
+returns-clause-keys g c = λ region at groups plan. has_keys _ _ _ _ region at plan.targets plan.is_box groups plan.are_groups
 
 pub returns-clause-one_shape : goal.returns-clause-one_shape
-returns-clause-one_shape g c = λ region at groups plan. of_one_shape _ _ _ _ region at plan.cover plan.is_cover.is_box groups plan.are_groups
+returns-clause-one_shape g c = λ region at groups plan. of_one_shape _ _ _ _ region at plan.targets plan.is_box groups plan.are_groups

@@ -1,5 +1,5 @@
-use Rattle.zarrs_chunk_plan.proofs.Copied.{all_moves_to_come, region_copy_of}
-use Rattle.zarrs_chunk_plan.proofs.Taken.{no_parts}
+use Rattle.zarrs_chunk_plan.proofs.Copied.{all_moves_to_come, copy_of}
+use Rattle.zarrs_chunk_plan.specs.Region.{AnyChunk}
 use Rattle.zarrs_chunk_plan.proofs.laws.the_walk_gives_the_region.Goals as goal
 
 pub returns-clause-to_come : goal.returns-clause-to_come
@@ -8,9 +8,6 @@ returns-clause-to_come g c = λ walk.
     g.F.ChunkKeyEncodingTraits.is_key walk
 
 pub returns-clause-region : goal.returns-clause-region
-returns-clause-region g c = λ region at cover walk groups is left about first come.
-    region_copy_of g.G.ChunkGridTraits.dimensions g.E.ChunkKeyEncodingTraits.is_key g.H.ChunkGridTraits.dimensions
-    g.F.ChunkKeyEncodingTraits.is_key c.args.source.now c.args.target.now region at cover walk groups about first is left come
-
-pub returns-clause-none : goal.returns-clause-none
-returns-clause-none g c = λ walk groups none are. no_parts _ _ groups none are
+returns-clause-region g c = λ region at targets walk groups can is_box are left about first come.
+    copy_of g.G.ChunkGridTraits.dimensions g.E.ChunkKeyEncodingTraits.is_key g.H.ChunkGridTraits.dimensions
+    g.F.ChunkKeyEncodingTraits.is_key c.args.source.now c.args.target.now region at AnyChunk targets walk groups can about first is_box are left come
