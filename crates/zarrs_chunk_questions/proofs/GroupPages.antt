@@ -1,27 +1,24 @@
 -- The groups of a plan: those that came of a walk, and the page of some of them.
-use Rattle.std.proofs.Common.{◌≡◌, ◌≢◌, ◌∙◌, ℕ, ◌+◌, ◌-◌, ◌≤◌, List, [], ◌∷◌, ◌++◌, false, IfSome, Option, Some, None, ap, ap₂, append-nil, drop, length, map}
+use Rattle.std.proofs.Common.{◌≡◌, ◌≢◌, ◌∙◌, ℕ, ◌+◌, ◌-◌, ◌≤◌, List, [], ◌∷◌, ◌++◌, IfSome, Option, Some, None, ap, ap₂, append-nil, drop, length, map}
 use Rattle.std.proofs.Common.{min, refl, subst, sym, take, arith}
-use Rattle.std.proofs.Math.Seq.{drop-nil, take-append_seam, take-nil}
-use Rattle.std.proofs.lemmas.Bool.{le-ltb}
+use Rattle.std.proofs.Math.Seq.{take-append_seam}
 use Rattle.std.proofs.lemmas.List.{length-map, map-append, take_all}
 use Rattle.std.proofs.lemmas.Slice.Zip.{AllZip-long}
 use Rattle.std.specs.List.{AllZip}
 use Rattle.serde_json.specs.Data.{Data}
 use Rattle.serde_json.specs.View.{view}
 use Rattle.serde_json.specs.declared.value.Value.{Value}
-use Rattle.zarrs_chunk_base.specs.ArraySubset.{Box, IsBox, IsEmptyBox}
-use Rattle.zarrs_chunk_base.specs.Dimension.{Dimension, array_sizes}
-use Rattle.zarrs_chunks.specs.Subsets.{IsCover}
+use Rattle.zarrs_chunk_base.specs.ArraySubset.{Box, IsBox}
+use Rattle.zarrs_chunk_base.specs.Dimension.{Dimension}
 use Rattle.zarrs_chunks.specs.Walks.{chunks_in}
 use Rattle.zarrs_chunk_parts.specs.Plan.{Meets}
-use Rattle.zarrs_chunk_plan.specs.Rechunking.{AreTargets, Group, array_box}
-use Rattle.zarrs_chunk_plan.specs.Region.{AreMovedInto, CanBeMoved, moved}
+use Rattle.zarrs_chunk_plan.specs.Rechunking.{AreTargets, Group}
+use Rattle.zarrs_chunk_plan.specs.Region.{AreMovedInto, moved}
+use Rattle.zarrs_chunk_plan.specs.SomeCopies.{AreSomeGroups}
 use Rattle.zarrs_chunk_plan.specs.declared.chunk_copies.Copies.{Copies}
 use Rattle.zarrs_chunk_plan.specs.seen.Copies.{CanMove, IsAboutCopies, first_of, target_of, targets_to_come}
-use Rattle.zarrs_chunk_questions.specs.Pages.{IsCopiesAnswer, chunks_from, count_of, is_more, page_tree}
-use Rattle.zarrs_chunk_questions.specs.Regions.{IsRegionCopiesAnswer}
+use Rattle.zarrs_chunk_questions.specs.Pages.{count_of, is_more, page_tree}
 use Rattle.zarrs_chunk_questions.specs.declared.plan_trees.PlanOf.{PlanOf}
-use Rattle.zarrs_chunk_questions.specs.declared.plan_trees.PlanOf.TheVariants.{OfRechunking, OfRegion}
 use Rattle.zarrs_chunk_questions.specs.seen.Groups.{IsGroupIn, IsPageOfGroups, tree_in}
 use Rattle.zarrs_chunk_questions.proofs.Listed.{all_behind}
 use Rattle.zarrs_chunk_questions.proofs.SomeItems.{all_wanted}
@@ -102,54 +99,14 @@ groups_page plan IsGroup chunks first most too_many count given in_all trees (So
           ∙ ap (λ n. page_tree (map (tree_in plan) groups) (is_more first (length groups) n)) counted,
     )
 
-module _ (source : List Dimension) (IsSourceKey : List ℕ → List ℕ → Type 0) (target : List Dimension) (IsTargetKey : List ℕ → List ℕ → Type 0)
-    (first most : ℕ) where
-  -- of a rechunking
-  pub copies_page : (chunks targets : Box) (page : Option Value) → length chunks.start ≡ length target → IsBox targets
-      → AreTargets target chunks targets
-      → IfSome page (λ t. IsPageOfGroups OfRechunking
-      (AreMovedInto source IsSourceKey target IsTargetKey (array_box target) (array_box target).start) (chunks_in targets) first most (view t))
-      → IfSome page (λ t. IsCopiesAnswer source IsSourceKey target IsTargetKey chunks first most (view t))
-  copies_page chunks targets None long is_box are page = tt
-  copies_page chunks targets (Some t) long is_box are (groups, zipped, is) = (
-    long,
-    count_of (chunks_in targets),
-    groups,
-    record {
-      targets = targets;
-      is_box = is_box;
-      are_targets = are;
-      in_all = refl;
-      are_groups = zipped;
-    },
-    is,
-  )
-
-  -- of an empty list
-  no_groups : (IsGroup : List ℕ → Group → Type 0) (chunks : List (List ℕ)) (t : Data) → chunks ≡ []
-      → IsPageOfGroups OfRegion IsGroup chunks first most t → t ≡ page_tree [] false
-  no_groups IsGroup [] t none ([], zipped, is) = is ∙ ap (page_tree []) (le-ltb (first + 0) 0 (omega arith))
-  no_groups IsGroup [] t none (group ∷ groups, zipped, is) =
-      let count = count_of [] - first in
-      let nothing : chunks_from first most [] ≡ [] = ap (take (min count most)) (drop-nil first) ∙ take-nil (min count most) in
-      absurd (subst (λ xs. AllZip IsGroup xs (group ∷ groups)) nothing zipped)
-  no_groups IsGroup (chunk ∷ chunks) t none page = cc
-
-  -- of the copy of a region
-  pub region_page : (region : Box) (at : List ℕ) (chunks : List (List ℕ)) (page : Option Value)
-      → CanBeMoved (array_sizes source) (array_sizes target) region at
-      → ((¬ IsEmptyBox region) → (cover : Box) × IsCover target (moved at region) cover × (chunks ≡ chunks_in cover))
-      → (IsEmptyBox region → chunks ≡ [])
-      → IfSome page (λ t. IsPageOfGroups OfRegion (AreMovedInto source IsSourceKey target IsTargetKey region at) chunks first most (view t))
-      → IfSome page (λ t. IsRegionCopiesAnswer first most source IsSourceKey target IsTargetKey region at (view t))
-  region_page region at chunks None can covered empty page = tt
-  region_page region at chunks (Some t) can covered empty page = record {
-    can = can;
-    some = λ some.
-        let (cover, is_cover, same) = covered some in
-        let IsPage = λ (xs : List (List ℕ)).
-        IsPageOfGroups OfRegion (AreMovedInto source IsSourceKey target IsTargetKey region at) xs first most (view t) in
-        let (groups, zipped, is) = subst IsPage same page in
-        (count_of (chunks_in cover), groups, record { cover = cover; is_cover = is_cover; in_all = refl; are_groups = zipped }, is);
-    none = λ none. no_groups (AreMovedInto source IsSourceKey target IsTargetKey region at) chunks (view t) (empty none) page;
-  }
+-- of a copy into chosen chunks
+pub copy_page : (plan : PlanOf) (source : List Dimension) (IsSourceKey : List ℕ → List ℕ → Type 0) (target : List Dimension)
+    (IsTargetKey : List ℕ → List ℕ → Type 0) (first most : ℕ) (region : Box) (at : List ℕ) (Chosen : List ℕ → Type 0) (targets : Box) → IsBox targets
+    → AreTargets target (moved at region) Chosen targets → (t : Data)
+    → IsPageOfGroups plan (AreMovedInto source IsSourceKey target IsTargetKey region at) (chunks_in targets) first most t
+    → (in_all : ℕ) × (groups : List Group) × AreSomeGroups source IsSourceKey target IsTargetKey region at Chosen first most in_all groups
+    × (t ≡ page_tree (map (tree_in plan) groups) (is_more first (length groups) in_all))
+copy_page plan source IsSourceKey target IsTargetKey first most region at Chosen targets is_box are t (groups, zipped, is) =
+    let some : AreSomeGroups source IsSourceKey target IsTargetKey region at Chosen first most (count_of (chunks_in targets)) groups =
+    record { targets = targets; is_box = is_box; are_targets = are; in_all = refl; are_groups = zipped } in
+    (count_of (chunks_in targets), groups, some, is)

@@ -1,16 +1,17 @@
--- The answer to `counts`: how much a rechunking copies, and which of its lines a share has.
+-- The answer to `counts`: how much a rechunking copies, and which of its lines a share has; and the same of any copy.
 -- Source: the form is this library's own.
 use Rattle.std.specs.Prelude.{◌≡◌, ℕ, ◌+◌, List, [], ◌∷◌, length, codes, Option, Vec}
 use Rattle.std.specs.declared.alloc.Global.{Global}
 use Rattle.serde_json.specs.Data.{Data, array, member, no_members, object}
 use Rattle.serde_json.specs.View.{items_of}
-use Rattle.zarrs_chunk_base.specs.ArraySubset.{Box, IsBox}
+use Rattle.zarrs_chunk_base.specs.ArraySubset.{Box, IsBox, IsInside}
 use Rattle.zarrs_chunk_base.specs.Dimension.{Dimension}
 use Rattle.zarrs_chunk_base.specs.Grid.{Grid}
 use Rattle.zarrs_chunk_base.specs.Json.{size_tree}
 use Rattle.zarrs_chunk_plan.specs.Counted.{counted}
-use Rattle.zarrs_chunk_plan.specs.Counts.{AreRechunkingCounts, product}
-use Rattle.zarrs_chunk_plan.specs.Rechunking.{AreTargets, Group, IsRechunking}
+use Rattle.zarrs_chunk_plan.specs.Counts.{AreCopyCounts, product}
+use Rattle.zarrs_chunk_plan.specs.Rechunking.{array_box}
+use Rattle.zarrs_chunk_plan.specs.Region.{AreTargets, Group, IsCopy, moved}
 use Rattle.zarrs_chunk_plan.specs.Shares.{before_share}
 use Rattle.zarrs_chunk_plan.specs.declared.counts.Counts.{Counts}
 use Rattle.zarrs_chunk_questions.specs.Pages.{IsRechunkingAnswer}
@@ -40,13 +41,24 @@ counts_tree share counts =
     (member (codes "share") (share_tree share (product counts.lines.items))
     (member (codes "source_chunks") (count_tree counts.source_chunks) no_members))))))
 
--- the counts of the rechunking into the chunks of a box, which has as many dimensions as the target
+-- how much the copy of a region into chosen chunks copies, and which of its lines a share has
+pub record IsCopyCounted (share : ShareAsked) (source : List Dimension) (IsSourceKey : List ℕ → List ℕ → Type 0)
+    (target : List Dimension) (IsTargetKey : List ℕ → List ℕ → Type 0) (region : Box) (at : List ℕ) (Chosen : List ℕ → Type 0) (t : Data) : Type 0 where
+  pub groups : List Group
+  pub is_copy : IsCopy source IsSourceKey target IsTargetKey region at Chosen groups
+  pub targets : Box
+  pub is_box : IsBox targets
+  pub are_targets : AreTargets target (moved at region) Chosen targets
+  pub counts : Counts
+  pub are_counts : AreCopyCounts source target region targets groups counts
+  pub tree : t ≡ counts_tree share counts
+
+-- of the rechunking into the chunks of a box, which has as many dimensions as the target
 abbrev pub IsCountsAnswer : ShareAsked → (source : List Dimension) (IsSourceKey : List ℕ → List ℕ → Type 0)
     (target : List Dimension) (IsTargetKey : List ℕ → List ℕ → Type 0) (chunks : Box) → Data → Type 0
 IsCountsAnswer share source IsSourceKey target IsTargetKey chunks t =
-    (length chunks.start ≡ length target) × (groups : List Group) × IsRechunking source IsSourceKey target IsTargetKey chunks groups
-    × (targets : Box) × IsBox targets × AreTargets target chunks targets
-    × (counts : Counts) × AreRechunkingCounts source target targets groups counts × (t ≡ counts_tree share counts)
+    (length chunks.start ≡ length target)
+    × IsCopyCounted share source IsSourceKey target IsTargetKey (array_box target) (array_box target).start (IsInside chunks) t
 
 abbrev pub IsSomeCountsAnswer : (shape : List ℕ) → Data → Target → ShareAsked → Option Lists → Grid → Data → Type 0
 IsSomeCountsAnswer shape tree target share chunks grid = IsRechunkingAnswer (IsCountsAnswer share) shape tree target chunks grid

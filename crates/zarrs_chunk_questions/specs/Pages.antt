@@ -4,7 +4,7 @@ use Rattle.std.specs.Prelude.{◌≡◌, ◌≢◌, ◌⊎◌, ℕ, ◌+◌, ◌
 use Rattle.std.specs.Prelude.{Option, Some, None, Result}
 use Rattle.serde_json.specs.Data.{Data, array, boolean, member, no_members, object, string}
 use Rattle.serde_json.specs.View.{items_of}
-use Rattle.zarrs_chunk_base.specs.ArraySubset.{Box, IsBox, IsEmptyBox}
+use Rattle.zarrs_chunk_base.specs.ArraySubset.{Box, IsBox, IsEmptyBox, IsInside}
 use Rattle.zarrs_chunk_base.specs.Dimension.{Dimension}
 use Rattle.zarrs_chunk_base.specs.Greatest.{greatest}
 use Rattle.zarrs_chunk_base.specs.Grid.{Grid}
@@ -14,7 +14,7 @@ use Rattle.zarrs_chunk_keys.specs.ChunkKey.{Encoding, IsKey}
 use Rattle.zarrs_chunk_keys.specs.KeyKinds.{IsEncodingIn}
 use Rattle.zarrs_chunks.specs.GridKinds.{GridKind, IsGridIn}
 use Rattle.zarrs_chunks.specs.Walks.{box_at, boxed, chunks_of}
-use Rattle.zarrs_chunk_plan.specs.Rechunking.{Group, all_chunks_box}
+use Rattle.zarrs_chunk_plan.specs.Rechunking.{Group, all_chunks_box, array_box}
 use Rattle.zarrs_chunk_plan.specs.SomeCopies.{AreSomeGroups}
 use Rattle.zarrs_chunk_plan.specs.SomeParts.{AnswersNone, AnswersSome}
 use Rattle.zarrs_chunk_plan.specs.declared.numbered_parts.SomeParts.{SomeParts}
@@ -133,7 +133,7 @@ abbrev pub IsCopiesAnswer : (source : List Dimension) (IsSourceKey : List ℕ �
     (target : List Dimension) (IsTargetKey : List ℕ → List ℕ → Type 0) (chunks : Box) (first most : ℕ) → Data → Type 0
 IsCopiesAnswer source IsSourceKey target IsTargetKey chunks first most t =
     (length chunks.start ≡ length target) × (in_all : ℕ) × (groups : List Group)
-    × AreSomeGroups source IsSourceKey target IsTargetKey chunks first most in_all groups
+    × AreSomeGroups source IsSourceKey target IsTargetKey (array_box target) (array_box target).start (IsInside chunks) first most in_all groups
     × (t ≡ page_tree (map group_tree groups) (is_more first (length groups) in_all))
 
 -- the chunks of the target: those of the box that is given, or all

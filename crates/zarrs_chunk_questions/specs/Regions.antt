@@ -1,22 +1,19 @@
 -- The answers to `copies_of_region` and `counts_of_region`: what is copied of a region, and how much.
 -- Sources: Zarr V3 core, chunk grids and chunk key encodings; the copy of a region and the forms are this library's own.
-use Rattle.std.specs.Prelude.{◌≡◌, ℕ, List, [], false, length, map, replicate, codes, unwrap_or}
+use Rattle.std.specs.Prelude.{◌≡◌, ℕ, List, [], length, map, replicate, codes, unwrap_or}
 use Rattle.serde_json.specs.Data.{Data, array, boolean, member, no_members, object}
 use Rattle.serde_json.specs.View.{items_of}
-use Rattle.zarrs_chunk_base.specs.ArraySubset.{Box, IsBox, IsEmptyBox}
+use Rattle.zarrs_chunk_base.specs.ArraySubset.{Box, IsBox}
 use Rattle.zarrs_chunk_base.specs.Dimension.{Dimension, array_sizes}
 use Rattle.zarrs_chunk_base.specs.Grid.{Grid}
 use Rattle.zarrs_chunk_keys.specs.ChunkKey.{Encoding, IsKey}
 use Rattle.zarrs_chunk_keys.specs.KeyKinds.{IsEncodingIn}
 use Rattle.zarrs_chunks.specs.GridKinds.{GridKind, IsGridIn}
-use Rattle.zarrs_chunks.specs.Subsets.{IsCover}
-use Rattle.zarrs_chunk_plan.specs.Counts.{AreRegionCounts, CountNothing}
 use Rattle.zarrs_chunk_plan.specs.Rechunking.{Group}
-use Rattle.zarrs_chunk_plan.specs.Region.{CanBeMoved, IsRegionCopy, moved, shifted}
-use Rattle.zarrs_chunk_plan.specs.SomeCopies.{AreSomeMovedGroups}
-use Rattle.zarrs_chunk_plan.specs.declared.counts.Counts.{Counts}
+use Rattle.zarrs_chunk_plan.specs.Region.{AnyChunk, CanBeMoved, shifted}
+use Rattle.zarrs_chunk_plan.specs.SomeCopies.{AreSomeGroups}
 use Rattle.zarrs_chunk_parts.specs.declared.part.Part.{Part}
-use Rattle.zarrs_chunk_questions.specs.Counts.{counts_tree}
+use Rattle.zarrs_chunk_questions.specs.Counts.{IsCopyCounted}
 use Rattle.zarrs_chunk_questions.specs.Pages.{first_of, is_more, page_tree, placed_tree, target_chunk_tree}
 use Rattle.zarrs_chunk_questions.specs.Question.{Items, RegionAsked, ShareAsked, TargetArray}
 use Rattle.zarrs_chunk_questions.specs.Trees.{box_of}
@@ -41,30 +38,20 @@ moved_group_tree group =
 abbrev pub begins_at : RegionAsked → List ℕ
 begins_at region = unwrap_or region.at (replicate (length region.elements.0) 0)
 
--- The groups of the copy of a region, at most so many, from the one with this number on; of an empty region there are none, and none follow. The
--- region lies in both arrays.
+-- The groups of the copy of a region, at most so many, from the one with this number on. The region lies in both arrays.
 pub record IsRegionCopiesAnswer (first most : ℕ) (source : List Dimension) (IsSourceKey : List ℕ → List ℕ → Type 0)
     (target : List Dimension) (IsTargetKey : List ℕ → List ℕ → Type 0) (region : Box) (at : List ℕ) (t : Data) : Type 0 where
   pub can : CanBeMoved (array_sizes source) (array_sizes target) region at
-  pub some : (¬ IsEmptyBox region) → (in_all : ℕ) × (groups : List Group)
-      × AreSomeMovedGroups source IsSourceKey target IsTargetKey region at first most in_all groups
-      × (t ≡ page_tree (map moved_group_tree groups) (is_more first (length groups) in_all))
-  pub none : IsEmptyBox region → t ≡ page_tree [] false
+  pub in_all : ℕ
+  pub groups : List Group
+  pub are_groups : AreSomeGroups source IsSourceKey target IsTargetKey region at AnyChunk first most in_all groups
+  pub tree : t ≡ page_tree (map moved_group_tree groups) (is_more first (length groups) in_all)
 
--- The counts of the copy of a region, of which these are the groups; of an empty region each is 0.
-pub record AreCountsOfRegion (source : List Dimension) (IsSourceKey : List ℕ → List ℕ → Type 0)
-    (target : List Dimension) (IsTargetKey : List ℕ → List ℕ → Type 0) (region : Box) (at : List ℕ) (counts : Counts) : Type 0 where
-  pub some : (¬ IsEmptyBox region) → (groups : List Group) × IsRegionCopy source IsSourceKey target IsTargetKey region at groups
-      × (cover : Box) × IsCover target (moved at region) cover × AreRegionCounts source target region cover groups counts
-  pub none : IsEmptyBox region → CountNothing counts
-
--- how much is copied of a region, which lies in both arrays, and which of the lines a share has
-pub record IsRegionCountsAnswer (share : ShareAsked) (source : List Dimension) (IsSourceKey : List ℕ → List ℕ → Type 0)
-    (target : List Dimension) (IsTargetKey : List ℕ → List ℕ → Type 0) (region : Box) (at : List ℕ) (t : Data) : Type 0 where
-  pub can : CanBeMoved (array_sizes source) (array_sizes target) region at
-  pub counts : Counts
-  pub are_counts : AreCountsOfRegion source IsSourceKey target IsTargetKey region at counts
-  pub tree : t ≡ counts_tree share counts
+-- how much is copied of a region, and which of the lines a share has
+abbrev pub IsRegionCountsAnswer : ShareAsked → (source : List Dimension) (IsSourceKey : List ℕ → List ℕ → Type 0)
+    (target : List Dimension) (IsTargetKey : List ℕ → List ℕ → Type 0) (region : Box) (at : List ℕ) → Data → Type 0
+IsRegionCountsAnswer share source IsSourceKey target IsTargetKey region at =
+    IsCopyCounted share source IsSourceKey target IsTargetKey region at AnyChunk
 
 -- ---- of a question
 
