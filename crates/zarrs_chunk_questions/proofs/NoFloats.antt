@@ -1,6 +1,5 @@
 -- No answer has a float: its numbers are sizes.
 use Rattle.std.proofs.Common.{◌≡◌, ◌∙◌, ◌||◌, ℕ, zero, suc, ◌+◌, Bool, false, List, [], ◌∷◌, Option, Some, None, ap, ap₂, length, map, nat_lt, refl, take}
-use Rattle.std.proofs.Common.{⊎_elim}
 use Rattle.std.proofs.lemmas.Bool.{or_parts}
 use Rattle.std.specs.Int.NonZero.{non_zero_u64_get}
 use Rattle.serde_json.specs.Data.{Data, Members}
@@ -17,7 +16,6 @@ use Rattle.zarrs_chunks.specs.Walks.{box_at, boxed, chunks_of}
 use Rattle.zarrs_chunk_base.specs.Dimension.{Dimension, array_sizes, grid_sizes}
 use Rattle.zarrs_chunk_plan.specs.Counted.{counted as counted_up_to}
 use Rattle.zarrs_chunk_plan.specs.Counts.{product}
-use Rattle.zarrs_chunk_plan.proofs.Plans.{empty_or_some}
 use Rattle.zarrs_chunk_plan.specs.Rechunking.{Group}
 use Rattle.zarrs_chunk_plan.specs.Region.{shifted}
 use Rattle.zarrs_chunk_plan.specs.Shares.{before_share}
@@ -180,16 +178,12 @@ of_an_array shape own (copies tree target wanted chunks) kind grid t is =
     let (as_long, in_all, groups, are, same) = is.answers in
     ap has_float same ∙ of_page (map group_tree groups) (is_more (first_of wanted) (length groups) in_all) (no_float_mapped group_tree a_group groups)
 of_an_array shape own (counts tree target share chunks) kind grid t is =
-    let (as_long, groups, plan, targets, is_box, are, many, those, same) = is.answers in
-    ap has_float same ∙ of_counts share many
+    let counted = is.answers.1 in ap has_float counted.tree ∙ of_counts share counted.counts
 of_an_array shape own (copies_of_region tree target wanted region) kind grid t is =
-    let answer = is.answers in
-    ⊎_elim (λ none. ap has_float (answer.none none) ∙ of_page [] false refl)
-    (λ some.
-    let (in_all, groups, are, same) = answer.some some in
-    ap has_float same
-    ∙ of_page (map moved_group_tree groups) (is_more (first_of wanted) (length groups) in_all) (no_float_mapped moved_group_tree a_moved_group groups))
-    (empty_or_some (box_of region.elements).shape)
+    let page = is.answers in
+    ap has_float page.tree
+    ∙ of_page (map moved_group_tree page.groups) (is_more (first_of wanted) (length page.groups) page.in_all)
+    (no_float_mapped moved_group_tree a_moved_group page.groups)
 of_an_array shape own (counts_of_region tree target share region) kind grid t is = ap has_float is.answers.tree ∙ of_counts share is.answers.counts
 of_an_array shape own (changed_chunks resize) kind grid t is =
     let changed = is.changed in

@@ -2,6 +2,10 @@
 use Rattle.std.proofs.Common.{◌≡◌, ◌⊎◌, ℕ, IfOk, List, Result, Ok, Err, Vec, inl, inr, refl, ⊎_elim}
 use Rattle.std.specs.declared.alloc.AllocError.{AllocError}
 use Rattle.std.specs.declared.alloc.Global.{Global}
+use Rattle.zarrs_chunk_base.specs.Refusal.{OrMemory}
+use Rattle.zarrs_chunk_base.specs.declared.refusal.Refusal.{Refusal}
+use Rattle.zarrs_chunk_base.specs.declared.refusal.Refusal.TheVariants.{Refused, Memory as NoMemory}
+use Rattle.programs.specs.chunkplan.RunFault.{of_refusal}
 use Rattle.programs.specs.chunkplan.seen.Steps.{HasBegun, IsMade, StepLeaves}
 use Rattle.streams.specs.seen.Sent.{Output}
 use Rattle.programs.specs.declared.chunkplan.run_fault.RunFault.{RunFault}
@@ -38,3 +42,9 @@ early P F fault before none (inl is) = rw is (refl, inl refl)
 early P F Write before none (inr is) = absurd (none is)
 early P F Memory before none (inr is) = (refl, inl refl)
 early P F _ before none (inr is) = (refl, refl, is)
+
+-- what a call's refusal tells is a fault, or memory ran out
+pub refused_or : {E : Type 0} (told : E → RunFault) (Is : E → Type 0) (F : RunFault → Type 0) → ((error : E) → Is error → F (told error))
+    → (refusal : Refusal E) → OrMemory Is refusal → (of_refusal told refusal ≡ Memory) ⊎ F (of_refusal told refusal)
+refused_or told Is F step (Refused error) is = inr (step error is)
+refused_or told Is F step (NoMemory _) is = inl refl

@@ -1,19 +1,18 @@
 -- What the program writes for a document.
 use Rattle.std.specs.Prelude.{◌≡◌, ◌↔◌, ℕ, Bool, true, false, IsTrue, List, [], length, MatchOption, Option, None, Some, replicate, unwrap_or}
 use Rattle.serde_json.specs.Data.{Data}
-use Rattle.zarrs_chunk_base.specs.ArraySubset.{Box, IsBox, IsEmptyBox}
+use Rattle.zarrs_chunk_base.specs.ArraySubset.{Box, IsBox, IsEmptyBox, IsInside}
 use Rattle.zarrs_chunk_base.specs.Dimension.{Dimension, array_sizes}
 use Rattle.zarrs_chunk_base.specs.Grid.{Grid}
 use Rattle.zarrs_chunk_base.specs.Json.{IsJsonOf}
 use Rattle.zarrs_chunk_base.specs.declared.chunk_key_separator.ChunkKeySeparator.TheVariants.{Slash}
 use Rattle.zarrs_chunk_keys.specs.ChunkKey.{Encoding, IsKey, default_keys}
 use Rattle.zarrs_chunks.specs.GridKinds.{IsGrid, grid_kind, regular}
-use Rattle.zarrs_chunks.specs.Subsets.{IsCover}
 use Rattle.zarrs_chunk_plan.specs.Clip.{IsClipped}
-use Rattle.zarrs_chunk_plan.specs.Counts.{AreReadCounts, AreRechunkingCounts, AreRegionCounts, CountNothing}
+use Rattle.zarrs_chunk_plan.specs.Counts.{AreCopyCounts, AreReadCounts}
 use Rattle.zarrs_chunk_parts.specs.Plan.{IsPlan}
 use Rattle.zarrs_chunk_plan.specs.Rechunking.{AreTargets, Group, IsRechunking, all_chunks_box, array_box}
-use Rattle.zarrs_chunk_plan.specs.Region.{CanBeMoved, IsRegionCopy, moved}
+use Rattle.zarrs_chunk_plan.specs.Region.{AnyChunk, IsRegionCopy, moved}
 use Rattle.zarrs_chunk_plan.specs.Resize.{IsResizePlan}
 use Rattle.zarrs_chunk_plan.specs.Stages.{FindsShape, HoldAtMost, IsLargest}
 use Rattle.zarrs_chunk_plan.specs.declared.counts.Counts.{Counts}
@@ -49,11 +48,18 @@ abbrev pub IsReadText : Wanted → Option RangesWanted → Box → List Part →
 IsReadText (lines_wanted share) ranges asked parts text = text ≡ read_lines ranges share parts
 IsReadText counts_wanted ranges asked parts text = (counts : Counts) × AreReadCounts asked parts counts × IsCountsLine counts text
 
--- and of that of a rechunking into chunks of a box
+-- and of that of a copy into chosen chunks
+abbrev pub IsCopyText : Order → Wanted → (source target : List Dimension) → (region : Box) → (at : List ℕ) → (Chosen : List ℕ → Type 0) → List Group
+    → List ℕ → Type 0
+IsCopyText order (lines_wanted share) source target region at Chosen groups text = text ≡ rechunking_lines order share groups
+IsCopyText order counts_wanted source target region at Chosen groups text =
+    (targets : Box) × IsBox targets × AreTargets target (moved at region) Chosen targets
+    × ((counts : Counts) × AreCopyCounts source target region targets groups counts × IsCountsLine counts text)
+
+-- so of a rechunking into the chunks of a box
 abbrev pub IsRechunkingText : Order → Wanted → (source target : List Dimension) → (chunks : Box) → List Group → List ℕ → Type 0
-IsRechunkingText order (lines_wanted share) source target chunks groups text = text ≡ rechunking_lines order share groups
-IsRechunkingText order counts_wanted source target chunks groups text = (targets : Box) × IsBox targets × AreTargets target chunks targets
-    × ((counts : Counts) × AreRechunkingCounts source target targets groups counts × IsCountsLine counts text)
+IsRechunkingText order wanted source target chunks =
+    IsCopyText order wanted source target (array_box target) (array_box target).start (IsInside chunks)
 
 -- a worker who makes any chunk of the target holds at most so many elements, whichever chunk of the source it reads
 abbrev pub FitsOneStage : (source target : List Dimension) → (most : ℕ) → Type 0
@@ -84,8 +90,8 @@ module _ (source : List Dimension) (IsSourceKey : List ℕ → List ℕ → Type
     pub is_rechunking : IsRechunking source IsSourceKey target IsTargetKey (all_chunks_box target) groups
     pub targets : Box
     pub is_box : IsBox targets
-    pub are_targets : AreTargets target (all_chunks_box target) targets
-    pub counted : AreRechunkingCounts source target targets groups counts
+    pub are_targets : AreTargets target (array_box target) (IsInside (all_chunks_box target)) targets
+    pub counted : AreCopyCounts source target (array_box target) targets groups counts
 
 module _ (source : List Dimension) (IsSourceKey : List ℕ → List ℕ → Type 0) (target : List Dimension) (IsTargetKey : List ℕ → List ℕ → Type 0)
     (most : ℕ) where
@@ -130,23 +136,9 @@ module _ (source : List Dimension) (IsSourceKey : List ℕ → List ℕ → Type
 abbrev pub begins_at : Box → Option (List ℕ) → List ℕ
 begins_at region at = unwrap_or at (replicate (length region.start) 0)
 
--- The copy of a region: the region lies in the source's array, and in the target's where it goes. An empty one has nothing to copy.
-pub record IsRegionPlan (source : List Dimension) (IsSourceKey : List ℕ → List ℕ → Type 0) (target : List Dimension)
-    (IsTargetKey : List ℕ → List ℕ → Type 0) (region : Box) (at : List ℕ) (groups : List Group) : Type 0 where
-  pub can : CanBeMoved (array_sizes source) (array_sizes target) region at
-  pub some : (¬ IsEmptyBox region) → IsRegionCopy source IsSourceKey target IsTargetKey region at groups
-  pub none : IsEmptyBox region → groups ≡ []
-
--- its counts: by the chunks of the moved box's cover; of an empty region each is 0
-pub record AreCountsOfRegion (source target : List Dimension) (region : Box) (at : List ℕ) (groups : List Group) (counts : Counts) : Type 0 where
-  pub some : (¬ IsEmptyBox region) → (cover : Box) × IsCover target (moved at region) cover × AreRegionCounts source target region cover groups counts
-  pub none : IsEmptyBox region → CountNothing counts
-
--- what is written of it: the lines of a share, or the line of its counts
+-- what is written of the copy of a region
 abbrev pub IsRegionText : Wanted → (source target : List Dimension) → (region : Box) → (at : List ℕ) → List Group → List ℕ → Type 0
-IsRegionText (lines_wanted share) source target region at groups text = text ≡ rechunking_lines Target share groups
-IsRegionText counts_wanted source target region at groups text =
-    (counts : Counts) × AreCountsOfRegion source target region at groups counts × IsCountsLine counts text
+IsRegionText wanted source target region at = IsCopyText Target wanted source target region at AnyChunk
 
 -- What a document wants of its plan, as text: of a read of a box of elements, or of all, or of a rechunking into the chunks of a box, or into all, or
 -- of the copy of a region, or of a resize, whose two grids the same metadata make. In the order of the source, a rechunking is planned the other way
@@ -179,7 +171,7 @@ pub data IsPlanned (document : Document) (text : List ℕ) : Type 0 where
   of_region : (shape : List ℕ) (stored : Stored) (region : Box) (at : Option (List ℕ)) (source target : Grid)
       (source_encoding target_encoding : Encoding) (groups : List Group) → document.task ≡ copy_to shape stored region at
       → IsStored document.stored document.shape source source_encoding → IsStored stored shape target target_encoding
-      → IsRegionPlan source.dimensions (IsKey source_encoding) target.dimensions (IsKey target_encoding) region (begins_at region at) groups
+      → IsRegionCopy source.dimensions (IsKey source_encoding) target.dimensions (IsKey target_encoding) region (begins_at region at) groups
       → IsRegionText document.wanted source.dimensions target.dimensions region (begins_at region at) groups text → IsPlanned document text
   of_resize : (shape : List ℕ) (keep : Bool) (before after : Grid) (encoding : Encoding) (changes : List ChunkChange)
       → document.task ≡ resize_to shape keep → IsStored document.stored document.shape before encoding → IsGrid document.stored.chunk_grid shape after
@@ -195,7 +187,7 @@ pub data ArePlanned (document : Document) (target : Grid) (encoding : Encoding) 
   of_region : (shape : List ℕ) (stored : Stored) (region : Box) (at : Option (List ℕ)) (source : Grid) (source_encoding : Encoding)
       → document.task ≡ copy_to shape stored region at → IsStored document.stored document.shape source source_encoding
       → IsStored stored shape target encoding
-      → IsRegionPlan source.dimensions (IsKey source_encoding) target.dimensions (IsKey encoding) region (begins_at region at) groups
+      → IsRegionCopy source.dimensions (IsKey source_encoding) target.dimensions (IsKey encoding) region (begins_at region at) groups
       → ArePlanned document target encoding groups
 
 -- What a document wants of its plan, as text, where the target's store has these keys.

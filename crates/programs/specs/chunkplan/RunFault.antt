@@ -1,4 +1,6 @@
 -- The faults of what the programs share, as a run of this program tells them.
+use Rattle.zarrs_chunk_base.specs.declared.refusal.Refusal.{Refusal}
+use Rattle.zarrs_chunk_base.specs.declared.refusal.Refusal.TheVariants as refusal
 use Rattle.zarrs_chunk_plan.specs.declared.region_error.RegionError.{RegionError}
 use Rattle.zarrs_chunk_plan.specs.declared.region_error.RegionError.TheVariants as region
 use Rattle.documents.specs.declared.document_fault.DocumentFault.{DocumentFault}
@@ -37,3 +39,8 @@ of_region (region.Target error) = TargetDimensionality error
 of_region (region.At error) = AtDimensionality error
 of_region region.PastSource = PastArray
 of_region region.PastTarget = PastTarget
+
+-- and why a call stops that may be refused
+abbrev pub of_refusal : {E : Type 0} → (told : E → RunFault) → Refusal E → RunFault
+of_refusal told (refusal.Refused error) = told error
+of_refusal told (refusal.Memory _) = Memory

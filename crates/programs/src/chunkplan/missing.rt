@@ -27,7 +27,7 @@ use documents::Stored;
 use std::alloc::Global;
 use std::io::{Read, Write};
 use streams::{Lines, Watched};
-use zarrs_chunk_base::{ArraySubset, Refusal};
+use zarrs_chunk_base::ArraySubset;
 use zarrs_chunk_plan::{Share, copies, copies_of_region};
 
 /// Reads the keys behind a document, and sends the lines that it asks for of what isn't stored under any of them; and behind these the line of each
@@ -108,13 +108,10 @@ fn write_rechunking<R: Read, W: Write>(
 {
     let target = open_target(alloc, target, shape)?;
     let chunks = or_all_chunks(alloc, chunks, &target.grid)?;
-    match copies(alloc, array, &target, &chunks) {
-        Ok(walk) => write_missing(
-            alloc, walk, &target, share, lines, reader, held_back, writer,
-        ),
-        Err(Refusal::Refused(error)) => Err(RunFault::Copies(error)),
-        Err(Refusal::Memory(_)) => Err(RunFault::Memory),
-    }
+    let walk = copies(alloc, array, &target, &chunks)?;
+    write_missing(
+        alloc, walk, &target, share, lines, reader, held_back, writer,
+    )
 }
 
 /// As `write_beside_keys`, of the copy of a region to an array of a shape, to begin there at an index.
@@ -146,13 +143,10 @@ fn write_region<R: Read, W: Write>(
     let target = open_target(alloc, target, shape)?;
     let at = or_zeros(alloc, at, region.dimensionality())?;
     region.is_a_box();
-    match copies_of_region(alloc, array, &target, region, &at) {
-        Ok(walk) => write_missing(
-            alloc, walk, &target, share, lines, reader, held_back, writer,
-        ),
-        Err(Refusal::Refused(error)) => Err(RunFault::from(error)),
-        Err(Refusal::Memory(_)) => Err(RunFault::Memory),
-    }
+    let walk = copies_of_region(alloc, array, &target, region, &at)?;
+    write_missing(
+        alloc, walk, &target, share, lines, reader, held_back, writer,
+    )
 }
 
 /// Reads the keys in the lines that a reader has left, and sends the lines of a share of all that a walk gives which is at its beginning, without

@@ -6,6 +6,7 @@ ghost use Rattle.zarrs_chunk_keys.specs.seen.Encodings.{encoding_in};
 ghost use Rattle.zarrs_chunks.specs.GridKinds.{IsGrid};
 ghost use Rattle.zarrs_chunks.specs.seen.Grids.{grid_in};
 ghost use Rattle.zarrs_chunk_plan.specs.Rechunking.{Group, IsRechunking, all_chunks_box, array_box};
+ghost use Rattle.zarrs_chunk_plan.specs.Region.{IsRegionCopy};
 ghost use Rattle.zarrs_chunk_plan.specs.Resize.{AreResized, IsResizePlan};
 ghost use Rattle.zarrs_chunk_parts.specs.declared.part.Part.{Part as PartValue};
 ghost use Rattle.zarrs_chunk_plan.specs.declared.resize.ChunkChange.{ChunkChange as ChangeValue};
@@ -13,9 +14,9 @@ ghost use Rattle.zarrs_chunk_plan.specs.seen.Copies.{all_targets, region_of, tar
 ghost use Rattle.documents.specs.Stored.{IsStored, stored_of};
 ghost use Rattle.programs.specs.chunkplan.CountsLine.{IsCountsLine};
 ghost use Rattle.programs.specs.chunkplan.Document.{counts_wanted, document_of, ranges_asked_of, wanted_of};
-ghost use Rattle.programs.specs.chunkplan.Line.{read_lines, rechunking_lines, resize_lines};
+ghost use Rattle.programs.specs.chunkplan.Line.{read_lines, resize_lines};
 ghost use Rattle.programs.specs.chunkplan.PlanFault.{IsChunksFault, IsCopyFault, IsPlanFault, IsReadFault, IsResizeFault, IsTargetFault};
-ghost use Rattle.programs.specs.chunkplan.Planned.{IsAsked, IsPlanned, IsReadPlan, IsReadText, IsRechunkingText, IsRegionPlan, IsRegionText};
+ghost use Rattle.programs.specs.chunkplan.Planned.{IsAsked, IsPlanned, IsReadPlan, IsReadText, IsRechunkingText, IsRegionText};
 ghost use Rattle.programs.specs.chunkplan.seen.Missing.{share_unless_stored};
 ghost use Rattle.programs.specs.chunkplan.seen.Opened.{CanGiveCopies, CopiesToCome, dimensions_in, dimensions_of, key_of, sizes_of};
 ghost use Rattle.programs.specs.chunkplan.seen.Steps.{StepLeaves};
@@ -385,70 +386,13 @@ pub(crate) fn write_rechunking<W: Write>(
 {
     match wanted {
         Wanted::Lines(share) => {
-            write_groups(
-                alloc, source, target, chunks, order, share, held_back, writer,
-            )
+            let walk = copies(alloc, source, target, chunks)?;
+            write_share(alloc, walk, order, share, None, held_back, writer)
         }
         Wanted::Counts => {
-            write_counts_of_groups(alloc, source, target, chunks, held_back, writer)
+            let counts = counts_of_rechunking(alloc, source, target, chunks)?;
+            write_counts(alloc, &counts, held_back, writer)
         }
-    }
-}
-
-/// Sends the counts of that plan.
-fn write_counts_of_groups<W: Write>(
-    alloc: Global,
-    source: &OpenedArray,
-    target: &OpenedArray,
-    chunks: &ArraySubset,
-    held_back: &mut Vec<u8>,
-    writer: &mut Watched<W>,
-) -> Result<(), RunFault>
-    requires one_array { sizes_of source.now ≡ sizes_of target.now }
-    ensures { StepLeaves
-        (λ text. (groups : List Group)
-        × IsRechunking (dimensions_of source.now) (key_of source.now)
-        (dimensions_of target.now) (key_of target.now) chunks.now groups
-        × (length chunks.now.start ≡ length (dimensions_of target.now))
-        × IsRechunkingText Target counts_wanted (dimensions_of source.now)
-        (dimensions_of target.now) chunks.now groups text)
-        (IsChunksFault (dimensions_of target.now) chunks.now) result
-        (output W.contents held_back.old.items writer.old)
-        (output W.contents held_back.new.items writer.new) }
-{
-    match counts_of_rechunking(alloc, source, target, chunks) {
-        Ok(counts) => write_counts(alloc, &counts, held_back, writer),
-        Err(Refusal::Refused(told)) => Err(RunFault::Copies(told)),
-        Err(Refusal::Memory(_)) => Err(RunFault::Memory),
-    }
-}
-
-/// Sends a share of that plan.
-fn write_groups<W: Write>(
-    alloc: Global,
-    source: &OpenedArray,
-    target: &OpenedArray,
-    chunks: &ArraySubset,
-    order: Order,
-    share: &Share,
-    held_back: &mut Vec<u8>,
-    writer: &mut Watched<W>,
-) -> Result<(), RunFault>
-    requires one_array { sizes_of source.now ≡ sizes_of target.now }
-    ensures { StepLeaves
-        (λ text. (groups : List Group)
-        × IsRechunking (dimensions_of source.now) (key_of source.now)
-        (dimensions_of target.now) (key_of target.now) chunks.now groups
-        × (length chunks.now.start ≡ length (dimensions_of target.now))
-        × (text ≡ rechunking_lines order share.now groups))
-        (IsChunksFault (dimensions_of target.now) chunks.now) result
-        (output W.contents held_back.old.items writer.old)
-        (output W.contents held_back.new.items writer.new) }
-{
-    match copies(alloc, source, target, chunks) {
-        Ok(walk) => write_share(alloc, walk, order, share, None, held_back, writer),
-        Err(Refusal::Refused(error)) => Err(RunFault::Copies(error)),
-        Err(Refusal::Memory(_)) => Err(RunFault::Memory),
     }
 }
 
@@ -493,7 +437,7 @@ fn write_region<W: Write>(
 ) -> Result<(), RunFault>
     ensures { StepLeaves
         (λ text. (groups : List Group)
-        × IsRegionPlan (dimensions_of source.now) (key_of source.now)
+        × IsRegionCopy (dimensions_of source.now) (key_of source.now)
         (dimensions_of target.now) (key_of target.now) region.now at.now groups
         × IsRegionText (wanted_of wanted.now) (dimensions_of source.now)
         (dimensions_of target.now) region.now at.now groups text)
@@ -502,71 +446,16 @@ fn write_region<W: Write>(
         (output W.contents held_back.old.items writer.old)
         (output W.contents held_back.new.items writer.new) }
 {
+    region.is_a_box();
     match wanted {
         Wanted::Lines(share) => {
-            write_moves(alloc, source, target, region, at, share, held_back, writer)
+            let walk = copies_of_region(alloc, source, target, region, at)?;
+            write_share(alloc, walk, Order::Target, share, None, held_back, writer)
         }
         Wanted::Counts => {
-            write_counts_of_region(alloc, source, target, region, at, held_back, writer)
+            let counts = counts_of_region(alloc, source, target, region, at)?;
+            write_counts(alloc, &counts, held_back, writer)
         }
-    }
-}
-
-/// Sends the counts of that plan.
-fn write_counts_of_region<W: Write>(
-    alloc: Global,
-    source: &OpenedArray,
-    target: &OpenedArray,
-    region: &ArraySubset,
-    at: &[u64],
-    held_back: &mut Vec<u8>,
-    writer: &mut Watched<W>,
-) -> Result<(), RunFault>
-    ensures { StepLeaves
-        (λ text. (groups : List Group)
-        × IsRegionPlan (dimensions_of source.now) (key_of source.now)
-        (dimensions_of target.now) (key_of target.now) region.now at.now groups
-        × IsRegionText counts_wanted (dimensions_of source.now)
-        (dimensions_of target.now) region.now at.now groups text)
-        (IsCopyFault (dimensions_of source.now) (dimensions_of target.now)
-        region.now at.now) result
-        (output W.contents held_back.old.items writer.old)
-        (output W.contents held_back.new.items writer.new) }
-{
-    region.is_a_box();
-    match counts_of_region(alloc, source, target, region, at) {
-        Ok(counts) => write_counts(alloc, &counts, held_back, writer),
-        Err(Refusal::Refused(error)) => Err(RunFault::from(error)),
-        Err(Refusal::Memory(_)) => Err(RunFault::Memory),
-    }
-}
-
-/// Sends a share of that plan.
-fn write_moves<W: Write>(
-    alloc: Global,
-    source: &OpenedArray,
-    target: &OpenedArray,
-    region: &ArraySubset,
-    at: &[u64],
-    share: &Share,
-    held_back: &mut Vec<u8>,
-    writer: &mut Watched<W>,
-) -> Result<(), RunFault>
-    ensures { StepLeaves
-        (λ text. (groups : List Group)
-        × IsRegionPlan (dimensions_of source.now) (key_of source.now)
-        (dimensions_of target.now) (key_of target.now) region.now at.now groups
-        × (text ≡ rechunking_lines Target share.now groups))
-        (IsCopyFault (dimensions_of source.now) (dimensions_of target.now)
-        region.now at.now) result
-        (output W.contents held_back.old.items writer.old)
-        (output W.contents held_back.new.items writer.new) }
-{
-    region.is_a_box();
-    match copies_of_region(alloc, source, target, region, at) {
-        Ok(walk) => write_share(alloc, walk, Order::Target, share, None, held_back, writer),
-        Err(Refusal::Refused(error)) => Err(RunFault::from(error)),
-        Err(Refusal::Memory(_)) => Err(RunFault::Memory),
     }
 }
 

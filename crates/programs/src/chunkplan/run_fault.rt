@@ -1,7 +1,7 @@
 //! Why a run of the program stops.
 ghost use Rattle.std.specs.Prelude.{◌≡◌};
-ghost use Rattle.programs.specs.chunkplan.RunFault.{of_create, of_document, of_region, of_stream};
-ghost use Rattle.programs.specs.declared.chunkplan.run_fault.RunFault.TheVariants.{Memory};
+ghost use Rattle.programs.specs.chunkplan.RunFault.{of_create, of_document, of_refusal, of_region, of_stream};
+ghost use Rattle.programs.specs.declared.chunkplan.run_fault.RunFault.TheVariants.{Copies, Memory};
 
 use crate::chunkplan::known_members::UnknownMember;
 use crate::chunkplan::member_rules::MemberRule;
@@ -10,7 +10,7 @@ use std::alloc::AllocError;
 use streams::StreamFault;
 use thiserror::Error;
 use zarrs_chunk_base::{
-    ArraySubsetError, IncompatibleDimensionalityError, MetadataError, PluginCreateError,
+    ArraySubsetError, IncompatibleDimensionalityError, MetadataError, PluginCreateError, Refusal,
 };
 use zarrs_chunk_plan::{CopiesError, RegionError, StagesError};
 
@@ -162,16 +162,28 @@ impl From<CreateFault> for RunFault {
     }
 }
 
-impl From<RegionError> for RunFault {
-    ghost from_gives = { λ told fault. fault ≡ of_region told };
+impl From<Refusal<RegionError>> for RunFault {
+    ghost from_gives = { λ refusal fault. fault ≡ of_refusal of_region refusal };
 
-    fn from(told: RegionError) -> RunFault {
-        match told {
-            RegionError::Region(error) => RunFault::SubsetDimensionality(error),
-            RegionError::Target(error) => RunFault::TargetDimensionality(error),
-            RegionError::At(error) => RunFault::AtDimensionality(error),
-            RegionError::PastSource => RunFault::PastArray,
-            RegionError::PastTarget => RunFault::PastTarget,
+    fn from(refusal: Refusal<RegionError>) -> RunFault {
+        match refusal {
+            Refusal::Refused(RegionError::Region(error)) => RunFault::SubsetDimensionality(error),
+            Refusal::Refused(RegionError::Target(error)) => RunFault::TargetDimensionality(error),
+            Refusal::Refused(RegionError::At(error)) => RunFault::AtDimensionality(error),
+            Refusal::Refused(RegionError::PastSource) => RunFault::PastArray,
+            Refusal::Refused(RegionError::PastTarget) => RunFault::PastTarget,
+            Refusal::Memory(_) => RunFault::Memory,
+        }
+    }
+}
+
+impl From<Refusal<CopiesError>> for RunFault {
+    ghost from_gives = { λ refusal fault. fault ≡ of_refusal Copies refusal };
+
+    fn from(refusal: Refusal<CopiesError>) -> RunFault {
+        match refusal {
+            Refusal::Refused(error) => RunFault::Copies(error),
+            Refusal::Memory(_) => RunFault::Memory,
         }
     }
 }

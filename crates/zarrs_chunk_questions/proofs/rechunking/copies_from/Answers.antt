@@ -20,6 +20,8 @@ returns c =
     IfSome_then c.in_ok-page.page
     (rw (left, walk.about.same_source, over.same_grid, over.same_encoding, over.same_subset, walk.first) at c.in_ok-page.ensures)
     (λ tree page.
-    (walk.lengths,
+    let (in_all, groups, some, is) =
     copy_page OfRechunking (grid_in source.grid).dimensions (IsKey (encoding_in source.encoding)) ds (IsKey (encoding_in target.encoding)) c.args.first
-    c.args.limits.now.most (array_box ds) (array_box ds).start (IsInside c.args.rechunking.now.chunks) targets is_box are (view tree) page))
+    c.args.limits.now.most (array_box ds) (array_box ds).start (IsInside c.args.rechunking.now.chunks) targets is_box are (view tree) page
+    in
+    (walk.lengths, in_all, groups, some, is))

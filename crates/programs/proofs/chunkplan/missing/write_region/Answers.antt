@@ -1,19 +1,19 @@
-use Rattle.std.proofs.Common.{◌≡◌, ◌∙◌, List, ap, inl, inr, option_map, rules, subst, ⊎_elim}
+use Rattle.std.proofs.Common.{◌≡◌, List, inl, inr, option_map, refl, rules, subst, ⊎_elim}
 use Rattle.std.proofs.lemmas.Result.{err_from_is_err_and}
 use Rattle.zarrs_chunk_keys.specs.seen.Encodings.{encoding_in}
 use Rattle.zarrs_chunks.specs.seen.Grids.{grid_in}
-use Rattle.zarrs_chunk_plan.specs.Rechunking.{Group}
-use Rattle.zarrs_chunk_plan.proofs.Copied.{region_copy_of}
-use Rattle.zarrs_chunk_plan.proofs.Taken.{no_parts}
+use Rattle.zarrs_chunk_plan.specs.Region.{AnyChunk, Group, IsRegionCopy}
+use Rattle.zarrs_chunk_plan.proofs.Copied.{copy_of}
 use Rattle.documents.specs.Stored.{stored_of}
 use Rattle.programs.specs.chunkplan.PlanFault.{IsCopyFault, IsFaultBeside, of_keys, of_plan, of_region_target}
 use Rattle.programs.specs.chunkplan.PlanFault.{of_region as of_region_fault}
-use Rattle.programs.specs.chunkplan.Planned.{ArePlanned, IsPlannedBeside, IsRegionPlan, begins_at, of_region}
+use Rattle.programs.specs.chunkplan.Planned.{ArePlanned, IsPlannedBeside, begins_at, of_region}
 use Rattle.programs.specs.chunkplan.RunFault.{of_region as of_region_error}
 use Rattle.programs.specs.chunkplan.seen.Opened.{CopiesToCome, dimensions_in, dimensions_of, key_in, key_of}
 use Rattle.streams.specs.seen.Sent.{output}
 use Rattle.programs.proofs.chunkplan.KeySteps.{early_beside, key_step_follows}
 use Rattle.programs.proofs.chunkplan.RunOutcomes.{no_read_beside, no_write_beside}
+use Rattle.programs.proofs.chunkplan.Steps.{refused_or}
 use Rattle.programs.proofs.chunkplan.StoredLines.{FaultOf, TextOf}
 use Rattle.programs.proofs.chunkplan.missing.write_region.Goals as goal
 
@@ -32,13 +32,14 @@ returns-in_err-target g c = λ document bytes stored task wanted is.
     task stored is)))
     refused))
 
-pub returns-in-Ok : goal.returns-in-Ok
-returns-in-Ok g c = λ document bytes stored task wanted is.
+pub returns : goal.returns
+returns g c = λ document bytes stored task wanted is.
     let made_target = c.in_ok-target.ensures.made in
     let array = c.args.array.now in
     let to = c.in_ok-target.target in
-    let walk = c.in-Ok.walk in
-    let said = c.in-Ok.ensures in
+    let walk = c.in_ok-walk.walk in
+    let said = c.in_ok-walk.ensures in
+    let (targets, is_box, are, left) = said.targets in
     let region = c.args.region.now in
     let at = option_map (λ v. v.items) c.args.at in
     let first = c.deref.result.now in
@@ -47,14 +48,9 @@ returns-in-Ok g c = λ document bytes stored task wanted is.
     → ArePlanned document (grid_in to.grid) (encoding_in to.encoding) groups = λ groups moves.
     of_region c.args.shape.now (stored_of c.args.target) region at (grid_in array.grid) (encoding_in array.encoding)
     task stored made_target
-    (subst (λ to_first. IsRegionPlan (dimensions_of array) (key_of array) (dimensions_of to) (key_of to) region to_first groups)
-    begins (record {
-      can = said.lies;
-      some = λ filled.
-          let (cover, covers, left) = said.targets filled in
-          region_copy_of dimensions_in key_in dimensions_in key_in array to region first cover walk groups said.about said.first covers left moves;
-      none = λ empty. no_parts _ _ groups (said.empty empty) moves;
-    }))
+    (subst (λ to_first. IsRegionCopy (dimensions_of array) (key_of array) (dimensions_of to) (key_of to) region to_first groups) begins
+    (copy_of dimensions_in key_in dimensions_in key_in array to region first AnyChunk targets walk groups said.lies said.about said.first is_box are left
+    moves))
     in
     key_step_follows
     (TextOf walk (dimensions_of to) (key_of to) c.args.share.now)
@@ -73,18 +69,23 @@ returns-in-Ok g c = λ document bytes stored task wanted is.
     (output g.W.Write.contents c.write_missing.new.held_back.items c.write_missing.new.writer)
     c.write_missing.result (c.write_missing.ensures bytes is)
 
-pub returns-in-Err-Refused : goal.returns-in-Err-Refused
-returns-in-Err-Refused g c = λ document bytes stored task wanted is.
+pub returns-in_err-walk : goal.returns-in_err-walk
+returns-in_err-walk g c = λ document bytes stored task wanted is.
+    let p = err_from_is_err_and c.from_residual-in_err-walk.result c.from_residual-in_err-walk.ensures.1 in
     let made_target = c.in_ok-target.ensures.made in
     let array = c.args.array.now in
     let to = c.in_ok-target.target in
     let region = c.args.region.now in
     let at = option_map (λ v. v.items) c.args.at in
     let begins : c.deref.result.now ≡ begins_at region at = search rules in
-    let refused = c.in-Err-Refused in
-    early_beside (IsPlannedBeside document) (IsFaultBeside document) bytes _ _
+    let refused = refused_or of_region_error _ (IsCopyFault (dimensions_of array) (dimensions_of to) region c.deref.result.now)
+    (λ error is. (error, is, refl)) _ c.in_err-walk.ensures.refused
+    in
+    rw (p.1, p.2)
+    (early_beside (IsPlannedBeside document) (IsFaultBeside document) bytes _ _
     (output g.W.Write.contents c.args.held_back.now.items c.args.writer.now) _ (no_read_beside document) (no_write_beside document)
-    (inr (λ keys. of_plan (of_region_fault c.args.shape.now (stored_of c.args.target) region at (grid_in array.grid) (grid_in to.grid)
+    (⊎_elim (λ memory. inl memory)
+    (λ is. inr (λ keys. of_plan (of_region_fault c.args.shape.now (stored_of c.args.target) region at (grid_in array.grid) (grid_in to.grid)
     (encoding_in array.encoding) (encoding_in to.encoding) task stored made_target
-    (subst (λ first. IsCopyFault (dimensions_of array) (dimensions_of to) region first c.from.result) begins
-    (refused.error, rw refused.field-0-is at refused.ensures.refused, c.from.ensures ∙ ap of_region_error refused.error-is)))))
+    (subst (λ first. IsCopyFault (dimensions_of array) (dimensions_of to) region first _) begins is))))
+    refused))

@@ -6,6 +6,7 @@ use Rattle.zarrs_chunk_keys.specs.ChunkKey.{IsKey}
 use Rattle.zarrs_chunk_keys.specs.seen.Encodings.{encoding_in}
 use Rattle.zarrs_chunks.specs.seen.Grids.{grid_in}
 use Rattle.zarrs_chunk_plan.specs.Rechunking.{IsRechunking, all_chunks_box}
+use Rattle.zarrs_chunk_plan.specs.Region.{IsRegionCopy}
 use Rattle.zarrs_chunk_plan.specs.declared.copies_error.CopiesError.TheVariants.{Chunks}
 use Rattle.zarrs_chunk_plan.proofs.OneConfiguration.{one_configuration}
 use Rattle.documents.specs.Stored.{stored_of}
@@ -13,7 +14,7 @@ use Rattle.programs.specs.chunkplan.Document.{document_of, ranges_asked_of, task
 use Rattle.programs.specs.chunkplan.PlanFault.{IsChunksFault, IsCopyFault, IsPlanFault, IsReadFault, of_chunks, of_region_target, of_source, of_subset}
 use Rattle.programs.specs.chunkplan.PlanFault.{IsFaultWithin, of_bound as of_bound_fault, of_bound_target, of_region as of_region_fault}
 use Rattle.programs.specs.chunkplan.PlanFault.{of_resize as of_resize_fault, of_source_order_target, of_target}
-use Rattle.programs.specs.chunkplan.Planned.{IsAsked, IsPlanned, IsRechunkingText, IsRegionPlan, IsRegionText, begins_at, of_read, of_rechunking, of_region}
+use Rattle.programs.specs.chunkplan.Planned.{IsAsked, IsPlanned, IsRechunkingText, IsRegionText, begins_at, of_read, of_rechunking, of_region}
 use Rattle.programs.specs.chunkplan.Planned.{of_bound, of_resize, of_source_order}
 use Rattle.programs.specs.chunkplan.RunFault.{of_create}
 use Rattle.programs.specs.declared.chunkplan.line.Order.TheVariants.{Source, Target}
@@ -212,7 +213,7 @@ returns-in-Copy g c =
     (IsPlanFault document)
     (λ text (groups, plan, lines). of_region shape stored region at source target source_encoding target_encoding groups (ap task_of c.in-Copy.is) made
     made_target
-    (subst (λ first. IsRegionPlan source.dimensions (IsKey source_encoding) target.dimensions (IsKey target_encoding) region first groups) begins plan)
+    (subst (λ first. IsRegionCopy source.dimensions (IsKey source_encoding) target.dimensions (IsKey target_encoding) region first groups) begins plan)
     (subst (λ first. IsRegionText document.wanted source.dimensions target.dimensions region first groups text) begins lines))
     (λ fault is. of_region_fault shape stored region at source target source_encoding target_encoding (ap task_of c.in-Copy.is) made made_target
     (subst (λ first. IsCopyFault source.dimensions target.dimensions region first fault) begins is))
