@@ -1,10 +1,11 @@
 -- A plan that was counted is there.
 use Rattle.std.proofs.Common.{◌≡◌, ◌≢◌, ◌⊎◌, ℕ, List, [], length, inl, refl, ⊎_elim, arith}
+use Rattle.std.proofs.lemmas.List.{length-replicate}
 use Rattle.zarrs_chunk_base.specs.Dimension.{Dimension}
 use Rattle.zarrs_chunk_base.specs.ArraySubset.{Box, IsBox, IsEmptyBox, IsInside}
 use Rattle.zarrs_chunk_keys.specs.declared.chunk_key_encoding.named.ChunkKeyEncoding.{ChunkKeyEncoding}
 use Rattle.zarrs_chunk_plan.specs.Counts.{AreReadCounts}
-use Rattle.zarrs_chunk_plan.specs.Rechunking.{AreTargets, Group, IsRechunking, array_box}
+use Rattle.zarrs_chunk_plan.specs.Rechunking.{AreTargets, Group, IsRechunking, all_chunks_box, array_box}
 use Rattle.zarrs_chunk_plan.specs.Region.{CanBeMoved, IsCopy, moved}
 use Rattle.zarrs_chunk_plan.specs.declared.copies_error.CopiesError.{CopiesError}
 use Rattle.zarrs_chunk_plan.specs.declared.copies_error.CopiesError.TheVariants.{ArrayShapes, Chunks}
@@ -21,6 +22,7 @@ use Rattle.zarrs_chunks.specs.seen.Grids.{chained_in}
 use Rattle.programs.specs.chunkplan.PlanFault.{IsChunksFault}
 use Rattle.programs.specs.chunkplan.Planned.{IsReadPlan}
 use Rattle.programs.specs.chunkplan.seen.Opened.{dimensions_of, key_of, sizes_of}
+use Rattle.programs.specs.declared.chunkplan.run_fault.RunFault.{RunFault}
 use Rattle.programs.specs.declared.chunkplan.run_fault.RunFault.TheVariants.{Copies}
 use Rattle.programs.proofs.chunkplan.Begun.{keys_in}
 
@@ -66,3 +68,8 @@ pub chunks_fault : (source target : List ℕ) (ds : List Dimension) (chunks : Bo
     → IsCopiesFault source target (length chunks.start) (length ds) error → IsChunksFault ds chunks (Copies error)
 chunks_fault source target ds chunks ArrayShapes same is = absurd (is same)
 chunks_fault source target ds chunks (Chunks e) same is = (is.1, is.2)
+
+-- the box of all chunks has the grid's number of dimensions
+pub no_chunks_fault : (ds : List Dimension) (fault : RunFault) → ¬ IsChunksFault ds (all_chunks_box ds) fault
+no_chunks_fault ds (Copies (Chunks _)) (other, _) = other (length-replicate (length ds) 0)
+no_chunks_fault ds _ is = is

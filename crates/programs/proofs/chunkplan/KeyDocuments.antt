@@ -1,11 +1,11 @@
 -- What a document before keys asks for.
 use Rattle.std.proofs.Common.{◌≡◌, ◌⊎◌, ◌∙◌, ℕ, Bool, true, false, not, ◌&&◌, Contains, IsFalse, IsSome, List, Option, None, Some, ap, codes, inl, inr, is_some, refl, sym, true≢false, arith}
+use Rattle.std.proofs.lemmas.List.Elements.{All-contains, All-from_recursion}
 use Rattle.std.proofs.lemmas.Option.{none-some, same_Some}
 use Rattle.serde_json.specs.Data.{Data}
 use Rattle.serde_json.specs.Find.{get}
 use Rattle.zarrs_chunk_base.specs.ArraySubset.{Box}
 use Rattle.zarrs_chunk_base.specs.Json.{IsJsonOf}
-use Rattle.zarrs_chunk_axes.proofs.RowMajorOrder.{of_one}
 use Rattle.zarrs_chunk_plan.specs.declared.share.Share.{Share}
 use Rattle.documents.specs.Stored.{Stored}
 use Rattle.programs.specs.chunkplan.Document.{Document, HasFlag, HasWanted, AsksForLinesOfCopy, IsDocument, IsTask, Task, Wanted, copy_to, counts_wanted}
@@ -18,7 +18,8 @@ use Rattle.programs.specs.declared.chunkplan.line.Order.TheVariants.{Source, Tar
 -- ---- what a document has that breaks no rule
 
 kept : (d : Data) → Fit d → (rule : Rule) → Contains rules rule → IsFalse (is_broken d rule)
-kept d fit rule among = of_one (λ rule. IsFalse (is_broken d rule)) rules rule fit among
+kept d fit rule among =
+    let IsKept : Rule → Type 0 = λ rule. IsFalse (is_broken d rule) in All-contains IsKept rules rule (All-from_recursion IsKept rules fit) among
 
 -- what a member needs
 is_beside : (d : Data) → Fit d → (member other : List ℕ) → Contains rules (needs member other) → IsSome (get member d) → IsSome (get other d)

@@ -115,7 +115,7 @@ wanted_still d fault (inr (_, (_, _, is, _))) = still (TellsWrongValue (codes "s
 form_still : (d : Data) (fault : RunFault) → IsFormFault d fault → moves fault ≡ false
 form_still d fault (unknown is) = still (IsUnknownFault d) (λ h. h) (λ h. h) fault is
 form_still d fault (missing name _ _ is) = still (TellsMissing name) (λ h. h) (λ h. h) fault is
-form_still d fault (misfit _ _ is) = still (IsMisfit d) (λ h. h.1) (λ h. h.1) fault is
+form_still d fault (misfit _ _ is) = still (IsMisfit d) (λ h. h) (λ h. h) fault is
 form_still d fault (misformed_shape _ _ _ _ is) = still (TellsWrongValue (codes "shape")) (λ h. h) (λ h. h) fault is
 form_still d fault (misformed_wanted _ _ _ _ is) = wanted_still d fault is
 form_still d fault (misformed_keys _ _ _ _ _ _ (_, _, _, is)) = still (TellsWrongValue (codes "keys")) (λ h. h) (λ h. h) fault is

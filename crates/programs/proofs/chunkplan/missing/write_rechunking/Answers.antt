@@ -1,9 +1,9 @@
-use Rattle.std.proofs.Common.{◌≡◌, ◌∙◌, List, inl, inr, length, subst, sym, ⊎_elim}
+use Rattle.std.proofs.Common.{◌≡◌, ◌∙◌, List, inl, inr, length, subst, sym, unwrap_or, ⊎_elim}
 use Rattle.std.proofs.lemmas.Result.{err_from_is_err_and}
 use Rattle.zarrs_chunk_base.specs.ArraySubset.{IsInside}
 use Rattle.zarrs_chunk_keys.specs.seen.Encodings.{encoding_in}
 use Rattle.zarrs_chunks.specs.seen.Grids.{grid_in}
-use Rattle.zarrs_chunk_plan.specs.Rechunking.{Group, IsRechunking, array_box}
+use Rattle.zarrs_chunk_plan.specs.Rechunking.{Group, IsRechunking, all_chunks_box, array_box}
 use Rattle.zarrs_chunk_plan.proofs.Copied.{copy_of}
 use Rattle.zarrs_chunk_plan.proofs.MovedBoxes.{can_stay}
 use Rattle.documents.specs.Stored.{stored_of}
@@ -75,8 +75,9 @@ returns-in_err-walk g c = λ document bytes stored shape_is sizes task wanted is
     let made_target = rw (← shape_is) at c.in_ok-target.ensures.made in
     let array = c.args.array.now in
     let to = c.in_ok-target.target in
-    let refused = refused_or Copies _ (IsChunksFault (dimensions_of to) c.in_ok-chunks.chunks)
-    (λ error is. chunks_fault _ _ (dimensions_of to) c.in_ok-chunks.chunks error (sizes ∙ sym c.in_ok-target.ensures.sizes) is) _
+    let refused = refused_or Copies _ (IsChunksFault (dimensions_of to) (unwrap_or c.args.chunks (all_chunks_box (dimensions_of to))))
+    (λ error is. subst (λ b. IsChunksFault (dimensions_of to) b (Copies error)) c.in_ok-chunks.ensures
+    (chunks_fault _ _ (dimensions_of to) c.in_ok-chunks.chunks error (sizes ∙ sym c.in_ok-target.ensures.sizes) is)) _
     c.in_err-walk.ensures.refused
     in
     rw (p.1, p.2)
@@ -84,6 +85,5 @@ returns-in_err-walk g c = λ document bytes stored shape_is sizes task wanted is
     (output g.W.Write.contents c.args.held_back.now.items c.args.writer.now) _ (no_read_beside document) (no_write_beside document)
     (⊎_elim (λ memory. inl memory)
     (λ is. inr (λ keys. of_plan (of_chunks (stored_of c.args.target) c.args.chunks (grid_in array.grid) (grid_in to.grid)
-    (encoding_in array.encoding) (encoding_in to.encoding) task stored made_target
-    (subst (λ b. IsChunksFault (dimensions_of to) b _) c.in_ok-chunks.ensures is))))
+    (encoding_in array.encoding) (encoding_in to.encoding) task stored made_target is)))
     refused))

@@ -78,14 +78,14 @@ returns-in_err-walk g c = λ document bytes stored task wanted is.
     let region = c.args.region.now in
     let at = option_map (λ v. v.items) c.args.at in
     let begins : c.deref.result.now ≡ begins_at region at = search rules in
-    let refused = refused_or of_region_error _ (IsCopyFault (dimensions_of array) (dimensions_of to) region c.deref.result.now)
-    (λ error is. (error, is, refl)) _ c.in_err-walk.ensures.refused
+    let refused = refused_or of_region_error _ (IsCopyFault (dimensions_of array) (dimensions_of to) region (begins_at region at))
+    (λ error is. subst (λ first. IsCopyFault (dimensions_of array) (dimensions_of to) region first (of_region_error error)) begins (error, is, refl)) _
+    c.in_err-walk.ensures.refused
     in
     rw (p.1, p.2)
     (early_beside (IsPlannedBeside document) (IsFaultBeside document) bytes _ _
     (output g.W.Write.contents c.args.held_back.now.items c.args.writer.now) _ (no_read_beside document) (no_write_beside document)
     (⊎_elim (λ memory. inl memory)
     (λ is. inr (λ keys. of_plan (of_region_fault c.args.shape.now (stored_of c.args.target) region at (grid_in array.grid) (grid_in to.grid)
-    (encoding_in array.encoding) (encoding_in to.encoding) task stored made_target
-    (subst (λ first. IsCopyFault (dimensions_of array) (dimensions_of to) region first _) begins is))))
+    (encoding_in array.encoding) (encoding_in to.encoding) task stored made_target is)))
     refused))

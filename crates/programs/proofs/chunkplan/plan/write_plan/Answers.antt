@@ -1,13 +1,10 @@
-use Rattle.std.proofs.Common.{◌≡◌, List, ap, inl, inr, length, option_map, rules, refl, subst, ⊎_elim}
+use Rattle.std.proofs.Common.{◌≡◌, ap, inl, inr, length, option_map, rules, refl, subst, ⊎_elim}
 use Rattle.std.proofs.lemmas.Result.{err_from_is_err_and}
-use Rattle.std.proofs.lemmas.List.{length-replicate}
-use Rattle.zarrs_chunk_base.specs.Dimension.{Dimension}
 use Rattle.zarrs_chunk_keys.specs.ChunkKey.{IsKey}
 use Rattle.zarrs_chunk_keys.specs.seen.Encodings.{encoding_in}
 use Rattle.zarrs_chunks.specs.seen.Grids.{grid_in}
-use Rattle.zarrs_chunk_plan.specs.Rechunking.{IsRechunking, all_chunks_box}
+use Rattle.zarrs_chunk_plan.specs.Rechunking.{IsRechunking}
 use Rattle.zarrs_chunk_plan.specs.Region.{IsRegionCopy}
-use Rattle.zarrs_chunk_plan.specs.declared.copies_error.CopiesError.TheVariants.{Chunks}
 use Rattle.zarrs_chunk_plan.proofs.OneConfiguration.{one_configuration}
 use Rattle.documents.specs.Stored.{stored_of}
 use Rattle.programs.specs.chunkplan.Document.{document_of, ranges_asked_of, task_of}
@@ -18,9 +15,8 @@ use Rattle.programs.specs.chunkplan.Planned.{IsAsked, IsPlanned, IsRechunkingTex
 use Rattle.programs.specs.chunkplan.Planned.{of_bound, of_resize, of_source_order}
 use Rattle.programs.specs.chunkplan.RunFault.{of_create}
 use Rattle.programs.specs.declared.chunkplan.line.Order.TheVariants.{Source, Target}
-use Rattle.programs.specs.declared.chunkplan.run_fault.RunFault.{RunFault}
-use Rattle.programs.specs.declared.chunkplan.run_fault.RunFault.TheVariants.{Copies}
 use Rattle.streams.specs.seen.Sent.{output}
+use Rattle.programs.proofs.chunkplan.CountedPlans.{no_chunks_fault}
 use Rattle.programs.proofs.chunkplan.RunOutcomes.{no_failed_write}
 use Rattle.programs.proofs.chunkplan.Steps.{early, step_follows}
 use Rattle.programs.proofs.chunkplan.plan.write_plan.Goals as goal
@@ -33,12 +29,6 @@ write_resize-requires g c =
       resized = one_configuration (stored_of c.args.document.stored).chunk_grid _ _ (grid_in c.in_ok-array.array.grid)
           (grid_in c.in_ok-after-in-Resize.after) c.in_ok-array.ensures.made.is_grid c.in_ok-after-in-Resize.ensures.made;
     }
-
--- ---- the box of all chunks has the grid's number of dimensions
-
-no_chunks_fault : (ds : List Dimension) (fault : RunFault) → ¬ IsChunksFault ds (all_chunks_box ds) fault
-no_chunks_fault ds (Copies (Chunks _)) (other, _) = other (length-replicate (length ds) 0)
-no_chunks_fault ds _ is = is
 
 -- ---- what is sent, and why it stops
 

@@ -22,8 +22,8 @@ returns-in_err-walk-in-Lines g c =
     (refused_or Copies _ IsFault (λ error is. chunks_fault _ _ target c.args.chunks.now error c.requires.one_array is) _
     c.in_err-walk-in-Lines.ensures.refused))
 
-pub returns-in-Lines : goal.returns-in-Lines
-returns-in-Lines g c =
+pub returns-in_ok-walk-in-Lines : goal.returns-in_ok-walk-in-Lines
+returns-in_ok-walk-in-Lines g c =
     let source = dimensions_of c.args.source.now in
     let target = dimensions_of c.args.target.now in
     let chunks = c.args.chunks.now in
@@ -51,8 +51,8 @@ returns-in_err-counts-in-Counts g c =
     (refused_or Copies _ IsFault (λ error is. chunks_fault _ _ target c.args.chunks.now error c.requires.one_array is) _
     c.in_err-counts-in-Counts.ensures.refused))
 
-pub returns-in-Counts : goal.returns-in-Counts
-returns-in-Counts g c =
+pub returns-in_ok-counts-in-Counts : goal.returns-in_ok-counts-in-Counts
+returns-in_ok-counts-in-Counts g c =
     let said = c.in_ok-counts-in-Counts.ensures in
     let counts = c.in_ok-counts-in-Counts.counts in
     let (targets, is_box, are, each) = said.counts in

@@ -23,8 +23,8 @@ returns-in_err-walk-in-Lines g c =
     (no_failed_copy source target c.args.region.now c.args.at.now)
     (refused_or of_region _ IsFault (λ error is. (error, is, refl)) _ c.in_err-walk-in-Lines.ensures.refused))
 
-pub returns-in-Lines : goal.returns-in-Lines
-returns-in-Lines g c =
+pub returns-in_ok-walk-in-Lines : goal.returns-in_ok-walk-in-Lines
+returns-in_ok-walk-in-Lines g c =
     let region = c.args.region.now in
     let at = c.args.at.now in
     let said = c.in_ok-walk-in-Lines.ensures in
@@ -51,8 +51,8 @@ returns-in_err-counts-in-Counts g c =
     (no_failed_copy source target c.args.region.now c.args.at.now)
     (refused_or of_region _ IsFault (λ error is. (error, is, refl)) _ c.in_err-counts-in-Counts.ensures.refused))
 
-pub returns-in-Counts : goal.returns-in-Counts
-returns-in-Counts g c =
+pub returns-in_ok-counts-in-Counts : goal.returns-in_ok-counts-in-Counts
+returns-in_ok-counts-in-Counts g c =
     let region = c.args.region.now in
     let at = c.args.at.now in
     let said = c.in_ok-counts-in-Counts.ensures in

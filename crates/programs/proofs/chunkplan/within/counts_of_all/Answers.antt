@@ -1,5 +1,6 @@
 use Rattle.std.proofs.Common.{subst}
-use Rattle.zarrs_chunk_plan.specs.Rechunking.{AreTargets, IsRechunking}
+use Rattle.zarrs_chunk_base.specs.ArraySubset.{IsInside}
+use Rattle.zarrs_chunk_plan.specs.Rechunking.{AreTargets, IsRechunking, array_box}
 use Rattle.programs.specs.chunkplan.seen.Opened.{dimensions_of, key_of}
 use Rattle.programs.proofs.chunkplan.CountedPlans.{rechunking_there}
 use Rattle.programs.proofs.chunkplan.within.counts_of_all.Goals as goal
@@ -20,6 +21,6 @@ returns-in-Ok c =
       is_rechunking = subst (λ b. IsRechunking source source_key target target_key b groups) all plan;
       targets = targets;
       is_box = is_box;
-      are_targets = subst (λ b. AreTargets target b targets) all are;
+      are_targets = subst (λ b. AreTargets target (array_box target) (IsInside b) targets) all are;
       counted = each groups plan;
     }
