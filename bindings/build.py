@@ -20,6 +20,8 @@ from binaries import Binary, kit  # noqa: E402
 
 CRATES = HERE.parent / "crates"
 CRATE = CRATES / "zarrs_chunks_c"
+# The library whose functions it exports. The structs of the header are declared there.
+BATCHES = CRATES / "zarrs_chunk_batches"
 ARCHIVE = CRATE / "out" / "libzarrs_chunks_c.a"
 BACKENDS = ("llvm", "rattle")
 NAME = "libzarrs_chunks"
@@ -140,8 +142,9 @@ def in_c():
 
 
 def in_rattle():
-    """The same of the crate, as it is in C: a slice is a pointer and a length, whose name in a struct ends in `_len`."""
-    text = "".join(path.read_text() for path in sorted(CRATE.glob("src/*.rt"))).replace("&'a ", "&")
+    """The same of the crate and of the library beneath it, as it is in C: a slice is a pointer and a length, whose name in a struct ends in `_len`."""
+    files = [path for crate in (CRATE, BATCHES) for path in sorted(crate.glob("src/*.rt"))]
+    text = "".join(path.read_text() for path in files).replace("&'a ", "&")
     calls = declarations(text, r'pub extern "C" fn (\w+)\((.*?)\) -> i32', ",")
     structs = declarations(text, r"#\[repr\(C\)\]\s*#\[derive\(Drop\)\]\s*pub struct (\w+)<'a> \{(.*?)\n\}", ",")
     found = {name: [kind for part in parts for kind in crossing(part.split(": ")[1])] for name, parts in calls.items()}

@@ -14,7 +14,7 @@ ROOT = pathlib.Path(__file__).resolve().parent.parent
 PLACES = {
     "crates/programs/src/words.rt": r'^const VERSION: &str = "(.*)";$',
     "crates/zarrs_chunks_c/src/version.rt": r'^const VERSION: &str = "(.*)";$',
-    "crates/zarrs_chunks_c/specs/Codes.antt": r'^library_version = codes "(.*)"$',
+    "crates/zarrs_chunk_batches/specs/Codes.antt": r'^library_version = codes "(.*)"$',
     "bindings/zarrs_chunks.h": r'^#define ZARRS_VERSION "(.*)"$',
     "bindings/python/zarrs_chunks/_version.py": r'^__version__ = "(.*)"$',
     "bindings/rust/zarrs_chunks/Cargo.toml": r'^version = "(.*)"$',

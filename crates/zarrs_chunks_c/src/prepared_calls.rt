@@ -1,15 +1,14 @@
 //! The calls of a prepared grid, and the call that prepares one.
 ghost use Rattle.std.specs.Prelude.{◌≡◌, OnOk, drop};
-ghost use Rattle.zarrs_chunks_c.specs.Calls.{IfWritten, IsEndOf, IsKeptIfShort};
-ghost use Rattle.zarrs_chunks_c.specs.Codes.{Ends};
-ghost use Rattle.zarrs_chunks_c.specs.GridCalls.{chunk_boxes_request, chunk_indices_request, covers_request, grid_shape_request, homes_request};
-ghost use Rattle.zarrs_chunks_c.specs.PreparedCalls.{AreKeptForPrepared, EndsForPrepared, prepare_grid_call};
+ghost use Rattle.zarrs_chunk_batches.specs.Calls.{IfWritten, IsEndOf, IsKeptIfShort};
+ghost use Rattle.zarrs_chunk_batches.specs.Codes.{Ends};
+ghost use Rattle.zarrs_chunk_batches.specs.GridCalls.{chunk_boxes_request, chunk_indices_request, covers_request, grid_shape_request, homes_request};
+ghost use Rattle.zarrs_chunk_batches.specs.PreparedCalls.{AreKeptForPrepared, EndsForPrepared, prepare_grid_call};
 
-use crate::buffers::write_front;
-use crate::codes::{Fault, code_of};
-use crate::metadata::numbers_of_grid;
-use crate::prepared_grid::{chunk_boxes_in, chunk_indices_in, covers_in, grid_shape_in, homes_in};
 use std::alloc::Global;
+use zarrs_chunk_batches::{
+    chunk_boxes_in, chunk_indices_in, code_of, covers_in, grid_shape_in, homes_in, prepare_grid,
+};
 
 /// The numbers of the grid, by which the calls of a prepared grid answer as it does.
 #[unsafe(no_mangle)]
@@ -129,25 +128,4 @@ pub extern "C" fn zarrs_prepared_covers_of(
         found,
         wrong,
     ))
-}
-
-/// Writes the numbers of the grid, and how many they are, even where the buffer is shorter.
-///
-/// # Errors
-/// The first that applies: the grid can't be made; the numbers are more than their buffer holds. Or out of memory.
-fn prepare_grid(
-    alloc: Global,
-    shape: &[u64],
-    chunk_grid: &[u8],
-    numbers: &mut [u64],
-    needed: &mut usize,
-) -> Result<(), Fault>
-    ensures ends { IsEndOf (prepare_grid_call
-        shape.now chunk_grid.now numbers.new needed.new) result }
-    ensures kept_if_short { IsKeptIfShort numbers.old numbers.new result }
-    ensures kept_behind { IfWritten
-        (drop needed.new numbers.new ≡ drop needed.new numbers.old) result }
-{
-    let prepared = numbers_of_grid(alloc, shape, chunk_grid)?;
-    write_front(&prepared, numbers, needed)
 }

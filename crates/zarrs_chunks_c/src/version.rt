@@ -1,11 +1,10 @@
 //! Which version of the interface this is, and of the library.
 ghost use Rattle.std.specs.Prelude.{◌≡◌, drop};
-ghost use Rattle.zarrs_chunks_c.specs.Calls.{IsEndOf, IsKeptIfShort};
-ghost use Rattle.zarrs_chunks_c.specs.Codes.{Ends, abi_version, library_version};
-ghost use Rattle.zarrs_chunks_c.specs.FaultCalls.{text_call};
+ghost use Rattle.zarrs_chunk_batches.specs.Calls.{IsEndOf, IsKeptIfShort};
+ghost use Rattle.zarrs_chunk_batches.specs.Codes.{Ends, abi_version, library_version};
+ghost use Rattle.zarrs_chunk_batches.specs.FaultCalls.{text_call};
 
-use crate::buffers::write_text;
-use crate::codes::code_of;
+use zarrs_chunk_batches::{code_of, write_text};
 
 /// The version of the library, as the file `VERSION` has it.
 const VERSION: &str = "0.1.0";

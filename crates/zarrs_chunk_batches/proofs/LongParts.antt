@@ -1,0 +1,82 @@
+-- Parts of a plan: how many are found at most, and how long their lists are.
+use Rattle.std.proofs.Common.{◌≡◌, ◌⊎◌, ◌∙◌, ℕ, zero, suc, ◌-◌, ◌≤◌, List, [], ◌∷◌, drop, length, min, take, Option, Some, None, MatchOption, ap}
+use Rattle.std.proofs.Common.{⊎_elim, arith}
+use Rattle.std.specs.List.{AllByRecursion, AllZip}
+use Rattle.zarrs_chunk_base.proofs.Boxes.{within_lengths}
+use Rattle.zarrs_chunk_base.proofs.InEach.{length_numbers, length_values}
+use Rattle.zarrs_chunk_base.specs.ArraySubset.{Box, IsBox, IsEmptyBox}
+use Rattle.zarrs_chunk_base.specs.Dimension.{Dimension, Holds, IsChain}
+use Rattle.zarrs_chunks.specs.Subsets.{IsCover}
+use Rattle.zarrs_chunks.specs.Walks.{chunks_in}
+use Rattle.zarrs_chunk_plan.proofs.Plans.{covered_meet}
+use Rattle.zarrs_chunk_parts.specs.Plan.{IsPart, Meets}
+use Rattle.zarrs_chunk_parts.specs.declared.part.Part.{Part}
+use Rattle.zarrs_chunk_plan.specs.declared.numbered_parts.SomeParts.{SomeParts}
+use Rattle.zarrs_chunks.proofs.Covers.{none_is_not_empty}
+use Rattle.zarrs_chunk_batches.proofs.Planned.{count_is}
+use Rattle.zarrs_chunk_prepared.specs.LookedUp.{HasNoCover}
+use Rattle.zarrs_chunk_batches.specs.seen.Parts.{AreFoundParts, IsLongPart}
+
+-- ---- lists
+
+module _ {X : Type 0} (P : X → Type 0) where
+  all_taken : (n : ℕ) (xs : List X) → AllByRecursion P xs → AllByRecursion P (take n xs)
+  all_taken zero xs all = tt
+  all_taken (suc n) [] all = tt
+  all_taken (suc n) (x ∷ xs) all = (all.0, all_taken n xs all.1)
+
+  all_dropped : (n : ℕ) (xs : List X) → AllByRecursion P xs → AllByRecursion P (drop n xs)
+  all_dropped zero xs all = all
+  all_dropped (suc n) [] all = tt
+  all_dropped (suc n) (x ∷ xs) all = all_dropped n xs all.1
+
+all_zipped : {X Y : Type 0} (P : X → Type 0) (R : X → Y → Type 0) (Q : Y → Type 0) → ((x : X) (y : Y) → P x → R x y → Q y)
+    → (xs : List X) (ys : List Y) → AllByRecursion P xs → AllZip R xs ys → AllByRecursion Q ys
+all_zipped P R Q from [] [] all zipped = tt
+all_zipped P R Q from (x ∷ xs) (y ∷ ys) all zipped = (from x y all.0 zipped.0, all_zipped P R Q from xs ys all.1 zipped.1)
+all_zipped P R Q from [] (_ ∷ _) all zipped = absurd zipped
+all_zipped P R Q from (_ ∷ _) [] all zipped = absurd zipped
+
+-- ---- parts
+
+module _ (ds : List Dimension) (IsKey : List ℕ → List ℕ → Type 0) (b : Box) where
+  -- a part that has some element
+  long_part : (chunk : List ℕ) (part : Part) → Meets ds b chunk → IsPart ds IsKey b chunk part → IsLongPart (length ds) part
+  long_part chunk part (index, in_box, inside) is =
+      let shared = is.boxes in
+      let within = (shared.elements index).1 (in_box, inside) in
+      let numbers : length part.chunk.items ≡ length ds = ap length is.numbers ∙ length_numbers Holds ds chunk index in_box in
+      let of_index = length_values Holds ds chunk index in_box in
+      let of_shared = within_lengths shared.shared.start shared.shared.shape index within in
+      let same = shared.is_box.lengths in
+      let chunk_shape : length shared.shared.shape ≡ length part.in_chunk.shape = ap length shared.from_chunk.shape in
+      let chunk_start = shared.from_chunk.is_box.lengths in
+      let subset_shape : length shared.shared.shape ≡ length part.in_subset.shape = ap length shared.from_subset.shape in
+      let subset_start = shared.from_subset.is_box.lengths in
+      record { chunk = numbers; in_chunk = omega arith; in_subset = omega arith; shape = omega arith }
+
+  module _ (first most : ℕ) where
+    few_parts : (some : SomeParts) → AreFoundParts ds IsKey b first most some → length some.parts.items ≤ most
+    few_parts some (cover, is_cover, are) = let is = count_is ds IsKey b first most some cover are in omega arith
+
+    long_parts : AllByRecursion IsChain ds → IsBox b → length b.start ≡ length ds → (some : SomeParts) → AreFoundParts ds IsKey b first most some
+        → AllByRecursion (IsLongPart (length ds)) some.parts.items
+    long_parts chains is_box long some (cover, is_cover, are) =
+        let count = min (some.in_all - first) most in
+        let if_some : (¬ IsEmptyBox b) ⊎ (length ds ≡ 0) → (length b.start ≡ length ds) × IsCover ds b cover = λ which.
+        (long, ⊎_elim is_cover.0 (λ none. is_cover.0 (none_is_not_empty b is_box (omega arith))) which)
+        in
+        let meet = covered_meet ds b cover chains is_box (λ empty _. is_cover.1 empty) if_some in
+        all_zipped (Meets ds b) (IsPart ds IsKey b) (IsLongPart (length ds)) long_part (take count (drop first (chunks_in cover))) some.parts.items
+        (all_taken (Meets ds b) count (drop first (chunks_in cover)) (all_dropped (Meets ds b) first (chunks_in cover) meet)) are.are_parts
+
+    pub few_of_answer : (found : Option SomeParts) → MatchOption found (HasNoCover ds b) (AreFoundParts ds IsKey b first most)
+        → MatchOption found (Unit {0}) (λ some. length some.parts.items ≤ most)
+    few_of_answer None is = tt
+    few_of_answer (Some some) is = few_parts some is
+
+    pub long_of_answer : AllByRecursion IsChain ds → IsBox b → length b.start ≡ length ds → (found : Option SomeParts)
+        → MatchOption found (HasNoCover ds b) (AreFoundParts ds IsKey b first most)
+        → MatchOption found (Unit {0}) (λ some. AllByRecursion (IsLongPart (length ds)) some.parts.items)
+    long_of_answer chains is_box long None is = tt
+    long_of_answer chains is_box long (Some some) is = long_parts chains is_box long some is

@@ -1,0 +1,184 @@
+-- Parts of a plan that were found, and what is written of them.
+use Rattle.std.proofs.Common.{◌≡◌, ◌≢◌, ◌⊎◌, ◌∙◌, ℕ, zero, suc, ◌+◌, ◌-◌, ◌*◌, ◌<◌, ◌≤◌, List, [], ◌∷◌, Option, Some, None, Ok, MatchOption}
+use Rattle.std.proofs.Common.{drop, get_or, length, min, take, inl, inr, ⊎_elim, refl, ap, subst, sym, arith, add-mul}
+use Rattle.std.proofs.lemmas.Bool.{cases_lt}
+use Rattle.std.proofs.lemmas.List.{drop-drop, get_or-drop, get_or-take, length-drop, length-take}
+use Rattle.std.proofs.lemmas.Option.{get_or_from_slice_get}
+use Rattle.std.specs.List.{AllZip, slice_get}
+use Rattle.zarrs_chunk_base.specs.ArraySubset.{Box, IsBox, IsEmptyBox, zero_box}
+use Rattle.zarrs_chunk_base.specs.Dimension.{Dimension}
+use Rattle.zarrs_chunks.specs.Walks.{chunks_in}
+use Rattle.zarrs_chunk_parts.specs.Plan.{AreShared, IsPart}
+use Rattle.zarrs_chunk_plan.specs.SomeParts.{AnswersNone, AnswersSome, AreSomeParts}
+use Rattle.zarrs_chunk_parts.specs.declared.part.Part.{Part}
+use Rattle.zarrs_chunk_plan.specs.declared.numbered_parts.SomeParts.{SomeParts}
+use Rattle.zarrs_chunk_plan.proofs.Plans.{empty_or_some, none_in_zeros}
+use Rattle.zarrs_chunk_plan.proofs.Taken.{none_taken}
+use Rattle.zarrs_chunk_prepared.specs.LookedUp.{HasNoCover, IsCoverOf}
+use Rattle.zarrs_chunk_batches.specs.Batch.{AreTexts}
+use Rattle.zarrs_chunk_batches.specs.Parts.{AreListsKept, IsPartAt, IsPlanWith}
+use Rattle.zarrs_chunk_batches.specs.declared.structs.PartBuffers.{PartBuffers}
+use Rattle.zarrs_chunk_batches.specs.seen.Parts.{AreFoundParts, AreWrittenBelow, IsKeyOf, IsWritten}
+use Rattle.zarrs_chunks.proofs.Covers.{none_is_not_empty}
+
+-- ---- what was found
+
+module _ (IsKey : List ℕ → List ℕ → Type 0) (first most : ℕ) where
+  -- of an empty box: no parts, and the cover without chunks
+  none_of_empty : (ds : List Dimension) (b : Box) (some : SomeParts) → length ds ≢ 0 → IsEmptyBox b → AnswersNone (Ok (Some some))
+      → AreFoundParts ds IsKey b first most some
+  none_of_empty ds b some dimensions empty (no_count, no_parts) =
+      let cover = zero_box (length ds) in
+      let none = none_in_zeros (length ds) dimensions in
+      let long : length (chunks_in cover) ≡ 0 = ap length none in
+      let taken = none_taken first (min (some.in_all - first) most) (chunks_in cover) none in (
+        cover,
+        ((λ not_empty. absurd (not_empty empty)), (λ _. refl)),
+        record {
+          in_all = rw long no_count;
+          are_parts = rw (taken, no_parts) tt;
+        },
+      )
+
+  pub parts_of_any : (ds : List Dimension) (b : Box) (found : Option SomeParts) → IsBox b → (IsEmptyBox b → length ds ≢ 0 → AnswersNone (Ok found))
+      → ((¬ IsEmptyBox b) ⊎ (length ds ≡ 0) → AnswersSome ds IsKey b first most (Ok found))
+      → MatchOption found (HasNoCover ds b) (AreFoundParts ds IsKey b first most)
+  parts_of_any [] b None is_box empty answers = let is = answers (inr refl) in (none_is_not_empty b is_box is.0, is.1)
+  parts_of_any [] b (Some some) is_box empty answers =
+      let (same, (cover, is_cover, are)) = answers (inr refl) in
+      (cover, ((λ _. is_cover), (λ is_empty. absurd (none_is_not_empty b is_box same is_empty))), are)
+  parts_of_any (d ∷ ds) b None is_box empty answers =
+      let some : ¬ IsEmptyBox b = λ is_empty. empty is_empty (λ none. absurd (omega arith)) in (some, (answers (inl some)).1)
+  parts_of_any (d ∷ ds) b (Some some) is_box empty answers =
+      let dimensions : length (d ∷ ds) ≢ 0 = λ none. absurd (omega arith) in
+      ⊎_elim (λ is_empty. none_of_empty (d ∷ ds) b some dimensions is_empty (empty is_empty dimensions))
+      (λ not_empty.
+      let (same, (cover, is_cover, are)) = answers (inl not_empty) in
+      (cover, ((λ _. is_cover), (λ is_empty. absurd (not_empty is_empty))), are))
+      (empty_or_some b.shape)
+
+-- ---- what is written
+
+-- what lies behind more than what lay behind so much is as it was, too
+pub kept_further : (n m : ℕ) (before between after : List ℕ) → n ≤ m → drop n between ≡ drop n before → drop m after ≡ drop m between
+    → drop m after ≡ drop m before
+kept_further n m before between after less same last =
+    let further : n + (m - n) ≡ m = omega arith in
+    let split = drop-drop (m - n) n before in
+    let also = drop-drop (m - n) n between in
+    last ∙ sym (subst (λ k. drop (m - n) (drop n between) ≡ drop k between) further also) ∙ ap (drop (m - n)) same
+    ∙ subst (λ k. drop (m - n) (drop n before) ≡ drop k before) further split
+
+-- the lists behind one more part
+pub kept_more : (width number : ℕ) (initial before after : PartBuffers) → AreListsKept width number initial before
+    → AreListsKept width (number + 1) before after → AreListsKept width (number + 1) initial after
+kept_more width number initial before after kept wrote =
+    let split = add-mul number 1 width in
+    let less : number * width ≤ (number + 1) * width = omega arith in
+    record {
+      chunks = kept_further _ _ _ _ _ less kept.chunks wrote.chunks;
+      in_chunk = kept_further _ _ _ _ _ less kept.in_chunk wrote.in_chunk;
+      in_subset = kept_further _ _ _ _ _ less kept.in_subset wrote.in_subset;
+      shapes = kept_further _ _ _ _ _ less kept.shapes wrote.shapes;
+    }
+
+-- one part more
+pub written_more : (width number : ℕ) (parts : List Part) (part : Part) (before after : PartBuffers) → AreWrittenBelow number width parts before
+    → part ≡ get_or parts number part → IsWritten width part after number
+    → ((k : ℕ) → k < number → (p : Part) → IsWritten width p before k → IsWritten width p after k)
+    → AreWrittenBelow (number + 1) width parts after
+written_more width number parts part before after are is here earlier k less p found =
+    ⊎_elim (λ (below : k < number). earlier k below p (are k below p found))
+    (λ (last : number ≤ k).
+    let at : number ≡ k = omega arith in
+    let part_here : slice_get parts number ≡ Some p = ap (slice_get parts) at ∙ found in
+    let same : part ≡ p = is ∙ get_or_from_slice_get parts number p part part_here in
+    subst (λ n. IsWritten width p after n) at (subst (λ q. IsWritten width q after number) same here))
+    (cases_lt k number)
+
+-- ---- what is written of what was found
+
+module _ {X Y : Type 0} (R : X → Y → Type 0) where
+  as_long : (xs : List X) (ys : List Y) → AllZip R xs ys → length ys ≡ length xs
+  as_long [] [] are = refl
+  as_long (x ∷ xs) (y ∷ ys) are = ap suc (as_long xs ys are.1)
+  as_long [] (_ ∷ _) are = absurd are
+  as_long (_ ∷ _) [] are = absurd are
+
+  at_place : (xs : List X) (ys : List Y) (k : ℕ) → AllZip R xs ys → k < length ys
+      → (x : X) × ((y : Y) × (slice_get xs k ≡ Some x) × (slice_get ys k ≡ Some y) × R x y)
+  at_place [] [] k are less = absurd (omega arith)
+  at_place (x ∷ xs) (y ∷ ys) zero are less = (x, (y, refl, refl, are.0))
+  at_place (x ∷ xs) (y ∷ ys) (suc k) are less = at_place xs ys k are.1 (omega arith)
+  at_place [] (_ ∷ _) k are less = absurd are
+  at_place (_ ∷ _) [] k are less = absurd are
+
+-- what is taken from a place on, by place
+taken_at : (xs : List (List ℕ)) (first count k : ℕ) (x : List ℕ) → k < count → slice_get (take count (drop first xs)) k ≡ Some x
+    → get_or xs (first + k) [] ≡ x
+taken_at xs first count k x less found =
+    sym (get_or-drop first xs k []) ∙ sym (get_or-take count (drop first xs) k [] less)
+    ∙ get_or_from_slice_get (take count (drop first xs)) k x [] found
+
+module _ (ds : List Dimension) (IsKey : List ℕ → List ℕ → Type 0) (subset : Box) where
+  -- a part, of which these lists are written
+  part_at : (chunk : List ℕ) (part : Part) (buffers : PartBuffers) (number : ℕ) → IsPart ds IsKey subset chunk part
+      → IsWritten (length ds) part buffers number → IsPartAt ds subset chunk buffers number
+  part_at chunk part buffers number is lists =
+      let shape : part.in_chunk.shape ≡ part.in_subset.shape = sym is.boxes.from_chunk.shape ∙ is.boxes.from_subset.shape in
+      let shared = subst (λ s. AreShared ds subset chunk part.in_chunk (record { start = part.in_subset.start; shape = s })) (sym shape) is.boxes in
+      record { numbers = lists.is_chunk ∙ is.numbers; boxes = rw (lists.is_in_chunk, lists.is_in_subset, lists.is_shape) shared }
+
+  module _ (first room : ℕ) (some : SomeParts) (cover : Box) (are : AreSomeParts ds IsKey subset cover first room some) where
+    abbrev pub IsPartOf : List ℕ → Part → Type 0
+    IsPartOf = IsPart ds IsKey subset
+
+    abbrev pub parts : List Part
+    parts = some.parts.items
+
+    abbrev chunks : List (List ℕ)
+    chunks = chunks_in cover
+
+    abbrev pub count : ℕ
+    count = min (some.in_all - first) room
+
+    abbrev taken : List (List ℕ)
+    taken = take count (drop first chunks)
+
+    pub count_is : length parts ≡ count
+    count_is =
+        let same = as_long IsPartOf taken parts are.are_parts in
+        let long = length-take count (drop first chunks) in
+        let rest = length-drop first chunks in
+        let in_all = are.in_all in
+        omega arith
+
+    written_of_cover : (buffers : PartBuffers) (keys : List ℕ) → IsCoverOf ds subset cover → buffers.in_all ≡ some.in_all
+        → buffers.count ≡ length parts → length buffers.offsets.now - 1 ≡ room → AreWrittenBelow (length parts) (length ds) parts buffers
+        → AreTexts (IsKeyOf parts) (length parts) keys buffers.offsets.now → IsPlanWith ds IsKey subset first buffers keys
+    written_of_cover buffers keys is_cover in_all counted has_room lists texts = record {
+      cover = cover;
+      is_cover = is_cover;
+      has_in_all = in_all ∙ are.in_all;
+      has_written = rw (counted, in_all, has_room) count_is;
+      parts = λ number less.
+          let (chunk, (part, of_chunk, of_part, is)) = at_place IsPartOf taken parts number are.are_parts (omega arith) in
+          let among = count_is in
+          let at = taken_at chunks first count number chunk (omega arith) of_chunk in
+          rw at (part_at chunk part buffers number is (lists number (omega arith) part of_part));
+      are_keys = rw counted (record {
+        first = texts.first;
+        last = texts.last;
+        within = texts.within;
+        texts = λ number less.
+            let (chunk, (part, of_chunk, of_part, is)) = at_place IsPartOf taken parts number are.are_parts less in
+            let of_number = lists number less part of_part in
+            rw (of_number.is_chunk, is.numbers, texts.texts number less part of_part) is.key;
+      });
+    }
+
+  pub all_written : (first room : ℕ) (some : SomeParts) (buffers : PartBuffers) (keys : List ℕ) → AreFoundParts ds IsKey subset first room some
+      → buffers.in_all ≡ some.in_all → buffers.count ≡ length some.parts.items → length buffers.offsets.now - 1 ≡ room
+      → AreWrittenBelow (length some.parts.items) (length ds) some.parts.items buffers
+      → AreTexts (IsKeyOf some.parts.items) (length some.parts.items) keys buffers.offsets.now → IsPlanWith ds IsKey subset first buffers keys
+  all_written first room some buffers keys (cover, is_cover, are) = written_of_cover first room some cover are buffers keys is_cover

@@ -1,0 +1,19 @@
+use Rattle.std.proofs.Common.{inl, inr, ⊎_elim}
+use Rattle.std.proofs.lemmas.Result.{err_from_is_err_and}
+use Rattle.zarrs_chunk_keys.specs.seen.Encodings.{encoding_in}
+use Rattle.zarrs_chunk_batches.specs.Calls.{early, no_metadata}
+use Rattle.zarrs_chunk_batches.specs.KeyCalls.{keys_request}
+use Rattle.zarrs_chunk_batches.specs.Said.{IsNoEncoding, SaysEncoding}
+use Rattle.zarrs_chunk_batches.proofs.Ends.{ends_of_metadata}
+use Rattle.zarrs_chunk_batches.proofs.key_calls.keys_of.Goals as goal
+
+pub returns-in_err-encoding-clause-ends : goal.returns-in_err-encoding-clause-ends
+returns-in_err-encoding-clause-ends c =
+    let p = err_from_is_err_and c.from_residual.result c.from_residual.ensures.1 in
+    rw (p.1, p.2) (⊎_elim (λ memory. inl memory) (λ is. inr (early (no_metadata is))) c.in_err-encoding.ensures)
+
+pub returns-clause-ends : goal.returns-clause-ends
+returns-clause-ends c =
+    let wrote = c.keys_by.new in
+    ends_of_metadata (IsNoEncoding c.args.chunk_key_encoding.now) (SaysEncoding c.args.chunk_key_encoding.now)
+    (keys_request c.args.dimensionality c.args.chunks.now wrote.text wrote.offsets wrote.needed) (encoding_in c.in_ok-encoding.encoding) c.keys_by.result c.in_ok-encoding.ensures c.keys_by.ensures.ends

@@ -1,0 +1,28 @@
+use Rattle.std.proofs.Common.{◌-◌, ℕ, List, inl, inr, length, subst, sym}
+use Rattle.std.proofs.lemmas.Result.{err_from_is_err_and}
+use Rattle.zarrs_chunk_keys.specs.ChunkKey.{IsKey}
+use Rattle.zarrs_chunk_keys.specs.seen.Encodings.{encoding_in}
+use Rattle.zarrs_chunk_batches.specs.Batch.{AreKeys}
+use Rattle.zarrs_chunk_batches.specs.KeyCalls.{keys_request}
+use Rattle.zarrs_chunk_batches.proofs.Ends.{ends_for, is_too_long, is_whole}
+use Rattle.zarrs_chunk_batches.proofs.keys.keys_by.Goals as goal
+
+pub returns-in_err-count-clause-ends : goal.returns-in_err-count-clause-ends
+returns-in_err-count-clause-ends c =
+    let p = err_from_is_err_and c.from_residual.result c.from_residual.ensures.1 in
+    let (is_length, differ) = c.in_err-count.ensures in
+    rw (p.1, p.2) (inr (inl (is_length, differ)))
+
+pub returns-clause-ends : goal.returns-clause-ends
+returns-clause-ends c =
+    let encoding = encoding_in c.args.encoding.now in
+    let offsets = c.append_keys.new.offsets in
+    let text = c.as_bytes.result.now in
+    let wrote = c.write_front.new in
+    let told = c.write_front.ensures in
+    let AreTheKeys = λ (keys : List ℕ). AreKeys (IsKey encoding) c.args.dimensionality (length offsets - 1) c.args.chunks.now keys offsets in
+    let are_keys = subst AreTheKeys (sym c.as_bytes.ensures.value) c.in_ok-keys.ensures in
+    ends_for (keys_request c.args.dimensionality c.args.chunks.now wrote.buffer offsets wrote.needed) encoding c.write_front.result
+    (c.in_ok-count.count, rw c.append_keys.auto.offsets c.in_ok-count.ensures)
+    (is_whole AreTheKeys text wrote.buffer wrote.needed told.told are_keys c.write_front.result told.fits told.written)
+    (is_too_long AreTheKeys text wrote.buffer wrote.needed told.told are_keys c.write_front.result told.short)

@@ -1,0 +1,42 @@
+-- The calls that prepare a grid and an encoding, and those of prepared ones.
+-- Sources: Zarr V3 core, chunk grids, chunk key encodings; the numbers are this library's own.
+use Rattle.std.specs.Prelude.{◌≡◌, ℕ, List, length}
+use Rattle.zarrs_chunk_base.specs.Grid.{Grid}
+use Rattle.zarrs_chunk_keys.specs.ChunkKey.{Encoding}
+use Rattle.zarrs_chunk_prepared.specs.Prepared.{IsPreparedGrid}
+use Rattle.zarrs_chunk_prepared.specs.PreparedEncoding.{IsPreparedEncoding}
+use Rattle.zarrs_chunk_batches.specs.Batch.{AreKept, IsTooLong, IsWhole}
+use Rattle.zarrs_chunk_batches.specs.Calls.{Call, EndsForEach, Request}
+use Rattle.zarrs_chunk_batches.specs.Codes.{End}
+use Rattle.zarrs_chunk_batches.specs.GridCalls.{grid_call}
+use Rattle.zarrs_chunk_batches.specs.KeyCalls.{encoding_call, encoding_request}
+use Rattle.zarrs_chunk_batches.specs.declared.codes.Fault.TheVariants.{Short}
+
+-- The numbers of a grid. They are refused where they are more than their buffer holds.
+abbrev pub prepare_grid_call : (shape metadata numbers : List ℕ) (needed : ℕ) → Call Grid
+prepare_grid_call shape metadata numbers needed =
+    grid_call shape metadata (record {
+      Fits = λ _. Unit {0};
+      Refuses = λ grid fault. (fault ≡ Short) × IsTooLong (λ prepared. IsPreparedGrid prepared grid) numbers needed;
+      Answers = λ grid. IsWhole (λ prepared. IsPreparedGrid prepared grid) numbers needed;
+    })
+
+-- A request of prepared numbers ends as it does of the grid whose they are. Of other numbers nothing is said.
+abbrev pub EndsForPrepared : (numbers : List ℕ) → Request Grid → End → Type 0
+EndsForPrepared numbers = EndsForEach (IsPreparedGrid numbers)
+
+-- of the grid whose they are, the lists without an answer are as they were
+abbrev pub AreKeptForPrepared : (numbers before after marks : List ℕ) → Type 0
+AreKeptForPrepared numbers before after marks =
+    (grid : Grid) → IsPreparedGrid numbers grid → AreKept (length grid.dimensions) before after marks
+
+-- The numbers of an encoding. They are refused where they are more than their buffer holds.
+abbrev pub prepare_encoding_call : (metadata numbers : List ℕ) (needed : ℕ) → Call Encoding
+prepare_encoding_call metadata numbers needed =
+    encoding_call metadata (encoding_request (Unit {0})
+    (λ encoding fault. (fault ≡ Short) × IsTooLong (λ prepared. IsPreparedEncoding prepared encoding) numbers needed)
+    (λ encoding. IsWhole (λ prepared. IsPreparedEncoding prepared encoding) numbers needed))
+
+-- A request of prepared numbers ends as it does of the encoding whose they are. Of other numbers nothing is said.
+abbrev pub EndsForPreparedKeys : (numbers : List ℕ) → Request Encoding → End → Type 0
+EndsForPreparedKeys numbers = EndsForEach (IsPreparedEncoding numbers)
