@@ -13,6 +13,7 @@ ROOT = pathlib.Path(__file__).resolve().parent.parent
 # Where the version stands, and what stands around it.
 PLACES = {
     "crates/programs/src/words.rt": r'^const VERSION: &str = "(.*)";$',
+    "crates/programs/specs/Words.antt": r'^version = codes "(.*)"$',
     "crates/zarrs_chunks_c/src/version.rt": r'^const VERSION: &str = "(.*)";$',
     "crates/zarrs_chunk_batches/specs/Codes.antt": r'^library_version = codes "(.*)"$',
     "bindings/zarrs_chunks.h": r'^#define ZARRS_VERSION "(.*)"$',

@@ -12,11 +12,11 @@
 //! [[0,6,51],[1,2,3]]
 //! ```
 //!
-//! With no words it is `run_to_status` of `programs::chunkcalls`, over what the process was given; words are answered by `answer_words`.
+//! With no words it is `run_to_status` of `programs::chunkcalls`, over what the process was given; words, which `read_words` reads, are answered by `answer_words`.
 #![tactic(auto)]
 
-use programs::answer_words;
 use programs::chunkcalls::{Watched, run_to_status};
+use programs::{answer_words, read_words};
 use std::process::ExitCode;
 
 /// What `--help` prints.
@@ -38,11 +38,12 @@ Ends with the status 0, or with 1 where reading or writing failed or memory ran
 out, which standard error tells.";
 
 fn main(rt: HostRuntime) -> ExitCode {
-    let (stdout, stderr) = (&mut rt.stdout(), &mut rt.stderr());
-    if let Some(status) = answer_words(&rt, "chunkcalls", HELP, stdout, stderr) {
+    let mut writer = Watched::new(rt.stdout());
+    let mut errors = rt.stderr();
+    let asked = read_words(&rt);
+    if let Some(status) = answer_words(asked, "chunkcalls", HELP, &mut writer, &mut errors) {
         return ExitCode::from(status);
     }
     let mut reader = Watched::new(rt.stdin());
-    let mut writer = Watched::new(rt.stdout());
-    ExitCode::from(run_to_status(rt.alloc(), &mut reader, &mut writer, &mut rt.stderr()))
+    ExitCode::from(run_to_status(rt.alloc(), &mut reader, &mut writer, &mut errors))
 }

@@ -27,11 +27,11 @@
 //! {"copies":2,"elements":3,"largest_line":1,"lines":2,"source_chunks":2}
 //! ```
 //!
-//! With no words it is `run_to_status` of `programs::chunkplan`, over what the process was given; words are answered by `answer_words`.
+//! With no words it is `run_to_status` of `programs::chunkplan`, over what the process was given; words, which `read_words` reads, are answered by `answer_words`.
 #![tactic(auto)]
 
-use programs::answer_words;
 use programs::chunkplan::{Watched, run_to_status};
+use programs::{answer_words, read_words};
 use std::process::ExitCode;
 
 /// What `--help` prints.
@@ -68,11 +68,12 @@ bytes of an uncompressed chunk are wanted.
 Ends with the status 0, or with 1 after a fault, which standard error tells.";
 
 fn main(rt: HostRuntime) -> ExitCode {
-    let (stdout, stderr) = (&mut rt.stdout(), &mut rt.stderr());
-    if let Some(status) = answer_words(&rt, "chunkplan", HELP, stdout, stderr) {
+    let mut writer = Watched::new(rt.stdout());
+    let mut errors = rt.stderr();
+    let asked = read_words(&rt);
+    if let Some(status) = answer_words(asked, "chunkplan", HELP, &mut writer, &mut errors) {
         return ExitCode::from(status);
     }
     let mut reader = Watched::new(rt.stdin());
-    let mut writer = Watched::new(rt.stdout());
-    ExitCode::from(run_to_status(rt.alloc(), &mut reader, &mut writer, &mut rt.stderr()))
+    ExitCode::from(run_to_status(rt.alloc(), &mut reader, &mut writer, &mut errors))
 }

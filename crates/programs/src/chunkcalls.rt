@@ -3,11 +3,11 @@
 //! | Module | What it holds |
 //! |---|---|
 //! | `answering` | the lines that answer what is read |
-ghost use Rattle.std.specs.Prelude.{◌≡◌, ◌≤◌, IfErr, IfSome, MatchResult, OnOk};
+ghost use Rattle.std.specs.Prelude.{◌≡◌, ◌≤◌, false, IfErr, IfSome, MatchResult, OnOk};
 ghost use Rattle.std.specs.Io.KnownBytes.{Keeps};
 ghost use Rattle.streams.specs.Watched.{has_failed, watched};
 ghost use Rattle.programs.specs.chunkcalls.Lines.{HasAnswered, HoldsAnswers};
-ghost use Rattle.programs.specs.chunkcalls.Run.{TellsFailure};
+ghost use Rattle.programs.specs.chunkcalls.Run.{RunEndsWith, TellsFailure};
 
 mod answering;
 
@@ -25,6 +25,15 @@ pub fn run_to_status<R: Read, W: Write, E: Write>(
     writer: &mut Watched<W>,
     errors: &mut E,
 ) -> u8
+    ensures outcome { IfSome (R.remaining (watched reader.old)) (λ input.
+        IfSome (W.contents (watched writer.old)) (λ held.
+        has_failed reader.old ≡ false → has_failed writer.old ≡ false
+        → RunEndsWith input held result (record {
+          left = R.remaining (watched reader.new);
+          read_failed = has_failed reader.new;
+          holds = W.contents (watched writer.new);
+          write_failed = has_failed writer.new;
+        }))) }
     ensures silent { result ≡ 0 → Keeps (E.contents errors.old) (E.contents errors.new) }
     ensures zero_or_one { result ≤ 1 }
 {

@@ -13,4 +13,4 @@ pub mod chunkcalls;
 pub mod chunkplan;
 mod words;
 
-pub use words::answer_words;
+pub use words::{Asked, answer_words, read_words};

@@ -1,10 +1,13 @@
 //! The words of a program's command line.
-ghost use Rattle.std.specs.Prelude.{◌≡◌, ◌≤◌, IfSome, Some};
+ghost use Rattle.std.specs.Prelude.{◌≡◌, ◌++◌, ◌≤◌, IfErr, IfSome, OnOk, Some, codes, true};
 ghost use Rattle.std.specs.Io.KnownBytes.{Keeps};
+ghost use Rattle.streams.specs.Watched.{has_failed, watched};
+ghost use Rattle.programs.specs.Words.{AnswersWords};
+ghost use Rattle.programs.specs.declared.words.WordsFault.TheVariants.{Output};
 
 use std::env::{Env, FillError};
 use std::io::Write;
-use streams::finish;
+use streams::{StreamFault, Watched, finish, write_all};
 use thiserror::Error;
 
 /// The version of this library and of its programs.
@@ -14,10 +17,15 @@ const VERSION: &str = "0.1.0";
 const LONGEST: usize = 16;
 
 /// What a command line asks a program for.
-enum Asked {
+#[derive(Clone, Copy, Debug, PartialEq, Eq)]
+pub enum Asked {
+    /// There are no words: the program is to run.
     Run,
+    /// `--help` alone.
     Help,
+    /// `--version` alone.
     Version,
+    /// Any other word, or more than one.
     Unknown,
 }
 
@@ -27,34 +35,21 @@ enum WordsFault {
     /// There is a word that the program doesn't take, or a second one.
     #[error("it takes `--help` or `--version`, or no word")]
     Unknown,
-    /// A write or the flush failed.
-    #[error("output failed")]
-    Write,
+    /// The text can't be written.
+    #[error(transparent)]
+    Output(StreamFault),
 }
 
-/// Answers a command line with words: `--help` by the text that is given, and `--version`, each alone; any other word is a fault, which is
-/// told in one line. The status to end with is 0, or 1 after a fault; `None` where there are no words, and the program is to run.
-pub fn answer_words<R: Env, W: Write, E: Write>(
-    rt: &R,
-    program: &str,
-    help: &str,
-    writer: &mut W,
-    errors: &mut E,
-) -> Option<u8>
-    ensures silent { result ≡ Some 0 → Keeps (E.contents errors.old) (E.contents errors.new) }
-    ensures zero_or_one { IfSome result (λ status. status ≤ 1) }
-{
-    let outcome = match read_words(rt) {
-        Asked::Run => return None,
-        Asked::Help => write_line(writer, help),
-        Asked::Version => write_line(writer, VERSION),
-        Asked::Unknown => Err(WordsFault::Unknown),
-    };
-    Some(finish(program, &outcome, errors))
+impl From<StreamFault> for WordsFault {
+    ghost from_gives = { λ told fault. fault ≡ Output told };
+
+    fn from(told: StreamFault) -> WordsFault {
+        WordsFault::Output(told)
+    }
 }
 
 /// What the words behind the program's name ask for.
-fn read_words<R: Env>(rt: &R) -> Asked {
+pub fn read_words<R: Env>(rt: &R) -> Asked {
     let mut word = [0; LONGEST];
     let length = match rt.arg(1, &mut word) {
         Ok(length) => length,
@@ -72,10 +67,40 @@ fn read_words<R: Env>(rt: &R) -> Asked {
     }
 }
 
+/// Answers what the words of a command line ask for, and gives the status to end with; `None` where the program is to run. `--help` is answered by the
+/// text that is given, `--version` by the version. Any other word is a fault, which is told in one line. The status is 0, or 1 after a fault.
+pub fn answer_words<W: Write, E: Write>(
+    asked: Asked,
+    program: &str,
+    help: &str,
+    writer: &mut Watched<W>,
+    errors: &mut E,
+) -> Option<u8>
+    ensures answered { IfSome (W.contents (watched writer.old)) (λ held.
+        AnswersWords asked help.now result held (W.contents (watched writer.new))
+        (has_failed writer.new)) }
+    ensures silent { result ≡ Some 0 → Keeps (E.contents errors.old) (E.contents errors.new) }
+    ensures zero_or_one { IfSome result (λ status. status ≤ 1) }
+{
+    let outcome = match asked {
+        Asked::Run => return None,
+        Asked::Help => write_line(writer, help),
+        Asked::Version => write_line(writer, VERSION),
+        Asked::Unknown => Err(WordsFault::Unknown),
+    };
+    Some(finish(program, &outcome, errors))
+}
+
 /// Writes a text and a line feed, and flushes.
-fn write_line<W: Write>(writer: &mut W, text: &str) -> Result<(), WordsFault> {
-    match writeln!(writer, "{text}").and_then(|()| writer.flush()) {
-        Ok(()) => Ok(()),
-        Err(_) => Err(WordsFault::Write),
-    }
+///
+/// # Errors
+/// A write or the flush failed.
+fn write_line<W: Write>(writer: &mut Watched<W>, text: &str) -> Result<(), WordsFault>
+    ensures written { OnOk result (IfSome (W.contents (watched writer.old)) (λ held.
+        W.contents (watched writer.new) ≡ Some (held ++ (text.now ++ codes "\n")))) }
+    ensures failed { IfErr result (λ _. has_failed writer.new ≡ true) }
+{
+    write_all(writer, text.as_bytes())?;
+    write_all(writer, b"\n")?;
+    Ok(())
 }

@@ -1,0 +1,26 @@
+use Rattle.std.proofs.Common.{◌≡◌, ◌∙◌, ℕ, false, List, Err, IfErr, Ok, OnOk, Result}
+use Rattle.streams.specs.Streams.{Streams}
+use Rattle.streams.specs.Watched.{watched}
+use Rattle.streams.specs.declared.stream_fault.StreamFault.{StreamFault}
+use Rattle.streams.proofs.Known.{for_both}
+use Rattle.programs.specs.chunkcalls.Lines.{HoldsAnswers}
+use Rattle.programs.specs.chunkcalls.Run.{RunLeaves, TellsFailure}
+use Rattle.programs.proofs.chunkcalls.run_to_status.Goals as goal
+
+-- what a run promises of each outcome, together
+leaves : (input held : List ℕ) (outcome : Result (Unit {0}) StreamFault) (s : Streams) → OnOk outcome (HoldsAnswers input held s.holds)
+    → OnOk outcome (s.read_failed ≡ false) → OnOk outcome (s.write_failed ≡ false)
+    → IfErr outcome (λ fault. TellsFailure fault false s.read_failed s.write_failed) → RunLeaves input held outcome s
+leaves input held (Ok u) s says read written failed = (says, read, written)
+leaves input held (Err fault) s says read written failed = failed
+
+pub returns-clause-outcome : goal.returns-clause-outcome
+returns-clause-outcome g c =
+    for_both (g.R.Read.remaining (watched c.args.reader.now)) (g.W.Write.contents (watched c.args.writer.now)) _
+    (λ input held is_input is_held not_read not_written.
+    let run = c.run-outcome.ensures in (
+      c.run-outcome.result,
+      leaves input held c.run-outcome.result _ (rw (is_input, is_held) at run.says) (rw not_read at run.no_read_failed)
+          (rw not_written at run.no_write_failed) (rw not_read at run.failed),
+      c.finish.ensures.status,
+    ))
