@@ -1,3 +1,4 @@
 pub mod Counts
+pub mod Ended
 pub mod KeptLines
 pub mod PartWay

@@ -3,10 +3,11 @@
 //! | Module | What it holds |
 //! |---|---|
 //! | `answering` | the lines that answer what is read |
-ghost use Rattle.std.specs.Prelude.{◌≡◌, ◌≤◌, false, IfErr, IfSome, MatchResult, OnOk};
+ghost use Rattle.std.specs.Prelude.{◌≡◌, ◌≤◌, false, IfErr, IfSome, MatchResult, OnErr, OnOk};
 ghost use Rattle.std.specs.Io.KnownBytes.{Keeps};
+ghost use Rattle.streams.specs.declared.stream_fault.StreamFault.TheVariants.{Read as ReadFailed};
 ghost use Rattle.streams.specs.Watched.{has_failed, watched};
-ghost use Rattle.programs.specs.chunkcalls.Lines.{HasAnswered, HoldsAnswers};
+ghost use Rattle.programs.specs.chunkcalls.Lines.{HasAnswered, HasAnsweredRead, HasBegunAnswers, HoldsAnswers};
 ghost use Rattle.programs.specs.chunkcalls.Run.{RunEndsWith, TellsFailure};
 
 mod answering;
@@ -60,6 +61,14 @@ pub fn run<R: Read, W: Write>(
     ensures no_write_failed { OnOk result (has_failed writer.new ≡ has_failed writer.old) }
     ensures failed { IfErr result (λ fault. TellsFailure fault
         (has_failed reader.old) (has_failed reader.new) (has_failed writer.new)) }
+    ensures begun { OnErr result (IfSome (R.remaining (watched reader.old)) (λ input.
+        IfSome (W.contents (watched writer.old)) (λ held.
+        HasBegunAnswers input held (W.contents (watched writer.new))))) }
+    ensures read { IfErr result (λ fault. fault ≡ ReadFailed
+        → IfSome (R.remaining (watched reader.old)) (λ input.
+        IfSome (W.contents (watched writer.old)) (λ held.
+        HasAnsweredRead input held (R.remaining (watched reader.new))
+        (W.contents (watched writer.new))))) }
 {
     let mut held_back = Vec::new(alloc);
     match answer_lines(alloc, reader, &mut held_back, writer) {

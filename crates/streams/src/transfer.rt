@@ -3,7 +3,7 @@ ghost use Rattle.std.specs.Prelude.{◌≡◌, [], ◌++◌, ℕ, List, IfErr, I
 ghost use Rattle.std.specs.Io.KnownBytes.{Keeps};
 ghost use Rattle.streams.specs.Watched.{watched, has_failed, IsReadFailure, IsWriteFailure};
 ghost use Rattle.streams.specs.seen.Sent.{Sends, output};
-ghost use Rattle.streams.specs.declared.stream_fault.StreamFault.TheVariants.{Write as WriteFailed};
+ghost use Rattle.streams.specs.declared.stream_fault.StreamFault.TheVariants.{Memory, Write as WriteFailed};
 
 use crate::stream_fault::StreamFault;
 use crate::watched::Watched;
@@ -43,7 +43,7 @@ pub fn read_to_end<R: Read>(alloc: Global, reader: &mut Watched<R>) -> Result<Ve
 /// Holds bytes back until there are enough of them, and then sends all that are held back.
 ///
 /// # Errors
-/// A write failed, or took nothing; or out of memory.
+/// A write failed, or took nothing; or out of memory. Out of memory, all is as it was.
 pub fn send<W: Write>(
     bytes: &[u8],
     held_back: &mut Vec<u8>,
@@ -55,6 +55,9 @@ pub fn send<W: Write>(
         × OnOk result (rest ≡ held_back.new.items) }
     ensures failed { MatchResult result (λ _. has_failed writer.new ≡ has_failed writer.old)
         (λ fault. IsWriteFailure fault (has_failed writer.old) (has_failed writer.new)) }
+    ensures unchanged { IfErr result (λ fault. fault ≡ Memory
+        → output W.contents held_back.new.items writer.new
+        ≡ output W.contents held_back.old.items writer.old) }
 {
     held_back.extend_from_slice(bytes)?;
     if held_back.len() < ENOUGH {

@@ -1,5 +1,5 @@
 -- Lines of bytes, and what answers them.
-use Rattle.std.specs.Prelude.{◌≡◌, ℕ, ◌+◌, ◌<◌, ◌≤◌, ◌^◌, ◌==◌, ◌||◌, if◌then◌else◌, List, [], ◌∷◌, ◌++◌, codes, length, Option, Some}
+use Rattle.std.specs.Prelude.{◌≡◌, ◌⊎◌, ℕ, ◌+◌, ◌<◌, ◌≤◌, ◌^◌, ◌==◌, ◌||◌, if◌then◌else◌, List, [], ◌∷◌, ◌++◌, codes, length, Option, Some}
 use Rattle.streams.specs.OneLine.{IsOneLine, line_feeds}
 use Rattle.zarrs_chunk_questions.specs.AnswerLine.{AsksForItems, IsAnswerLine}
 
@@ -40,6 +40,40 @@ pub data AreAnswers : (input answers : List ℕ) → Type 0 where
   last_line : (line answer : List ℕ) → 0 < length line → line_feeds line ≡ 0 → IsReplyTo line answer → AreAnswers line answer
   first_line : (line answer others others_answers : List ℕ) → line_feeds line ≡ 0 → IsReplyTo line answer → AreAnswers others others_answers
       → AreAnswers (line ++ 10 ∷ others) (answer ++ others_answers)
+
+-- The same of lines of which each is ended by a line feed.
+pub data AreEndedAnswers : (lines answers : List ℕ) → Type 0 where
+  no_ended : AreEndedAnswers [] []
+  one_ended : (line answer others others_answers : List ℕ) → line_feeds line ≡ 0 → IsReplyTo line answer → AreEndedAnswers others others_answers
+      → AreEndedAnswers (line ++ 10 ∷ others) (answer ++ others_answers)
+
+-- the answers to the first lines of an input: to some that are ended, or to all
+pub record AreFirstAnswers (input answers : List ℕ) : Type 0 where
+  pub lines : List ℕ
+  pub rest : List ℕ
+  pub is_input : input ≡ lines ++ rest
+  pub are_answers : AreEndedAnswers lines answers ⊎ ((rest ≡ []) × AreAnswers lines answers)
+
+-- the writer held some bytes, and now holds behind them a beginning of the answers to the input's first lines
+pub record HasBegunAnswers (input held : List ℕ) (holds : Option (List ℕ)) : Type 0 where
+  pub answers : List ℕ
+  pub are_first : AreFirstAnswers input answers
+  pub written : List ℕ
+  pub others : List ℕ
+  pub parts : answers ≡ written ++ others
+  pub is : holds ≡ Some (held ++ written)
+
+-- Of an input some is left. The writer held some bytes, and now holds behind them the answers to all lines that ended in what was read.
+pub record HasAnsweredRead (input held : List ℕ) (left holds : Option (List ℕ)) : Type 0 where
+  pub lines : List ℕ
+  pub line : List ℕ
+  pub rest : List ℕ
+  pub is_input : input ≡ lines ++ (line ++ rest)
+  pub unbroken : line_feeds line ≡ 0
+  pub is_left : left ≡ Some rest
+  pub answers : List ℕ
+  pub are_answers : AreEndedAnswers lines answers
+  pub is : holds ≡ Some (held ++ answers)
 
 -- the writer held some bytes, and now holds the answers to the input's lines behind them
 abbrev pub HoldsAnswers : (input held : List ℕ) → Option (List ℕ) → Type 0

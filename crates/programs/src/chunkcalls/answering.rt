@@ -1,10 +1,11 @@
 //! The lines that answer what is read.
-ghost use Rattle.std.specs.Prelude.{◌≡◌, ◌≢◌, ◌++◌, ◌∷◌, [], ℕ, List, IfErr, IfOk, IfSome, MatchResult, OnOk};
+ghost use Rattle.std.specs.Prelude.{◌≡◌, ◌≢◌, ◌<◌, ◌++◌, ◌∷◌, [], ℕ, List, IfErr, IfOk, IfSome, MatchResult, OnErr, OnOk, length};
 ghost use Rattle.streams.specs.OneLine.{IsOneLine};
+ghost use Rattle.streams.specs.declared.stream_fault.StreamFault.TheVariants.{Read as ReadFailed};
 ghost use Rattle.streams.specs.Watched.{IsWriteFailure, has_failed, watched};
 ghost use Rattle.programs.specs.chunkcalls.Lines.{AreAnswers, IsReply, IsReplyTo};
 ghost use Rattle.programs.specs.chunkcalls.Run.{TellsFailure};
-ghost use Rattle.programs.specs.chunkcalls.seen.Answered.{HasAnsweredPiece, IsBegun};
+ghost use Rattle.programs.specs.chunkcalls.seen.Answered.{HasAnsweredBefore, HasAnsweredPiece, HasStopped, HasStoppedAt, HasStoppedIn, IsBegun};
 ghost use Rattle.streams.specs.seen.Sent.{IsSent, output};
 
 use crate::chunkcalls::RunFault;
@@ -42,6 +43,14 @@ pub(crate) fn answer_lines<R: Read, W: Write>(
     ensures no_write_failed { OnOk result (has_failed writer.new ≡ has_failed writer.old) }
     ensures failed { IfErr result (λ fault. TellsFailure fault
         (has_failed reader.old) (has_failed reader.new) (has_failed writer.new)) }
+    ensures stopped { IfErr result (λ fault. IfSome (R.remaining (watched reader.old)) (λ input.
+        HasStopped input fault (output W.contents held_back.old.items writer.old)
+        (output W.contents held_back.new.items writer.new))) }
+    ensures read { IfErr result (λ fault. fault ≡ ReadFailed
+        → IfSome (R.remaining (watched reader.old)) (λ input.
+        HasAnsweredBefore input (R.remaining (watched reader.new))
+        (output W.contents held_back.old.items writer.old)
+        (output W.contents held_back.new.items writer.new))) }
 {
     let mut buffer = [0; BUFFER_LEN];
     let mut line = Vec::new(alloc);
@@ -78,6 +87,9 @@ fn answer_piece<W: Write>(
         (output W.contents held_back.new.items writer.new)) }
     ensures failed { MatchResult result (λ _. has_failed writer.new ≡ has_failed writer.old)
         (λ fault. IsWriteFailure fault (has_failed writer.old) (has_failed writer.new)) }
+    ensures stopped { IfErr result (λ fault. (whole : List ℕ) → IsBegun whole line.old.items
+        → HasStoppedIn whole piece.now fault (output W.contents held_back.old.items writer.old)
+        (output W.contents held_back.new.items writer.new)) }
 {
     for byte in piece {
         if *byte != b'\n' {
@@ -120,6 +132,10 @@ fn answer_rest<W: Write>(
         (output W.contents held_back.new.items writer.new) answers) }
     ensures failed { MatchResult result (λ _. has_failed writer.new ≡ has_failed writer.old)
         (λ fault. IsWriteFailure fault (has_failed writer.old) (has_failed writer.new)) }
+    ensures stopped { IfErr result (λ fault. HasStoppedAt line.now fault
+        (output W.contents held_back.old.items writer.old)
+        (output W.contents held_back.new.items writer.new)) }
+    ensures some { OnErr result (0 < length line.now) }
 {
     if line.is_empty() {
         return Ok(());
@@ -142,6 +158,9 @@ fn answer_line<W: Write>(
         (output W.contents held_back.new.items writer.new) answer) }
     ensures failed { MatchResult result (λ _. has_failed writer.new ≡ has_failed writer.old)
         (λ fault. IsWriteFailure fault (has_failed writer.old) (has_failed writer.new)) }
+    ensures stopped { IfErr result (λ fault. HasStoppedAt line.now fault
+        (output W.contents held_back.old.items writer.old)
+        (output W.contents held_back.new.items writer.new)) }
 {
     let reply = reply_to(alloc, line)?;
     send(&reply, held_back, writer)

@@ -1,18 +1,20 @@
-use Rattle.std.proofs.Common.{◌≡◌, ◌∙◌, ℕ, false, List, Err, IfErr, Ok, OnOk, Result}
+use Rattle.std.proofs.Common.{◌≡◌, ℕ, false, List, Err, IfErr, Ok, OnErr, OnOk, Result}
 use Rattle.streams.specs.Streams.{Streams}
 use Rattle.streams.specs.Watched.{watched}
 use Rattle.streams.specs.declared.stream_fault.StreamFault.{StreamFault}
+use Rattle.streams.specs.declared.stream_fault.StreamFault.TheVariants.{Read}
 use Rattle.streams.proofs.Known.{for_both}
-use Rattle.programs.specs.chunkcalls.Lines.{HoldsAnswers}
+use Rattle.programs.specs.chunkcalls.Lines.{HasAnsweredRead, HasBegunAnswers, HoldsAnswers}
 use Rattle.programs.specs.chunkcalls.Run.{RunLeaves, TellsFailure}
 use Rattle.programs.proofs.chunkcalls.run_to_status.Goals as goal
 
 -- what a run promises of each outcome, together
 leaves : (input held : List ℕ) (outcome : Result (Unit {0}) StreamFault) (s : Streams) → OnOk outcome (HoldsAnswers input held s.holds)
     → OnOk outcome (s.read_failed ≡ false) → OnOk outcome (s.write_failed ≡ false)
-    → IfErr outcome (λ fault. TellsFailure fault false s.read_failed s.write_failed) → RunLeaves input held outcome s
-leaves input held (Ok u) s says read written failed = (says, read, written)
-leaves input held (Err fault) s says read written failed = failed
+    → IfErr outcome (λ fault. TellsFailure fault false s.read_failed s.write_failed) → OnErr outcome (HasBegunAnswers input held s.holds)
+    → IfErr outcome (λ fault. fault ≡ Read → HasAnsweredRead input held s.left s.holds) → RunLeaves input held outcome s
+leaves input held (Ok u) s says read written failed begun at_read = (says, read, written)
+leaves input held (Err fault) s says read written failed begun at_read = (failed, begun, at_read)
 
 pub returns-clause-outcome : goal.returns-clause-outcome
 returns-clause-outcome g c =
@@ -21,6 +23,7 @@ returns-clause-outcome g c =
     let run = c.run-outcome.ensures in (
       c.run-outcome.result,
       leaves input held c.run-outcome.result _ (rw (is_input, is_held) at run.says) (rw not_read at run.no_read_failed)
-          (rw not_written at run.no_write_failed) (rw not_read at run.failed),
+          (rw not_written at run.no_write_failed) (rw not_read at run.failed) (rw (is_input, is_held) at run.begun)
+          (rw (is_input, is_held) at run.read),
       c.finish.ensures.status,
     ))

@@ -1,8 +1,11 @@
-use Rattle.std.proofs.Common.{◌≡◌, ◌≢◌, ◌∙◌, ◌+◌, ◌∷◌, ◌++◌, [], get_or, refl, subst, take, arith}
+use Rattle.std.proofs.Common.{◌≡◌, ◌≢◌, ◌∙◌, ◌+◌, ◌∷◌, ◌++◌, [], append_assoc, ap, drop, get_or, refl, subst, sym, take, arith}
 use Rattle.std.proofs.lemmas.Bool.Decides.{nat_tests}
+use Rattle.std.proofs.lemmas.List.{take-append-drop}
+use Rattle.std.proofs.lemmas.Result.{err_from_is_err_and}
 use Rattle.programs.specs.chunkcalls.Lines.{IsReplyTo}
-use Rattle.streams.specs.seen.Sent.{output}
-use Rattle.programs.proofs.chunkcalls.PartWay.{no_byte, one_byte, one_line, take_next}
+use Rattle.programs.specs.chunkcalls.seen.Answered.{HasStoppedAt, HasStoppedIn}
+use Rattle.streams.specs.seen.Sent.{Output, output}
+use Rattle.programs.proofs.chunkcalls.PartWay.{no_byte, one_byte, one_line, stopped_at, stopped_behind, take_next}
 use Rattle.programs.proofs.chunkcalls.answering.answer_piece.Goals as goal
 
 pub loop-byte-init : goal.loop-byte-init
@@ -39,7 +42,38 @@ loop-byte-preserved g c =
           rw (more, c.clear.ensures.items)
           (one_line whole (output g.W.Write.contents c.args.held_back.now.items c.args.writer.now) (take i piece) c.loop-byte.line.items
           (output g.W.Write.contents c.loop-byte.held_back.items c.loop-byte.writer) (c.loop-byte.invariant.0 whole begun) answer
-          (output g.W.Write.contents c.answer_line.new.held_back.items c.answer_line.new.writer)
-          (subst (λ line. IsReplyTo line answer) c.deref.ensures.value is) sent),
+          (subst (λ line. IsReplyTo line answer) c.deref.ensures.value is)
+          (output g.W.Write.contents c.answer_line.new.held_back.items c.answer_line.new.writer) sent),
       c.in_ok-answer_line.ensures.failed ∙ c.loop-byte.invariant.1,
     )
+
+pub returns-in_err-push_within-clause-stopped : goal.returns-in_err-push_within-clause-stopped
+returns-in_err-push_within-clause-stopped g c =
+    let p = err_from_is_err_and c.from_residual.result c.from_residual.ensures.1 in
+    let i = c.loop-byte.byte-index in
+    let before : Output = output g.W.Write.contents c.args.held_back.now.items c.args.writer.now in
+    let now : Output = output g.W.Write.contents c.loop-byte.held_back.items c.loop-byte.writer in
+    rw p.1
+    (λ whole begun. subst (λ piece. HasStoppedIn whole piece p.0 before now) (take-append-drop i c.args.piece.now)
+    (stopped_behind whole before (take i c.args.piece.now) c.loop-byte.line.items now (c.loop-byte.invariant.0 whole begun) p.0
+    (drop i c.args.piece.now)))
+
+pub returns-in_err-answer_line-clause-stopped : goal.returns-in_err-answer_line-clause-stopped
+returns-in_err-answer_line-clause-stopped g c =
+    let p = err_from_is_err_and c.from_residual-in_err-answer_line.result c.from_residual-in_err-answer_line.ensures.1 in
+    let i = c.loop-byte.byte-index in
+    let piece = c.args.piece.now in
+    let before : Output = output g.W.Write.contents c.args.held_back.now.items c.args.writer.now in
+    let now : Output = output g.W.Write.contents c.loop-byte.held_back.items c.loop-byte.writer in
+    let after : Output = output g.W.Write.contents c.answer_line.new.held_back.items c.answer_line.new.writer in
+    let fault = c.in_err-answer_line.field-0.0 in
+    let feed : get_or piece i 0 ≡ 10 = grind (arith, nat_tests) in
+    let more : take (i + 1) piece ≡ take i piece ++ 10 ∷ [] = rw feed at (take_next piece i (omega arith)) in
+    let all : take i piece ++ 10 ∷ drop (i + 1) piece ≡ piece =
+    sym (append_assoc (take i piece) (10 ∷ []) (drop (i + 1) piece)) ∙ ap (λ front. front ++ drop (i + 1) piece) (sym more)
+    ∙ take-append-drop (i + 1) piece
+    in
+    rw (p.1, p.2)
+    (λ whole begun. subst (λ piece. HasStoppedIn whole piece fault before after) all
+    (stopped_at whole before (take i piece) c.loop-byte.line.items now (c.loop-byte.invariant.0 whole begun) fault (drop (i + 1) piece) after
+    (subst (λ line. HasStoppedAt line fault now after) c.deref.ensures.value c.in_err-answer_line.ensures.stopped)))
