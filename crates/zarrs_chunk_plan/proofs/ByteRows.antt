@@ -10,6 +10,7 @@ use Rattle.std.proofs.lemmas.List.Elements.{Contains-append_cases, Contains-appe
 use Rattle.std.specs.List.{AllPairs}
 use Rattle.zarrs_chunk_base.specs.ArraySubset.{AreWithin}
 use Rattle.zarrs_chunk_base.specs.Greatest.{greatest}
+use Rattle.zarrs_chunks.proofs.ChunksInBoxes.{made_of, source_of}
 use Rattle.zarrs_chunks.proofs.Covers.{head_some, tail_some}
 use Rattle.zarrs_chunk_plan.specs.Bytes.{AreRanges, IsByteIn, begins, place, repeated}
 use Rattle.zarrs_chunk_plan.specs.Counts.{product}
@@ -22,18 +23,6 @@ use Rattle.zarrs_chunk_plan.proofs.Joined.{pairs_of_both}
 
 -- ---- numbers that are repeated
 
-mapped : (a : ℕ) (numbers : List ℕ) (n : ℕ) → Contains (map (λ x. x + a) numbers) n → (x : ℕ) × Contains numbers x × (n ≡ x + a)
-mapped a (x ∷ numbers) n (zero, within, is) = (x, (zero, omega arith, refl), sym is)
-mapped a (x ∷ numbers) n (suc k, within, is) =
-    let (y, (j, below, has), same) = mapped a numbers n (k, omega arith, is) in (y, (suc j, omega arith, has), same)
-mapped a [] n (k, within, is) = absurd (omega arith)
-
-pub to_mapped : (a : ℕ) (numbers : List ℕ) (x : ℕ) → Contains numbers x → Contains (map (λ y. y + a) numbers) (x + a)
-to_mapped a (y ∷ numbers) x (zero, within, is) = (zero, omega arith, ap (λ z. z + a) is)
-to_mapped a (y ∷ numbers) x (suc k, within, is) =
-    let (j, below, has) = to_mapped a numbers x (k, omega arith, is) in (suc j, omega arith, has)
-to_mapped a [] x (k, within, is) = absurd (omega arith)
-
 -- each is one of the numbers, by so many strides greater
 pub in_repeated : (count stride : ℕ) (numbers : List ℕ) (n : ℕ) → Contains (repeated count stride numbers) n
     → (k : ℕ) × (x : ℕ) × (k < count) × Contains numbers x × (n ≡ x + k * stride)
@@ -42,7 +31,7 @@ in_repeated (suc count) stride numbers n has =
     ⊎_elim (λ first. (0, n, omega arith, first, let same : n ≡ n + 0 * stride = omega arith in same))
     (λ later.
     let (k, y, less, there, is) = in_repeated count stride (map (λ x. x + stride) numbers) n later in
-    let (x, among, same) = mapped stride numbers y there in
+    let (x, among, same) = source_of (λ x. x + stride) numbers y there in
     let more : (k + 1) * stride ≡ k * stride + stride = omega arith in
     (k + 1, x, omega arith, among, omega arith))
     (Contains-append_cases numbers (repeated count stride (map (λ x. x + stride) numbers)) n has)
@@ -56,7 +45,7 @@ to_repeated (suc count) stride numbers zero x less among =
 to_repeated (suc count) stride numbers (suc k) x less among =
     let same : x + suc k * stride ≡ (x + stride) + k * stride = omega arith in
     rw same (Contains-append_right numbers (repeated count stride (map (λ y. y + stride) numbers)) ((x + stride) + k * stride)
-    (to_repeated count stride (map (λ y. y + stride) numbers) k (x + stride) (omega arith) (to_mapped stride numbers x among)))
+    (to_repeated count stride (map (λ y. y + stride) numbers) k (x + stride) (omega arith) (made_of (λ y. y + stride) numbers x among)))
 
 shifted_apart : (a long : ℕ) (numbers : List ℕ) → AllPairs (λ one later. one + long < later) numbers
     → AllPairs (λ one later. one + long < later) (map (λ x. x + a) numbers)
@@ -73,10 +62,10 @@ repeated_apart zero stride length first end numbers apart lie short = λ i j d b
 repeated_apart (suc count) stride length first end numbers apart lie short =
     pairs_of_both (λ one later. one + length < later) numbers (repeated count stride (map (λ x. x + stride) numbers)) apart
     (repeated_apart count stride length (first + stride) (end + stride) (map (λ x. x + stride) numbers) (shifted_apart stride length numbers apart)
-    (λ n has. let (x, among, is) = mapped stride numbers n has in let (from, to) = lie x among in (omega arith, omega arith)) (omega arith))
+    (λ n has. let (x, among, is) = source_of (λ x. x + stride) numbers n has in let (from, to) = lie x among in (omega arith, omega arith)) (omega arith))
     (λ one later was is_later.
     let (k, y, less, there, is) = in_repeated count stride (map (λ x. x + stride) numbers) later is_later in
-    let (x, among, same) = mapped stride numbers y there in
+    let (x, among, same) = source_of (λ x. x + stride) numbers y there in
     let (from, to) = lie x among in
     let (from_one, to_one) = lie one was in
     omega arith)
@@ -257,7 +246,7 @@ module _ (item edge start count : ℕ) (edges starts shape : List ℕ) (first lo
                 let at : byte ≡ b + i * row = rw was.row_is is in
                 let split = rows_after start (i - start) row in
                 let sum : (start + (i - start)) * row ≡ i * row = ap (λ n. n * row) (let same : start + (i - start) ≡ i = omega arith in same) in
-                let there : Contains numbers (x + start * row) = rw later (to_mapped (start * row) (begins first counts strides) x among) in (
+                let there : Contains numbers (x + start * row) = rw later (made_of (λ y. y + start * row) (begins first counts strides) x among) in (
                   x + start * row + (i - start) * row,
                   to_repeated count row numbers (i - start) (x + start * row) (omega arith) there,
                   omega arith,
@@ -265,7 +254,7 @@ module _ (item edge start count : ℕ) (edges starts shape : List ℕ) (first lo
                 ),
             λ (n, has, low, high).
                 let (k, y, before, there, is) = in_repeated count row numbers n has in
-                let (x, among, same) = mapped (start * row) (begins first counts strides) y (subst (λ xs. Contains xs y) later there) in
+                let (x, among, same) = source_of (λ x. x + start * row) (begins first counts strides) y (subst (λ xs. Contains xs y) later there) in
                 let split = rows_after start k row in
                 let inner = (was.are_ranges.those (byte - (start + k) * row)).1 (x, among, omega arith, omega arith) in
                 let at : byte ≡ (byte - (start + k) * row) + (start + k) * row = omega arith in
@@ -274,13 +263,13 @@ module _ (item edge start count : ℕ) (edges starts shape : List ℕ) (first lo
           );
           apart = repeated_apart count row long (first + start * row) (was.end + start * row) numbers
               (rw later (shifted_apart (start * row) long (begins first counts strides) was.are_ranges.apart))
-              (λ n has. let (x, among, is) = mapped (start * row) (begins first counts strides) n (subst (λ xs. Contains xs n) later has) in
+              (λ n has. let (x, among, is) = source_of (λ x. x + start * row) (begins first counts strides) n (subst (λ xs. Contains xs n) later has) in
               let (low, high) = was.lie x among in (omega arith, omega arith)) (omega arith);
         };
         end = end;
         lie = λ n has.
             let (k, y, before, there, is) = in_repeated count row numbers n has in
-            let (x, among, same) = mapped (start * row) (begins first counts strides) y (subst (λ xs. Contains xs y) later there) in
+            let (x, among, same) = source_of (λ x. x + start * row) (begins first counts strides) y (subst (λ xs. Contains xs y) later there) in
             let (low, high) = was.lie x among in
             let steps = mul-le-mul_right {m = k} {n = count - 1} row (omega arith) in
             (omega arith, omega arith);
@@ -295,16 +284,14 @@ module _ (item edge start count : ℕ) (edges starts shape : List ℕ) (first lo
 -- along each dimension the box has some of the chunk
 some_edges : (start shape edges : List ℕ) → EndWithin start shape edges → (¬ Contains shape 0) → ¬ Contains edges 0
 some_edges (s ∷ start) (n ∷ shape) (edge ∷ edges) within some (zero, small, is) =
-    let any : 0 < n = head_some n shape some in
+    let any = head_some n shape some in
     let to : s + n ≤ edge = within.0 in
     let none : edge ≡ 0 = is in
     absurd (omega arith)
 some_edges (s ∷ start) (n ∷ shape) (edge ∷ edges) within some (suc k, small, is) =
     some_edges start shape edges within.1 (tail_some n shape some) (k, omega arith, is)
-some_edges _ _ [] within some (k, small, is) = absurd (omega arith)
-some_edges [] [] (_ ∷ _) within some has = absurd within
-some_edges [] (_ ∷ _) (_ ∷ _) within some has = absurd within
-some_edges (_ ∷ _) [] (_ ∷ _) within some has = absurd within
+some_edges [] [] [] within some (k, small, is) = absurd (omega arith)
+some_edges _ _ _ within some has = absurd assumption
 
 -- a chunk has no fewer elements than a row of it
 inner_fewer : (edges : List ℕ) (d : ℕ) → (¬ Contains edges 0) → product (drop d edges) ≤ product edges
@@ -340,10 +327,7 @@ pub within_at : (start shape edges : List ℕ) (d : ℕ) → EndWithin start sha
 within_at (s ∷ start) (n ∷ shape) (edge ∷ edges) zero within below = within.0
 within_at (s ∷ start) (n ∷ shape) (edge ∷ edges) (suc d) within below = within_at start shape edges d within.1 (omega arith)
 within_at [] [] [] d within below = absurd (omega arith)
-within_at [] [] (_ ∷ _) d within below = absurd within
-within_at [] (_ ∷ _) edges d within below = absurd within
-within_at (_ ∷ _) [] edges d within below = absurd within
-within_at (_ ∷ _) (_ ∷ _) [] d within below = absurd within
+within_at _ _ _ d within below = absurd assumption
 
 -- an empty box has no bytes
 pub no_bytes : (item : ℕ) (order : MemoryOrder) (edges start shape : List ℕ) (length : ℕ) (numbers : List ℕ) → Contains shape 0 → numbers ≡ []
@@ -363,6 +347,5 @@ no_bytes item order edges start shape long numbers empty none = record {
     nothing_within (s ∷ start) (n ∷ shape) (i ∷ index) (zero, small, is) (from, below, rest) = let none : n ≡ 0 = is in absurd (omega arith)
     nothing_within (s ∷ start) (n ∷ shape) (i ∷ index) (suc k, small, is) (from, below, rest) =
         nothing_within start shape index (k, omega arith, is) rest
-    nothing_within _ [] index (k, small, is) within = absurd (omega arith)
-    nothing_within [] (_ ∷ _) index empty within = within
-    nothing_within (_ ∷ _) (_ ∷ _) [] empty within = within
+    nothing_within [] [] [] (k, small, is) within = absurd (omega arith)
+    nothing_within _ _ _ empty within = absurd assumption

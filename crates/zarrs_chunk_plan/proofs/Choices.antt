@@ -1,9 +1,9 @@
 -- A choice of one edge from each of some rows that takes the fewest reads.
-use Rattle.std.proofs.Common.{◌≡◌, ◌∙◌, ℕ, zero, suc, ◌+◌, ◌*◌, ◌/◌, ◌<◌, ◌≤◌, List, [], ◌∷◌, ◌++◌, Contains, IfSome, MatchOption, Option, Some, None}
+use Rattle.std.proofs.Common.{◌≡◌, ◌∙◌, ℕ, zero, suc, ◌+◌, ◌*◌, ◌/◌, ◌<◌, ◌≤◌, ◌⊎◌, List, [], ◌∷◌, ◌++◌, Contains, inl, inr, IfSome, MatchOption, Option, Some, None}
 use Rattle.std.proofs.Common.{ap, arith, le-div_iff_mul-le, length, map, min, mul_assoc, mul_comm, refl, slice_index_or, subst, sym, take, ⊎_elim}
-use Rattle.std.specs.List.{AllByRecursion}
+use Rattle.std.proofs.ByRecursion.{All-get_or}
 use Rattle.std.proofs.lemmas.Bool.{cases_lt, le-ltb, lt-ltb}
-use Rattle.std.proofs.lemmas.List.{length-map, reverse-append}
+use Rattle.std.proofs.lemmas.List.{get_or-map, length-map, map-append, reverse-append}
 use Rattle.std.proofs.lemmas.List.Elements.{Contains-append_cases, Contains-append_left, Contains-append_right}
 use Rattle.std.specs.Int.NonZero.{non_zero_u64_get}
 use Rattle.std.specs.declared.num.NonZeroU64.{NonZeroU64}
@@ -51,16 +51,6 @@ with_fits room e choice some fits = let swap = mul_comm (edge_of e) (held choice
 
 -- ---- rows
 
-edge_at : (row : List Edge) (k : ℕ) (e : Edge) → k < length row → e ≡ slice_index_or row k e → slice_index_or (map edge_of row) k 0 ≡ edge_of e
-edge_at [] k e within is = absurd (omega arith)
-edge_at (r ∷ row) zero e within is = ap edge_of (sym is)
-edge_at (r ∷ row) (suc k) e within is = edge_at row k e (omega arith) is
-
-less_at : (n : ℕ) (numbers : List ℕ) (k : ℕ) → AllByRecursion (λ m. n < m) numbers → k < length numbers → n < slice_index_or numbers k 0
-less_at n [] k all within = absurd (omega arith)
-less_at n (m ∷ numbers) zero all within = all.0
-less_at n (m ∷ numbers) (suc k) all within = less_at n numbers k all.1 (omega arith)
-
 -- in a row that ascends each edge of those so far is less than the next
 pub below_next : (row : List Edge) (k : ℕ) (e : Edge) → Ascend (map edge_of row) → k < length row → e ≡ slice_index_or row k e
     → (x : Edge) → Contains (take k row) x → edge_of x < edge_of e
@@ -68,8 +58,8 @@ below_next row zero e up within is x (j, less, same) = absurd (omega arith)
 below_next [] (suc k) e up within is x among = absurd (omega arith)
 below_next (r ∷ row) (suc k) e up within is x (zero, less, same) =
     let long = length-map row edge_of in
-    let at = less_at (edge_of r) (map edge_of row) k up.0 (omega (arith, long)) in
-    let there : slice_index_or (map edge_of row) k 0 ≡ edge_of e = edge_at row k e (omega arith) is in
+    let at = All-get_or (λ m. edge_of r < m) (map edge_of row) k 0 (omega (arith, long)) up.0 in
+    let there = get_or-map edge_of row k e 0 (omega arith) ∙ ap edge_of (sym is) in
     let here : edge_of r ≡ edge_of x = ap edge_of same in
     omega (arith, at, there, here)
 below_next (r ∷ row) (suc k) e up within is x (suc j, less, same) = below_next row k e up.1 (omega arith) is x (j, omega arith, same)
@@ -87,19 +77,7 @@ pub is_with : (e : Edge) (found with : Option Chosen) → (found ≡ None → wi
 is_with e None with of_none of_some = with_none refl (of_none refl)
 is_with e (Some before) None of_none of_some = absurd of_some
 is_with e (Some before) (Some after) of_none (edges, reads) =
-    with_some before after refl refl (ap (map non_zero_u64_get) edges ∙ pushed before.edges.items) reads where
-      pushed : (xs : List NonZeroU64) → map non_zero_u64_get (xs ++ e.edge ∷ []) ≡ map non_zero_u64_get xs ++ edge_of e ∷ []
-      pushed [] = refl
-      pushed (x ∷ xs) = ap (λ ns. non_zero_u64_get x ∷ ns) (pushed xs)
-
--- a choice from some edges of a row is one from more of them
-on_left : (rows : List (List Edge)) (xs ys choice : List Edge) → IsChoice (xs ∷ rows) choice → IsChoice ((xs ++ ys) ∷ rows) choice
-on_left rows xs ys [] chosen = absurd chosen
-on_left rows xs ys (c ∷ choice) (in_row, chosen) = (Contains-append_left xs ys c in_row, chosen)
-
-on_right : (rows : List (List Edge)) (xs ys choice : List Edge) → IsChoice (ys ∷ rows) choice → IsChoice ((xs ++ ys) ∷ rows) choice
-on_right rows xs ys [] chosen = absurd chosen
-on_right rows xs ys (c ∷ choice) (in_row, chosen) = (Contains-append_right xs ys c in_row, chosen)
+    with_some before after refl refl (ap (map non_zero_u64_get) edges ∙ map-append non_zero_u64_get before.edges.items (e.edge ∷ [])) reads
 
 pub only : (e c : Edge) → Contains (e ∷ []) c → c ≡ e
 only e c (zero, within, is) = sym is
@@ -167,6 +145,37 @@ module _ (rows : List (List Edge)) (room first second : ℕ) where
           let same = ap (λ x. reads_of first second (x ∷ choice)) is in
           omega (arith, reads, same, with, at_most)
 
+  -- what is fewest in some edges of a row is so in the whole row, where no choice of another edge takes fewer, or as few and comes before it
+  of_more : (part row : List Edge) (edges : List ℕ) (reads : ℕ) (found : IsFewest (part ∷ rows) room first second edges reads)
+      → ((c : Edge) → Contains part c → Contains row c)
+      → ((c : Edge) (choice : List Edge) → Contains row c → IsChoice rows choice → held (c ∷ choice) ≤ room
+      → Contains part c ⊎ ((reads ≤ reads_of first second (c ∷ choice))
+      × (reads_of first second (c ∷ choice) ≡ reads → ¬ IsBefore (map edge_of (c ∷ choice)) (map edge_of found.choice))))
+      → IsFewest (row ∷ rows) room first second edges reads
+  of_more part row edges reads found among others = record {
+    choice = found.choice;
+    is_choice = more found.choice found.is_choice;
+    are_edges = found.are_edges;
+    fits = found.fits;
+    are_reads = found.are_reads;
+    least = least;
+    earliest = earliest;
+  } where
+    more : (choice : List Edge) → IsChoice (part ∷ rows) choice → IsChoice (row ∷ rows) choice
+    more [] chosen = absurd chosen
+    more (c ∷ choice) (in_part, chosen) = (among c in_part, chosen)
+
+    least : (choice : List Edge) → IsChoice (row ∷ rows) choice → held choice ≤ room → reads ≤ reads_of first second choice
+    least [] chosen fits = absurd chosen
+    least (c ∷ choice) (in_row, chosen) fits =
+        ⊎_elim (λ here. found.least (c ∷ choice) (here, chosen) fits) (λ there. there.0) (others c choice in_row chosen fits)
+
+    earliest : (choice : List Edge) → IsChoice (row ∷ rows) choice → held choice ≤ room → reads_of first second choice ≡ reads
+        → ¬ IsBefore (map edge_of choice) (map edge_of found.choice)
+    earliest [] chosen fits as_few = absurd chosen
+    earliest (c ∷ choice) (in_row, chosen) fits as_few =
+        ⊎_elim (λ here. found.earliest (c ∷ choice) (here, chosen) fits as_few) (λ there. there.1 as_few) (others c choice in_row chosen fits)
+
   -- of a row and more of it
   pub of_both : (xs ys : List Edge) (best other : Option Chosen)
       → ((x y : Edge) → Contains xs x → Contains ys y → edge_of x < edge_of y) → FindsFewest (xs ∷ rows) room first second best
@@ -176,90 +185,27 @@ module _ (rows : List (List Edge)) (room first second : ℕ) where
     none [] chosen = absurd chosen
     none (c ∷ choice) (in_row, chosen) =
         ⊎_elim (λ here. finds (c ∷ choice) (here, chosen)) (λ there. also (c ∷ choice) (there, chosen)) (Contains-append_cases xs ys c in_row)
-  of_both xs ys (Some best) None up finds also = record {
-    choice = finds.choice;
-    is_choice = on_left rows xs ys finds.choice finds.is_choice;
-    are_edges = finds.are_edges;
-    fits = finds.fits;
-    are_reads = finds.are_reads;
-    least = least;
-    earliest = earliest;
-  } where
-    earliest : (choice : List Edge) → IsChoice ((xs ++ ys) ∷ rows) choice → held choice ≤ room → reads_of first second choice ≡ best.reads
-        → ¬ IsBefore (map edge_of choice) (map edge_of finds.choice)
-    earliest [] chosen fits as_few = absurd chosen
-    earliest (c ∷ choice) (in_row, chosen) fits as_few =
-        ⊎_elim (λ here. finds.earliest (c ∷ choice) (here, chosen) fits as_few)
-        (λ there. let more = also (c ∷ choice) (there, chosen) in absurd (omega arith)) (Contains-append_cases xs ys c in_row)
-
-    least : (choice : List Edge) → IsChoice ((xs ++ ys) ∷ rows) choice → held choice ≤ room → best.reads ≤ reads_of first second choice
-    least [] chosen fits = absurd chosen
-    least (c ∷ choice) (in_row, chosen) fits =
-        ⊎_elim (λ here. finds.least (c ∷ choice) (here, chosen) fits)
-        (λ there. let more = also (c ∷ choice) (there, chosen) in absurd (omega arith)) (Contains-append_cases xs ys c in_row)
-  of_both xs ys None (Some other) up finds also = record {
-    choice = also.choice;
-    is_choice = on_right rows xs ys also.choice also.is_choice;
-    are_edges = also.are_edges;
-    fits = also.fits;
-    are_reads = also.are_reads;
-    least = least;
-    earliest = earliest;
-  } where
-    earliest : (choice : List Edge) → IsChoice ((xs ++ ys) ∷ rows) choice → held choice ≤ room → reads_of first second choice ≡ other.reads
-        → ¬ IsBefore (map edge_of choice) (map edge_of also.choice)
-    earliest [] chosen fits as_few = absurd chosen
-    earliest (c ∷ choice) (in_row, chosen) fits as_few =
-        ⊎_elim (λ here. let more = finds (c ∷ choice) (here, chosen) in absurd (omega arith))
-        (λ there. also.earliest (c ∷ choice) (there, chosen) fits as_few) (Contains-append_cases xs ys c in_row)
-
-    least : (choice : List Edge) → IsChoice ((xs ++ ys) ∷ rows) choice → held choice ≤ room → other.reads ≤ reads_of first second choice
-    least [] chosen fits = absurd chosen
-    least (c ∷ choice) (in_row, chosen) fits =
-        ⊎_elim (λ here. let more = finds (c ∷ choice) (here, chosen) in absurd (omega arith))
-        (λ there. also.least (c ∷ choice) (there, chosen) fits) (Contains-append_cases xs ys c in_row)
+  of_both xs ys (Some best) None up finds also =
+      of_more xs (xs ++ ys) _ best.reads finds (λ c. Contains-append_left xs ys c)
+      (λ c choice in_row chosen fits. ⊎_elim inl (λ there. let more = also (c ∷ choice) (there, chosen) in absurd (omega arith))
+      (Contains-append_cases xs ys c in_row))
+  of_both xs ys None (Some other) up finds also =
+      of_more ys (xs ++ ys) _ other.reads also (λ c. Contains-append_right xs ys c)
+      (λ c choice in_row chosen fits. ⊎_elim (λ here. let more = finds (c ∷ choice) (here, chosen) in absurd (omega arith)) inl
+      (Contains-append_cases xs ys c in_row))
   of_both xs ys (Some best) (Some other) up finds also =
       ⊎_elim
-      (λ (less : other.reads < best.reads). rw (lt-ltb other.reads best.reads less) (record {
-        choice = also.choice;
-        is_choice = on_right rows xs ys also.choice also.is_choice;
-        are_edges = also.are_edges;
-        fits = also.fits;
-        are_reads = also.are_reads;
-        least = λ choice chosen fits. least_other less choice chosen fits;
-        earliest = λ choice chosen fits. earliest_other less choice chosen fits;
-      }))
-      (λ (le : best.reads ≤ other.reads). rw (le-ltb other.reads best.reads le) (record {
-        choice = finds.choice;
-        is_choice = on_left rows xs ys finds.choice finds.is_choice;
-        are_edges = finds.are_edges;
-        fits = finds.fits;
-        are_reads = finds.are_reads;
-        least = λ choice chosen fits. least_best le choice chosen fits;
-        earliest = λ choice chosen fits. earliest_best le choice chosen fits;
-      }))
+      (λ (less : other.reads < best.reads). rw (lt-ltb other.reads best.reads less)
+      (of_more ys (xs ++ ys) _ other.reads also (λ c. Contains-append_right xs ys c)
+      (λ c choice in_row chosen fits. ⊎_elim
+      (λ here. let at_most = finds.least (c ∷ choice) (here, chosen) fits in inr (omega arith, λ as_few. absurd (omega (arith, as_few)))) inl
+      (Contains-append_cases xs ys c in_row))))
+      (λ (le : best.reads ≤ other.reads). rw (le-ltb other.reads best.reads le)
+      (of_more xs (xs ++ ys) _ best.reads finds (λ c. Contains-append_left xs ys c)
+      (λ c choice in_row chosen fits. ⊎_elim inl
+      (λ there. let at_most = also.least (c ∷ choice) (there, chosen) fits in
+      inr (omega arith, λ _. not_before finds.choice finds.is_choice c choice there)) (Contains-append_cases xs ys c in_row))))
       (cases_lt other.reads best.reads) where
-        least_other : other.reads < best.reads → (choice : List Edge) → IsChoice ((xs ++ ys) ∷ rows) choice → held choice ≤ room
-            → other.reads ≤ reads_of first second choice
-        least_other less [] chosen fits = absurd chosen
-        least_other less (c ∷ choice) (in_row, chosen) fits =
-            ⊎_elim (λ here. let at_most = finds.least (c ∷ choice) (here, chosen) fits in omega arith)
-            (λ there. also.least (c ∷ choice) (there, chosen) fits) (Contains-append_cases xs ys c in_row)
-
-        least_best : best.reads ≤ other.reads → (choice : List Edge) → IsChoice ((xs ++ ys) ∷ rows) choice → held choice ≤ room
-            → best.reads ≤ reads_of first second choice
-        least_best le [] chosen fits = absurd chosen
-        least_best le (c ∷ choice) (in_row, chosen) fits =
-            ⊎_elim (λ here. finds.least (c ∷ choice) (here, chosen) fits)
-            (λ there. let at_most = also.least (c ∷ choice) (there, chosen) fits in omega arith) (Contains-append_cases xs ys c in_row)
-
-        earliest_other : other.reads < best.reads → (choice : List Edge) → IsChoice ((xs ++ ys) ∷ rows) choice → held choice ≤ room
-            → reads_of first second choice ≡ other.reads → ¬ IsBefore (map edge_of choice) (map edge_of also.choice)
-        earliest_other less [] chosen fits as_few = absurd chosen
-        earliest_other less (c ∷ choice) (in_row, chosen) fits as_few =
-            ⊎_elim (λ here. let at_most = finds.least (c ∷ choice) (here, chosen) fits in absurd (omega (arith, as_few)))
-            (λ there. also.earliest (c ∷ choice) (there, chosen) fits as_few) (Contains-append_cases xs ys c in_row)
-
         -- what begins with an edge of the second row comes behind what begins with one of the first
         not_before : (found : List Edge) → IsChoice (xs ∷ rows) found → (c : Edge) (choice : List Edge) → Contains ys c
             → ¬ IsBefore (map edge_of (c ∷ choice)) (map edge_of found)
@@ -267,10 +213,3 @@ module _ (rows : List (List Edge)) (room first second : ℕ) where
         not_before (x ∷ found) is c choice there before =
             let less = up x c is.0 there in
             ⊎_elim (λ (earlier : edge_of c < edge_of x). absurd (omega arith)) (λ both. let same = both.0 in absurd (omega (arith, same))) before
-
-        earliest_best : best.reads ≤ other.reads → (choice : List Edge) → IsChoice ((xs ++ ys) ∷ rows) choice → held choice ≤ room
-            → reads_of first second choice ≡ best.reads → ¬ IsBefore (map edge_of choice) (map edge_of finds.choice)
-        earliest_best le [] chosen fits as_few = absurd chosen
-        earliest_best le (c ∷ choice) (in_row, chosen) fits as_few =
-            ⊎_elim (λ here. finds.earliest (c ∷ choice) (here, chosen) fits as_few)
-            (λ there. not_before finds.choice finds.is_choice c choice there) (Contains-append_cases xs ys c in_row)

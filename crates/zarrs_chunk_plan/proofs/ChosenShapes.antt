@@ -12,6 +12,7 @@ use Rattle.zarrs_chunk_base.specs.Greatest.{greatest}
 use Rattle.zarrs_chunk_axes.specs.RowMajor.{IsBefore}
 use Rattle.zarrs_chunk_base.proofs.InEach.{length_values}
 use Rattle.zarrs_chunks.specs.Walks.{chunks_in, counted_from}
+use Rattle.zarrs_chunks.proofs.ChunksInBoxes.{made_of, source_of}
 use Rattle.zarrs_chunk_plan.specs.Counts.{product}
 use Rattle.zarrs_chunk_parts.specs.Plan.{Meets}
 use Rattle.zarrs_chunk_plan.specs.Rechunking.{AreCopiesInto, Group, IsRechunking, all_chunks_box, array_box, copies_of}
@@ -92,28 +93,16 @@ none_read source target shape reads one_array empty stages =
 
 -- ---- choices and shapes
 
-contains_map : {X : Type 0} (f : X → ℕ) (xs : List X) (x : X) → Contains xs x → Contains (map f xs) (f x)
-contains_map f [] x (k, within, is) = absurd (omega arith)
-contains_map f (y ∷ xs) x (zero, within, is) = (0, omega arith, ap f is)
-contains_map f (y ∷ xs) x (suc k, within, is) =
-    let (j, less, same) = contains_map f xs x (k, omega arith, is) in (suc j, omega arith, same)
-
-contained : {X : Type 0} (f : X → ℕ) (xs : List X) (n : ℕ) → Contains (map f xs) n → (x : X) × Contains xs x × (f x ≡ n)
-contained f [] n (k, within, is) = absurd (omega arith)
-contained f (y ∷ xs) n (zero, within, is) = (y, (0, omega arith, refl), is)
-contained f (y ∷ xs) n (suc k, within, is) =
-    let (x, (j, less, same), also) = contained f xs n (k, omega arith, is) in (x, (suc j, omega arith, same), also)
-
 shape_of : (rows : List (List Edge)) (choice : List Edge) → IsChoice rows choice → IsTried (map (map edge_of) rows) (map edge_of choice)
 shape_of [] [] is = tt
-shape_of (row ∷ rows) (e ∷ choice) is = (contains_map edge_of row e is.0, shape_of rows choice is.1)
+shape_of (row ∷ rows) (e ∷ choice) is = (made_of edge_of row e is.0, shape_of rows choice is.1)
 shape_of _ _ is = absurd is
 
 choice_of : (rows : List (List Edge)) (shape : List ℕ) → IsTried (map (map edge_of) rows) shape
     → (choice : List Edge) × IsChoice rows choice × (map edge_of choice ≡ shape)
 choice_of [] [] is = ([], tt, refl)
 choice_of (row ∷ rows) (n ∷ shape) is =
-    let (e, in_row, same) = contained edge_of row n is.0 in
+    let (e, in_row, same) = source_of edge_of row n is.0 in
     let (choice, chosen, also) = choice_of rows shape is.1 in
     (e ∷ choice, (in_row, chosen), ap₂ (λ x xs. x ∷ xs) same also)
 choice_of _ _ is = absurd is

@@ -97,28 +97,21 @@ AllTakeSome [] [] [] [] = Unit {0}
 AllTakeSome (d ∷ ds) (a ∷ at) (n ∷ shape) (c ∷ chunk) = TakesSome d a n c × AllTakeSome ds at shape chunk
 AllTakeSome _ _ _ _ = ⊥
 
-take_some : (ds : List Dimension) (at shape chunk index : List ℕ) → InBox ds chunk index → AreWithin at shape index → AllTakeSome ds at shape chunk
+take_some : (ds : List Dimension) (chunk index at shape : List ℕ) → InBox ds chunk index → AreWithin at shape index → AllTakeSome ds at shape chunk
 take_some [] [] [] [] [] box within = tt
-take_some (d ∷ ds) (a ∷ at) (n ∷ shape) (c ∷ chunk) (i ∷ index) box within =
+take_some (d ∷ ds) (c ∷ chunk) (i ∷ index) (a ∷ at) (n ∷ shape) box within =
     let here = box.0 in
     let from : d.start c ≤ i = here.from in
     let end : i < d.end c = here.below in
     let after : a ≤ i = within.0 in
     let before : i < a + n = within.1 in
-    ((here.chunk, omega arith), take_some ds at shape chunk index box.1 within.2)
-take_some [] _ _ (_ ∷ _) _ box within = absurd box
-take_some [] _ _ [] (_ ∷ _) box within = absurd box
-take_some [] [] (_ ∷ _) [] [] box within = absurd within
-take_some [] (_ ∷ _) [] [] [] box within = absurd within
-take_some [] (_ ∷ _) (_ ∷ _) [] [] box within = absurd within
-take_some (_ ∷ _) _ _ [] _ box within = absurd box
-take_some (_ ∷ _) _ _ (_ ∷ _) [] box within = absurd box
-take_some (_ ∷ _) [] [] (_ ∷ _) (_ ∷ _) box within = absurd within
-take_some (_ ∷ _) [] (_ ∷ _) (_ ∷ _) (_ ∷ _) box within = absurd within
-take_some (_ ∷ _) (_ ∷ _) [] (_ ∷ _) (_ ∷ _) box within = absurd within
+    ((here.chunk, omega arith), take_some ds chunk index at shape box.1 within.2)
+take_some [] [] [] (_ ∷ _) [] box within = absurd within
+take_some (_ ∷ _) (_ ∷ _) (_ ∷ _) [] [] box within = absurd within
+take_some _ _ _ _ _ box within = absurd assumption
 
 pub meets_take : (ds : List Dimension) (b : Box) (chunk : List ℕ) → Meets ds b chunk → AllTakeSome ds b.start b.shape chunk
-meets_take ds b chunk (index, box, inside) = take_some ds b.start b.shape chunk index box inside
+meets_take ds b chunk (index, box, inside) = take_some ds chunk index b.start b.shape box inside
 
 -- what the chunk shares with the box is a box
 common : (ds : List Dimension) (at shape chunk : List ℕ) → AllTakeSome ds at shape chunk → (index : List ℕ)
@@ -162,21 +155,15 @@ cover_sizes (d ∷ ds) (c ∷ first) (k ∷ sizes) (a ∷ start) (n ∷ shape) c
 cover_sizes _ _ _ _ _ chains some e f low high = absurd (first_of (assumption, omega arith))
 
 -- and those are as many as are computed, where the box is what a chunk holds of another one, counted from elsewhere
-pub shares_met : (source target : List Dimension) (first at shape chunk steps : List ℕ) → AllTakeSome target at shape chunk
+pub shares_met : (target : List Dimension) (at shape chunk : List ℕ) (source : List Dimension) (first steps : List ℕ) → AllTakeSome target at shape chunk
     → length source ≡ length target → length first ≡ length target → counted_from at steps ≡ taken_starts target at chunk
     → met_along_each source (counted_from first steps) (taken_sizes target at shape chunk)
     ≡ met_by (counters_from source target first at shape) chunk
-shares_met [] [] first at shape chunk steps some e f same = refl
-shares_met (s ∷ source) (t ∷ target) (x ∷ first) (a ∷ at) (n ∷ shape) (c ∷ chunk) (k ∷ steps) some e f same =
+shares_met [] [] [] [] [] first steps some e f same = refl
+shares_met (t ∷ target) (a ∷ at) (n ∷ shape) (c ∷ chunk) (s ∷ source) (x ∷ first) (k ∷ steps) some e f same =
     let here : a + k ≡ taken_from t a c = cc in
     let others : counted_from at steps ≡ taken_starts target at chunk = cc in
     let from : k ≡ taken_from t a c - a = omega arith in
     ap₂ (λ m ms. m ∷ ms) (ap (λ steps. met s (x + steps) (taken t a n c)) from)
-    (shares_met source target first at shape chunk steps some.1 (omega arith) (omega arith) others)
-shares_met (_ ∷ _) (_ ∷ _) (_ ∷ _) (_ ∷ _) (_ ∷ _) (_ ∷ _) [] some e f same = absurd cc
-shares_met [] (_ ∷ _) first at shape chunk steps some e f same = absurd (omega arith)
-shares_met (_ ∷ _) [] first at shape chunk steps some e f same = absurd (omega arith)
-shares_met (_ ∷ _) (_ ∷ _) [] at shape chunk steps some e f same = absurd (omega arith)
-shares_met (_ ∷ _) (_ ∷ _) (_ ∷ _) [] shape chunk steps some e f same = absurd some
-shares_met (_ ∷ _) (_ ∷ _) (_ ∷ _) (_ ∷ _) [] chunk steps some e f same = absurd some
-shares_met (_ ∷ _) (_ ∷ _) (_ ∷ _) (_ ∷ _) (_ ∷ _) [] steps some e f same = absurd some
+    (shares_met target at shape chunk source first steps some.1 (omega arith) (omega arith) others)
+shares_met _ _ _ _ _ _ _ some e f same = absurd (first_of (assumption, omega arith, cc))

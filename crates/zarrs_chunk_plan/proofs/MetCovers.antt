@@ -106,7 +106,7 @@ module _ (source target : List Dimension) (region moved targets : Box) (chains :
       cover_sizes source cover.start cover.shape (counted_from region.start in_subset.start) in_subset.shape chains is.some
       (sym is.is_box.lengths) (omega (arith, as_many_dimensions)) is.first is.last
       ∙ ap (met_along_each source (counted_from region.start in_subset.start)) (sizes_are target moved chunk meets in_chunk in_subset boxes)
-      ∙ shares_met source target region.start moved.start moved.shape chunk in_subset.start (meets_take target moved chunk meets)
+      ∙ shares_met target moved.start moved.shape chunk source region.start in_subset.start (meets_take target moved chunk meets)
       as_many_dimensions as_many_starts (starts_are target moved chunk meets in_chunk in_subset boxes)
 
   module _ (some : ¬ IsEmptyBox targets) where

@@ -4,19 +4,15 @@ use Rattle.std.proofs.Common.{ap, ap₂, append-nil, append_assoc, arith, refl, 
 use Rattle.std.proofs.Math.Nat.{add-mul, mul-le-mul_right, mul_assoc, mul_comm}
 use Rattle.std.proofs.Math.Seq.{drop-cons}
 use Rattle.std.proofs.lemmas.List.{length-map}
-use Rattle.std.proofs.lemmas.List.Elements.{Contains-append_left, Contains-append_right}
+use Rattle.std.proofs.lemmas.List.Elements.{Contains-append_left, Contains-append_right, Contains-get_or}
 use Rattle.zarrs_chunk_base.specs.Greatest.{greatest}
+use Rattle.zarrs_chunks.proofs.ChunksInBoxes.{made_of}
 use Rattle.zarrs_chunks.proofs.Covers.{head_some, tail_some}
 use Rattle.zarrs_chunk_plan.specs.Bytes.{HasPast, begins, repeated}
 use Rattle.zarrs_chunk_plan.specs.Counts.{product}
-use Rattle.zarrs_chunk_plan.proofs.ByteRows.{to_mapped, to_repeated}
+use Rattle.zarrs_chunk_plan.proofs.ByteRows.{to_repeated}
 
 -- ---- one dimension
-
-pub has_at : (numbers : List ℕ) (i : ℕ) → i < length numbers → Contains numbers (get_or numbers i 0)
-has_at [] i within = absurd (omega arith)
-has_at (n ∷ numbers) zero within = (zero, omega arith, refl)
-has_at (n ∷ numbers) (suc i) within = let (k, small, is) = has_at numbers i (omega arith) in (suc k, omega arith, is)
 
 module _ (stride : ℕ) where
   abbrev Later : List ℕ → List ℕ
@@ -31,7 +27,7 @@ module _ (stride : ℕ) where
       ∙ ap (λ ns. sums ++ Later ns) (sym (drop-cons numbers i 0 within)) ∙ kept
 
   pub past_sum : (numbers : List ℕ) (i : ℕ) → i < length numbers → greatest < get_or numbers i 0 + stride → HasPast (Later numbers)
-  past_sum numbers i within past = (get_or numbers i 0 + stride, to_mapped stride numbers (get_or numbers i 0) (has_at numbers i within), past)
+  past_sum numbers i within past = (get_or numbers i 0 + stride, made_of (λ n. n + stride) numbers (get_or numbers i 0) (Contains-get_or numbers i 0 within), past)
 
   pub repeated_length : (count : ℕ) (numbers : List ℕ) → length (repeated count stride numbers) ≡ count * length numbers
   repeated_length zero numbers = let none : 0 ≡ 0 * length numbers = omega arith in none
@@ -98,14 +94,13 @@ module _ (first : ℕ) where
       → Contains (Inner d counts strides) n → Contains (begins first counts strides) n
   inner_among counts strides zero n some same has = has
   inner_among [] [] (suc d) n some same has = has
-  inner_among [] (stride ∷ strides) (suc d) n some same has = absurd (omega arith)
-  inner_among (count ∷ counts) [] (suc d) n some same has = absurd (omega arith)
   inner_among (count ∷ counts) (stride ∷ strides) (suc d) n some same has =
       let any = head_some count counts some in
       let inner = inner_among counts strides d n (tail_some count counts some) (omega arith) has in
       let here = to_repeated count stride (begins first counts strides) 0 n any inner in
       let is : n + 0 * stride ≡ n = omega arith in
       subst (λ m. Contains (repeated count stride (begins first counts strides)) m) is here
+  inner_among _ _ (suc d) n some same has = absurd (omega arith)
 
   -- along one more dimension
   pub one_more_dimension : (counts strides : List ℕ) (d : ℕ) → length counts ≡ length strides → d < length counts
@@ -117,10 +112,9 @@ module _ (first : ℕ) where
 
 pub begins_length : (first : ℕ) (counts strides : List ℕ) → length counts ≡ length strides → length (begins first counts strides) ≡ product counts
 begins_length first [] [] same = refl
-begins_length first [] (_ ∷ _) same = absurd (omega arith)
-begins_length first (_ ∷ _) [] same = absurd (omega arith)
 begins_length first (count ∷ counts) (stride ∷ strides) same =
     repeated_length stride count (begins first counts strides) ∙ ap (λ n. count * n) (begins_length first counts strides (omega arith))
+begins_length first _ _ same = absurd (omega arith)
 
 some_product : (counts : List ℕ) → (¬ Contains counts 0) → 1 ≤ product counts
 some_product [] some = omega arith

@@ -2,12 +2,14 @@
 use Rattle.std.proofs.Common.{◌≡◌, ◌↔◌, ◌∙◌, ℕ, zero, suc, ◌+◌, ◌-◌, ◌<◌, List, [], ◌∷◌, ◌++◌, Contains, length, map, replicate, slice_index_or}
 use Rattle.std.proofs.Common.{Global, Vec, ap, ap₂, arith, refl, subst, sym}
 use Rattle.std.proofs.lemmas.List.{ext_get_or, get_or-replicate, length-map, length-replicate}
+use Rattle.std.proofs.lemmas.List.Elements.{All-contains, All-from_recursion, All-replicate, recursion_from_All}
 use Rattle.std.specs.List.{AllByRecursion, range_with_len, sum}
 use Rattle.zarrs_chunk_base.specs.ArraySubset.{Box, IsBox, IsEmptyBox, IsInside}
 use Rattle.zarrs_chunk_base.specs.Dimension.{Dimension, IsChain, array_sizes, grid_sizes}
 use Rattle.zarrs_chunk_axes.specs.EqualEdges.{AreEqualEdges, IsEqualEdges}
 use Rattle.zarrs_chunk_plan.specs.Counts.{product}
 use Rattle.zarrs_chunk_parts.specs.Plan.{Meets}
+use Rattle.zarrs_chunk_plan.specs.Region.{IsCopy}
 use Rattle.zarrs_chunk_plan.specs.Rechunking.{Group, IsRechunking, all_chunks_box, array_box, copies_of}
 use Rattle.zarrs_chunk_plan.specs.Stages.{AnyKey, AreStages}
 use Rattle.zarrs_chunk_plan.specs.declared.fewest.Edge.{Edge}
@@ -22,15 +24,6 @@ use Rattle.zarrs_chunk_plan.proofs.SameBoxes.{same_box_of}
 use Rattle.zarrs_chunk_plan.proofs.Written.{tables_long}
 
 -- ---- lists
-
-pub and_one : {X : Type 0} (P : X → Type 0) (xs : List X) (x : X) → AllByRecursion P xs → P x → AllByRecursion P (xs ++ x ∷ [])
-and_one P [] x all last = (last, tt)
-and_one P (y ∷ xs) x all last = (all.0, and_one P xs x all.1 last)
-
-pub each_at : (P : ℕ → Type 0) (xs : List ℕ) (k : ℕ) → AllByRecursion P xs → k < length xs → P (slice_index_or xs k 0)
-each_at P [] k all within = absurd (omega arith)
-each_at P (x ∷ xs) zero all within = all.0
-each_at P (x ∷ xs) (suc k) all within = each_at P xs k all.1 (omega arith)
 
 pub each_row_at : (P : List ℕ → Type 0) (rows : List (Vec ℕ Global)) (k : ℕ) (row : Vec ℕ Global) → AllByRecursion P (numbers_of rows) → k < length rows
     → row ≡ slice_index_or rows k row → P row.items
@@ -69,56 +62,41 @@ map_same f g (x ∷ xs) same = ap₂ (λ y ys. y ∷ ys) (same x) (map_same f g 
 -- ---- one dimension of lists
 
 -- into arrays that have one edge along a dimension
-into_alike : (ss ds es : List Dimension) (sizes edges others : List ℕ) (k : ℕ) → length ss ≡ length sizes → AreEqualEdges ds sizes edges
-    → AreEqualEdges es sizes others → slice_index_or edges k 0 ≡ slice_index_or others k 0
+into_alike : (ds : List Dimension) (sizes edges : List ℕ) (es : List Dimension) (others : List ℕ) (ss : List Dimension) (k : ℕ)
+    → AreEqualEdges ds sizes edges → AreEqualEdges es sizes others → length ss ≡ length sizes → slice_index_or edges k 0 ≡ slice_index_or others k 0
     → slice_index_or (met_in (counters_from ss ds (replicate (length ds) 0) (replicate (length ds) 0) (array_sizes ds)) (replicate (length ds) 0)
     (grid_sizes ds)) k []
     ≡ slice_index_or (met_in (counters_from ss es (replicate (length es) 0) (replicate (length es) 0) (array_sizes es)) (replicate (length es) 0)
     (grid_sizes es)) k []
-into_alike [] [] [] [] [] [] k long are also same = refl
-into_alike (s ∷ ss) (d ∷ ds) (e ∷ es) (n ∷ sizes) (a ∷ edges) (b ∷ others) zero long are also same =
+into_alike [] [] [] [] [] [] k are also long same = refl
+into_alike (d ∷ ds) (n ∷ sizes) (a ∷ edges) (e ∷ es) (b ∷ others) (s ∷ ss) zero are also long same =
     let here = are.0 in
     let there = subst (IsEqualEdges e n) (sym same) also.0 in
     rw (here.array_size, there.array_size, same_grid d e n a here there)
-    (map_same (met_along s d 0 0 n) (met_along s e 0 0 n) (range_with_len 0 e.grid_size) (λ chunk. same_met_into s d e n a 0 0 n chunk here there))
-into_alike (s ∷ ss) (d ∷ ds) (e ∷ es) (n ∷ sizes) (a ∷ edges) (b ∷ others) (suc k) long are also same =
-    into_alike ss ds es sizes edges others k (omega arith) are.1 also.1 same
-into_alike [] (_ ∷ _) _ (_ ∷ _) _ _ k long are also same = absurd (omega arith)
-into_alike (_ ∷ _) [] _ [] _ _ k long are also same = absurd (omega arith)
-into_alike _ [] _ (_ ∷ _) _ _ k long are also same = absurd are
-into_alike _ (_ ∷ _) _ [] _ _ k long are also same = absurd are
-into_alike _ [] _ [] (_ ∷ _) _ k long are also same = absurd are
-into_alike _ (_ ∷ _) _ (_ ∷ _) [] _ k long are also same = absurd are
-into_alike _ _ [] (_ ∷ _) _ _ k long are also same = absurd also
-into_alike _ _ (_ ∷ _) [] _ _ k long are also same = absurd also
-into_alike _ _ [] [] _ (_ ∷ _) k long are also same = absurd also
-into_alike _ _ (_ ∷ _) (_ ∷ _) _ [] k long are also same = absurd also
+    (map_same _ _ (range_with_len 0 e.grid_size) (λ chunk. same_met_into s d e n a 0 0 n chunk here there))
+into_alike (d ∷ ds) (n ∷ sizes) (a ∷ edges) (e ∷ es) (b ∷ others) (s ∷ ss) (suc k) are also long same =
+    into_alike ds sizes edges es others ss k are.1 also.1 (omega arith) same
+into_alike _ _ _ _ _ _ k are also long same = absurd (first_of (assumption, omega arith))
 
 -- from arrays that have one edge along a dimension
-from_alike : (ds es ts : List Dimension) (sizes edges others first at shape starts counts : List ℕ) (k : ℕ) → AreEqualEdges ds sizes edges
-    → AreEqualEdges es sizes others → slice_index_or edges k 0 ≡ slice_index_or others k 0
+from_alike : (ds : List Dimension) (sizes edges : List ℕ) (es : List Dimension) (others : List ℕ) (ts : List Dimension)
+    (first at shape starts counts : List ℕ) (k : ℕ) → AreEqualEdges ds sizes edges → AreEqualEdges es sizes others
+    → slice_index_or edges k 0 ≡ slice_index_or others k 0
     → slice_index_or (met_in (counters_from ds ts first at shape) starts counts) k []
     ≡ slice_index_or (met_in (counters_from es ts first at shape) starts counts) k []
-from_alike [] [] ts [] [] [] first at shape starts counts k are also same = refl
-from_alike (d ∷ ds) (e ∷ es) (t ∷ ts) (n ∷ sizes) (a ∷ edges) (b ∷ others) (f ∷ first) (i ∷ at) (m ∷ shape) (c ∷ starts) (l ∷ counts) zero are also same =
+from_alike [] [] [] [] [] ts first at shape starts counts k are also same = refl
+from_alike (d ∷ ds) (n ∷ sizes) (a ∷ edges) (e ∷ es) (b ∷ others) (t ∷ ts) (f ∷ first) (i ∷ at) (m ∷ shape) (c ∷ starts) (l ∷ counts) zero are also same =
     let there = subst (IsEqualEdges e n) (sym same) also.0 in
-    map_same (met_along d t f i m) (met_along e t f i m) (range_with_len c l) (λ chunk. same_met_from d e t n a f i m chunk are.0 there)
-from_alike (d ∷ ds) (e ∷ es) (t ∷ ts) (n ∷ sizes) (a ∷ edges) (b ∷ others) (f ∷ first) (i ∷ at) (m ∷ shape) (c ∷ starts) (l ∷ counts) (suc k) are also same =
-    from_alike ds es ts sizes edges others first at shape starts counts k are.1 also.1 same
-from_alike (_ ∷ _) (_ ∷ _) [] (_ ∷ _) (_ ∷ _) (_ ∷ _) first at shape starts counts k are also same = refl
+    map_same _ _ (range_with_len c l) (λ chunk. same_met_from d e t n a f i m chunk are.0 there)
+from_alike (d ∷ ds) (n ∷ sizes) (a ∷ edges) (e ∷ es) (b ∷ others) (t ∷ ts) (f ∷ first) (i ∷ at) (m ∷ shape) (c ∷ starts) (l ∷ counts) (suc k) are also same =
+    from_alike ds sizes edges es others ts first at shape starts counts k are.1 also.1 same
+from_alike (_ ∷ _) (_ ∷ _) (_ ∷ _) (_ ∷ _) (_ ∷ _) [] first at shape starts counts k are also same = refl
 from_alike (_ ∷ _) (_ ∷ _) (_ ∷ _) (_ ∷ _) (_ ∷ _) (_ ∷ _) [] at shape starts counts k are also same = refl
 from_alike (_ ∷ _) (_ ∷ _) (_ ∷ _) (_ ∷ _) (_ ∷ _) (_ ∷ _) (_ ∷ _) [] shape starts counts k are also same = refl
 from_alike (_ ∷ _) (_ ∷ _) (_ ∷ _) (_ ∷ _) (_ ∷ _) (_ ∷ _) (_ ∷ _) (_ ∷ _) [] starts counts k are also same = refl
 from_alike (_ ∷ _) (_ ∷ _) (_ ∷ _) (_ ∷ _) (_ ∷ _) (_ ∷ _) (_ ∷ _) (_ ∷ _) (_ ∷ _) [] counts k are also same = refl
 from_alike (_ ∷ _) (_ ∷ _) (_ ∷ _) (_ ∷ _) (_ ∷ _) (_ ∷ _) (_ ∷ _) (_ ∷ _) (_ ∷ _) (_ ∷ _) [] k are also same = refl
-from_alike [] _ _ (_ ∷ _) _ _ _ _ _ _ _ k are also same = absurd are
-from_alike (_ ∷ _) _ _ [] _ _ _ _ _ _ _ k are also same = absurd are
-from_alike [] _ _ [] (_ ∷ _) _ _ _ _ _ _ k are also same = absurd are
-from_alike (_ ∷ _) _ _ (_ ∷ _) [] _ _ _ _ _ _ k are also same = absurd are
-from_alike _ [] _ (_ ∷ _) _ _ _ _ _ _ _ k are also same = absurd also
-from_alike _ (_ ∷ _) _ [] _ _ _ _ _ _ _ k are also same = absurd also
-from_alike _ [] _ [] _ (_ ∷ _) _ _ _ _ _ k are also same = absurd also
-from_alike _ (_ ∷ _) _ (_ ∷ _) _ [] _ _ _ _ _ k are also same = absurd also
+from_alike _ _ _ _ _ _ _ _ _ _ _ k are also same = absurd assumption
 
 -- ---- a choice of edges
 
@@ -132,12 +110,8 @@ pub chosen_from : (source target : List Dimension) (chunks : Box) (dimension : �
     → AreRows source target chunks dimension rows → IsChoice rows choice → AreChosen source target chunks dimension choice
 chosen_from source target chunks dimension [] [] are is = tt
 chosen_from source target chunks dimension (row ∷ rows) (e ∷ choice) are is =
-    (in_row row are.0 is.0, chosen_from source target chunks (suc dimension) rows choice are.1 is.1) where
-      in_row : (row : List Edge) → AllByRecursion (λ (x : Edge). AreRead source target chunks dimension (edge_of x) x.first x.second) row → Contains row e
-          → AreRead source target chunks dimension (edge_of e) e.first e.second
-      in_row [] all (k, within, is) = absurd (omega arith)
-      in_row (x ∷ row) all (zero, within, is) = subst (λ (y : Edge). AreRead source target chunks dimension (edge_of y) y.first y.second) is all.0
-      in_row (x ∷ row) all (suc k, within, is) = in_row row all.1 (k, omega arith, is)
+    let reads = λ (x : Edge). AreRead source target chunks dimension (edge_of x) x.first x.second in
+    (All-contains reads row e (All-from_recursion reads row are.0) is.0, chosen_from source target chunks (suc dimension) rows choice are.1 is.1)
 chosen_from source target chunks dimension _ _ are is = absurd is
 
 chosen_at : (source target : List Dimension) (chunks : Box) (dimension : ℕ) (choice : List Edge) (k : ℕ) → AreChosen source target chunks dimension choice
@@ -145,12 +119,10 @@ chosen_at : (source target : List Dimension) (chunks : Box) (dimension : ℕ) (c
     (slice_index_or (map (λ (e : Edge). e.first) choice) k 0) (slice_index_or (map (λ (e : Edge). e.second) choice) k 0)
 chosen_at source target chunks dimension [] k are within = absurd (omega arith)
 chosen_at source target chunks dimension (e ∷ choice) zero are within =
-    subst (λ d. AreRead source target chunks d (edge_of e) e.first e.second) (let same : dimension ≡ dimension + 0 = omega arith in same) are.0
+    let same : dimension + 0 ≡ dimension = omega arith in rw same are.0
 chosen_at source target chunks dimension (e ∷ choice) (suc k) are within =
-    subst
-    (λ d. AreRead source target chunks d (slice_index_or (map edge_of choice) k 0) (slice_index_or (map (λ (x : Edge). x.first) choice) k 0)
-    (slice_index_or (map (λ (x : Edge). x.second) choice) k 0)) (let same : suc dimension + k ≡ dimension + suc k = omega arith in same)
-    (chosen_at source target chunks (suc dimension) choice k are.1 (omega arith))
+    let same : dimension + suc k ≡ suc dimension + k = omega arith in
+    rw same (chosen_at source target chunks (suc dimension) choice k are.1 (omega arith))
 
 sum_at : (lists : List (List ℕ)) (k : ℕ) → slice_index_or (map sum lists) k 0 ≡ sum (slice_index_or lists k [])
 sum_at [] k = refl
@@ -160,8 +132,7 @@ sum_at (xs ∷ lists) (suc k) = sum_at lists k
 -- ---- an array between
 
 pub all_alike : (many edge : ℕ) → 0 < edge → AllByRecursion (λ e. 0 < e) (replicate many edge)
-all_alike zero edge some = tt
-all_alike (suc many) edge some = (some, all_alike many edge some)
+all_alike many edge some = recursion_from_All _ _ (All-replicate (λ e. 0 < e) many edge some)
 
 module _ (source target between : List Dimension) (edges : List ℕ) (one_array : array_sizes source ≡ array_sizes target)
     (are : AreEqualEdges between (array_sizes source) edges) (positive : AllByRecursion (λ e. 0 < e) edges) (is_array : IsBox (array_box target))
@@ -225,16 +196,11 @@ pub one_more_row : (source target : List Dimension) (chunks : Box) (dimension : 
     → AreRows source target chunks dimension rows
     → AllByRecursion (λ (e : Edge). AreRead source target chunks (dimension + length rows) (edge_of e) e.first e.second) row
     → AreRows source target chunks dimension (rows ++ row ∷ [])
-one_more_row source target chunks dimension [] row are last = (
-  subst (λ d. AllByRecursion (λ (e : Edge). AreRead source target chunks d (edge_of e) e.first e.second) row)
-      (let same : dimension + 0 ≡ dimension = omega arith in same) last,
-  tt,
-)
+one_more_row source target chunks dimension [] row are last = (let same : dimension ≡ dimension + 0 = omega arith in rw same last, tt)
 one_more_row source target chunks dimension (other ∷ rows) row are last = (
   are.0,
   one_more_row source target chunks (suc dimension) rows row are.1
-      (subst (λ d. AllByRecursion (λ (e : Edge). AreRead source target chunks d (edge_of e) e.first e.second) row)
-      (let same : dimension + suc (length rows) ≡ suc dimension + length rows = omega arith in same) last),
+      (let same : suc dimension + length rows ≡ dimension + suc (length rows) = omega arith in rw same last),
 )
 
 pub length_of : (ds es : List Dimension) → array_sizes ds ≡ array_sizes es → length ds ≡ length es
@@ -295,11 +261,7 @@ module _ (source target : List Dimension) (chunks : Box) (choice : List Edge) (c
     (between : List Dimension) (are : AreEqualEdges between (array_sizes source) (map edge_of choice)) where
   read_at : (k : ℕ) → k < length choice → AreRead source target chunks k (slice_index_or (map edge_of choice) k 0)
       (slice_index_or (map (λ (e : Edge). e.first) choice) k 0) (slice_index_or (map (λ (e : Edge). e.second) choice) k 0)
-  read_at k within =
-      subst
-      (λ d. AreRead source target chunks d (slice_index_or (map edge_of choice) k 0) (slice_index_or (map (λ (e : Edge). e.first) choice) k 0)
-      (slice_index_or (map (λ (e : Edge). e.second) choice) k 0)) (let same : 0 + k ≡ k = omega arith in same)
-      (chosen_at source target chunks 0 choice k chosen within)
+  read_at k within = let same : 0 + k ≡ k = omega arith in rw same at (chosen_at source target chunks 0 choice k chosen within)
 
   edge_along : (k : ℕ) → k < length choice → (edge : ℕ) → slice_index_or (replicate (length source) edge) k 0 ≡ edge
   edge_along k within edge = get_or-replicate (length source) k edge 0 (omega (arith, within, many_edges source between choice are))
@@ -313,8 +275,7 @@ module _ (source target : List Dimension) (chunks : Box) (choice : List Edge) (c
       let edge = slice_index_or (map edge_of choice) k 0 in
       let sizes : length source ≡ length (array_sizes source) = sym (length-map source (λ (d : Dimension). d.array_size)) in
       read.in_first
-      ∙ ap sum (into_alike source read.between between (array_sizes source) (replicate (length source) edge) (map edge_of choice) k sizes
-      read.equal are (edge_along k within edge))
+      ∙ ap sum (into_alike read.between _ _ between _ source k read.equal are sizes (edge_along k within edge))
       ∙ sym (sum_at _ k)
 
   second_at : (k : ℕ) → k < length choice
@@ -323,13 +284,28 @@ module _ (source target : List Dimension) (chunks : Box) (choice : List Edge) (c
   second_at k within =
       let read = read_at k within in
       let edge = slice_index_or (map edge_of choice) k 0 in
-      let box = array_box target in
       read.in_second
-      ∙ ap sum (from_alike read.between between target (array_sizes source) (replicate (length source) edge) (map edge_of choice) box.start box.start
-      box.shape chunks.start chunks.shape k read.equal are (edge_along k within edge))
+      ∙ ap sum (from_alike read.between _ _ between _ target _ _ _ chunks.start chunks.shape k read.equal are (edge_along k within edge))
       ∙ sym (sum_at _ k)
 
 -- ---- both stages
+
+-- the copies of a rechunking are as many as numbers say that are, along each dimension, the sum of what is met there
+many_copies : (source target : List Dimension) (chunks : Box) (Chosen : List ℕ → Type 0) (numbers : List ℕ) → AllByRecursion IsChain source
+    → AreTaking source target (array_box target) (array_box target) chunks
+    → ((chunk : List ℕ) → IsInside chunks chunk ↔ (Chosen chunk × Meets target (array_box target) chunk)) → length numbers ≡ length target
+    → ((k : ℕ) → k < length numbers → slice_index_or numbers k 0
+    ≡ slice_index_or (map sum (met_in (counters source target (array_box target) (array_box target)) chunks.start chunks.shape)) k 0)
+    → (groups : List Group) → IsCopy source AnyKey target AnyKey (array_box target) (array_box target).start Chosen groups
+    → length (copies_of groups) ≡ product numbers
+many_copies source target chunks Chosen numbers chains taking named long each groups plan =
+    let counts = counters source target (array_box target) (array_box target) in
+    let met = met_in counts chunks.start chunks.shape in
+    let many = as_many_counters source target _ _ chunks chains taking in
+    let met_long = tables_long counts chunks.start chunks.shape (omega (arith, taking.long, many)) taking.is_box.lengths in
+    let sums_long = length-map met sum in
+    copies_many source AnyKey target AnyKey _ _ chains chunks taking Chosen named groups plan
+    ∙ ap product (sym (ext_get_or 0 numbers (map sum met) (omega (arith, met_long, taking.long, taking.is_box.lengths)) each))
 
 module _ (source target : List Dimension) (chains : AllByRecursion IsChain source) (target_chains : AllByRecursion IsChain target)
     (one_array : array_sizes source ≡ array_sizes target) (is_array : IsBox (array_box target)) (some : ¬ IsEmptyBox (array_box target)) (chunks : Box)
@@ -337,9 +313,6 @@ module _ (source target : List Dimension) (chains : AllByRecursion IsChain sourc
     (named : (chunk : List ℕ) → IsInside chunks chunk ↔ Meets target (array_box target) chunk) (choice : List Edge)
     (chosen : AreChosen source target chunks 0 choice) (positive : AllByRecursion (λ e. 0 < e) (map edge_of choice)) where
   module _ (between : List Dimension) (are : AreEqualEdges between (array_sizes source) (map edge_of choice)) where
-    edges : List ℕ
-    edges = map edge_of choice
-
     first_many : (groups : List Group) → IsRechunking source AnyKey between AnyKey (all_chunks_box between) groups
         → length (copies_of groups) ≡ product (map (λ (e : Edge). e.first) choice)
     first_many groups plan =
@@ -354,43 +327,25 @@ module _ (source target : List Dimension) (chains : AllByRecursion IsChain sourc
         let (first, meets) = some_chunk between between_chains between_some in
         let is_all = subst IsBox (same_box_of plan.targets all first ((same first).1 (is_counted between between_chains first meets)) same) plan.is_box in
         let taking = into_taking source target between (map edge_of choice) one_array are positive is_array some all refl is_all in
-        let met = met_in (counters source between (array_box between) (array_box between)) all.start all.shape in
-        let counted = copies_many source AnyKey between AnyKey (array_box between) (array_box between).start chains all taking (IsInside all) (λ chunk. (λ inside. (inside, meet chunk inside), λ both. both.0)) groups plan in
-        let many = as_many_counters source between (array_box between) (array_box between) all chains taking in
-        let met_long = tables_long (counters source between (array_box between) (array_box between)) all.start all.shape
-        (omega (arith, taking.long, many)) is_all.lengths in
         let choice_long = many_edges source between choice are in
         let between_long = between_long source target between (map edge_of choice) one_array are positive is_array some in
-        let grid_long : length (grid_sizes between) ≡ length between = length-map between (λ (d : Dimension). d.grid_size) in
         let firsts_long = length-map choice (λ (e : Edge). e.first) in
-        let sums_long = length-map met sum in
-        counted
-        ∙ ap product (sym (ext_get_or 0 (map (λ (e : Edge). e.first) choice) (map sum met)
-        (omega (arith, met_long, choice_long, between_long, grid_long, firsts_long, sums_long))
-        (λ k within. first_at source target chunks choice chosen between are k (omega (arith, within, firsts_long)))))
+        many_copies source between all (IsInside all) _ chains taking (λ chunk. (λ inside. (inside, meet chunk inside), λ both. both.0))
+        (omega (arith, choice_long, between_long, firsts_long))
+        (λ k within. first_at source target chunks choice chosen between are k (omega (arith, within, firsts_long))) groups plan
 
     second_many : (groups : List Group) → IsRechunking between AnyKey target AnyKey (all_chunks_box target) groups
         → length (copies_of groups) ≡ product (map (λ (e : Edge). e.second) choice)
     second_many groups plan =
         let between_chains = between_chains source target between (map edge_of choice) one_array are positive is_array some in
         let taking = from_taking source target between (map edge_of choice) one_array are positive is_array some chunks is_box long named in
-        let met = met_in (counters between target (array_box target) (array_box target)) chunks.start chunks.shape in
-        let counted =
-        copies_many between AnyKey target AnyKey (array_box target) (array_box target).start between_chains chunks taking (IsInside (all_chunks_box target))
-        (λ chunk. (λ inside. let meets = (named chunk).0 inside in (is_counted target target_chains chunk meets, meets), λ both. (named chunk).1 both.1))
-        groups plan
-        in
-        let many = as_many_counters between target (array_box target) (array_box target) chunks between_chains taking in
-        let met_long = tables_long (counters between target (array_box target) (array_box target)) chunks.start chunks.shape
-        (omega (arith, long, many)) is_box.lengths in
         let choice_long = many_edges source between choice are in
         let one_long = length_of source target one_array in
         let seconds_long = length-map choice (λ (e : Edge). e.second) in
-        let sums_long = length-map met sum in
-        counted
-        ∙ ap product (sym (ext_get_or 0 (map (λ (e : Edge). e.second) choice) (map sum met)
-        (omega (arith, met_long, choice_long, one_long, long, is_box.lengths, seconds_long, sums_long))
-        (λ k within. second_at source target chunks choice chosen between are k (omega (arith, within, seconds_long)))))
+        many_copies between target chunks (IsInside (all_chunks_box target)) _ between_chains taking
+        (λ chunk. (λ inside. let meets = (named chunk).0 inside in (is_counted target target_chains chunk meets, meets), λ both. (named chunk).1 both.1))
+        (omega (arith, choice_long, one_long, seconds_long))
+        (λ k within. second_at source target chunks choice chosen between are k (omega (arith, within, seconds_long))) groups plan
 
   pub reads_are : (reads : ℕ) → AreStages source target (map edge_of choice) reads
       → reads ≡ product (map (λ (e : Edge). e.first) choice) + product (map (λ (e : Edge). e.second) choice)

@@ -60,13 +60,9 @@ ranges_take (d ∷ ds) (a ∷ at) (n ∷ shape) (c ∷ first) (k ∷ sizes) e f 
       ranges_take ds at shape first sizes (omega arith) (omega arith) (tail_some k sizes some)
           (λ chunk within. (each (c ∷ chunk) (omega arith, omega arith, within)).1),
     )
-ranges_take [] [] (_ ∷ _) [] [] e f some each = absurd (each [] tt)
-ranges_take [] (_ ∷ _) shape [] [] e f some each = absurd (each [] tt)
-ranges_take (_ ∷ _) [] shape (c ∷ first) (k ∷ sizes) e f some each =
-    absurd (each (c ∷ first) (first_within (c ∷ first) (k ∷ sizes) f some))
-ranges_take (_ ∷ _) (_ ∷ _) [] (c ∷ first) (k ∷ sizes) e f some each =
-    absurd (each (c ∷ first) (first_within (c ∷ first) (k ∷ sizes) f some))
-ranges_take _ at shape _ _ e f some each = absurd (omega arith)
+ranges_take _ at shape first sizes e f some each =
+    let of_first = each first (first_within first sizes f some) in
+    absurd (first_of (assumption, omega arith))
 
 -- a chunk that is some steps along one dimension behind the first one
 pub set_within : (first sizes : List ℕ) (k j : ℕ) → length first ≡ length sizes → (¬ Contains sizes 0) → k < length sizes → j < get_or sizes k 0

@@ -2,7 +2,7 @@ use Rattle.std.proofs.Common.{◌∙◌, ◌<◌, ◌++◌, ◌∷◌, [], ap₂
 use Rattle.std.proofs.lemmas.List.{map-append, take_all, take_more}
 use Rattle.zarrs_chunk_plan.specs.declared.fewest.Edge.{Edge}
 use Rattle.zarrs_chunk_plan.specs.seen.Stages.{edge_of}
-use Rattle.zarrs_chunk_plan.proofs.StageReads.{and_one, each_at}
+use Rattle.std.proofs.ByRecursion.{All-get_or, All-push}
 use Rattle.zarrs_chunk_plan.proofs.stages.row_along.Goals as goal
 
 pub loop-edge-init : goal.loop-edge-init
@@ -10,7 +10,7 @@ loop-edge-init g c = rw (c.in_ok-row.ensures {u = tt}).items (refl, λ some. tt)
 
 pub non_zero-edge-requires : goal.non_zero-edge-requires
 non_zero-edge-requires g c =
-    let positive = each_at (λ edge. 0 < edge) c.args.edges.now c.loop-edge.edge-index c.requires.positive c.loop-edge-test.true in
+    let positive = All-get_or (λ edge. 0 < edge) c.args.edges.now c.loop-edge.edge-index 0 c.loop-edge-test.true c.requires.positive in
     λ none. absurd (omega (arith, positive, none))
 
 pub loop-edge-preserved : goal.loop-edge-preserved
@@ -23,7 +23,7 @@ loop-edge-preserved g c =
     rw items (
       map-append edge_of c.loop-edge.row.items (e ∷ [])
           ∙ ap₂ (λ xs x. xs ++ x ∷ []) c.loop-edge.invariant.0 c.non_zero-edge.ensures ∙ sym more,
-      λ some. and_one _ c.loop-edge.row.items e (c.loop-edge.invariant.1 some) ((c.in_ok-first.ensures {u = tt}) some),
+      λ some. All-push _ c.loop-edge.row.items e (c.loop-edge.invariant.1 some) ((c.in_ok-first.ensures {u = tt}) some),
     )
 
 pub returns-clause-edges : goal.returns-clause-edges
