@@ -111,7 +111,7 @@ module _ (source : List Dimension) (IsSourceKey : List ℕ → List ℕ → Type
     copies_many =
         let all = counters source target region (moved at region) in
         let met = met_in all targets.start targets.shape in
-        let many = as_many_counters source target region (moved at region) targets chains taking in
+        let many = as_many_counters chains taking in
         let is_box = taking.is_box in
         copies_of_all groups
         ∙ ap sum (copies_each source IsSourceKey target IsTargetKey region at chains targets taking (chunks_in targets) groups

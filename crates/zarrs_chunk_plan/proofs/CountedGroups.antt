@@ -57,7 +57,7 @@ module _ (source : List Dimension) (IsSourceKey : List ℕ → List ℕ → Type
       → length group.1 ≡ product (met_by met_with chunk)
   copies_into chunk group meets into =
       let plan = into.from in
-      let met = met_of_cover source target region (moved at region) targets chains taking chunk group.0.in_chunk group.0.in_subset plan.cover meets
+      let met = met_of_cover chains taking chunk group.0.in_chunk group.0.in_subset plan.cover meets
       into.to.boxes plan.is_cover
       in
       AllZip-long (IsPart source IsSourceKey (shifted region.start group.0.in_subset)) (chunks_in plan.cover) group.1 plan.are_parts

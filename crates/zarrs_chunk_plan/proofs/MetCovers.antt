@@ -73,7 +73,7 @@ held_is ds chunk in_chunk in_subset boxes meets =
 
 -- ---- chunks that take some of a box
 
-module _ (source target : List Dimension) (region moved targets : Box) (chains : AllByRecursion IsChain source)
+module _ {source target : List Dimension} {region moved targets : Box} (chains : AllByRecursion IsChain source)
     (taking : AreTaking source target region moved targets) where
   region_long : length region.start ≡ length source
   region_long =

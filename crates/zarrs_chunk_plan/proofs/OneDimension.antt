@@ -27,27 +27,22 @@ steps_before at start = start - at
 abbrev pub steps_to_end : (at size start edge : ℕ) → ℕ
 steps_to_end at size start edge = min (start + edge - at) size
 
--- the chunks of the source that hold these two steps are found
-pub record AreEnds (s : List Dimension) (k from at size start edge low high : ℕ) : Type 0 where
-  pub first : HoldsAlong s k (from + steps_before at start) low
-  pub last : HoldsAlong s k (from + (steps_to_end at size start edge - 1)) high
-
 -- so many are met
 pub record AreMet (low high many size : ℕ) : Type 0 where
   pub in_order : low ≤ high
   pub as_many : suc high - low ≡ many
   pub at_most : suc high - low ≤ size
 
-one_met : (s t : Dimension) (from at size c start edge low high : ℕ) → IsChain s → TakesSome t at size c → IsRange t c (start, edge)
-    → Holds s low (from + steps_before at start) → Holds s high (from + (steps_to_end at size start edge - 1))
+one_met : (s t : Dimension) (from at size c start edge before end low high : ℕ) → IsChain s → TakesSome t at size c → IsRange t c (start, edge)
+    → before ≡ steps_before at start → end ≡ steps_to_end at size start edge → Holds s low (from + before) → Holds s high (from + (end - 1))
     → AreMet low high (met_along s t from at size c) size
-one_met s t from at size c start edge low high chain (has, some) range first last =
+one_met s t from at size c start edge before end low high chain (has, some) range before_is end_is first last =
     let begins : t.start c ≡ start = range.start.start in
     let ends : t.start c + edge ≡ t.end c = range.edge.edge in
     let index = from + (taken_from t at c - at) in
     let many = taken t at size c in
-    let first_is : from + steps_before at start ≡ index = omega arith in
-    let last_is : from + (steps_to_end at size start edge - 1) ≡ index + (many - 1) = omega arith in
+    let first_is : from + before ≡ index = omega arith in
+    let last_is : from + (end - 1) ≡ index + (many - 1) = omega arith in
     let lowest = subst (Holds s low) first_is first in
     let highest = subst (Holds s high) last_is last in
     let count : met s index many ≡ suc high - low = met_is s chain low high index many lowest highest in
@@ -59,17 +54,17 @@ one_met s t from at size c start edge low high chain (has, some) range first las
     }
 
 -- along a dimension
-pub all_met : (source target : List Dimension) (from at shape chunk : List ℕ) (k start edge low high : ℕ) → AllByRecursion IsChain source
+pub all_met : (source target : List Dimension) (from at shape chunk : List ℕ) (k start edge before end low high : ℕ) → AllByRecursion IsChain source
     → AllTakeSome target at shape chunk → length source ≡ length target → length from ≡ length target → k < length target
-    → IsRangeAlong target k (slice_index_or chunk k 0) (start, edge)
-    → AreEnds source k (slice_index_or from k 0) (slice_index_or at k 0) (slice_index_or shape k 0) start edge low high
+    → IsRangeAlong target k (slice_index_or chunk k 0) (start, edge) → before ≡ steps_before (slice_index_or at k 0) start
+    → end ≡ steps_to_end (slice_index_or at k 0) (slice_index_or shape k 0) start edge
+    → HoldsAlong source k (slice_index_or from k 0 + before) low → HoldsAlong source k (slice_index_or from k 0 + (end - 1)) high
     → AreMet low high (slice_index_or (met_by (counters_from source target from at shape) chunk) k 0) (slice_index_or shape k 0)
-all_met (s ∷ source) (t ∷ target) (f ∷ from) (a ∷ at) (n ∷ shape) (c ∷ chunk) zero start edge low high chains takes e g within range ends =
-    one_met s t f a n c start edge low high chains.0 takes.0 range ends.first ends.last
-all_met (s ∷ source) (t ∷ target) (f ∷ from) (a ∷ at) (n ∷ shape) (c ∷ chunk) (suc k) start edge low high chains takes e g within range ends =
-    all_met source target from at shape chunk k start edge low high chains.1 takes.1 (omega arith) (omega arith) (omega arith) range
-    (record { first = ends.first; last = ends.last })
-all_met _ _ _ _ _ _ k start edge low high chains takes e g within range ends = absurd (first_of (assumption, omega arith))
+all_met (s ∷ source) (t ∷ target) (f ∷ from) (a ∷ at) (n ∷ shape) (c ∷ chunk) zero start edge before end low high chains takes e g within range =
+    one_met s t f a n c start edge before end low high chains.0 takes.0 range
+all_met (s ∷ source) (t ∷ target) (f ∷ from) (a ∷ at) (n ∷ shape) (c ∷ chunk) (suc k) start edge before end low high chains takes e g within range =
+    all_met source target from at shape chunk k start edge before end low high chains.1 takes.1 (omega arith) (omega arith) (omega arith) range
+all_met _ _ _ _ _ _ k start edge before end low high chains takes e g within range = absurd (first_of (assumption, omega arith))
 
 -- the chunk takes some of the range
 pub takes_along : (ds : List Dimension) (at shape chunk : List ℕ) (k start edge : ℕ) → AllTakeSome ds at shape chunk → k < length ds
@@ -104,23 +99,25 @@ pub record AreAsked (source target : List Dimension) (region moved targets : Box
   pub moved_fits : slice_index_or moved.start k 0 + slice_index_or moved.shape k 0 ≤ greatest
   pub takes : (start edge : ℕ) → IsRangeAlong target k (slice_index_or targets.start k 0 + steps) (start, edge)
       → max (slice_index_or moved.start k 0) start < min (start + edge) (slice_index_or moved.start k 0 + slice_index_or moved.shape k 0)
-  pub met : (start edge low high : ℕ) → IsRangeAlong target k (slice_index_or targets.start k 0 + steps) (start, edge)
-      → AreEnds source k (slice_index_or region.start k 0) (slice_index_or moved.start k 0) (slice_index_or moved.shape k 0) start edge low high
+  pub met : (start edge before end low high : ℕ) → IsRangeAlong target k (slice_index_or targets.start k 0 + steps) (start, edge)
+      → before ≡ steps_before (slice_index_or moved.start k 0) start
+      → end ≡ steps_to_end (slice_index_or moved.start k 0) (slice_index_or moved.shape k 0) start edge
+      → HoldsAlong source k (slice_index_or region.start k 0 + before) low → HoldsAlong source k (slice_index_or region.start k 0 + (end - 1)) high
       → AreMet low high
       (slice_index_or (slice_index_or (met_in (counters source target region moved) targets.start targets.shape) k []) steps 0)
       (slice_index_or moved.shape k 0)
 
-pub are_asked : (source target : List Dimension) (region moved targets : Box) (k steps : ℕ) → AllByRecursion IsChain source
+pub are_asked : {source target : List Dimension} {region moved targets : Box} (k steps : ℕ) → AllByRecursion IsChain source
     → AreTaking source target region moved targets → (¬ IsEmptyBox targets) → k < length targets.shape
     → steps < slice_index_or targets.shape k 0 → AreAsked source target region moved targets k steps
-are_asked source target region moved targets k steps chains taking some within less =
+are_asked {source} {target} {region} {moved} {targets} k steps chains taking some within less =
     let number = slice_index_or targets.start k 0 + steps in
     let chunk = slice_set targets.start k number in
     let inside = set_within targets.start targets.shape k steps taking.is_box.lengths some within less in
     let take = meets_take target moved chunk (taking.meet chunk inside) in
-    let one = as_many_dimensions source target region moved targets chains taking in
-    let region_long = as_many_starts source target region moved targets chains taking in
-    let moved_long = moved_long source target region moved targets chains taking in
+    let one = as_many_dimensions chains taking in
+    let region_long = as_many_starts chains taking in
+    let moved_long = moved_long chains taking in
     let here : slice_index_or chunk k 0 ≡ number = get_or-set_same targets.start k number 0 (omega (arith, taking.is_box.lengths)) in
     let at = λ (start edge : ℕ) (range : IsRangeAlong target k number (start, edge)).
     subst (λ n. IsRangeAlong target k n (start, edge)) (sym here) range in
@@ -135,10 +132,10 @@ are_asked source target region moved targets k steps chains taking some within l
           (omega (arith, taking.long, taking.is_box.lengths, taking.is_moved.lengths));
       takes = λ start edge range.
           takes_along target moved.start moved.shape chunk k start edge take (omega (arith, taking.long, taking.is_box.lengths)) (at start edge range);
-      met = λ start edge low high range found.
+      met = λ start edge before end low high range before_is end_is lowest highest.
           subst (λ n. AreMet low high n (slice_index_or moved.shape k 0))
           (met_there (counters source target region moved) targets.start targets.shape k steps
-          (let many = as_many_counters source target region moved targets chains taking in omega (arith, taking.long)) taking.is_box.lengths within less)
-          (all_met source target region.start moved.start moved.shape chunk k start edge low high chains take one region_long
-          (omega (arith, taking.long, taking.is_box.lengths)) (at start edge range) found);
+          (let many = as_many_counters chains taking in omega (arith, taking.long)) taking.is_box.lengths within less)
+          (all_met source target region.start moved.start moved.shape chunk k start edge before end low high chains take one region_long
+          (omega (arith, taking.long, taking.is_box.lengths)) (at start edge range) before_is end_is lowest highest);
     }

@@ -178,31 +178,31 @@ pub record IsCounted (row : List ℕ) (a b begin between last : ℕ) : Type 0 wh
   pub last_fits : (begin + 1 + between) * b ≤ greatest
   pub sum_fits : sum row ≤ greatest
 
-pub counted : (source target : List Dimension) (region moved targets : Box) (k a b : ℕ) → AllByRecursion IsChain source
+pub counted : {source target : List Dimension} {region moved targets : Box} (k a b : ℕ) → AllByRecursion IsChain source
     → AllByRecursion IsChain target → AreTaking source target region moved targets → (¬ IsEmptyBox targets) → k < length targets.shape → 0 < a → 0 < b
     → IsRegularAlong source k a → IsRegularAlong target k b → slice_index_or region.start k 0 ≡ slice_index_or moved.start k 0
     → 2 < slice_index_or targets.shape k 0
     → IsCounted (slice_index_or (met_in (counters source target region moved) targets.start targets.shape) k []) a b
     (slice_index_or targets.start k 0) (slice_index_or targets.shape k 0 - 2) (slice_index_or targets.shape k 0 - 1)
-counted source target region moved targets k a b chains also taking some within some_a some_b regular regular_t stays more =
+counted {source} {target} {region} {moved} {targets} k a b chains also taking some within some_a some_b regular regular_t stays more =
     let many = slice_index_or targets.shape k 0 in
     let between = many - 2 in
     let row = slice_index_or (met_in (counters source target region moved) targets.start targets.shape) k [] in
-    let one = as_many_dimensions source target region moved targets chains taking in
-    let starts = as_many_starts source target region moved targets chains taking in
-    let ranges = taking_ranges source target region moved targets chains taking some in
+    let one = as_many_dimensions chains taking in
+    let starts = as_many_starts chains taking in
+    let ranges = taking_ranges chains taking some in
     let lies : EndWithin region.start moved.shape (array_sizes source) = rw taking.one_shape taking.in_source in
     let is_row = row_along source target region.start moved.start moved.shape targets.start targets.shape k a b between chains also one starts lies
     taking.in_target ranges within some_a some_b regular regular_t stays (omega arith) in
     let (in_all, most) = of_row (slice_index_or row 0 0) (slice_index_or row (suc between) 0) (all_meeting a b (slice_index_or targets.start k 0 + 1) between) row is_row.is in
     let bound : slice_index_or moved.start k 0 + slice_index_or moved.shape k 0 ≤ greatest =
     ends_fit moved.start moved.shape k taking.is_moved.fits taking.is_moved.lengths
-    (let long = moved_long source target region moved targets chains taking in omega (arith, taking.long, taking.is_box.lengths, taking.is_moved.lengths)) in
+    (let long = moved_long chains taking in omega (arith, taking.long, taking.is_box.lengths, taking.is_moved.lengths)) in
     let up_to = sums_fit source target region.start moved.start moved.shape targets.start targets.shape k (suc between) chains also one starts lies
     (shape_fits moved.start moved.shape taking.is_moved) ranges within (omega arith) in
     let as_many : length row ≡ many =
     table_long (counters source target region moved) targets.start targets.shape k
-    (let counters_are = as_many_counters source target region moved targets chains taking in omega (arith, taking.long)) taking.is_box.lengths within in
+    (let counters_are = as_many_counters chains taking in omega (arith, taking.long)) taking.is_box.lengths within in
     let whole = whole_sum row (suc between) (omega arith) in
     let below = is_row.below in
     let begins : slice_index_or targets.start k 0 + many ≤ greatest =

@@ -301,7 +301,7 @@ many_copies : (source target : List Dimension) (chunks : Box) (Chosen : List ℕ
 many_copies source target chunks Chosen numbers chains taking named long each groups plan =
     let counts = counters source target (array_box target) (array_box target) in
     let met = met_in counts chunks.start chunks.shape in
-    let many = as_many_counters source target _ _ chunks chains taking in
+    let many = as_many_counters chains taking in
     let met_long = tables_long counts chunks.start chunks.shape (omega (arith, taking.long, many)) taking.is_box.lengths in
     let sums_long = length-map met sum in
     copies_many source AnyKey target AnyKey _ _ chains chunks taking Chosen named groups plan

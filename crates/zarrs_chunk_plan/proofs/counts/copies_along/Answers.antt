@@ -4,12 +4,10 @@ use Rattle.zarrs_chunk_plan.proofs.counts.copies_along.Goals as goal
 
 pub are_few-requires-clause-region : goal.are_few-requires-clause-region
 are_few-requires-clause-region g c =
-    let starts = as_many_starts (g.G.ChunkGridTraits.dimensions c.args.copied.now.source.now) (g.H.ChunkGridTraits.dimensions c.args.copied.now.target.now)
-    c.args.copied.now.region.now c.args.copied.now.moved.now c.args.targets.now (g.met.G.ChunkGridTraits.chained c.args.copied.now.source.now) c.requires in
+    let starts = as_many_starts (g.met.G.ChunkGridTraits.chained c.args.copied.now.source.now) c.requires in
     omega (arith, starts, c.requires.long, c.requires.is_box.lengths)
 
 pub are_few-requires-clause-moved : goal.are_few-requires-clause-moved
 are_few-requires-clause-moved g c =
-    let long = moved_long (g.G.ChunkGridTraits.dimensions c.args.copied.now.source.now) (g.H.ChunkGridTraits.dimensions c.args.copied.now.target.now)
-    c.args.copied.now.region.now c.args.copied.now.moved.now c.args.targets.now (g.met.G.ChunkGridTraits.chained c.args.copied.now.source.now) c.requires in
+    let long = moved_long (g.met.G.ChunkGridTraits.chained c.args.copied.now.source.now) c.requires in
     omega (arith, long, c.requires.long, c.requires.is_box.lengths, c.requires.is_moved.lengths)

@@ -22,7 +22,7 @@ counts_of_targets-requires-clause-dimensions g c = λ empty none.
     let taking = are_taking source target c.in_ok-targets.targets found.one_array found.array found.is_box found.long
     (λ chunk inside. ((found.targets chunk).0 inside).1)
     in
-    let many = as_many_dimensions source target _ _ c.in_ok-targets.targets (g.met.G.ChunkGridTraits.chained c.args.source.now.grid) taking in
+    let many = as_many_dimensions (g.met.G.ChunkGridTraits.chained c.args.source.now.grid) taking in
     some_dimensions target c.in_ok-targets.targets found.is_box found.long (c.in_ok-elements.ensures.empty.0 empty) (sym many ∙ none)
 
 pub returns-clause-counts : goal.returns-clause-counts

@@ -1,4 +1,3 @@
-use Rattle.std.specs.Int.NonZero.{non_zero_u64_get}
 use Rattle.std.proofs.Common.{arith}
 use Rattle.zarrs_chunk_plan.proofs.MetCovers.{as_many_starts, moved_long}
 use Rattle.zarrs_chunk_plan.proofs.RegularDimensions.{counted}
@@ -6,54 +5,44 @@ use Rattle.zarrs_chunk_plan.proofs.sources.sources_along.Goals as goal
 
 pub regular_edges-requires-clause-region : goal.regular_edges-requires-clause-region
 regular_edges-requires-clause-region g c =
-    let source = g.G.ChunkGridTraits.dimensions c.args.copied.now.source.now in
-    let target = g.H.ChunkGridTraits.dimensions c.args.copied.now.target.now in
     let chains = g.met.G.ChunkGridTraits.chained c.args.copied.now.source.now in
-    let starts = as_many_starts source target c.args.copied.now.region.now c.args.copied.now.moved.now c.args.targets.now chains c.requires.taking in
+    let starts = as_many_starts chains c.requires.taking in
     omega (arith, c.requires.taking.long, c.requires.taking.is_box.lengths, c.requires.dimension)
 
 pub regular_edges-requires-clause-moved : goal.regular_edges-requires-clause-moved
 regular_edges-requires-clause-moved g c =
-    let source = g.G.ChunkGridTraits.dimensions c.args.copied.now.source.now in
-    let target = g.H.ChunkGridTraits.dimensions c.args.copied.now.target.now in
     let chains = g.met.G.ChunkGridTraits.chained c.args.copied.now.source.now in
-    let long = moved_long source target c.args.copied.now.region.now c.args.copied.now.moved.now c.args.targets.now chains c.requires.taking in
+    let long = moved_long chains c.requires.taking in
     omega (arith, c.requires.taking.long, c.requires.taking.is_box.lengths, c.requires.taking.is_moved.lengths, c.requires.dimension)
 
 pub overflow_add-whole : goal.overflow_add-whole
 overflow_add-whole g c =
-    let source = g.G.ChunkGridTraits.dimensions c.args.copied.now.source.now in
-    let target = g.H.ChunkGridTraits.dimensions c.args.copied.now.target.now in
     let chains = g.met.G.ChunkGridTraits.chained c.args.copied.now.source.now in
     let also = g.met.H.ChunkGridTraits.chained c.args.copied.now.target.now in
     let more = rw c.shape.ensures.value at c.if-many-gt2.true in
-    let row = counted source target c.args.copied.now.region.now c.args.copied.now.moved.now c.args.targets.now c.args.dimension
-    (non_zero_u64_get c.in-Some.edge) (non_zero_u64_get c.in-Some.other) chains also c.requires.taking c.requires.some c.requires.dimension
-    c.in-Some.edge.ok c.in-Some.other.ok c.in-Some.ensures.source c.in-Some.ensures.target c.in-Some.ensures.stays more in
+    let is = c.in-Some.ensures in
+    let row = counted c.args.dimension _ _ chains also c.requires.taking c.requires.some c.requires.dimension c.in-Some.edge.ok c.in-Some.other.ok
+    is.source is.target is.stays more in
     rw c.start.ensures.value (omega (arith, row.begin_fits))
 
 pub met_by_whole-sum-requires-clause-fits : goal.met_by_whole-sum-requires-clause-fits
 met_by_whole-sum-requires-clause-fits g c =
-    let source = g.G.ChunkGridTraits.dimensions c.args.copied.now.source.now in
-    let target = g.H.ChunkGridTraits.dimensions c.args.copied.now.target.now in
     let chains = g.met.G.ChunkGridTraits.chained c.args.copied.now.source.now in
     let also = g.met.H.ChunkGridTraits.chained c.args.copied.now.target.now in
     let more = rw c.shape.ensures.value at c.if-many-gt2.true in
-    let row = counted source target c.args.copied.now.region.now c.args.copied.now.moved.now c.args.targets.now c.args.dimension
-    (non_zero_u64_get c.in-Some.edge) (non_zero_u64_get c.in-Some.other) chains also c.requires.taking c.requires.some c.requires.dimension
-    c.in-Some.edge.ok c.in-Some.other.ok c.in-Some.ensures.source c.in-Some.ensures.target c.in-Some.ensures.stays more in
+    let is = c.in-Some.ensures in
+    let row = counted c.args.dimension _ _ chains also c.requires.taking c.requires.some c.requires.dimension c.in-Some.edge.ok c.in-Some.other.ok
+    is.source is.target is.stays more in
     rw (c.start.ensures.value, c.shape.ensures.value) (omega (arith, row.last_fits))
 
 pub overflow_add-result : goal.overflow_add-result
 overflow_add-result g c =
-    let source = g.G.ChunkGridTraits.dimensions c.args.copied.now.source.now in
-    let target = g.H.ChunkGridTraits.dimensions c.args.copied.now.target.now in
     let chains = g.met.G.ChunkGridTraits.chained c.args.copied.now.source.now in
     let also = g.met.H.ChunkGridTraits.chained c.args.copied.now.target.now in
     let more = rw c.shape.ensures.value at c.if-many-gt2.true in
-    let row = counted source target c.args.copied.now.region.now c.args.copied.now.moved.now c.args.targets.now c.args.dimension
-    (non_zero_u64_get c.in-Some.edge) (non_zero_u64_get c.in-Some.other) chains also c.requires.taking c.requires.some c.requires.dimension
-    c.in-Some.edge.ok c.in-Some.other.ok c.in-Some.ensures.source c.in-Some.ensures.target c.in-Some.ensures.stays more in
+    let is = c.in-Some.ensures in
+    let row = counted c.args.dimension _ _ chains also c.requires.taking c.requires.some c.requires.dimension c.in-Some.edge.ok c.in-Some.other.ok
+    is.source is.target is.stays more in
     let first = c.in_ok-first-in-Some.ensures {u = tt} in
     let last = rw c.shape.ensures.value at (c.in_ok-last-in-Some.ensures {u = tt}) in
     let whole = rw (c.start.ensures.value, c.shape.ensures.value) at c.met_by_whole-sum.ensures.sum in
@@ -61,14 +50,12 @@ overflow_add-result g c =
 
 pub overflow_add-result-in-Some : goal.overflow_add-result-in-Some
 overflow_add-result-in-Some g c =
-    let source = g.G.ChunkGridTraits.dimensions c.args.copied.now.source.now in
-    let target = g.H.ChunkGridTraits.dimensions c.args.copied.now.target.now in
     let chains = g.met.G.ChunkGridTraits.chained c.args.copied.now.source.now in
     let also = g.met.H.ChunkGridTraits.chained c.args.copied.now.target.now in
     let more = rw c.shape.ensures.value at c.if-many-gt2.true in
-    let row = counted source target c.args.copied.now.region.now c.args.copied.now.moved.now c.args.targets.now c.args.dimension
-    (non_zero_u64_get c.in-Some.edge) (non_zero_u64_get c.in-Some.other) chains also c.requires.taking c.requires.some c.requires.dimension
-    c.in-Some.edge.ok c.in-Some.other.ok c.in-Some.ensures.source c.in-Some.ensures.target c.in-Some.ensures.stays more in
+    let is = c.in-Some.ensures in
+    let row = counted c.args.dimension _ _ chains also c.requires.taking c.requires.some c.requires.dimension c.in-Some.edge.ok c.in-Some.other.ok
+    is.source is.target is.stays more in
     let first = c.in_ok-first-in-Some.ensures {u = tt} in
     let last = rw c.shape.ensures.value at (c.in_ok-last-in-Some.ensures {u = tt}) in
     let whole = rw (c.start.ensures.value, c.shape.ensures.value) at c.met_by_whole-sum.ensures.sum in
@@ -76,14 +63,12 @@ overflow_add-result-in-Some g c =
 
 pub returns-in_ok-last-in-Some : goal.returns-in_ok-last-in-Some
 returns-in_ok-last-in-Some g c =
-    let source = g.G.ChunkGridTraits.dimensions c.args.copied.now.source.now in
-    let target = g.H.ChunkGridTraits.dimensions c.args.copied.now.target.now in
     let chains = g.met.G.ChunkGridTraits.chained c.args.copied.now.source.now in
     let also = g.met.H.ChunkGridTraits.chained c.args.copied.now.target.now in
     let more = rw c.shape.ensures.value at c.if-many-gt2.true in
-    let row = counted source target c.args.copied.now.region.now c.args.copied.now.moved.now c.args.targets.now c.args.dimension
-    (non_zero_u64_get c.in-Some.edge) (non_zero_u64_get c.in-Some.other) chains also c.requires.taking c.requires.some c.requires.dimension
-    c.in-Some.edge.ok c.in-Some.other.ok c.in-Some.ensures.source c.in-Some.ensures.target c.in-Some.ensures.stays more in
+    let is = c.in-Some.ensures in
+    let row = counted c.args.dimension _ _ chains also c.requires.taking c.requires.some c.requires.dimension c.in-Some.edge.ok c.in-Some.other.ok
+    is.source is.target is.stays more in
     let first = c.in_ok-first-in-Some.ensures {u = tt} in
     let last = rw c.shape.ensures.value at (c.in_ok-last-in-Some.ensures {u = tt}) in
     let sum = rw (c.start.ensures.value, c.shape.ensures.value) at c.met_by_whole-sum.ensures.sum in

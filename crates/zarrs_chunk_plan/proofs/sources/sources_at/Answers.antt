@@ -5,35 +5,26 @@ use Rattle.zarrs_chunk_plan.proofs.sources.sources_at.Goals as goal
 
 pub overflow_add-chunk : goal.overflow_add-chunk
 overflow_add-chunk g c =
-    let source = g.G.ChunkGridTraits.dimensions c.args.copied.now.source.now in
-    let target = g.H.ChunkGridTraits.dimensions c.args.copied.now.target.now in
-    let asked = are_asked source target c.args.copied.now.region.now c.args.copied.now.moved.now c.args.targets.now c.args.dimension c.args.steps
-    (g.met.G.ChunkGridTraits.chained c.args.copied.now.source.now) c.requires.taking c.requires.some c.requires.dimension c.requires.steps in
+    let chains = g.met.G.ChunkGridTraits.chained c.args.copied.now.source.now in
+    let asked = are_asked c.args.dimension c.args.steps chains c.requires.taking c.requires.some c.requires.dimension c.requires.steps in
     rw c.start.ensures.value (omega (arith, asked.chunk_fits))
 
 pub bounds-start-dimension-2 : goal.bounds-start-dimension-2
 bounds-start-dimension-2 g c =
-    let source = g.G.ChunkGridTraits.dimensions c.args.copied.now.source.now in
-    let target = g.H.ChunkGridTraits.dimensions c.args.copied.now.target.now in
-    let asked = are_asked source target c.args.copied.now.region.now c.args.copied.now.moved.now c.args.targets.now c.args.dimension c.args.steps
-    (g.met.G.ChunkGridTraits.chained c.args.copied.now.source.now) c.requires.taking c.requires.some c.requires.dimension c.requires.steps in
+    let chains = g.met.G.ChunkGridTraits.chained c.args.copied.now.source.now in
+    let asked = are_asked c.args.dimension c.args.steps chains c.requires.taking c.requires.some c.requires.dimension c.requires.steps in
     rw c.start-2.ensures.value asked.in_start
 
 pub bounds-shape-dimension : goal.bounds-shape-dimension
 bounds-shape-dimension g c =
-    let source = g.G.ChunkGridTraits.dimensions c.args.copied.now.source.now in
-    let target = g.H.ChunkGridTraits.dimensions c.args.copied.now.target.now in
-    let asked = are_asked source target c.args.copied.now.region.now c.args.copied.now.moved.now c.args.targets.now c.args.dimension c.args.steps
-    (g.met.G.ChunkGridTraits.chained c.args.copied.now.source.now) c.requires.taking c.requires.some c.requires.dimension c.requires.steps in
+    let chains = g.met.G.ChunkGridTraits.chained c.args.copied.now.source.now in
+    let asked = are_asked c.args.dimension c.args.steps chains c.requires.taking c.requires.some c.requires.dimension c.requires.steps in
     rw c.shape.ensures.value asked.in_shape
 
 pub overflow_sub-last : goal.overflow_sub-last
 overflow_sub-last g c =
-    let source = g.G.ChunkGridTraits.dimensions c.args.copied.now.source.now in
-    let target = g.H.ChunkGridTraits.dimensions c.args.copied.now.target.now in
-    let asked = are_asked source target c.args.copied.now.region.now c.args.copied.now.moved.now c.args.targets.now c.args.dimension c.args.steps
-    (g.met.G.ChunkGridTraits.chained c.args.copied.now.source.now) c.requires.taking c.requires.some c.requires.dimension c.requires.steps in
-    let at = c.args.copied.now.moved.now.start in
+    let chains = g.met.G.ChunkGridTraits.chained c.args.copied.now.source.now in
+    let asked = are_asked c.args.dimension c.args.steps chains c.requires.taking c.requires.some c.requires.dimension c.requires.steps in
     let found = rw (c.in_ok-start.ensures {u = tt}, c.start.ensures.value) at (c.in_ok-range.ensures {u = tt}) in
     let takes = asked.takes c.in_ok-start.start c.in_ok-start.edge found in
     let first = rw c.start-2.ensures.value at c.saturating_sub-first.ensures in
@@ -43,19 +34,14 @@ overflow_sub-last g c =
 
 pub bounds-start-dimension-3 : goal.bounds-start-dimension-3
 bounds-start-dimension-3 g c =
-    let source = g.G.ChunkGridTraits.dimensions c.args.copied.now.source.now in
-    let target = g.H.ChunkGridTraits.dimensions c.args.copied.now.target.now in
-    let asked = are_asked source target c.args.copied.now.region.now c.args.copied.now.moved.now c.args.targets.now c.args.dimension c.args.steps
-    (g.met.G.ChunkGridTraits.chained c.args.copied.now.source.now) c.requires.taking c.requires.some c.requires.dimension c.requires.steps in
+    let chains = g.met.G.ChunkGridTraits.chained c.args.copied.now.source.now in
+    let asked = are_asked c.args.dimension c.args.steps chains c.requires.taking c.requires.some c.requires.dimension c.requires.steps in
     rw c.start-3.ensures.value asked.in_region
 
 pub overflow_add-from : goal.overflow_add-from
 overflow_add-from g c =
-    let source = g.G.ChunkGridTraits.dimensions c.args.copied.now.source.now in
-    let target = g.H.ChunkGridTraits.dimensions c.args.copied.now.target.now in
-    let asked = are_asked source target c.args.copied.now.region.now c.args.copied.now.moved.now c.args.targets.now c.args.dimension c.args.steps
-    (g.met.G.ChunkGridTraits.chained c.args.copied.now.source.now) c.requires.taking c.requires.some c.requires.dimension c.requires.steps in
-    let at = c.args.copied.now.moved.now.start in
+    let chains = g.met.G.ChunkGridTraits.chained c.args.copied.now.source.now in
+    let asked = are_asked c.args.dimension c.args.steps chains c.requires.taking c.requires.some c.requires.dimension c.requires.steps in
     let found = rw (c.in_ok-start.ensures {u = tt}, c.start.ensures.value) at (c.in_ok-range.ensures {u = tt}) in
     let takes = asked.takes c.in_ok-start.start c.in_ok-start.edge found in
     let first = rw c.start-2.ensures.value at c.saturating_sub-first.ensures in
@@ -66,11 +52,8 @@ overflow_add-from g c =
 
 pub overflow_add-from-2 : goal.overflow_add-from-2
 overflow_add-from-2 g c =
-    let source = g.G.ChunkGridTraits.dimensions c.args.copied.now.source.now in
-    let target = g.H.ChunkGridTraits.dimensions c.args.copied.now.target.now in
-    let asked = are_asked source target c.args.copied.now.region.now c.args.copied.now.moved.now c.args.targets.now c.args.dimension c.args.steps
-    (g.met.G.ChunkGridTraits.chained c.args.copied.now.source.now) c.requires.taking c.requires.some c.requires.dimension c.requires.steps in
-    let at = c.args.copied.now.moved.now.start in
+    let chains = g.met.G.ChunkGridTraits.chained c.args.copied.now.source.now in
+    let asked = are_asked c.args.dimension c.args.steps chains c.requires.taking c.requires.some c.requires.dimension c.requires.steps in
     let found = rw (c.in_ok-start.ensures {u = tt}, c.start.ensures.value) at (c.in_ok-range.ensures {u = tt}) in
     let takes = asked.takes c.in_ok-start.start c.in_ok-start.edge found in
     let first = rw c.start-2.ensures.value at c.saturating_sub-first.ensures in
@@ -81,60 +64,45 @@ overflow_add-from-2 g c =
 
 pub overflow_sub-result : goal.overflow_sub-result
 overflow_sub-result g c =
-    let source = g.G.ChunkGridTraits.dimensions c.args.copied.now.source.now in
-    let target = g.H.ChunkGridTraits.dimensions c.args.copied.now.target.now in
-    let asked = are_asked source target c.args.copied.now.region.now c.args.copied.now.moved.now c.args.targets.now c.args.dimension c.args.steps
-    (g.met.G.ChunkGridTraits.chained c.args.copied.now.source.now) c.requires.taking c.requires.some c.requires.dimension c.requires.steps in
-    let at = c.args.copied.now.moved.now.start in
+    let chains = g.met.G.ChunkGridTraits.chained c.args.copied.now.source.now in
+    let asked = are_asked c.args.dimension c.args.steps chains c.requires.taking c.requires.some c.requires.dimension c.requires.steps in
     let found = rw (c.in_ok-start.ensures {u = tt}, c.start.ensures.value) at (c.in_ok-range.ensures {u = tt}) in
     let takes = asked.takes c.in_ok-start.start c.in_ok-start.edge found in
     let first = rw c.start-2.ensures.value at c.saturating_sub-first.ensures in
     let end = rw c.start-2.ensures.value at c.saturating_sub-end.ensures in
     let last = rw c.shape.ensures.value at c.min-last.ensures in
-    let low = rw (c.start-3.ensures.value, first) at (c.in_ok-first.ensures {u = tt}) in
+    let low = rw c.start-3.ensures.value at (c.in_ok-first.ensures {u = tt}) in
     let high = rw c.start-3.ensures.value at (c.in_ok-last.ensures {u = tt}) in
-    let is_last : c.min-last.result - 1 ≡ steps_to_end (slice_index_or at c.args.dimension 0) (slice_index_or c.args.copied.now.moved.now.shape c.args.dimension 0) c.in_ok-start.start c.in_ok-start.edge - 1 =
-    omega (arith, last, end, c.saturating_add.ensures, asked.moved_fits) in
-    let met = asked.met c.in_ok-start.start c.in_ok-start.edge c.in_ok-first.first c.in_ok-last.last found
-    (record { first = low; last = subst (λ n. HoldsAlong source c.args.dimension (slice_index_or c.args.copied.now.region.now.start c.args.dimension 0 + n) c.in_ok-last.last) is_last high }) in
+    let met = asked.met c.in_ok-start.start c.in_ok-start.edge c.saturating_sub-first.result c.min-last.result c.in_ok-first.first c.in_ok-last.last
+    found (omega (arith, first)) (omega (arith, last, end, c.saturating_add.ensures, asked.moved_fits)) low high in
     met.in_order
 
 pub overflow_add-result : goal.overflow_add-result
 overflow_add-result g c =
-    let source = g.G.ChunkGridTraits.dimensions c.args.copied.now.source.now in
-    let target = g.H.ChunkGridTraits.dimensions c.args.copied.now.target.now in
-    let asked = are_asked source target c.args.copied.now.region.now c.args.copied.now.moved.now c.args.targets.now c.args.dimension c.args.steps
-    (g.met.G.ChunkGridTraits.chained c.args.copied.now.source.now) c.requires.taking c.requires.some c.requires.dimension c.requires.steps in
-    let at = c.args.copied.now.moved.now.start in
+    let chains = g.met.G.ChunkGridTraits.chained c.args.copied.now.source.now in
+    let asked = are_asked c.args.dimension c.args.steps chains c.requires.taking c.requires.some c.requires.dimension c.requires.steps in
     let found = rw (c.in_ok-start.ensures {u = tt}, c.start.ensures.value) at (c.in_ok-range.ensures {u = tt}) in
     let takes = asked.takes c.in_ok-start.start c.in_ok-start.edge found in
     let first = rw c.start-2.ensures.value at c.saturating_sub-first.ensures in
     let end = rw c.start-2.ensures.value at c.saturating_sub-end.ensures in
     let last = rw c.shape.ensures.value at c.min-last.ensures in
-    let low = rw (c.start-3.ensures.value, first) at (c.in_ok-first.ensures {u = tt}) in
+    let low = rw c.start-3.ensures.value at (c.in_ok-first.ensures {u = tt}) in
     let high = rw c.start-3.ensures.value at (c.in_ok-last.ensures {u = tt}) in
-    let is_last : c.min-last.result - 1 ≡ steps_to_end (slice_index_or at c.args.dimension 0) (slice_index_or c.args.copied.now.moved.now.shape c.args.dimension 0) c.in_ok-start.start c.in_ok-start.edge - 1 =
-    omega (arith, last, end, c.saturating_add.ensures, asked.moved_fits) in
-    let met = asked.met c.in_ok-start.start c.in_ok-start.edge c.in_ok-first.first c.in_ok-last.last found
-    (record { first = low; last = subst (λ n. HoldsAlong source c.args.dimension (slice_index_or c.args.copied.now.region.now.start c.args.dimension 0 + n) c.in_ok-last.last) is_last high }) in
+    let met = asked.met c.in_ok-start.start c.in_ok-start.edge c.saturating_sub-first.result c.min-last.result c.in_ok-first.first c.in_ok-last.last
+    found (omega (arith, first)) (omega (arith, last, end, c.saturating_add.ensures, asked.moved_fits)) low high in
     omega (arith, met.in_order, met.at_most, asked.moved_fits)
 
 pub returns : goal.returns
 returns g c =
-    let source = g.G.ChunkGridTraits.dimensions c.args.copied.now.source.now in
-    let target = g.H.ChunkGridTraits.dimensions c.args.copied.now.target.now in
-    let asked = are_asked source target c.args.copied.now.region.now c.args.copied.now.moved.now c.args.targets.now c.args.dimension c.args.steps
-    (g.met.G.ChunkGridTraits.chained c.args.copied.now.source.now) c.requires.taking c.requires.some c.requires.dimension c.requires.steps in
-    let at = c.args.copied.now.moved.now.start in
+    let chains = g.met.G.ChunkGridTraits.chained c.args.copied.now.source.now in
+    let asked = are_asked c.args.dimension c.args.steps chains c.requires.taking c.requires.some c.requires.dimension c.requires.steps in
     let found = rw (c.in_ok-start.ensures {u = tt}, c.start.ensures.value) at (c.in_ok-range.ensures {u = tt}) in
     let takes = asked.takes c.in_ok-start.start c.in_ok-start.edge found in
     let first = rw c.start-2.ensures.value at c.saturating_sub-first.ensures in
     let end = rw c.start-2.ensures.value at c.saturating_sub-end.ensures in
     let last = rw c.shape.ensures.value at c.min-last.ensures in
-    let low = rw (c.start-3.ensures.value, first) at (c.in_ok-first.ensures {u = tt}) in
+    let low = rw c.start-3.ensures.value at (c.in_ok-first.ensures {u = tt}) in
     let high = rw c.start-3.ensures.value at (c.in_ok-last.ensures {u = tt}) in
-    let is_last : c.min-last.result - 1 ≡ steps_to_end (slice_index_or at c.args.dimension 0) (slice_index_or c.args.copied.now.moved.now.shape c.args.dimension 0) c.in_ok-start.start c.in_ok-start.edge - 1 =
-    omega (arith, last, end, c.saturating_add.ensures, asked.moved_fits) in
-    let met = asked.met c.in_ok-start.start c.in_ok-start.edge c.in_ok-first.first c.in_ok-last.last found
-    (record { first = low; last = subst (λ n. HoldsAlong source c.args.dimension (slice_index_or c.args.copied.now.region.now.start c.args.dimension 0 + n) c.in_ok-last.last) is_last high }) in
+    let met = asked.met c.in_ok-start.start c.in_ok-start.edge c.saturating_sub-first.result c.min-last.result c.in_ok-first.first c.in_ok-last.last
+    found (omega (arith, first)) (omega (arith, last, end, c.saturating_add.ensures, asked.moved_fits)) low high in
     omega (arith, met.in_order, met.as_many)

@@ -25,8 +25,8 @@ overflow_add-sum g c =
     let lies = rw (sym taking.one_shape) at taking.in_source in
     let fits = sums_fit source target region.start moved.start moved.shape targets.start targets.shape c.args.dimension c.loop-steps.steps chains
     (g.met.H.ChunkGridTraits.chained c.args.copied.now.target.now)
-    (as_many_dimensions source target region moved targets chains taking) (as_many_starts source target region moved targets chains taking) lies fit
-    (taking_ranges source target region moved targets chains taking c.requires.some) c.requires.dimension less
+    (as_many_dimensions chains taking) (as_many_starts chains taking) lies fit
+    (taking_ranges chains taking c.requires.some) c.requires.dimension less
     in
     let (sum, _) = c.loop-steps.invariant in
     omega (arith, sum, c.in_ok-sources.ensures, fits)
@@ -42,7 +42,7 @@ loop-steps-preserved g c =
     let all = counters source target region moved in
     let met = slice_index_or (met_in all targets.start targets.shape) c.args.dimension [] in
     let less = rw c.shape.ensures.value at c.loop-steps-test.true in
-    let many = as_many_counters source target region moved targets (g.met.G.ChunkGridTraits.chained c.args.copied.now.source.now) taking in
+    let many = as_many_counters (g.met.G.ChunkGridTraits.chained c.args.copied.now.source.now) taking in
     let is_box = taking.is_box in
     let long = table_long all targets.start targets.shape c.args.dimension (omega (arith, taking.long, many)) is_box.lengths c.requires.dimension in
     let (sum, most) = c.loop-steps.invariant in (
@@ -63,7 +63,7 @@ returns g c =
     let met = slice_index_or (met_in all targets.start targets.shape) c.args.dimension [] in
     let ended = rw c.shape.ensures.value at c.loop-steps-test.false in
     let end = rw c.shape.ensures.value at c.loop-steps.auto.steps-end in
-    let many = as_many_counters source target region moved targets (g.met.G.ChunkGridTraits.chained c.args.copied.now.source.now) taking in
+    let many = as_many_counters (g.met.G.ChunkGridTraits.chained c.args.copied.now.source.now) taking in
     let is_box = taking.is_box in
     let long = table_long all targets.start targets.shape c.args.dimension (omega (arith, taking.long, many)) is_box.lengths c.requires.dimension in
     let whole : take c.loop-steps.steps met ≡ met = take_all c.loop-steps.steps met (omega (arith, ended, end)) in
