@@ -47,7 +47,7 @@ module _ {G E H F : Type 0} (source_dimensions : G → List Dimension) (target_d
 
     -- and so the part has one
     has_some : MeetSubset target_dimensions before.targets → ¬ IsEmptyBox to.in_subset
-    has_some meet = not_empty _ _ before.targets.array_subset to.chunk.items to (steps.part meet) (meets meet)
+    has_some meet = not_empty (steps.part meet) (meets meet)
 
     abbrev PlansFrom : Parts G E → Box → Type 0
     PlansFrom from b = IsPlanned source_dimensions before.source.now.grid before.source.now.encoding b from

@@ -1,9 +1,9 @@
 -- The counts of a read are those of its parts.
-use Rattle.std.proofs.Common.{◌≡◌, ◌≢◌, ◌⊎◌, ◌∙◌, ℕ, zero, suc, ◌+◌, ◌*◌, List, [], ◌∷◌, Contains, Global, Some, Vec, length, map, min}
+use Rattle.std.proofs.Common.{◌≡◌, ◌≢◌, ◌↔◌, ◌⊎◌, ◌∙◌, ℕ, zero, suc, ◌+◌, ◌*◌, List, [], ◌∷◌, Contains, Global, Some, Vec, length, map, min}
 use Rattle.std.proofs.Common.{refl, ap, subst, sym, ⊎_elim, arith}
 use Rattle.std.proofs.lemmas.Slice.Zip.{AllZip-long}
 use Rattle.std.specs.List.{AllByRecursion}
-use Rattle.zarrs_chunk_base.specs.ArraySubset.{Box, IsBox, IsEmptyBox, zero_box}
+use Rattle.zarrs_chunk_base.specs.ArraySubset.{Box, IsBox, IsEmptyBox, IsInside, zero_box}
 use Rattle.zarrs_chunk_base.specs.Dimension.{Dimension, IsChain}
 use Rattle.zarrs_chunks.specs.Subsets.{IsCover}
 use Rattle.zarrs_chunks.specs.Walks.{chunks_in}
@@ -15,7 +15,7 @@ use Rattle.zarrs_chunk_parts.specs.Plan.{HasElement, IsPart, IsPlan}
 use Rattle.zarrs_chunk_plan.specs.declared.counts.Counts.{Counts}
 use Rattle.zarrs_chunk_parts.specs.declared.part.Part.{Part}
 use Rattle.zarrs_chunk_plan.proofs.BoxCounts.{box_many, in_box_many, product_of_none}
-use Rattle.zarrs_chunk_plan.proofs.Plans.{has_common, pair_of, some_part, source_of}
+use Rattle.zarrs_chunk_plan.proofs.Plans.{chunk_of, has_common, part_of, some_part}
 use Rattle.zarrs_chunk_plan.proofs.SameBoxes.{chunks_of_same}
 
 -- the product of numbers that are cut at 1 is that of the numbers, cut at 1
@@ -53,39 +53,34 @@ module _ (b cover : Box) (copies elements largest lines chunks : Vec ℕ Global)
         (sym elements_are)
         (box_many b _ is_box
         (λ index. (
-          some_part ds IsKey b chains is_box parts plan index,
-          λ (part, among, (place, has)).
-              let (chunk, _, is) = source_of (IsPart ds IsKey b) (chunks_in plan.cover) parts plan.are_parts part among in
-              (has_common ds IsKey b chunk part index place is has).1,
+          some_part plan chains is_box index,
+          λ (part, among, (place, has)). let (chunk, _, is) = chunk_of plan part among in (has_common is has).1,
         )));
     source_chunks = subst (λ items. AreMany (λ chunk. (part : Part) × Contains parts part × (part.chunk.items ≡ chunk)) (product items))
         (sym chunks_are)
         (box_many cover _ is_cover.is_box
         (λ chunk. (
           λ inside.
-              let counted = subst (λ all. Contains all chunk) (sym same) ((are_those_inside cover is_cover.is_box chunk).1 inside) in
-              let (part, among, is) = pair_of (IsPart ds IsKey b) (chunks_in plan.cover) parts plan.are_parts chunk counted in
+              let (part, among, is) = part_of plan chunk ((covered chunk).1 inside) in
               (part, among, is.numbers),
           λ (part, among, numbers).
-              let (c, counted, is) = source_of (IsPart ds IsKey b) (chunks_in plan.cover) parts plan.are_parts part among in
-              (are_those_inside cover is_cover.is_box chunk).0
-              (subst (λ all. Contains all chunk) same (subst (Contains (chunks_in plan.cover)) (sym is.numbers ∙ numbers) counted)),
+              let (c, counted, is) = chunk_of plan part among in
+              let inside = (are_those_inside plan.cover plan.is_cover.is_box c).0 counted in
+              (covered chunk).0 (subst (IsInside plan.cover) (sym is.numbers ∙ numbers) inside),
         )));
   } where
     some : ¬ IsEmptyBox b
     some = ⊎_elim (λ h. h) (λ none. none_is_not_empty b is_box (omega arith)) may
 
-    same : chunks_in plan.cover ≡ chunks_in cover
-    same =
-        chunks_of_same plan.cover cover plan.is_cover.is_box is_cover.is_box
-        (λ chunk.
+    covered : (chunk : List ℕ) → IsInside plan.cover chunk ↔ IsInside cover chunk
+    covered chunk =
         let one = cover_meets ds b plan.cover chains is_box some plan.is_cover chunk in
         let other = cover_meets ds b cover chains is_box some is_cover chunk in
-        (λ h. other.1 (one.0 h), λ h. one.1 (other.0 h)))
+        (λ h. other.1 (one.0 h), λ h. one.1 (other.0 h))
 
     many : product cover.shape ≡ length parts
     many =
-        sym (in_box_many cover) ∙ ap length (sym same)
+        sym (in_box_many cover) ∙ ap length (sym (chunks_of_same plan.cover cover plan.is_cover.is_box is_cover.is_box covered))
         ∙ sym (AllZip-long (IsPart ds IsKey b) (chunks_in plan.cover) parts plan.are_parts)
 
   pub of_none : (n : ℕ) → n ≢ 0 → IsEmptyBox b → cover ≡ zero_box n → AreReadCounts b [] counted

@@ -45,23 +45,7 @@ pub no_turn : (edges : List ℕ) (k edge last : ℕ) (all : List ℕ) → last �
 no_turn edges k edge last all le so_far =
     ap (λ xs. edges ++ xs) (no_more (64 - (k + 1)) edge last le ∙ sym (no_more (64 - k) edge last le)) ∙ so_far
 
--- each edge that is tried of some that aren't 0 isn't 0
-pub positive : (times edge last : ℕ) → 0 < edge → 0 < last → AllByRecursion (λ e. 0 < e) (doubled times edge last)
-unfolding doubled
-positive zero edge last some last_some = (last_some, tt)
-positive (suc times) edge last some last_some =
-    ⊎_elim (λ (less : edge < last). rw (lt-ltb edge last less) (some, positive times (edge + edge) last (omega arith) last_some))
-    (λ (le : last ≤ edge). rw (le-ltb edge last le) (last_some, tt)) (cases_lt edge last)
-
-pub all_positive : (sizes shape other : List ℕ) → AllByRecursion (λ e. 0 < e) shape → AllByRecursion (λ e. 0 < e) other
-    → AllByRecursion (AllByRecursion (λ e. 0 < e)) (all_tried sizes shape other)
-all_positive [] shape other some also = tt
-all_positive (n ∷ sizes) [] other some also = tt
-all_positive (n ∷ sizes) (e ∷ shape) [] some also = tt
-all_positive (n ∷ sizes) (e ∷ shape) (f ∷ other) (some, rest) (also, others) =
-    (positive 64 (min (max n 1) (min e f)) (min (max n 1) (max e f)) (omega arith) (omega arith), all_positive sizes shape other rest others)
-
--- they ascend
+-- each edge that is tried is above what the first and the last one are
 above : (n times edge last : ℕ) → n < edge → n < last → AllByRecursion (λ e. n < e) (doubled times edge last)
 unfolding doubled
 above n zero edge last less also = (also, tt)
@@ -69,6 +53,19 @@ above n (suc times) edge last less also =
     ⊎_elim (λ (below : edge < last). rw (lt-ltb edge last below) (less, above n times (edge + edge) last (omega arith) also))
     (λ (le : last ≤ edge). rw (le-ltb edge last le) (also, tt)) (cases_lt edge last)
 
+-- what the edges have that are tried along one dimension, where neither of the greatest ones is 0, those along each have
+each_tried : (P : List ℕ → Type 0) → ((n e f : ℕ) → 0 < e → 0 < f → P (edges_tried n e f)) → (sizes shape other : List ℕ)
+    → AllByRecursion (λ e. 0 < e) shape → AllByRecursion (λ e. 0 < e) other → AllByRecursion P (all_tried sizes shape other)
+each_tried P one [] shape other some also = tt
+each_tried P one (n ∷ sizes) [] other some also = tt
+each_tried P one (n ∷ sizes) (e ∷ shape) [] some also = tt
+each_tried P one (n ∷ sizes) (e ∷ shape) (f ∷ other) (some, rest) (also, others) = (one n e f some also, each_tried P one sizes shape other rest others)
+
+pub all_positive : (sizes shape other : List ℕ) → AllByRecursion (λ e. 0 < e) shape → AllByRecursion (λ e. 0 < e) other
+    → AllByRecursion (AllByRecursion (λ e. 0 < e)) (all_tried sizes shape other)
+all_positive = each_tried (AllByRecursion (λ e. 0 < e)) (λ n e f some also. above 0 64 _ _ (omega arith) (omega arith))
+
+-- they ascend
 ascend : (times edge last : ℕ) → 0 < edge → edge ≤ last → Ascend (doubled times edge last)
 ascend zero edge last some le = rw (not_at_all edge last) (tt, tt)
 ascend (suc times) edge last some le =
@@ -83,11 +80,7 @@ ascend (suc times) edge last some le =
 
 pub all_ascend : (sizes shape other : List ℕ) → AllByRecursion (λ e. 0 < e) shape → AllByRecursion (λ e. 0 < e) other
     → AllByRecursion Ascend (all_tried sizes shape other)
-all_ascend [] shape other some also = tt
-all_ascend (n ∷ sizes) [] other some also = tt
-all_ascend (n ∷ sizes) (e ∷ shape) [] some also = tt
-all_ascend (n ∷ sizes) (e ∷ shape) (f ∷ other) (some, rest) (also, others) =
-    (ascend 64 (min (max n 1) (min e f)) (min (max n 1) (max e f)) (omega arith) (omega arith), all_ascend sizes shape other rest others)
+all_ascend = each_tried Ascend (λ n e f some also. ascend 64 _ _ (omega arith) (omega arith))
 
 -- where both shapes are 1 along each dimension, that is the only one that is tried
 ones_tried : (size : ℕ) → edges_tried size 1 1 ≡ 1 ∷ []

@@ -6,6 +6,8 @@ use Rattle.std.proofs.lemmas.List.{length-map}
 use Rattle.std.specs.List.{AllByRecursion, AllZip}
 use Rattle.zarrs_chunk_base.specs.ArraySubset.{IsEmptyBox, IsInside}
 use Rattle.zarrs_chunk_base.specs.Dimension.{Dimension, Holds, InBox, IsChain, IsShape, array_sizes, grid_sizes}
+use Rattle.zarrs_chunk_base.proofs.InEach.{length_values, numbers_are}
+use Rattle.zarrs_chunks.proofs.Covers.{head_some, tail_some}
 use Rattle.zarrs_chunk_axes.specs.EqualEdges.{AreEqualEdges, IsEqualEdges}
 use Rattle.zarrs_chunk_axes.specs.InBounds.{AreBelow}
 use Rattle.zarrs_chunk_parts.specs.Plan.{Meets}
@@ -62,28 +64,18 @@ are_chains (d ∷ ds) (n ∷ sizes) (e ∷ edges) are some = (is_chain d n e are
 are_chains _ _ _ are some = absurd are
 
 pub sizes_are : (ds : List Dimension) (sizes edges : List ℕ) → AreEqualEdges ds sizes edges → array_sizes ds ≡ sizes
-sizes_are [] [] [] are = refl
-sizes_are (d ∷ ds) (n ∷ sizes) (e ∷ edges) are = let here = are.0 in ap₂ (λ x xs. x ∷ xs) here.array_size (sizes_are ds sizes edges are.1)
-sizes_are _ _ _ are = absurd are
+sizes_are ds sizes edges are = sym (numbers_are IsEqualEdges (λ d. d.array_size) (λ d n e is. is.array_size) ds sizes edges are)
 
 pub edges_long : (ds : List Dimension) (sizes edges : List ℕ) → AreEqualEdges ds sizes edges → length edges ≡ length ds
-edges_long [] [] [] are = refl
-edges_long (d ∷ ds) (n ∷ sizes) (e ∷ edges) are = ap suc (edges_long ds sizes edges are.1)
-edges_long _ _ _ are = absurd are
+edges_long = length_values IsEqualEdges
 
 all_held : (ds : List Dimension) (sizes edges chunk : List ℕ) → AreEqualEdges ds sizes edges → AreBelow (grid_sizes ds) chunk
     → (¬ Contains (array_sizes ds) 0) → (index : List ℕ) × InBox ds chunk index × AreBelow (array_sizes ds) index
 all_held [] [] [] [] are below some = ([], tt, tt)
 all_held (d ∷ ds) (n ∷ sizes) (e ∷ edges) (c ∷ chunk) are below some =
-    let not_zero : 0 < d.array_size =
-    ⊎_elim (λ (more : 0 < d.array_size). more) (λ (le : d.array_size ≤ 0). absurd (some (0, omega arith, none_there d.array_size (omega arith))))
-    (cases_lt 0 d.array_size)
-    in
-    let (i, held, within) = first_held d n e c are.0 below.0 not_zero in
-    let (index, box, all) = all_held ds sizes edges chunk are.1 below.1 (λ (k, less, is). some (suc k, omega arith, is)) in
-    (i ∷ index, (held, box), (within, all)) where
-      none_there : (m : ℕ) → m ≡ 0 → m ≡ 0
-      none_there m is = is
+    let (i, held, within) = first_held d n e c are.0 below.0 (head_some d.array_size (array_sizes ds) some) in
+    let (index, box, all) = all_held ds sizes edges chunk are.1 below.1 (tail_some d.array_size (array_sizes ds) some) in
+    (i ∷ index, (held, box), (within, all))
 all_held _ _ _ _ are below some = absurd (first_of (assumption, omega arith))
 
 pub counted_meet : (ds : List Dimension) (sizes edges : List ℕ) → AreEqualEdges ds sizes edges → (¬ IsEmptyBox (array_box ds))

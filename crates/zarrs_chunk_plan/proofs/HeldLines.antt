@@ -23,8 +23,8 @@ module _ (source : List Dimension) (IsSourceKey : List ℕ → List ℕ → Type
   pub hold : (most : ℕ) (largest other : List ℕ) → NoneIsLonger source largest → NoneIsLonger target other → HoldAtMost most largest other
       → HoldAtMost most copy.0.shape.items copy.1.shape.items
   hold most largest other none also fits =
-      let of = what_it_is_of source IsSourceKey target IsTargetKey chains chunks groups plan copy among in
-      let in_all = ((those_are target IsTargetKey of.t copy.1 of.is_to of.meets of.index).0 of.within).1 in
+      let of = what_it_is_of chains plan copy among in
+      let in_all = ((those_are of.is_to of.meets of.index).0 of.within).1 in
       let meets : Meets source (array_box source) of.s =
       (of.index, of.in_source, subst (λ b. IsInside b of.index) (sym (one_box source target one_array)) in_all)
       in

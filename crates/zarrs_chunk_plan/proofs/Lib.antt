@@ -12,7 +12,6 @@ pub mod Copied
 pub mod Choices
 pub mod CopyLists
 pub mod CountedCopies
-pub mod CountedGroups
 pub mod CountedParts
 pub mod CountsTold
 pub mod Divisors

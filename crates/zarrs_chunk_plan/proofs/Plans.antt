@@ -114,69 +114,92 @@ not_empty_if_inside _ _ _ within h = absurd within
 
 -- ---- one part
 
--- the part of a chunk has an element that chunk and box share
-pub takes : (ds : List Dimension) (IsKey : List ℕ → List ℕ → Type 0) (b : Box) (chunk : List ℕ) (part : Part) (index : List ℕ)
-    → IsPart ds IsKey b chunk part → IsCommon ds b chunk index → (place : List ℕ) × HasElement b part index place
-takes ds IsKey b chunk part index is common =
-    let boxes = is.boxes in
-    let (steps, below, counts) = offset_of boxes.shared.start boxes.shared.shape index ((boxes.elements index).1 common) in (
-      counted_from part.in_chunk.start steps,
-      record {
-        steps = steps;
-        below = subst (λ shape. AreBelow shape steps) boxes.from_chunk.shape below;
-        place_is = refl;
-        index_is = sym counts ∙ ap (λ start. counted_from start steps) boxes.from_subset.start ∙ sym (added b.start part.in_subset.start steps);
-      },
-    )
+module _ {ds : List Dimension} {IsKey : List ℕ → List ℕ → Type 0} {b : Box} {chunk : List ℕ} {part : Part} (is : IsPart ds IsKey b chunk part) where
+  -- it has each element that chunk and box share
+  pub takes : (index : List ℕ) → IsCommon ds b chunk index → (place : List ℕ) × HasElement b part index place
+  takes index common =
+      let boxes = is.boxes in
+      let (steps, below, counts) = offset_of boxes.shared.start boxes.shared.shape index ((boxes.elements index).1 common) in (
+        counted_from part.in_chunk.start steps,
+        record {
+          steps = steps;
+          below = subst (λ shape. AreBelow shape steps) boxes.from_chunk.shape below;
+          place_is = refl;
+          index_is = sym counts ∙ ap (λ start. counted_from start steps) boxes.from_subset.start ∙ sym (added b.start part.in_subset.start steps);
+        },
+      )
 
--- what it has is what they share
-pub has_common : (ds : List Dimension) (IsKey : List ℕ → List ℕ → Type 0) (b : Box) (chunk : List ℕ) (part : Part) (index place : List ℕ)
-    → IsPart ds IsKey b chunk part → HasElement b part index place → IsCommon ds b chunk index
-has_common ds IsKey b chunk part index place is has =
-    let boxes = is.boxes in
-    let shared = boxes.shared in
-    let below : AreBelow shared.shape has.steps = subst (λ shape. AreBelow shape has.steps) (sym boxes.from_chunk.shape) has.below in
-    let counts : counted_from shared.start has.steps ≡ index =
-    ap (λ start. counted_from start has.steps) boxes.from_subset.start ∙ sym (added b.start part.in_subset.start has.steps) ∙ sym has.index_is
-    in
-    (boxes.elements index).0
-    (subst (AreWithin shared.start shared.shape) counts (lie_within shared.start shared.shape has.steps boxes.is_box.lengths below))
+  -- and no other
+  pub has_common : {index place : List ℕ} → HasElement b part index place → IsCommon ds b chunk index
+  has_common {index} has =
+      let boxes = is.boxes in
+      let shared = boxes.shared in
+      let below : AreBelow shared.shape has.steps = subst (λ shape. AreBelow shape has.steps) (sym boxes.from_chunk.shape) has.below in
+      let counts : counted_from shared.start has.steps ≡ index =
+      ap (λ start. counted_from start has.steps) boxes.from_subset.start ∙ sym (added b.start part.in_subset.start has.steps) ∙ sym has.index_is
+      in
+      (boxes.elements index).0
+      (subst (AreWithin shared.start shared.shape) counts (lie_within shared.start shared.shape has.steps boxes.is_box.lengths below))
 
--- and each of its lists of numbers is as long as there are dimensions
-pub all_long : (ds : List Dimension) (IsKey : List ℕ → List ℕ → Type 0) (b : Box) (chunk : List ℕ) (part : Part) (index : List ℕ)
-    → IsPart ds IsKey b chunk part → IsCommon ds b chunk index
-    → (length index ≡ length ds) × (length b.start ≡ length ds) × (length part.in_chunk.start ≡ length ds) × (length part.in_chunk.shape ≡ length ds)
-    × (length part.in_subset.start ≡ length ds)
-all_long ds IsKey b chunk part index is common =
-    let boxes = is.boxes in
-    let in_chunk = ap length boxes.from_chunk.shape in
-    let in_subset = ap length boxes.from_subset.shape in
-    let in_shared : length index ≡ length boxes.shared.start = within_lengths _ _ _ ((boxes.elements index).1 common) in
-    let in_box : length index ≡ length b.start = within_lengths _ _ _ common.1 in
-    let many : length index ≡ length ds = length_values Holds ds chunk index common.0 in
-    (many, omega arith, omega arith, omega arith, omega arith)
+  -- each of its lists of numbers is as long as there are dimensions
+  pub all_long : (index : List ℕ) → IsCommon ds b chunk index
+      → (length index ≡ length ds) × (length b.start ≡ length ds) × (length part.in_chunk.start ≡ length ds)
+      × (length part.in_chunk.shape ≡ length ds) × (length part.in_subset.start ≡ length ds)
+  all_long index common =
+      let boxes = is.boxes in
+      let in_chunk = ap length boxes.from_chunk.shape in
+      let in_subset = ap length boxes.from_subset.shape in
+      let in_shared : length index ≡ length boxes.shared.start = within_lengths _ _ _ ((boxes.elements index).1 common) in
+      let in_box : length index ≡ length b.start = within_lengths _ _ _ common.1 in
+      let many : length index ≡ length ds = length_values Holds ds chunk index common.0 in
+      (many, omega arith, omega arith, omega arith, omega arith)
 
--- it has an element at its place in the chunk
-pub has_place : (ds : List Dimension) (IsKey : List ℕ → List ℕ → Type 0) (b : Box) (chunk : List ℕ) (part : Part) (index place : List ℕ)
-    → IsPart ds IsKey b chunk part → HasElement b part index place → InBox ds chunk index × IsPlace ds chunk index place
-has_place ds IsKey b chunk part index place is has =
-    let boxes = is.boxes in
-    let common = has_common ds IsKey b chunk part index place is has in
-    let from_origin : index ≡ counted_from boxes.origin place =
-    has.index_is ∙ added b.start part.in_subset.start has.steps
-    ∙ ap (λ start. counted_from start has.steps) (sym boxes.from_subset.start ∙ boxes.from_chunk.start)
-    ∙ sym (added boxes.origin part.in_chunk.start has.steps) ∙ ap (counted_from boxes.origin) (sym has.place_is)
-    in
-    let long = all_long ds IsKey b chunk part index is common in
-    let steps_many = length_below part.in_chunk.shape has.steps has.below in
-    let place_many = ap length has.place_is ∙ length_counted part.in_chunk.start has.steps (omega arith) in
-    (common.0, rw from_origin (place_from_origin ds chunk boxes.origin place boxes.is_origin (omega arith)))
+  -- an element is at its place in the chunk
+  pub has_place : {index place : List ℕ} → HasElement b part index place → InBox ds chunk index × IsPlace ds chunk index place
+  has_place {index} {place} has =
+      let boxes = is.boxes in
+      let common = has_common has in
+      let from_origin : index ≡ counted_from boxes.origin place =
+      has.index_is ∙ added b.start part.in_subset.start has.steps
+      ∙ ap (λ start. counted_from start has.steps) (sym boxes.from_subset.start ∙ boxes.from_chunk.start)
+      ∙ sym (added boxes.origin part.in_chunk.start has.steps) ∙ ap (counted_from boxes.origin) (sym has.place_is)
+      in
+      let long = all_long index common in
+      let steps_many = length_below part.in_chunk.shape has.steps has.below in
+      let place_many = ap length has.place_is ∙ length_counted part.in_chunk.start has.steps (omega arith) in
+      (common.0, rw from_origin (place_from_origin ds chunk boxes.origin place boxes.is_origin (omega arith)))
 
--- and isn't empty, where the chunk has an element of the box
-pub not_empty : (ds : List Dimension) (IsKey : List ℕ → List ℕ → Type 0) (b : Box) (chunk : List ℕ) (part : Part) → IsPart ds IsKey b chunk part
-    → Meets ds b chunk → ¬ IsEmptyBox part.in_subset
-not_empty ds IsKey b chunk part is (index, box, inside) =
-    subst (λ shape. ¬ Contains shape 0) is.boxes.from_subset.shape (not_empty_if_inside _ _ index ((is.boxes.elements index).1 (box, inside)))
+  -- it isn't empty, where the chunk has an element of the box
+  pub not_empty : Meets ds b chunk → ¬ IsEmptyBox part.in_subset
+  not_empty (index, box, inside) =
+      subst (λ shape. ¬ Contains shape 0) is.boxes.from_subset.shape (not_empty_if_inside _ _ index ((is.boxes.elements index).1 (box, inside)))
+
+  -- what lies in its box is an element that it has
+  has_at : (place : List ℕ) → IsInside part.in_subset place → (at : List ℕ) × HasElement b part (counted_from b.start place) at
+  has_at place inside =
+      let boxes = is.boxes in
+      let (steps, below, counts) = offset_of part.in_subset.start part.in_subset.shape place inside in (
+        counted_from part.in_chunk.start steps,
+        record {
+          steps = steps;
+          below = subst (λ shape. AreBelow shape steps) (sym boxes.from_subset.shape ∙ boxes.from_chunk.shape) below;
+          place_is = refl;
+          index_is = ap (counted_from b.start) (sym counts);
+        },
+      )
+
+  -- and so it lies in the box that is read, counted from its first element
+  pub place_below : (place : List ℕ) → IsInside part.in_subset place → AreBelow b.shape place
+  place_below place inside =
+      let index = counted_from b.start place in
+      let common = has_common (has_at place inside).1 in
+      let long = all_long index common in
+      let in_part = within_lengths part.in_subset.start part.in_subset.shape place inside in
+      let sizes = within_sizes b.start b.shape index common.1 in
+      let (steps, below, counts) = offset_of b.start b.shape index common.1 in
+      let steps_many = length_below b.shape steps below ∙ sizes in
+      let same : steps ≡ place = counted_once b.start steps place steps_many (omega arith) counts in
+      subst (AreBelow b.shape) same below
 
 -- ---- parts and chunks, place by place
 
@@ -218,95 +241,75 @@ module _ {X Y : Type 0} (R : X → Y → Type 0) where
 
 -- ---- the plan
 
-module _ (ds : List Dimension) (IsKey : List ℕ → List ℕ → Type 0) (b : Box) where
+-- chunks of one cover that have one key are one
+pub one_chunk : {ds : List Dimension} {IsKey : List ℕ → List ℕ → Type 0} {b : Box}
+    → ((chunk other key : List ℕ) → AllFit chunk → AllFit other → length chunk ≡ length other → IsKey chunk key → IsKey other key → chunk ≡ other)
+    → (cover : Box) → IsBox cover → (one other : List ℕ) (part next : Part) → Contains (chunks_in cover) one → Contains (chunks_in cover) other
+    → IsPart ds IsKey b one part → IsPart ds IsKey b other next → part.key ≡ next.key → one ≡ other
+one_chunk {ds} {IsKey} exact cover is_box one other part next among also is is_other same =
+    let inside = (are_those_inside cover is_box one).0 among in
+    let other_inside = (are_those_inside cover is_box other).0 also in
+    exact one other part.key (inside_fits cover.start cover.shape one is_box.fits inside)
+    (inside_fits cover.start cover.shape other is_box.fits other_inside)
+    (within_lengths _ _ _ inside ∙ sym (within_lengths _ _ _ other_inside)) is.key (subst (IsKey other) (sym same) is_other.key)
+
+module _ {ds : List Dimension} {IsKey : List ℕ → List ℕ → Type 0} {b : Box} {parts : List Part} (plan : IsPlan ds IsKey b parts) where
+  -- each part is that of a chunk of the cover
+  pub chunk_of : (part : Part) → Contains parts part → (chunk : List ℕ) × Contains (chunks_in plan.cover) chunk × IsPart ds IsKey b chunk part
+  chunk_of = source_of (IsPart ds IsKey b) (chunks_in plan.cover) parts plan.are_parts
+
+  -- and each chunk of the cover has one
+  pub part_of : (chunk : List ℕ) → IsInside plan.cover chunk → (part : Part) × Contains parts part × IsPart ds IsKey b chunk part
+  part_of chunk inside =
+      pair_of (IsPart ds IsKey b) (chunks_in plan.cover) parts plan.are_parts chunk
+      ((are_those_inside plan.cover plan.is_cover.is_box chunk).1 inside)
+
+  -- what holds of the parts of each two chunks that differ holds of each two parts
+  each_two : (Q : Part → Part → Type 0)
+      → ((one other : List ℕ) (part next : Part) → Contains (chunks_in plan.cover) one → Contains (chunks_in plan.cover) other → one ≢ other
+      → IsPart ds IsKey b one part → IsPart ds IsKey b other next → Q part next) → AllPairs Q parts
+  each_two Q = pairs_of (IsPart ds IsKey b) Q (chunks_in plan.cover) parts plan.are_parts (chunks_once plan.cover plan.is_cover.is_box)
+
   -- each element of the box lies in some part
-  pub some_part : AllByRecursion IsChain ds → IsBox b → (parts : List Part) → IsPlan ds IsKey b parts → (index : List ℕ) → IsInside b index
+  pub some_part : AllByRecursion IsChain ds → IsBox b → (index : List ℕ) → IsInside b index
       → (part : Part) × Contains parts part × ((place : List ℕ) × HasElement b part index place)
-  some_part chains is_box parts plan index inside =
+  some_part chains is_box index inside =
       let (chunk, within, box) = cover_holds ds b plan.cover chains is_box plan.is_cover index inside in
-      let (part, among, is) = pair_of (IsPart ds IsKey b) (chunks_in plan.cover) parts plan.are_parts chunk
-      ((are_those_inside plan.cover plan.is_cover.is_box chunk).1 within)
-      in
-      (part, among, takes ds IsKey b chunk part index is (box, inside))
+      let (part, among, is) = part_of chunk within in
+      (part, among, takes is index (box, inside))
 
   -- and in no other
-  pub no_other_part : AllByRecursion IsChain ds → (parts : List Part) → IsPlan ds IsKey b parts
+  pub no_other_part : AllByRecursion IsChain ds
       → AllPairs (λ part other. (index place also : List ℕ) → HasElement b part index place → HasElement b other index also → ⊥) parts
-  no_other_part chains parts plan =
-      pairs_of (IsPart ds IsKey b) (λ part other. (index place also : List ℕ) → HasElement b part index place → HasElement b other index also → ⊥)
-      (chunks_in plan.cover) parts plan.are_parts (chunks_once plan.cover plan.is_cover.is_box)
+  no_other_part chains =
+      each_two (λ part other. (index place also : List ℕ) → HasElement b part index place → HasElement b other index also → ⊥)
       (λ one other part next _ _ differ is is_other index place also has has_other.
-      differ (same_box ds one other index chains (has_common ds IsKey b one part index place is has).0
-      (has_common ds IsKey b other next index also is_other has_other).0))
+      differ (same_box ds one other index chains (has_common is has).0 (has_common is_other has_other).0))
 
   -- the parts are of different chunks
-  pub parts_differ : (parts : List Part) → IsPlan ds IsKey b parts → AllPairs (λ part other. part.chunk.items ≢ other.chunk.items) parts
-  parts_differ parts plan =
-      pairs_of (IsPart ds IsKey b) (λ part other. part.chunk.items ≢ other.chunk.items) (chunks_in plan.cover) parts plan.are_parts
-      (chunks_once plan.cover plan.is_cover.is_box)
+  pub parts_differ : AllPairs (λ part other. part.chunk.items ≢ other.chunk.items) parts
+  parts_differ =
+      each_two (λ part other. part.chunk.items ≢ other.chunk.items)
       (λ one other part next _ _ differ is is_other same. differ (sym is.numbers ∙ same ∙ is_other.numbers))
-
-  -- chunks of one cover that have one key are one
-  pub one_chunk :
-      ((chunk other key : List ℕ) → AllFit chunk → AllFit other → length chunk ≡ length other → IsKey chunk key → IsKey other key → chunk ≡ other)
-      → (cover : Box) → IsBox cover → (one other : List ℕ) (part next : Part) → Contains (chunks_in cover) one → Contains (chunks_in cover) other
-      → IsPart ds IsKey b one part → IsPart ds IsKey b other next → part.key ≡ next.key → one ≡ other
-  one_chunk exact cover is_box one other part next among also is is_other same =
-      let inside = (are_those_inside cover is_box one).0 among in
-      let other_inside = (are_those_inside cover is_box other).0 also in
-      exact one other part.key (inside_fits cover.start cover.shape one is_box.fits inside)
-      (inside_fits cover.start cover.shape other is_box.fits other_inside)
-      (within_lengths _ _ _ inside ∙ sym (within_lengths _ _ _ other_inside)) is.key (subst (IsKey other) (sym same) is_other.key)
 
   pub keys_differ :
       ((chunk other key : List ℕ) → AllFit chunk → AllFit other → length chunk ≡ length other → IsKey chunk key → IsKey other key → chunk ≡ other)
-      → (parts : List Part) → IsPlan ds IsKey b parts → AllPairs (λ part other. part.key ≢ other.key) parts
-  keys_differ exact parts plan =
-      let cover = plan.cover in
-      let is_box = plan.is_cover.is_box in
-      pairs_of (IsPart ds IsKey b) (λ part other. part.key ≢ other.key) (chunks_in cover) parts plan.are_parts (chunks_once cover is_box)
-      (λ one other part next among also differ is is_other same. differ (one_chunk exact cover is_box one other part next among also is is_other same))
+      → AllPairs (λ part other. part.key ≢ other.key) parts
+  keys_differ exact =
+      each_two (λ part other. part.key ≢ other.key)
+      (λ one other part next among also differ is is_other same.
+      differ (one_chunk exact plan.cover plan.is_cover.is_box one other part next among also is is_other same))
 
-  -- what lies in a part's box is an element that the part has
-  has_at : (chunk : List ℕ) (part : Part) (place : List ℕ) → IsPart ds IsKey b chunk part → IsInside part.in_subset place
-      → (at : List ℕ) × HasElement b part (counted_from b.start place) at
-  has_at chunk part place is inside =
-      let boxes = is.boxes in
-      let (steps, below, counts) = offset_of part.in_subset.start part.in_subset.shape place inside in (
-        counted_from part.in_chunk.start steps,
-        record {
-          steps = steps;
-          below = subst (λ shape. AreBelow shape steps) (sym boxes.from_subset.shape ∙ boxes.from_chunk.shape) below;
-          place_is = refl;
-          index_is = ap (counted_from b.start) (sym counts);
-        },
-      )
-
-  -- and so it lies in the box, counted from its first element
-  pub place_below : (chunk : List ℕ) (part : Part) (place : List ℕ) → IsPart ds IsKey b chunk part → IsInside part.in_subset place
-      → AreBelow b.shape place
-  place_below chunk part place is inside =
-      let index = counted_from b.start place in
-      let (at, has) = has_at chunk part place is inside in
-      let common = has_common ds IsKey b chunk part index at is has in
-      let long = all_long ds IsKey b chunk part index is common in
-      let in_part = within_lengths part.in_subset.start part.in_subset.shape place inside in
-      let sizes = within_sizes b.start b.shape index common.1 in
-      let (steps, below, counts) = offset_of b.start b.shape index common.1 in
-      let steps_many = length_below b.shape steps below ∙ sizes in
-      let same : steps ≡ place = counted_once b.start steps place steps_many (omega arith) counts in
-      subst (AreBelow b.shape) same below
-
-  pub tiles_all : AllByRecursion IsChain ds → IsBox b → (parts : List Part) → IsPlan ds IsKey b parts → (place : List ℕ)
+  pub tiles_all : AllByRecursion IsChain ds → IsBox b → (place : List ℕ)
       → AreBelow b.shape place ↔ ((part : Part) × Contains parts part × IsInside part.in_subset place)
-  tiles_all chains is_box parts plan place = (find, λ (part, among, inside). lies part among inside) where
+  tiles_all chains is_box place = (find, λ (part, among, inside). let (_, _, is) = chunk_of part among in place_below is place inside) where
     find : AreBelow b.shape place → (part : Part) × Contains parts part × IsInside part.in_subset place
     find below =
         let index = counted_from b.start place in
-        let (part, among, (at, has)) = some_part chains is_box parts plan index (lie_within b.start b.shape place is_box.lengths below) in
-        let (chunk, _, is) = source_of (IsPart ds IsKey b) (chunks_in plan.cover) parts plan.are_parts part among in
+        let (part, among, (at, has)) = some_part chains is_box index (lie_within b.start b.shape place is_box.lengths below) in
+        let (chunk, _, is) = chunk_of part among in
         let boxes = is.boxes in
-        let long = all_long ds IsKey b chunk part index is (has_common ds IsKey b chunk part index at is has) in
+        let long = all_long is index (has_common is has) in
         let steps_many = length_below part.in_chunk.shape has.steps has.below in
         let place_many = length_below b.shape place below ∙ sym is_box.lengths in
         let counted = counted_from part.in_subset.start has.steps in
@@ -316,26 +319,17 @@ module _ (ds : List Dimension) (IsKey : List ℕ → List ℕ → Type 0) (b : B
         let lies = lie_within part.in_subset.start part.in_subset.shape has.steps boxes.from_subset.is_box.lengths below_part in
         (part, among, subst (AreWithin part.in_subset.start part.in_subset.shape) (sym same) lies)
 
-    lies : (part : Part) → Contains parts part → IsInside part.in_subset place → AreBelow b.shape place
-    lies part among inside =
-        let (chunk, _, is) = source_of (IsPart ds IsKey b) (chunks_in plan.cover) parts plan.are_parts part among in
-        place_below chunk part place is inside
-
-  pub tiles_apart : AllByRecursion IsChain ds → (parts : List Part) → IsPlan ds IsKey b parts
+  pub tiles_apart : AllByRecursion IsChain ds
       → AllPairs (λ part other. (place : List ℕ) → IsInside part.in_subset place → IsInside other.in_subset place → ⊥) parts
-  tiles_apart chains parts plan =
-      pairs_of (IsPart ds IsKey b) (λ part other. (place : List ℕ) → IsInside part.in_subset place → IsInside other.in_subset place → ⊥)
-      (chunks_in plan.cover) parts plan.are_parts (chunks_once plan.cover plan.is_cover.is_box)
+  tiles_apart chains =
+      each_two (λ part other. (place : List ℕ) → IsInside part.in_subset place → IsInside other.in_subset place → ⊥)
       (λ one other part next _ _ differ is is_other place inside also.
-      let (at, has) = has_at one part place is inside in
-      let (at_other, has_other) = has_at other next place is_other also in
-      differ (same_box ds one other (counted_from b.start place) chains (has_common ds IsKey b one part _ at is has).0
-      (has_common ds IsKey b other next _ at_other is_other has_other).0))
+      differ (same_box ds one other (counted_from b.start place) chains (has_common is (has_at is place inside).1).0
+      (has_common is_other (has_at is_other place also).1).0))
 
   -- no part of a box that isn't empty is empty
-  pub none_empty : AllByRecursion IsChain ds → IsBox b → (¬ IsEmptyBox b) → (parts : List Part) → IsPlan ds IsKey b parts
-      → (part : Part) → Contains parts part → ¬ IsEmptyBox part.in_subset
-  none_empty chains is_box some parts plan part among =
-      let (chunk, has, is) = source_of (IsPart ds IsKey b) (chunks_in plan.cover) parts plan.are_parts part among in
+  pub none_empty : AllByRecursion IsChain ds → IsBox b → (¬ IsEmptyBox b) → (part : Part) → Contains parts part → ¬ IsEmptyBox part.in_subset
+  none_empty chains is_box some part among =
+      let (chunk, has, is) = chunk_of part among in
       let inside = (are_those_inside plan.cover plan.is_cover.is_box chunk).0 has in
-      not_empty ds IsKey b chunk part is ((cover_meets ds b plan.cover chains is_box some plan.is_cover chunk).0 inside)
+      not_empty is ((cover_meets ds b plan.cover chains is_box some plan.is_cover chunk).0 inside)

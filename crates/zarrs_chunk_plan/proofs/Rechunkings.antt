@@ -13,7 +13,7 @@ use Rattle.zarrs_chunks.proofs.ChunksInBoxes.{length_below}
 use Rattle.zarrs_chunks.proofs.FittingChunks.{counted_home}
 use Rattle.zarrs_chunk_parts.specs.Plan.{AreShared, IsCommon, IsPart, IsPlan, Meets}
 use Rattle.zarrs_chunk_plan.specs.Rechunking.{AreCopiesInto, Group, IsRechunking, Moves, ShareOut, all_chunks_box, array_box, copies_of}
-use Rattle.zarrs_chunk_plan.specs.Region.{MovesTo, shifted}
+use Rattle.zarrs_chunk_plan.specs.Region.{IsCopy, MovesTo, shifted}
 use Rattle.zarrs_chunk_parts.specs.declared.part.Part.{Part}
 use Rattle.zarrs_chunk_plan.proofs.CopyLists.{pairs_follow}
 use Rattle.zarrs_chunk_plan.proofs.Joined.{in_joined, pairs_joined}
@@ -72,7 +72,7 @@ module _ (ds : List Dimension) (chunk : List ℕ) (in_chunk in_subset : Box) (bo
   pub found_are : (index : List ℕ) → IsInside in_subset index ↔ IsCommon ds (array_box ds) chunk index
   found_are index = rw (found_start, boxes.from_subset.shape) at (boxes.elements index)
 
-module _ (ds : List Dimension) (IsKey : List ℕ → List ℕ → Type 0) (chunk : List ℕ) (to : Part) (is : IsPart ds IsKey (array_box ds) chunk to)
+module _ {ds : List Dimension} {IsKey : List ℕ → List ℕ → Type 0} {chunk : List ℕ} {to : Part} (is : IsPart ds IsKey (array_box ds) chunk to)
     (meets : Meets ds (array_box ds) chunk) where
   pub shared_start : is.boxes.shared.start ≡ to.in_subset.start
   shared_start = found_start ds chunk to.in_chunk to.in_subset is.boxes meets
@@ -81,128 +81,116 @@ module _ (ds : List Dimension) (IsKey : List ℕ → List ℕ → Type 0) (chunk
   pub those_are : (index : List ℕ) → IsInside to.in_subset index ↔ IsCommon ds (array_box ds) chunk index
   those_are = found_are ds chunk to.in_chunk to.in_subset is.boxes meets
 
--- what a chunk takes, counted from 0, is where it is in the array
-pub from_there : (target : List Dimension) (IsTargetKey : List ℕ → List ℕ → Type 0) (chunk : List ℕ) (to : Part)
-    → IsPart target IsTargetKey (array_box target) chunk to → Meets target (array_box target) chunk
-    → shifted (array_box target).start to.in_subset ≡ to.in_subset
-from_there target IsTargetKey chunk to is (index, box, inside) =
-    let long = all_long target IsTargetKey (array_box target) chunk to index is (box, inside) in
-    ap (λ (start : List ℕ). let b : Box = record { start = start; shape = to.in_subset.shape } in b)
-    (counted_from_zeros (length target) to.in_subset.start (omega arith))
+  -- what the chunk takes, counted from 0, is where it is in the array
+  pub from_there : shifted (array_box ds).start to.in_subset ≡ to.in_subset
+  from_there =
+      let (index, box, inside) = meets in
+      let long = all_long is index (box, inside) in
+      ap (λ (start : List ℕ). let b : Box = record { start = start; shape = to.in_subset.shape } in b)
+      (counted_from_zeros (length ds) to.in_subset.start (omega arith))
 
 -- so what is copied into a chunk is read from there
-pub read_there : (source : List Dimension) (IsSourceKey : List ℕ → List ℕ → Type 0) (target : List Dimension)
-    (IsTargetKey : List ℕ → List ℕ → Type 0) (chunk : List ℕ) (group : Group) → AreCopiesInto source IsSourceKey target IsTargetKey chunk group
+pub read_there : {source : List Dimension} {IsSourceKey : List ℕ → List ℕ → Type 0} {target : List Dimension}
+    {IsTargetKey : List ℕ → List ℕ → Type 0} {chunk : List ℕ} {group : Group} → AreCopiesInto source IsSourceKey target IsTargetKey chunk group
     → Meets target (array_box target) chunk → IsPlan source IsSourceKey group.0.in_subset group.1
-read_there source IsSourceKey target IsTargetKey chunk (to, from) into meets =
-    subst (λ b. IsPlan source IsSourceKey b from) (from_there target IsTargetKey chunk to into.to meets) into.from
+read_there {source} {IsSourceKey} {group} into meets =
+    subst (λ b. IsPlan source IsSourceKey b group.1) (from_there into.to meets) into.from
 
 -- ---- the copies
 
-module _ (source : List Dimension) (IsSourceKey : List ℕ → List ℕ → Type 0) (target : List Dimension) (IsTargetKey : List ℕ → List ℕ → Type 0) where
-  abbrev Whole : Box
-  Whole = array_box target
+-- no element is moved by both
+abbrev Apart : (source target : List Dimension) → Part × Part → Part × Part → Type 0
+Apart source target copy other = (steps also index : List ℕ) → Moves source target copy steps index → Moves source target other also index → ⊥
 
-  zeros_long : length Whole.start ≡ length Whole.shape
-  zeros_long = length-replicate (length target) 0 ∙ sym (length-map target (λ (d : Dimension). d.array_size))
+zeros_long : (ds : List Dimension) → length (array_box ds).start ≡ length (array_box ds).shape
+zeros_long ds = length-replicate (length ds) 0 ∙ sym (length-map ds (λ (d : Dimension). d.array_size))
 
-  reads : (chunk : List ℕ) (to : Part) → IsPart target IsTargetKey Whole chunk to → Meets target Whole chunk
-      → IsBox (shifted Whole.start to.in_subset)
-  reads chunk to is meets = subst IsBox (sym (from_there target IsTargetKey chunk to is meets)) is.boxes.from_subset.is_box
+-- the chunk of the target that a copy goes into, which is one of those that were chosen, and the copy's part of it
+pub record IsInto (target : List Dimension) (IsTargetKey : List ℕ → List ℕ → Type 0) (Chosen : List ℕ → Type 0) (copy : Part × Part) : Type 0 where
+  pub chunk : List ℕ
+  pub inside : Chosen chunk
+  pub meets : Meets target (array_box target) chunk
+  pub to : IsPart target IsTargetKey (array_box target) chunk copy.1
 
-  -- no element is moved by both
-  abbrev Apart : Part × Part → Part × Part → Type 0
-  Apart copy other = (steps also index : List ℕ) → Moves source target copy steps index → Moves source target other also index → ⊥
+module _ {source : List Dimension} {IsSourceKey : List ℕ → List ℕ → Type 0} {target : List Dimension} {IsTargetKey : List ℕ → List ℕ → Type 0}
+    {Chosen : List ℕ → Type 0} {groups : List Group}
+    (plan : IsCopy source IsSourceKey target IsTargetKey (array_box target) (array_box target).start Chosen groups) where
+  pub goes_into : (copy : Part × Part) → Contains (copies_of groups) copy → IsInto target IsTargetKey Chosen copy
+  goes_into copy among =
+      let of = is_copy_of plan copy among in
+      let (inside, meets) = (plan.are_targets of.chunk).0 of.inside in
+      record { chunk = of.chunk; inside = inside; meets = meets; to = of.to }
 
-  -- the chunk of the target that a copy goes into, which is one that was asked for, and the copy's part of it
-  pub record IsInto (chunks : Box) (copy : Part × Part) : Type 0 where
-    pub chunk : List ℕ
-    pub inside : IsInside chunks chunk
-    pub meets : Meets target Whole chunk
-    pub to : IsPart target IsTargetKey Whole chunk copy.1
+  -- each element whose chunk is chosen is moved by some copy
+  pub some_copy_into : AllByRecursion IsChain source → (index chunk : List ℕ) → AreBelow (array_sizes target) index
+      → InBox target chunk index → Chosen chunk
+      → (copy : Part × Part) × Contains (copies_of groups) copy × ((steps : List ℕ) × Moves source target copy steps index)
+  some_copy_into chains index chunk below box inside =
+      let same = same_place target index below in
+      let within = (plan.are_targets chunk).1 (inside, (index, box, (in_array target index).0 below)) in
+      let (copy, among, (steps, moves)) = some_copy plan chains (zeros_long target)
+      (λ chunk to is meets. subst IsBox (sym (from_there is meets)) is.boxes.from_subset.is_box) index chunk below within
+      (subst (InBox target chunk) (sym same) box)
+      in
+      (copy, among, (steps, subst (λ x. MovesTo source target copy steps x x) same moves))
 
-  module _ (chunks : Box) (groups : List Group) (plan : IsRechunking source IsSourceKey target IsTargetKey chunks groups) where
-    pub goes_into : (copy : Part × Part) → Contains (copies_of groups) copy → IsInto chunks copy
-    goes_into copy among =
-        let of = is_copy_of source IsSourceKey target IsTargetKey Whole Whole.start plan.targets plan.is_box groups plan.are_groups copy among in
-        let (inside, meets) = (plan.are_targets of.chunk).0 of.inside in
-        record { chunk = of.chunk; inside = inside; meets = meets; to = of.to }
+  -- no element is moved by two
+  pub no_other_copy : AllByRecursion IsChain source → AllByRecursion IsChain target → AllPairs (Apart source target) (copies_of groups)
+  no_other_copy chains also_chains =
+      pairs_follow
+      (λ copy other. (steps also index next to : List ℕ) → MovesTo source target copy steps index to → MovesTo source target other also next to → ⊥)
+      (Apart source target) (copies_of groups) (no_other_to plan chains also_chains (zeros_long target) (zeros_long target))
+      (λ copy other _ _ apart steps also index moved again. apart steps also index index index moved again)
 
-    -- each element whose chunk is asked for is moved by some copy
-    pub some_copy_into : AllByRecursion IsChain source → (index chunk : List ℕ) → AreBelow (array_sizes target) index
-        → InBox target chunk index → IsInside chunks chunk
-        → (copy : Part × Part) × Contains (copies_of groups) copy × ((steps : List ℕ) × Moves source target copy steps index)
-    some_copy_into chains index chunk below box inside =
-        let same = same_place target index below in
-        let within = (plan.are_targets chunk).1 (inside, (index, box, (in_array target index).0 below)) in
-        let (copy, among, (steps, moves)) = some_copy source IsSourceKey target IsTargetKey Whole Whole.start plan.targets plan.is_box groups
-        plan.are_groups chains zeros_long reads index chunk below within (subst (InBox target chunk) (sym same) box)
-        in
-        (copy, among, (steps, subst (λ x. MovesTo source target copy steps x x) same moves))
+  -- each place of a copy is that of an element of the array
+  pub moves_elements : (copy : Part × Part) → Contains (copies_of groups) copy → (steps : List ℕ) → AreBelow copy.0.in_chunk.shape steps
+      → (index : List ℕ) × AreBelow (array_sizes target) index × Moves source target copy steps index
+  moves_elements copy among steps below =
+      let (index, in_array, moves) = moves_region plan copy among steps below in
+      (index, in_array, subst (λ x. MovesTo source target copy steps x x) (same_place target index in_array) moves)
 
-    -- no element is moved by two
-    pub no_other_copy : AllByRecursion IsChain source → AllByRecursion IsChain target → AllPairs Apart (copies_of groups)
-    no_other_copy chains also_chains =
-        pairs_follow
-        (λ copy other. (steps also index next to : List ℕ) → MovesTo source target copy steps index to → MovesTo source target other also next to → ⊥)
-        Apart (copies_of groups)
-        (no_other_to source IsSourceKey target IsTargetKey Whole Whole.start plan.targets plan.is_box groups plan.are_groups chains also_chains
-        zeros_long zeros_long)
-        (λ copy other _ _ apart steps also index moved again. apart steps also index index index moved again)
+  -- under the keys of its chunks, of which that of the target is a chosen one
+  pub keys_of_copy : (copy : Part × Part) → Contains (copies_of groups) copy
+      → IsSourceKey copy.0.chunk.items copy.0.key × IsTargetKey copy.1.chunk.items copy.1.key × Chosen copy.1.chunk.items
+  keys_of_copy copy among =
+      let (key, also) = has_keys plan copy among in
+      let into = goes_into copy among in
+      (key, also, subst Chosen (sym into.to.numbers) into.inside)
 
-    -- each place of a copy is that of an element of the array
-    pub moves_elements : (copy : Part × Part) → Contains (copies_of groups) copy → (steps : List ℕ) → AreBelow copy.0.in_chunk.shape steps
-        → (index : List ℕ) × AreBelow (array_sizes target) index × Moves source target copy steps index
-    moves_elements copy among steps below =
-        let (index, in_array, moves) = moves_region source IsSourceKey target IsTargetKey Whole Whole.start plan.targets plan.is_box groups
-        plan.are_groups copy among steps below
-        in
-        (index, in_array, subst (λ x. MovesTo source target copy steps x x) (same_place target index in_array) moves)
+-- ---- rechunkings that share the target's chunks out
 
-    -- under the keys of its chunks, of which that of the target is one of those that were asked for
-    pub keys_of_copy : (copy : Part × Part) → Contains (copies_of groups) copy
-        → IsSourceKey copy.0.chunk.items copy.0.key × IsTargetKey copy.1.chunk.items copy.1.key × IsInside chunks copy.1.chunk.items
-    keys_of_copy copy among =
-        let (key, also) = has_keys source IsSourceKey target IsTargetKey Whole Whole.start plan.targets plan.is_box groups plan.are_groups copy among in
-        let into = goes_into copy among in
-        (key, also, subst (IsInside chunks) (sym into.to.numbers) into.inside)
-
-  -- ---- rechunkings that share the target's chunks out
-
+module _ {source : List Dimension} (IsSourceKey : List ℕ → List ℕ → Type 0) {target : List Dimension} (IsTargetKey : List ℕ → List ℕ → Type 0)
+    (chains : AllByRecursion IsChain source) (also_chains : AllByRecursion IsChain target) (boxes : List Box) (plans : List (List Group))
+    (shared : ShareOut target boxes) (zipped : AllZip (IsRechunking source IsSourceKey target IsTargetKey) boxes plans) where
   -- each element of the array is moved by some copy of one of them
-  pub some_copy_of_all : AllByRecursion IsChain source → AllByRecursion IsChain target
-      → (boxes : List Box) (plans : List (List Group)) → ShareOut target boxes
-      → AllZip (IsRechunking source IsSourceKey target IsTargetKey) boxes plans → (index : List ℕ) → AreBelow (array_sizes target) index
+  pub some_copy_of_all : (index : List ℕ) → AreBelow (array_sizes target) index
       → (copy : Part × Part) × Contains (flat_map copies_of plans) copy × ((steps : List ℕ) × Moves source target copy steps index)
-  some_copy_of_all chains also_chains boxes plans shared zipped index below =
+  some_copy_of_all index below =
       let (chunk, _, box) = counted_home target index also_chains below in
       let (b, in_boxes, inside) = shared.all chunk (index, box, (in_array target index).0 below) in
       let (groups, in_plans, plan) = pair_of (IsRechunking source IsSourceKey target IsTargetKey) boxes plans zipped b in_boxes in
-      let (copy, among, moved) = some_copy_into b groups plan chains index chunk below box inside in
+      let (copy, among, moved) = some_copy_into plan chains index chunk below box inside in
       (copy, in_joined copies_of plans groups copy in_plans among, moved)
 
   -- and by no other
-  pub no_other_copy_of_all : AllByRecursion IsChain source → AllByRecursion IsChain target
-      → (boxes : List Box) (plans : List (List Group)) → ShareOut target boxes
-      → AllZip (IsRechunking source IsSourceKey target IsTargetKey) boxes plans
-      → AllPairs Apart (flat_map copies_of plans)
-  no_other_copy_of_all chains also_chains boxes plans shared zipped =
-      pairs_joined copies_of Apart plans
+  pub no_other_copy_of_all : AllPairs (Apart source target) (flat_map copies_of plans)
+  no_other_copy_of_all =
+      pairs_joined copies_of (Apart source target) plans
       (λ groups among.
       let (b, _, plan) = source_of (IsRechunking source IsSourceKey target IsTargetKey) boxes plans zipped groups among in
-      no_other_copy b groups plan chains also_chains)
+      no_other_copy plan chains also_chains)
       (pairs_by (IsRechunking source IsSourceKey target IsTargetKey)
       (λ b other. (chunk : List ℕ) → Meets target (array_box target) chunk → IsInside b chunk → IsInside other chunk → ⊥)
-      (λ one other. (copy next : Part × Part) → Contains (copies_of one) copy → Contains (copies_of other) next → Apart copy next) boxes plans
-      zipped shared.apart across)
+      (λ one other. (copy next : Part × Part) → Contains (copies_of one) copy → Contains (copies_of other) next → Apart source target copy next) boxes
+      plans zipped shared.apart across)
     where
       across : (b other : Box) (groups more : List Group) → Contains boxes b → Contains boxes other
           → ((chunk : List ℕ) → Meets target (array_box target) chunk → IsInside b chunk → IsInside other chunk → ⊥)
           → IsRechunking source IsSourceKey target IsTargetKey b groups → IsRechunking source IsSourceKey target IsTargetKey other more
-          → (copy next : Part × Part) → Contains (copies_of groups) copy → Contains (copies_of more) next → Apart copy next
+          → (copy next : Part × Part) → Contains (copies_of groups) copy → Contains (copies_of more) next → Apart source target copy next
       across b other groups more _ _ apart plan also_plan copy next among also_among steps also index moved again =
-          let of = goes_into b groups plan copy among in
-          let next_of = goes_into other more also_plan next also_among in
+          let of = goes_into plan copy among in
+          let next_of = goes_into also_plan next also_among in
           let numbers : copy.1.chunk.items ≡ of.chunk = of.to.numbers in
           let next_numbers : next.1.chunk.items ≡ next_of.chunk = next_of.to.numbers in
           let same : of.chunk ≡ next_of.chunk =

@@ -3,6 +3,7 @@ use Rattle.std.proofs.Common.{◌≡◌, ◌∙◌, ℕ, zero, suc, ◌+◌, ◌
 use Rattle.std.proofs.Math.Nat.{div-eq_of_lt, div-le_of_le-mul}
 use Rattle.std.proofs.Math.Seq.{drop-append_seam, drop-nil, take-add, take-append_seam, take-length}
 use Rattle.std.proofs.lemmas.List.{length-drop, length-take, take-append-drop}
+use Rattle.std.proofs.lemmas.List.Elements.{All-drop, All-from_recursion, All-take, recursion_from_All}
 use Rattle.std.proofs.lemmas.Slice.Zip.{AllZip-long}
 use Rattle.std.specs.List.{AllByRecursion, AllZip, flat_map, range_with_len}
 use Rattle.zarrs_chunk_plan.specs.Shares.{before_share, between, numbered_share, share_of}
@@ -61,14 +62,10 @@ shares_are_all of xs some =
 
 module _ {X : Type 0} (P : X → Type 0) where
   all_taken : (k : ℕ) (xs : List X) → AllByRecursion P xs → AllByRecursion P (take k xs)
-  all_taken zero xs all = tt
-  all_taken (suc k) [] all = tt
-  all_taken (suc k) (x ∷ xs) all = (all.0, all_taken k xs all.1)
+  all_taken k xs all = recursion_from_All P (take k xs) (All-take P k xs (All-from_recursion P xs all))
 
   all_dropped : (k : ℕ) (xs : List X) → AllByRecursion P xs → AllByRecursion P (drop k xs)
-  all_dropped zero xs all = all
-  all_dropped (suc k) [] all = tt
-  all_dropped (suc k) (x ∷ xs) all = all_dropped k xs all.1
+  all_dropped k xs all = recursion_from_All P (drop k xs) (All-drop P k xs (All-from_recursion P xs all))
 
   pub all_of_share : (share : Share) (xs : List X) → AllByRecursion P xs → AllByRecursion P (share_of share xs)
   all_of_share share xs all = all_taken _ _ (all_dropped _ xs all)

@@ -37,10 +37,10 @@ module _ (source : List Dimension) (IsSourceKey : List ℕ → List ℕ → Type
       → (group : Group) × AreMovedInto source IsSourceKey target IsTargetKey region at chunk group
   has_move chunk meets =
       let (to, is) = has_part target IsTargetKey also_chains also_keys (moved at region) is_moved chunk meets in
-      let some = not_empty target IsTargetKey (moved at region) chunk to is meets in
+      let some = not_empty is meets in
       let last = last_within to.in_subset.start to.in_subset.shape is.boxes.from_subset.is_box.lengths some in
-      let below = place_below target IsTargetKey (moved at region) chunk to (lasts to.in_subset.start to.in_subset.shape) is last in
-      let is_read = read_is_box source IsSourceKey target IsTargetKey region at chunk to is is_region meets in
+      let below = place_below is (lasts to.in_subset.start to.in_subset.shape) last in
+      let is_read = read_is_box region is is_region meets in
       let (from, plan) = has_plan source IsSourceKey chains keys (shifted region.start to.in_subset) is_read some
       (λ index inside. inside_array region.start region.shape (array_sizes source) to.in_subset.start to.in_subset.shape index lies some below inside)
       in

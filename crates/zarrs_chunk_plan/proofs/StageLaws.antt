@@ -63,7 +63,7 @@ moved_below : (source : List Dimension) (IsSourceKey : List ℕ → List ℕ →
     (chunks : Box) (groups : List Group) → IsRechunking source IsSourceKey target IsTargetKey chunks groups → (copy : Part × Part)
     → Contains (copies_of groups) copy → (steps index : List ℕ) → Moves source target copy steps index → AreBelow (array_sizes target) index
 moved_below source IsSourceKey target IsTargetKey chunks groups plan copy among steps index moved =
-    let (other, below, again) = moves_elements source IsSourceKey target IsTargetKey chunks groups plan copy among steps moved.below in
+    let (other, below, again) = moves_elements plan copy among steps moved.below in
     subst (AreBelow (array_sizes target)) (same_index source copy.0.chunk.items other index _ again.from moved.from) below
 
 -- ---- two stages
@@ -84,10 +84,10 @@ module _ (source : List Dimension) (IsSourceKey : List ℕ → List ℕ → Type
       let (m, _, box) = counted_home between index chains_between below_between in
       let inside = is_counted between chains_between m (index, box, (in_array between index).0 below_between) in
       let (one, among, (a, moved)) =
-      some_copy_into source IsSourceKey between IsKeyBetween (all_chunks_box between) first is_first chains index m below_between box inside
+      some_copy_into is_first chains index m below_between box inside
       in
-      let (_, _, asked) = keys_of_copy source IsSourceKey target IsTargetKey chunks groups is_one goes.copy goes.among in
-      let (next, among_next, (b, moved_next)) = some_copy_into between IsKeyBetween target IsTargetKey chunks second is_second chains_between index
+      let (_, _, asked) = keys_of_copy is_one goes.copy goes.among in
+      let (next, among_next, (b, moved_next)) = some_copy_into is_second chains_between index
       goes.copy.1.chunk.items below goes.moves.in_target asked
       in
       let from_there = same_from source between chains chains_between one goes.copy a goes.steps index target moved goes.moves in
@@ -122,8 +122,8 @@ module _ (source : List Dimension) (IsSourceKey : List ℕ → List ℕ → Type
       → Goes source target groups index s from t to
   in_one chunk place goes next =
       let below = moved_below between IsKeyBetween target IsTargetKey chunks second is_second next.copy next.among next.steps index next.moves in
-      let (_, _, asked) = keys_of_copy between IsKeyBetween target IsTargetKey chunks second is_second next.copy next.among in
-      let (one, among, (a, moved)) = some_copy_into source IsSourceKey target IsTargetKey chunks groups is_one chains index
+      let (_, _, asked) = keys_of_copy is_second next.copy next.among in
+      let (one, among, (a, moved)) = some_copy_into is_one chains index
       next.copy.1.chunk.items below next.moves.in_target asked
       in
       let from_there = same_from source target chains also_chains one goes.copy a goes.steps index between moved goes.moves in

@@ -304,7 +304,7 @@ many_copies source target chunks Chosen numbers chains taking named long each gr
     let many = as_many_counters chains taking in
     let met_long = tables_long counts chunks.start chunks.shape (omega (arith, taking.long, many)) taking.is_box.lengths in
     let sums_long = length-map met sum in
-    copies_many source AnyKey target AnyKey _ _ chains chunks taking Chosen named groups plan
+    copies_many chains taking Chosen named plan
     ∙ ap product (sym (ext_get_or 0 numbers (map sum met) (omega (arith, met_long, taking.long, taking.is_box.lengths)) each))
 
 module _ (source target : List Dimension) (chains : AllByRecursion IsChain source) (target_chains : AllByRecursion IsChain target)

@@ -38,9 +38,7 @@ returns-clause-counts g c =
       found.is_box,
       found.targets,
       λ groups plan.
-          counts_are source (g.E.ChunkKeyEncodingTraits.is_key c.args.source.now.encoding) target
-          (g.F.ChunkKeyEncodingTraits.is_key c.args.target.now.encoding) (array_box target) (array_box target).start
-          (g.met.G.ChunkGridTraits.chained c.args.source.now.grid) targets taking (IsInside c.args.chunks.now) found.targets groups plan found.array
+          counts_are (g.met.G.ChunkGridTraits.chained c.args.source.now.grid) taking (IsInside c.args.chunks.now) found.targets plan found.array
           c.in_ok-elements.elements c.in_ok-counts_of_targets.field-0
           (λ index.
           let held = c.in_ok-elements.ensures.elements index in

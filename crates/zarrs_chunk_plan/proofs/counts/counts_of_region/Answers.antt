@@ -33,16 +33,12 @@ returns-clause-counts g c =
     (λ chunk. (named chunk).0)
     in
     let are = any_chunk target (moved at region) targets named in
-    let source_key = g.E.ChunkKeyEncodingTraits.is_key c.args.source.now.encoding in
-    let target_key = g.F.ChunkKeyEncodingTraits.is_key c.args.target.now.encoding in
     let chains = g.met.G.ChunkGridTraits.chained c.args.source.now.grid in (
       targets,
       c.is_a_box-2.ensures,
       are,
       λ groups plan.
-          counts_are source source_key target target_key region at chains targets taking AnyChunk are groups plan c.is_a_box.ensures region
-          c.in_ok-counts_of_targets.field-0
-          (all_taken source source_key target target_key region at chains targets taking AnyChunk are
-          (g.met.H.ChunkGridTraits.chained c.args.target.now.grid) c.is_a_box.ensures (λ chunk. tt))
+          counts_are chains taking AnyChunk are plan c.is_a_box.ensures region c.in_ok-counts_of_targets.field-0
+          (all_taken chains taking AnyChunk are (g.met.H.ChunkGridTraits.chained c.args.target.now.grid) c.is_a_box.ensures (λ chunk. tt))
           (rw found.value at c.in_ok-counts_of_targets.ensures),
     )

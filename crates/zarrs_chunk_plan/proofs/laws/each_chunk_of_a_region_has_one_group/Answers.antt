@@ -2,11 +2,9 @@ use Rattle.zarrs_chunk_plan.proofs.Regions.{target_keys_differ, whole_is_written
 use Rattle.zarrs_chunk_plan.proofs.laws.each_chunk_of_a_region_has_one_group.Goals as goal
 
 pub returns-clause-one_key : goal.returns-clause-one_key
-returns-clause-one_key g c = λ region at groups plan.
-    target_keys_differ _ _ _ _ region at plan.targets plan.is_box groups plan.are_groups
-    (g.met.F.ChunkKeyEncodingTraits.exact c.args.target.now.encoding)
+returns-clause-one_key g c = λ region at groups plan. target_keys_differ plan (g.met.F.ChunkKeyEncodingTraits.exact c.args.target.now.encoding)
 
 pub returns-clause-whole : goal.returns-clause-whole
 returns-clause-whole g c = λ region at groups is_region is_moved plan.
-    whole_is_written _ _ _ _ region at groups plan (g.met.G.ChunkGridTraits.chained c.args.source.now.grid)
+    whole_is_written plan (g.met.G.ChunkGridTraits.chained c.args.source.now.grid)
     (g.met.H.ChunkGridTraits.chained c.args.target.now.grid) is_region is_moved

@@ -1,5 +1,5 @@
 use Rattle.std.proofs.Common.{◌≡◌, ◌∙◌, ◌+◌, ◌<◌, ◌++◌, ◌∷◌, [], ℕ, List, ap, ap₂, fold, length, map, max, refl, slice_index_or, sym, take, arith}
-use Rattle.std.proofs.lemmas.List.{take_all, take_more}
+use Rattle.std.proofs.lemmas.List.{map-append, take_all, take_more}
 use Rattle.std.specs.List.{sum}
 use Rattle.zarrs_chunk_plan.specs.Counts.{product}
 use Rattle.zarrs_chunk_plan.specs.seen.Sources.{counters, met_in}
@@ -11,10 +11,7 @@ use Rattle.zarrs_chunk_plan.proofs.sources.sources_along_each.Goals as goal
 
 map_more : (f : List ℕ → ℕ) (lists : List (List ℕ)) (k : ℕ) → k < length lists
     → map f (take (k + 1) lists) ≡ map f (take k lists) ++ f (slice_index_or lists k []) ∷ []
-map_more f lists k within = ap (map f) (take_more lists k [] within) ∙ pushed (take k lists) (slice_index_or lists k []) where
-  pushed : (xs : List (List ℕ)) (x : List ℕ) → map f (xs ++ x ∷ []) ≡ map f xs ++ f x ∷ []
-  pushed [] x = refl
-  pushed (y ∷ xs) x = ap (λ ys. f y ∷ ys) (pushed xs x)
+map_more f lists k within = ap (map f) (take_more lists k [] within) ∙ map-append f (take k lists) (slice_index_or lists k [] ∷ [])
 
 pub loop-dimension-preserved : goal.loop-dimension-preserved
 loop-dimension-preserved g c =
