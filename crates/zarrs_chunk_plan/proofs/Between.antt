@@ -45,6 +45,13 @@ some_left shape end numbers below before =
     let some : end_rank shape end - rank shape numbers ≡ suc (end_rank shape end - (rank shape numbers + 1)) = omega arith in
     rw (drop_rank shape numbers below, some) refl
 
+-- What a step leaves, which stores numbers over those of the list that it gives: they are below the shape and before the end, unless the walk is
+-- over, and the lists from them on are left.
+pub record Stepped (shape : List ℕ) (end : Option (SmallVec ℕ)) (numbers stored : List ℕ) (over : Bool) : Type 0 where
+  pub below : over ≡ false → AreBelow shape stored
+  pub before : over ≡ false → rank shape stored < end_rank shape end
+  pub left : lists_between shape numbers end false ≡ numbers ∷ lists_between shape stored end over
+
 module _ (shape : List ℕ) (end : Option (SmallVec ℕ)) (end_below : ForSome end (λ e. AreBelow shape e.items)) where
   -- numbers that aren't the end, and that come at the end at most, come before it
   before_end : (numbers : List ℕ) → AreBelow shape numbers → rank shape numbers ≤ end_rank shape end → (¬ IsEnd end numbers)
@@ -129,17 +136,13 @@ module _ (shape : List ℕ) (end : Option (SmallVec ℕ)) (end_below : ForSome e
                 let none : end_rank shape end - (rank shape numbers + 1) ≡ 0 = omega arith in
                 rw none refl
 
+    goes : Stepped shape end numbers next over
+    goes = record { below = goes_below; before = goes_before; left = goes_on }
+
 -- numbers that are stored anew, where some were found
 from_stored : (shape stored next : List ℕ) (found : Bool) → (found ≡ true → stored ≡ next) → from found shape next ≡ from found shape stored
 from_stored shape stored next true same = rw (same refl) refl
 from_stored shape stored next false same = refl
-
--- What a step leaves, which stores numbers over those of the list that it gives: they are below the shape and before the end, unless the walk is
--- over, and the lists from them on are left.
-pub record Stepped (shape : List ℕ) (end : Option (SmallVec ℕ)) (numbers stored : List ℕ) (over : Bool) : Type 0 where
-  pub below : over ≡ false → AreBelow shape stored
-  pub before : over ≡ false → rank shape stored < end_rank shape end
-  pub left : lists_between shape numbers end false ≡ numbers ∷ lists_between shape stored end over
 
 pub stepped : (shape : List ℕ) (end : Option (SmallVec ℕ)) → ForSome end (λ e. AreBelow shape e.items) → (numbers next : List ℕ)
     (found over : Bool) → AreBelow shape numbers → rank shape numbers < end_rank shape end → (IsTrue found → AreBelow shape next)
@@ -153,8 +156,4 @@ stepped shape end end_below numbers next found over below before also gives told
     in
     let stored_below : IsTrue found → AreBelow shape stored = λ is. subst (AreBelow shape) (sym (same is)) (also is) in
     let stored_is = gives ∙ from_stored shape stored next found same in
-    record {
-      below = goes_below shape end end_below numbers stored found over below before stored_below stored_is told;
-      before = goes_before shape end end_below numbers stored found over below before stored_below stored_is told;
-      left = goes_on shape end end_below numbers stored found over below before stored_below stored_is told;
-    }
+    goes shape end end_below numbers stored found over below before stored_below stored_is told

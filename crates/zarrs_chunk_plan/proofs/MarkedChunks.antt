@@ -173,9 +173,7 @@ pub counted_within : (b : Box) (start shape chunk : List ℕ) → start ≡ b.st
     × (slice_get (chunks_in b) (place_of start shape chunk) ≡ Some chunk)
 counted_within b start shape chunk starts sizes inside few =
     let within : AreWithin start shape chunk = rw (starts, sizes) inside in
-    let found : slice_get (chunks_in b) (place_of start shape chunk) ≡ Some chunk =
-    rw (starts, sizes) (at_place b.start b.shape chunk inside)
-    in
+    let found : slice_get (chunks_in b) (place_of start shape chunk) ≡ Some chunk = rw (starts, sizes) (at_place b.start b.shape chunk inside) in
     let less = slice_get_within (chunks_in b) (place_of start shape chunk) chunk found in
     (within, omega arith, found)
 

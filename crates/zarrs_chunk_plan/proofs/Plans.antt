@@ -8,6 +8,7 @@ use Rattle.zarrs_chunk_base.specs.ArraySubset.{AreWithin, Box, IsBox, IsEmptyBox
 use Rattle.zarrs_chunk_base.specs.Dimension.{Dimension, Holds, InBox, IsChain, IsOrigin, IsPlace}
 use Rattle.zarrs_chunk_base.specs.Greatest.{AllFit}
 use Rattle.zarrs_chunk_base.proofs.Boxes.{within_lengths}
+use Rattle.zarrs_chunk_base.proofs.FirstMembers.{contained}
 use Rattle.zarrs_chunk_base.proofs.InEach.{length_values}
 use Rattle.zarrs_chunk_axes.specs.InBounds.{AreBelow}
 use Rattle.zarrs_chunk_axes.specs.RowMajor.{row_major}
@@ -25,10 +26,9 @@ use Rattle.zarrs_chunk_parts.specs.declared.part.Part.{Part}
 pub empty_or_some : (shape : List ℕ) → Contains shape 0 ⊎ (¬ Contains shape 0)
 empty_or_some [] = inr (λ (k, within, is). absurd (omega arith))
 empty_or_some (zero ∷ shape) = inl (zero, omega arith, refl)
-empty_or_some (suc n ∷ shape) = ⊎_elim (λ (k, within, is). inl (suc k, omega arith, is)) (λ some. inr (not_here some)) (empty_or_some shape) where
-  not_here : (¬ Contains shape 0) → ¬ Contains (suc n ∷ shape) 0
-  not_here some (zero, within, is) = absurd (omega arith)
-  not_here some (suc k, within, is) = some (k, omega arith, is)
+empty_or_some (suc n ∷ shape) =
+    ⊎_elim (λ (k, within, is). inl (suc k, omega arith, is))
+    (λ some. inr (λ has. ⊎_elim (λ (is : suc n ≡ 0). absurd (omega arith)) some (contained (suc n) shape 0 has))) (empty_or_some shape)
 
 -- the box of ranges from 0 to 0 has no chunks
 pub none_in_zeros : (n : ℕ) → n ≢ 0 → chunks_in (zero_box n) ≡ []

@@ -108,19 +108,14 @@ pub record IsRow (row : List ℕ) (a b begin between bound : ℕ) : Type 0 where
   pub is : row ≡ slice_index_or row 0 0 ∷ (all_meeting a b (begin + 1) between ++ slice_index_or row (suc between) 0 ∷ [])
   pub below : (begin + 1 + between) * b < bound
 
--- what stands first in a row and what stands last
-ends_of : (x y : ℕ) (xs : List ℕ) (n : ℕ) → length xs ≡ n
-    → (slice_index_or (x ∷ (xs ++ y ∷ [])) 0 0 ≡ x) × (slice_index_or (x ∷ (xs ++ y ∷ [])) (suc n) 0 ≡ y)
-ends_of x y xs n long = (refl, get_or_push xs y 0 n long)
-
-pub row_along : (source target : List Dimension) (first at shape begin sizes : List ℕ) (k a b between : ℕ) → AllByRecursion IsChain source
-    → AllByRecursion IsChain target → length source ≡ length target → length first ≡ length target → EndWithin first shape (array_sizes source)
-    → EndWithin at shape (array_sizes target) → RangesTake target at shape begin sizes → k < length sizes → 0 < a → 0 < b
-    → IsRegularAlong source k a → IsRegularAlong target k b → slice_index_or first k 0 ≡ slice_index_or at k 0
+pub row_along : (target : List Dimension) (at shape begin sizes : List ℕ) (source : List Dimension) (first : List ℕ) (k a b between : ℕ)
+    → AllByRecursion IsChain source → AllByRecursion IsChain target → length source ≡ length target → length first ≡ length target
+    → EndWithin first shape (array_sizes source) → EndWithin at shape (array_sizes target) → RangesTake target at shape begin sizes → k < length sizes
+    → 0 < a → 0 < b → IsRegularAlong source k a → IsRegularAlong target k b → slice_index_or first k 0 ≡ slice_index_or at k 0
     → slice_index_or sizes k 0 ≡ suc (suc between)
     → IsRow (slice_index_or (met_in (counters_from source target first at shape) begin sizes) k []) a b (slice_index_or begin k 0) between
     (slice_index_or at k 0 + slice_index_or shape k 0)
-row_along (s ∷ source) (t ∷ target) (f ∷ first) (x ∷ at) (n ∷ shape) (c ∷ begin) (m ∷ sizes) zero a b between chains also e g lies lies_t takes within
+row_along (t ∷ target) (x ∷ at) (n ∷ shape) (c ∷ begin) (m ∷ sizes) (s ∷ source) (f ∷ first) zero a b between chains also e g lies lies_t takes within
     some_a some_b regular regular_t stays many =
     let take = subst (λ (m' : ℕ). RangeTakes t x n c m') many takes.0 in
     let in_source : x + n ≤ s.array_size = let there = lies.0 in omega arith in
@@ -129,29 +124,20 @@ row_along (s ∷ source) (t ∷ target) (f ∷ first) (x ∷ at) (n ∷ shape) (
     ≡ met_along s t x x n c ∷ (all_meeting a b (c + 1) between ++ met_along s t x x n (c + 1 + between) ∷ []) =
     ap₂ (λ p q. map (met_along s t p x n) (range_with_len c q)) stays many
     ∙ row_is s t chains.0 also.0 a b some_a some_b regular regular_t x n c between in_source in_target take in
-    let (one, two) = ends_of (met_along s t x x n c) (met_along s t x x n (c + 1 + between)) (all_meeting a b (c + 1) between) between
+    let last_is = get_or_push (all_meeting a b (c + 1) between) (met_along s t x x n (c + 1 + between)) 0 between
     (length-map-range_with_len (meeting a b) (c + 1) between) in
     record {
       is = row ∙ ap₂ (λ p q. p ∷ (all_meeting a b (c + 1) between ++ q ∷ []))
-          (sym (ap (λ xs. slice_index_or xs 0 0) row ∙ one)) (sym (ap (λ xs. slice_index_or xs (suc between) 0) row ∙ two));
+          (sym (ap (λ xs. slice_index_or xs 0 0) row)) (sym (ap (λ xs. slice_index_or xs (suc between) 0) row ∙ last_is));
       below = last_start t also.0 b some_b regular_t x n (c + 1 + between) in_target (take (c + 1 + between) (omega arith) (omega arith));
     }
-row_along (s ∷ source) (t ∷ target) (f ∷ first) (x ∷ at) (n ∷ shape) (c ∷ begin) (m ∷ sizes) (suc k) a b between chains also e g lies lies_t takes
+row_along (t ∷ target) (x ∷ at) (n ∷ shape) (c ∷ begin) (m ∷ sizes) (s ∷ source) (f ∷ first) (suc k) a b between chains also e g lies lies_t takes
     within some_a some_b regular regular_t stays many =
-    row_along source target first at shape begin sizes k a b between chains.1 also.1 (omega arith) (omega arith) lies.1 lies_t.1 takes.1 (omega arith)
+    row_along target at shape begin sizes source first k a b between chains.1 also.1 (omega arith) (omega arith) lies.1 lies_t.1 takes.1 (omega arith)
     some_a some_b regular regular_t stays many
-row_along source target first at shape begin [] k a b between chains also e g lies lies_t takes within some_a some_b regular regular_t stays many =
-    absurd (omega arith)
-row_along [] target first at shape begin (_ ∷ _) k a b between chains also e g lies lies_t takes within some_a some_b regular regular_t stays many =
-    absurd regular
-row_along (_ ∷ _) [] first at shape begin (_ ∷ _) k a b between chains also e g lies lies_t takes within some_a some_b regular regular_t stays many =
-    absurd regular_t
-row_along (_ ∷ _) (_ ∷ _) [] at shape begin (_ ∷ _) k a b between chains also e g lies lies_t takes within some_a some_b regular regular_t stays many =
-    absurd (omega arith)
-row_along (_ ∷ _) (t ∷ target) (_ ∷ _) at shape begin (m ∷ sizes) k a b between chains also e g lies lies_t takes within some_a some_b regular
-    regular_t stays many =
-    let long = take_long (t ∷ target) at shape begin (m ∷ sizes) takes in
-    absurd (omega (arith, long.0, long.1, long.2))
+row_along target at shape begin sizes _ _ k a b between chains also e g lies lies_t takes within some_a some_b regular regular_t stays many =
+    let long = take_long target at shape begin sizes takes in
+    absurd (omega (arith, long.0, long.1, long.2, long.3))
 
 -- together, and the greatest
 pub of_row : (x y : ℕ) (xs row : List ℕ) → row ≡ x ∷ (xs ++ y ∷ [])
@@ -192,13 +178,13 @@ counted {source} {target} {region} {moved} {targets} k a b chains also taking so
     let starts = as_many_starts chains taking in
     let ranges = taking_ranges chains taking some in
     let lies : EndWithin region.start moved.shape (array_sizes source) = rw taking.one_shape taking.in_source in
-    let is_row = row_along source target region.start moved.start moved.shape targets.start targets.shape k a b between chains also one starts lies
+    let is_row = row_along target moved.start moved.shape targets.start targets.shape source region.start k a b between chains also one starts lies
     taking.in_target ranges within some_a some_b regular regular_t stays (omega arith) in
     let (in_all, most) = of_row (slice_index_or row 0 0) (slice_index_or row (suc between) 0) (all_meeting a b (slice_index_or targets.start k 0 + 1) between) row is_row.is in
     let bound : slice_index_or moved.start k 0 + slice_index_or moved.shape k 0 ≤ greatest =
     ends_fit moved.start moved.shape k taking.is_moved.fits taking.is_moved.lengths
     (let long = moved_long chains taking in omega (arith, taking.long, taking.is_box.lengths, taking.is_moved.lengths)) in
-    let up_to = sums_fit source target region.start moved.start moved.shape targets.start targets.shape k (suc between) chains also one starts lies
+    let up_to = sums_fit target moved.start moved.shape targets.start targets.shape source region.start k (suc between) chains also one starts lies
     (shape_fits moved.start moved.shape taking.is_moved) ranges within (omega arith) in
     let as_many : length row ≡ many =
     table_long (counters source target region moved) targets.start targets.shape k

@@ -8,7 +8,8 @@ use Rattle.zarrs_chunks.specs.Walks.{counted_from}
 use Rattle.zarrs_chunks.proofs.Boxes.{same_index}
 use Rattle.zarrs_chunks.proofs.Chains.{same_box}
 use Rattle.zarrs_chunks.proofs.FittingChunks.{counted_home}
-use Rattle.zarrs_chunk_plan.specs.Rechunking.{Goes, Group, IsRechunking, Moves, all_chunks_box, copies_of}
+use Rattle.zarrs_chunk_plan.specs.Rechunking.{Goes, Group, IsRechunking, Moves, all_chunks_box, array_box, copies_of}
+use Rattle.zarrs_chunk_plan.specs.Region.{IsCopy}
 use Rattle.zarrs_chunk_parts.specs.declared.part.Part.{Part}
 use Rattle.zarrs_chunk_plan.proofs.Rechunkings.{in_array, is_counted, keys_of_copy, moves_elements, some_copy_into}
 
@@ -59,19 +60,20 @@ module _ (source target : List Dimension) (chains : AllByRecursion IsChain sourc
       )
 
 -- an element that is moved is one of the array
-moved_below : (source : List Dimension) (IsSourceKey : List ℕ → List ℕ → Type 0) (target : List Dimension) (IsTargetKey : List ℕ → List ℕ → Type 0)
-    (chunks : Box) (groups : List Group) → IsRechunking source IsSourceKey target IsTargetKey chunks groups → (copy : Part × Part)
+moved_below : {source : List Dimension} {IsSourceKey : List ℕ → List ℕ → Type 0} {target : List Dimension} {IsTargetKey : List ℕ → List ℕ → Type 0}
+    {Chosen : List ℕ → Type 0} {groups : List Group}
+    → IsCopy source IsSourceKey target IsTargetKey (array_box target) (array_box target).start Chosen groups → (copy : Part × Part)
     → Contains (copies_of groups) copy → (steps index : List ℕ) → Moves source target copy steps index → AreBelow (array_sizes target) index
-moved_below source IsSourceKey target IsTargetKey chunks groups plan copy among steps index moved =
+moved_below {source} {target} plan copy among steps index moved =
     let (other, below, again) = moves_elements plan copy among steps moved.below in
     subst (AreBelow (array_sizes target)) (same_index source copy.0.chunk.items other index _ again.from moved.from) below
 
 -- ---- two stages
 
-module _ (source : List Dimension) (IsSourceKey : List ℕ → List ℕ → Type 0) (between : List Dimension) (IsKeyBetween : List ℕ → List ℕ → Type 0)
-    (target : List Dimension) (IsTargetKey : List ℕ → List ℕ → Type 0) (chains : AllByRecursion IsChain source)
+module _ {source : List Dimension} {IsSourceKey : List ℕ → List ℕ → Type 0} {between : List Dimension} {IsKeyBetween : List ℕ → List ℕ → Type 0}
+    {target : List Dimension} {IsTargetKey : List ℕ → List ℕ → Type 0} (chains : AllByRecursion IsChain source)
     (chains_between : AllByRecursion IsChain between) (also_chains : AllByRecursion IsChain target)
-    (one_array : array_sizes between ≡ array_sizes target) (chunks : Box) (first second groups : List Group)
+    (one_array : array_sizes between ≡ array_sizes target) (chunks : Box) {first second groups : List Group}
     (is_first : IsRechunking source IsSourceKey between IsKeyBetween (all_chunks_box between) first)
     (is_second : IsRechunking between IsKeyBetween target IsTargetKey chunks second)
     (is_one : IsRechunking source IsSourceKey target IsTargetKey chunks groups) (index s from t to : List ℕ) where
@@ -79,17 +81,13 @@ module _ (source : List Dimension) (IsSourceKey : List ℕ → List ℕ → Type
   pub in_two : Goes source target groups index s from t to
       → (chunk : List ℕ) × (place : List ℕ) × Goes source between first index s from chunk place × Goes between target second index chunk place t to
   in_two goes =
-      let below = moved_below source IsSourceKey target IsTargetKey chunks groups is_one goes.copy goes.among goes.steps index goes.moves in
+      let below = moved_below is_one goes.copy goes.among goes.steps index goes.moves in
       let below_between = subst (λ sizes. AreBelow sizes index) (sym one_array) below in
       let (m, _, box) = counted_home between index chains_between below_between in
       let inside = is_counted between chains_between m (index, box, (in_array between index).0 below_between) in
-      let (one, among, (a, moved)) =
-      some_copy_into is_first chains index m below_between box inside
-      in
+      let (one, among, (a, moved)) = some_copy_into is_first chains index m below_between box inside in
       let (_, _, asked) = keys_of_copy is_one goes.copy goes.among in
-      let (next, among_next, (b, moved_next)) = some_copy_into is_second chains_between index
-      goes.copy.1.chunk.items below goes.moves.in_target asked
-      in
+      let (next, among_next, (b, moved_next)) = some_copy_into is_second chains_between index goes.copy.1.chunk.items below goes.moves.in_target asked in
       let from_there = same_from source between chains chains_between one goes.copy a goes.steps index target moved goes.moves in
       let there = same_between between target chains_between also_chains one next a b index source moved moved_next in
       let to_there = same_to between target chains_between also_chains next goes.copy b goes.steps index source moved_next goes.moves in (
@@ -121,11 +119,9 @@ module _ (source : List Dimension) (IsSourceKey : List ℕ → List ℕ → Type
   pub in_one : (chunk place : List ℕ) → Goes source between first index s from chunk place → Goes between target second index chunk place t to
       → Goes source target groups index s from t to
   in_one chunk place goes next =
-      let below = moved_below between IsKeyBetween target IsTargetKey chunks second is_second next.copy next.among next.steps index next.moves in
+      let below = moved_below is_second next.copy next.among next.steps index next.moves in
       let (_, _, asked) = keys_of_copy is_second next.copy next.among in
-      let (one, among, (a, moved)) = some_copy_into is_one chains index
-      next.copy.1.chunk.items below next.moves.in_target asked
-      in
+      let (one, among, (a, moved)) = some_copy_into is_one chains index next.copy.1.chunk.items below next.moves.in_target asked in
       let from_there = same_from source target chains also_chains one goes.copy a goes.steps index between moved goes.moves in
       let to_there = same_to source target chains also_chains one next.copy a next.steps index between moved next.moves in
       record {

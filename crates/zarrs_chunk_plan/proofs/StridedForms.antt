@@ -1,10 +1,11 @@
 -- The form of the ranges that are found.
-use Rattle.std.proofs.Common.{◌≡◌, ◌∙◌, ◌⊎◌, ℕ, zero, suc, ◌+◌, ◌*◌, ◌<◌, ◌≤◌, ◌==◌, ◌&&◌, Bool, true, false, cond, List, [], ◌∷◌, Contains, IfSome, Option, None, Some}
-use Rattle.std.proofs.Common.{ap, arith, false-eqb, inl, inr, length, nat_le, option_map, refl, subst, sym, ⊎_elim}
-use Rattle.std.proofs.lemmas.Bool.{eq-eqb, eqb-true, le-leb, leb-false, leb-true, lt-leb, true≢false}
-use Rattle.std.proofs.lemmas.Option.{none-some, same_Some}
+use Rattle.std.proofs.Common.{◌≡◌, ◌↔◌, ◌∙◌, ◌⊎◌, ℕ, zero, suc, ◌+◌, ◌*◌, ◌<◌, ◌≤◌, ◌==◌, ◌&&◌, Bool, true, false, cond, List, [], ◌∷◌, Contains, IfSome, Option, None, Some}
+use Rattle.std.proofs.Common.{ap, arith, false-eqb, inl, inr, length, nat_le, ne_eqb, option_map, refl, subst, sym, ⊎_elim}
+use Rattle.std.proofs.lemmas.Bool.{cases_lt, eqb-true, le-leb, lt-leb, true≢false}
+use Rattle.std.proofs.lemmas.Option.{same_Some}
 use Rattle.std.proofs.Math.Nat.{mul-le-mul_right, mul_assoc}
 use Rattle.zarrs_chunk_base.specs.Greatest.{greatest}
+use Rattle.zarrs_chunk_base.proofs.FirstMembers.{contained}
 use Rattle.zarrs_chunks.proofs.Covers.{head_some, tail_some}
 use Rattle.zarrs_chunk_plan.specs.Bytes.{FindsRanges, begins, in_order, place}
 use Rattle.zarrs_chunk_plan.specs.Counts.{product}
@@ -14,51 +15,39 @@ use Rattle.zarrs_chunk_plan.specs.seen.Rows.{AreInRow}
 use Rattle.zarrs_chunk_plan.specs.declared.bytes.ByteRanges.{ByteRanges}
 use Rattle.zarrs_chunk_plan.specs.declared.bytes.MemoryOrder.{MemoryOrder}
 use Rattle.zarrs_chunk_plan.proofs.ByteRows.{all_of_rows, no_bytes, part_of_rows}
+use Rattle.zarrs_chunk_plan.proofs.Plans.{empty_or_some}
 use Rattle.zarrs_chunk_plan.proofs.StoredOrder.{ends_in_order, found_in_order, product_in_order, some_in_order}
-
-either : (b : Bool) → (b ≡ true) ⊎ (b ≡ false)
-either true = inl refl
-either false = inr refl
 
 -- ---- what the tests tell
 
-lies_tested : (start shape edges : List ℕ) → EndWithin start shape edges → lies_in start shape edges ≡ true
-lies_tested [] [] [] lies = refl
-lies_tested (s ∷ start) (n ∷ shape) (e ∷ edges) (ends, lies) =
-    ap (λ b. cond b (lies_in start shape edges) false) (le-leb (s + n) e ends) ∙ lies_tested start shape edges lies
-lies_tested _ _ _ lies = absurd lies
+lies_tells : (start shape edges : List ℕ) → (lies_in start shape edges ≡ true) ↔ EndWithin start shape edges
+lies_tells [] [] [] = (λ _. tt, λ _. refl)
+lies_tells (s ∷ start) (n ∷ shape) (e ∷ edges) =
+    let rest = lies_tells start shape edges in
+    ⊎_elim (λ (past : e < s + n). rw (lt-leb (s + n) e past) (λ is. absurd (true≢false (sym is)), λ lies. absurd (omega (arith, lies.0))))
+    (λ (le : s + n ≤ e). rw (le-leb (s + n) e le) (λ is. (le, rest.0 is), λ lies. rest.1 lies.1)) (cases_lt e (s + n))
+lies_tells _ _ _ = (λ is. absurd (true≢false (sym is)), λ lies. absurd lies)
 
-lies_at : (b : Bool) (s n e : ℕ) (start shape edges : List ℕ) → nat_le (s + n) e ≡ b → (lies_in start shape edges ≡ true → EndWithin start shape edges)
-    → cond b (lies_in start shape edges) false ≡ true → EndWithin (s ∷ start) (n ∷ shape) (e ∷ edges)
-lies_at true s n e start shape edges first rest is = (leb-true (s + n) e first, rest is)
-lies_at false s n e start shape edges first rest is = absurd (true≢false (sym is))
+zero_tells : (numbers : List ℕ) → (has_zero numbers ≡ true) ↔ Contains numbers 0
+zero_tells [] = (λ is. absurd (true≢false (sym is)), λ (k, small, is). absurd (omega arith))
+zero_tells (zero ∷ numbers) = (λ _. (zero, omega arith, refl), λ _. refl)
+zero_tells (suc n ∷ numbers) =
+    let rest = zero_tells numbers in
+    rw (ne_eqb (suc n) 0 (λ is. absurd (omega arith))) (
+      λ is. let (k, small, at) = rest.0 is in (suc k, omega arith, at),
+      λ has. rest.1 (⊎_elim (λ (is : suc n ≡ 0). absurd (omega arith)) (λ later. later) (contained (suc n) numbers 0 has)),
+    )
 
-lies_where_tested : (start shape edges : List ℕ) → lies_in start shape edges ≡ true → EndWithin start shape edges
-lies_where_tested [] [] [] is = tt
-lies_where_tested (s ∷ start) (n ∷ shape) (e ∷ edges) is =
-    lies_at (nat_le (s + n) e) s n e start shape edges refl (lies_where_tested start shape edges) is
-lies_where_tested [] [] (_ ∷ _) is = absurd (true≢false (sym is))
-lies_where_tested [] (_ ∷ _) edges is = absurd (true≢false (sym is))
-lies_where_tested (_ ∷ _) [] edges is = absurd (true≢false (sym is))
-lies_where_tested (_ ∷ _) (_ ∷ _) [] is = absurd (true≢false (sym is))
+-- a test that fails where it tells a property that doesn't hold
+fails : {P : Type 0} (b : Bool) → (b ≡ true) ↔ P → (¬ P) → b ≡ false
+fails true tells not = absurd (not (tells.0 refl))
+fails false tells not = refl
 
-zero_at : (b : Bool) (n : ℕ) (numbers : List ℕ) → (n == 0) ≡ b → (has_zero numbers ≡ true → Contains numbers 0)
-    → cond b true (has_zero numbers) ≡ true → Contains (n ∷ numbers) 0
-zero_at true n numbers first rest is = (zero, omega arith, eqb-true n 0 first)
-zero_at false n numbers first rest is = let (k, small, at) = rest is in (suc k, omega arith, at)
-
-zero_where_tested : (numbers : List ℕ) → has_zero numbers ≡ true → Contains numbers 0
-zero_where_tested [] is = absurd (true≢false (sym is))
-zero_where_tested (n ∷ numbers) is = zero_at (n == 0) n numbers refl (zero_where_tested numbers) is
-
-zero_later : (b : Bool) (rest : Bool) → rest ≡ true → cond b true rest ≡ true
-zero_later true rest is = refl
-zero_later false rest is = is
-
-zero_tested : (numbers : List ℕ) → Contains numbers 0 → has_zero numbers ≡ true
-zero_tested [] (k, small, is) = absurd (omega arith)
-zero_tested (n ∷ numbers) (zero, small, is) = ap (λ b. cond b true (has_zero numbers)) (eq-eqb n 0 is)
-zero_tested (n ∷ numbers) (suc k, small, is) = zero_later (n == 0) (has_zero numbers) (zero_tested numbers (k, omega arith, is))
+lies_or_out : (start shape edges : List ℕ) → EndWithin start shape edges ⊎ (¬ EndWithin start shape edges)
+lies_or_out start shape edges = of (lies_in start shape edges) (lies_tells start shape edges) where
+  of : (b : Bool) → (b ≡ true) ↔ EndWithin start shape edges → EndWithin start shape edges ⊎ (¬ EndWithin start shape edges)
+  of true tells = inl (tells.0 refl)
+  of false tells = inr (λ lies. true≢false (sym (tells.1 lies)))
 
 -- ---- the form
 
@@ -66,27 +55,22 @@ module _ (item : ℕ) (order : MemoryOrder) (edges start shape : List ℕ) where
   abbrev Full : Strided
   Full = strided item (in_order order edges) (in_order order start) (in_order order shape)
 
-  abbrev chosen : (lies empty few : Bool) → Option Strided
-  chosen lies empty few = cond lies (cond empty (Some no_ranges) (cond few (Some Full) None)) None
-
-  same_choice : (lies empty few : Bool) → lies_in start shape edges ≡ lies → has_zero shape ≡ empty
-      → nat_le (product edges * item) greatest ≡ few → ranges_of item order edges start shape ≡ chosen lies empty few
-  same_choice lies empty few is also too =
-      ap (λ b. cond b (cond (has_zero shape) (Some no_ranges) (cond (nat_le (product edges * item) greatest) (Some Full) None)) None) is
-      ∙ ap (λ b. cond lies (cond b (Some no_ranges) (cond (nat_le (product edges * item) greatest) (Some Full) None)) None) also
-      ∙ ap (λ b. cond lies (cond empty (Some no_ranges) (cond b (Some Full) None)) None) too
-
   pub none_where_out : (¬ EndWithin start shape edges) → None ≡ ranges_of item order edges start shape
-  none_where_out out =
-      ⊎_elim (λ is. absurd (out (lies_where_tested start shape edges is)))
-      (λ is. sym (same_choice false (has_zero shape) (nat_le (product edges * item) greatest) is refl refl)) (either (lies_in start shape edges))
+  none_where_out out = rw (fails _ (lies_tells start shape edges) out) refl
 
   none_where_long : (¬ Contains shape 0) → greatest < product edges * item → None ≡ ranges_of item order edges start shape
   none_where_long some past =
       ⊎_elim
-      (λ lies. ⊎_elim (λ empty. absurd (some (zero_where_tested shape empty)))
-      (λ full. sym (same_choice true false false lies full (lt-leb (product edges * item) greatest past))) (either (has_zero shape)))
-      (λ out. sym (same_choice false (has_zero shape) (nat_le (product edges * item) greatest) out refl refl)) (either (lies_in start shape edges))
+      (λ lies. rw ((lies_tells start shape edges).1 lies, fails _ (zero_tells shape) some, lt-leb (product edges * item) greatest past) refl)
+      none_where_out (lies_or_out start shape edges)
+
+  where_empty : EndWithin start shape edges → Contains shape 0 → Some no_ranges ≡ ranges_of item order edges start shape
+  where_empty lies empty = rw ((lies_tells start shape edges).1 lies, (zero_tells shape).1 empty) refl
+
+  where_counted : EndWithin start shape edges → (¬ Contains shape 0) → product edges * item ≤ greatest
+      → Some Full ≡ ranges_of item order edges start shape
+  where_counted lies some fits =
+      rw ((lies_tells start shape edges).1 lies, fails _ (zero_tells shape) some, le-leb (product edges * item) greatest fits) refl
 
   pub found_form : (found : Option ByteRanges) → FindsRanges item order edges start shape found
       → IfSome found (λ ranges. Contains shape 0 → form_of ranges ≡ no_ranges) → IfSome found (λ ranges. (¬ Contains shape 0) → form_of ranges ≡ Full)
@@ -94,14 +78,8 @@ module _ (item : ℕ) (order : MemoryOrder) (edges start shape : List ℕ) where
   found_form None (inl out) empty full = none_where_out out
   found_form None (inr (some, past)) empty full = none_where_long some past
   found_form (Some ranges) are empty full =
-      let lies = lies_tested start shape edges are.lies in
-      ⊎_elim
-      (λ has. ap Some (empty (zero_where_tested shape has))
-      ∙ sym (same_choice true true (nat_le (product edges * item) greatest) lies has refl))
-      (λ hasnt.
-      let some : ¬ Contains shape 0 = λ has. true≢false (sym (zero_tested shape has) ∙ hasnt) in
-      ap Some (full some) ∙ sym (same_choice true false true lies hasnt (le-leb (product edges * item) greatest (are.counted some))))
-      (either (has_zero shape))
+      ⊎_elim (λ has. ap Some (empty has) ∙ where_empty are.lies has)
+      (λ some. ap Some (full some) ∙ where_counted are.lies some (are.counted some)) (empty_or_some shape)
 
 -- ---- what the form means
 
@@ -174,11 +152,10 @@ module _ (item : ℕ) (any_item : 0 < item) where
       (along (product edges * item) s n (has_all edges shape) (strided item edges start shape)).strides row (has_all edges shape && (n == edge)))
       (sym rows) (step edge s n edges start shape (strided item edges start shape) any ends (omega arith) (has_all edges shape) inner)
   strided_rows [] [] (_ ∷ _) lies some fits = absurd lies
-  strided_rows (_ ∷ _) [] [] lies some fits = absurd lies
-  strided_rows edges [] (_ ∷ _) lies some fits = absurd lies
   strided_rows [] (_ ∷ _) [] lies some fits = absurd lies
-  strided_rows [] (_ ∷ _) (_ ∷ _) lies some fits = absurd lies
-  strided_rows (_ ∷ _) (_ ∷ _) [] lies some fits = absurd lies
+  strided_rows (_ ∷ _) [] [] lies some fits = absurd lies
+  strided_rows (_ ∷ _) [] (_ ∷ _) lies some fits = absurd lies
+  strided_rows _ _ _ lies some fits = absurd assumption
 
   module _ (order : MemoryOrder) (edges start shape : List ℕ) where
     abbrev Ordered : Strided
@@ -217,23 +194,27 @@ module _ (item : ℕ) (any_item : 0 < item) where
         }
 
     -- what has the form is found
-    by_choice : (lies empty few : Bool) → lies_in start shape edges ≡ lies → has_zero shape ≡ empty → nat_le (product edges * item) greatest ≡ few
-        → (found : Option ByteRanges) → option_map form_of found ≡ chosen item order edges start shape lies empty few
+    found_none : (found : Option ByteRanges) → option_map form_of found ≡ None
+        → (¬ EndWithin start shape edges) ⊎ ((¬ Contains shape 0) × (greatest < product edges * item)) → FindsRanges item order edges start shape found
+    found_none None same why = why
+    found_none (Some ranges) same why = cc
+
+    found_some : (found : Option ByteRanges) (form : Strided) → option_map form_of found ≡ Some form
+        → ((ranges : ByteRanges) → form_of ranges ≡ form → FindsRanges item order edges start shape (Some ranges))
         → FindsRanges item order edges start shape found
-    by_choice false empty few is also too None same = inl (λ lies. true≢false (sym (lies_tested start shape edges lies) ∙ is))
-    by_choice true true few is also too None same = absurd (none-some no_ranges same)
-    by_choice true false true is also too None same = absurd (none-some Ordered same)
-    by_choice true false false is also too None same =
-        inr (λ has. true≢false (sym (zero_tested shape has) ∙ also), leb-false (product edges * item) greatest too)
-    by_choice false empty few is also too (Some ranges) same = absurd (none-some (form_of ranges) (sym same))
-    by_choice true true few is also too (Some ranges) same =
-        of_empty (lies_where_tested start shape edges is) (zero_where_tested shape also) ranges (same_Some (form_of ranges) no_ranges same)
-    by_choice true false true is also too (Some ranges) same =
-        of_full (lies_where_tested start shape edges is) (λ has. true≢false (sym (zero_tested shape has) ∙ also))
-        (leb-true (product edges * item) greatest too) ranges (same_Some (form_of ranges) Ordered same)
-    by_choice true false false is also too (Some ranges) same = absurd (none-some (form_of ranges) (sym same))
+    found_some None form same of = cc
+    found_some (Some ranges) form same of = of ranges (same_Some (form_of ranges) form same)
 
     pub form_is_found : (found : Option ByteRanges) → option_map form_of found ≡ ranges_of item order edges start shape
         → FindsRanges item order edges start shape found
     form_is_found found same =
-        by_choice (lies_in start shape edges) (has_zero shape) (nat_le (product edges * item) greatest) refl refl refl found same
+        ⊎_elim
+        (λ lies. ⊎_elim
+        (λ empty. found_some found no_ranges (same ∙ sym (where_empty item order edges start shape lies empty)) (of_empty lies empty))
+        (λ some. ⊎_elim
+        (λ (past : greatest < product edges * item).
+        found_none found (same ∙ sym (none_where_long item order edges start shape some past)) (inr (some, past)))
+        (λ (fits : product edges * item ≤ greatest).
+        found_some found Ordered (same ∙ sym (where_counted item order edges start shape lies some fits)) (of_full lies some fits))
+        (cases_lt greatest (product edges * item))) (empty_or_some shape))
+        (λ out. found_none found (same ∙ sym (none_where_out item order edges start shape out)) (inl out)) (lies_or_out start shape edges)

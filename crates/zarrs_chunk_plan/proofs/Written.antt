@@ -143,28 +143,22 @@ module _ (s t : Dimension) (chain : IsChain s) (also : IsChain t) (first at coun
       let (_, some) = takes (begin + j) (omega arith) (omega arith) in
       omega arith
 
-pub sums_fit : (source target : List Dimension) (first at shape begin sizes : List ℕ) (k j : ℕ) → AllByRecursion IsChain source
-    → AllByRecursion IsChain target → length source ≡ length target → length first ≡ length target → EndWithin first shape (array_sizes source)
-    → AllFit shape → RangesTake target at shape begin sizes → k < length sizes → j < get_or sizes k 0
+pub sums_fit : (target : List Dimension) (at shape begin sizes : List ℕ) (source : List Dimension) (first : List ℕ) (k j : ℕ)
+    → AllByRecursion IsChain source → AllByRecursion IsChain target → length source ≡ length target → length first ≡ length target
+    → EndWithin first shape (array_sizes source) → AllFit shape → RangesTake target at shape begin sizes → k < length sizes → j < get_or sizes k 0
     → sum (take j (get_or (met_in (counters_from source target first at shape) begin sizes) k []))
     + get_or (get_or (met_in (counters_from source target first at shape) begin sizes) k []) j 0 ≤ greatest
-sums_fit (s ∷ source) (t ∷ target) (f ∷ first) (a ∷ at) (n ∷ shape) (b ∷ begin) (m ∷ sizes) zero j chains also e g lies fit takes within less =
+sums_fit (t ∷ target) (a ∷ at) (n ∷ shape) (b ∷ begin) (m ∷ sizes) (s ∷ source) (f ∷ first) zero j chains also e g lies fit takes within less =
     let most = sum_fits s t chains.0 also.0 f a n lies.0 b m j takes.0 less in
     let small : n ≤ greatest = fit.0 in
     let up_to = take-map-range_with_len (met_along s t f a n) b m j (omega arith) in
     let here = get_or-map-range_with_len (met_along s t f a n) b m j (b + j) 0 less refl in
     rw (up_to, here) (omega arith)
-sums_fit (s ∷ source) (t ∷ target) (f ∷ first) (a ∷ at) (n ∷ shape) (b ∷ begin) (m ∷ sizes) (suc k) j chains also e g lies fit takes within less =
-    sums_fit source target first at shape begin sizes k j chains.1 also.1 (omega arith) (omega arith) lies.1 fit.1 takes.1 (omega arith) less
-sums_fit source target first at shape begin [] k j chains also e g lies fit takes within less = absurd (omega arith)
-sums_fit source [] first at shape begin (m ∷ sizes) k j chains also e g lies fit takes within less =
-    let long = take_long [] at shape begin (m ∷ sizes) takes in
-    absurd (omega (arith, long.3))
-sums_fit [] (_ ∷ _) first at shape begin (_ ∷ _) k j chains also e g lies fit takes within less = absurd (omega arith)
-sums_fit (_ ∷ _) (_ ∷ _) [] at shape begin (_ ∷ _) k j chains also e g lies fit takes within less = absurd (omega arith)
-sums_fit (_ ∷ _) (t ∷ target) (_ ∷ _) at shape begin (m ∷ sizes) k j chains also e g lies fit takes within less =
-    let long = take_long (t ∷ target) at shape begin (m ∷ sizes) takes in
-    absurd (omega (arith, long.0, long.1, long.2))
+sums_fit (t ∷ target) (a ∷ at) (n ∷ shape) (b ∷ begin) (m ∷ sizes) (s ∷ source) (f ∷ first) (suc k) j chains also e g lies fit takes within less =
+    sums_fit target at shape begin sizes source first k j chains.1 also.1 (omega arith) (omega arith) lies.1 fit.1 takes.1 (omega arith) less
+sums_fit target at shape begin sizes _ _ k j chains also e g lies fit takes within less =
+    let long = take_long target at shape begin sizes takes in
+    absurd (omega (arith, long.0, long.1, long.2, long.3))
 
 -- ---- all together
 

@@ -1,6 +1,7 @@
-use Rattle.std.proofs.Common.{◌∙◌, Contains, IfSome, None, Option, Some, inl, sym}
+use Rattle.std.proofs.Common.{◌∙◌, ap, Contains, IfSome, None, Option, Some, inl, sym}
 use Rattle.std.proofs.lemmas.Bool.{true≢false}
 use Rattle.std.specs.Int.NonZero.{non_zero_u64_get}
+use Rattle.zarrs_chunk_plan.specs.Bytes.{in_order}
 use Rattle.zarrs_chunk_plan.specs.Region.{EndWithin}
 use Rattle.zarrs_chunk_plan.specs.declared.bytes.ByteRanges.{ByteRanges}
 use Rattle.zarrs_chunk_plan.proofs.ByteRows.{no_bytes}
@@ -43,19 +44,13 @@ some_ranges-requires-clause-some c =
 
 pub returns-clause-found : goal.returns-clause-found
 returns-clause-found c =
+    let edges = c.deref.ensures.value ∙ c.in_ok-edges.ensures in
+    let start = c.deref-2.ensures.value ∙ c.in_ok-start.ensures ∙ ap (in_order c.args.order) c.start-2.ensures.value in
+    let shape = c.deref-3.ensures.value ∙ c.in_ok-shape.ensures ∙ ap (in_order c.args.order) c.shape-2.ensures.value in
     found_in_order (non_zero_u64_get c.args.item_size) c.args.order c.args.edges.now c.args.elements.now.start c.args.elements.now.shape
     (rw (c.start.ensures.value, c.shape.ensures.value) at (c.lies_in.ensures.lies.0 c.if-not-lies_in.false))
     (λ has. true≢false (sym (c.is_empty.ensures.1 has) ∙ c.if-is_empty.false)) c.in_ok-found.found
-    (rw (
-      c.deref.ensures.value,
-      c.in_ok-edges.ensures,
-      c.deref-2.ensures.value,
-      c.in_ok-start.ensures,
-      c.start-2.ensures.value,
-      c.deref-3.ensures.value,
-      c.in_ok-shape.ensures,
-      c.shape-2.ensures.value,
-    ) at c.in_ok-found.ensures.found)
+    (rw (edges, start, shape) at c.in_ok-found.ensures.found)
 
 pub returns-then-is_empty-clause-fit : goal.returns-then-is_empty-clause-fit
 returns-then-is_empty-clause-fit c = none_past _ _ _ _ _ _ (returns-then-is_empty-clause-found c)
@@ -79,16 +74,9 @@ returns-then-is_empty-clause-form c =
 pub returns-clause-form : goal.returns-clause-form
 returns-clause-form c =
     let some : ¬ Contains c.args.elements.now.shape 0 = λ has. true≢false (sym (c.is_empty.ensures.1 has) ∙ c.if-is_empty.false) in
-    found_form (non_zero_u64_get c.args.item_size) c.args.order c.args.edges.now c.args.elements.now.start c.args.elements.now.shape
-    c.in_ok-found.found (returns-clause-found c) (for_some c.in_ok-found.found _ (λ ranges has. absurd (some has)))
+    let edges = c.deref.ensures.value ∙ c.in_ok-edges.ensures in
+    let start = c.deref-2.ensures.value ∙ c.in_ok-start.ensures ∙ ap (in_order c.args.order) c.start-2.ensures.value in
+    let shape = c.deref-3.ensures.value ∙ c.in_ok-shape.ensures ∙ ap (in_order c.args.order) c.shape-2.ensures.value in
+    found_form _ _ _ _ _ c.in_ok-found.found (returns-clause-found c) (for_some c.in_ok-found.found _ (λ ranges has. absurd (some has)))
     (if_some c.in_ok-found.found _ _ (λ ranges is. λ _. is)
-    (rw (
-      c.deref.ensures.value,
-      c.in_ok-edges.ensures,
-      c.deref-2.ensures.value,
-      c.in_ok-start.ensures,
-      c.start-2.ensures.value,
-      c.deref-3.ensures.value,
-      c.in_ok-shape.ensures,
-      c.shape-2.ensures.value,
-    ) at c.in_ok-found.ensures.form))
+    (rw (edges, start, shape) at c.in_ok-found.ensures.form))

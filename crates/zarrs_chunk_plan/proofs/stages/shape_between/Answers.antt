@@ -1,4 +1,4 @@
-use Rattle.std.proofs.Common.{Global, Vec, ℕ, ◌∙◌, ap, arith, length, map, subst, sym}
+use Rattle.std.proofs.Common.{Global, Vec, ℕ, ◌∙◌, ◌-◌, ap, ap₂, arith, length, map, max, subst, sym}
 use Rattle.std.specs.Int.NonZero.{non_zero_u64_get}
 use Rattle.std.proofs.lemmas.List.{length-map}
 use Rattle.zarrs_chunk_base.specs.Dimension.{Dimension, array_sizes}
@@ -74,15 +74,8 @@ returns-in-Some-clause-found g c =
     let rows = rw c.deref-4.ensures.value at c.in_ok-rows.ensures in
     let are = rows.edges ∙ tried in
     let few = rw (c.deref-3.ensures.value, tried) at c.shapes_of.ensures in
-    let found = rw (
-      c.deref-7.ensures.value,
-      c.saturating_sub.ensures,
-      c.max-held.ensures,
-      c.saturating_product.ensures,
-      c.saturating_product-2.ensures,
-      c.deref-5.ensures.value,
-      c.deref-6.ensures.value,
-    ) at c.in_ok-chosen.ensures in
+    let room = c.saturating_sub.ensures ∙ ap (λ n. c.args.most - n) (c.max-held.ensures ∙ ap₂ max c.saturating_product.ensures c.saturating_product-2.ensures) in
+    let found = rw (c.deref-7.ensures.value, room, c.deref-5.ensures.value, c.deref-6.ensures.value) at c.in_ok-chosen.ensures in
     let best = rw c.in-Some.is at found in
     record {
       largest = largest;
@@ -118,15 +111,8 @@ returns-clause-found g c =
     let rows = rw c.deref-4.ensures.value at c.in_ok-rows.ensures in
     let are = rows.edges ∙ tried in
     let few = rw (c.deref-3.ensures.value, tried) at c.shapes_of.ensures in
-    let found = rw (
-      c.deref-7.ensures.value,
-      c.saturating_sub.ensures,
-      c.max-held.ensures,
-      c.saturating_product.ensures,
-      c.saturating_product-2.ensures,
-      c.deref-5.ensures.value,
-      c.deref-6.ensures.value,
-    ) at c.in_ok-chosen.ensures in
+    let room = c.saturating_sub.ensures ∙ ap (λ n. c.args.most - n) (c.max-held.ensures ∙ ap₂ max c.saturating_product.ensures c.saturating_product-2.ensures) in
+    let found = rw (c.deref-7.ensures.value, room, c.deref-5.ensures.value, c.deref-6.ensures.value) at c.in_ok-chosen.ensures in
     let none = rw c.in-None.is at found in
     record {
       largest = largest;
