@@ -155,8 +155,7 @@ module _ (start shape : List ℕ) (number : ℕ) where
         number_is = rw (shape_is, length-shape size (drop (dimension + 1) shape))
             (split_number number rest size lists before.place (rest / size) digit counted parts);
         at_place = rw (shape_is, start_is, drop-set chunk dimension (first + digit) in_chunk)
-            (at_digit first size digit before.place (drop (dimension + 1) start) (drop (dimension + 1) shape)
-            (drop (dimension + 1) chunk) less before.at_place);
+            (at_digit _ _ _ _ _ _ _ less before.at_place);
       }
 
   pub numbered_all : (rest : ℕ) (chunk : List ℕ) → number < length (row_major shape) → IsNumbered start shape number 0 rest chunk

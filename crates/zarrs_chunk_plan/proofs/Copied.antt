@@ -117,8 +117,7 @@ module _ {G E H F : Type 0} (source_dimensions : G → List Dimension) (source_k
         from = rw (same_first, about.same_source) at plan;
       }
       in
-      let (now_came, all, now_are) = one_came IsMoveOf (targets_to_come begin) came (targets_to_come before) (targets_to_come after)
-      group.to.chunk.items (group.to, from) groups more left gives.gives are move is
+      let (now_came, all, now_are) = one_came IsMoveOf _ _ _ _ group.to.chunk.items (group.to, from) _ _ left gives.gives are move is
       in
       let same = rw (about.same_source, targets.same_grid, targets.same_encoding, targets.same_subset) at gives.about in
       (now_came, all, now_are, same, (gives.first ∙ same_first, gives.can can))

@@ -159,8 +159,7 @@ module _ {source target : List Dimension} {region : Box} {at : List ℕ} (chains
     lengths : map (λ (group : Group). length group.1) groups ≡ met_by_each met_with targets
     lengths =
         copies_each (chunks_in targets) groups
-        (all_of_each (Meets target (moved at region)) (chunks_in targets)
-        (λ chunk has. taking.meet chunk ((are_those_inside targets taking.is_box chunk).0 has))) are_groups
+        (all_of_each (Meets target (moved at region)) _ (λ chunk has. taking.meet chunk ((are_those_inside targets taking.is_box chunk).0 has))) are_groups
 
     -- all copies are as many as what is found dimension by dimension makes
     pub copies_many : length (copies_of groups) ≡ product (map sum (met_in met_with targets.start targets.shape))

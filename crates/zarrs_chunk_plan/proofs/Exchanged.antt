@@ -118,10 +118,8 @@ module _ (source : List Dimension) (IsSourceKey : List ℕ → List ℕ → Type
         record {
           source_chunk = is_next.numbers ∙ sym is_from.numbers;
           target_chunk = is_back.numbers ∙ sym is_to.numbers;
-          in_source = sym (counted_once is_next.boxes.origin from.in_chunk.start (counted_from next.in_chunk.start back.in_subset.start) (omega arith)
-              (omega arith) (subst (λ o. counted_from o from.in_chunk.start ≡ _) first begins_in_source));
-          in_target = counted_once is_to.boxes.origin back.in_chunk.start (counted_from to.in_chunk.start from.in_subset.start) (omega arith)
-              (omega arith) (subst (λ o. counted_from o back.in_chunk.start ≡ _) also_first begins_in_target);
+          in_source = sym (counted_once _ _ _ (omega arith) (omega arith) (subst (λ o. counted_from o from.in_chunk.start ≡ _) first begins_in_source));
+          in_target = counted_once _ _ _ (omega arith) (omega arith) (subst (λ o. counted_from o back.in_chunk.start ≡ _) also_first begins_in_target);
           shape = sym is_back.boxes.from_chunk.shape ∙ sym (ap (λ b. b.shape) one_box) ∙ is_from.boxes.from_chunk.shape;
         }
 

@@ -324,8 +324,7 @@ module _ {ds : List Dimension} {IsKey : List ℕ → List ℕ → Type 0} {b : B
   tiles_apart chains =
       each_two (λ part other. (place : List ℕ) → IsInside part.in_subset place → IsInside other.in_subset place → ⊥)
       (λ one other part next _ _ differ is is_other place inside also.
-      differ (same_box ds one other (counted_from b.start place) chains (has_common is (has_at is place inside).1).0
-      (has_common is_other (has_at is_other place also).1).0))
+      differ (same_box _ _ _ _ chains (has_common is (has_at is place inside).1).0 (has_common is_other (has_at is_other place also).1).0))
 
   -- no part of a box that isn't empty is empty
   pub none_empty : AllByRecursion IsChain ds → IsBox b → (¬ IsEmptyBox b) → (part : Part) → Contains parts part → ¬ IsEmptyBox part.in_subset

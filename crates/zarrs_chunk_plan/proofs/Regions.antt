@@ -61,11 +61,9 @@ module _ {target : List Dimension} {IsTargetKey : List ℕ → List ℕ → Type
       let boxes = is_from.boxes in
       let place : List ℕ = counted_from from.in_subset.start steps in
       let below_from = subst (λ shape. AreBelow shape steps) (sym boxes.from_chunk.shape ∙ boxes.from_subset.shape) below in
-      let below_to = place_below is_from place
-      (lie_within from.in_subset.start from.in_subset.shape steps boxes.from_subset.is_box.lengths below_from)
+      let below_to = place_below is_from _ (lie_within from.in_subset.start from.in_subset.shape steps boxes.from_subset.is_box.lengths below_from)
       in
-      let in_region = place_below is (counted_from to.in_subset.start place)
-      (lie_within to.in_subset.start to.in_subset.shape place is.boxes.from_subset.is_box.lengths below_to)
+      let in_region = place_below is _ (lie_within to.in_subset.start to.in_subset.shape place is.boxes.from_subset.is_box.lengths below_to)
       in
       let index : List ℕ = counted_from (counted_from region.start to.in_subset.start) place in
       let has : HasElement (shifted region.start to.in_subset) from index (counted_from from.in_chunk.start steps) =
@@ -169,8 +167,7 @@ module _ {source : List Dimension} {IsSourceKey : List ℕ → List ℕ → Type
   some_copy chains also_long reads place chunk below within box =
       let index = counted_from at place in
       let inside = lie_within at region.shape place also_long below in
-      let (group, in_groups, into) = pair_of Into (chunks_in plan.targets) groups plan.are_groups chunk
-      ((are_those_inside plan.targets plan.is_box chunk).1 within)
+      let (group, in_groups, into) = pair_of Into _ _ plan.are_groups chunk ((are_those_inside plan.targets plan.is_box chunk).1 within)
       in
       let to = group.0 in
       let part = into.to.boxes.from_subset.is_box in
@@ -193,8 +190,7 @@ module _ {source : List Dimension} {IsSourceKey : List ℕ → List ℕ → Type
       let from_steps_many = length_below from.in_chunk.shape has_from.steps has_from.below in
       let from_counted_many = length_counted from.in_subset.start has_from.steps (omega arith) in
       let steps_are : has.steps ≡ counted_from from.in_subset.start has_from.steps =
-      counted_once read.start has.steps (counted_from from.in_subset.start has_from.steps)
-      (length_below to.in_subset.shape has.steps below_to ∙ sym is_read.lengths) (omega arith) has_from.index_is
+      counted_once _ _ _ (length_below to.in_subset.shape has.steps below_to ∙ sym is_read.lengths) (omega arith) has_from.index_is
       in
       let (_, moved_so) = moves region into.to is_from has_from.steps has_from.below in (
         (from, to),

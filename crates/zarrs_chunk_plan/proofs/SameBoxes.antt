@@ -47,6 +47,5 @@ chunks_of_same one other is_box also same = ⊎_elim of_none of_some (empty_or_s
       nothing one empty
       ∙ sym (⊎_elim (nothing other)
       (λ some.
-      absurd (not_empty_if_inside one.start one.shape other.start
-      ((same other.start).1 (first_within other.start other.shape also.lengths some)) empty))
+      absurd (not_empty_if_inside _ _ _ ((same other.start).1 (first_within other.start other.shape also.lengths some)) empty))
       (empty_or_some other.shape))

@@ -97,8 +97,7 @@ module _ {X Y : Type 0} (M : X → Type 0) (R : X → Y → Type 0)
         before ++ (ys ++ behind),
         subst (λ all. AllZip R all (before ++ (ys ++ behind)))
             (ap (λ zs. take first xs ++ zs) rest ∙ take-append-drop first xs)
-            (both_zipped R (take first xs) (between first end xs ++ drop end xs) before (ys ++ behind) come
-            (both_zipped R (between first end xs) (drop end xs) ys behind are follow)),
+            (both_zipped R _ _ _ _ come (both_zipped R (between first end xs) (drop end xs) ys behind are follow)),
         ap (take (end - first)) (ap (λ k. drop k (before ++ (ys ++ behind))) (sym many) ∙ drop-append_seam before (ys ++ behind))
             ∙ ap (λ k. take k (ys ++ behind)) (sym as_many) ∙ take-append_seam ys behind,
       )

@@ -55,8 +55,7 @@ module _ (source : List Dimension) (IsSourceKey : List ℕ → List ℕ → Type
       → AreTargets target (moved at region) Chosen targets
       → (groups : List Group) × IsCopy source IsSourceKey target IsTargetKey region at Chosen groups
   have_copy lies_there Chosen targets is_box are =
-      let meet = all_of_each (Meets target (moved at region)) (chunks_in targets)
-      (λ chunk has. ((are chunk).0 ((are_those_inside targets is_box chunk).0 has)).1)
+      let meet = all_of_each (Meets target (moved at region)) _ (λ chunk has. ((are chunk).0 ((are_those_inside targets is_box chunk).0 has)).1)
       in
       let (groups, zipped) = have_moves (chunks_in targets) meet in (
         groups,

@@ -32,8 +32,7 @@ module _ (source target : List Dimension) (chains : AllByRecursion IsChain sourc
   same_from into moved again =
       let chunk = same_box source copy.0.chunk.items other.0.chunk.items index chains moved.in_source again.in_source in (
         chunk,
-        one_place source other.0.chunk.items index _ _
-            (subst (λ c. IsPlace source c index (counted_from copy.0.in_chunk.start steps)) chunk moved.from) again.from,
+        one_place _ _ _ _ _ (subst (λ c. IsPlace source c index (counted_from copy.0.in_chunk.start steps)) chunk moved.from) again.from,
       )
 
   -- and to where it does, where both are into one

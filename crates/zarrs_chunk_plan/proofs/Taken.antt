@@ -79,6 +79,5 @@ module _ (ds : List Dimension) (IsKey : List ℕ → List ℕ → Type 0) (subse
       let long : length (chunks_in cover) ≡ 0 = ap length none in
       let counted = are.in_all in (
         omega arith,
-        no_parts (IsPart ds IsKey subset) (take (min (some.in_all - first) most) (drop first (chunks_in cover))) some.parts.items
-            (none_taken first (min (some.in_all - first) most) (chunks_in cover) none) are.are_parts,
+        no_parts (IsPart ds IsKey subset) _ _ (none_taken first (min (some.in_all - first) most) (chunks_in cover) none) are.are_parts,
       )

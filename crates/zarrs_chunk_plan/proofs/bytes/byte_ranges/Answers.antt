@@ -26,16 +26,14 @@ returns-then-is_empty-clause-found c =
       lists = c.in_ok-no_ranges.ensures.lists;
       none = λ _. c.in_ok-no_ranges.ensures.none;
       some = λ some. absurd (some empty);
-      are_ranges = no_bytes (non_zero_u64_get c.args.item_size) c.args.order c.args.edges.now c.args.elements.now.start c.args.elements.now.shape _ _
-          empty c.in_ok-no_ranges.ensures.none;
+      are_ranges = no_bytes _ _ _ _ _ _ _ empty c.in_ok-no_ranges.ensures.none;
     }
 
 pub some_ranges-requires-clause-within : goal.some_ranges-requires-clause-within
 some_ranges-requires-clause-within c =
     rw (c.deref.ensures.value, c.in_ok-edges.ensures, c.deref-2.ensures.value, c.in_ok-start.ensures, c.deref-3.ensures.value, c.in_ok-shape.ensures)
     (rw (c.start-2.ensures.value, c.shape-2.ensures.value)
-    (ends_in_order c.args.order c.args.elements.now.start c.args.elements.now.shape c.args.edges.now
-    (rw (c.start.ensures.value, c.shape.ensures.value) at (c.lies_in.ensures.lies.0 c.if-not-lies_in.false))))
+    (ends_in_order _ _ _ _ (rw (c.start.ensures.value, c.shape.ensures.value) at (c.lies_in.ensures.lies.0 c.if-not-lies_in.false))))
 
 pub some_ranges-requires-clause-some : goal.some_ranges-requires-clause-some
 some_ranges-requires-clause-some c =
@@ -77,6 +75,5 @@ returns-clause-form c =
     let edges = c.deref.ensures.value ∙ c.in_ok-edges.ensures in
     let start = c.deref-2.ensures.value ∙ c.in_ok-start.ensures ∙ ap (in_order c.args.order) c.start-2.ensures.value in
     let shape = c.deref-3.ensures.value ∙ c.in_ok-shape.ensures ∙ ap (in_order c.args.order) c.shape-2.ensures.value in
-    found_form _ _ _ _ _ c.in_ok-found.found (returns-clause-found c) (for_some c.in_ok-found.found _ (λ ranges has. absurd (some has)))
-    (if_some c.in_ok-found.found _ _ (λ ranges is. λ _. is)
-    (rw (edges, start, shape) at c.in_ok-found.ensures.form))
+    found_form _ _ _ _ _ _ (returns-clause-found c) (for_some c.in_ok-found.found _ (λ ranges has. absurd (some has)))
+    (if_some c.in_ok-found.found _ _ (λ ranges is. λ _. is) (rw (edges, start, shape) at c.in_ok-found.ensures.form))

@@ -23,13 +23,9 @@ returns-clause-answers g c = λ may.
       is.0,
       (
         (c.in-Some.cover, is.1),
-        of_plan c.args.array_subset.now c.in-Some.cover c.in_ok-to_vec.field-0 c.in_ok-to_vec-2.field-0 c.in_ok-at_most_one.field-0
-            c.in_ok-to_vec-3.field-0 c.in_ok-to_vec-4.field-0 (copied ∙ chunks)
-            (c.in_ok-to_vec-2.ensures.items_if_clones_equal (λ x y same. same) ∙ c.shape.ensures.value)
-            (rw chunks at c.in_ok-at_most_one.ensures)
-            (c.in_ok-to_vec-3.ensures.items_if_clones_equal (λ x y same. same) ∙ chunks)
-            (c.in_ok-to_vec-4.ensures.items_if_clones_equal (λ x y same. same) ∙ chunks) ds
-            (g.E.ChunkKeyEncodingTraits.is_key c.args.array.now.encoding)
-            (g.met.G.ChunkGridTraits.chained c.args.array.now.grid) c.is_a_box.ensures may is,
+        of_plan _ _ _ _ _ _ _ (copied ∙ chunks) (c.in_ok-to_vec-2.ensures.items_if_clones_equal (λ x y same. same) ∙ c.shape.ensures.value)
+            (rw chunks at c.in_ok-at_most_one.ensures) (c.in_ok-to_vec-3.ensures.items_if_clones_equal (λ x y same. same) ∙ chunks)
+            (c.in_ok-to_vec-4.ensures.items_if_clones_equal (λ x y same. same) ∙ chunks) _ _ (g.met.G.ChunkGridTraits.chained c.args.array.now.grid)
+            c.is_a_box.ensures may is,
       ),
     )

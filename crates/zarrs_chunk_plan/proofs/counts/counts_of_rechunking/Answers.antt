@@ -11,16 +11,14 @@ counts_of_targets-requires-clause-taking g c =
     let target = g.H.ChunkGridTraits.dimensions c.args.target.now.grid in
     let found = c.in_ok-targets.ensures in
     rw c.in_ok-array.ensures.elements
-    (are_taking source target c.in_ok-targets.targets found.one_array found.array found.is_box found.long
-    (λ chunk inside. ((found.targets chunk).0 inside).1))
+    (are_taking _ _ _ found.one_array found.array found.is_box found.long (λ chunk inside. ((found.targets chunk).0 inside).1))
 
 pub counts_of_targets-requires-clause-dimensions : goal.counts_of_targets-requires-clause-dimensions
 counts_of_targets-requires-clause-dimensions g c = λ empty none.
     let source = g.G.ChunkGridTraits.dimensions c.args.source.now.grid in
     let target = g.H.ChunkGridTraits.dimensions c.args.target.now.grid in
     let found = c.in_ok-targets.ensures in
-    let taking = are_taking source target c.in_ok-targets.targets found.one_array found.array found.is_box found.long
-    (λ chunk inside. ((found.targets chunk).0 inside).1)
+    let taking = are_taking _ _ _ found.one_array found.array found.is_box found.long (λ chunk inside. ((found.targets chunk).0 inside).1)
     in
     let many = as_many_dimensions (g.met.G.ChunkGridTraits.chained c.args.source.now.grid) taking in
     some_dimensions target c.in_ok-targets.targets found.is_box found.long (c.in_ok-elements.ensures.empty.0 empty) (sym many ∙ none)
@@ -31,8 +29,7 @@ returns-clause-counts g c =
     let target = g.H.ChunkGridTraits.dimensions c.args.target.now.grid in
     let found = c.in_ok-targets.ensures in
     let targets = c.in_ok-targets.targets in
-    let taking = are_taking source target targets found.one_array found.array found.is_box found.long
-    (λ chunk inside. ((found.targets chunk).0 inside).1)
+    let taking = are_taking _ _ _ found.one_array found.array found.is_box found.long (λ chunk inside. ((found.targets chunk).0 inside).1)
     in (
       targets,
       found.is_box,

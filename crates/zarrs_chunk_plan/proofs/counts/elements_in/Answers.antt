@@ -46,8 +46,7 @@ returns-clause-empty g c =
     let last = rw c.in-Some.is at c.in_ok-last.ensures in
     let first_shared = rw (c.requires.array, c.start.ensures.value) at c.in_ok-first.ensures.boxes in
     let last_shared = rw (c.requires.array, c.deref.ensures.value, last.1) at c.in_ok-last-2.ensures.boxes in
-    let some = between_some ds chunks c.is_a_box.ensures c.requires.long (g.met.G.ChunkGridTraits.chained c.args.grid.now) last.0 c.requires.meet
-    c.in_ok-first.field-0.in_subset c.in_ok-first.field-0.in_chunk c.in_ok-last-2.field-0.in_subset c.in_ok-last-2.field-0.in_chunk
-    first_shared last_shared c.in_ok-box_between.field-0 c.in_ok-box_between.ensures
+    let some = between_some _ _ c.is_a_box.ensures c.requires.long (g.met.G.ChunkGridTraits.chained c.args.grid.now) last.0 c.requires.meet _ _ _ _
+    first_shared last_shared _ c.in_ok-box_between.ensures
     in
     (λ empty. absurd (some empty), λ empty. absurd (last.0 empty))

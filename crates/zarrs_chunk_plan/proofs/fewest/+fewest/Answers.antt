@@ -26,8 +26,7 @@ loop-edge-preserved t c =
     let get = c.get.ensures in
     let positive : 0 < edge_of e = omega (arith, get.value, get.nonzero) in
     let one =
-    of_one rows c.args.room c.args.first c.args.second e found c.in_ok-with_edge.field-0 positive
-    (rw (get.value, c.saturating_mul-in_first.ensures, c.saturating_mul-in_second.ensures) at here) with
+    of_one _ _ _ _ _ _ _ positive (rw (get.value, c.saturating_mul-in_first.ensures, c.saturating_mul-in_second.ensures) at here) with
     in
     let ascend = rw ((c.in-Some.ensures {u = tt}).cases.0) at c.requires in
     let up : (x y : Edge) → Contains before x → Contains (e ∷ []) y → edge_of x < edge_of y =
@@ -38,8 +37,7 @@ loop-edge-preserved t c =
     in
     let more = take_more row k e c.loop-edge-test.true in
     rw (c.better-best.ensures, more, sym c.edge-item.is)
-    (of_both rows c.args.room c.args.first c.args.second before (e ∷ []) c.loop-edge.best c.in_ok-with_edge.field-0 up c.loop-edge.invariant
-    one)
+    (of_both _ _ _ _ _ _ _ _ up c.loop-edge.invariant one)
 
 pub returns : goal.returns
 returns t c =

@@ -40,6 +40,5 @@ returns-clause-largest g c =
     let some = rw array.elements at (c.if-is_empty.ensures {u = tt}).1 in
     let (many, is) = rw (c.in_ok-shape.ensures {u = tt}, c.deref.ensures.value) at c.chunk_shape_u64.ensures in
     let chunk = c.in_ok-chunk.ensures {u = tt} in
-    is_largest ds c.in_ok-chunks.chunks c.in_ok-chunk.chunk.items c.in_ok-shape.shape.items (λ empty. true≢false (sym (some empty)))
-    chunks.start long
-    (λ chunk. (chunks.named chunk).0) (λ chunk. (chunks.named chunk).1) chunk.long chunk.below chunk.longest is
+    is_largest _ _ _ _ (λ empty. true≢false (sym (some empty))) chunks.start long (λ chunk. (chunks.named chunk).0) (λ chunk. (chunks.named chunk).1)
+    chunk.long chunk.below chunk.longest is

@@ -9,5 +9,4 @@ returns g c = λ one_array chunks targets walk groups is_box are left about firs
     let source = g.G.ChunkGridTraits.dimensions c.args.source.now.grid in
     let target = g.H.ChunkGridTraits.dimensions c.args.target.now.grid in
     copy_of g.G.ChunkGridTraits.dimensions g.E.ChunkKeyEncodingTraits.is_key g.H.ChunkGridTraits.dimensions g.F.ChunkKeyEncodingTraits.is_key
-    c.args.source.now c.args.target.now (array_box target) (array_box target).start (IsInside chunks) targets walk groups
-    (can_stay source target one_array) about first is_box are left come
+    c.args.source.now c.args.target.now _ _ _ _ walk _ (can_stay source target one_array) about first is_box are left come

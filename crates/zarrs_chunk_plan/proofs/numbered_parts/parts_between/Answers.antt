@@ -14,9 +14,8 @@ loop-number-preserved g c =
     let number = c.loop-number.number in
     let from : first ≤ number = c.loop-number.auto.number in
     let (within, are) = c.loop-number.invariant in
-    let meets = of_place
-    (Meets (g.G.ChunkGridTraits.dimensions c.args.grid.now) c.args.array_subset.now) chunks number c.in_ok-chunk.chunk.items c.requires.meet
-    c.in_ok-chunk.ensures
+    let meets = of_place (Meets (g.G.ChunkGridTraits.dimensions c.args.grid.now) c.args.array_subset.now) _ _ c.in_ok-chunk.chunk.items
+    c.requires.meet c.in_ok-chunk.ensures
     in (
       omega arith,
       subst (AllZip IsPartOf (take (number + 1 - first) (drop first chunks))) (sym c.in_ok-push.ensures.items)

@@ -18,7 +18,6 @@ pub returns-clause-targets : goal.returns-clause-targets
 returns-clause-targets g c = (
   c.in_ok-targets.targets,
   c.is_a_box.ensures,
-  any_chunk (g.H.ChunkGridTraits.dimensions c.args.target.now.grid) (moved c.args.at.now c.args.region.now) c.in_ok-targets.targets
-      (rw c.in_ok-moved.ensures.value at c.in_ok-targets.ensures.named),
+  any_chunk _ _ _ (rw c.in_ok-moved.ensures.value at c.in_ok-targets.ensures.named),
   c.in_ok-new.ensures.left,
 )

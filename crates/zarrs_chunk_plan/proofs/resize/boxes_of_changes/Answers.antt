@@ -6,13 +6,11 @@ returns-clause-those c = λ chunk.
     let uses = c.args.uses.now in
     let added = rw (c.deref.ensures.value, c.deref-2.ensures.value) at c.in_ok-added.ensures.those in
     rw c.in_ok-append.ensures.items
-    (told_of c.args.keeps uses.before.items uses.after.items uses.kept.items c.in_ok-boxes.boxes.items c.in_ok-added.added.items
-    c.in_ok-boxes.ensures.those added chunk)
+    (told_of _ _ _ _ _ _ c.in_ok-boxes.ensures.those added _)
 
 pub returns-clause-once : goal.returns-clause-once
 returns-clause-once c =
     let uses = c.args.uses.now in
     let added = rw (c.deref.ensures.value, c.deref-2.ensures.value) at c.in_ok-added.ensures.those in
     rw c.in_ok-append.ensures.items
-    (told_once c.args.keeps uses.before.items uses.after.items uses.kept.items c.in_ok-boxes.boxes.items c.in_ok-added.added.items
-    c.in_ok-boxes.ensures.those added c.in_ok-boxes.ensures.once c.in_ok-added.ensures.once)
+    (told_once _ _ _ _ _ _ c.in_ok-boxes.ensures.those added c.in_ok-boxes.ensures.once c.in_ok-added.ensures.once)

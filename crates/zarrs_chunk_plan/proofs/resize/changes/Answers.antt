@@ -5,6 +5,5 @@ pub returns-clause-changed : goal.returns-clause-changed
 returns-clause-changed g c = λ resized.
     let uses = c.in_ok-uses.uses in
     rw c.in_ok-new.ensures.left
-    (are_changed (g.G.ChunkGridTraits.dimensions c.args.before.now) (g.H.ChunkGridTraits.dimensions c.args.after.now) uses.before.items uses.after.items
-    uses.kept.items c.in_ok-uses.ensures.before c.in_ok-uses.ensures.after (c.in_ok-uses.ensures.kept resized) c.args.keeps _ c.in_ok-boxes.ensures.once
+    (are_changed _ _ _ _ _ c.in_ok-uses.ensures.before c.in_ok-uses.ensures.after (c.in_ok-uses.ensures.kept resized) _ _ c.in_ok-boxes.ensures.once
     c.in_ok-boxes.ensures.those)

@@ -23,10 +23,8 @@ overflow_add-sum g c =
     let fit = shape_fits moved.start moved.shape taking.is_moved in
     let less = rw c.shape.ensures.value at c.loop-steps-test.true in
     let lies = rw (sym taking.one_shape) at taking.in_source in
-    let fits = sums_fit target moved.start moved.shape targets.start targets.shape source region.start c.args.dimension c.loop-steps.steps chains
-    (g.met.H.ChunkGridTraits.chained c.args.copied.now.target.now)
-    (as_many_dimensions chains taking) (as_many_starts chains taking) lies fit
-    (taking_ranges chains taking c.requires.some) c.requires.dimension less
+    let fits = sums_fit _ _ _ _ _ _ _ _ _ chains (g.met.H.ChunkGridTraits.chained c.args.copied.now.target.now) (as_many_dimensions chains taking)
+    (as_many_starts chains taking) lies fit (taking_ranges chains taking c.requires.some) c.requires.dimension less
     in
     let (sum, _) = c.loop-steps.invariant in
     omega (arith, sum, c.in_ok-sources.ensures, fits)

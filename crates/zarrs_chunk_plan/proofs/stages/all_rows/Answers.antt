@@ -12,8 +12,7 @@ loop-dimension-init g c = rw (c.in_ok-rows.ensures {u = tt}).items (refl, λ som
 pub row_along-requires-clause-positive : goal.row_along-requires-clause-positive
 row_along-requires-clause-positive g c =
     rw c.deref.ensures.value
-    (each_row_at (AllByRecursion (λ edge. 0 < edge)) c.args.tried.now c.loop-dimension.dimension c.index-tried-dimension.result c.requires.positive
-    c.loop-dimension-test.true c.index-tried-dimension.is)
+    (each_row_at _ _ _ _ c.requires.positive c.loop-dimension-test.true c.index-tried-dimension.is)
 
 pub loop-dimension-preserved : goal.loop-dimension-preserved
 loop-dimension-preserved g c =

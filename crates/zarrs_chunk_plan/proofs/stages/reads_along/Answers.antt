@@ -15,10 +15,9 @@ sources_along-requires g c =
     let grid = regular_of c.in_ok-between.between in
     let chunks = c.in_ok-chunks.ensures {u = tt} in
     let known =
-    probe (g.G.ChunkGridTraits.dimensions ends.source.now) (g.H.ChunkGridTraits.dimensions ends.target.now) grid.dimensions
-    c.array_shape.result.now (non_zero_u64_get c.args.edge) ends.array.now c.in_ok-chunks.chunks ends.chunks.now are.one_array are.array are.is_array
-    are.is_box are.long are.chunks (g.met.H.ChunkGridTraits.chained ends.target.now) c.array_shape.ensures (c.in_ok-between.ensures)
-    (non_zero c.args.edge) (λ empty. true≢false (sym ((c.if-is_empty.ensures {u = tt}).1 empty))) chunks.counted c.is_a_box.ensures
+    probe _ _ _ _ _ _ _ _ are.one_array are.array are.is_array are.is_box are.long are.chunks (g.met.H.ChunkGridTraits.chained ends.target.now)
+    c.array_shape.ensures (c.in_ok-between.ensures) (non_zero c.args.edge) (λ empty. true≢false (sym ((c.if-is_empty.ensures {u = tt}).1 empty)))
+    chunks.counted c.is_a_box.ensures
     in
     record { taking = known.into; some = known.some; dimension = omega (arith, known.all_long, c.requires.dimension) }
 
@@ -29,10 +28,9 @@ sources_along-requires-2 g c =
     let grid = regular_of c.in_ok-between.between in
     let chunks = c.in_ok-chunks.ensures {u = tt} in
     let known =
-    probe (g.G.ChunkGridTraits.dimensions ends.source.now) (g.H.ChunkGridTraits.dimensions ends.target.now) grid.dimensions
-    c.array_shape.result.now (non_zero_u64_get c.args.edge) ends.array.now c.in_ok-chunks.chunks ends.chunks.now are.one_array are.array are.is_array
-    are.is_box are.long are.chunks (g.met.H.ChunkGridTraits.chained ends.target.now) c.array_shape.ensures (c.in_ok-between.ensures)
-    (non_zero c.args.edge) (λ empty. true≢false (sym ((c.if-is_empty.ensures {u = tt}).1 empty))) chunks.counted c.is_a_box.ensures
+    probe _ _ _ _ _ _ _ _ are.one_array are.array are.is_array are.is_box are.long are.chunks (g.met.H.ChunkGridTraits.chained ends.target.now)
+    c.array_shape.ensures (c.in_ok-between.ensures) (non_zero c.args.edge) (λ empty. true≢false (sym ((c.if-is_empty.ensures {u = tt}).1 empty)))
+    chunks.counted c.is_a_box.ensures
     in
     record { taking = known.from; some = known.also; dimension = omega (arith, known.chunks_long, c.requires.dimension) }
 
@@ -43,10 +41,9 @@ returns g c =
     let grid = regular_of c.in_ok-between.between in
     let chunks = c.in_ok-chunks.ensures {u = tt} in
     let known =
-    probe (g.G.ChunkGridTraits.dimensions ends.source.now) (g.H.ChunkGridTraits.dimensions ends.target.now) grid.dimensions
-    c.array_shape.result.now (non_zero_u64_get c.args.edge) ends.array.now c.in_ok-chunks.chunks ends.chunks.now are.one_array are.array are.is_array
-    are.is_box are.long are.chunks (g.met.H.ChunkGridTraits.chained ends.target.now) c.array_shape.ensures (c.in_ok-between.ensures)
-    (non_zero c.args.edge) (λ empty. true≢false (sym ((c.if-is_empty.ensures {u = tt}).1 empty))) chunks.counted c.is_a_box.ensures
+    probe _ _ _ _ _ _ _ _ are.one_array are.array are.is_array are.is_box are.long are.chunks (g.met.H.ChunkGridTraits.chained ends.target.now)
+    c.array_shape.ensures (c.in_ok-between.ensures) (non_zero c.args.edge) (λ empty. true≢false (sym ((c.if-is_empty.ensures {u = tt}).1 empty)))
+    chunks.counted c.is_a_box.ensures
     in
     let source = g.G.ChunkGridTraits.dimensions ends.source.now in
     let target = g.H.ChunkGridTraits.dimensions ends.target.now in
@@ -54,7 +51,6 @@ returns g c =
     λ some. record {
       between = grid.dimensions;
       equal = known.equal;
-      in_first = first_read source grid.dimensions ends.array.now c.in_ok-chunks.chunks k c.in_ok-first.first known.box chunks.counted
-          (c.in_ok-first.ensures {u = tt}).sum;
+      in_first = first_read _ _ _ _ _ _ known.box chunks.counted (c.in_ok-first.ensures {u = tt}).sum;
       in_second = second_read grid.dimensions target ends.array.now ends.chunks.now k c.in_ok-second.second are.array (c.in_ok-second.ensures {u = tt}).sum;
     }

@@ -86,9 +86,8 @@ returns-in-Some-clause-found g c =
       finds =
           subst (IsChosen source target c.args.most largest other)
           (sym (ap (map non_zero_u64_get) c.reversed.ensures ∙ map_reversed c.in-Some.chosen.edges.items))
-          (is_chosen source target (g.met.G.ChunkGridTraits.chained c.args.source.now) (g.met.H.ChunkGridTraits.chained c.args.target.now) both.one_array rows.is_box
-          c.args.most (omega (arith, c.ranges.most.fits)) largest other both.largest both.other (rows_of c.in_ok-rows.rows.items) are rows.reads
-          (map non_zero_u64_get c.in-Some.chosen.edges.items) c.in-Some.chosen.reads best);
+          (is_chosen _ _ (g.met.G.ChunkGridTraits.chained c.args.source.now) (g.met.H.ChunkGridTraits.chained c.args.target.now) both.one_array
+          rows.is_box _ (omega (arith, c.ranges.most.fits)) _ _ both.largest both.other _ are rows.reads _ _ best);
     }
 
 pub returns-in-Some-clause-long : goal.returns-in-Some-clause-long

@@ -13,8 +13,7 @@ loop-preserved c =
     elim c.if-edge-last.branch [
       | then-edge-last+in_ok-push w ↦
           rw (w.edges-is, w.edge-is, w.saturating_mul-edge.ensures, (w.in_ok-push.ensures {u = tt}).items)
-          (one_turn c.loop.edges.items c.loop.counter c.loop.edge c.args.last all c.loop-test.true (omega (arith, c.ranges.last.fits)) w.if-edge-last.true
-          c.loop.invariant)
+          (one_turn _ _ _ _ _ c.loop-test.true (omega (arith, c.ranges.last.fits)) w.if-edge-last.true c.loop.invariant)
       | else-edge-last w ↦
           rw (w.edges-is, w.edge-is) (no_turn c.loop.edges.items c.loop.counter c.loop.edge c.args.last all w.if-edge-last.false c.loop.invariant)
     ]

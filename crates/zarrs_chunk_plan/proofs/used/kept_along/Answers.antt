@@ -5,6 +5,5 @@ use Rattle.zarrs_chunk_plan.proofs.used.kept_along.Goals as goal
 pub returns-clause-kept : goal.returns-clause-kept
 returns-clause-kept g c = λ resized named named_after.
     let (long, least, keeps) = c.loop-dimension.invariant in
-    kept_are (g.G.ChunkGridTraits.dimensions c.args.before.now) (g.H.ChunkGridTraits.dimensions c.args.after.now) c.args.used_before.now
-    c.args.used_after.now c.loop-dimension.kept.items resized c.requires.lengths (omega arith) named named_after
-    (λ k within. least k (omega arith)) (λ k within. keeps k (omega arith))
+    kept_are _ _ _ _ _ resized c.requires.lengths (omega arith) named named_after (λ k within. least k (omega arith))
+    (λ k within. keeps k (omega arith))

@@ -30,6 +30,5 @@ returns-clause-outer c = λ _ item edges starts shape was.
       | else-self+in_ok-insert+in_ok-insert-2 w ↦
           rw (w.self-is, outer_is)
           (rw (first, w.in_ok-insert.ensures.items, w.in_ok-insert-2.ensures.items, w.if-self.false)
-          (part_of_rows item edge start count edges starts shape c.args.self.now.first c.args.self.now.length c.args.self.now.counts.items
-          c.args.self.now.strides.items row (omega arith) within (omega arith) (rw w.if-self.false at was)))
+          (part_of_rows _ _ _ _ _ _ _ _ _ _ _ _ (omega arith) within (omega arith) (rw w.if-self.false at was)))
     ]

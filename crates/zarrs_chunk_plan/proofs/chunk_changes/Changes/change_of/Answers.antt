@@ -16,7 +16,6 @@ returns-clause-change g c = λ can.
       key = rw c.as_slice-numbers.ensures at c.in_ok-key.ensures;
       held = held;
       holds = holds;
-      what = becomes ds es chunk c.in_ok-before.before c.in_ok-after.after c.are_below-kept.result c.in-Some.what held holds
-          (λ t. kept.0 (below.0 t), λ k. below.1 (kept.1 k))
+      what = becomes _ _ _ _ _ _ c.in-Some.what held holds (λ t. kept.0 (below.0 t), λ k. below.1 (kept.1 k))
           (rw (c.is_some.ensures, c.is_some-2.ensures) at (sym c.what_becomes.ensures ∙ c.in-Some.is));
     }

@@ -21,5 +21,4 @@ loop-chunks-preserved g c =
 pub returns : goal.returns
 returns g c =
     let (n, counted_so, so_far) = c.loop-chunks.invariant in
-    counted_so ∙ ap counted (all_counted c.args.self.now.boxes.items c.loop-chunks.chunks-index n
-    (rw c.deref-chunks-items.ensures.value at c.loop-chunks-test.false) so_far)
+    counted_so ∙ ap counted (all_counted _ _ _ (rw c.deref-chunks-items.ensures.value at c.loop-chunks-test.false) so_far)

@@ -43,8 +43,7 @@ returns-in-Ok-clause-steps c =
     let many : length c.in-Ok.chunk.items ≡ length chunks.start =
     rw copied (length_below shape items (walk.below c.if-self.false) ∙ sym box.lengths) in
     let counted : counts ≡ counted_from chunks.start c.in-Ok.chunk.items =
-    are_counted chunks.start c.in-Ok.chunk.items counts many as_many
-    (rw (c.start.ensures.value, c.as_mut_slice.ensures.value) at c.count_from.ensures.sum)
+    are_counted _ _ _ many as_many (rw (c.start.ensures.value, c.as_mut_slice.ensures.value) at c.count_from.ensures.sum)
     in
     record {
       gives =
