@@ -1,5 +1,5 @@
 -- A choice that takes the fewest reads is the shape of an array between by which two stages do.
-use Rattle.std.proofs.Common.{◌≡◌, ◌↔◌, ◌∙◌, ℕ, zero, suc, ◌+◌, ◌-◌, ◌<◌, ◌≤◌, List, [], ◌∷◌, ◌++◌, Contains, Some, length, map, max, min}
+use Rattle.std.proofs.Common.{◌≡◌, ◌↔◌, ◌∙◌, ℕ, ◌+◌, ◌-◌, ◌<◌, ◌≤◌, List, [], ◌∷◌, ◌++◌, Contains, Some, length, map, max, min}
 use Rattle.std.proofs.Common.{ap, ap₂, arith, mul-pos, refl, replicate, reverse, subst, sym, ⊎_elim}
 use Rattle.std.proofs.lemmas.List.{length-map, length-replicate, map-append, reverse-append, reverse-reverse}
 use Rattle.std.proofs.lemmas.Slice.Zip.{AllZip-long}

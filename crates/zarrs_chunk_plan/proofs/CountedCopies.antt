@@ -11,7 +11,7 @@ use Rattle.zarrs_chunks.proofs.FittingChunks.{counted_home}
 use Rattle.zarrs_chunks.proofs.Meeting.{cover_meets}
 use Rattle.zarrs_chunk_parts.specs.Plan.{IsPart, Meets}
 use Rattle.zarrs_chunk_parts.specs.declared.part.Part.{Part}
-use Rattle.zarrs_chunk_plan.specs.Counts.{AreCopyCounts, product, AreFew, AreMany, longest}
+use Rattle.zarrs_chunk_plan.specs.Counts.{AreCopyCounts, product, AreFew, AreMany}
 use Rattle.zarrs_chunk_plan.specs.Rechunking.{array_box, Group, copies_of}
 use Rattle.zarrs_chunk_plan.specs.Region.{AnyChunk, AreMovedInto, AreTargets, CanBeMoved, Group, IsCopy, MovesTo, copies_of, moved, shifted}
 use Rattle.zarrs_chunk_plan.specs.declared.counts.Counts.{Counts}

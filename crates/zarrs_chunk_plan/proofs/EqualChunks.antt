@@ -1,6 +1,6 @@
 -- Dimensions of equal edges: they are chains, each chunk that they count holds an element of the array, and none is longer than the edges.
 use Rattle.std.proofs.Common.{◌≡◌, ◌∙◌, ℕ, zero, suc, ◌+◌, ◌*◌, ◌/◌, ◌<◌, ◌≤◌, List, [], ◌∷◌, Contains, length, replicate}
-use Rattle.std.proofs.Common.{ap, ap₂, arith, div-lt_iff_lt-mul, div-mul-le_self, mul-le-mul_right, refl, sym, ⊎_elim}
+use Rattle.std.proofs.Common.{ap, ap₂, arith, div-lt_iff_lt-mul, div-mul-le_self, mul-le-mul_right, sym, ⊎_elim}
 use Rattle.std.proofs.lemmas.Bool.{cases_lt}
 use Rattle.std.proofs.lemmas.List.{length-map}
 use Rattle.std.specs.List.{AllByRecursion, AllZip}

@@ -1,9 +1,9 @@
 -- The copies of a region into the chunks of a box: from where to where they move which elements, and that they differ.
-use Rattle.std.proofs.Common.{◌≡◌, ◌⊎◌, ◌∙◌, ℕ, suc, ◌+◌, ◌-◌, ◌<◌, ◌≤◌, List, [], ◌∷◌, Contains, length, refl, ap, ap₂, inl, inr, subst, sym, ⊎_elim}
+use Rattle.std.proofs.Common.{◌≡◌, ◌⊎◌, ◌∙◌, ℕ, suc, ◌+◌, ◌-◌, ◌<◌, ◌≤◌, List, [], ◌∷◌, Contains, length, refl, ap, inl, inr, subst, sym, ⊎_elim}
 use Rattle.std.proofs.Common.{arith, ◌≢◌, IsTrue}
-use Rattle.std.specs.List.{AllByRecursion, AllPairs, AllZip}
+use Rattle.std.specs.List.{AllByRecursion, AllPairs}
 use Rattle.zarrs_chunk_base.specs.ArraySubset.{Box, IsBox, IsInside, lasts}
-use Rattle.zarrs_chunk_base.specs.Dimension.{Dimension, InBox, IsChain, IsPlace, array_sizes}
+use Rattle.zarrs_chunk_base.specs.Dimension.{Dimension, InBox, IsChain, array_sizes}
 use Rattle.zarrs_chunk_base.specs.Greatest.{AllFit, greatest}
 use Rattle.zarrs_chunk_axes.specs.InBounds.{AreBelow}
 use Rattle.zarrs_chunks.specs.Walks.{chunks_in, counted_from}

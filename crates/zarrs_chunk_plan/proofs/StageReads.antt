@@ -1,5 +1,5 @@
 -- How many chunks two stages read by an array between: along each dimension as many as by any array that has the same edge there.
-use Rattle.std.proofs.Common.{◌≡◌, ◌↔◌, ◌∙◌, ℕ, zero, suc, ◌+◌, ◌-◌, ◌<◌, List, [], ◌∷◌, ◌++◌, Contains, length, map, replicate, slice_index_or}
+use Rattle.std.proofs.Common.{◌≡◌, ◌↔◌, ◌∙◌, ℕ, zero, suc, ◌+◌, ◌-◌, ◌<◌, List, [], ◌∷◌, ◌++◌, length, map, replicate, slice_index_or}
 use Rattle.std.proofs.Common.{Global, Vec, ap, ap₂, arith, refl, subst, sym}
 use Rattle.std.proofs.lemmas.List.{ext_get_or, get_or-replicate, length-map, length-replicate}
 use Rattle.std.proofs.lemmas.List.Elements.{All-contains, All-from_recursion, All-replicate, recursion_from_All}

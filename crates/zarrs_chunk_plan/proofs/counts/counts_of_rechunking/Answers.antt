@@ -1,6 +1,5 @@
 use Rattle.std.proofs.Common.{◌∙◌, sym}
 use Rattle.zarrs_chunk_base.specs.ArraySubset.{IsInside}
-use Rattle.zarrs_chunk_plan.specs.Rechunking.{array_box}
 use Rattle.zarrs_chunk_plan.proofs.CountedCopies.{are_taking, counts_are, held_taken}
 use Rattle.zarrs_chunk_plan.proofs.MetCovers.{as_many_dimensions, some_dimensions}
 use Rattle.zarrs_chunk_plan.proofs.counts.counts_of_rechunking.Goals as goal

@@ -1,5 +1,3 @@
-use Rattle.zarrs_chunk_base.specs.ArraySubset.{IsInside}
-use Rattle.zarrs_chunk_plan.specs.Rechunking.{array_box}
 use Rattle.zarrs_chunk_plan.proofs.Copied.{copy_of}
 use Rattle.zarrs_chunk_plan.proofs.MovedBoxes.{can_stay}
 use Rattle.zarrs_chunk_plan.proofs.laws.the_walk_gives_the_rechunking.Goals as goal

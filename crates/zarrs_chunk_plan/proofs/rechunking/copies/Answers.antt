@@ -1,7 +1,3 @@
-use Rattle.std.proofs.Common.{sym}
-use Rattle.zarrs_chunk_plan.specs.Region.{LiesIn}
-use Rattle.zarrs_chunk_base.specs.Dimension.{array_sizes}
-use Rattle.zarrs_chunk_plan.specs.Rechunking.{array_box}
 use Rattle.zarrs_chunk_plan.proofs.MovedBoxes.{can_stay}
 use Rattle.zarrs_chunk_plan.proofs.rechunking.copies.Goals as goal
 

@@ -1,6 +1,5 @@
-use Rattle.std.proofs.Common.{◌≡◌, ◌+◌, ◌-◌, arith, slice_index_or, subst}
-use Rattle.zarrs_chunk_axes.specs.Along.{HoldsAlong}
-use Rattle.zarrs_chunk_plan.proofs.OneDimension.{are_asked, steps_to_end}
+use Rattle.std.proofs.Common.{arith}
+use Rattle.zarrs_chunk_plan.proofs.OneDimension.{are_asked}
 use Rattle.zarrs_chunk_plan.proofs.sources.sources_at.Goals as goal
 
 pub overflow_add-chunk : goal.overflow_add-chunk

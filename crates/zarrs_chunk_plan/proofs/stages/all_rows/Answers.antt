@@ -1,4 +1,4 @@
-use Rattle.std.proofs.Common.{Global, Vec, ◌≡◌, ◌∙◌, ◌+◌, ◌<◌, ◌++◌, ◌∷◌, [], ℕ, ap, ap₂, arith, length, map, refl, subst, sym, take}
+use Rattle.std.proofs.Common.{Global, Vec, ◌≡◌, ◌∙◌, ◌+◌, ◌++◌, ◌∷◌, [], ℕ, ap, ap₂, arith, length, map, refl, subst, sym, take}
 use Rattle.std.proofs.lemmas.List.{length-map, length-take-le, map-append, take_all, take_more}
 use Rattle.std.specs.List.{AllByRecursion}
 use Rattle.zarrs_chunk_plan.specs.declared.fewest.Edge.{Edge}
