@@ -19,7 +19,6 @@ all_before number of all last =
 -- and no fewer before the next share
 pub before_next : (number of all : ℕ) → 0 < of → before_share number of all ≤ before_share (number + 1) of all
 before_next number of all some =
-    let one = div-add-mod (number * all) of in
     le-div (number * all / of) ((number + 1) * all) of some
     (let low : number * all / of * of ≤ number * all = div-mul-le_self (number * all) of in
     let more = times_le number (number + 1) all (omega arith) in omega arith)
@@ -59,7 +58,6 @@ told_long zero of all count some small much is =
     (counted_cases (before_share 0 of all))
 told_long (suc number) of all count some small much is =
     let part = far count of some small (omega arith) in
-    let more = mul-suc (count / of) number in
     let all_of = times_le 1 (suc number) all (omega arith) in
     let before : greatest < before_share (suc number) of all = far (suc number * all) of some small (omega arith) in
     ⊎_elim (λ (fits, told). absurd (omega arith)) (λ (past, told). inr (omega arith, told)) (counted_cases (before_share (suc number) of all))

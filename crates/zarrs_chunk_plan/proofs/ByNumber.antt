@@ -181,8 +181,6 @@ at_most_times a (suc b) most =
     (λ (less : a < most). let same : min a most ≡ a = omega arith in rw same refl)
     (λ (more : most ≤ a).
     let same : min a most ≡ most = omega arith in
-    let one = mul-suc most b in
-    let other = mul-suc a b in
     rw same (omega arith))
     (cases_lt a most)
 

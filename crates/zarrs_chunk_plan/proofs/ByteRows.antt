@@ -110,7 +110,6 @@ module _ (item edge start count : ℕ) (edges starts shape : List ℕ) where
           → byte < place (edge ∷ edges) index * item + item → InRow byte
       first (i ∷ index) within from below =
           let (from_start, to_end, inside) = within in
-          let before = bytes_before i index in
           let inner : IsByteIn item C edges starts shape (byte - i * (product edges * item)) = (index, inside, (omega arith, omega arith)) in
           (i, byte - i * (product edges * item), from_start, to_end, inner, omega arith)
       first [] within from below = absurd within
@@ -145,14 +144,13 @@ module _ (item edge start count : ℕ) (edges starts shape : List ℕ) (first lo
       let here = rows_after start count row in
       let all_rows = mul-le-mul_right row within in
       let any = was.some in
-      let row_at = was.row_is in
       record {
         row_is = row_of_all was.row_is;
         some = some_of_all was.some;
         fits = counted;
         long = let more = mul-le-mul_right {m = 1} {n = count} row (omega arith) in let single : 1 * row ≡ row = omega arith in omega arith;
         lists = was.lists;
-        form = form_along item edges starts shape _ true start count row row_at was.whole_is was.form;
+        form = form_along item edges starts shape _ true start count row was.row_is was.whole_is was.form;
         whole_is = equal_or_not whole same other ∙ ap (λ b. b && (count == edge)) was.whole_is;
         are_ranges = record {
           those = λ byte. (
@@ -200,7 +198,6 @@ module _ (item edge start count : ℕ) (edges starts shape : List ℕ) (first lo
             let differ = other is in
             let fewer : count + 1 ≤ edge = less_than count edge (omega arith) differ in
             let rows = mul-le-mul_right row fewer in
-            let next = rows_after count 1 row in
             let single : 1 * row ≡ row = omega arith in
             omega arith;
       }
@@ -255,7 +252,6 @@ module _ (item edge start count : ℕ) (edges starts shape : List ℕ) (first lo
             λ (n, has, low, high).
                 let (k, y, before, there, is) = in_repeated count row numbers n has in
                 let (x, among, same) = source_of (λ x. x + start * row) (begins first counts strides) y (subst (λ xs. Contains xs y) later there) in
-                let split = rows_after start k row in
                 let inner = (was.are_ranges.those (byte - (start + k) * row)).1 (x, among, omega arith, omega arith) in
                 let at : byte ≡ (byte - (start + k) * row) + (start + k) * row = omega arith in
                 (in_row item edge start count edges starts shape byte).1
@@ -285,8 +281,6 @@ module _ (item edge start count : ℕ) (edges starts shape : List ℕ) (first lo
 some_edges : (start shape edges : List ℕ) → EndWithin start shape edges → (¬ Contains shape 0) → ¬ Contains edges 0
 some_edges (s ∷ start) (n ∷ shape) (edge ∷ edges) within some (zero, small, is) =
     let any = head_some n shape some in
-    let to : s + n ≤ edge = within.0 in
-    let none : edge ≡ 0 = is in
     absurd (omega arith)
 some_edges (s ∷ start) (n ∷ shape) (edge ∷ edges) within some (suc k, small, is) =
     some_edges start shape edges within.1 (tail_some n shape some) (k, omega arith, is)

@@ -36,9 +36,6 @@ shape_positive : (ds : List Dimension) (chunk shape : List ℕ) → AllByRecursi
 shape_positive [] [] [] chains is = tt
 shape_positive (d ∷ ds) (c ∷ chunk) (s ∷ shape) chains is =
     let here = is.0 in
-    let chain = chains.0 in
-    let some : d.start c < d.end c = chain.not_empty c here.chunk in
-    let long : d.start c + s ≡ d.end c = here.edge in
     (omega arith, shape_positive ds chunk shape chains.1 is.1)
 shape_positive _ _ _ chains is = absurd is
 
@@ -67,8 +64,7 @@ none_copied : (source : List Dimension) (target : List Dimension) (chunks : Box)
 none_copied source target chunks groups empty plan = no_groups (chunks_in plan.targets) groups none plan.are_groups where
   no_target : (¬ IsEmptyBox plan.targets) → ⊥
   no_target some =
-      let is_box = plan.is_box in
-      let inside = first_within plan.targets.start plan.targets.shape is_box.lengths some in
+      let inside = first_within plan.targets.start plan.targets.shape plan.is_box.lengths some in
       let (index, box, in_array) = ((plan.are_targets plan.targets.start).0 inside).1 in
       not_empty_if_inside _ _ index in_array empty
 
@@ -126,9 +122,8 @@ shape_long source target most shape one_array found =
     let one_long = largest_long source found.largest found.is_largest in
     let two_long = largest_long target found.other found.is_other in
     let also_long = length_of source target one_array in
-    let fits = found.finds.fits in
     let long = tried_long (array_sizes source) found.largest found.other (omega (arith, sizes_long, one_long)) (omega (arith, sizes_long, two_long, also_long)) in
-    AllZip-long Contains (all_tried (array_sizes source) found.largest found.other) shape fits.tried ∙ long ∙ sizes_long
+    AllZip-long Contains (all_tried (array_sizes source) found.largest found.other) shape found.finds.fits.tried ∙ long ∙ sizes_long
 
 -- no list comes before itself
 not_itself : (one other : List ℕ) → one ≡ other → ¬ IsBefore one other

@@ -1,7 +1,6 @@
 -- The chunks that a walk over the changes of a resize has left.
 use Rattle.std.proofs.Common.{◌≡◌, ◌≢◌, ◌↔◌, ◌∙◌, ℕ, suc, ◌+◌, ◌<◌, ◌≤◌, ◌^◌, List, [], ◌∷◌, Some, None, Option, length, zip}
-use Rattle.std.proofs.Common.{length-append, Bool, IsTrue, true, false, drop, get_or, is_some, map, ◌++◌}
-use Rattle.std.proofs.Common.{refl, ap, subst, sym, ⊎_elim, arith}
+use Rattle.std.proofs.Common.{length-append, Bool, IsTrue, true, false, drop, get_or, is_some, map, ◌++◌, refl, ap, subst, sym, ⊎_elim, arith}
 use Rattle.std.proofs.Math.ListN.{drop_of_length-le}
 use Rattle.std.proofs.Math.Seq.{drop-cons}
 use Rattle.std.proofs.lemmas.Bool.{true≢false}

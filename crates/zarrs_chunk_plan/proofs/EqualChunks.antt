@@ -34,8 +34,7 @@ is_chain d size edge is some = record {
       (λ (le : d.grid_size ≤ i / edge).
       let covers : size ≤ d.grid_size * edge = is.covers in
       let far : d.grid_size * edge ≤ (i / edge) * edge = mul-le-mul_right edge le in
-      let same = is.array_size in
-      absurd (omega (arith, same, covers, far)))
+      absurd (omega (arith, is.array_size, covers, far)))
       (cases_lt (i / edge) d.grid_size)
 
 -- a chunk that is counted holds an element of the array
@@ -46,14 +45,11 @@ first_held d size zero c is counted some =
     let same = is.array_size in
     absurd (omega (arith, same, covers))
 first_held d size (suc e) c is counted some =
-    let start : d.start c ≡ c * suc e = is.start c in
-    let end : d.end c ≡ (c + 1) * suc e = is.end c in
-    let same = is.array_size in
     let within : c * suc e < size =
     ⊎_elim (λ (less : c * suc e < size). less)
     (λ (le : size ≤ c * suc e). let few = is.least c le in absurd (omega arith)) (cases_lt (c * suc e) size)
     in
-    (c * suc e, record { chunk = is.chunks c; from = omega arith; below = omega arith }, omega (arith, same))
+    (c * suc e, record { chunk = is.chunks c; from = omega arith; below = omega arith }, omega (arith, is.array_size))
 
 -- ---- each dimension
 
@@ -89,10 +85,6 @@ shape_is : (ds : List Dimension) (sizes edges chunk shape : List ℕ) → AreEqu
 shape_is [] [] [] [] [] are is = tt
 shape_is (d ∷ ds) (n ∷ sizes) (e ∷ edges) (c ∷ chunk) (s ∷ shape) are is =
     let here = are.0 in
-    let this = is.0 in
-    let start : d.start c ≡ c * e = here.start c in
-    let end : d.end c ≡ (c + 1) * e = here.end c in
-    let long : d.start c + s ≡ d.end c = this.edge in
     (omega arith, shape_is ds sizes edges chunk shape are.1 is.1)
 shape_is _ _ _ _ _ are is = absurd (first_of (assumption, omega arith))
 

@@ -52,7 +52,6 @@ module _ (d e : Dimension) (resized : IsResized d e) where
     last_kept same =
         let (some, after) = all (both - 1) (omega arith) in
         let start = same_start (both - 1) some after in
-        let also = subst (HasExtent e (both - 1)) (sym same) extent_after in
         grind arith
 
     last_same : KeptAlong d e (both - 1) → one ≡ other
@@ -91,7 +90,6 @@ elements_stay : (ds : List Dimension) (chunk : List ℕ) (es : List Dimension) (
 elements_stay [] [] [] index kept = (λ h. h, λ h. h)
 elements_stay (d ∷ ds) (c ∷ chunk) (e ∷ es) (i ∷ index) kept =
     let rest = elements_stay ds chunk es index kept.1 in
-    let here = kept.0 in
     grind arith
 elements_stay _ _ _ _ kept = (λ h. absurd assumption, λ h. absurd assumption)
 

@@ -31,8 +31,6 @@ edge_along _ _ _ k is within = absurd is
 pub one_edge : (ds : List Dimension) (k c edge other : ℕ) → HasEdgeAlong ds k c edge → HasEdgeAlong ds k c other → edge ≡ other
 one_edge [] k c edge other has also = absurd has
 one_edge (d ∷ ds) zero c edge other has also =
-    let end : d.start c + edge ≡ d.end c = has.edge in
-    let same : d.start c + other ≡ d.end c = also.edge in
     omega arith
 one_edge (d ∷ ds) (suc k) c edge other has also = one_edge ds k c edge other has also
 

@@ -30,7 +30,6 @@ one_edge_before d chain edge some regular last (has, within) c its before is =
     let from = in_chain d chain c (c + 1) (omega arith) next_has in
     let start = regular_start d chain edge some regular c gap.0 (omega (arith, from, up_to)) in
     let next = regular_start d chain edge some regular (c + 1) next_has (omega (arith, up_to)) in
-    let long : d.start c + its ≡ d.end c = is.edge in
     omega (arith, start, next, gap.1)
 
 pub edge_before : (ds : List Dimension) (k edge last : ℕ) → AllByRecursion IsChain ds → 0 < edge → IsRegularAlong ds k edge
@@ -45,8 +44,6 @@ starts_within : (ds : List Dimension) (chunk index : List ℕ) (k : ℕ) → InB
     → Along (λ d. StartsWithin d (slice_index_or chunk k 0)) ds k
 starts_within [] chunk index k box below within = absurd (omega arith)
 starts_within (d ∷ ds) (c ∷ chunk) (i ∷ index) zero box below within =
-    let from : d.start c ≤ i = box.0.from in
-    let less : i < d.array_size = below.0 in
     (box.0.chunk, omega arith)
 starts_within (d ∷ ds) (c ∷ chunk) (i ∷ index) (suc k) box below within = starts_within ds chunk index k box.1 below.1 (omega arith)
 starts_within _ _ _ k box below within = absurd box

@@ -43,8 +43,6 @@ module _ (bits : List ℕ) (number word : ℕ) where
       ⊎_elim
       (λ (_, same).
       let differ : other % 64 ≢ number % 64 = (λ rest.
-      let one = div-add-mod other 64 in
-      let two = div-add-mod number 64 in
       not (omega arith)) in
       rw (same, get_or-set_same bits (number / 64) word 0 within, others (other % 64) differ) refl)
       (λ (_, differ). rw (get_or-set_other bits (number / 64) (other / 64) word 0 differ) refl)
@@ -74,8 +72,6 @@ pub at_place : (start shape chunk : List ℕ) → AreWithin start shape chunk
 unfolding row_major
 at_place [] [] [] within = refl
 at_place (s ∷ start) (n ∷ shape) (c ∷ chunk) within =
-    let low : s ≤ c = within.0 in
-    let high : c < s + n = within.1 in
     let same : s + (c - s) ≡ c = omega arith in
     let found = at_digit s n (c - s) (place_of start shape chunk) start shape chunk (omega arith) (at_place start shape chunk within.2) in
     found ∙ ap (λ x. Some (x ∷ chunk)) same
@@ -262,7 +258,6 @@ module _ (ds : List Dimension) (K : List ℕ → List ℕ → Type 0) (targets k
         let inside = in_box before.targets is_box number other there in
         ⊎_elim
         (λ (_, same).
-        let this : Some other ≡ Some chunk = sym there ∙ ap (slice_get (chunks_in before.targets)) same ∙ is.is in
         let one : chunk ≡ other = cc in
         (λ _. listed_first K key keys other (subst (λ it. K it key) one has), λ _. rw same is.marked))
         (λ (_, differ).

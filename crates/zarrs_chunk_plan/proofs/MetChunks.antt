@@ -9,8 +9,7 @@ use Rattle.zarrs_chunks.specs.Walks.{counted_from}
 use Rattle.zarrs_chunks.proofs.Chains.{apart, at_most_start, earlier_has, no_later}
 use Rattle.zarrs_chunks.proofs.Covers.{head_some, tail_some}
 use Rattle.zarrs_chunk_parts.specs.Plan.{Meets}
-use Rattle.zarrs_chunk_plan.specs.seen.Sources.{counters_from, home, home_from, met, met_by, taken, taken_box, taken_from, taken_sizes}
-use Rattle.zarrs_chunk_plan.specs.seen.Sources.{taken_starts}
+use Rattle.zarrs_chunk_plan.specs.seen.Sources.{counters_from, home, home_from, met, met_by, taken, taken_box, taken_from, taken_sizes, taken_starts}
 
 -- ---- one dimension
 
@@ -20,7 +19,6 @@ home_from_is d chain zero first c i here from below = omega arith
 home_from_is d chain (suc many) first c i here from below =
     ⊎_elim
     (λ (ended : i < d.end first).
-    let in_chunk : d.start c ≤ i = here.from in
     let not_after : c ≤ first =
     ⊎_elim (λ (later : first < c). let gap = apart d chain first c later here.chunk in absurd (omega arith)) (λ (le : c ≤ first). le)
     (cases_lt first c)
@@ -28,7 +26,6 @@ home_from_is d chain (suc many) first c i here from below =
     let same : first ≡ c = omega arith in
     rw (lt-ltb i (d.end first) ended) same)
     (λ (after : d.end first ≤ i).
-    let before : i < d.end c = here.below in
     let later : first < c =
     ⊎_elim (λ (less : first < c). less)
     (λ (le : c ≤ first). let same : c ≡ first = omega arith in let end = ap d.end same in absurd (omega arith)) (cases_lt first c)
@@ -38,7 +35,6 @@ home_from_is d chain (suc many) first c i here from below =
 
 home_is : (d : Dimension) → IsChain d → (c i : ℕ) → Holds d c i → home d i ≡ c
 home_is d chain c i here =
-    let from : d.start c ≤ i = here.from in
     home_from_is d chain i 0 c i here (omega arith) (omega (arith, at_most_start d chain c here.chunk))
 
 -- chunks from that of the first index of a range to that of its last
@@ -70,10 +66,6 @@ met_at_most s chain a b first size some low high =
     let split : a + (b - a) ≡ b = omega arith in
     let is = count_is s chain a (suc (b - a)) first size (omega arith) low
     (subst (λ k. Holds s k (first + (size - 1))) (let last : b ≡ a + (suc (b - a) - 1) = omega arith in last) high) in
-    let far = steps_far s chain a (b - a) (subst (λ n. IsTrue (s.has_chunk n)) (sym split) high.chunk) in
-    let start = ap s.start split in
-    let in_first : first < s.end a = low.below in
-    let in_last : s.start b ≤ first + (size - 1) = high.from in
     ⊎_elim
     (λ (later : a < b).
     let gap = chain.no_gap a (earlier_has s chain (a + 1) b (omega arith) high.chunk) in
@@ -101,10 +93,6 @@ take_some : (ds : List Dimension) (chunk index at shape : List ℕ) → InBox ds
 take_some [] [] [] [] [] box within = tt
 take_some (d ∷ ds) (c ∷ chunk) (i ∷ index) (a ∷ at) (n ∷ shape) box within =
     let here = box.0 in
-    let from : d.start c ≤ i = here.from in
-    let end : i < d.end c = here.below in
-    let after : a ≤ i = within.0 in
-    let before : i < a + n = within.1 in
     ((here.chunk, omega arith), take_some ds chunk index at shape box.1 within.2)
 take_some [] [] [] (_ ∷ _) [] box within = absurd within
 take_some (_ ∷ _) (_ ∷ _) (_ ∷ _) [] [] box within = absurd within
@@ -128,10 +116,6 @@ common (d ∷ ds) (a ∷ at) (n ∷ shape) (c ∷ chunk) some (i ∷ index) =
           let (box, others) = rest.0 within.2 in
           ((record { chunk = has; from = omega arith; below = omega arith }, box), (omega arith, omega arith, others)),
       λ both.
-          let from : d.start c ≤ i = both.0.0.from in
-          let below : i < d.end c = both.0.0.below in
-          let after : a ≤ i = both.1.0 in
-          let before : i < a + n = both.1.1 in
           (omega arith, omega arith, rest.1 (both.0.1, both.1.2)),
     )
 common _ _ _ _ some index = absurd some

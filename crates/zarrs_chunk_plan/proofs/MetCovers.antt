@@ -1,6 +1,5 @@
 -- The cover of what a chunk of the target takes.
-use Rattle.std.proofs.Common.{◌≡◌, ◌≢◌, ◌↔◌, ◌∙◌, ℕ, zero, suc, ◌+◌, ◌≤◌, List, [], ◌∷◌, length}
-use Rattle.std.proofs.Common.{refl, ap, ap₂, subst, sym, arith}
+use Rattle.std.proofs.Common.{◌≡◌, ◌≢◌, ◌↔◌, ◌∙◌, ℕ, zero, suc, ◌+◌, ◌≤◌, List, [], ◌∷◌, length, refl, ap, ap₂, subst, sym, arith}
 use Rattle.std.proofs.lemmas.List.{length-map}
 use Rattle.std.specs.List.{AllByRecursion, AllZip}
 use Rattle.zarrs_chunk_base.specs.ArraySubset.{Box, IsBox, IsEmptyBox, IsInside, ends, lasts, zero_box}
@@ -29,7 +28,6 @@ use Rattle.zarrs_chunk_plan.proofs.Written.{starts_before_ends}
 pub shape_fits : (start shape : List ℕ) → IsBox (record { start = start; shape = shape }) → AllFit shape
 shape_fits [] [] is = tt
 shape_fits (a ∷ start) (n ∷ shape) is =
-    let end : a + n ≤ greatest = is.fits.0 in
     let others : IsBox (record { start = start; shape = shape }) = record { lengths = omega (arith, is.lengths); fits = is.fits.1 } in
     (omega arith, shape_fits start shape others)
 shape_fits [] (_ ∷ _) is = absurd (omega (arith, is.lengths))
@@ -102,7 +100,6 @@ module _ {source target : List Dimension} {region moved targets : Box} (chains :
   met_of_cover chunk in_chunk in_subset cover meets boxes is =
       let many = as_many target moved chunk meets in_chunk in_subset boxes in
       let long = length_values Holds source cover.start (counted_from region.start in_subset.start) is.first in
-      let part = boxes.from_subset.is_box.lengths in
       cover_sizes source cover.start cover.shape (counted_from region.start in_subset.start) in_subset.shape chains is.some
       (sym is.is_box.lengths) (omega (arith, as_many_dimensions)) is.first is.last
       ∙ ap (met_along_each source (counted_from region.start in_subset.start)) (sizes_are target moved chunk meets in_chunk in_subset boxes)

@@ -1,6 +1,5 @@
 -- Boxes that lie in an array.
-use Rattle.std.proofs.Common.{◌≡◌, ◌≢◌, ◌↔◌, ℕ, suc, ◌+◌, ◌<◌, ◌≤◌, List, [], ◌∷◌, Contains, length, replicate, zip}
-use Rattle.std.proofs.Common.{refl, ap, arith, subst, sym}
+use Rattle.std.proofs.Common.{◌≡◌, ◌≢◌, ◌↔◌, ℕ, suc, ◌+◌, ◌<◌, ◌≤◌, List, [], ◌∷◌, Contains, length, replicate, zip, refl, ap, arith, subst, sym}
 use Rattle.std.proofs.lemmas.List.{length-map}
 use Rattle.std.specs.List.{AllByRecursion}
 use Rattle.zarrs_chunk_base.specs.ArraySubset.{AreWithin, Box, IsBox, IsEmptyBox}
@@ -23,8 +22,6 @@ all_end_within _ _ _ e f = absurd (omega arith)
 pub box_within : (start shape sizes : List ℕ) → AllFit sizes → EndWithin start shape sizes → IsBox (record { start = start; shape = shape })
 box_within [] [] [] fit within = record { lengths = refl; fits = tt }
 box_within (s ∷ start) (n ∷ shape) (size ∷ sizes) fit within =
-    let end : s + n ≤ size = within.0 in
-    let small : size ≤ greatest = fit.0 in
     let rest = box_within start shape sizes fit.1 within.1 in
     record { lengths = ap suc rest.lengths; fits = (omega arith, rest.fits) }
 box_within _ _ _ fit within = absurd within
@@ -47,8 +44,6 @@ some_dimension start shape sizes within (k, counted, is) none = let long = withi
 pub within_below : (start shape sizes index : List ℕ) → EndWithin start shape sizes → AreWithin start shape index → AreBelow sizes index
 within_below [] [] [] [] lies within = tt
 within_below (s ∷ start) (n ∷ shape) (size ∷ sizes) (i ∷ index) lies within =
-    let end : s + n ≤ size = lies.0 in
-    let before : i < s + n = within.1 in
     (omega arith, within_below start shape sizes index lies.1 within.2)
 within_below [] [] [] (_ ∷ _) lies within = absurd within
 within_below (_ ∷ _) (_ ∷ _) (_ ∷ _) [] lies within = absurd within

@@ -93,7 +93,6 @@ of_kind rectilinear shape other before after lengths is are =
 of_one_kind : (kind : GridKind) (e : Extension) (shape other : List ℕ) (before after : Grid) → IsMadeOf (grid_kind kind) e shape before
     → IsMadeOf (grid_kind kind) e other after → AreResized before.dimensions after.dimensions
 of_one_kind kind e shape other before after (said, (_, is), _, makes) (again, (_, also), _, makes_again) =
-    let both : Some again ≡ Some said = sym also ∙ is in
     let same : again ≡ said = cc in
     of_kind kind shape other before after said makes (subst ((grid_kind kind).makes after other) same makes_again)
 

@@ -37,8 +37,6 @@ one_met : (s t : Dimension) (from at size c start edge before end low high : ℕ
     → before ≡ steps_before at start → end ≡ steps_to_end at size start edge → Holds s low (from + before) → Holds s high (from + (end - 1))
     → AreMet low high (met_along s t from at size c) size
 one_met s t from at size c start edge before end low high chain (has, some) range before_is end_is first last =
-    let begins : t.start c ≡ start = range.start.start in
-    let ends : t.start c + edge ≡ t.end c = range.edge.edge in
     let index = from + (taken_from t at c - at) in
     let many = taken t at size c in
     let first_is : from + before ≡ index = omega arith in
@@ -71,9 +69,6 @@ pub takes_along : (ds : List Dimension) (at shape chunk : List ℕ) (k start edg
     → IsRangeAlong ds k (slice_index_or chunk k 0) (start, edge)
     → max (slice_index_or at k 0) start < min (start + edge) (slice_index_or at k 0 + slice_index_or shape k 0)
 takes_along (d ∷ ds) (a ∷ at) (n ∷ shape) (c ∷ chunk) zero start edge (some, _) within range =
-    let begins : d.start c ≡ start = range.start.start in
-    let ends : d.start c + edge ≡ d.end c = range.edge.edge in
-    let takes : max a (d.start c) < min (d.end c) (a + n) = some.1 in
     omega arith
 takes_along (d ∷ ds) (a ∷ at) (n ∷ shape) (c ∷ chunk) (suc k) start edge some within range =
     takes_along ds at shape chunk k start edge some.1 (omega arith) range

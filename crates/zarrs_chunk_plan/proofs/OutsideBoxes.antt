@@ -107,7 +107,6 @@ grown_more inner outer left shape boxes more added below_all so_far is_box are b
           grind (arith, get_or-set_same, get_or-set_other);
       those = λ chunk.
           let was = so_far.those chunk in
-          let now = both chunk in
           let new = in_added chunk in
           let has = has_either (chunks_of_boxes boxes) (chunks_in added) chunk in
           rw are (grind arith);
@@ -125,14 +124,12 @@ module _ (inner outer shape : List ℕ) (boxes : List Box) (same : length inner 
     (all : HasGrown (lesser inner outer) outer 0 shape boxes) where
   all_grown : shape ≡ outer
   all_grown =
-      let long = all.long in
       same_number_lists shape outer all.long (λ k below. all.grown k (omega arith) (omega arith))
 
   pub are_outside : (chunk : List ℕ) → Contains (chunks_of_boxes boxes) chunk ↔ IsOutside inner outer chunk
   are_outside chunk =
       let both = lesser_below inner outer chunk same in
       let those = rw all_grown at (all.those chunk) in
-      let apart = all.apart chunk in
       grind arith
 
 -- ---- the boxes of two lists

@@ -91,7 +91,6 @@ pub place_from_origin : (ds : List Dimension) (chunk origin place : List ℕ) �
     → IsPlace ds chunk (counted_from origin place) place
 place_from_origin [] [] [] [] is same = tt
 place_from_origin (d ∷ ds) (c ∷ chunk) (o ∷ origin) (p ∷ place) is same =
-    let start = is.0.start in
     (omega arith, place_from_origin ds chunk origin place is.1 (omega arith))
 place_from_origin _ _ _ _ is same = absurd (first_of (assumption, omega arith))
 
@@ -105,8 +104,6 @@ within_sizes _ _ _ within = absurd within
 pub not_empty_if_inside : (start shape index : List ℕ) → AreWithin start shape index → ¬ Contains shape 0
 not_empty_if_inside [] [] [] within (k, counted, is) = absurd (omega arith)
 not_empty_if_inside (s ∷ start) (n ∷ shape) (i ∷ index) within (zero, counted, is) =
-    let from : s ≤ i = within.0 in
-    let below : i < s + n = within.1 in
     absurd (omega arith)
 not_empty_if_inside (s ∷ start) (n ∷ shape) (i ∷ index) within (suc k, counted, is) =
     not_empty_if_inside start shape index within.2 (k, omega arith, is)

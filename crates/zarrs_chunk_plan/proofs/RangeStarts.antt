@@ -36,7 +36,6 @@ module _ (stride : ℕ) where
       let rest = repeated_length count (Later numbers) in
       let same = length-map numbers (λ (n : ℕ). n + stride) in
       let fewer : count * length (Later numbers) ≡ count * length numbers = ap (λ n. count * n) same in
-      let more = add-mul 1 count (length numbers) in
       let single : 1 * length numbers ≡ length numbers = omega arith in
       let counts : suc count * length numbers ≡ (1 + count) * length numbers = ap (λ n. n * length numbers) (let is : suc count ≡ 1 + count = omega arith in is) in
       omega arith

@@ -79,7 +79,6 @@ module _ (shape : List ℕ) where
   rank_same numbers others below also same =
       let one = drop_rank shape numbers below in
       let other = drop_rank shape others also in
-      let both : numbers ∷ after shape numbers ≡ others ∷ after shape others = sym one ∙ ap (λ k. drop k (row_major shape)) same ∙ other in
       cc
 
 -- ---- the list at a part of the way
@@ -92,8 +91,6 @@ times_less : (a b c : ℕ) → a < b → 0 < c → a * c < b * c
 times_less a b zero less some = absurd (omega arith)
 times_less a b (suc c) less some =
     let rest = times_le a b c (omega arith) in
-    let one = mul-suc a c in
-    let other = mul-suc b c in
     omega arith
 
 add_mul : (a b c : ℕ) → (a + b) * c ≡ a * c + b * c
@@ -106,7 +103,6 @@ part_below part of size less some =
     ⊎_elim (λ (fits : part * size / of < size). fits)
     (λ (past : size ≤ part * size / of).
     let times : size * of ≤ part * size / of * of = times_le size (part * size / of) of past in
-    let same = mul_comm of size in
     absurd (omega arith))
     (cases_lt (part * size / of) size)
 

@@ -29,9 +29,6 @@ pub shifted_is_box : (first shape start counts : List ℕ) → IsBox (record { s
     → (¬ Contains counts 0) → AreBelow shape (lasts start counts) → IsBox (record { start = counted_from first start; shape = counts })
 shifted_is_box [] [] [] [] is_box same some below = record { lengths = refl; fits = tt }
 shifted_is_box (f ∷ first) (n ∷ shape) (s ∷ start) (count ∷ counts) is_box same some below =
-    let any : 0 < count = head_some count counts some in
-    let last : s + (count - 1) < n = below.0 in
-    let end : f + n ≤ greatest = is_box.fits.0 in
     let long = is_box.lengths in
     let b : Box = record { start = first; shape = shape } in
     let others : IsBox b = record { lengths = omega arith; fits = is_box.fits.1 } in
@@ -170,10 +167,9 @@ module _ {source : List Dimension} {IsSourceKey : List ℕ → List ℕ → Type
       let (group, in_groups, into) = pair_of Into _ _ plan.are_groups chunk ((are_those_inside plan.targets plan.is_box chunk).1 within)
       in
       let to = group.0 in
-      let part = into.to.boxes.from_subset.is_box in
       let (_, has) = takes into.to index (box, inside) in
       let below_to = subst (λ shape. AreBelow shape has.steps) (sym (to_long region into.to)) has.below in
-      let steps_many = length_below to.in_subset.shape has.steps below_to ∙ sym part.lengths in
+      let steps_many = length_below to.in_subset.shape has.steps below_to ∙ sym into.to.boxes.from_subset.is_box.lengths in
       let counted : List ℕ = counted_from to.in_subset.start has.steps in
       let counted_many = length_counted to.in_subset.start has.steps steps_many in
       let to_many = all_long into.to index (box, inside) in

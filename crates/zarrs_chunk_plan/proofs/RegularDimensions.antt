@@ -59,7 +59,6 @@ whole_met s t chain also a b some_a some_b regular regular_t at size c within wi
     let one = before.1 in let two = here.1 in let three = after.1 in
     let start = regular_start t also b some_b regular_t (c + 1) here.0 (omega (arith, one, two, gap.1)) in
     let end = regular_start t also b some_b regular_t (c + 2) after.0 (omega (arith, two, three, gap_after.1)) in
-    let double : (c + 2) * b ≡ (c + 1 + 1) * b = ap (λ n. n * b) next in
     let index = at + (taken_from t at (c + 1) - at) in
     let many = taken t at size (c + 1) in
     let first : index ≡ (c + 1) * b = omega (arith, one, two, gap.1) in
@@ -190,7 +189,6 @@ counted {source} {target} {region} {moved} {targets} k a b chains also taking so
     table_long (counters source target region moved) targets.start targets.shape k
     (let counters_are = as_many_counters chains taking in omega (arith, taking.long)) taking.is_box.lengths within in
     let whole = whole_sum row (suc between) (omega arith) in
-    let below = is_row.below in
     let begins : slice_index_or targets.start k 0 + many ≤ greatest =
     ends_fit targets.start targets.shape k taking.is_box.fits taking.is_box.lengths (omega (arith, taking.is_box.lengths)) in
     let last : suc between ≡ many - 1 = omega arith in

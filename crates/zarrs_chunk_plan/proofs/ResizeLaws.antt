@@ -1,6 +1,5 @@
 -- What holds of each plan of a resize.
-use Rattle.std.proofs.Common.{◌≡◌, ◌≢◌, ◌↔◌, ◌⊎◌, ◌∙◌, ℕ, Bool, false, List, [], ◌∷◌, Contains, length, refl, inl, inr, subst, sym, ⊎_elim}
-use Rattle.std.proofs.Common.{arith}
+use Rattle.std.proofs.Common.{◌≡◌, ◌≢◌, ◌↔◌, ◌⊎◌, ◌∙◌, ℕ, Bool, false, List, [], ◌∷◌, Contains, length, refl, inl, inr, subst, sym, ⊎_elim, arith}
 use Rattle.std.specs.List.{AllByRecursion, AllPairs}
 use Rattle.zarrs_chunk_base.specs.Dimension.{Dimension, Holds, InBox, InEach, IsChain, IsPlace, array_sizes}
 use Rattle.zarrs_chunk_base.specs.Greatest.{AllFit}

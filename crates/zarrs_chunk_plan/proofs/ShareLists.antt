@@ -107,7 +107,6 @@ module _ {X Y : Type 0} (M : X → Type 0) (R : X → Y → Type 0)
       → (all : List Y) × AllZip R xs all × (share_of share all ≡ ys) × (length all ≡ length xs)
   of_all share xs ys meet are =
       let count = length xs in
-      let one_of = share.one_of in
       let low = before_next share.number share.of count (omega arith) in
       let high : before_share (share.number + 1) share.of count ≤ count =
       div-le_of_le-mul share.of (let most = times_le (share.number + 1) share.of count (omega arith) in most)

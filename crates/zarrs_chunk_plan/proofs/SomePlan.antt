@@ -28,8 +28,6 @@ has_shape =
     by_dimension Holds (λ ds chunk index. (edges : List ℕ) × IsShape ds chunk edges) ([], tt)
     (λ d c i ds chunk index here rest.
     let (edges, are) = rest in
-    let low = here.from in
-    let high = here.below in
     ((d.end c - d.start c) ∷ edges, (record { chunk = here.chunk; edge = omega arith }, are)))
 
 -- a chunk that holds an index of 64-bit numbers has such numbers
@@ -54,7 +52,6 @@ sizes_between : (first last : List ℕ) → AllZip ◌≤◌ first last
 sizes_between [] [] order = ([], refl, refl)
 sizes_between (f ∷ first) (l ∷ last) order =
     let (sizes, lengths, same) = sizes_between first last order.1 in
-    let low : f ≤ l = order.0 in
     let here : f + (l - f + 1) ≡ l + 1 = omega arith in
     ((l - f + 1) ∷ sizes, ap suc lengths, ap₂ (λ n ns. n ∷ ns) here same)
 sizes_between _ _ order = absurd order

@@ -22,10 +22,6 @@ inside_array : (first shape sizes start counts index : List ℕ) → EndWithin f
     → AreBelow shape (lasts start counts) → AreWithin (counted_from first start) counts index → AreBelow sizes index
 inside_array [] [] [] start [] [] lies some below within = tt
 inside_array (f ∷ first) (n ∷ shape) (size ∷ sizes) (s ∷ start) (count ∷ counts) (i ∷ index) lies some below within =
-    let any : 0 < count = head_some count counts some in
-    let last : s + (count - 1) < n = below.0 in
-    let end : f + n ≤ size = lies.0 in
-    let before : i < f + s + count = within.1 in
     (omega arith, inside_array first shape sizes start counts index lies.1 (tail_some count counts some) below.1 within.2)
 inside_array _ _ _ _ _ _ lies some below within = absurd (first_of (assumption, omega arith))
 

@@ -17,8 +17,6 @@ use Rattle.zarrs_chunk_plan.proofs.Rechunkings.{in_array, is_counted, keys_of_co
 one_place : (ds : List Dimension) (chunk index one other : List ℕ) → IsPlace ds chunk index one → IsPlace ds chunk index other → one ≡ other
 one_place [] [] [] [] [] is also = refl
 one_place (d ∷ ds) (c ∷ chunk) (i ∷ index) (p ∷ one) (q ∷ other) is also =
-    let first = is.0 in
-    let second = also.0 in
     ap₂ (λ x xs. x ∷ xs) (omega arith) (one_place ds chunk index one other is.1 also.1)
 one_place _ _ _ _ _ is also = absurd (first_of (assumption, omega arith))
 

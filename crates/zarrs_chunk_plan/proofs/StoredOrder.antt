@@ -122,7 +122,6 @@ place_below [] [] [] [] lies within = omega arith
 place_below (s ∷ start) (n ∷ shape) (e ∷ edges) (i ∷ index) (ends, lies) (from, below, within) =
     let inner = place_below start shape edges index lies within in
     let rows = mul-le-mul_right {m = i + 1} {n = e} (product edges) (omega arith) in
-    let next = add-mul i 1 (product edges) in
     let single : 1 * product edges ≡ product edges = omega arith in
     omega arith
 place_below _ _ _ _ lies within = absurd (first_of (assumption, omega arith))
@@ -144,7 +143,6 @@ none_past item order edges start shape ranges are (n, among, past) =
     let below = placed_below order start shape edges index are.lies within in
     let counted = are.counted some in
     let bytes = mul-le-mul_right {m = place (in_order order edges) (in_order order index) + 1} {n = product edges} item (omega arith) in
-    let next = add-mul (place (in_order order edges) (in_order order index)) 1 item in
     let single : 1 * item ≡ item = omega arith in
     omega arith
   where

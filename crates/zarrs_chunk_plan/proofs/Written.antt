@@ -150,7 +150,6 @@ pub sums_fit : (target : List Dimension) (at shape begin sizes : List ℕ) (sour
     + get_or (get_or (met_in (counters_from source target first at shape) begin sizes) k []) j 0 ≤ greatest
 sums_fit (t ∷ target) (a ∷ at) (n ∷ shape) (b ∷ begin) (m ∷ sizes) (s ∷ source) (f ∷ first) zero j chains also e g lies fit takes within less =
     let most = sum_fits s t chains.0 also.0 f a n lies.0 b m j takes.0 less in
-    let small : n ≤ greatest = fit.0 in
     let up_to = take-map-range_with_len (met_along s t f a n) b m j (omega arith) in
     let here = get_or-map-range_with_len (met_along s t f a n) b m j (b + j) 0 less refl in
     rw (up_to, here) (omega arith)
@@ -199,8 +198,6 @@ module _ (d : Dimension) (chain : IsChain d) (ds : List Dimension) (a n c k i : 
   find within =
       let (has, any) = last_takes in
       let last = c + (k - 1) in
-      let from : taken_from d a c ≤ i = within.0 in
-      let below : i < taken_from d a c + (taken_from d a last + taken d a n last - taken_from d a c) = within.1 in
       let (start, _) = in_chain d chain c last (omega arith) has in
       let (rest, (chunk, between, box)) = others.0 within.2 in
       let (b, low, high, in_chunk) = lies_between d chain c (k - 1) i has (omega arith) (omega arith) in
@@ -212,9 +209,6 @@ module _ (d : Dimension) (chain : IsChain d) (ds : List Dimension) (a n c k i : 
   lie (b ∷ chunk) below within box =
       let (has, any) = last_takes in
       let low : c ≤ b = within.0 in
-      let high : b < c + k = within.1 in
-      let after : a ≤ i = below.0 in
-      let small : i < a + n = below.1 in
       let (from, end) = lies_within d chain c (c + (k - 1)) b i has low (omega arith) box.0 in
       (omega arith, omega arith, others.1 (below.2, (chunk, within.2, box.1)))
 

@@ -1,6 +1,5 @@
-use Rattle.std.proofs.Common.{rules, ◌<◌, length, tests}
+use Rattle.std.proofs.Common.{rules, ◌<◌, length, tests, sym, ◌∙◌}
 use Rattle.std.proofs.lemmas.Bool.{ne_eqb, true≢false}
-use Rattle.std.proofs.Common.{sym, ◌∙◌}
 use Rattle.std.proofs.lemmas.Iterator.{YieldsList-from_slice, YieldsList-from_zip, cases_from_all}
 use Rattle.zarrs_chunk_parts.proofs.Wholes.{tells_all}
 use Rattle.zarrs_chunks.proofs.ChunksInBoxes.{length_below}

@@ -12,8 +12,6 @@ returns-then-share-clause-rank c = λ some.
 pub returns-clause-below : goal.returns-clause-below
 returns-clause-below c = λ some e is.
     let share = c.args.share.now in
-    let one_of = share.one_of in
-    let not_last = c.if-share.false in
     let (below, at) = digits_are c.args.shape.now (share.number + 1) share.of (omega arith) some in
     let same : c.in_ok-end.end ≡ e = cc in
     subst (λ e. AreBelow c.args.shape.now e.items) same (rw c.in_ok-end.ensures below)
@@ -21,7 +19,5 @@ returns-clause-below c = λ some e is.
 pub returns-clause-rank : goal.returns-clause-rank
 returns-clause-rank c = λ some.
     let share = c.args.share.now in
-    let one_of = share.one_of in
-    let not_last = c.if-share.false in
     let (below, at) = digits_are c.args.shape.now (share.number + 1) share.of (omega arith) some in
     rw c.in_ok-end.ensures at

@@ -10,19 +10,16 @@ use Rattle.zarrs_chunk_plan.proofs.counts.box_between.Goals as goal
 reaches_end : (first end : List ℕ) → AllZip ◌≤◌ first end → AllFit end → IsBox (record { start = first; shape = distances first end })
 reaches_end [] [] order fit = record { lengths = refl; fits = tt }
 reaches_end (a ∷ first) (e ∷ end) order fit =
-    let before : a ≤ e = order.0 in
-    let small : e ≤ greatest = fit.0 in
     let rest = reaches_end first end order.1 fit.1 in
     record { lengths = ap suc rest.lengths; fits = (omega arith, rest.fits) }
 reaches_end _ _ order fit = absurd order
 
 pub steps_to-shape-requires : goal.steps_to-shape-requires
 steps_to-shape-requires c =
-    let first = c.args.first.now in
     let last = c.args.last.now in
     let copied = c.in_ok-start.ensures.items_if_clones_equal (λ x y same. same) in
     let cloned : c.in_ok-clone.field-0.items ≡ c.in_ok-start.start.items = same_from_all_zip _ _ _ c.in_ok-clone.ensures.cases.0 (λ x y same. same) in
-    let long = AllZip-long ◌≤◌ first.start (ends last.start last.shape) c.requires in
+    let long = AllZip-long ◌≤◌ c.args.first.now.start (ends last.start last.shape) c.requires in
     rw (cloned, copied, c.start.ensures.value, c.deref.ensures.value, c.in_ok-end.ensures) (sym long)
 
 pub box_of-requires : goal.box_of-requires
@@ -38,7 +35,6 @@ box_of-requires c =
 pub returns : goal.returns
 returns c =
     let first = c.args.first.now in
-    let last = c.args.last.now in
     let copied = c.in_ok-start.ensures.items_if_clones_equal (λ x y same. same) in
     let cloned : c.in_ok-clone.field-0.items ≡ c.in_ok-start.start.items = same_from_all_zip _ _ _ c.in_ok-clone.ensures.cases.0 (λ x y same. same) in
     let start : c.in_ok-start.start.items ≡ first.start = copied ∙ c.start.ensures.value in

@@ -16,7 +16,6 @@ returns-clause-empty g c = λ empty dimensions.
 
 pub returns-clause-answers : goal.returns-clause-answers
 returns-clause-answers g c = λ may.
-    let ds = g.G.ChunkGridTraits.dimensions c.args.array.now.grid in
     let chunks = c.shape-chunks.ensures.value in
     let copied = c.in_ok-to_vec.ensures.items_if_clones_equal (λ x y same. same) in
     let is = rw c.in-Some.is at (c.in_ok-cover.ensures.answers may) in (

@@ -6,15 +6,12 @@ use Rattle.zarrs_chunk_plan.proofs.counts.counts_of_rechunking.Goals as goal
 
 pub counts_of_targets-requires-clause-taking : goal.counts_of_targets-requires-clause-taking
 counts_of_targets-requires-clause-taking g c =
-    let source = g.G.ChunkGridTraits.dimensions c.args.source.now.grid in
-    let target = g.H.ChunkGridTraits.dimensions c.args.target.now.grid in
     let found = c.in_ok-targets.ensures in
     rw c.in_ok-array.ensures.elements
     (are_taking _ _ _ found.one_array found.array found.is_box found.long (λ chunk inside. ((found.targets chunk).0 inside).1))
 
 pub counts_of_targets-requires-clause-dimensions : goal.counts_of_targets-requires-clause-dimensions
 counts_of_targets-requires-clause-dimensions g c = λ empty none.
-    let source = g.G.ChunkGridTraits.dimensions c.args.source.now.grid in
     let target = g.H.ChunkGridTraits.dimensions c.args.target.now.grid in
     let found = c.in_ok-targets.ensures in
     let taking = are_taking _ _ _ found.one_array found.array found.is_box found.long (λ chunk inside. ((found.targets chunk).0 inside).1)
@@ -24,7 +21,6 @@ counts_of_targets-requires-clause-dimensions g c = λ empty none.
 
 pub returns-clause-counts : goal.returns-clause-counts
 returns-clause-counts g c =
-    let source = g.G.ChunkGridTraits.dimensions c.args.source.now.grid in
     let target = g.H.ChunkGridTraits.dimensions c.args.target.now.grid in
     let found = c.in_ok-targets.ensures in
     let targets = c.in_ok-targets.targets in

@@ -9,7 +9,6 @@ pub returns : goal.returns
 returns g c =
     let source = g.G.ChunkGridTraits.dimensions c.args.copied.now.source.now in
     let elements = c.args.elements.now in
-    let cover = c.in_ok-cover.cover in
     record {
       lines = c.in_ok-to_vec-2.ensures.items_if_clones_equal (λ x y same. same) ∙ c.shape-2.ensures.value;
       copies = c.in_ok-copies.ensures.copies;
@@ -19,5 +18,5 @@ returns g c =
           (box_many elements (IsInside elements) c.shape.ensures.is_box (λ index. (λ inside. inside, λ inside. inside)));
       source_chunks = subst (λ items. AreMany (Meets source elements) (product items))
           (sym (c.in_ok-to_vec-3.ensures.items_if_clones_equal (λ x y same. same) ∙ c.shape-3.ensures.value))
-          (box_many cover (Meets source elements) c.shape-3.ensures.is_box c.in_ok-cover.ensures.named);
+          (box_many c.in_ok-cover.cover (Meets source elements) c.shape-3.ensures.is_box c.in_ok-cover.ensures.named);
     }

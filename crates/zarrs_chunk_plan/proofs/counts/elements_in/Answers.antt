@@ -20,29 +20,25 @@ returns-in_default-clause-empty g c =
 pub box_between-requires : goal.box_between-requires
 box_between-requires g c =
     let ds = g.G.ChunkGridTraits.dimensions c.args.grid.now in
-    let chunks = c.args.chunks.now in
     let last = rw c.in-Some.is at c.in_ok-last.ensures in
     let first_shared = rw (c.requires.array, c.start.ensures.value) at c.in_ok-first.ensures.boxes in
     let last_shared = rw (c.requires.array, c.deref.ensures.value, last.1) at c.in_ok-last-2.ensures.boxes in
-    in_order ds chunks c.is_a_box.ensures c.requires.long (g.met.G.ChunkGridTraits.chained c.args.grid.now) last.0 c.requires.meet
+    in_order ds c.args.chunks.now c.is_a_box.ensures c.requires.long (g.met.G.ChunkGridTraits.chained c.args.grid.now) last.0 c.requires.meet
     c.in_ok-first.field-0.in_subset c.in_ok-first.field-0.in_chunk c.in_ok-last-2.field-0.in_subset c.in_ok-last-2.field-0.in_chunk
     first_shared last_shared
 
 pub returns-clause-elements : goal.returns-clause-elements
 returns-clause-elements g c =
     let ds = g.G.ChunkGridTraits.dimensions c.args.grid.now in
-    let chunks = c.args.chunks.now in
     let last = rw c.in-Some.is at c.in_ok-last.ensures in
     let first_shared = rw (c.requires.array, c.start.ensures.value) at c.in_ok-first.ensures.boxes in
     let last_shared = rw (c.requires.array, c.deref.ensures.value, last.1) at c.in_ok-last-2.ensures.boxes in
-    between_has ds chunks c.is_a_box.ensures c.requires.long (g.met.G.ChunkGridTraits.chained c.args.grid.now) last.0 c.requires.meet
+    between_has ds c.args.chunks.now c.is_a_box.ensures c.requires.long (g.met.G.ChunkGridTraits.chained c.args.grid.now) last.0 c.requires.meet
     c.in_ok-first.field-0.in_subset c.in_ok-first.field-0.in_chunk c.in_ok-last-2.field-0.in_subset c.in_ok-last-2.field-0.in_chunk
     first_shared last_shared c.in_ok-box_between.field-0 c.in_ok-box_between.ensures
 
 pub returns-clause-empty : goal.returns-clause-empty
 returns-clause-empty g c =
-    let ds = g.G.ChunkGridTraits.dimensions c.args.grid.now in
-    let chunks = c.args.chunks.now in
     let last = rw c.in-Some.is at c.in_ok-last.ensures in
     let first_shared = rw (c.requires.array, c.start.ensures.value) at c.in_ok-first.ensures.boxes in
     let last_shared = rw (c.requires.array, c.deref.ensures.value, last.1) at c.in_ok-last-2.ensures.boxes in

@@ -8,10 +8,8 @@ loop-dimension-init g c = omega arith
 
 pub loop-dimension-preserved-then-is_some : goal.loop-dimension-preserved-then-is_some
 loop-dimension-preserved-then-is_some g c =
-    let shape = c.args.targets.now.shape in
-    let k = c.loop-dimension.dimension in
     let within = rw c.shape-dimension-end.ensures.value at c.loop-dimension-test.true in
-    let more = sum_by_more (λ n. n) shape k 0 (omega (arith, within)) in
+    let more = sum_by_more (λ n. n) c.args.targets.now.shape c.loop-dimension.dimension 0 (omega (arith, within)) in
     omega (arith, c.loop-dimension.invariant, more)
 
 pub returns-in-None : goal.returns-in-None
@@ -32,9 +30,7 @@ returns-in-None g c =
 
 pub loop-dimension-preserved : goal.loop-dimension-preserved
 loop-dimension-preserved g c =
-    let shape = c.args.targets.now.shape in
-    let k = c.loop-dimension.dimension in
     let within = rw c.shape-dimension-end.ensures.value at c.loop-dimension-test.true in
     let rest = rw c.shape.ensures.value at (c.in-Some.ensures {u = tt}) in
-    let more = sum_by_more (λ n. n) shape k 0 (omega (arith, within)) in
+    let more = sum_by_more (λ n. n) c.args.targets.now.shape c.loop-dimension.dimension 0 (omega (arith, within)) in
     omega (arith, c.loop-dimension.invariant, more, rest)

@@ -16,7 +16,6 @@ fewest-requires t c =
 pub loop-edge-preserved : goal.loop-edge-preserved
 loop-edge-preserved t c =
     let e = c.edge-item.result in
-    let rows = rows_of c.in-Some.rows.now in
     let row = c.deref-edge-items.result.now in
     let k = c.loop-edge.edge-index in
     let before = take k row in
@@ -41,6 +40,5 @@ loop-edge-preserved t c =
 
 pub returns : goal.returns
 returns t c =
-    let row = c.deref-edge-items.result.now in
-    let whole = take_all c.loop-edge.edge-index row (omega (arith, c.loop-edge-test.false)) in
+    let whole = take_all c.loop-edge.edge-index c.deref-edge-items.result.now (omega (arith, c.loop-edge-test.false)) in
     rw ((c.in-Some.ensures {u = tt}).cases.0) (rw (whole, c.deref-edge-items.ensures.value) at c.loop-edge.invariant)

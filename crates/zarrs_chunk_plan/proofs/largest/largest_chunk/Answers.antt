@@ -11,33 +11,27 @@ returns-then-not-are_few-clause-few g c =
 
 pub longest_along_each-requires-clause-long : goal.longest_along_each-requires-clause-long
 longest_along_each-requires-clause-long g c =
-    let chunks = c.in_ok-chunks.ensures {u = tt} in
-    let is_box = c.is_a_box.ensures in
-    omega (arith, is_box.lengths, chunks.lengths)
+    omega (arith, c.is_a_box.ensures.lengths, (c.in_ok-chunks.ensures {u = tt}).lengths)
 
 pub longest_along_each-requires-clause-some : goal.longest_along_each-requires-clause-some
 longest_along_each-requires-clause-some g c =
     let ds = g.G.ChunkGridTraits.dimensions c.args.grid.now in
-    let array = c.in_ok-array.ensures {u = tt} in
     let chunks = c.in_ok-chunks.ensures {u = tt} in
-    let some = rw array.elements at (c.if-is_empty.ensures {u = tt}).1 in
+    let some = rw (c.in_ok-array.ensures {u = tt}).elements at (c.if-is_empty.ensures {u = tt}).1 in
     some_chunks ds c.in_ok-chunks.chunks (g.met.G.ChunkGridTraits.chained c.args.grid.now) (λ empty. true≢false (sym (some empty))) (λ chunk. (chunks.named chunk).1)
 
 pub returns-then-is_empty-clause-largest : goal.returns-then-is_empty-clause-largest
 returns-then-is_empty-clause-largest g c =
     let ds = g.G.ChunkGridTraits.dimensions c.args.grid.now in
-    let array = c.in_ok-array.ensures {u = tt} in
-    let empty = rw array.elements at (c.if-is_empty.ensures {u = tt}).0 refl in
+    let empty = rw (c.in_ok-array.ensures {u = tt}).elements at (c.if-is_empty.ensures {u = tt}).0 refl in
     subst (IsLargest ds) (sym (c.in_ok-ones.ensures {u = tt} ∙ ap (λ n. replicate n 1) c.dimensionality.ensures)) (largest_of_none ds empty)
 
 pub returns-clause-largest : goal.returns-clause-largest
 returns-clause-largest g c =
     let ds = g.G.ChunkGridTraits.dimensions c.args.grid.now in
-    let array = c.in_ok-array.ensures {u = tt} in
     let chunks = c.in_ok-chunks.ensures {u = tt} in
-    let is_box = c.is_a_box.ensures in
-    let long : length c.in_ok-chunks.chunks.shape ≡ length ds = omega (arith, is_box.lengths, chunks.lengths) in
-    let some = rw array.elements at (c.if-is_empty.ensures {u = tt}).1 in
+    let long : length c.in_ok-chunks.chunks.shape ≡ length ds = omega (arith, c.is_a_box.ensures.lengths, chunks.lengths) in
+    let some = rw (c.in_ok-array.ensures {u = tt}).elements at (c.if-is_empty.ensures {u = tt}).1 in
     let (many, is) = rw (c.in_ok-shape.ensures {u = tt}, c.deref.ensures.value) at c.chunk_shape_u64.ensures in
     let chunk = c.in_ok-chunk.ensures {u = tt} in
     is_largest _ _ _ _ (λ empty. true≢false (sym (some empty))) chunks.start long (λ chunk. (chunks.named chunk).0) (λ chunk. (chunks.named chunk).1)

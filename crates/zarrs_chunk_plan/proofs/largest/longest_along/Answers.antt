@@ -15,12 +15,10 @@ loop-chunk-preserved g c =
     let ds = g.G.ChunkGridTraits.dimensions c.args.grid.now in
     let k = c.args.dimension in
     let chunk = c.loop-chunk.chunk in
-    let has = c.in_ok-edge.ensures {u = tt} in
     let (among, at_least, at_most) = c.loop-chunk.invariant in
-    let this = λ (edge : ℕ) (is : HasEdgeAlong ds k chunk edge). one_edge ds k chunk edge c.in_ok-edge.edge is has in
+    let this = λ (edge : ℕ) (is : HasEdgeAlong ds k chunk edge). one_edge ds k chunk edge c.in_ok-edge.edge is (c.in_ok-edge.ensures {u = tt}) in
     elim c.if-edge-greatest.branch [
       | then-edge-greatest w ↦
-          let longer : c.loop-chunk.greatest < c.in_ok-edge.edge = w.if-edge-greatest.true in
           rw (w.longest-is, w.greatest-is) (
             inr (omega arith),
             λ edge is. let same = this edge is in omega arith,
@@ -29,7 +27,6 @@ loop-chunk-preserved g c =
                 let same = this edge (subst (λ n. HasEdgeAlong ds k n edge) here is) in omega arith) (cases_lt other chunk),
           )
       | else-edge-greatest w ↦
-          let shorter : c.in_ok-edge.edge ≤ c.loop-chunk.greatest = w.if-edge-greatest.false in
           rw (w.longest-is, w.greatest-is) (
             ⊎_elim (λ is. inl is) (λ less. inr (omega arith)) among,
             at_least,

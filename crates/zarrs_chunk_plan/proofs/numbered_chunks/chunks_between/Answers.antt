@@ -19,8 +19,6 @@ loop-number-preserved c =
 pub returns : goal.returns
 returns c =
     let first = c.args.numbers.0 in
-    let from = c.loop-number.auto.number in
-    let ended = c.loop-number-test.false in
     let (within, are) = c.loop-number.invariant in
     let all : c.args.numbers.1 - first ≡ c.loop-number.number - first = omega arith in
     rw all are

@@ -23,7 +23,6 @@ overflow_add-chunk c =
     let before = c.loop-dimension.dimension - 1 in
     let some = some_size shape before (omega arith) (omega arith) in
     let digit = c.loop-dimension.rest % slice_index_or shape before 0 in
-    let same = c.requires.is_box.lengths in
     let less : digit < slice_index_or shape before 0 = omega arith in
     let fits = sum_fits c.args.start.now shape before digit c.requires.is_box.fits (omega arith) (omega arith) less in
     omega arith

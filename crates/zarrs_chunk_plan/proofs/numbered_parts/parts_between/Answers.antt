@@ -29,8 +29,6 @@ returns g c =
     IsPart (g.G.ChunkGridTraits.dimensions c.args.grid.now) (g.E.ChunkKeyEncodingTraits.is_key c.args.encoding.now) c.args.array_subset.now in
     let chunks = chunks_in c.args.chunks.now in
     let first = c.args.numbers.0 in
-    let from = c.loop-number.auto.number in
-    let ended = c.loop-number-test.false in
     let (within, are) = c.loop-number.invariant in
     let all : c.loop-number.number - first ≡ c.args.numbers.1 - first = omega arith in
     subst (λ n. AllZip IsPartOf (take n (drop first chunks)) c.loop-number.parts.items) all are

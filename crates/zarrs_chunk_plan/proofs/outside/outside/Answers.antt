@@ -16,9 +16,8 @@ loop-dimension-preserved c =
     let is : c.loop-dimension.dimension ≡ suc left = omega arith in
     let so_far = subst (λ d. HasGrown both outer d shape boxes) is c.loop-dimension.invariant in
     let added = c.in_ok-added in
-    let pushed = c.in_ok-push_some.ensures in
     grown_more both outer left shape boxes c.push_some.new.boxes.items added.added (omega arith) so_far added.ensures.is_box
-    pushed.chunks
+    c.in_ok-push_some.ensures.chunks
     (rw c.deref.ensures.value at added.ensures.together) (rw c.deref.ensures.value at added.ensures.apart)
 
 pub returns-clause-those : goal.returns-clause-those

@@ -13,8 +13,7 @@ returns-clause-targets g c =
 
 pub returns-clause-long : goal.returns-clause-long
 returns-clause-long g c =
-    let written = c.in_ok-written.written in
     let chunks = c.args.chunks.now in
     let many = c.in_ok-written.ensures.lengths in
     let same : length chunks.start ≡ length (g.H.ChunkGridTraits.dimensions c.args.target.now) = search rules in
-    ap length c.in_ok-overlap.ensures.start ∙ later_starts_long written.start chunks.start (many ∙ sym same) ∙ many
+    ap length c.in_ok-overlap.ensures.start ∙ later_starts_long c.in_ok-written.written.start chunks.start (many ∙ sym same) ∙ many

@@ -3,14 +3,12 @@ use Rattle.zarrs_chunk_plan.proofs.resize.boxes_of_changes.Goals as goal
 
 pub returns-clause-those : goal.returns-clause-those
 returns-clause-those c = λ chunk.
-    let uses = c.args.uses.now in
     let added = rw (c.deref.ensures.value, c.deref-2.ensures.value) at c.in_ok-added.ensures.those in
     rw c.in_ok-append.ensures.items
     (told_of _ _ _ _ _ _ c.in_ok-boxes.ensures.those added _)
 
 pub returns-clause-once : goal.returns-clause-once
 returns-clause-once c =
-    let uses = c.args.uses.now in
     let added = rw (c.deref.ensures.value, c.deref-2.ensures.value) at c.in_ok-added.ensures.those in
     rw c.in_ok-append.ensures.items
     (told_once _ _ _ _ _ _ c.in_ok-boxes.ensures.those added c.in_ok-boxes.ensures.once c.in_ok-added.ensures.once)

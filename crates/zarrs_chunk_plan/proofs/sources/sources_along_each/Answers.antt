@@ -17,15 +17,12 @@ pub loop-dimension-preserved : goal.loop-dimension-preserved
 loop-dimension-preserved g c =
     let source = g.G.ChunkGridTraits.dimensions c.args.copied.now.source.now in
     let target = g.H.ChunkGridTraits.dimensions c.args.copied.now.target.now in
-    let region = c.args.copied.now.region.now in
-    let moved = c.args.copied.now.moved.now in
     let targets = c.args.targets.now in
     let taking = c.requires in
-    let all = counters source target region moved in
+    let all = counters source target c.args.copied.now.region.now c.args.copied.now.moved.now in
     let met = met_in all targets.start targets.shape in
     let many = as_many_counters (g.met.G.ChunkGridTraits.chained c.args.copied.now.source.now) taking in
-    let is_box = taking.is_box in
-    let long = tables_long all targets.start targets.shape (omega (arith, taking.long, many)) is_box.lengths in
+    let long = tables_long all targets.start targets.shape (omega (arith, taking.long, many)) taking.is_box.lengths in
     let less = rw c.shape-shape.ensures.value at c.loop-dimension-test.true in
     let (in_all, most) = c.loop-dimension.invariant in
     let k = c.loop-dimension.dimension in
@@ -39,13 +36,11 @@ pub returns-then-is_empty : goal.returns-then-is_empty
 returns-then-is_empty g c =
     let source = g.G.ChunkGridTraits.dimensions c.args.copied.now.source.now in
     let target = g.H.ChunkGridTraits.dimensions c.args.copied.now.target.now in
-    let region = c.args.copied.now.region.now in
-    let moved = c.args.copied.now.moved.now in
     let targets = c.args.targets.now in
     let empty = c.is_empty.ensures.0 c.if-is_empty.true in
     let copied = c.in_ok-to_vec.ensures.items_if_clones_equal (λ x y same. same) in
     let also_copied = c.in_ok-to_vec-2.ensures.items_if_clones_equal (λ x y same. same) in
-    let none = of_none (counters source target region moved) targets empty in
+    let none = of_none (counters source target c.args.copied.now.region.now c.args.copied.now.moved.now) targets empty in
     record {
       in_all = rw (copied, c.shape-shape.ensures.value, none) (product_of_none targets.shape empty);
       most = rw (also_copied, c.shape-shape.ensures.value, none) (product_of_none targets.shape empty);
@@ -55,11 +50,9 @@ pub returns : goal.returns
 returns g c =
     let source = g.G.ChunkGridTraits.dimensions c.args.copied.now.source.now in
     let target = g.H.ChunkGridTraits.dimensions c.args.copied.now.target.now in
-    let region = c.args.copied.now.region.now in
-    let moved = c.args.copied.now.moved.now in
     let targets = c.args.targets.now in
     let taking = c.requires in
-    let all = counters source target region moved in
+    let all = counters source target c.args.copied.now.region.now c.args.copied.now.moved.now in
     let met = met_in all targets.start targets.shape in
     let many = as_many_counters (g.met.G.ChunkGridTraits.chained c.args.copied.now.source.now) taking in
     let is_box = taking.is_box in

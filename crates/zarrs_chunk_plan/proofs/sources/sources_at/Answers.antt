@@ -54,7 +54,6 @@ overflow_add-from-2 g c =
     let chains = g.met.G.ChunkGridTraits.chained c.args.copied.now.source.now in
     let asked = are_asked c.args.dimension c.args.steps chains c.requires.taking c.requires.some c.requires.dimension c.requires.steps in
     let found = rw (c.in_ok-start.ensures {u = tt}, c.start.ensures.value) at (c.in_ok-range.ensures {u = tt}) in
-    let takes = asked.takes c.in_ok-start.start c.in_ok-start.edge found in
     let first = rw c.start-2.ensures.value at c.saturating_sub-first.ensures in
     let end = rw c.start-2.ensures.value at c.saturating_sub-end.ensures in
     let last = rw c.shape.ensures.value at c.min-last.ensures in
@@ -66,7 +65,6 @@ overflow_sub-result g c =
     let chains = g.met.G.ChunkGridTraits.chained c.args.copied.now.source.now in
     let asked = are_asked c.args.dimension c.args.steps chains c.requires.taking c.requires.some c.requires.dimension c.requires.steps in
     let found = rw (c.in_ok-start.ensures {u = tt}, c.start.ensures.value) at (c.in_ok-range.ensures {u = tt}) in
-    let takes = asked.takes c.in_ok-start.start c.in_ok-start.edge found in
     let first = rw c.start-2.ensures.value at c.saturating_sub-first.ensures in
     let end = rw c.start-2.ensures.value at c.saturating_sub-end.ensures in
     let last = rw c.shape.ensures.value at c.min-last.ensures in
@@ -81,7 +79,6 @@ overflow_add-result g c =
     let chains = g.met.G.ChunkGridTraits.chained c.args.copied.now.source.now in
     let asked = are_asked c.args.dimension c.args.steps chains c.requires.taking c.requires.some c.requires.dimension c.requires.steps in
     let found = rw (c.in_ok-start.ensures {u = tt}, c.start.ensures.value) at (c.in_ok-range.ensures {u = tt}) in
-    let takes = asked.takes c.in_ok-start.start c.in_ok-start.edge found in
     let first = rw c.start-2.ensures.value at c.saturating_sub-first.ensures in
     let end = rw c.start-2.ensures.value at c.saturating_sub-end.ensures in
     let last = rw c.shape.ensures.value at c.min-last.ensures in
@@ -96,7 +93,6 @@ returns g c =
     let chains = g.met.G.ChunkGridTraits.chained c.args.copied.now.source.now in
     let asked = are_asked c.args.dimension c.args.steps chains c.requires.taking c.requires.some c.requires.dimension c.requires.steps in
     let found = rw (c.in_ok-start.ensures {u = tt}, c.start.ensures.value) at (c.in_ok-range.ensures {u = tt}) in
-    let takes = asked.takes c.in_ok-start.start c.in_ok-start.edge found in
     let first = rw c.start-2.ensures.value at c.saturating_sub-first.ensures in
     let end = rw c.start-2.ensures.value at c.saturating_sub-end.ensures in
     let last = rw c.shape.ensures.value at c.min-last.ensures in

@@ -13,11 +13,7 @@ greater a b = search (rules, tests)
 
 pub overflow_add-sum : goal.overflow_add-sum
 overflow_add-sum g c =
-    let source = g.G.ChunkGridTraits.dimensions c.args.copied.now.source.now in
-    let target = g.H.ChunkGridTraits.dimensions c.args.copied.now.target.now in
-    let region = c.args.copied.now.region.now in
     let moved = c.args.copied.now.moved.now in
-    let targets = c.args.targets.now in
     let taking = c.requires.taking in
     let chains = g.met.G.ChunkGridTraits.chained c.args.copied.now.source.now in
     let fit = shape_fits moved.start moved.shape taking.is_moved in
@@ -33,11 +29,9 @@ pub loop-steps-preserved : goal.loop-steps-preserved
 loop-steps-preserved g c =
     let source = g.G.ChunkGridTraits.dimensions c.args.copied.now.source.now in
     let target = g.H.ChunkGridTraits.dimensions c.args.copied.now.target.now in
-    let region = c.args.copied.now.region.now in
-    let moved = c.args.copied.now.moved.now in
     let targets = c.args.targets.now in
     let taking = c.requires.taking in
-    let all = counters source target region moved in
+    let all = counters source target c.args.copied.now.region.now c.args.copied.now.moved.now in
     let met = slice_index_or (met_in all targets.start targets.shape) c.args.dimension [] in
     let less = rw c.shape.ensures.value at c.loop-steps-test.true in
     let many = as_many_counters (g.met.G.ChunkGridTraits.chained c.args.copied.now.source.now) taking in
@@ -53,11 +47,9 @@ pub returns : goal.returns
 returns g c =
     let source = g.G.ChunkGridTraits.dimensions c.args.copied.now.source.now in
     let target = g.H.ChunkGridTraits.dimensions c.args.copied.now.target.now in
-    let region = c.args.copied.now.region.now in
-    let moved = c.args.copied.now.moved.now in
     let targets = c.args.targets.now in
     let taking = c.requires.taking in
-    let all = counters source target region moved in
+    let all = counters source target c.args.copied.now.region.now c.args.copied.now.moved.now in
     let met = slice_index_or (met_in all targets.start targets.shape) c.args.dimension [] in
     let ended = rw c.shape.ensures.value at c.loop-steps-test.false in
     let end = rw c.shape.ensures.value at c.loop-steps.auto.steps-end in

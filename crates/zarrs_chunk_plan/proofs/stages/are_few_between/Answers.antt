@@ -3,6 +3,5 @@ use Rattle.zarrs_chunk_plan.proofs.stages.are_few_between.Goals as goal
 
 pub returns : goal.returns
 returns g c =
-    let chunks = c.in_ok-chunks.ensures {u = tt} in
     few_or_many (g.H.ChunkGridTraits.dimensions c.args.target.now) c.in_ok-chunks.chunks c.are_few.result
-    (record { is_box = c.is_a_box.ensures; are_those = chunks.named }) c.are_few.ensures
+    (record { is_box = c.is_a_box.ensures; are_those = (c.in_ok-chunks.ensures {u = tt}).named }) c.are_few.ensures

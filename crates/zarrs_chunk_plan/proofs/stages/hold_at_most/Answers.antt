@@ -12,7 +12,6 @@ are_at_most-requires-clause-shape g c =
 pub are_at_most-requires-clause-other : goal.are_at_most-requires-clause-other
 are_at_most-requires-clause-other g c =
     let ds = g.H.ChunkGridTraits.dimensions c.args.target.now in
-    let both = c.in_ok-largest.ensures {u = tt} in
     let chains = g.met.H.ChunkGridTraits.chained c.args.target.now in
     rw c.deref-2.ensures.value
-    (product_positive c.in_ok-largest.other.items (largest_positive ds c.in_ok-largest.other.items chains both.other))
+    (product_positive c.in_ok-largest.other.items (largest_positive ds c.in_ok-largest.other.items chains (c.in_ok-largest.ensures {u = tt}).other))

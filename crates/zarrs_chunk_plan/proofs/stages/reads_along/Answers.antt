@@ -12,12 +12,10 @@ pub sources_along-requires : goal.sources_along-requires
 sources_along-requires g c =
     let ends = c.args.ends.now in
     let are = c.requires.ends in
-    let grid = regular_of c.in_ok-between.between in
-    let chunks = c.in_ok-chunks.ensures {u = tt} in
     let known =
     probe _ _ _ _ _ _ _ _ are.one_array are.array are.is_array are.is_box are.long are.chunks (g.met.H.ChunkGridTraits.chained ends.target.now)
     c.array_shape.ensures (c.in_ok-between.ensures) (non_zero c.args.edge) (λ empty. true≢false (sym ((c.if-is_empty.ensures {u = tt}).1 empty)))
-    chunks.counted c.is_a_box.ensures
+    (c.in_ok-chunks.ensures {u = tt}).counted c.is_a_box.ensures
     in
     record { taking = known.into; some = known.some; dimension = omega (arith, known.all_long, c.requires.dimension) }
 
@@ -25,12 +23,10 @@ pub sources_along-requires-2 : goal.sources_along-requires-2
 sources_along-requires-2 g c =
     let ends = c.args.ends.now in
     let are = c.requires.ends in
-    let grid = regular_of c.in_ok-between.between in
-    let chunks = c.in_ok-chunks.ensures {u = tt} in
     let known =
     probe _ _ _ _ _ _ _ _ are.one_array are.array are.is_array are.is_box are.long are.chunks (g.met.H.ChunkGridTraits.chained ends.target.now)
     c.array_shape.ensures (c.in_ok-between.ensures) (non_zero c.args.edge) (λ empty. true≢false (sym ((c.if-is_empty.ensures {u = tt}).1 empty)))
-    chunks.counted c.is_a_box.ensures
+    (c.in_ok-chunks.ensures {u = tt}).counted c.is_a_box.ensures
     in
     record { taking = known.from; some = known.also; dimension = omega (arith, known.chunks_long, c.requires.dimension) }
 
@@ -45,7 +41,6 @@ returns g c =
     c.array_shape.ensures (c.in_ok-between.ensures) (non_zero c.args.edge) (λ empty. true≢false (sym ((c.if-is_empty.ensures {u = tt}).1 empty)))
     chunks.counted c.is_a_box.ensures
     in
-    let source = g.G.ChunkGridTraits.dimensions ends.source.now in
     let target = g.H.ChunkGridTraits.dimensions ends.target.now in
     let k = c.args.dimension in
     λ some. record {

@@ -15,11 +15,9 @@ non_zero-edge-requires g c =
 
 pub loop-edge-preserved : goal.loop-edge-preserved
 loop-edge-preserved g c =
-    let edges = c.args.edges.now in
-    let k = c.loop-edge.edge-index in
     let items = (c.in_ok-push.ensures {u = tt}).items in
     let e : Edge = record { edge = c.non_zero-edge.result; first = c.in_ok-first.first; second = c.in_ok-first.second } in
-    let more = take_more edges k 0 c.loop-edge-test.true in
+    let more = take_more c.args.edges.now c.loop-edge.edge-index 0 c.loop-edge-test.true in
     rw items (
       map-append edge_of c.loop-edge.row.items (e ∷ [])
           ∙ ap₂ (λ xs x. xs ++ x ∷ []) c.loop-edge.invariant.0 c.non_zero-edge.ensures ∙ sym more,

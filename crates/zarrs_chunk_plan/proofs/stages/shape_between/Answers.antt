@@ -66,7 +66,6 @@ pub returns-in-Some-clause-found : goal.returns-in-Some-clause-found
 returns-in-Some-clause-found g c =
     let source = g.G.ChunkGridTraits.dimensions c.args.source.now in
     let target = g.H.ChunkGridTraits.dimensions c.args.target.now in
-    let sizes = array_sizes source in
     let largest = c.in_ok-largest.largest.items in
     let other = c.in_ok-largest.other.items in
     let both = c.in_ok-largest.ensures {u = tt} in
@@ -102,7 +101,6 @@ pub returns-clause-found : goal.returns-clause-found
 returns-clause-found g c =
     let source = g.G.ChunkGridTraits.dimensions c.args.source.now in
     let target = g.H.ChunkGridTraits.dimensions c.args.target.now in
-    let sizes = array_sizes source in
     let largest = c.in_ok-largest.largest.items in
     let other = c.in_ok-largest.other.items in
     let both = c.in_ok-largest.ensures {u = tt} in

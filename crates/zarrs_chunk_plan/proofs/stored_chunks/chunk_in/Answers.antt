@@ -17,12 +17,11 @@ pub returns-then-not-contains-clause-found : goal.returns-then-not-contains-clau
 returns-then-not-contains-clause-found g c = λ chunk. (
   λ (inside, has).
       let K = g.F.ChunkKeyEncodingTraits.is_key c.args.encoding.now in
-      let b = c.args.chunks.now in
       let it = c.in-Some.chunk.items in
       let decoded : IsDecoded (λ it. K it c.args.key.now) c.dimensionality.result c.in_ok-found.found = c.in_ok-found.ensures in
       let (long, fits, is) = rw c.in-Some.is at decoded in
       let told = rw c.deref.ensures.value at c.contains.ensures in
-      read_outside K b c.is_a_box.ensures c.args.key.now (g.met.F.ChunkKeyEncodingTraits.exact c.args.encoding.now) it fits
+      read_outside K c.args.chunks.now c.is_a_box.ensures c.args.key.now (g.met.F.ChunkKeyEncodingTraits.exact c.args.encoding.now) it fits
       (long ∙ c.dimensionality.ensures) is (λ within. true≢false (sym (told.1 within) ∙ c.if-not-contains.true)) chunk inside has,
   λ none. absurd none,
 )

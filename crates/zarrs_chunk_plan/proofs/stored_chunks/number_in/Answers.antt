@@ -8,7 +8,6 @@ pub overflow_mul-number : goal.overflow_mul-number
 overflow_mul-number c =
     let (within, few, _) = counted_within _ _ _ _ c.start-start.ensures.value c.shape-shape.ensures.value c.requires.inside c.requires.few in
     let next = counted_next _ _ _ within _ _ c.loop-dimension-test.true c.loop-dimension.invariant in
-    let low = next.few in
     omega arith
 
 pub bounds-chunk-dimension : goal.bounds-chunk-dimension
@@ -21,7 +20,6 @@ pub overflow_add-number : goal.overflow_add-number
 overflow_add-number c =
     let (within, few, _) = counted_within _ _ _ _ c.start-start.ensures.value c.shape-shape.ensures.value c.requires.inside c.requires.few in
     let next = counted_next _ _ _ within _ _ c.loop-dimension-test.true c.loop-dimension.invariant in
-    let low = next.few in
     omega arith
 
 pub loop-dimension-init : goal.loop-dimension-init

@@ -20,7 +20,6 @@ loop-preserved c =
 
 pub returns : goal.returns
 returns c =
-    let ended : 64 ≤ c.loop.counter = c.loop-test.false in
     let all_times : 64 - c.loop.counter ≡ 0 = omega arith in
     (c.in_ok-push-2.ensures {u = tt}).items
     ∙ ap (λ xs. c.loop.edges.items ++ xs) (sym (not_at_all c.loop.edge c.args.last) ∙ ap (λ n. doubled n c.loop.edge c.args.last) (sym all_times))

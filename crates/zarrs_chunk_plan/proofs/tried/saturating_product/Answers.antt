@@ -14,6 +14,5 @@ loop-number-preserved c =
 
 pub returns : goal.returns
 returns c =
-    let numbers = c.args.numbers.now in
     c.loop-number.invariant
-    ∙ ap (λ xs. min greatest (product xs)) (take_all c.loop-number.number-index numbers c.loop-number-test.false)
+    ∙ ap (λ xs. min greatest (product xs)) (take_all c.loop-number.number-index c.args.numbers.now c.loop-number-test.false)

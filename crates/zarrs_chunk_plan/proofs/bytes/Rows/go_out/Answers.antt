@@ -13,11 +13,8 @@ returns-clause-outer c = λ _ item edges starts shape was.
     let within = c.requires.within in
     let (fits, outer_is) = c.in-Some.ensures in
     let all_rows = mul-le-mul_right row within in
-    let split = add-mul start count row in
     let one_row = mul-le-mul_right {m = 1} {n = count} row (omega arith) in
     let single : 1 * row ≡ row = omega arith in
-    let end_within = was.within in
-    let first_within = was.from in
     let before : c.saturating_mul-before.result ≡ start * row = omega arith in
     let first : c.saturating_add-self.result ≡ c.args.self.now.first + start * row = omega arith in
     elim c.if-self.branch [

@@ -4,8 +4,6 @@ use Rattle.zarrs_chunk_plan.proofs.chunk_changes.Changes.change_of.Goals as goal
 
 pub returns-clause-change : goal.returns-clause-change
 returns-clause-change g c = λ can.
-    let ds = g.G.ChunkGridTraits.dimensions c.args.self.now.before.now in
-    let es = g.H.ChunkGridTraits.dimensions c.args.self.now.after.now in
     let chunk = c.args.chunk.items in
     let held = (rw (c.as_slice-numbers.ensures, c.deref.ensures.value) at c.in_ok-before.ensures) can.array_before (can.used_before chunk) in
     let holds = (rw (c.as_slice-numbers.ensures, c.deref-2.ensures.value) at c.in_ok-after.ensures) can.array_after (can.used_after chunk) in

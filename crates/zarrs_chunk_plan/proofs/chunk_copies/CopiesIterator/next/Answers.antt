@@ -4,10 +4,9 @@ use Rattle.zarrs_chunk_plan.proofs.chunk_copies.CopiesIterator.next.Goals as goa
 
 pub returns-in-Ok-expect_answer-clause-steps : goal.returns-in-Ok-expect_answer-clause-steps
 returns-in-Ok-expect_answer-clause-steps g c =
-    let source = g.G.ChunkGridTraits.dimensions in
     let target = g.H.ChunkGridTraits.dimensions in
     let is_key = g.F.ChunkKeyEncodingTraits.is_key in
     let walk = c.args.self.now in
     let steps = rw c.in-Ok.is at c.in_ok-to.ensures.steps in
     let found = c.in-Ok-expect_answer.ensures in
-    gives_copies source target is_key walk _ _ steps _ (λ some. (rw found at c.sources-from.ensures) some) _ refl refl refl
+    gives_copies g.G.ChunkGridTraits.dimensions target is_key walk _ _ steps _ (λ some. (rw found at c.sources-from.ensures) some) _ refl refl refl

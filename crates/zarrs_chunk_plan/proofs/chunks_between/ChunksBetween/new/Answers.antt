@@ -16,7 +16,6 @@ pub invariant_of-result-2 : goal.invariant_of-result-2
 invariant_of-result-2 c =
     let shape = c.args.chunks.shape in
     let share = c.args.share.now in
-    let one_of = share.one_of in
     let some : ¬ Contains shape 0 = λ zero. true≢false (sym (c.is_empty.ensures.1 zero) ∙ c.if-is_empty.false) in
     let (below, at) = (rw c.shape.ensures.value at c.in_ok-next.ensures) some in
     let end_below = (rw c.shape-2.ensures.value at c.in_ok-end.ensures.below) some in
@@ -34,7 +33,6 @@ pub returns-clause-left : goal.returns-clause-left
 returns-clause-left c =
     let chunks = c.args.chunks in
     let shape = chunks.shape in
-    let share = c.args.share.now in
     let some : ¬ Contains shape 0 = λ zero. true≢false (sym (c.is_empty.ensures.1 zero) ∙ c.if-is_empty.false) in
     let (below, at) = (rw c.shape.ensures.value at c.in_ok-next.ensures) some in
     let end_below = (rw c.shape-2.ensures.value at c.in_ok-end.ensures.below) some in
@@ -42,4 +40,4 @@ returns-clause-left c =
     let told = rw c.as_slice.ensures at c.is_end-over.ensures in
     ap (map (counted_from chunks.start))
     (begins_with shape c.in_ok-end.end end_below c.in_ok-next.next.items c.is_end-over.result told ∙ rw (at, end_at) refl)
-    ∙ sym (share_map (counted_from chunks.start) share (row_major shape))
+    ∙ sym (share_map (counted_from chunks.start) c.args.share.now (row_major shape))

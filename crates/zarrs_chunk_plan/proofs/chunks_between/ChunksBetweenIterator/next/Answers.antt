@@ -16,10 +16,9 @@ count_from-requires-clause-fits c =
 pub invariant_of-self : goal.invariant_of-self
 invariant_of-self c =
     let walk = c.args.self.now in
-    let shape = walk.chunks.shape in
     let items = walk.next.items in
     let advanced = rw (c.shape.ensures.value, c.as_mut_slice-in-Ok.ensures.value) at c.advance-found.ensures in
-    let step = stepped shape walk.end walk.end_below items c.advance-found.new.numbers c.advance-found.result c.is_over-self.result
+    let step = stepped walk.chunks.shape walk.end walk.end_below items c.advance-found.new.numbers c.advance-found.result c.is_over-self.result
     (walk.below c.if-self.false) (walk.before c.if-self.false) advanced.below advanced.next (rw c.as_slice-in-Ok.ensures at c.is_over-self.ensures)
     in
     record { below = step.below; end_below = walk.end_below; before = step.before }
@@ -37,11 +36,10 @@ returns-in-Ok-clause-steps c =
     (walk.before c.if-self.false) advanced.below advanced.next (rw c.as_slice-in-Ok.ensures at c.is_over-self.ensures)
     in
     let copied : c.in-Ok.chunk.items ≡ items = c.in-Ok.ensures.ok ∙ c.as_slice.ensures in
-    let box = c.start.ensures.is_box in
     let counts = c.count_from.new.numbers in
     let as_many : length counts ≡ length c.in-Ok.chunk.items = rw c.as_mut_slice.ensures.value at c.count_from.ensures.length in
     let many : length c.in-Ok.chunk.items ≡ length chunks.start =
-    rw copied (length_below shape items (walk.below c.if-self.false) ∙ sym box.lengths) in
+    rw copied (length_below shape items (walk.below c.if-self.false) ∙ sym c.start.ensures.is_box.lengths) in
     let counted : counts ≡ counted_from chunks.start c.in-Ok.chunk.items =
     are_counted _ _ _ many as_many (rw (c.start.ensures.value, c.as_mut_slice.ensures.value) at c.count_from.ensures.sum)
     in

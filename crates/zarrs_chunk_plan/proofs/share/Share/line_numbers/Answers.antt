@@ -18,7 +18,6 @@ returns-clause-end c =
     let share = c.args.self.now in
     let lines = c.args.lines.now in
     let all = length (row_major lines) in
-    let one_of = share.one_of in
     elim c.match-new.branch [
       | in-Some w ↦
           let (number, of) = w.in-Some.ensures in

@@ -6,7 +6,6 @@ use Rattle.zarrs_chunk_plan.proofs.share.Share.lines_before.Goals as goal
 pub returns-in_err-whole : goal.returns-in_err-whole
 returns-in_err-whole c = λ all is.
     let share = c.args.self.now in
-    let one_of = share.one_of in
     let small : share.of ≤ greatest = omega (arith, c.fits-self) in
     c.from_residual.ensures
     ∙ sym (⊎_elim (λ (fits, told). absurd (c.in_err-whole.ensures (omega arith))) (λ (past, none). none)
@@ -15,9 +14,7 @@ returns-in_err-whole c = λ all is.
 pub returns-in_err-before : goal.returns-in_err-before
 returns-in_err-before c = λ all is.
     let share = c.args.self.now in
-    let one_of = share.one_of in
     let small : share.of ≤ greatest = omega (arith, c.fits-self) in
-    let whole = c.in_ok-whole.ensures.1 in
     c.from_residual-in_err-before.ensures
     ∙ sym (⊎_elim (λ (fits, told). absurd (c.in_err-before.ensures (omega arith))) (λ (past, none). none)
     (told_before share.number share.of all c.args.count (omega arith) small is))
@@ -25,11 +22,7 @@ returns-in_err-before c = λ all is.
 pub returns-then-before : goal.returns-then-before
 returns-then-before c = λ all is.
     let share = c.args.self.now in
-    let one_of = share.one_of in
     let small : share.of ≤ greatest = omega (arith, c.fits-self) in
-    let whole = c.in_ok-whole.ensures.1 in
-    let before = c.in_ok-before.ensures.1 in
-    let low = c.if-before.true in
     ⊎_elim
     (λ (fits, told).
     let same : c.in_ok-before.before ≡ c.args.count / share.of * share.number + c.args.count % share.of * share.number / share.of = omega arith in
@@ -39,10 +32,6 @@ returns-then-before c = λ all is.
 pub returns-else-before : goal.returns-else-before
 returns-else-before c = λ all is.
     let share = c.args.self.now in
-    let one_of = share.one_of in
     let small : share.of ≤ greatest = omega (arith, c.fits-self) in
-    let whole = c.in_ok-whole.ensures.1 in
-    let before = c.in_ok-before.ensures.1 in
-    let high = c.if-before.false in
     ⊎_elim (λ (fits, told). absurd (omega arith)) (λ (past, none). sym none)
     (told_before share.number share.of all c.args.count (omega arith) small is)

@@ -14,7 +14,6 @@ returns c =
     let number = c.number_in-number.result in
     let found = c.number_in-number.ensures.number in
     let less = slice_get_within (chunks_in stored.targets) number c.args.chunk.now found in
-    let enough = stored.enough in
     let within : number / 64 < length stored.bits.items = omega arith in
     let read = c.index_mut-word.ensures.value in
     record {
