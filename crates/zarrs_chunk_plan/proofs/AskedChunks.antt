@@ -19,7 +19,6 @@ module _ (before after : List Dimension) (used used_after kept : List ℕ)
   asked : (chunk : List ℕ)
       → (IsToldBefore keeps used kept chunk ⊎ IsOutside used used_after chunk) ↔ IsAsked before after keeps chunk
   asked chunk =
-      let is_used = named chunk in
       let is_used_after = named_after chunk in
       let is_kept = are_kept chunk in
       let tested = below_or_not used chunk in

@@ -1,7 +1,7 @@
 -- How many of so many come before a share.
 use Rattle.std.proofs.Common.{◌≡◌, ◌⊎◌, ◌∙◌, ℕ, zero, suc, ◌+◌, ◌-◌, ◌*◌, ◌/◌, ◌%◌, ◌^◌, ◌<◌, ◌≤◌}
 use Rattle.std.proofs.Common.{Some, None, ap, inl, inr, min, refl, sym, ⊎_elim, arith}
-use Rattle.std.proofs.Math.Nat.{div-add-mod, div-eq_of_lt, div-mul-le_self, mul-add-div, mul-suc, mul-zero, mul_assoc, mul_comm}
+use Rattle.std.proofs.Math.Nat.{div-add-mod, div-eq_of_lt, div-mul-le_self, mul-add-div, mul-zero, mul_assoc, mul_comm}
 use Rattle.std.proofs.lemmas.Bool.{cases_lt}
 use Rattle.std.proofs.lemmas.Nat.{div-mul-add, le-div}
 use Rattle.zarrs_chunk_base.specs.Greatest.{greatest}

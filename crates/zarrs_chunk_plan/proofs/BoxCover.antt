@@ -52,7 +52,6 @@ module _ (ds : List Dimension) (b : Box) (dimensions : IsEmptyBox b → length d
 
 first_chunk : (d : Dimension) → IsChain d → (c : ℕ) → Holds d c 0 → c ≡ 0
 first_chunk d chain c here =
-    let from : d.start c ≤ 0 = here.from in
     ⊎_elim
     (λ (later : 0 < c).
     let gap : d.end 0 ≤ d.start c = apart d chain 0 c later here.chunk in

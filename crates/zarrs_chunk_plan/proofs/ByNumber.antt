@@ -1,7 +1,7 @@
 -- The chunks in a box, by their number.
 use Rattle.std.proofs.Common.{◌≡◌, ◌∙◌, ℕ, zero, suc, ◌+◌, ◌*◌, ◌<◌, ◌≤◌, List, [], ◌∷◌, ◌++◌, Option, Some, None, length, map, min, get_or, drop}
 use Rattle.std.proofs.Common.{take, set, refl, ap, sym, ⊎_elim, arith, length-append, ◌/◌, ◌%◌, ◌-◌, ◌^◌, unwrap_or, inl, inr, ◌⊎◌}
-use Rattle.std.proofs.Math.Nat.{div-add-mod, mul-suc, mul-zero}
+use Rattle.std.proofs.Math.Nat.{div-add-mod, mul-zero}
 use Rattle.std.proofs.Math.Seq.{drop-length}
 use Rattle.std.proofs.lemmas.List.{length-map, length-set, drop-set, drop_more, take_more}
 use Rattle.std.proofs.lemmas.Option.{slice_get-map, slice_get_within}
@@ -109,10 +109,9 @@ some_size (suc size ∷ shape) (suc k) some within =
 -- a number of the box's start and one below its size fit together
 pub sum_fits : (start shape : List ℕ) (k digit : ℕ) → AllFit (ends start shape) → k < length start → k < length shape → digit < get_or shape k 0
     → get_or start k 0 + digit ≤ greatest
-sum_fits [] shape k digit fit one other less = absurd (omega arith)
-sum_fits (s ∷ start) [] k digit fit one other less = absurd (omega arith)
 sum_fits (s ∷ start) (n ∷ shape) zero digit fit one other less = let end : s + n ≤ greatest = fit.0 in omega arith
 sum_fits (s ∷ start) (n ∷ shape) (suc k) digit fit one other less = sum_fits start shape k digit fit.1 (omega arith) (omega arith) less
+sum_fits _ _ k digit fit one other less = absurd (omega arith)
 
 -- From this dimension on the numbers are those of a chunk; `rest` is what is left of its number for the dimensions before.
 pub record IsNumbered (start shape : List ℕ) (number dimension rest : ℕ) (chunk : List ℕ) : Type 0 where

@@ -15,7 +15,6 @@ use Rattle.zarrs_chunks.proofs.Covers.{head_some, tail_some}
 use Rattle.zarrs_chunk_plan.specs.Bytes.{AreRanges, IsByteIn, begins, place, repeated}
 use Rattle.zarrs_chunk_plan.specs.Counts.{product}
 use Rattle.zarrs_chunk_plan.specs.Region.{EndWithin}
-use Rattle.zarrs_chunk_plan.specs.Strided.{Strided, along, has_all, strided}
 use Rattle.zarrs_chunk_plan.specs.seen.Rows.{AreInRow}
 use Rattle.zarrs_chunk_plan.specs.declared.bytes.MemoryOrder.{MemoryOrder}
 use Rattle.zarrs_chunk_plan.specs.declared.bytes.MemoryOrder.TheVariants.{C}
@@ -32,7 +31,6 @@ in_repeated (suc count) stride numbers n has =
     (λ later.
     let (k, y, less, there, is) = in_repeated count stride (map (λ x. x + stride) numbers) n later in
     let (x, among, same) = source_of (λ x. x + stride) numbers y there in
-    let more : (k + 1) * stride ≡ k * stride + stride = omega arith in
     (k + 1, x, omega arith, among, omega arith))
     (Contains-append_cases numbers (repeated count stride (map (λ x. x + stride) numbers)) n has)
 
@@ -114,16 +112,6 @@ module _ (item edge start count : ℕ) (edges starts shape : List ℕ) where
           (i, byte - i * (product edges * item), from_start, to_end, inner, omega arith)
       first [] within from below = absurd within
 
--- the form along one more dimension
-form_along : (item : ℕ) (edges starts shape : List ℕ) (inner : Strided) (whole : Bool) (start count row : ℕ) → row ≡ product edges * item
-    → whole ≡ has_all edges shape → inner ≡ strided item edges starts shape
-    → along row start count whole inner ≡ along (product edges * item) start count (has_all edges shape) (strided item edges starts shape)
-form_along item edges starts shape inner whole start count row row_is whole_is is = rw (row_is, whole_is, is) refl
-
--- a row after others, and as many bytes as so many rows
-rows_after : (i n row : ℕ) → (i + n) * row ≡ i * row + n * row
-rows_after i n row = add-mul i n row
-
 module _ (item edge start count : ℕ) (edges starts shape : List ℕ) (first long : ℕ) (counts strides : List ℕ) (row : ℕ)
     (some : 0 < count) (within : start + count ≤ edge) (counted : edge * row ≤ greatest) where
   row_of_all : row ≡ product edges * item → edge * row ≡ product (edge ∷ edges) * item
@@ -141,7 +129,6 @@ module _ (item edge start count : ℕ) (edges starts shape : List ℕ) (first lo
       let none : start * row ≡ 0 + start * row = omega arith in
       let one : begins (first + start * row) counts strides ≡ (start * row) ∷ [] = rw (no_counts, first_is) (ap (λ n. n ∷ []) (sym none)) in
       let before : begins first counts strides ≡ 0 ∷ [] = rw (no_counts, first_is) refl in
-      let here = rows_after start count row in
       let all_rows = mul-le-mul_right row within in
       let any = was.some in
       record {
@@ -150,7 +137,7 @@ module _ (item edge start count : ℕ) (edges starts shape : List ℕ) (first lo
         fits = counted;
         long = let more = mul-le-mul_right {m = 1} {n = count} row (omega arith) in let single : 1 * row ≡ row = omega arith in omega arith;
         lists = was.lists;
-        form = form_along item edges starts shape _ true start count row was.row_is was.whole_is was.form;
+        form = rw (was.row_is, ← was.whole_is, ← was.form) refl;
         whole_is = equal_or_not whole same other ∙ ap (λ b. b && (count == edge)) was.whole_is;
         are_ranges = record {
           those = λ byte. (
@@ -161,7 +148,7 @@ module _ (item edge start count : ℕ) (edges starts shape : List ℕ) (first lo
                 let at : byte ≡ b + i * row = rw was.row_is is in
                 let up = mul-le-mul_right row from in
                 let down = mul-le-mul_right {m = i + 1} {n = start + count} row (omega arith) in
-                let next = rows_after i 1 row in
+                let next = add-mul i 1 row in
                 let single : 1 * row ≡ row = omega arith in
                 (start * row, subst (λ xs. Contains xs (start * row)) (sym one) (zero, omega arith, refl), omega arith, omega arith),
             λ (n, among, low, high).
@@ -220,9 +207,8 @@ module _ (item edge start count : ℕ) (edges starts shape : List ℕ) (first lo
       let less = was.shorter refl in
       let numbers = begins (first + start * row) counts strides in
       let later = begin_later (start * row) first counts strides in
-      let here = rows_after start count row in
       let end = was.end + start * row + (count - 1) * row in
-      let fewer = rows_after (count - 1) 1 row in
+      let fewer = add-mul (count - 1) 1 row in
       let single : 1 * row ≡ row = omega arith in
       let whole_count : (count - 1 + 1) * row ≡ count * row = ap (λ n. n * row) (let same : count - 1 + 1 ≡ count = omega arith in same) in
       let reach = was.within in
@@ -233,7 +219,7 @@ module _ (item edge start count : ℕ) (edges starts shape : List ℕ) (first lo
         fits = counted;
         long = was.long;
         lists = ap suc was.lists;
-        form = form_along item edges starts shape _ false start count row was.row_is was.whole_is was.form;
+        form = rw (was.row_is, ← was.whole_is, ← was.form) refl;
         whole_is = ap (λ b. b && (count == edge)) was.whole_is;
         are_ranges = record {
           those = λ byte. (
@@ -241,7 +227,7 @@ module _ (item edge start count : ℕ) (edges starts shape : List ℕ) (first lo
                 let (i, b, from, less, inner, is) = (in_row item edge start count edges starts shape byte).0 has in
                 let (x, among, low, high) = (was.are_ranges.those b).0 inner in
                 let at : byte ≡ b + i * row = rw was.row_is is in
-                let split = rows_after start (i - start) row in
+                let split = add-mul start (i - start) row in
                 let sum : (start + (i - start)) * row ≡ i * row = ap (λ n. n * row) (let same : start + (i - start) ≡ i = omega arith in same) in
                 let there : Contains numbers (x + start * row) = rw later (made_of (λ y. y + start * row) (begins first counts strides) x among) in (
                   x + start * row + (i - start) * row,

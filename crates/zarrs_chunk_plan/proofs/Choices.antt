@@ -100,7 +100,6 @@ module _ (rows : List (List Edge)) (room first second : ℕ) where
         → ((others : List Edge) → IsChoice rows others → room / edge_of e < held others) → room < held choice
     none_fits [] chosen none = absurd chosen
     none_fits (c ∷ choice) (in_row, chosen) none =
-        let less = none choice chosen in
         ⊎_elim
         (λ (more : room < held (c ∷ choice)). more)
         (λ (le : held (c ∷ choice) ≤ room).

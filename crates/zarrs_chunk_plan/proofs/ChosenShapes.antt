@@ -35,7 +35,6 @@ product_positive (n ∷ numbers) some = mul-pos some.0 (product_positive numbers
 shape_positive : (ds : List Dimension) (chunk shape : List ℕ) → AllByRecursion IsChain ds → IsShape ds chunk shape → AllByRecursion (λ e. 0 < e) shape
 shape_positive [] [] [] chains is = tt
 shape_positive (d ∷ ds) (c ∷ chunk) (s ∷ shape) chains is =
-    let here = is.0 in
     (omega arith, shape_positive ds chunk shape chains.1 is.1)
 shape_positive _ _ _ chains is = absurd is
 

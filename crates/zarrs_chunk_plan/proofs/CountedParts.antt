@@ -15,6 +15,7 @@ use Rattle.zarrs_chunk_parts.specs.Plan.{HasElement, IsPart, IsPlan}
 use Rattle.zarrs_chunk_plan.specs.declared.counts.Counts.{Counts}
 use Rattle.zarrs_chunk_parts.specs.declared.part.Part.{Part}
 use Rattle.zarrs_chunk_plan.proofs.BoxCounts.{box_many, in_box_many, product_of_none}
+use Rattle.zarrs_chunk_plan.proofs.MetCovers.{zeros_none}
 use Rattle.zarrs_chunk_plan.proofs.Plans.{chunk_of, has_common, part_of, some_part}
 use Rattle.zarrs_chunk_plan.proofs.SameBoxes.{chunks_of_same}
 
@@ -91,12 +92,8 @@ module _ (b cover : Box) (copies elements largest lines chunks : Vec ℕ Global)
     elements = nothing _ (ap product elements_are ∙ product_of_none b.shape empty) (λ x (part, (k, within, _), _). absurd (omega arith));
     source_chunks = nothing _ (ap product chunks_are ∙ none) (λ x (part, (k, within, _), _). absurd (omega arith));
   } where
-    zero_in : (m : ℕ) → m ≢ 0 → IsEmptyBox (zero_box m)
-    zero_in zero some = absurd (some refl)
-    zero_in (suc m) some = (0, omega arith, refl)
-
     none : product cover.shape ≡ 0
-    none = product_of_none cover.shape (subst IsEmptyBox (sym is) (zero_in n dimensions))
+    none = product_of_none cover.shape (subst IsEmptyBox (sym is) (zeros_none n dimensions))
 
     nothing : (P : List ℕ → Type 0) {many : ℕ} → many ≡ 0 → ((x : List ℕ) → ¬ P x) → AreMany P many
     nothing P none not = record {

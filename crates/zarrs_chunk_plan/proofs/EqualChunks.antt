@@ -84,7 +84,6 @@ counted_meet ds sizes edges are some chunk inside =
 shape_is : (ds : List Dimension) (sizes edges chunk shape : List ℕ) → AreEqualEdges ds sizes edges → IsShape ds chunk shape → AllZip ◌≤◌ shape edges
 shape_is [] [] [] [] [] are is = tt
 shape_is (d ∷ ds) (n ∷ sizes) (e ∷ edges) (c ∷ chunk) (s ∷ shape) are is =
-    let here = are.0 in
     (omega arith, shape_is ds sizes edges chunk shape are.1 is.1)
 shape_is _ _ _ _ _ are is = absurd (first_of (assumption, omega arith))
 

@@ -106,7 +106,6 @@ one_kept : (d e : Dimension) (c i edge : ℕ) → Holds d c i → i < d.array_si
     → ((j : ℕ) → (Holds d c j × (j < d.array_size)) ↔ (Holds e c j × (j < e.array_size)))
     → d.start c + edge ≡ d.end c → e.start c + edge ≡ e.end c → KeptAlong d e c
 one_kept d e c i edge holds less same long long_after =
-    let here = same i in
     let first = same (d.start c) in
     let first_after = same (e.start c) in
     let last = same (min (d.end c) d.array_size - 1) in

@@ -1,7 +1,7 @@
 -- Bits of numbers, the place of a chunk in a box, and what is known of the chunks that a store has.
 use Rattle.std.proofs.Common.{◌≡◌, ◌≢◌, ◌==◌, ◌↔◌, ◌⊎◌, ◌∙◌, ℕ, zero, suc, ◌+◌, ◌-◌, ◌*◌, ◌^◌, ◌/◌, ◌%◌, ◌<◌, ◌≤◌, Bool, true, false, List}
 use Rattle.std.proofs.Common.{[], ◌∷◌, Option, Some, None, drop, get_or, length, replicate, set, MatchOption, IsTrue, refl, ap, subst, sym, inl, inr, ⊎_elim, arith, true≢false}
-use Rattle.std.proofs.Math.Nat.{div-add-mod, mul-suc}
+use Rattle.std.proofs.Math.Nat.{mul-suc}
 use Rattle.std.proofs.Math.Seq.{drop-length}
 use Rattle.std.proofs.lemmas.Bool.{cases_lt, eq-eqb}
 use Rattle.std.proofs.lemmas.Bool.Decides.{eqb_tells}

@@ -1,10 +1,10 @@
 -- The cover of what a chunk of the target takes.
-use Rattle.std.proofs.Common.{◌≡◌, ◌≢◌, ◌↔◌, ◌∙◌, ℕ, zero, suc, ◌+◌, ◌≤◌, List, [], ◌∷◌, length, refl, ap, ap₂, subst, sym, arith}
+use Rattle.std.proofs.Common.{◌≡◌, ◌≢◌, ◌↔◌, ◌∙◌, ℕ, zero, suc, ◌≤◌, List, [], ◌∷◌, length, refl, ap, ap₂, subst, sym, arith}
 use Rattle.std.proofs.lemmas.List.{length-map}
 use Rattle.std.specs.List.{AllByRecursion, AllZip}
 use Rattle.zarrs_chunk_base.specs.ArraySubset.{Box, IsBox, IsEmptyBox, IsInside, ends, lasts, zero_box}
 use Rattle.zarrs_chunk_base.specs.Dimension.{Dimension, Holds, InBox, IsChain, array_sizes}
-use Rattle.zarrs_chunk_base.specs.Greatest.{AllFit, greatest}
+use Rattle.zarrs_chunk_base.specs.Greatest.{AllFit}
 use Rattle.zarrs_chunk_base.proofs.Boxes.{within_lengths}
 use Rattle.zarrs_chunk_base.proofs.InEach.{length_values}
 use Rattle.zarrs_chunk_axes.specs.InBounds.{AreBelow}
@@ -30,8 +30,7 @@ shape_fits [] [] is = tt
 shape_fits (a ∷ start) (n ∷ shape) is =
     let others : IsBox (record { start = start; shape = shape }) = record { lengths = omega (arith, is.lengths); fits = is.fits.1 } in
     (omega arith, shape_fits start shape others)
-shape_fits [] (_ ∷ _) is = absurd (omega (arith, is.lengths))
-shape_fits (_ ∷ _) [] is = absurd (omega (arith, is.lengths))
+shape_fits _ _ is = absurd (omega (arith, is.lengths))
 
 -- ---- what is found of a chunk and a box
 

@@ -1,10 +1,10 @@
 -- Boxes that lie in an array.
-use Rattle.std.proofs.Common.{◌≡◌, ◌≢◌, ◌↔◌, ℕ, suc, ◌+◌, ◌<◌, ◌≤◌, List, [], ◌∷◌, Contains, length, replicate, zip, refl, ap, arith, subst, sym}
+use Rattle.std.proofs.Common.{◌≡◌, ◌≢◌, ◌↔◌, ℕ, suc, ◌+◌, ◌≤◌, List, [], ◌∷◌, Contains, length, replicate, zip, refl, ap, arith, subst, sym}
 use Rattle.std.proofs.lemmas.List.{length-map}
 use Rattle.std.specs.List.{AllByRecursion}
 use Rattle.zarrs_chunk_base.specs.ArraySubset.{AreWithin, Box, IsBox, IsEmptyBox}
 use Rattle.zarrs_chunk_base.specs.Dimension.{Dimension, array_sizes}
-use Rattle.zarrs_chunk_base.specs.Greatest.{AllFit, greatest}
+use Rattle.zarrs_chunk_base.specs.Greatest.{AllFit}
 use Rattle.zarrs_chunk_axes.specs.InBounds.{AreBelow}
 use Rattle.zarrs_chunk_plan.specs.Rechunking.{array_box}
 use Rattle.zarrs_chunk_plan.specs.Region.{CanBeMoved, EndWithin, LiesIn}

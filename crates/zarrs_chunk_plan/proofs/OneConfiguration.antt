@@ -1,5 +1,5 @@
 -- Grids that one configuration makes of two array shapes: an index that both arrays have lies in the same chunk of either.
-use Rattle.std.proofs.Common.{◌≡◌, ◌∙◌, ℕ, ◌+◌, ◌*◌, ◌<◌, ◌≤◌, min, List, [], ◌∷◌, Some, map, refl, subst, sym, arith}
+use Rattle.std.proofs.Common.{◌≡◌, ◌∙◌, ℕ, ◌+◌, ◌*◌, ◌<◌, ◌≤◌, min, List, [], ◌∷◌, map, refl, subst, sym, arith}
 use Rattle.zarrs_chunk_base.specs.Dimension.{Dimension, Holds, InEach}
 use Rattle.zarrs_chunk_base.specs.DimensionEdges.{DimensionEdges, equal, listed}
 use Rattle.zarrs_chunk_base.specs.Grid.{Grid}
@@ -34,7 +34,6 @@ equal_holds d other size also edge is are c i below holds = record {
 bounded_holds : (d other : Dimension) (size also edge : ℕ) → IsBounded d size edge → IsBounded other also edge → HoldsToo d other
 bounded_holds d other size also edge is are c i below holds =
     let from : c * edge ≤ i = rw (is.start c holds.chunk) at holds.from in
-    let before : i < min ((c + 1) * edge) size = rw (is.end c holds.chunk) at holds.below in
     let inside : i < also = rw (are.array_size) at below in
     let chunk = (are.chunks c).1 (let starts : c * edge < also = omega arith in starts) in
     record {

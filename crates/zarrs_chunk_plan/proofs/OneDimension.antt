@@ -79,10 +79,9 @@ takes_along _ _ _ _ k start edge some within range = absurd (first_of (assumptio
 -- where a range of a box ends
 pub ends_fit : (start shape : List ℕ) (k : ℕ) → AllFit (ends start shape) → length start ≡ length shape → k < length start
     → slice_index_or start k 0 + slice_index_or shape k 0 ≤ greatest
-ends_fit [] shape k fits e within = absurd (omega arith)
 ends_fit (a ∷ start) (n ∷ shape) zero fits e within = fits.0
 ends_fit (a ∷ start) (n ∷ shape) (suc k) fits e within = ends_fit start shape k fits.1 (omega arith) (omega arith)
-ends_fit (_ ∷ _) [] k fits e within = absurd (omega arith)
+ends_fit _ _ k fits e within = absurd (omega arith)
 
 -- what the look-ups along a dimension need, and what is found by them
 pub record AreAsked (source target : List Dimension) (region moved targets : Box) (k steps : ℕ) : Type 0 where

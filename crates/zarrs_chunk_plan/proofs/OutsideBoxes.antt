@@ -143,7 +143,6 @@ module _ (keeps : Bool) (before after kept : List ℕ) (old added : List Box)
   pub told_of : (chunk : List ℕ)
       → Contains (chunks_of_boxes (old ++ added)) chunk ↔ (IsToldBefore keeps before kept chunk ⊎ IsOutside before after chunk)
   told_of chunk =
-      let was = are_old chunk in
       let new = are_added chunk in
       let has = has_either (chunks_of_boxes old) (chunks_of_boxes added) chunk in
       rw both_lists (grind arith)

@@ -1,7 +1,7 @@
 -- The place of a list below a shape among all of them, and the list at a part of the way.
 use Rattle.std.proofs.Common.{◌≡◌, ◌∙◌, ℕ, zero, suc, ◌+◌, ◌-◌, ◌*◌, ◌<◌, ◌≤◌, ◌/◌, ◌%◌, List, []}
 use Rattle.std.proofs.Common.{◌∷◌, ◌++◌, Contains, drop, length, map, refl, ap, sym, ⊎_elim, arith}
-use Rattle.std.proofs.Math.Nat.{div-add-mod, div-eq_of_lt, div-mul-le_self, mod-lt, mul-add-div, mul-suc, mul-zero, mul_assoc, mul_comm}
+use Rattle.std.proofs.Math.Nat.{div-add-mod, div-eq_of_lt, mod-lt, mul-add-div, mul-suc, mul-zero, mul_assoc}
 use Rattle.std.proofs.lemmas.Bool.{cases_lt}
 use Rattle.std.proofs.lemmas.List.{drop-append-le, drop-map, length-drop, length-map}
 use Rattle.std.proofs.Math.Seq.{drop-append-add}
@@ -61,7 +61,6 @@ drop_rank _ _ below = absurd below
 module _ (shape : List ℕ) where
   lists_after : (numbers : List ℕ) → AreBelow shape numbers → length (after shape numbers) + rank shape numbers + 1 ≡ length (row_major shape)
   lists_after numbers below =
-      let within = rank_within shape numbers below in
       let many = length-drop (rank shape numbers) (row_major shape) in
       let same = ap length (drop_rank shape numbers below) in
       omega arith
@@ -98,7 +97,6 @@ add_mul a b c = omega arith
 
 part_below : (part of size : ℕ) → part < of → 0 < size → part * size / of < size
 part_below part of size less some =
-    let low = div-mul-le_self (part * size) of in
     let more : part * size < of * size = times_less part of size less some in
     ⊎_elim (λ (fits : part * size / of < size). fits)
     (λ (past : size ≤ part * size / of).

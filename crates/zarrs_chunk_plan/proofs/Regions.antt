@@ -1,16 +1,16 @@
 -- The copies of a region into the chunks of a box: from where to where they move which elements, and that they differ.
-use Rattle.std.proofs.Common.{◌≡◌, ◌⊎◌, ◌∙◌, ℕ, suc, ◌+◌, ◌-◌, ◌<◌, ◌≤◌, List, [], ◌∷◌, Contains, length, refl, ap, inl, inr, subst, sym, ⊎_elim}
+use Rattle.std.proofs.Common.{◌≡◌, ◌⊎◌, ◌∙◌, ℕ, suc, List, [], ◌∷◌, Contains, length, refl, ap, inl, inr, subst, sym, ⊎_elim}
 use Rattle.std.proofs.Common.{arith, ◌≢◌, IsTrue}
 use Rattle.std.specs.List.{AllByRecursion, AllPairs}
 use Rattle.zarrs_chunk_base.specs.ArraySubset.{Box, IsBox, IsInside, lasts}
 use Rattle.zarrs_chunk_base.specs.Dimension.{Dimension, InBox, IsChain, array_sizes}
-use Rattle.zarrs_chunk_base.specs.Greatest.{AllFit, greatest}
+use Rattle.zarrs_chunk_base.specs.Greatest.{AllFit}
 use Rattle.zarrs_chunk_axes.specs.InBounds.{AreBelow}
 use Rattle.zarrs_chunks.specs.Walks.{chunks_in, counted_from}
 use Rattle.zarrs_chunks.proofs.Boxes.{same_index}
 use Rattle.zarrs_chunks.proofs.Chains.{same_box}
 use Rattle.zarrs_chunks.proofs.ChunksInBoxes.{are_those_inside, chunks_once, length_below, lie_within, offset_of}
-use Rattle.zarrs_chunks.proofs.Covers.{head_some, tail_some}
+use Rattle.zarrs_chunks.proofs.Covers.{tail_some}
 use Rattle.zarrs_chunks.proofs.FittingChunks.{counted_home}
 use Rattle.zarrs_chunk_parts.specs.Plan.{HasElement, IsPart, Meets}
 use Rattle.zarrs_chunk_plan.specs.Rechunking.{Group, copies_of}

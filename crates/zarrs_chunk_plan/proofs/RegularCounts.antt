@@ -79,7 +79,6 @@ of_sum a x y some =
     let (whole_y, left_y) = left_of a y some in (
       le-div (x / a + y / a) (x + y) a some (omega arith),
       ⊎_elim (λ (more : suc (x / a + y / a) < (x + y) / a).
-          let most : (x + y) / a * a ≤ x + y = (let w = left_of a (x + y) some in omega (arith, w.0)) in
           let least : (x / a + y / a + 2) * a ≤ (x + y) / a * a = mul-le-mul_right a (omega arith) in
           absurd (omega arith)) (λ (le : (x + y) / a ≤ suc (x / a + y / a)). le) (cases_lt (suc (x / a + y / a)) ((x + y) / a)),
     )
@@ -113,7 +112,6 @@ all_met a b p first (suc many) some_a some_b some_p agree =
 -- no more than elements
 meets_at_most : (a b c : ℕ) → 0 < a → 0 < b → meeting a b c ≤ b
 meets_at_most a b c some_a some_b =
-    let here = meets a b c some_a some_b in
     let is : c * b + (b - 1) ≡ (c + 1) * b - 1 = omega arith in
     let quotient : (c * b + (b - 1)) / a ≡ ((c + 1) * b - 1) / a = ap (λ m. m / a) is in
     let most = rises a (c * b) (b - 1) some_a in
@@ -133,7 +131,6 @@ IsEither n x = (n ≤ x) × (x ≤ suc n)
 
 either : (a b c : ℕ) → 0 < a → 0 < b → IsEither (suc ((b - 1) / a)) (meeting a b c)
 either a b c some_a some_b =
-    let here = meets a b c some_a some_b in
     let (low, high) = of_sum a (c * b) (b - 1) some_a in
     let is : c * b + (b - 1) ≡ (c + 1) * b - 1 = omega arith in
     let quotient : (c * b + (b - 1)) / a ≡ ((c + 1) * b - 1) / a = ap (λ m. m / a) is in

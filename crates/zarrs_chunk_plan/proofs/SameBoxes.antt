@@ -10,7 +10,6 @@ use Rattle.zarrs_chunk_plan.proofs.Written.{first_within}
 -- two ranges with the same numbers, of which there are some
 same_ranges : (a n b m i : ℕ) → a ≤ i → i < a + n → ((j : ℕ) → ((a ≤ j) × (j < a + n)) ↔ ((b ≤ j) × (j < b + m))) → (a ≡ b) × (n ≡ m)
 same_ranges a n b m i from below same =
-    let also = same i in
     let first = same a in
     let last = same (a + (n - 1)) in
     let first_back = same b in

@@ -1,7 +1,7 @@
 -- Where each chunk has a key, each box of elements of the array has a plan: the parts ahead of a walk exist.
-use Rattle.std.proofs.Common.{◌≡◌, ◌∙◌, ℕ, suc, ◌+◌, ◌-◌, ◌<◌, ◌≤◌, List, [], ◌∷◌, Contains, ap, ap₂, length, map, refl, sym, arith}
+use Rattle.std.proofs.Common.{◌≡◌, ◌∙◌, ℕ, suc, ◌+◌, ◌-◌, ◌<◌, ◌≤◌, List, [], ◌∷◌, ap, ap₂, length, map, refl, sym, arith}
 use Rattle.std.specs.List.{AllByRecursion, AllZip}
-use Rattle.zarrs_chunk_base.specs.ArraySubset.{AreWithin, Box, IsBox, IsEmptyBox, IsInside, ends, lasts}
+use Rattle.zarrs_chunk_base.specs.ArraySubset.{Box, IsBox, IsEmptyBox, IsInside, ends, lasts}
 use Rattle.zarrs_chunk_base.specs.Dimension.{Dimension, Holds, InBox, IsChain, IsShape, array_sizes}
 use Rattle.zarrs_chunk_base.specs.Greatest.{AllFit, greatest}
 use Rattle.zarrs_chunk_base.proofs.InEach.{by_dimension}
@@ -10,7 +10,7 @@ use Rattle.zarrs_chunks.specs.Subsets.{IsCover}
 use Rattle.zarrs_chunks.specs.Walks.{chunks_in}
 use Rattle.zarrs_chunks.proofs.Boxes.{has_origin}
 use Rattle.zarrs_chunks.proofs.ChunksInBoxes.{are_those_inside, inside_fits}
-use Rattle.zarrs_chunks.proofs.Covers.{chunks_small, firsts_before_lasts, head_some, in_order, is_cover, lasts_small, tail_some}
+use Rattle.zarrs_chunks.proofs.Covers.{chunks_small, firsts_before_lasts, in_order, is_cover, lasts_small}
 use Rattle.zarrs_chunks.proofs.FittingChunks.{counted_home}
 use Rattle.zarrs_chunks.proofs.Meeting.{cover_meets}
 use Rattle.zarrs_chunks.proofs.UpTo.{ones_fit}
@@ -18,6 +18,7 @@ use Rattle.zarrs_chunk_parts.specs.Plan.{IsPart, IsPlan, Meets}
 use Rattle.zarrs_chunk_parts.specs.declared.part.Part.{Part}
 use Rattle.zarrs_chunk_plan.specs.seen.Parts.{HasKeys}
 use Rattle.zarrs_chunk_plan.proofs.Plans.{all_of_each}
+use Rattle.zarrs_chunk_plan.proofs.Written.{first_within, last_within}
 use Rattle.zarrs_chunk_parts.proofs.Shares.{boxes_are, from_chunk, from_start, has_all_of}
 use Rattle.zarrs_chunk_parts.proofs.Wholes.{test_rest}
 
@@ -36,16 +37,6 @@ chunk_fits ds chains chunk index = chunks_small (λ n. n ≤ greatest) (λ m n l
 
 -- ---- the cover of a box of elements of the array
 
--- it has its first and its last element
-both_inside : (start shape : List ℕ) → length start ≡ length shape → (¬ Contains shape 0)
-    → AreWithin start shape start × AreWithin start shape (lasts start shape)
-both_inside [] [] same some = (tt, tt)
-both_inside (s ∷ start) (n ∷ shape) same some =
-    let here = head_some n shape some in
-    let (first, last) = both_inside start shape (omega arith) (tail_some n shape some) in
-    ((omega arith, omega arith, first), (omega arith, omega arith, last))
-both_inside _ _ same some = absurd (omega arith)
-
 -- how many numbers there are from the first to the last one, in each dimension
 sizes_between : (first last : List ℕ) → AllZip ◌≤◌ first last
     → (sizes : List ℕ) × (length first ≡ length sizes) × (ends first sizes ≡ map (λ n. n + 1) last)
@@ -60,7 +51,8 @@ pub has_cover : (ds : List Dimension) → AllByRecursion IsChain ds → (b : Box
     → ((index : List ℕ) → IsInside b index → AreBelow (array_sizes ds) index) → (cover : Box) × IsCover ds b cover
 has_cover ds chains b is_box some within =
     let end = lasts b.start b.shape in
-    let (inside, also) = both_inside b.start b.shape is_box.lengths some in
+    let inside = first_within b.start b.shape is_box.lengths some in
+    let also = last_within b.start b.shape is_box.lengths some in
     let (first, _, in_first) = counted_home ds b.start chains (within b.start inside) in
     let (last, _, in_last) = counted_home ds end chains (within end also) in
     let order = in_order ds first last b.start end chains (firsts_before_lasts b.start b.shape is_box.lengths) in_first in_last in

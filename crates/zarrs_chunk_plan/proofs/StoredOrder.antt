@@ -1,6 +1,6 @@
 -- Lists that are read backwards: the dimensions of a chunk that is stored in column-major order.
 use Rattle.std.proofs.Common.{◌≡◌, ◌∙◌, ℕ, ◌+◌, ◌*◌, ◌<◌, ◌≤◌, List, [], ◌∷◌, ◌++◌, Contains, length, reverse, zero, suc, ap, refl, subst, sym, ⊎_elim, arith, inr, IfSome, Option, None, Some, inl}
-use Rattle.std.proofs.Math.Nat.{add-mul, mul-le-mul_right, mul_assoc, mul_comm}
+use Rattle.std.proofs.Math.Nat.{mul-le-mul_right, mul_assoc, mul_comm}
 use Rattle.std.proofs.lemmas.List.{reverse-append, reverse-reverse}
 use Rattle.std.proofs.lemmas.List.Elements.{Contains-append_cases}
 use Rattle.zarrs_chunk_base.specs.ArraySubset.{AreWithin}
@@ -138,7 +138,6 @@ pub none_past : (item : ℕ) (order : MemoryOrder) (edges start shape : List ℕ
     → ¬ HasPast (begins ranges.first ranges.counts.items ranges.strides.items)
 none_past item order edges start shape ranges are (n, among, past) =
     let some : ¬ Contains shape 0 = λ empty. nothing (begins ranges.first ranges.counts.items ranges.strides.items) n (are.none empty) among in
-    let long = are.some some in
     let (index, within, (low, high)) = (are.are_ranges.those n).1 (n, among, omega arith, omega arith) in
     let below = placed_below order start shape edges index are.lies within in
     let counted = are.counted some in

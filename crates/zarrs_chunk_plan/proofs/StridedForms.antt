@@ -98,7 +98,6 @@ module _ (item : ℕ) (any_item : 0 < item) where
       those = λ byte. (
         λ (index, within, (low, high)). (0, (zero, omega arith, refl), omega arith, no_place index high),
         λ (n, among, low, high). let none : n ≡ 0 = only n among in
-            let start : 0 * item ≡ 0 = omega arith in
             ([], tt, (omega arith, omega arith)),
       );
       apart = λ i j d less within. absurd (omega arith);

@@ -3,7 +3,7 @@ use Rattle.std.proofs.lemmas.List.Elements.{same_from_all_zip}
 use Rattle.std.proofs.lemmas.Slice.Zip.{AllZip-long}
 use Rattle.std.specs.List.{AllZip}
 use Rattle.zarrs_chunk_base.specs.ArraySubset.{IsBox, ends}
-use Rattle.zarrs_chunk_base.specs.Greatest.{AllFit, greatest}
+use Rattle.zarrs_chunk_base.specs.Greatest.{AllFit}
 use Rattle.zarrs_chunk_parts.specs.seen.Shared.{distances}
 use Rattle.zarrs_chunk_plan.proofs.counts.box_between.Goals as goal
 

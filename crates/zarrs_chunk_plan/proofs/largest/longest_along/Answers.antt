@@ -1,5 +1,5 @@
 use Rattle.std.specs.Int.NonZero.{non_zero_u64_get}
-use Rattle.std.proofs.Common.{◌≡◌, ◌-◌, ◌<◌, ◌≤◌, List, ℕ, arith, inl, inr, refl, slice_index_or, subst, ⊎_elim}
+use Rattle.std.proofs.Common.{◌≡◌, ◌-◌, ◌<◌, ◌≤◌, ℕ, arith, inl, inr, refl, slice_index_or, subst, ⊎_elim}
 use Rattle.std.proofs.lemmas.Bool.{cases_lt}
 use Rattle.zarrs_chunk_plan.specs.seen.Stages.{HasEdgeAlong}
 use Rattle.zarrs_chunk_plan.proofs.LargestChunks.{one_edge}
@@ -44,12 +44,10 @@ returns-clause-below g c =
     let size = slice_index_or shape c.args.dimension 0 in
     let some : 0 < size =
     ⊎_elim (λ (some : 0 < size). some)
-    (λ (none : size ≤ 0). absurd (c.requires.some (c.args.dimension, omega (arith, c.requires.long, c.requires.dimension), none_at shape c.args.dimension (omega arith))))
+    (λ (none : size ≤ 0). absurd (c.requires.some (c.args.dimension, omega (arith, c.requires.long, c.requires.dimension), let zero : size ≡ 0 = omega arith in zero)))
     (cases_lt 0 size)
     in
-    ⊎_elim (λ (first : c.loop-chunk.longest ≡ 0). omega arith) (λ (less : c.loop-chunk.longest < c.loop-chunk.chunk). omega arith) among where
-      none_at : (shape : List ℕ) (k : ℕ) → slice_index_or shape k 0 ≡ 0 → slice_index_or shape k 0 ≡ 0
-      none_at shape k is = is
+    ⊎_elim (λ (first : c.loop-chunk.longest ≡ 0). omega arith) (λ (less : c.loop-chunk.longest < c.loop-chunk.chunk). omega arith) among
 
 pub returns-clause-longest : goal.returns-clause-longest
 returns-clause-longest g c =

@@ -32,7 +32,6 @@ returns-then-sum-least c =
     c.args.edge.ok c.args.other.ok c.requires.some (rw edge at common.divides) (rw other at common.divides_other)
     (rw (edge, other) at common.combines) in
     let more = rw (edge, other) at c.if-sum-least.true in
-    let greatest = all.greatest.more (omega (arith, all.total, more)) in
     record { sum = rw (edge, other) all.total; most = rw (edge, other) (omega arith) }
 
 pub returns-else-sum-least : goal.returns-else-sum-least
@@ -44,5 +43,4 @@ returns-else-sum-least c =
     c.args.edge.ok c.args.other.ok c.requires.some (rw edge at common.divides) (rw other at common.divides_other)
     (rw (edge, other) at common.combines) in
     let no_more = rw (edge, other) at c.if-sum-least.false in
-    let same = all.greatest.same (omega (arith, all.total, no_more)) c.requires.some in
     record { sum = rw (edge, other) all.total; most = rw (edge, other) (omega arith) }

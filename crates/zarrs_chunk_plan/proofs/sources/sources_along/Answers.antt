@@ -43,7 +43,6 @@ overflow_add-result g c =
     let is = c.in-Some.ensures in
     let row = counted c.args.dimension _ _ chains also c.requires.taking c.requires.some c.requires.dimension c.in-Some.edge.ok c.in-Some.other.ok
     is.source is.target is.stays more in
-    let last = rw c.shape.ensures.value at (c.in_ok-last-in-Some.ensures {u = tt}) in
     let whole = rw (c.start.ensures.value, c.shape.ensures.value) at c.met_by_whole-sum.ensures.sum in
     omega (arith, (c.in_ok-first-in-Some.ensures {u = tt}), whole, row.in_all, row.sum_fits)
 

@@ -26,7 +26,6 @@ overflow_sub-last g c =
     let asked = are_asked c.args.dimension c.args.steps chains c.requires.taking c.requires.some c.requires.dimension c.requires.steps in
     let found = rw (c.in_ok-start.ensures {u = tt}, c.start.ensures.value) at (c.in_ok-range.ensures {u = tt}) in
     let takes = asked.takes c.in_ok-start.start c.in_ok-start.edge found in
-    let first = rw c.start-2.ensures.value at c.saturating_sub-first.ensures in
     let end = rw c.start-2.ensures.value at c.saturating_sub-end.ensures in
     let last = rw c.shape.ensures.value at c.min-last.ensures in
     omega (arith, last, end, takes, c.saturating_add.ensures, asked.moved_fits)
@@ -44,7 +43,6 @@ overflow_add-from g c =
     let found = rw (c.in_ok-start.ensures {u = tt}, c.start.ensures.value) at (c.in_ok-range.ensures {u = tt}) in
     let takes = asked.takes c.in_ok-start.start c.in_ok-start.edge found in
     let first = rw c.start-2.ensures.value at c.saturating_sub-first.ensures in
-    let end = rw c.start-2.ensures.value at c.saturating_sub-end.ensures in
     let last = rw c.shape.ensures.value at c.min-last.ensures in
     let fits = asked.region_fits c.start-3.ensures.is_box in
     rw c.start-3.ensures.value (omega (arith, first, takes, fits))
@@ -53,7 +51,6 @@ pub overflow_add-from-2 : goal.overflow_add-from-2
 overflow_add-from-2 g c =
     let chains = g.met.G.ChunkGridTraits.chained c.args.copied.now.source.now in
     let asked = are_asked c.args.dimension c.args.steps chains c.requires.taking c.requires.some c.requires.dimension c.requires.steps in
-    let found = rw (c.in_ok-start.ensures {u = tt}, c.start.ensures.value) at (c.in_ok-range.ensures {u = tt}) in
     let first = rw c.start-2.ensures.value at c.saturating_sub-first.ensures in
     let end = rw c.start-2.ensures.value at c.saturating_sub-end.ensures in
     let last = rw c.shape.ensures.value at c.min-last.ensures in

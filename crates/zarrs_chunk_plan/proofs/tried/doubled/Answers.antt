@@ -1,4 +1,4 @@
-use Rattle.std.proofs.Common.{◌≡◌, ◌∙◌, ◌++◌, ◌-◌, ◌≤◌, ap, arith, refl, sym}
+use Rattle.std.proofs.Common.{◌≡◌, ◌∙◌, ◌++◌, ◌-◌, ap, arith, refl, sym}
 use Rattle.zarrs_chunk_plan.specs.Stages.{doubled}
 use Rattle.zarrs_chunk_plan.proofs.EdgesTried.{no_turn, not_at_all, one_turn}
 use Rattle.zarrs_chunk_plan.proofs.tried.doubled.Goals as goal

@@ -1,5 +1,5 @@
 use Rattle.std.proofs.Common.{◌≡◌, ◌+◌, ◌*◌, sym, arith, eqb-true, false-eqb}
-use Rattle.std.proofs.Math.Nat.{add-mul, mul-le-mul_right}
+use Rattle.std.proofs.Math.Nat.{mul-le-mul_right}
 use Rattle.zarrs_chunk_plan.proofs.ByteRows.{all_of_rows, part_of_rows}
 use Rattle.zarrs_chunk_plan.proofs.bytes.Rows.go_out.Goals as goal
 use Rattle.zarrs_chunk_plan.proofs.bytes.Rows.go_out.Goals.{then-self, else-self+in_ok-insert+in_ok-insert-2}
