@@ -1,5 +1,5 @@
 -- A chunk that is a longest one along each dimension is a largest one.
-use Rattle.std.proofs.Common.{◌≡◌, ◌⊎◌, ℕ, zero, suc, ◌+◌, ◌<◌, ◌≤◌, Bool, true, false, IsTrue, List, [], ◌∷◌, ◌++◌, Contains, length, map, replicate}
+use Rattle.std.proofs.Common.{◌≡◌, ◌⊎◌, ℕ, zero, suc, ◌+◌, ◌<◌, ◌≤◌, Bool, true, false, IsTrue, List, [], ◌∷◌, ◌++◌, length, replicate}
 use Rattle.std.proofs.Common.{arith, inl, inr, refl, slice_index_or, subst, sym, true≢false, ⊎_elim}
 use Rattle.std.proofs.lemmas.Bool.{cases_lt}
 use Rattle.std.proofs.lemmas.List.{get_or_append_left, get_or_push}
@@ -7,8 +7,8 @@ use Rattle.std.specs.List.{AllByRecursion, AllZip}
 use Rattle.zarrs_chunk_base.specs.ArraySubset.{AreWithin, Box, IsEmptyBox, IsInside}
 use Rattle.zarrs_chunk_base.specs.Dimension.{Dimension, HasEdge, IsChain, IsShape, array_sizes}
 use Rattle.zarrs_chunk_base.proofs.InEach.{length_values}
-use Rattle.zarrs_chunk_axes.specs.InBounds.{AreBelow}
 use Rattle.zarrs_chunks.proofs.FittingChunks.{counted_home}
+use Rattle.zarrs_chunks.proofs.OneDimension.{zeros_below}
 use Rattle.zarrs_chunk_parts.specs.Plan.{Meets}
 use Rattle.zarrs_chunk_plan.specs.Rechunking.{array_box}
 use Rattle.zarrs_chunk_plan.specs.Counts.{AreFew}
@@ -72,17 +72,11 @@ below_inside _ _ _ long also each = absurd (omega arith)
 -- ---- the array
 
 -- an array that isn't empty has a chunk with some of it
-first_below : (sizes : List ℕ) → (¬ Contains sizes 0) → AreBelow sizes (map (λ _. 0) sizes)
-first_below [] some = tt
-first_below (zero ∷ sizes) some = absurd (some (0, omega arith, refl))
-first_below (suc n ∷ sizes) some =
-    (omega arith, first_below sizes (λ (k, within, is). some (suc k, omega arith, is)))
-
 pub some_chunk : (ds : List Dimension) → AllByRecursion IsChain ds → (¬ IsEmptyBox (array_box ds))
     → (chunk : List ℕ) × Meets ds (array_box ds) chunk
 some_chunk ds chains some =
-    let index = map (λ _. 0) (array_sizes ds) in
-    let below = first_below (array_sizes ds) some in
+    let index = replicate (length (array_sizes ds)) 0 in
+    let below = zeros_below (array_sizes ds) some in
     let (home, counted, box) = counted_home ds index chains below in
     (home, (index, box, (in_array ds index).0 below))
 
