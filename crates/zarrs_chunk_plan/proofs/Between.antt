@@ -76,8 +76,7 @@ module _ (shape : List ℕ) (end : Option (SmallVec ℕ)) (end_below : ForSome e
 
   pub begins_before : (numbers : List ℕ) (over : Bool) → AreBelow shape numbers → rank shape numbers ≤ end_rank shape end
       → (IsTrue over ↔ IsEnd end numbers) → over ≡ false → rank shape numbers < end_rank shape end
-  begins_before numbers over below low told is =
-      before_end numbers below low (λ at. absurd (true≢false (sym (told.1 at) ∙ is)))
+  begins_before numbers over below low told is = before_end numbers below low (λ at. absurd (true≢false (sym (told.1 at) ∙ is)))
 
   pub begins_with : (numbers : List ℕ) (over : Bool) → (IsTrue over ↔ IsEnd end numbers)
       → lists_between shape numbers end over ≡ between (rank shape numbers) (end_rank shape end) (row_major shape)

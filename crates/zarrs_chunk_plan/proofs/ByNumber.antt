@@ -91,8 +91,7 @@ positive_factor a (suc b) some = omega arith
 
 split_number : (number rest size lists place quotient digit : ℕ) → number ≡ rest * lists + place → size * quotient + digit ≡ rest
     → number ≡ quotient * (size * lists) + (digit * lists + place)
-split_number number rest size lists place quotient digit counted parts =
-    rw (counted, ← parts) (omega arith)
+split_number number rest size lists place quotient digit counted parts = rw (counted, ← parts) (omega arith)
 
 no_rest : (number rest lists place : ℕ) → number ≡ rest * lists + place → number < lists → number ≡ place
 no_rest number zero lists place is less = omega arith

@@ -42,8 +42,7 @@ module _ {G E H F : Type 0} (source_dimensions : G → List Dimension) (target_d
     -- the chunk of the part has an element of the box
     meets : MeetSubset target_dimensions before.targets
         → Meets (target_dimensions before.targets.grid.now) before.targets.array_subset to.chunk.items
-    meets meet =
-        (subst (AllByRecursion (Meets (target_dimensions before.targets.grid.now) before.targets.array_subset)) steps.gives meet).0
+    meets meet = (subst (AllByRecursion (Meets (target_dimensions before.targets.grid.now) before.targets.array_subset)) steps.gives meet).0
 
     -- and so the part has one
     has_some : MeetSubset target_dimensions before.targets → ¬ IsEmptyBox to.in_subset

@@ -133,8 +133,7 @@ module _ {source target : List Dimension} {region : Box} {at : List ℕ} (chains
     )
 
     are_groups : AllZip Into (chunks_in targets) groups
-    are_groups =
-        subst (λ all. AllZip Into all groups) (chunks_of_same plan.targets targets plan.is_box taking.is_box same_targets) plan.are_groups
+    are_groups = subst (λ all. AllZip Into all groups) (chunks_of_same plan.targets targets plan.is_box taking.is_box same_targets) plan.are_groups
 
     -- so the plan is one over these chunks
     abbrev over : IsCopy source IsSourceKey target IsTargetKey region at Chosen groups

@@ -42,8 +42,7 @@ one_turn edges k edge last all turn fits less so_far =
 
 pub no_turn : (edges : List ℕ) (k edge last : ℕ) (all : List ℕ) → last ≤ edge → edges ++ doubled (64 - k) edge last ≡ all
     → edges ++ doubled (64 - (k + 1)) edge last ≡ all
-no_turn edges k edge last all le so_far =
-    ap (λ xs. edges ++ xs) (no_more (64 - (k + 1)) edge last le ∙ sym (no_more (64 - k) edge last le)) ∙ so_far
+no_turn edges k edge last all le so_far = ap (λ xs. edges ++ xs) (no_more (64 - (k + 1)) edge last le ∙ sym (no_more (64 - k) edge last le)) ∙ so_far
 
 -- each edge that is tried is above what the first and the last one are
 above : (n times edge last : ℕ) → n < edge → n < last → AllByRecursion (λ e. n < e) (doubled times edge last)

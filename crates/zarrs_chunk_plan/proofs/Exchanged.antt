@@ -81,8 +81,7 @@ module _ (source : List Dimension) (IsSourceKey : List ℕ → List ℕ → Type
     )
 
     one_box : is_from.boxes.shared ≡ is_back.boxes.shared
-    one_box =
-        same_box_of is_from.boxes.shared is_back.boxes.shared index ((is_from.boxes.elements index).1 (in_source, in_subset)) same_elements
+    one_box = same_box_of is_from.boxes.shared is_back.boxes.shared index ((is_from.boxes.elements index).1 (in_source, in_subset)) same_elements
 
     -- counted from the first element of either chunk
     begins_in_source : counted_from is_from.boxes.origin from.in_chunk.start

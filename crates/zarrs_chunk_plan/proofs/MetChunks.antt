@@ -34,8 +34,7 @@ home_from_is d chain (suc many) first c i here from below =
     (cases_lt i (d.end first))
 
 home_is : (d : Dimension) → IsChain d → (c i : ℕ) → Holds d c i → home d i ≡ c
-home_is d chain c i here =
-    home_from_is d chain i 0 c i here (omega arith) (omega (arith, at_most_start d chain c here.chunk))
+home_is d chain c i here = home_from_is d chain i 0 c i here (omega arith) (omega (arith, at_most_start d chain c here.chunk))
 
 -- chunks from that of the first index of a range to that of its last
 pub met_is : (s : Dimension) → IsChain s → (low high first size : ℕ) → Holds s low first → Holds s high (first + (size - 1))

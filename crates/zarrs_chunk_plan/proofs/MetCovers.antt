@@ -73,8 +73,7 @@ held_is ds chunk in_chunk in_subset boxes meets =
 module _ {source target : List Dimension} {region moved targets : Box} (chains : AllByRecursion IsChain source)
     (taking : AreTaking source target region moved targets) where
   region_long : length region.start ≡ length source
-  region_long =
-      within_starts region.start region.shape (array_sizes source) taking.in_source ∙ length-map source (λ (d : Dimension). d.array_size)
+  region_long = within_starts region.start region.shape (array_sizes source) taking.in_source ∙ length-map source (λ (d : Dimension). d.array_size)
 
   shape_long : length region.shape ≡ length source
   shape_long = within_long region.start region.shape (array_sizes source) taking.in_source ∙ length-map source (λ (d : Dimension). d.array_size)

@@ -78,8 +78,7 @@ not_grown inner outer same = record {
 
 -- the chunks of one box more
 pub one_box_more : (boxes : List Box) (added : Box) → chunks_of_boxes (boxes ++ added ∷ []) ≡ chunks_of_boxes boxes ++ chunks_in added
-one_box_more boxes added =
-    flat_map-append chunks_in boxes (added ∷ []) ∙ ap (λ xs. chunks_of_boxes boxes ++ xs) (append-nil (chunks_in added))
+one_box_more boxes added = flat_map-append chunks_in boxes (added ∷ []) ∙ ap (λ xs. chunks_of_boxes boxes ++ xs) (append-nil (chunks_in added))
 
 -- an empty one has none
 pub no_box_more : (boxes : List Box) (added : Box) → IsEmptyBox added → chunks_of_boxes boxes ≡ chunks_of_boxes boxes ++ chunks_in added
@@ -123,8 +122,7 @@ grown_more inner outer left shape boxes more added below_all so_far is_box are b
 module _ (inner outer shape : List ℕ) (boxes : List Box) (same : length inner ≡ length outer)
     (all : HasGrown (lesser inner outer) outer 0 shape boxes) where
   all_grown : shape ≡ outer
-  all_grown =
-      same_number_lists shape outer all.long (λ k below. all.grown k (omega arith) (omega arith))
+  all_grown = same_number_lists shape outer all.long (λ k below. all.grown k (omega arith) (omega arith))
 
   pub are_outside : (chunk : List ℕ) → Contains (chunks_of_boxes boxes) chunk ↔ IsOutside inner outer chunk
   are_outside chunk =

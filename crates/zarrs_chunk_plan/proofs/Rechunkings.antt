@@ -93,8 +93,7 @@ module _ {ds : List Dimension} {IsKey : List ℕ → List ℕ → Type 0} {chunk
 pub read_there : {source : List Dimension} {IsSourceKey : List ℕ → List ℕ → Type 0} {target : List Dimension}
     {IsTargetKey : List ℕ → List ℕ → Type 0} {chunk : List ℕ} {group : Group} → AreCopiesInto source IsSourceKey target IsTargetKey chunk group
     → Meets target (array_box target) chunk → IsPlan source IsSourceKey group.0.in_subset group.1
-read_there {source} {IsSourceKey} {group} into meets =
-    subst (λ b. IsPlan source IsSourceKey b group.1) (from_there into.to meets) into.from
+read_there {source} {IsSourceKey} {group} into meets = subst (λ b. IsPlan source IsSourceKey b group.1) (from_there into.to meets) into.from
 
 -- ---- the copies
 

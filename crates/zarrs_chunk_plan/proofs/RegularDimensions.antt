@@ -153,8 +153,7 @@ of_row x y xs row is =
 
 -- all but the last number of a row, and the last, are all of it
 whole_sum : (row : List ℕ) (n : ℕ) → length row ≡ suc n → sum (take n row) + slice_index_or row n 0 ≡ sum row
-whole_sum row n long =
-    sym (sum_by_more (λ m. m) row n 0 (omega arith)) ∙ ap sum (take_all (n + 1) row (omega arith))
+whole_sum row n long = sym (sum_by_more (λ m. m) row n 0 (omega arith)) ∙ ap sum (take_all (n + 1) row (omega arith))
 
 pub record IsCounted (row : List ℕ) (a b begin between last : ℕ) : Type 0 where
   pub in_all : sum row ≡ slice_index_or row 0 0 + sum (all_meeting a b (begin + 1) between) + slice_index_or row last 0

@@ -33,8 +33,7 @@ ends_fit [] fit = tt
 ends_fit (n ∷ shape) fit = let here : n ≤ greatest = fit.0 in (omega arith, ends_fit shape fit.1)
 
 from_zero : (shape : List ℕ) (n : ℕ) → length shape ≡ n → AllFit shape → IsBox (record { start = replicate n 0; shape = shape })
-from_zero shape n same fit =
-    rw (← same) (record { lengths = length-replicate (length shape) 0; fits = ends_fit shape fit })
+from_zero shape n same fit = rw (← same) (record { lengths = length-replicate (length shape) 0; fits = ends_fit shape fit })
 
 pub array_is_box : (ds : List Dimension) → AllFit (array_sizes ds) → IsBox (array_box ds)
 array_is_box ds fit = from_zero (array_sizes ds) (length ds) (length-map ds (λ d. d.array_size)) fit
@@ -130,8 +129,7 @@ module _ {G H E : Type 0} (dimensions_before : G → List Dimension) (dimensions
 
   pub first_change : (now : Changes G H E) (changes : List ChunkChange) → now ≡ begin → changes ≡ []
       → CanChange dimensions_before dimensions_after begin → ChangesHaveCome now changes
-  first_change now changes same none can =
-      rw (same, none) ([], refl, tt, record { same_before = refl; same_after = refl; same_encoding = refl }, can)
+  first_change now changes same none can = rw (same, none) ([], refl, tt, record { same_before = refl; same_after = refl; same_encoding = refl }, can)
 
   pub one_more_change : (before after : Changes G H E) (change : ChunkChange) (changes more : List ChunkChange) → ChangesHaveCome before changes
       → Gives before (Some (Ok change)) after → more ≡ changes ++ change ∷ [] → ChangesHaveCome after more

@@ -171,8 +171,7 @@ module _ (source target between : List Dimension) (edges : List ℕ) (one_array 
   pub from_taking : (chunks : Box) → IsBox chunks → length chunks.start ≡ length target
       → ((chunk : List ℕ) → IsInside chunks chunk ↔ Meets target (array_box target) chunk)
       → AreTaking between target (array_box target) (array_box target) chunks
-  from_taking chunks is_box long named =
-      are_taking between target chunks target_sizes is_array is_box long (λ chunk. (named chunk).0)
+  from_taking chunks is_box long named = are_taking between target chunks target_sizes is_array is_box long (λ chunk. (named chunk).0)
 
   pub from_some : (chunks : Box) → AllByRecursion IsChain target
       → ((chunk : List ℕ) → IsInside chunks chunk ↔ Meets target (array_box target) chunk) → ¬ IsEmptyBox chunks
@@ -204,8 +203,7 @@ one_more_row source target chunks dimension (other ∷ rows) row are last = (
 )
 
 pub length_of : (ds es : List Dimension) → array_sizes ds ≡ array_sizes es → length ds ≡ length es
-length_of ds es same =
-    sym (length-map ds (λ (d : Dimension). d.array_size)) ∙ ap length same ∙ length-map es (λ (d : Dimension). d.array_size)
+length_of ds es same = sym (length-map ds (λ (d : Dimension). d.array_size)) ∙ ap length same ∙ length-map es (λ (d : Dimension). d.array_size)
 
 -- what an array between that has the same edge along each dimension tells
 pub record IsProbe (source target between : List Dimension) (edge : ℕ) (array all chunks : Box) : Type 0 where

@@ -10,8 +10,7 @@ returns-then-not-are_few-clause-few g c =
     (c.in_ok-chunks.chunks, record { is_box = c.is_a_box.ensures; are_those = chunks.named }, λ few. true≢false (sym (many few)))
 
 pub longest_along_each-requires-clause-long : goal.longest_along_each-requires-clause-long
-longest_along_each-requires-clause-long g c =
-    omega (arith, c.is_a_box.ensures.lengths, (c.in_ok-chunks.ensures {u = tt}).lengths)
+longest_along_each-requires-clause-long g c = omega (arith, c.is_a_box.ensures.lengths, (c.in_ok-chunks.ensures {u = tt}).lengths)
 
 pub longest_along_each-requires-clause-some : goal.longest_along_each-requires-clause-some
 longest_along_each-requires-clause-some g c =

@@ -3,8 +3,7 @@ use Rattle.zarrs_chunk_plan.proofs.ByNumber.{IsNumbered, as_many, numbered_all, 
 use Rattle.zarrs_chunk_plan.proofs.numbered_chunks.write_chunk.Goals as goal
 
 pub loop-dimension-init : goal.loop-dimension-init
-loop-dimension-init c =
-    numbered_none c.args.start.now c.args.shape.now c.args.number c.args.chunk.now c.requires.length c.requires.is_box.lengths
+loop-dimension-init c = numbered_none c.args.start.now c.args.shape.now c.args.number c.args.chunk.now c.requires.length c.requires.is_box.lengths
 
 pub nonzero_rem-chunk : goal.nonzero_rem-chunk
 nonzero_rem-chunk c =

@@ -3,8 +3,7 @@ use Rattle.zarrs_chunk_plan.proofs.RangeStarts.{all_times, first_time, once_more
 use Rattle.zarrs_chunk_plan.proofs.range_starts.repeated.Goals as goal
 
 pub loop-init : goal.loop-init
-loop-init c =
-    rw (c.in_ok-all.ensures.items, c.deref.ensures.value) (first_time c.args.stride c.args.count c.args.numbers.items c.requires)
+loop-init c = rw (c.in_ok-all.ensures.items, c.deref.ensures.value) (first_time c.args.stride c.args.count c.args.numbers.items c.requires)
 
 pub returns-in-None : goal.returns-in-None
 returns-in-None c =

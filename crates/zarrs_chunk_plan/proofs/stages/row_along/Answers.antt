@@ -25,8 +25,7 @@ loop-edge-preserved g c =
     )
 
 pub returns-clause-edges : goal.returns-clause-edges
-returns-clause-edges g c =
-    c.loop-edge.invariant.0 ∙ take_all c.loop-edge.edge-index c.args.edges.now c.loop-edge-test.false
+returns-clause-edges g c = c.loop-edge.invariant.0 ∙ take_all c.loop-edge.edge-index c.args.edges.now c.loop-edge-test.false
 
 pub returns-clause-reads : goal.returns-clause-reads
 returns-clause-reads g c = c.loop-edge.invariant.1
