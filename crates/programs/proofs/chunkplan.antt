@@ -4,6 +4,7 @@ pub mod Begun
 pub mod Behind
 pub mod CountedPlans
 pub mod Digits
+pub mod Exits
 pub mod FormFaults
 pub mod Inputs
 pub mod KeyDocuments

@@ -55,9 +55,7 @@ returns-in-Read g c =
     (subst (λ b. IsAsked clip grid.dimensions b asked) c.in_ok-subset-in-Read.ensures meant) is lines)
     (λ fault is. of_subset c.in-Read.subset clip (option_map ranges_asked_of c.in-Read.ranges) grid encoding (ap task_of c.in-Read.is) made
     (subst (λ b. IsReadFault clip grid.dimensions b fault) c.in_ok-subset-in-Read.ensures is))
-    (output g.W.Write.contents c.args.held_back.now.items c.args.writer.now)
-    (output g.W.Write.contents c.write_read.new.held_back.items c.write_read.new.writer)
-    c.write_read.result c.write_read.ensures
+    _ _ c.write_read.result c.write_read.ensures
 
 pub returns-in_err-target-in-Rechunk : goal.returns-in_err-target-in-Rechunk
 returns-in_err-target-in-Rechunk g c =
@@ -95,9 +93,7 @@ returns-in-Rechunk g c =
     (subst (λ b. IsRechunkingText Target document.wanted source.dimensions target.dimensions b groups text) c.in_ok-chunks-in-Rechunk.ensures lines))
     (λ fault is. of_chunks stored c.in-Rechunk.chunks source target source_encoding target_encoding (ap task_of c.in-Rechunk.is) made made_target
     (subst (λ b. IsChunksFault target.dimensions b fault) c.in_ok-chunks-in-Rechunk.ensures is))
-    (output g.W.Write.contents c.args.held_back.now.items c.args.writer.now)
-    (output g.W.Write.contents c.write_rechunking.new.held_back.items c.write_rechunking.new.writer)
-    c.write_rechunking.result c.write_rechunking.ensures
+    _ _ c.write_rechunking.result c.write_rechunking.ensures
 
 pub returns-in_err-target-in-RechunkBySource : goal.returns-in_err-target-in-RechunkBySource
 returns-in_err-target-in-RechunkBySource g c =
@@ -131,9 +127,7 @@ returns-in-RechunkBySource g c =
     (IsKey (encoding_in c.in_ok-array.array.encoding)) b groups) chunks is)
     (subst (λ b. IsRechunkingText Source document.wanted target.dimensions source.dimensions b groups text) chunks lines))
     (λ fault is. absurd (no_chunks_fault source.dimensions fault (subst (λ b. IsChunksFault source.dimensions b fault) chunks is)))
-    (output g.W.Write.contents c.args.held_back.now.items c.args.writer.now)
-    (output g.W.Write.contents c.write_rechunking-in-RechunkBySource.new.held_back.items c.write_rechunking-in-RechunkBySource.new.writer)
-    c.write_rechunking-in-RechunkBySource.result c.write_rechunking-in-RechunkBySource.ensures
+    _ _ c.write_rechunking-in-RechunkBySource.result c.write_rechunking-in-RechunkBySource.ensures
 
 pub returns-in_err-target-in-RechunkWithin : goal.returns-in_err-target-in-RechunkWithin
 returns-in_err-target-in-RechunkWithin g c =
@@ -166,9 +160,7 @@ returns-in-RechunkWithin g c =
     step_follows _ (IsPlanned document) (IsFaultWithin source.dimensions target.dimensions most stage document.wanted) (IsPlanFault document)
     (λ text is. of_bound stored most stage source target source_encoding target_encoding task made made_target is)
     (λ fault is. of_bound_fault stored most stage source target source_encoding target_encoding task made made_target is)
-    (output g.W.Write.contents c.args.held_back.now.items c.args.writer.now)
-    (output g.W.Write.contents c.write_within.new.held_back.items c.write_within.new.writer)
-    c.write_within.result c.write_within.ensures
+    _ _ c.write_within.result c.write_within.ensures
 
 pub returns-in_err-target-in-Copy : goal.returns-in_err-target-in-Copy
 returns-in_err-target-in-Copy g c =
@@ -207,9 +199,7 @@ returns-in-Copy g c =
     (subst (λ first. IsRegionText document.wanted source.dimensions target.dimensions region first groups text) begins lines))
     (λ fault is. of_region_fault shape stored region at source target source_encoding target_encoding (ap task_of c.in-Copy.is) made made_target
     (subst (λ first. IsCopyFault source.dimensions target.dimensions region first fault) begins is))
-    (output g.W.Write.contents c.args.held_back.now.items c.args.writer.now)
-    (output g.W.Write.contents c.write_region.new.held_back.items c.write_region.new.writer)
-    c.write_region.result c.write_region.ensures
+    _ _ c.write_region.result c.write_region.ensures
 
 pub returns-in_err-after-in-Resize : goal.returns-in_err-after-in-Resize
 returns-in_err-after-in-Resize g c =
@@ -235,6 +225,4 @@ returns g c =
     (λ text (changes, plan, lines). of_resize c.in-Resize.shape.items c.in-Resize.keep (grid_in c.in_ok-array.array.grid)
     (grid_in c.in_ok-after-in-Resize.after) (encoding_in c.in_ok-array.array.encoding) changes (ap task_of c.in-Resize.is) made made_after plan lines)
     (λ fault none. absurd none)
-    (output g.W.Write.contents c.args.held_back.now.items c.args.writer.now)
-    (output g.W.Write.contents c.write_resize.new.held_back.items c.write_resize.new.writer)
-    c.write_resize.result c.write_resize.ensures
+    _ _ c.write_resize.result c.write_resize.ensures

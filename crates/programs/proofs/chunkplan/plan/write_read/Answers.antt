@@ -21,9 +21,7 @@ returns g c =
     let ds = dimensions_of c.args.array.now in
     let asked = c.in_ok-asked.asked in
     let is_asked = c.in_ok-asked.ensures.asked in
-    step_follows _ _ (IsReadFault false ds asked) (IsReadFault c.args.clip ds c.args.subset)
+    step_follows _ _ _ _
     (λ text (parts, is, lines). (asked, parts, is_asked, is, lines))
     (asked_fault ds (chained_in c.args.array.now.grid) c.args.subset asked c.args.clip is_asked)
-    (output g.W.Write.contents c.args.held_back.now.items c.args.writer.now)
-    (output g.W.Write.contents c.write_asked.new.held_back.items c.write_asked.new.writer)
-    c.write_asked.result c.write_asked.ensures
+    _ _ c.write_asked.result c.write_asked.ensures
