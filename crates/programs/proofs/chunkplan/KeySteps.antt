@@ -1,5 +1,5 @@
 -- What a step leaves that reads keys, and then sends what they leave of a plan.
-use Rattle.std.proofs.Common.{◌≡◌, ◌⊎◌, ℕ, Bool, List, [], Contains, Option, Some, Result, Ok, Err, inl, inr, refl, ⊎_elim}
+use Rattle.std.proofs.Common.{◌≡◌, ◌⊎◌, ℕ, Bool, List, [], Contains, IsErrAnd, Option, Some, Result, Ok, Err, inl, inr, refl, ⊎_elim}
 use Rattle.std.specs.Str.{IsUtf8}
 use Rattle.programs.specs.chunkplan.Keys.{AreKeys}
 use Rattle.programs.specs.chunkplan.seen.Missing.{IsKeysStop, KeyStepLeaves}
@@ -7,19 +7,24 @@ use Rattle.programs.specs.chunkplan.seen.Steps.{HasBegun, StepLeaves}
 use Rattle.streams.specs.seen.Sent.{Output}
 use Rattle.programs.specs.declared.chunkplan.run_fault.RunFault.{RunFault}
 use Rattle.programs.specs.declared.chunkplan.run_fault.RunFault.TheVariants.{KeyNotText, Memory, Read, Write}
+use Rattle.programs.proofs.chunkplan.Exits.{handed}
 use Rattle.programs.proofs.chunkplan.KeyLines.{some_keys}
 
 module _ (Planned : List (List ℕ) → List ℕ → Type 0) (IsFault : List (List ℕ) → RunFault → Type 0) (bytes : List ℕ) (start : Bool)
     (left : Option (List ℕ)) (before : Output) where
-  -- a fault before any key was read, and before anything was sent
-  pub early_beside : (fault : RunFault) → ((keys : List (List ℕ)) → ¬ IsFault keys Read) → ((keys : List (List ℕ)) → ¬ IsFault keys Write)
-      → (fault ≡ Memory) ⊎ ((keys : List (List ℕ)) → IsFault keys fault)
-      → KeyStepLeaves Planned IsFault bytes (Err fault) start start left before before
-  early_beside fault no_read no_write (inl is) = rw is (refl, refl, inl refl)
-  early_beside Read no_read no_write (inr is) = absurd (no_read [] (is []))
-  early_beside Write no_read no_write (inr is) = absurd (no_write [] (is []))
-  early_beside Memory no_read no_write (inr is) = (refl, refl, inl refl)
-  early_beside _ no_read no_write (inr is) = let (keys, are) = some_keys bytes in (refl, refl, refl, keys, are, is keys)
+  module _ (no_read : (keys : List (List ℕ)) → ¬ IsFault keys Read) (no_write : (keys : List (List ℕ)) → ¬ IsFault keys Write) where
+    stops_early : (fault : RunFault) → (fault ≡ Memory) ⊎ ((keys : List (List ℕ)) → IsFault keys fault)
+        → KeyStepLeaves Planned IsFault bytes (Err fault) start start left before before
+    stops_early fault (inl is) = rw is (refl, refl, inl refl)
+    stops_early Read (inr is) = absurd (no_read [] (is []))
+    stops_early Write (inr is) = absurd (no_write [] (is []))
+    stops_early Memory (inr is) = (refl, refl, inl refl)
+    stops_early _ (inr is) = let (keys, are) = some_keys bytes in (refl, refl, refl, keys, are, is keys)
+
+    -- a call's fault before any key was read, and before anything was sent
+    pub early_beside : {G : Type 0} (r : Result (Unit {0}) RunFault) (fault : RunFault) → IsErrAnd r (λ other. other ≡ fault) → (fault ≡ Memory) ⊎ G
+        → (G → (keys : List (List ℕ)) → IsFault keys fault) → KeyStepLeaves Planned IsFault bytes r start start left before before
+    early_beside r fault same which step = rw (handed r fault same) (stops_early fault (⊎_elim inl (λ is. inr (step is)) which))
 
   -- reading the keys stopped
   pub noting_stops : (fault : RunFault) (read : Bool) → IsKeysStop fault (Some bytes) start read

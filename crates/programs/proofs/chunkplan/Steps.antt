@@ -1,5 +1,5 @@
 -- What a step leaves that sends the text of a plan, in other words.
-use Rattle.std.proofs.Common.{◌≡◌, ◌⊎◌, ℕ, IfOk, List, Result, Ok, Err, Vec, inl, inr, refl, ⊎_elim}
+use Rattle.std.proofs.Common.{◌≡◌, ◌⊎◌, ℕ, IfOk, IsErrAnd, List, Result, Ok, Err, Vec, inl, inr, refl, ⊎_elim}
 use Rattle.std.specs.declared.alloc.AllocError.{AllocError}
 use Rattle.std.specs.declared.alloc.Global.{Global}
 use Rattle.zarrs_chunk_base.specs.Refusal.{OrMemory}
@@ -10,6 +10,7 @@ use Rattle.programs.specs.chunkplan.seen.Steps.{HasBegun, IsMade, StepLeaves}
 use Rattle.streams.specs.seen.Sent.{Output}
 use Rattle.programs.specs.declared.chunkplan.run_fault.RunFault.{RunFault}
 use Rattle.programs.specs.declared.chunkplan.run_fault.RunFault.TheVariants.{Memory, Write}
+use Rattle.programs.proofs.chunkplan.Exits.{handed}
 
 module _ (P Q : List ℕ → Type 0) (F G : RunFault → Type 0) (step : (text : List ℕ) → P text → Q text)
     (blames : (fault : RunFault) → F fault → G fault)
@@ -23,6 +24,11 @@ module _ (P Q : List ℕ → Type 0) (F G : RunFault → Type 0) (step : (text :
   step_follows (Err Write) leaves = (leaves.0, begun_follows leaves.1)
   step_follows (Err _) leaves = (leaves.0, leaves.1, blames _ leaves.2)
 
+-- a step that has no fault of its own
+pub text_follows : (P Q : List ℕ → Type 0) (G : RunFault → Type 0) → ((text : List ℕ) → P text → Q text) → (before after : Output)
+    (r : Result (Unit {0}) RunFault) → StepLeaves P (λ _. ⊥) r before after → StepLeaves Q G r before after
+text_follows P Q G step before after r = step_follows P Q (λ _. ⊥) G step (λ _ none. absurd none) before after r
+
 -- a text that was made has what its maker promises
 pub made_text : (P : List ℕ → Type 0) (made : Result (Vec ℕ Global) AllocError) → IfOk made (λ text. P text.items) → (text : List ℕ) → IsMade made text
     → P text
@@ -33,15 +39,20 @@ made_text P (Err e) has text none = absurd none
 pub step_made : (P : List ℕ → Type 0) (made : Result (Vec ℕ Global) AllocError) → IfOk made (λ text. P text.items) → (before after : Output)
     (r : Result (Unit {0}) RunFault) → StepLeaves (IsMade made) (λ _. ⊥) r before after → StepLeaves P (λ _. ⊥) r before after
 step_made P made has before after r =
-    step_follows (IsMade made) P (λ _. ⊥) (λ _. ⊥) (made_text P made has) (λ fault none. none) before after r
+    text_follows (IsMade made) P (λ _. ⊥) (made_text P made has) before after r
 
--- a fault before anything was sent
-pub early : (P : List ℕ → Type 0) (F : RunFault → Type 0) (fault : RunFault) (before : Output) → (¬ F Write) → (fault ≡ Memory) ⊎ F fault
-    → StepLeaves P F (Err fault) before before
-early P F fault before none (inl is) = rw is (refl, inl refl)
-early P F Write before none (inr is) = absurd (none is)
-early P F Memory before none (inr is) = (refl, inl refl)
-early P F _ before none (inr is) = (refl, refl, is)
+module _ (P : List ℕ → Type 0) (F : RunFault → Type 0) where
+  stops_early : (fault : RunFault) (before : Output) → (¬ F Write) → (fault ≡ Memory) ⊎ F fault → StepLeaves P F (Err fault) before before
+  stops_early fault before none (inl is) = rw is (refl, inl refl)
+  stops_early Write before none (inr is) = absurd (none is)
+  stops_early Memory before none (inr is) = (refl, inl refl)
+  stops_early _ before none (inr is) = (refl, refl, is)
+
+  -- a call's fault before anything was sent
+  pub early : {G : Type 0} (r : Result (Unit {0}) RunFault) (fault : RunFault) (before : Output) → IsErrAnd r (λ other. other ≡ fault) → (¬ F Write)
+      → (fault ≡ Memory) ⊎ G → (G → F fault) → StepLeaves P F r before before
+  early r fault before same none which step =
+      rw (handed r fault same) (stops_early fault before none (⊎_elim inl (λ is. inr (step is)) which))
 
 -- what a call's refusal tells is a fault, or memory ran out
 pub refused_or : {E : Type 0} (told : E → RunFault) (Is : E → Type 0) (F : RunFault → Type 0) → ((error : E) → Is error → F (told error))

@@ -1,15 +1,14 @@
 use Rattle.std.proofs.Common.{◌∙◌}
-use Rattle.std.proofs.lemmas.Result.{err_from_is_err_and}
 use Rattle.streams.specs.Watched.{watched}
 use Rattle.streams.specs.seen.Sent.{output}
 use Rattle.streams.proofs.Known.{for_both}
+use Rattle.programs.proofs.chunkplan.Exits.{handed}
 use Rattle.programs.proofs.chunkplan.RunOutcomes.{all_written, sending_stops, some_written}
 use Rattle.programs.proofs.chunkplan.run.Goals as goal
 
 pub returns-in_err-answer_input : goal.returns-in_err-answer_input
 returns-in_err-answer_input g c =
-    let p = err_from_is_err_and c.from_residual.result c.from_residual.ensures.1 in
-    rw (p.1, p.2)
+    rw (handed _ _ c.from_residual.ensures.1)
     (for_both (g.R.Read.remaining (watched c.args.reader.now)) (g.W.Write.contents (watched c.args.writer.now)) _
     (λ input held is_input is_held not_read not_written.
     sending_stops input held _ (output g.W.Write.contents c.new-held_back.result.items c.args.writer.now) is_held c.new-held_back.ensures.items
@@ -17,8 +16,7 @@ returns-in_err-answer_input g c =
 
 pub returns-in_err-write_all : goal.returns-in_err-write_all
 returns-in_err-write_all g c =
-    let p = err_from_is_err_and c.from_residual-in_err-write_all.result c.from_residual-in_err-write_all.ensures.1 in
-    rw (p.1, p.2)
+    rw (handed _ _ c.from_residual-in_err-write_all.ensures.1)
     (for_both (g.R.Read.remaining (watched c.args.reader.now)) (g.W.Write.contents (watched c.args.writer.now)) _
     (λ input held is_input is_held not_read not_written.
     let (read, left, (text, is, (sent, now, parts), same)) =

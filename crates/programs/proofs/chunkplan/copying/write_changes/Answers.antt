@@ -1,5 +1,4 @@
 use Rattle.std.proofs.Common.{◌≡◌, ◌∙◌, ℕ, suc, List, [], ◌∷◌, ◌++◌, Err, Ok, Result, ap, length, refl, sym, arith}
-use Rattle.std.proofs.lemmas.Result.{err_from_is_err_and}
 use Rattle.std.proofs.lemmas.Slice.Zip.{AllZip-long}
 use Rattle.std.specs.List.{AllZip}
 use Rattle.zarrs_chunk_plan.specs.Counted.{counted}
@@ -15,6 +14,7 @@ use Rattle.programs.specs.declared.chunkplan.run_fault.RunFault.{RunFault}
 use Rattle.programs.specs.declared.chunkplan.run_fault.RunFault.TheVariants.{Memory}
 use Rattle.streams.proofs.Sent.{sends_nothing}
 use Rattle.programs.proofs.chunkplan.Begun.{keys_in}
+use Rattle.programs.proofs.chunkplan.Exits.{handed}
 use Rattle.programs.proofs.chunkplan.Numbered.{IsLineOf, IsTextOf, counted_first, way_ends, way_goes_on, way_memory, way_stops}
 use Rattle.programs.proofs.chunkplan.Steps.{made_text, step_follows}
 use Rattle.programs.proofs.chunkplan.copying.write_changes.Goals as goal
@@ -80,12 +80,11 @@ loop-change-preserved g c =
 
 pub returns-in_err-change : goal.returns-in_err-change
 returns-in_err-change g c =
-    let p = err_from_is_err_and c.from_residual.result c.from_residual.ensures.1 in
     let (n, number_is, sent) = c.loop-change.invariant in
     let walk = c.args.walk in
     let first : Output = output g.W.Write.contents c.args.held_back.now.items c.args.writer.now in
     let now : Output = output g.W.Write.contents c.loop-change.held_back.items c.loop-change.writer in
-    rw (p.1, p.2)
+    rw (handed _ _ c.from_residual.ensures.1)
     (in_lines (IsChangeOf dimensions_in dimensions_in key_in walk) (all_changes walk) (changes_to_come walk) c.requires.all (Err Memory) first now
     (way_memory (line_of_one (all_changes walk)) 0 (ChangesHaveCome dimensions_in dimensions_in key_in walk c.loop-change.change-iterator)
     (AreChangesToCome dimensions_in dimensions_in key_in walk) n first now sent
@@ -94,7 +93,6 @@ returns-in_err-change g c =
 
 pub returns-in_err-send_text : goal.returns-in_err-send_text
 returns-in_err-send_text g c =
-    let p = err_from_is_err_and c.from_residual-in_err-send_text.result c.from_residual-in_err-send_text.ensures.1 in
     let (n, number_is, sent) = c.loop-change.invariant in
     let change = c.in_ok-change.field-0 in
     let walk = c.args.walk in
@@ -106,7 +104,7 @@ returns-in_err-send_text g c =
     let told = ap (λ of. change_line c.loop-change.number of change) c.in_all-of.ensures ∙ ap (λ number. change_line number of change) number_is in
     let ahead = changes_ahead dimensions_in dimensions_in key_in walk (chained_in walk.before.now) (chained_in walk.after.now)
     c.requires.fit c.requires.also_fit (keys_in walk.encoding.now) c.requires.can c.requires.used in
-    rw (p.1, p.2)
+    rw (handed _ _ c.from_residual-in_err-send_text.ensures.1)
     (in_lines _ (all_changes walk) _ c.requires.all (Err _) _ _
     (way_stops Line 0 (ChangesHaveCome dimensions_in dimensions_in key_in walk c.loop-change.change-iterator)
     (ChangesHaveCome dimensions_in dimensions_in key_in walk c.next.new.self) (AreChangesToCome dimensions_in dimensions_in key_in walk) (λ y. y ≡ change) n

@@ -1,5 +1,4 @@
 use Rattle.std.proofs.Common.{◌≡◌, ◌∙◌, ℕ, suc, List, [], ◌∷◌, ◌++◌, Err, ap, length, option_map, refl, arith}
-use Rattle.std.proofs.lemmas.Result.{err_from_is_err_and}
 use Rattle.zarrs_chunk_plan.specs.Counted.{counted}
 use Rattle.zarrs_chunk_plan.specs.Rechunking.{Group}
 use Rattle.zarrs_chunk_parts.specs.declared.part.Part.{Part}
@@ -10,6 +9,7 @@ use Rattle.programs.specs.chunkplan.seen.Opened.{CopiesToCome, PartsToCome, dime
 use Rattle.streams.specs.seen.Sent.{Output, output}
 use Rattle.streams.proofs.Sent.{sends_nothing}
 use Rattle.programs.proofs.chunkplan.Begun.{CopiesHaveCome, copies_ahead}
+use Rattle.programs.proofs.chunkplan.Exits.{handed}
 use Rattle.programs.proofs.chunkplan.Numbered.{IsLineOf, way_ends, way_goes_on, way_memory, way_stops}
 use Rattle.programs.proofs.chunkplan.Steps.{step_follows}
 use Rattle.programs.proofs.chunkplan.copying.write_copies.Goals as goal
@@ -73,15 +73,13 @@ write_unless_stored-requires-clause-meet g c =
 
 pub returns-in_err-group : goal.returns-in_err-group
 returns-in_err-group g c = λ begin is_first.
-    let p = err_from_is_err_and c.from_residual.result c.from_residual.ensures.1 in
     let (n, number_is, sent) = c.loop-group.invariant begin is_first in
-    rw (p.1, p.2)
+    rw (handed _ _ c.from_residual.ensures.1)
     (way_memory (λ n. line_unless_stored c.args.order (option_map (λ s. s.now) c.args.stored) (counted n) (counted (length (all_targets c.args.walk)))) begin _ _ n _ _ sent
     (copies_ahead c.args.walk c.requires.is_box c.requires.region c.requires.can c.loop-group.group-iterator))
 
 pub returns-in_err-write_unless_stored : goal.returns-in_err-write_unless_stored
 returns-in_err-write_unless_stored g c = λ begin is_first.
-    let p = err_from_is_err_and c.from_residual-in_err-write_unless_stored.result c.from_residual-in_err-write_unless_stored.ensures.1 in
     let (n, number_is, sent) = c.loop-group.invariant begin is_first in
     let group = c.in_ok-group.field-0 in
     let gives = rw c.in_ok-group.was at c.in-Some.ensures.steps in
@@ -91,7 +89,7 @@ returns-in_err-write_unless_stored g c = λ begin is_first.
     let Line : ℕ → Group → List ℕ = λ n. line_unless_stored c.args.order (option_map (λ s. s.now) c.args.stored) (counted n) of in
     let IsOne : Group → Type 0 = λ y. (from : List Part) × PartsToCome group.from from × (y ≡ (group.to, from)) in
     let ahead = copies_ahead c.args.walk c.requires.is_box c.requires.region c.requires.can in
-    rw (p.1, p.2)
+    rw (handed _ _ c.from_residual-in_err-write_unless_stored.ensures.1)
     (way_stops Line begin (CopiesHaveCome c.args.walk c.loop-group.group-iterator)
     (CopiesHaveCome c.args.walk c.next.new.self) (CopiesToCome c.args.walk) IsOne n
     (output g.W.Write.contents c.args.held_back.now.items c.args.writer.now) between after sent

@@ -1,5 +1,4 @@
 use Rattle.std.proofs.Common.{◌≡◌, ◌∙◌, ℕ, List, [], ◌++◌, Option, Ok, Err, append_assoc, refl, sym}
-use Rattle.std.proofs.lemmas.Result.{err_from_is_err_and}
 use Rattle.zarrs_chunk_base.specs.ArraySubset.{IsBox}
 use Rattle.zarrs_chunk_keys.specs.declared.chunk_key_encoding.named.ChunkKeyEncoding.{ChunkKeyEncoding}
 use Rattle.zarrs_chunk_plan.specs.Counted.{counted}
@@ -14,6 +13,7 @@ use Rattle.programs.specs.declared.chunkplan.line.Order.{Order}
 use Rattle.streams.specs.seen.Sent.{output}
 use Rattle.programs.proofs.chunkplan.Begun.{parts_ahead}
 use Rattle.programs.proofs.chunkplan.Behind.{Begins, Behind, ends_behind, sent_behind, stops_behind, stops_whole}
+use Rattle.programs.proofs.chunkplan.Exits.{handed}
 use Rattle.programs.proofs.chunkplan.Numbered.{IsTextOf, counted_first}
 use Rattle.programs.proofs.chunkplan.Pieces.{in_pieces}
 use Rattle.programs.proofs.chunkplan.Steps.{step_made}
@@ -62,7 +62,6 @@ module _ (walk : Parts ChunkGrid ChunkKeyEncoding) (is_box : IsBox walk.array_su
 
 pub returns-in_err-send_text : goal.returns-in_err-send_text
 returns-in_err-send_text g c =
-    let p = err_from_is_err_and c.from_residual.result c.from_residual.ensures.1 in
     let group = c.args.group in
     let AreAll = PartsToCome group.from in
     let IsHead = Head AreAll c.args.order group.to c.args.number c.args.of in
@@ -70,14 +69,13 @@ returns-in_err-send_text g c =
     (output g.W.Write.contents c.args.held_back.now.items c.args.writer.now)
     (output g.W.Write.contents c.send_text.new.held_back.items c.send_text.new.writer) (Err _) c.in_err-send_text.ensures
     in
-    rw (p.1, p.2)
+    rw (handed _ _ c.from_residual.ensures.1)
     (stops_whole IsHead _
     (begun group.from c.requires.is_box c.requires.meet c.args.order group.to c.args.number c.args.of)
     _ _ _ first)
 
 pub returns-in_err-write_parts : goal.returns-in_err-write_parts
 returns-in_err-write_parts g c =
-    let p = err_from_is_err_and c.from_residual-in_err-write_parts.result c.from_residual-in_err-write_parts.ensures.1 in
     let group = c.args.group in
     let AreAll = PartsToCome group.from in
     let order = c.args.order in
@@ -85,7 +83,7 @@ returns-in_err-write_parts g c =
     let between = output g.W.Write.contents c.send_text.new.held_back.items c.send_text.new.writer in
     let IsHead = Head AreAll order group.to c.args.number c.args.of in
     let first = step_made IsHead c.line_begin.result c.line_begin.ensures before between (Ok tt) c.in_ok-send_text.ensures in
-    rw (p.1, p.2)
+    rw (handed _ _ c.from_residual-in_err-write_parts.ensures.1)
     (stops_behind IsHead (Pieces AreAll order group.to) (IsLine AreAll order group.to c.args.number c.args.of) before between
     (output g.W.Write.contents c.write_parts.new.held_back.items c.write_parts.new.writer) first
     (begun group.from c.requires.is_box c.requires.meet order group.to c.args.number c.args.of)

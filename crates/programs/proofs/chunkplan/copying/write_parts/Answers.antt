@@ -1,5 +1,4 @@
 use Rattle.std.proofs.Common.{◌≡◌, ◌∙◌, ℕ, suc, List, [], ◌∷◌, ◌++◌, Err, ap, refl, arith}
-use Rattle.std.proofs.lemmas.Result.{err_from_is_err_and}
 use Rattle.zarrs_chunk_plan.specs.Counted.{counted}
 use Rattle.zarrs_chunk_parts.specs.declared.part.Part.{Part}
 use Rattle.zarrs_chunk_plan.proofs.Walked.{at_first, at_last, one_more}
@@ -8,6 +7,7 @@ use Rattle.programs.specs.chunkplan.seen.Pieces.{text_as}
 use Rattle.streams.specs.seen.Sent.{Output, output}
 use Rattle.streams.proofs.Sent.{sends_nothing}
 use Rattle.programs.proofs.chunkplan.Begun.{PartsHaveCome, parts_ahead}
+use Rattle.programs.proofs.chunkplan.Exits.{handed}
 use Rattle.programs.proofs.chunkplan.Numbered.{IsLineOf, way_ends, way_goes_on, way_memory, way_stops}
 use Rattle.programs.proofs.chunkplan.Steps.{made_text, step_follows}
 use Rattle.programs.proofs.chunkplan.copying.write_parts.Goals as goal
@@ -53,15 +53,13 @@ loop-part-preserved g c = λ begin is_first.
 
 pub returns-in_err-part : goal.returns-in_err-part
 returns-in_err-part g c = λ begin is_first.
-    let p = err_from_is_err_and c.from_residual.result c.from_residual.ensures.1 in
     let (n, number_is, sent) = c.loop-part.invariant begin is_first in
-    rw (p.1, p.2)
+    rw (handed _ _ c.from_residual.ensures.1)
     (way_memory (λ n. text_as c.args.form (counted n)) begin _ _ n _ _ sent
     (parts_ahead c.args.walk c.requires.is_box c.loop-part.part-iterator))
 
 pub returns-in_err-send_text : goal.returns-in_err-send_text
 returns-in_err-send_text g c = λ begin is_first.
-    let p = err_from_is_err_and c.from_residual-in_err-send_text.result c.from_residual-in_err-send_text.ensures.1 in
     let (n, number_is, sent) = c.loop-part.invariant begin is_first in
     let part = c.in_ok-part.field-0 in
     let gives = rw c.in_ok-part.was at c.in-Some.ensures.steps in
@@ -70,7 +68,7 @@ returns-in_err-send_text g c = λ begin is_first.
     let Line : ℕ → Part → List ℕ = λ n. text_as c.args.form (counted n) in
     let of_number = ap (λ number. text_as c.args.form number part) number_is in
     let ahead = parts_ahead c.args.walk c.requires.is_box in
-    rw (p.1, p.2)
+    rw (handed _ _ c.from_residual-in_err-send_text.ensures.1)
     (way_stops Line begin (PartsHaveCome c.args.walk c.loop-part.part-iterator) (PartsHaveCome c.args.walk c.next.new.self)
     (PartsToCome c.args.walk) (λ p. p ≡ part) n
     (output g.W.Write.contents c.args.held_back.now.items c.args.writer.now) between after sent

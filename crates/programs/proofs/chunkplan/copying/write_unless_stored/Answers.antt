@@ -5,7 +5,7 @@ use Rattle.programs.specs.chunkplan.seen.Opened.{dimensions_in, key_in}
 use Rattle.streams.specs.seen.Sent.{output}
 use Rattle.streams.proofs.Sent.{sends_nothing}
 use Rattle.programs.proofs.chunkplan.Begun.{parts_ahead}
-use Rattle.programs.proofs.chunkplan.Steps.{step_follows}
+use Rattle.programs.proofs.chunkplan.Steps.{text_follows}
 use Rattle.programs.proofs.chunkplan.copying.write_unless_stored.Goals as goal
 
 pub returns-then-is_left_out : goal.returns-then-is_left_out
@@ -25,13 +25,10 @@ pub returns : goal.returns
 returns g c =
     let group = c.args.group in
     let written = sym c.is_left_out.ensures ∙ c.if-is_left_out.false in
-    step_follows _ _ (λ _. ⊥) (λ _. ⊥)
+    text_follows _ _ (λ _. ⊥)
     (λ text (from, are, is). (
       from,
       are,
       is ∙ sym (ap (λ b. cond b [] (group_line c.args.order c.args.number c.args.of (group.to, from))) written),
     ))
-    (λ fault none. none)
-    (output g.W.Write.contents c.args.held_back.now.items c.args.writer.now)
-    (output g.W.Write.contents c.write_group.new.held_back.items c.write_group.new.writer)
-    c.write_group.result c.write_group.ensures
+    _ _ _ c.write_group.ensures

@@ -1,5 +1,4 @@
 use Rattle.std.proofs.Common.{◌≡◌, ◌∙◌, ◌++◌, [], ap, refl, sym}
-use Rattle.std.proofs.lemmas.Result.{err_from_is_err_and}
 use Rattle.std.specs.Io.BufRead.{drop_through, take_through}
 use Rattle.streams.specs.Watched.{watched}
 use Rattle.programs.specs.chunkplan.Keys.{unended}
@@ -7,6 +6,7 @@ use Rattle.programs.specs.chunkplan.seen.Missing.{with_line}
 use Rattle.streams.specs.seen.Lines.{left}
 use Rattle.streams.proofs.Known.{for_known}
 use Rattle.streams.proofs.LineBytes.{nothing_left}
+use Rattle.programs.proofs.chunkplan.Exits.{handed}
 use Rattle.programs.proofs.chunkplan.KeyLines.{is_among, key_stops, no_more_lines, one_more_line, reading_stops_keys}
 use Rattle.programs.proofs.chunkplan.keys.note_keys.Goals as goal
 
@@ -15,15 +15,13 @@ loop-init g c = (λ bytes is. ([], bytes, is, λ others are. are, λ targets not
 
 pub returns-in_err-ended-clause-refused : goal.returns-in_err-ended-clause-refused
 returns-in_err-ended-clause-refused g c =
-    let p = err_from_is_err_and c.from_residual.result c.from_residual.ensures.1 in
-    rw (p.1, p.2)
+    rw (handed _ _ c.from_residual.ensures.1)
     (reading_stops_keys _ (left c.args.lines.now (g.R.Read.remaining (watched c.args.reader.now))) _ _ _ c.in_err-ended.ensures.failed
     c.loop.invariant.2)
 
 pub returns-in_err-note_line-clause-refused : goal.returns-in_err-note_line-clause-refused
 returns-in_err-note_line-clause-refused g c =
-    let p = err_from_is_err_and c.from_residual-in_err-note_line.result c.from_residual-in_err-note_line.ensures.1 in
-    rw (p.1, p.2)
+    rw (handed _ _ c.from_residual-in_err-note_line.ensures.1)
     (key_stops _ (left c.args.lines.now (g.R.Read.remaining (watched c.args.reader.now))) _ _ c.without_feed.result.now
     (c.in_ok-ended.ensures.failed ∙ c.loop.invariant.2) c.in_err-note_line.ensures.refused
     (λ some. for_known (left c.args.lines.now (g.R.Read.remaining (watched c.args.reader.now))) _ (λ bytes is.

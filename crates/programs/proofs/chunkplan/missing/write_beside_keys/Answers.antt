@@ -1,23 +1,17 @@
 use Rattle.std.proofs.Common.{ap, inl, inr, refl, ⊎_elim}
-use Rattle.std.proofs.lemmas.Result.{err_from_is_err_and}
 use Rattle.programs.specs.chunkplan.Document.{document_of, task_of, wanted_of}
 use Rattle.programs.specs.chunkplan.PlanFault.{IsFaultBeside, of_plan, of_source}
-use Rattle.programs.specs.chunkplan.Planned.{IsPlannedBeside}
 use Rattle.programs.specs.chunkplan.RunFault.{of_create}
-use Rattle.streams.specs.seen.Sent.{output}
 use Rattle.programs.proofs.chunkplan.KeySteps.{early_beside}
 use Rattle.programs.proofs.chunkplan.RunOutcomes.{no_read_beside, no_write_beside}
 use Rattle.programs.proofs.chunkplan.missing.write_beside_keys.Goals as goal
 
 pub returns-in_err-array : goal.returns-in_err-array
 returns-in_err-array g c = λ bytes is.
-    let p = err_from_is_err_and c.from_residual.result c.from_residual.ensures.1 in
     let document = document_of c.args.document in
-    let refused = rw c.deref.ensures.value at c.in_err-array.ensures.refused in
-    rw (p.1, p.2)
-    (early_beside (IsPlannedBeside document) (IsFaultBeside document) bytes _ _
-    (output g.W.Write.contents c.args.held_back.now.items c.args.writer.now) _ (no_read_beside document) (no_write_beside document)
-    (⊎_elim (λ memory. inl (ap of_create memory)) (λ is. inr (λ keys. of_plan (of_source _ is refl))) refused))
+    early_beside _ (IsFaultBeside document) bytes _ _ _ (no_read_beside document) (no_write_beside document) _ _ c.from_residual.ensures.1
+    (⊎_elim (λ memory. inl (ap of_create memory)) inr (rw c.deref.ensures.value at c.in_err-array.ensures.refused))
+    (λ is keys. of_plan (of_source _ is refl))
 
 pub returns-in-Rechunk-Lines : goal.returns-in-Rechunk-Lines
 returns-in-Rechunk-Lines g c = λ bytes is.

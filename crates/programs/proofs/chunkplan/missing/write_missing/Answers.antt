@@ -1,5 +1,4 @@
 use Rattle.std.proofs.Common.{◌≡◌, ◌∙◌, ◌<◌, ◌≤◌, ◌^◌, ◌++◌, ℕ, List, [], Some, Err, ap, arith, length, refl, subst, sym}
-use Rattle.std.proofs.lemmas.Result.{err_from_is_err_and}
 use Rattle.std.proofs.lemmas.Slice.Zip.{AllZip-long}
 use Rattle.zarrs_chunk_base.specs.ArraySubset.{IsBox}
 use Rattle.zarrs_chunk_base.specs.Dimension.{Dimension}
@@ -20,6 +19,7 @@ use Rattle.programs.specs.declared.chunkplan.line.Order.TheVariants.{Target}
 use Rattle.streams.specs.seen.Sent.{Output, output}
 use Rattle.programs.proofs.chunkplan.Begun.{copies_ahead}
 use Rattle.programs.proofs.chunkplan.Behind.{Begins, Behind, ends_behind, stops_whole}
+use Rattle.programs.proofs.chunkplan.Exits.{handed}
 use Rattle.programs.proofs.chunkplan.KeyLines.{some_keys}
 use Rattle.programs.proofs.chunkplan.KeySteps.{noting_stops, sent_after_keys}
 use Rattle.programs.proofs.chunkplan.StoredLines.{FaultOf, TextOf, missing_text, none_noted}
@@ -69,19 +69,17 @@ returns-in_default g c = λ bytes is.
 
 pub returns-in_err-note_keys : goal.returns-in_err-note_keys
 returns-in_err-note_keys g c = λ bytes is.
-    let p = err_from_is_err_and c.from_residual-in_err-note_keys.result c.from_residual-in_err-note_keys.ensures.1 in
     let walk = c.args.walk in
     let (groups, moves) = some_groups walk c.requires.is_box c.requires.region c.requires.can in
     let long = ap length c.requires.all ∙ sym (AllZip-long _ (targets_to_come walk) groups moves) in
     let few : length (all_targets walk) < 2 ^ 29 = rw c.in-Some.is at c.in_ok-stored.ensures.few in
-    rw (p.1, p.2)
+    rw (handed _ _ c.from_residual-in_err-note_keys.ensures.1)
     (noting_stops (TextOf walk (dimensions_of c.args.target.now) (key_of c.args.target.now) c.args.share.now)
     (FaultOf walk) bytes _ _ _ _ _ (rw is at c.in_err-note_keys.ensures.refused)
     (λ keys key there not_text. (groups, moves, (omega (arith, long, few), key, there, not_text))))
 
 pub returns-in_err-write_share : goal.returns-in_err-write_share
 returns-in_err-write_share g c = λ bytes is.
-    let p = err_from_is_err_and c.from_residual-in_err-write_share.result c.from_residual-in_err-write_share.ensures.1 in
     let walk = c.args.walk in
     let target = dimensions_of c.args.target.now in
     let IsKeyOf = key_of c.args.target.now in
@@ -97,7 +95,7 @@ returns-in_err-write_share g c = λ bytes is.
     let begins = lines_begin walk c.requires.all few target IsKeyOf keys c.note_keys.new.stored c.note_keys.new.foreign.items noted
     c.args.share.now
     in
-    rw (p.1, p.2)
+    rw (handed _ _ c.from_residual-in_err-write_share.ensures.1)
     (sent_after_keys (TextOf walk (dimensions_of c.args.target.now) (key_of c.args.target.now) c.args.share.now)
     (FaultOf walk) bytes _ _ before after keys _ are c.in_ok-note_keys.ensures.failed (rw is at c.in_ok-note_keys.ensures.end) (Err _)
     (stops_whole _ _ begins before after _ c.in_err-write_share.ensures))

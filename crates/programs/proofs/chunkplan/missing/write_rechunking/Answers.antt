@@ -1,5 +1,4 @@
-use Rattle.std.proofs.Common.{◌≡◌, ◌∙◌, List, inl, inr, length, subst, sym, unwrap_or, ⊎_elim}
-use Rattle.std.proofs.lemmas.Result.{err_from_is_err_and}
+use Rattle.std.proofs.Common.{◌≡◌, ◌∙◌, List, length, subst, sym, unwrap_or}
 use Rattle.zarrs_chunk_base.specs.ArraySubset.{IsInside}
 use Rattle.zarrs_chunk_keys.specs.seen.Encodings.{encoding_in}
 use Rattle.zarrs_chunks.specs.seen.Grids.{grid_in}
@@ -9,10 +8,9 @@ use Rattle.zarrs_chunk_plan.proofs.MovedBoxes.{can_stay}
 use Rattle.documents.specs.Stored.{stored_of}
 use Rattle.programs.specs.chunkplan.PlanFault.{IsChunksFault, IsFaultBeside, of_chunks, of_keys, of_plan}
 use Rattle.programs.specs.chunkplan.PlanFault.{of_target}
-use Rattle.programs.specs.chunkplan.Planned.{ArePlanned, IsPlannedBeside, of_rechunking}
+use Rattle.programs.specs.chunkplan.Planned.{ArePlanned, of_rechunking}
 use Rattle.programs.specs.chunkplan.seen.Opened.{CopiesToCome, dimensions_in, dimensions_of, key_in, key_of}
 use Rattle.programs.specs.declared.chunkplan.run_fault.RunFault.TheVariants.{Copies}
-use Rattle.streams.specs.seen.Sent.{output}
 use Rattle.programs.proofs.chunkplan.CountedPlans.{chunks_fault}
 use Rattle.programs.proofs.chunkplan.KeySteps.{early_beside, key_step_follows}
 use Rattle.programs.proofs.chunkplan.RunOutcomes.{no_read_beside, no_write_beside}
@@ -24,15 +22,10 @@ use Rattle.programs.proofs.chunkplan.missing.write_rechunking.Goals as goal
 
 pub returns-in_err-target : goal.returns-in_err-target
 returns-in_err-target g c = λ document bytes stored shape_is sizes task wanted is.
-    let p = err_from_is_err_and c.from_residual.result c.from_residual.ensures.1 in
-    let refused = rw (← shape_is) at c.in_err-target.ensures.refused in
-    rw (p.1, p.2)
-    (early_beside (IsPlannedBeside document) (IsFaultBeside document) bytes _ _
-    (output g.W.Write.contents c.args.held_back.now.items c.args.writer.now) _ (no_read_beside document) (no_write_beside document)
-    (⊎_elim (λ memory. inl memory)
-    (λ is. inr (λ keys. of_plan (of_target (stored_of c.args.target) c.args.chunks (grid_in c.args.array.now.grid)
-    (encoding_in c.args.array.now.encoding) task stored is)))
-    refused))
+    early_beside _ (IsFaultBeside document) bytes _ _ _ (no_read_beside document) (no_write_beside document) _ _ c.from_residual.ensures.1
+    (rw (← shape_is) at c.in_err-target.ensures.refused)
+    (λ is keys. of_plan (of_target (stored_of c.args.target) c.args.chunks (grid_in c.args.array.now.grid) (encoding_in c.args.array.now.encoding)
+    task stored is))
 
 pub returns : goal.returns
 returns g c = λ document bytes stored shape_is sizes task wanted is.
@@ -53,9 +46,7 @@ returns g c = λ document bytes stored shape_is sizes task wanted is.
     (IsInside c.in_ok-chunks.chunks) targets walk groups (can_stay (dimensions_of array) (dimensions_of to) said.one_array) said.about said.first is_box
     targets_are left moves))
     in
-    key_step_follows
-    (TextOf walk (dimensions_of to) (key_of to) c.args.share.now)
-    (IsPlannedBeside document) (FaultOf walk) (IsFaultBeside document)
+    key_step_follows (TextOf walk (dimensions_of to) (key_of to) c.args.share.now) _ (FaultOf walk) (IsFaultBeside document)
     (λ keys text (groups, moves, missing). record {
       target = grid_in to.grid;
       encoding = encoding_in to.encoding;
@@ -66,12 +57,10 @@ returns g c = λ document bytes stored shape_is sizes task wanted is.
       is_text = missing;
     })
     (λ keys fault (groups, moves, stops). of_keys (grid_in to.grid) (encoding_in to.encoding) groups (planned groups moves) stops)
-    bytes _ _ _ (output g.W.Write.contents c.args.held_back.now.items c.args.writer.now)
-    (output g.W.Write.contents c.write_missing.new.held_back.items c.write_missing.new.writer) c.write_missing.result (c.write_missing.ensures bytes is)
+    bytes _ _ _ _ _ _ (c.write_missing.ensures bytes is)
 
 pub returns-in_err-walk : goal.returns-in_err-walk
 returns-in_err-walk g c = λ document bytes stored shape_is sizes task wanted is.
-    let p = err_from_is_err_and c.from_residual-in_err-walk.result c.from_residual-in_err-walk.ensures.1 in
     let made_target = rw (← shape_is) at c.in_ok-target.ensures.made in
     let array = c.args.array.now in
     let to = c.in_ok-target.target in
@@ -80,10 +69,7 @@ returns-in_err-walk g c = λ document bytes stored shape_is sizes task wanted is
     (chunks_fault _ _ (dimensions_of to) c.in_ok-chunks.chunks error (sizes ∙ sym c.in_ok-target.ensures.sizes) is)) _
     c.in_err-walk.ensures.refused
     in
-    rw (p.1, p.2)
-    (early_beside (IsPlannedBeside document) (IsFaultBeside document) bytes _ _
-    (output g.W.Write.contents c.args.held_back.now.items c.args.writer.now) _ (no_read_beside document) (no_write_beside document)
-    (⊎_elim (λ memory. inl memory)
-    (λ is. inr (λ keys. of_plan (of_chunks (stored_of c.args.target) c.args.chunks (grid_in array.grid) (grid_in to.grid)
-    (encoding_in array.encoding) (encoding_in to.encoding) task stored made_target is)))
-    refused))
+    early_beside _ (IsFaultBeside document) bytes _ _ _ (no_read_beside document) (no_write_beside document) _ _
+    c.from_residual-in_err-walk.ensures.1 refused
+    (λ is keys. of_plan (of_chunks (stored_of c.args.target) c.args.chunks (grid_in array.grid) (grid_in to.grid) (encoding_in array.encoding)
+    (encoding_in to.encoding) task stored made_target is))

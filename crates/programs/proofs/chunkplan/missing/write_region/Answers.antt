@@ -1,5 +1,4 @@
-use Rattle.std.proofs.Common.{◌≡◌, List, inl, inr, option_map, refl, rules, subst, ⊎_elim}
-use Rattle.std.proofs.lemmas.Result.{err_from_is_err_and}
+use Rattle.std.proofs.Common.{◌≡◌, List, option_map, refl, rules, subst}
 use Rattle.zarrs_chunk_keys.specs.seen.Encodings.{encoding_in}
 use Rattle.zarrs_chunks.specs.seen.Grids.{grid_in}
 use Rattle.zarrs_chunk_plan.specs.Region.{AnyChunk, Group, IsRegionCopy}
@@ -7,10 +6,9 @@ use Rattle.zarrs_chunk_plan.proofs.Copied.{copy_of}
 use Rattle.documents.specs.Stored.{stored_of}
 use Rattle.programs.specs.chunkplan.PlanFault.{IsCopyFault, IsFaultBeside, of_keys, of_plan, of_region_target}
 use Rattle.programs.specs.chunkplan.PlanFault.{of_region as of_region_fault}
-use Rattle.programs.specs.chunkplan.Planned.{ArePlanned, IsPlannedBeside, begins_at, of_region}
+use Rattle.programs.specs.chunkplan.Planned.{ArePlanned, begins_at, of_region}
 use Rattle.programs.specs.chunkplan.RunFault.{of_region as of_region_error}
 use Rattle.programs.specs.chunkplan.seen.Opened.{CopiesToCome, dimensions_in, dimensions_of, key_in, key_of}
-use Rattle.streams.specs.seen.Sent.{output}
 use Rattle.programs.proofs.chunkplan.KeySteps.{early_beside, key_step_follows}
 use Rattle.programs.proofs.chunkplan.RunOutcomes.{no_read_beside, no_write_beside}
 use Rattle.programs.proofs.chunkplan.Steps.{refused_or}
@@ -21,16 +19,10 @@ use Rattle.programs.proofs.chunkplan.missing.write_region.Goals as goal
 
 pub returns-in_err-target : goal.returns-in_err-target
 returns-in_err-target g c = λ document bytes stored task wanted is.
-    let p = err_from_is_err_and c.from_residual.result c.from_residual.ensures.1 in
-    let refused = c.in_err-target.ensures.refused in
-    rw (p.1, p.2)
-    (early_beside (IsPlannedBeside document) (IsFaultBeside document) bytes _ _
-    (output g.W.Write.contents c.args.held_back.now.items c.args.writer.now) _ (no_read_beside document) (no_write_beside document)
-    (⊎_elim (λ memory. inl memory)
-    (λ is. inr (λ keys. of_plan (of_region_target c.args.shape.now (stored_of c.args.target) c.args.region.now
-    (option_map (λ v. v.items) c.args.at) (grid_in c.args.array.now.grid) (encoding_in c.args.array.now.encoding)
-    task stored is)))
-    refused))
+    early_beside _ (IsFaultBeside document) bytes _ _ _ (no_read_beside document) (no_write_beside document) _ _ c.from_residual.ensures.1
+    c.in_err-target.ensures.refused
+    (λ is keys. of_plan (of_region_target c.args.shape.now (stored_of c.args.target) c.args.region.now (option_map (λ v. v.items) c.args.at)
+    (grid_in c.args.array.now.grid) (encoding_in c.args.array.now.encoding) task stored is))
 
 pub returns : goal.returns
 returns g c = λ document bytes stored task wanted is.
@@ -52,9 +44,7 @@ returns g c = λ document bytes stored task wanted is.
     (copy_of dimensions_in key_in dimensions_in key_in array to region first AnyChunk targets walk groups said.lies said.about said.first is_box are left
     moves))
     in
-    key_step_follows
-    (TextOf walk (dimensions_of to) (key_of to) c.args.share.now)
-    (IsPlannedBeside document) (FaultOf walk) (IsFaultBeside document)
+    key_step_follows (TextOf walk (dimensions_of to) (key_of to) c.args.share.now) _ (FaultOf walk) (IsFaultBeside document)
     (λ keys text (groups, moves, missing). record {
       target = grid_in to.grid;
       encoding = encoding_in to.encoding;
@@ -65,13 +55,10 @@ returns g c = λ document bytes stored task wanted is.
       is_text = missing;
     })
     (λ keys fault (groups, moves, stops). of_keys (grid_in to.grid) (encoding_in to.encoding) groups (planned groups moves) stops)
-    bytes _ _ _ (output g.W.Write.contents c.args.held_back.now.items c.args.writer.now)
-    (output g.W.Write.contents c.write_missing.new.held_back.items c.write_missing.new.writer)
-    c.write_missing.result (c.write_missing.ensures bytes is)
+    bytes _ _ _ _ _ _ (c.write_missing.ensures bytes is)
 
 pub returns-in_err-walk : goal.returns-in_err-walk
 returns-in_err-walk g c = λ document bytes stored task wanted is.
-    let p = err_from_is_err_and c.from_residual-in_err-walk.result c.from_residual-in_err-walk.ensures.1 in
     let made_target = c.in_ok-target.ensures.made in
     let array = c.args.array.now in
     let to = c.in_ok-target.target in
@@ -82,10 +69,7 @@ returns-in_err-walk g c = λ document bytes stored task wanted is.
     (λ error is. subst (λ first. IsCopyFault (dimensions_of array) (dimensions_of to) region first (of_region_error error)) begins (error, is, refl)) _
     c.in_err-walk.ensures.refused
     in
-    rw (p.1, p.2)
-    (early_beside (IsPlannedBeside document) (IsFaultBeside document) bytes _ _
-    (output g.W.Write.contents c.args.held_back.now.items c.args.writer.now) _ (no_read_beside document) (no_write_beside document)
-    (⊎_elim (λ memory. inl memory)
-    (λ is. inr (λ keys. of_plan (of_region_fault c.args.shape.now (stored_of c.args.target) region at (grid_in array.grid) (grid_in to.grid)
-    (encoding_in array.encoding) (encoding_in to.encoding) task stored made_target is)))
-    refused))
+    early_beside _ (IsFaultBeside document) bytes _ _ _ (no_read_beside document) (no_write_beside document) _ _
+    c.from_residual-in_err-walk.ensures.1 refused
+    (λ is keys. of_plan (of_region_fault c.args.shape.now (stored_of c.args.target) region at (grid_in array.grid) (grid_in to.grid)
+    (encoding_in array.encoding) (encoding_in to.encoding) task stored made_target is))

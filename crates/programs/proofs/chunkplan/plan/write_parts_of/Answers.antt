@@ -1,5 +1,4 @@
 use Rattle.std.proofs.Common.{◌≡◌, ◌∙◌, ap, false, inl, length, option_map, refl, sym}
-use Rattle.std.proofs.lemmas.Result.{err_from_is_err_and}
 use Rattle.zarrs_chunk_plan.specs.Counted.{counted}
 use Rattle.zarrs_chunk_plan.specs.Shares.{before_share, share_of}
 use Rattle.zarrs_chunk_plan.specs.seen.Parts.{all_chunks}
@@ -7,10 +6,10 @@ use Rattle.programs.specs.chunkplan.Document.{ranges_asked_of}
 use Rattle.programs.specs.chunkplan.Line.{line_of, lines_from, part_json}
 use Rattle.programs.specs.chunkplan.PlanFault.{IsReadFault}
 use Rattle.programs.specs.chunkplan.seen.Opened.{dimensions_in, dimensions_of, key_in}
-use Rattle.streams.specs.seen.Sent.{output}
 use Rattle.programs.proofs.chunkplan.Begun.{parts_of_share, share_meets}
+use Rattle.programs.proofs.chunkplan.Exits.{handed}
 use Rattle.programs.proofs.chunkplan.ReadPlans.{is_read_plan}
-use Rattle.programs.proofs.chunkplan.Steps.{step_follows}
+use Rattle.programs.proofs.chunkplan.Steps.{text_follows}
 use Rattle.programs.proofs.chunkplan.plan.write_parts_of.Goals as goal
 
 pub write_parts-requires-clause-meet : goal.write_parts-requires-clause-meet
@@ -23,7 +22,7 @@ write_parts-requires-clause-meet g c =
     (shared.left ∙ ap (share_of c.args.share.now) (rw is at said.all)) (rw is at said.meet)
 
 pub returns-in_err-first-in-Ok-Some : goal.returns-in_err-first-in-Ok-Some
-returns-in_err-first-in-Ok-Some g c = let p = err_from_is_err_and c.from_residual.result c.from_residual.ensures.1 in rw (p.1, p.2) (refl, inl refl)
+returns-in_err-first-in-Ok-Some g c = rw (handed _ _ c.from_residual.ensures.1) (refl, inl refl)
 
 pub returns-in_ok-first-in-Ok-Some : goal.returns-in_ok-first-in-Ok-Some
 returns-in_ok-first-in-Ok-Some g c =
@@ -35,7 +34,7 @@ returns-in_ok-first-in-Ok-Some g c =
     let about = rw is at said.about in
     let all_come = rw is at said.all in
     let many = c.requires.lengths in
-    step_follows _ _ (λ _. ⊥) (IsReadFault false (dimensions_of c.args.array.now) c.args.subset.now)
+    text_follows _ _ (IsReadFault false (dimensions_of c.args.array.now) c.args.subset.now)
     (λ text (parts, are, lines).
     let (all, are_all, is_share, long) =
     parts_of_share walk c.share.new.self share shared.about (shared.left ∙ ap (share_of share) all_come) (rw is at said.meet)
@@ -55,7 +54,4 @@ returns-in_ok-first-in-Ok-Some g c =
           (before_share share.number share.of (length all)) ps)
           (sym is_share),
     ))
-    (λ fault none. absurd none)
-    (output g.W.Write.contents c.args.held_back.now.items c.args.writer.now)
-    (output g.W.Write.contents c.write_parts.new.held_back.items c.write_parts.new.writer)
-    c.write_parts.result (c.write_parts.ensures _ shared.before)
+    _ _ _ (c.write_parts.ensures _ shared.before)

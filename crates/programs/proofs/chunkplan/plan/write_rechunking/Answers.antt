@@ -1,4 +1,3 @@
-use Rattle.std.proofs.lemmas.Result.{err_from_is_err_and}
 use Rattle.zarrs_chunk_base.specs.ArraySubset.{IsInside}
 use Rattle.zarrs_chunk_plan.specs.Rechunking.{array_box}
 use Rattle.zarrs_chunk_plan.proofs.Copied.{copy_of}
@@ -9,18 +8,16 @@ use Rattle.programs.specs.chunkplan.seen.Opened.{dimensions_in, dimensions_of, k
 use Rattle.programs.specs.declared.chunkplan.run_fault.RunFault.TheVariants.{Copies}
 use Rattle.streams.specs.seen.Sent.{output}
 use Rattle.programs.proofs.chunkplan.CountedPlans.{chunks_fault, rechunking_there}
-use Rattle.programs.proofs.chunkplan.Steps.{early, refused_or, step_follows}
+use Rattle.programs.proofs.chunkplan.Steps.{early, refused_or, text_follows}
 use Rattle.programs.proofs.chunkplan.plan.write_rechunking.Goals as goal
 
 pub returns-in_err-walk-in-Lines : goal.returns-in_err-walk-in-Lines
 returns-in_err-walk-in-Lines g c =
-    let p = err_from_is_err_and c.from_residual.result c.from_residual.ensures.1 in
     let target = dimensions_of c.args.target.now in
     let IsFault = IsChunksFault target c.args.chunks.now in
-    rw (p.1, p.2)
-    (early _ IsFault _ (output g.W.Write.contents c.args.held_back.now.items c.args.writer.now) (λ never. never)
-    (refused_or Copies _ IsFault (λ error is. chunks_fault _ _ target c.args.chunks.now error c.requires.one_array is) _
-    c.in_err-walk-in-Lines.ensures.refused))
+    early _ IsFault _ _ _ c.from_residual.ensures.1 (λ never. never)
+    (refused_or Copies _ IsFault (λ error. chunks_fault _ _ target c.args.chunks.now error c.requires.one_array) _ c.in_err-walk-in-Lines.ensures.refused)
+    (λ is. is)
 
 pub returns-in_ok-walk-in-Lines : goal.returns-in_ok-walk-in-Lines
 returns-in_ok-walk-in-Lines g c =
@@ -30,7 +27,7 @@ returns-in_ok-walk-in-Lines g c =
     let said = c.in_ok-walk-in-Lines.ensures in
     let (targets, is_box, are, left) = said.targets in
     rw c.in-Lines.is
-    (step_follows _ _ (λ _. ⊥) (IsChunksFault target chunks)
+    (text_follows _ _ (IsChunksFault target chunks)
     (λ text (groups, moves, lines). (
       groups,
       copy_of dimensions_in key_in dimensions_in key_in c.args.source.now c.args.target.now (array_box target) (array_box target).start
@@ -38,18 +35,15 @@ returns-in_ok-walk-in-Lines g c =
       said.lengths,
       lines,
     ))
-    (λ fault none. absurd none) (output g.W.Write.contents c.args.held_back.now.items c.args.writer.now)
-    (output g.W.Write.contents c.write_share.new.held_back.items c.write_share.new.writer) c.write_share.result c.write_share.ensures)
+    _ _ _ c.write_share.ensures)
 
 pub returns-in_err-counts-in-Counts : goal.returns-in_err-counts-in-Counts
 returns-in_err-counts-in-Counts g c =
-    let p = err_from_is_err_and c.from_residual-in_err-counts-in-Counts.result c.from_residual-in_err-counts-in-Counts.ensures.1 in
     let target = dimensions_of c.args.target.now in
     let IsFault = IsChunksFault target c.args.chunks.now in
-    rw (p.1, p.2)
-    (early _ IsFault _ (output g.W.Write.contents c.args.held_back.now.items c.args.writer.now) (λ never. never)
-    (refused_or Copies _ IsFault (λ error is. chunks_fault _ _ target c.args.chunks.now error c.requires.one_array is) _
-    c.in_err-counts-in-Counts.ensures.refused))
+    early _ IsFault _ _ _ c.from_residual-in_err-counts-in-Counts.ensures.1 (λ never. never)
+    (refused_or Copies _ IsFault (λ error. chunks_fault _ _ target c.args.chunks.now error c.requires.one_array) _ c.in_err-counts-in-Counts.ensures.refused)
+    (λ is. is)
 
 pub returns-in_ok-counts-in-Counts : goal.returns-in_ok-counts-in-Counts
 returns-in_ok-counts-in-Counts g c =
@@ -58,7 +52,6 @@ returns-in_ok-counts-in-Counts g c =
     let (targets, is_box, are, each) = said.counts in
     let (groups, plan) = rechunking_there c.args.source.now c.args.target.now said.one_array said.is_box c.args.chunks.now targets is_box are in
     rw c.in-Counts.is
-    (step_follows (IsCountsLine counts) _ (λ _. ⊥) (IsChunksFault (dimensions_of c.args.target.now) c.args.chunks.now)
+    (text_follows (IsCountsLine counts) _ (IsChunksFault (dimensions_of c.args.target.now) c.args.chunks.now)
     (λ text line. (groups, plan, said.lengths, (targets, is_box, are, (counts, each groups plan, line))))
-    (λ fault none. absurd none) (output g.W.Write.contents c.args.held_back.now.items c.args.writer.now)
-    (output g.W.Write.contents c.write_counts.new.held_back.items c.write_counts.new.writer) c.write_counts.result c.write_counts.ensures)
+    _ _ _ c.write_counts.ensures)

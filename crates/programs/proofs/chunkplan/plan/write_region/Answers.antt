@@ -1,5 +1,4 @@
 use Rattle.std.proofs.Common.{refl}
-use Rattle.std.proofs.lemmas.Result.{err_from_is_err_and}
 use Rattle.zarrs_chunk_plan.specs.Region.{AnyChunk}
 use Rattle.zarrs_chunk_plan.proofs.Copied.{copy_of}
 use Rattle.programs.specs.chunkplan.CountsLine.{IsCountsLine}
@@ -9,19 +8,17 @@ use Rattle.programs.specs.chunkplan.seen.Opened.{dimensions_in, dimensions_of, k
 use Rattle.streams.specs.seen.Sent.{output}
 use Rattle.programs.proofs.chunkplan.CountedPlans.{copy_there}
 use Rattle.programs.proofs.chunkplan.RunOutcomes.{no_failed_copy}
-use Rattle.programs.proofs.chunkplan.Steps.{early, refused_or, step_follows}
+use Rattle.programs.proofs.chunkplan.Steps.{early, refused_or, text_follows}
 use Rattle.programs.proofs.chunkplan.plan.write_region.Goals as goal
 
 pub returns-in_err-walk-in-Lines : goal.returns-in_err-walk-in-Lines
 returns-in_err-walk-in-Lines g c =
-    let p = err_from_is_err_and c.from_residual.result c.from_residual.ensures.1 in
     let source = dimensions_of c.args.source.now in
     let target = dimensions_of c.args.target.now in
     let IsFault = IsCopyFault source target c.args.region.now c.args.at.now in
-    rw (p.1, p.2)
-    (early _ IsFault _ (output g.W.Write.contents c.args.held_back.now.items c.args.writer.now)
+    early _ IsFault _ _ _ c.from_residual.ensures.1
     (no_failed_copy source target c.args.region.now c.args.at.now)
-    (refused_or of_region _ IsFault (λ error is. (error, is, refl)) _ c.in_err-walk-in-Lines.ensures.refused))
+    (refused_or of_region _ IsFault (λ error is. (error, is, refl)) _ c.in_err-walk-in-Lines.ensures.refused) (λ is. is)
 
 pub returns-in_ok-walk-in-Lines : goal.returns-in_ok-walk-in-Lines
 returns-in_ok-walk-in-Lines g c =
@@ -30,26 +27,23 @@ returns-in_ok-walk-in-Lines g c =
     let said = c.in_ok-walk-in-Lines.ensures in
     let (targets, is_box, are, left) = said.targets in
     rw c.in-Lines.is
-    (step_follows _ _ (λ _. ⊥) (IsCopyFault (dimensions_of c.args.source.now) (dimensions_of c.args.target.now) region at)
+    (text_follows _ _ (IsCopyFault (dimensions_of c.args.source.now) (dimensions_of c.args.target.now) region at)
     (λ text (groups, moves, lines). (
       groups,
       copy_of dimensions_in key_in dimensions_in key_in c.args.source.now c.args.target.now region at AnyChunk targets c.in_ok-walk-in-Lines.walk
           groups said.lies said.about said.first is_box are left moves,
       lines,
     ))
-    (λ fault none. absurd none) (output g.W.Write.contents c.args.held_back.now.items c.args.writer.now)
-    (output g.W.Write.contents c.write_share.new.held_back.items c.write_share.new.writer) c.write_share.result c.write_share.ensures)
+    _ _ _ c.write_share.ensures)
 
 pub returns-in_err-counts-in-Counts : goal.returns-in_err-counts-in-Counts
 returns-in_err-counts-in-Counts g c =
-    let p = err_from_is_err_and c.from_residual-in_err-counts-in-Counts.result c.from_residual-in_err-counts-in-Counts.ensures.1 in
     let source = dimensions_of c.args.source.now in
     let target = dimensions_of c.args.target.now in
     let IsFault = IsCopyFault source target c.args.region.now c.args.at.now in
-    rw (p.1, p.2)
-    (early _ IsFault _ (output g.W.Write.contents c.args.held_back.now.items c.args.writer.now)
+    early _ IsFault _ _ _ c.from_residual-in_err-counts-in-Counts.ensures.1
     (no_failed_copy source target c.args.region.now c.args.at.now)
-    (refused_or of_region _ IsFault (λ error is. (error, is, refl)) _ c.in_err-counts-in-Counts.ensures.refused))
+    (refused_or of_region _ IsFault (λ error is. (error, is, refl)) _ c.in_err-counts-in-Counts.ensures.refused) (λ is. is)
 
 pub returns-in_ok-counts-in-Counts : goal.returns-in_ok-counts-in-Counts
 returns-in_ok-counts-in-Counts g c =
@@ -60,7 +54,6 @@ returns-in_ok-counts-in-Counts g c =
     let (targets, is_box, are, each) = said.counts in
     let (groups, plan) = copy_there c.args.source.now c.args.target.now region at c.is_a_box.ensures said.is_box said.lies AnyChunk targets is_box are in
     rw c.in-Counts.is
-    (step_follows (IsCountsLine counts) _ (λ _. ⊥) (IsCopyFault (dimensions_of c.args.source.now) (dimensions_of c.args.target.now) region at)
+    (text_follows (IsCountsLine counts) _ (IsCopyFault (dimensions_of c.args.source.now) (dimensions_of c.args.target.now) region at)
     (λ text line. (groups, plan, (targets, is_box, are, (counts, each groups plan, line))))
-    (λ fault none. absurd none) (output g.W.Write.contents c.args.held_back.now.items c.args.writer.now)
-    (output g.W.Write.contents c.write_counts.new.held_back.items c.write_counts.new.writer) c.write_counts.result c.write_counts.ensures)
+    _ _ _ c.write_counts.ensures)

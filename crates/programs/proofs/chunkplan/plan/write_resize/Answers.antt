@@ -1,8 +1,7 @@
 use Rattle.zarrs_chunk_plan.specs.seen.Changes.{changes_to_come}
 use Rattle.zarrs_chunk_plan.proofs.SomeResizes.{asked_are_used}
 use Rattle.programs.specs.chunkplan.seen.Opened.{dimensions_in, dimensions_of}
-use Rattle.streams.specs.seen.Sent.{output}
-use Rattle.programs.proofs.chunkplan.Steps.{step_follows}
+use Rattle.programs.proofs.chunkplan.Steps.{text_follows}
 use Rattle.programs.proofs.chunkplan.plan.write_resize.Goals as goal
 
 pub write_changes-requires-clause-can : goal.write_changes-requires-clause-can
@@ -29,7 +28,7 @@ pub returns-in-Ok : goal.returns-in-Ok
 returns-in-Ok g c =
     let walk = c.in-Ok.walk in
     let about = c.in-Ok.ensures.about in
-    step_follows _ _ (λ _. ⊥) (λ _. ⊥)
+    text_follows _ _ (λ _. ⊥)
     (λ text (changes, are, lines). (
       changes,
       record {
@@ -39,7 +38,4 @@ returns-in-Ok g c =
       },
       lines,
     ))
-    (λ fault none. none)
-    (output g.W.Write.contents c.args.held_back.now.items c.args.writer.now)
-    (output g.W.Write.contents c.write_changes.new.held_back.items c.write_changes.new.writer)
-    c.write_changes.result c.write_changes.ensures
+    _ _ _ c.write_changes.ensures

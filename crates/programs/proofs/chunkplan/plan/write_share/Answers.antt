@@ -1,13 +1,12 @@
 use Rattle.std.proofs.Common.{◌≡◌, ◌∙◌, ap, inl, length, option_map, refl, sym}
-use Rattle.std.proofs.lemmas.Result.{err_from_is_err_and}
 use Rattle.zarrs_chunk_plan.specs.Counted.{counted}
 use Rattle.zarrs_chunk_plan.specs.Shares.{before_share, share_of}
 use Rattle.zarrs_chunk_plan.specs.seen.Copies.{all_targets}
 use Rattle.programs.specs.chunkplan.Line.{lines_from}
 use Rattle.programs.specs.chunkplan.seen.Missing.{line_unless_stored}
-use Rattle.streams.specs.seen.Sent.{output}
 use Rattle.programs.proofs.chunkplan.Begun.{copies_of_share, share_can_copy}
-use Rattle.programs.proofs.chunkplan.Steps.{step_follows}
+use Rattle.programs.proofs.chunkplan.Exits.{handed}
+use Rattle.programs.proofs.chunkplan.Steps.{text_follows}
 use Rattle.programs.proofs.chunkplan.plan.write_share.Goals as goal
 
 pub write_copies-requires-clause-can : goal.write_copies-requires-clause-can
@@ -19,14 +18,14 @@ pub write_copies-requires-clause-numbered : goal.write_copies-requires-clause-nu
 write_copies-requires-clause-numbered g c = (_, c.in_ok-first.ensures.before)
 
 pub returns-in_err-first : goal.returns-in_err-first
-returns-in_err-first g c = let p = err_from_is_err_and c.from_residual.result c.from_residual.ensures.1 in rw (p.1, p.2) (refl, inl refl)
+returns-in_err-first g c = rw (handed _ _ c.from_residual.ensures.1) (refl, inl refl)
 
 pub returns : goal.returns
 returns g c =
     let walk = c.args.walk in
     let share = c.args.share.now in
     let shared = c.in_ok-first.ensures in
-    step_follows _ _ (λ _. ⊥) (λ _. ⊥)
+    text_follows _ _ (λ _. ⊥)
     (λ text (groups, come, lines).
     let (all, come_all, is_share, long) =
     copies_of_share walk c.share.new.self share shared.about shared.first (shared.left ∙ ap (share_of share) c.requires.all)
@@ -42,7 +41,4 @@ returns g c =
           ∙ ap (λ gs. lines_from (λ n. line_unless_stored c.args.order (option_map (λ s. s.now) c.args.stored) (counted n) (counted (length all))) (before_share share.number share.of (length all)) gs)
           (sym is_share),
     ))
-    (λ fault none. none)
-    (output g.W.Write.contents c.args.held_back.now.items c.args.writer.now)
-    (output g.W.Write.contents c.write_copies.new.held_back.items c.write_copies.new.writer)
-    c.write_copies.result (c.write_copies.ensures _ shared.before)
+    _ _ _ (c.write_copies.ensures _ shared.before)

@@ -1,16 +1,14 @@
 use Rattle.programs.specs.chunkplan.PlanFault.{IsStagesCountsFault}
 use Rattle.programs.specs.chunkplan.StagesLine.{IsStagesLine}
 use Rattle.programs.specs.chunkplan.seen.Opened.{dimensions_of}
-use Rattle.streams.specs.seen.Sent.{output}
-use Rattle.programs.proofs.chunkplan.Steps.{made_text, step_follows}
+use Rattle.programs.proofs.chunkplan.Steps.{made_text, text_follows}
 use Rattle.programs.proofs.chunkplan.within.write_stages_counts.Goals as goal
 
 pub returns : goal.returns
 returns g c =
     let (largest, other, is_largest, is_other, held) = c.in_ok-fits.ensures.held in
     let stages = c.in_ok-stages.stages in
-    step_follows _ _ (λ _. ⊥)
-    (IsStagesCountsFault (dimensions_of c.args.source.now) (dimensions_of c.args.target.now))
+    text_follows _ _ (IsStagesCountsFault (dimensions_of c.args.source.now) (dimensions_of c.args.target.now))
     (λ text made. record {
       largest = largest;
       is_largest = is_largest;
@@ -24,7 +22,4 @@ returns g c =
       are_two = c.in_ok-stages.ensures.found;
       is = made_text (IsStagesLine c.in_ok-fits.fits c.in_ok-one_stage.one_stage stages) c.stages_line-line.result c.stages_line-line.ensures text made;
     })
-    (λ fault none. absurd none)
-    (output g.W.Write.contents c.args.held_back.now.items c.args.writer.now)
-    (output g.W.Write.contents c.send_text.new.held_back.items c.send_text.new.writer)
-    c.send_text.result c.send_text.ensures
+    _ _ _ c.send_text.ensures

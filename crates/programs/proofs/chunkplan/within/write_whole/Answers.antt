@@ -2,10 +2,9 @@ use Rattle.std.proofs.Common.{subst}
 use Rattle.zarrs_chunk_plan.specs.Rechunking.{IsRechunking}
 use Rattle.programs.specs.chunkplan.Document.{wanted_of}
 use Rattle.programs.specs.chunkplan.PlanFault.{IsChunksFault}
-use Rattle.programs.specs.chunkplan.Planned.{IsRechunkingText, IsWholeText}
+use Rattle.programs.specs.chunkplan.Planned.{IsRechunkingText}
 use Rattle.programs.specs.chunkplan.seen.Opened.{dimensions_of, key_of}
 use Rattle.programs.specs.declared.chunkplan.line.Order.TheVariants.{Target}
-use Rattle.streams.specs.seen.Sent.{output}
 use Rattle.programs.proofs.chunkplan.CountedPlans.{no_chunks_fault}
 use Rattle.programs.proofs.chunkplan.Steps.{step_follows}
 use Rattle.programs.proofs.chunkplan.within.write_whole.Goals as goal
@@ -18,13 +17,11 @@ returns g c =
     let target_key = key_of c.args.target.now in
     let wanted = wanted_of c.args.wanted.now in
     let all = c.in_ok-chunks.ensures.counted in
-    step_follows _ (IsWholeText source source_key target target_key wanted) (IsChunksFault target c.in_ok-chunks.chunks) (λ _. ⊥)
+    step_follows _ _ _ _
     (λ text (groups, is, long, lines). (
       groups,
       subst (λ b. IsRechunking source source_key target target_key b groups) all is,
       subst (λ b. IsRechunkingText Target wanted source target b groups text) all lines,
     ))
     (λ fault is. no_chunks_fault target fault (subst (λ b. IsChunksFault target b fault) all is))
-    (output g.W.Write.contents c.args.held_back.now.items c.args.writer.now)
-    (output g.W.Write.contents c.write_rechunking.new.held_back.items c.write_rechunking.new.writer)
-    c.write_rechunking.result c.write_rechunking.ensures
+    _ _ _ c.write_rechunking.ensures
