@@ -16,7 +16,7 @@ use Rattle.streams.proofs.Sent.{sends_nothing}
 use Rattle.programs.proofs.chunkplan.Begun.{keys_in}
 use Rattle.programs.proofs.chunkplan.Exits.{handed}
 use Rattle.programs.proofs.chunkplan.Numbered.{IsLineOf, IsTextOf, counted_first, way_ends, way_goes_on, way_memory, way_stops}
-use Rattle.programs.proofs.chunkplan.Steps.{made_text, step_follows}
+use Rattle.programs.proofs.chunkplan.Steps.{made_text, text_follows}
 use Rattle.programs.proofs.chunkplan.copying.write_changes.Goals as goal
 
 -- the line of a change, of as many as these chunks are
@@ -28,14 +28,14 @@ in_lines : (R : List ℕ → ChunkChange → Type 0) (all chunks : List (List �
     → StepLeaves (IsTextOf (line_of_one all) 0 (AllZip R chunks)) (λ _. ⊥) r before after
     → StepLeaves (λ text. (changes : List ChunkChange) × AllZip R chunks changes × (text ≡ resize_lines changes)) (λ _. ⊥) r before after
 in_lines R all chunks same r before after =
-    step_follows _ _ (λ _. ⊥) (λ _. ⊥)
+    text_follows _ _ (λ _. ⊥)
     (λ text (changes, are, lines). (
       changes,
       are,
       lines
           ∙ ap (λ k. lines_from (λ n. change_line (counted n) (counted k)) 0 changes) (ap length same ∙ sym (AllZip-long R chunks changes are)),
     ))
-    (λ fault none. none) before after r
+    before after r
 
 pub loop-change-init : goal.loop-change-init
 loop-change-init g c = (
@@ -66,11 +66,7 @@ loop-change-preserved g c =
     let is = made_text (λ text. text ≡ change_line c.loop-change.number of change) c.change_line.result (rw c.in_all-of.ensures at c.change_line.ensures) text made in (
       suc n,
       c.following-number.ensures n number_is,
-      way_goes_on (line_of_one (all_changes walk)) 0 (ChangesHaveCome dimensions_in dimensions_in key_in walk c.loop-change.change-iterator)
-          (ChangesHaveCome dimensions_in dimensions_in key_in walk c.next.new.self) (λ _. ⊥) (λ y. y ≡ change) n
-          (output g.W.Write.contents c.args.held_back.now.items c.args.writer.now)
-          (output g.W.Write.contents c.loop-change.held_back.items c.loop-change.writer)
-          (output g.W.Write.contents c.send_text.new.held_back.items c.send_text.new.writer) sent
+      way_goes_on (line_of_one (all_changes walk)) 0 _ _ (λ _. ⊥) (λ y. y ≡ change) n _ _ _ sent
           (λ came y have same. one_more_change dimensions_in dimensions_in key_in walk c.loop-change.change-iterator c.next.new.self change came (came ++ y ∷ []) have
           gives (rw same refl))
           (text, (change, refl, is ∙ ap (λ number. change_line number (counted (length (all_changes walk))) change) number_is), more, failed),
@@ -82,12 +78,9 @@ pub returns-in_err-change : goal.returns-in_err-change
 returns-in_err-change g c =
     let (n, number_is, sent) = c.loop-change.invariant in
     let walk = c.args.walk in
-    let first : Output = output g.W.Write.contents c.args.held_back.now.items c.args.writer.now in
-    let now : Output = output g.W.Write.contents c.loop-change.held_back.items c.loop-change.writer in
     rw (handed _ _ c.from_residual.ensures.1)
-    (in_lines (IsChangeOf dimensions_in dimensions_in key_in walk) (all_changes walk) (changes_to_come walk) c.requires.all (Err Memory) first now
-    (way_memory (line_of_one (all_changes walk)) 0 (ChangesHaveCome dimensions_in dimensions_in key_in walk c.loop-change.change-iterator)
-    (AreChangesToCome dimensions_in dimensions_in key_in walk) n first now sent
+    (in_lines (IsChangeOf dimensions_in dimensions_in key_in walk) (all_changes walk) (changes_to_come walk) c.requires.all (Err Memory) _ (output g.W.Write.contents c.loop-change.held_back.items c.loop-change.writer)
+    (way_memory (line_of_one (all_changes walk)) 0 _ _ n _ _ sent
     (changes_ahead dimensions_in dimensions_in key_in walk (chained_in walk.before.now) (chained_in walk.after.now)
     c.requires.fit c.requires.also_fit (keys_in walk.encoding.now) c.requires.can c.requires.used c.loop-change.change-iterator)))
 
@@ -97,24 +90,21 @@ returns-in_err-send_text g c =
     let change = c.in_ok-change.field-0 in
     let walk = c.args.walk in
     let gives = rw c.in_ok-change.was at c.in-Some.ensures.steps in
+    let of = counted (length (all_changes walk)) in
     let between : Output = output g.W.Write.contents c.loop-change.held_back.items c.loop-change.writer in
     let last : Output = output g.W.Write.contents c.send_text.new.held_back.items c.send_text.new.writer in
-    let Line : ℕ → ChunkChange → List ℕ = line_of_one (all_changes walk) in
-    let of = counted (length (all_changes walk)) in
     let told = ap (λ of. change_line c.loop-change.number of change) c.in_all-of.ensures ∙ ap (λ number. change_line number of change) number_is in
     let ahead = changes_ahead dimensions_in dimensions_in key_in walk (chained_in walk.before.now) (chained_in walk.after.now)
     c.requires.fit c.requires.also_fit (keys_in walk.encoding.now) c.requires.can c.requires.used in
     rw (handed _ _ c.from_residual-in_err-send_text.ensures.1)
     (in_lines _ (all_changes walk) _ c.requires.all (Err _) _ _
-    (way_stops Line 0 (ChangesHaveCome dimensions_in dimensions_in key_in walk c.loop-change.change-iterator)
-    (ChangesHaveCome dimensions_in dimensions_in key_in walk c.next.new.self) (AreChangesToCome dimensions_in dimensions_in key_in walk) (λ y. y ≡ change) n
-    (output g.W.Write.contents c.args.held_back.now.items c.args.writer.now) between last sent
+    (way_stops (line_of_one (all_changes walk)) 0 _ _ _ (λ y. y ≡ change) n _ _ _ sent
     (λ came y have same. one_more_change dimensions_in dimensions_in key_in walk c.loop-change.change-iterator c.next.new.self change came (came ++ y ∷ []) have gives
     (rw same refl))
     (ahead c.loop-change.change-iterator) (ahead c.next.new.self) _
-    (step_follows _ (IsLineOf Line 0 (λ y. y ≡ change) n) (λ _. ⊥) (λ _. ⊥)
+    (text_follows _ (IsLineOf (line_of_one (all_changes walk)) 0 (λ y. y ≡ change) n) (λ _. ⊥)
     (λ text made. (change, refl, made_text (λ text. text ≡ change_line c.loop-change.number c.in_all-of.result change) c.change_line.result c.change_line.ensures text made ∙ told))
-    (λ fault none. none) between last (Err _) c.in_err-send_text.ensures)))
+    between last (Err _) c.in_err-send_text.ensures)))
 
 pub returns : goal.returns
 returns g c =

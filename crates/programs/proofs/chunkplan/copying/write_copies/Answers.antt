@@ -11,7 +11,7 @@ use Rattle.streams.proofs.Sent.{sends_nothing}
 use Rattle.programs.proofs.chunkplan.Begun.{CopiesHaveCome, copies_ahead}
 use Rattle.programs.proofs.chunkplan.Exits.{handed}
 use Rattle.programs.proofs.chunkplan.Numbered.{IsLineOf, way_ends, way_goes_on, way_memory, way_stops}
-use Rattle.programs.proofs.chunkplan.Steps.{step_follows}
+use Rattle.programs.proofs.chunkplan.Steps.{text_follows}
 use Rattle.programs.proofs.chunkplan.copying.write_copies.Goals as goal
 
 pub loop-group-init : goal.loop-group-init
@@ -41,12 +41,7 @@ loop-group-preserved g c = λ begin is_first.
       suc n,
       c.following-number.ensures n number_is,
       way_goes_on (λ n. line_unless_stored c.args.order (option_map (λ s. s.now) c.args.stored) (counted n) (counted (length (all_targets c.args.walk)))) begin
-          (CopiesHaveCome c.args.walk c.loop-group.group-iterator)
-          (CopiesHaveCome c.args.walk c.next.new.self) (λ _. ⊥)
-          (λ y. (from : List Part) × PartsToCome group.from from × (y ≡ (group.to, from))) n
-          (output g.W.Write.contents c.args.held_back.now.items c.args.writer.now)
-          (output g.W.Write.contents c.loop-group.held_back.items c.loop-group.writer)
-          (output g.W.Write.contents c.write_unless_stored.new.held_back.items c.write_unless_stored.new.writer) sent
+          _ _ (λ _. ⊥) (λ y. (from : List Part) × PartsToCome group.from from × (y ≡ (group.to, from))) n _ _ _ sent
           (λ came y have (from, are, same).
           one_more_move dimensions_in key_in dimensions_in key_in c.args.walk c.loop-group.group-iterator c.next.new.self group
           from came (came ++ y ∷ []) have gives are (rw same refl)) (
@@ -90,20 +85,18 @@ returns-in_err-write_unless_stored g c = λ begin is_first.
     let IsOne : Group → Type 0 = λ y. (from : List Part) × PartsToCome group.from from × (y ≡ (group.to, from)) in
     let ahead = copies_ahead c.args.walk c.requires.is_box c.requires.region c.requires.can in
     rw (handed _ _ c.from_residual-in_err-write_unless_stored.ensures.1)
-    (way_stops Line begin (CopiesHaveCome c.args.walk c.loop-group.group-iterator)
-    (CopiesHaveCome c.args.walk c.next.new.self) (CopiesToCome c.args.walk) IsOne n
-    (output g.W.Write.contents c.args.held_back.now.items c.args.writer.now) between after sent
+    (way_stops Line begin _ _ _ IsOne n _ _ _ sent
     (λ came y have (from, are, same). one_more_move dimensions_in key_in dimensions_in key_in c.args.walk c.loop-group.group-iterator c.next.new.self group
     from came (came ++ y ∷ []) have gives are (rw same refl))
     (ahead c.loop-group.group-iterator) (ahead c.next.new.self) _
-    (step_follows _ (IsLineOf Line begin IsOne n) (λ _. ⊥) (λ _. ⊥)
+    (text_follows _ (IsLineOf Line begin IsOne n) (λ _. ⊥)
     (λ text (from, are, is). (
       (group.to, from),
       (from, are, refl),
       is ∙ ap (λ of. line_unless_stored c.args.order (option_map (λ s. s.now) c.args.stored) c.loop-group.number of (group.to, from)) c.in_all-of.ensures
           ∙ ap (λ number. line_unless_stored c.args.order (option_map (λ s. s.now) c.args.stored) number of (group.to, from)) number_is,
     ))
-    (λ fault none. none) between after (Err _) c.in_err-write_unless_stored.ensures))
+    between after (Err _) c.in_err-write_unless_stored.ensures))
 
 pub returns : goal.returns
 returns g c = λ begin is_first.

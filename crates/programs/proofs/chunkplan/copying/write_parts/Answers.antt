@@ -9,7 +9,7 @@ use Rattle.streams.proofs.Sent.{sends_nothing}
 use Rattle.programs.proofs.chunkplan.Begun.{PartsHaveCome, parts_ahead}
 use Rattle.programs.proofs.chunkplan.Exits.{handed}
 use Rattle.programs.proofs.chunkplan.Numbered.{IsLineOf, way_ends, way_goes_on, way_memory, way_stops}
-use Rattle.programs.proofs.chunkplan.Steps.{made_text, step_follows}
+use Rattle.programs.proofs.chunkplan.Steps.{made_text, text_follows}
 use Rattle.programs.proofs.chunkplan.copying.write_parts.Goals as goal
 
 pub loop-part-init : goal.loop-part-init
@@ -39,11 +39,7 @@ loop-part-preserved g c = λ begin is_first.
     let is = made_text (λ text. text ≡ text_as c.args.form c.loop-part.number part) c.part_text.result c.part_text.ensures text made in (
       suc n,
       c.following-number.ensures n number_is,
-      way_goes_on (λ n. text_as c.args.form (counted n)) begin (PartsHaveCome c.args.walk c.loop-part.part-iterator)
-          (PartsHaveCome c.args.walk c.next.new.self) (λ _. ⊥) (λ p. p ≡ part) n
-          (output g.W.Write.contents c.args.held_back.now.items c.args.writer.now)
-          (output g.W.Write.contents c.loop-part.held_back.items c.loop-part.writer)
-          (output g.W.Write.contents c.send_text.new.held_back.items c.send_text.new.writer) sent
+      way_goes_on (λ n. text_as c.args.form (counted n)) begin _ _ (λ _. ⊥) (λ p. p ≡ part) n _ _ _ sent
           (λ came p have same. one_more dimensions_in key_in c.args.walk c.loop-part.part-iterator c.next.new.self part came (came ++ p ∷ []) have gives
           (rw same refl))
           (text, (part, refl, is ∙ ap (λ number. text_as c.args.form number part) number_is), more, failed),
@@ -69,15 +65,13 @@ returns-in_err-send_text g c = λ begin is_first.
     let of_number = ap (λ number. text_as c.args.form number part) number_is in
     let ahead = parts_ahead c.args.walk c.requires.is_box in
     rw (handed _ _ c.from_residual-in_err-send_text.ensures.1)
-    (way_stops Line begin (PartsHaveCome c.args.walk c.loop-part.part-iterator) (PartsHaveCome c.args.walk c.next.new.self)
-    (PartsToCome c.args.walk) (λ p. p ≡ part) n
-    (output g.W.Write.contents c.args.held_back.now.items c.args.writer.now) between after sent
+    (way_stops Line begin _ _ _ (λ p. p ≡ part) n _ _ _ sent
     (λ came p have same. one_more dimensions_in key_in c.args.walk c.loop-part.part-iterator c.next.new.self part came (came ++ p ∷ []) have gives
     (rw same refl))
     (ahead c.loop-part.part-iterator) (ahead c.next.new.self) _
-    (step_follows _ (IsLineOf Line begin (λ p. p ≡ part) n) (λ _. ⊥) (λ _. ⊥)
+    (text_follows _ (IsLineOf Line begin (λ p. p ≡ part) n) (λ _. ⊥)
     (λ text made. (part, refl, made_text (λ text. text ≡ text_as c.args.form c.loop-part.number part) c.part_text.result c.part_text.ensures text made ∙ of_number))
-    (λ fault none. none) between after (Err _) c.in_err-send_text.ensures))
+    between after (Err _) c.in_err-send_text.ensures))
 
 pub returns : goal.returns
 returns g c = λ begin is_first.
