@@ -5,10 +5,10 @@ use Rattle.zarrs_chunk_parts.specs.declared.part.Part.{Part}
 use Rattle.zarrs_chunk_plan.specs.seen.Copies.{all_targets}
 use Rattle.zarrs_chunk_plan.proofs.Copied.{first_move, last_move, one_more_move}
 use Rattle.programs.specs.chunkplan.seen.Missing.{line_unless_stored}
-use Rattle.programs.specs.chunkplan.seen.Opened.{CopiesToCome, PartsToCome, dimensions_in, key_in}
+use Rattle.programs.specs.chunkplan.seen.Opened.{PartsToCome, dimensions_in, key_in}
 use Rattle.streams.specs.seen.Sent.{Output, output}
 use Rattle.streams.proofs.Sent.{sends_nothing}
-use Rattle.programs.proofs.chunkplan.Begun.{CopiesHaveCome, copies_ahead}
+use Rattle.programs.proofs.chunkplan.Begun.{copies_ahead}
 use Rattle.programs.proofs.chunkplan.Exits.{handed}
 use Rattle.programs.proofs.chunkplan.Numbered.{IsLineOf, way_ends, way_goes_on, way_memory, way_stops}
 use Rattle.programs.proofs.chunkplan.Steps.{text_follows}

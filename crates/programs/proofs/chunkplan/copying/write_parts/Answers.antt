@@ -2,11 +2,11 @@ use Rattle.std.proofs.Common.{◌≡◌, ◌∙◌, ℕ, suc, List, [], ◌∷�
 use Rattle.zarrs_chunk_plan.specs.Counted.{counted}
 use Rattle.zarrs_chunk_parts.specs.declared.part.Part.{Part}
 use Rattle.zarrs_chunk_plan.proofs.Walked.{at_first, at_last, one_more}
-use Rattle.programs.specs.chunkplan.seen.Opened.{PartsToCome, dimensions_in, key_in}
+use Rattle.programs.specs.chunkplan.seen.Opened.{dimensions_in, key_in}
 use Rattle.programs.specs.chunkplan.seen.Pieces.{text_as}
 use Rattle.streams.specs.seen.Sent.{Output, output}
 use Rattle.streams.proofs.Sent.{sends_nothing}
-use Rattle.programs.proofs.chunkplan.Begun.{PartsHaveCome, parts_ahead}
+use Rattle.programs.proofs.chunkplan.Begun.{parts_ahead}
 use Rattle.programs.proofs.chunkplan.Exits.{handed}
 use Rattle.programs.proofs.chunkplan.Numbered.{IsLineOf, way_ends, way_goes_on, way_memory, way_stops}
 use Rattle.programs.proofs.chunkplan.Steps.{made_text, text_follows}

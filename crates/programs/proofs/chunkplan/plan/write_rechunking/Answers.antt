@@ -6,7 +6,6 @@ use Rattle.programs.specs.chunkplan.CountsLine.{IsCountsLine}
 use Rattle.programs.specs.chunkplan.PlanFault.{IsChunksFault}
 use Rattle.programs.specs.chunkplan.seen.Opened.{dimensions_in, dimensions_of, key_in}
 use Rattle.programs.specs.declared.chunkplan.run_fault.RunFault.TheVariants.{Copies}
-use Rattle.streams.specs.seen.Sent.{output}
 use Rattle.programs.proofs.chunkplan.CountedPlans.{chunks_fault, rechunking_there}
 use Rattle.programs.proofs.chunkplan.Steps.{early, refused_or, text_follows}
 use Rattle.programs.proofs.chunkplan.plan.write_rechunking.Goals as goal

@@ -5,7 +5,6 @@ use Rattle.programs.specs.chunkplan.CountsLine.{IsCountsLine}
 use Rattle.programs.specs.chunkplan.PlanFault.{IsCopyFault}
 use Rattle.programs.specs.chunkplan.RunFault.{of_region}
 use Rattle.programs.specs.chunkplan.seen.Opened.{dimensions_in, dimensions_of, key_in}
-use Rattle.streams.specs.seen.Sent.{output}
 use Rattle.programs.proofs.chunkplan.CountedPlans.{copy_there}
 use Rattle.programs.proofs.chunkplan.RunOutcomes.{no_failed_copy}
 use Rattle.programs.proofs.chunkplan.Steps.{early, refused_or, text_follows}
