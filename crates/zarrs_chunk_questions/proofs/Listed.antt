@@ -31,15 +31,13 @@ module _ {C : Type 0} (numbers_of : C → List ℕ) where
       → AllByRecursion (λ chunk. P (numbers_of chunk)) chunks
   each_listed P [] [] all are = tt
   each_listed P (numbers ∷ lists) (chunk ∷ chunks) all are = (subst P (sym are.0) all.0, each_listed P lists chunks all.1 are.1)
-  each_listed P [] (_ ∷ _) all are = absurd are
-  each_listed P (_ ∷ _) [] all are = absurd are
+  each_listed P _ _ all are = absurd are
 
   -- the numbers of the chunks
   pub numbers_are : (lists : List (List ℕ)) (chunks : List C) → AllZip HasNumbers lists chunks → map numbers_of chunks ≡ lists
   numbers_are [] [] are = refl
   numbers_are (numbers ∷ lists) (chunk ∷ chunks) are = ap₂ (λ x xs. x ∷ xs) are.0 (numbers_are lists chunks are.1)
-  numbers_are [] (_ ∷ _) are = absurd are
-  numbers_are (_ ∷ _) [] are = absurd are
+  numbers_are _ _ are = absurd are
 
 module _ (box : Box) (first : ℕ) (some : SomeChunks) where
   -- what holds of all chunks holds of some

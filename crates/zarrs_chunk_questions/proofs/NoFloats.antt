@@ -1,5 +1,5 @@
 -- No answer has a float: its numbers are sizes.
-use Rattle.std.proofs.Common.{◌≡◌, ◌∙◌, ◌||◌, ℕ, zero, suc, ◌+◌, Bool, false, List, [], ◌∷◌, Option, Some, None, ap, ap₂, length, map, nat_lt, refl, take}
+use Rattle.std.proofs.Common.{◌≡◌, ◌∙◌, ◌||◌, ℕ, zero, suc, ◌+◌, Bool, false, List, [], ◌∷◌, Option, Some, None, ap, ap₂, length, map, nat_lt, refl, take, arith}
 use Rattle.std.proofs.lemmas.Bool.{or_parts}
 use Rattle.std.specs.Int.NonZero.{non_zero_u64_get}
 use Rattle.serde_json.specs.Data.{Data, Members}
@@ -51,8 +51,7 @@ a_box : (b : Box) → HasNone (box_tree b)
 a_box b = no_float_in_list numbers_tree no_float_in_numbers (b.start ∷ b.shape ∷ [])
 
 or_none : {X : Type 0} (tree : X → Data) → ((x : X) → HasNone (tree x)) → (answer : Option X) → HasNone (or_null tree answer)
-or_none tree each None = refl
-or_none tree each (Some x) = each x
+or_none tree each answer = grind arith
 
 -- the metadata of an extension whose configuration has none
 of_members : (name : List ℕ) (configuration : Option Members) (said : Members) → configuration ≡ Some said → members_have_float said ≡ false
@@ -62,32 +61,16 @@ of_members name configuration said is none = rw is (ap (λ b. b || false) none)
 -- ---- a grid, numbers and boxes
 
 of_alone : (call : OfGrid) (kind : GridKind) (grid : Grid) (t : Data) → IsGridAnswer call kind grid t → HasNone t
-of_alone Dimensionality kind grid t is = ap has_float is
-of_alone ArrayShape kind grid t is = ap has_float is ∙ no_float_in_numbers (array_sizes grid.dimensions)
-of_alone GridShape kind grid t is = ap has_float is ∙ no_float_in_numbers (grid_sizes grid.dimensions)
-of_alone Configuration kind grid t (said, (x, accepts, makes, is_written, written, reads), is) =
-    ap has_float is ∙ ap members_have_float written ∙ no_float_written kind x
-of_alone Metadata kind grid t (e, is, same) =
-    let (x, accepts, makes, is_written, written, reads) = is.is_configuration in
-    let none : members_have_float is.members ≡ false = ap members_have_float written ∙ no_float_written kind x in
-    ap has_float same ∙ of_members e.name e.configuration is.members is.configuration none
+of_alone call kind grid t is = grind (arith, no_float_in_numbers, no_float_written, of_members)
 
 of_says : {X : Type 0} (tree : X → Data) → ((x : X) → HasNone (tree x)) → (answer : Option X) (t : Data) → t ≡ or_null tree answer → HasNone t
 of_says tree each answer t is = ap has_float is ∙ or_none tree each answer
 
 of_list_of_numbers : (call : OfNumbers) (grid : Grid) (xs : List ℕ) (t : Data) → IsNumbersAnswer call grid xs t → HasNone t
-of_list_of_numbers ChunkShape grid xs t (answer, may, is) = of_says edges_tree (λ v. no_float_in_numbers (map non_zero_u64_get v.items)) answer t is
-of_list_of_numbers ChunkShapeNumbers grid xs t (answer, may, is) = of_says items_tree (λ v. no_float_in_numbers v.items) answer t is
-of_list_of_numbers ChunkOrigin grid xs t (answer, may, is) = of_says items_tree (λ v. no_float_in_numbers v.items) answer t is
-of_list_of_numbers ChunkIndices grid xs t (answer, may, is) = of_says items_tree (λ v. no_float_in_numbers v.items) answer t is
-of_list_of_numbers ChunkElementIndices grid xs t (answer, may, is) = of_says items_tree (λ v. no_float_in_numbers v.items) answer t is
-of_list_of_numbers Subset grid xs t (answer, may, is) = of_says box_tree a_box answer t is
-of_list_of_numbers ChunkIndicesInbounds grid xs t (answer, same, is) = ap has_float is
-of_list_of_numbers ArrayIndicesInbounds grid xs t (answer, same, is) = ap has_float is
+of_list_of_numbers call grid xs t is = grind (arith, or_none, no_float_in_numbers, a_box)
 
 of_a_box : (call : OfBox) (ds : List Dimension) (b : Box) (t : Data) → IsBoxAnswer call ds b t → HasNone t
-of_a_box ChunksSubset ds b t (answer, may, is) = of_says box_tree a_box answer t is
-of_a_box ChunksInArraySubset ds b t (answer, may, is) = of_says box_tree a_box answer t is
+of_a_box call ds b t is = grind (arith, of_says, a_box)
 
 -- ---- items of walks and of plans
 
@@ -95,9 +78,7 @@ of_page : (items : List Data) (more : Bool) → items_have_float (items_of items
 of_page items more none = ap (λ b. b || false) none
 
 an_item : (walk : WalkOf) (ds : List Dimension) (chunk : List ℕ) → HasNone (item_tree walk ds chunk)
-an_item Chunks ds chunk = no_float_in_numbers chunk
-an_item Boxes ds chunk = a_box (box_at ds chunk)
-an_item ChunksAndBoxes ds chunk = ap₂ (λ a b. a || (b || false)) (no_float_in_numbers chunk) (a_box (box_at ds chunk))
+an_item walk ds chunk = grind (arith, no_float_in_numbers, a_box)
 
 items : (walk : WalkOf) (ds : List Dimension) (chunks : List (List ℕ)) → items_have_float (items_of (item_trees walk ds chunks)) ≡ false
 items Chunks ds chunks = no_float_mapped (item_tree Chunks ds) (an_item Chunks ds) chunks
@@ -122,7 +103,7 @@ of_a_walk walk ds most (Some first) =
 -- numbers and two boxes
 of_part : (chunk : List ℕ) (b other : Box)
     → (has_float (numbers_tree chunk) || (has_float (box_tree b) || (has_float (box_tree other) || (false || false)))) ≡ false
-of_part chunk b other = rw (no_float_in_numbers chunk, a_box b, a_box other) refl
+of_part chunk b other = grind (arith, no_float_in_numbers, a_box)
 
 of_some_parts : (first : ℕ) (some : SomeParts) → HasNone (parts_tree first some)
 of_some_parts first some =
@@ -148,16 +129,7 @@ a_line_number : (number : ℕ) → HasNone (line_number_tree number)
 a_line_number number = or_none size_tree (λ n. refl) (counted_up_to number)
 
 of_counts : (share : ShareAsked) (many : Counts) → HasNone (counts_tree share many)
-of_counts (number, of) many =
-    rw (
-      or_none count_tree (λ v. no_float_in_numbers v.items) many.copies,
-      no_float_in_numbers many.elements.items,
-      or_none count_tree (λ v. no_float_in_numbers v.items) many.largest_line,
-      no_float_in_numbers many.lines.items,
-      a_line_number (before_share number of (product many.lines.items)),
-      a_line_number (before_share (number + 1) of (product many.lines.items)),
-      no_float_in_numbers many.source_chunks.items,
-    ) refl
+of_counts share many = grind (arith, or_none, no_float_in_numbers, a_line_number)
 
 -- ---- of a question
 
@@ -194,8 +166,4 @@ of_ranges : (ranges : ByteRanges) → HasNone (ranges_tree ranges)
 of_ranges ranges = rw (no_float_in_numbers ranges.counts.items, no_float_in_numbers ranges.strides.items) refl
 
 pub no_float : (question : Question) (t : Data) → IsAnswer question t → has_float t ≡ false
-no_float (of_array shape tree asked) t (kind, grid, made, is) = of_an_array shape tree asked kind grid t is
-no_float (encode tree chunk) t (encoding, made, (key, is_key, is)) = ap has_float is
-no_float (decode tree key dimensionality) t (encoding, made, no_slash, (answer, is_decoded, is)) =
-    of_says items_tree (λ v. no_float_in_numbers v.items) answer t is
-no_float (byte_ranges asked) t is = of_says ranges_tree of_ranges is.found t is.same
+no_float question t is = grind (arith, of_an_array, of_says, of_ranges, no_float_in_numbers)

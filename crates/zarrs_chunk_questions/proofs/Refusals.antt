@@ -1,5 +1,5 @@
 -- What is answered of what a look-up finds, and why a question is refused.
-use Rattle.std.proofs.Common.{◌≡◌, ℕ, Option, Result, Ok, Err, IsErrAnd, IfErr, IfOk, IfSome, MatchResult, None, Some}
+use Rattle.std.proofs.Common.{◌≡◌, ℕ, Option, Result, Ok, Err, IsErrAnd, IfErr, IfOk, IfSome, MatchResult, None, Some, arith}
 use Rattle.std.proofs.lemmas.Result.{err_from_is_err_and}
 use Rattle.serde_json.specs.View.{view}
 use Rattle.serde_json.specs.declared.value.Value.{Value}
@@ -17,8 +17,8 @@ use Rattle.zarrs_chunk_questions.specs.declared.line_fault.LineFault.{LineFault}
 -- what holds of a refusal holds of what a `?` hands on
 pub handed_on : {X : Type 0} (P : X → Type 0) (Q R : LineFault → Type 0) (result : Result X (Refusal LineFault)) (refusal : Refusal LineFault)
     → ((fault : LineFault) → Q fault → R fault) → OrMemory Q refusal → IsErrAnd result (λ other. other ≡ refusal) → MatchResult result P (OrMemory R)
-handed_on P Q R result (Refused fault) told is handed = let p = err_from_is_err_and result handed in rw (p.1, p.2) (told fault is)
-handed_on P Q R result (Memory error) told is handed = let p = err_from_is_err_and result handed in rw (p.1, p.2) tt
+handed_on P Q R result refusal told is handed =
+    let p = err_from_is_err_and result handed in rw (p.1, p.2) (grind arith)
 
 -- the tree of what a call answered that may answer so
 pub says_box : (MayAnswer : LookedBox → Type 0) (answer : LookedBox) (result : Result Value (Refusal LineFault)) → MayAnswer answer
@@ -44,6 +44,4 @@ if_some P R (Some x) of_each is = of_each x is
 -- what is said of an answer and of a refusal, each in other words
 pub in_other_words : {X : Type 0} (P R : X → Type 0) (Q S : LineFault → Type 0) (result : Result X (Refusal LineFault)) → ((x : X) → P x → R x)
     → ((fault : LineFault) → Q fault → S fault) → MatchResult result P (OrMemory Q) → MatchResult result R (OrMemory S)
-in_other_words P R Q S (Ok x) of_answer of_fault is = of_answer x is
-in_other_words P R Q S (Err (Refused fault)) of_answer of_fault is = of_fault fault is
-in_other_words P R Q S (Err (Memory _)) of_answer of_fault is = tt
+in_other_words P R Q S result of_answer of_fault is = grind arith

@@ -1,5 +1,5 @@
 -- Grids that one tree is the metadata of, of two array shapes.
-use Rattle.std.proofs.Common.{◌≡◌, ◌≢◌, ◌∙◌, List, [], ◌∷◌, ℕ, suc, None, Option, Some, ap, ap₂, length, refl, subst, sym}
+use Rattle.std.proofs.Common.{◌≡◌, ◌≢◌, ◌∙◌, List, [], ◌∷◌, ℕ, suc, None, Option, Some, ap, ap₂, length, refl, subst, sym, arith}
 use Rattle.std.proofs.lemmas.Option.{none-some, same_Some}
 use Rattle.serde_json.specs.Data.{Data, null, boolean, number, string, array, object as object_of, Members}
 use Rattle.serde_json.specs.Find.{as_object, as_str, get}
@@ -19,16 +19,10 @@ use Rattle.zarrs_chunk_questions.specs.declared.line_fault.LineFault.{LineFault}
 
 -- a text has no members
 no_text_with_a_name : (d : Data) (text name : List ℕ) → as_str d ≡ Some text → name_of d ≡ Some name → ⊥
-no_text_with_a_name (string s) text name is named = none-some name named
-no_text_with_a_name null text name is named = none-some text is
-no_text_with_a_name (boolean b) text name is named = none-some text is
-no_text_with_a_name (number n) text name is named = none-some text is
-no_text_with_a_name (array ds) text name is named = none-some text is
-no_text_with_a_name (object_of ms) text name is named = none-some text is
+no_text_with_a_name d text name is named = grind arith
 
 same_optional : (d : Option Data) (one other : Option Members) → IsOptional as_object d one → IsOptional as_object d other → one ≡ other
-same_optional None one other is also = is ∙ sym also
-same_optional (Some d) one other is also = sym is.1 ∙ also.1
+same_optional d one other is also = grind arith
 
 abbrev extension : List ℕ → Option Members → Extension
 extension name configuration = record { name = name; configuration = configuration }
@@ -38,11 +32,7 @@ same_extension e f name configuration = ap₂ extension name configuration
 
 -- a tree is the metadata of one extension
 pub one_extension : (d : Data) (e f : Extension) → IsExtension d e → IsExtension d f → e ≡ f
-one_extension d e f (name_alone is none) (name_alone also nothing) = same_extension e f (same_Some _ _ (sym is ∙ also)) (none ∙ sym nothing)
-one_extension d e f (object _ is given _) (object _ also again _) =
-    same_extension e f (same_Some _ _ (sym is ∙ also)) (same_optional (get (codes "configuration") d) _ _ given again)
-one_extension d e f (name_alone is _) (object _ also _ _) = absurd (no_text_with_a_name d e.name f.name is also)
-one_extension d e f (object _ is _ _) (name_alone also _) = absurd (no_text_with_a_name d f.name e.name also is)
+one_extension d e f is also = grind (arith, same_optional)
 
 -- an index that both arrays have lies in the same chunk of either
 pub one_tree : (tree : Data) (shape other : List ℕ) (kind also : GridKind) (before after : Grid) → IsGridIn tree shape kind before
@@ -53,13 +43,11 @@ one_tree tree shape other kind also before after (e, is, made) (f, is_also, made
 pub as_many : (before after : List Dimension) → AreResized before after → length after ≡ length before
 as_many [] [] resized = refl
 as_many (_ ∷ before) (_ ∷ after) resized = ap suc (as_many before after resized.1)
-as_many [] (_ ∷ _) resized = absurd resized
-as_many (_ ∷ _) [] resized = absurd resized
+as_many _ _ resized = absurd resized
 
 -- out of memory is all that is left of a refusal that tells two lengths, where these are the same
 pub never_refused : (given expected : ℕ) (P : IncompatibleDimensionalityError → LineFault → Type 0) (R : LineFault → Type 0)
     (refusal : Refusal IncompatibleDimensionalityError) (told : Refusal LineFault) → given ≡ expected
     → OrMemory (λ e. (given ≢ expected) × TellsLengths given expected e) refusal
     → MatchRefusal refusal (λ error. IsRefusedAnd told (P error)) (λ error. told ≡ Memory error) → OrMemory R told
-never_refused given expected P R (Refused e) told same (differ, _) mapped = absurd (differ same)
-never_refused given expected P R (Memory error) told same refused mapped = rw mapped tt
+never_refused given expected P R refusal told same refused mapped = grind arith

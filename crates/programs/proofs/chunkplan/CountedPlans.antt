@@ -66,8 +66,7 @@ rechunking_there source target =
 -- two arrays of one shape can be told apart by the box of chunks alone
 pub chunks_fault : (source target : List ℕ) (ds : List Dimension) (chunks : Box) (error : CopiesError) → source ≡ target
     → IsCopiesFault source target (length chunks.start) (length ds) error → IsChunksFault ds chunks (Copies error)
-chunks_fault source target ds chunks ArrayShapes same is = absurd (is same)
-chunks_fault source target ds chunks (Chunks e) same is = (is.1, is.2)
+chunks_fault source target ds chunks error same is = grind arith
 
 -- the box of all chunks has the grid's number of dimensions
 pub no_chunks_fault : (ds : List Dimension) (fault : RunFault) → ¬ IsChunksFault ds (all_chunks_box ds) fault

@@ -23,38 +23,22 @@ kept d fit rule among =
 
 -- what a member needs
 is_beside : (d : Data) → Fit d → (member other : List ℕ) → Contains rules (needs member other) → IsSome (get member d) → IsSome (get other d)
-is_beside d fit member other among there = is_there (is_some (get member d)) (is_some (get other d)) (kept d fit (needs member other) among) there
-  where
-    is_there : (one two : Bool) → (one && not two) ≡ false → one ≡ true → two ≡ true
-    is_there true true kept there = refl
-    is_there true false kept there = absurd (true≢false kept)
-    is_there false two kept there = absurd (true≢false (sym there))
+is_beside d fit member other among there = let unbroken = kept d fit (needs member other) among in grind arith
 
 -- and nothing that it excludes
 none_beside : (d : Data) → Fit d → (member other : List ℕ) → Contains rules (excludes member other) → IsSome (get member d) → get other d ≡ None
-none_beside d fit member other among there = is_none (is_some (get member d)) (get other d) (kept d fit (excludes member other) among) there
-  where
-    is_none : (one : Bool) (two : Option Data) → (one && is_some two) ≡ false → one ≡ true → two ≡ None
-    is_none true None kept there = refl
-    is_none true (Some m) kept there = absurd (true≢false kept)
-    is_none false two kept there = absurd (true≢false (sym there))
+none_beside d fit member other among there = let unbroken = kept d fit (excludes member other) among in grind arith
 
 -- a flag that is true is there
 flag_is_there : (d : Data) (field : List ℕ) → HasFlag d field true → (m : Data) × (get field d ≡ Some m)
-flag_is_there d field (inl (none, never)) = absurd (true≢false never)
-flag_is_there d field (inr (m, there, is)) = (m, there)
+flag_is_there d field is = grind arith
 
 -- what is there isn't missing
 not_missing : (d m : Data) (field : List ℕ) → get field d ≡ Some m → ¬ (get field d ≡ None)
 not_missing d m field there none = none-some m (sym none ∙ there)
 
 source_is_there : (d : Data) → HasOrder d Source → IsSome (get (codes "order") d)
-source_is_there d (inl (none, never)) = absurd (true≢false (sym (ap is_target never)))
-  where
-    is_target : Order → Bool
-    is_target Target = true
-    is_target Source = false
-source_is_there d (inr (m, there, is)) = ap is_some there
+source_is_there d is = grind arith
 
 are_lines : (d : Data) (wanted : Wanted) → HasWanted d wanted → get (codes "counts") d ≡ None → (share : Share) × (wanted ≡ lines_wanted share)
 are_lines d (lines_wanted share) has none = (share, refl)

@@ -119,12 +119,11 @@ module _ (target : List Dimension) (IsKeyOf : List ℕ → List ℕ → Type 0) 
         → HaveMarked target IsKeyOf targets (keys ++ key ∷ []) stored
     slash_marks_nothing stored slash marked = record {
       store_keys = marked.store_keys;
-      are_store_keys = λ other. (
-        λ is. let (there, none) = (marked.are_store_keys other).0 is in (Contains-append_left keys (key ∷ []) other there, none),
-        λ (there, none).
-            ⊎_elim (λ before. (marked.are_store_keys other).1 (before, none)) (λ same. absurd (none (subst (λ x. EndsInSlash x) same slash)))
-            (Contains-push_cases keys key other there),
-      );
+      are_store_keys = λ other.
+          let before = marked.are_store_keys other in
+          let more = Contains-append_left keys (key ∷ []) other in
+          let cases = Contains-push_cases keys key other in
+          let is_slash : key ≡ other → EndsInSlash other = λ same. subst EndsInSlash same slash in grind arith;
       knows = marked.knows;
     }
 
@@ -212,9 +211,7 @@ module _ (target : List Dimension) (IsKeyOf : List ℕ → List ℕ → Type 0) 
 
 pub reading_stops_keys : (told : StreamFault) (bytes : Option (List ℕ)) (start old new : Bool) → IsReadFailure told old new → old ≡ start
     → IsKeysStop (of_stream told) bytes start new
-reading_stops_keys ReadFailed bytes start old new is same = is
-reading_stops_keys NoMemory bytes start old new is same = is ∙ same
-reading_stops_keys WriteFailed bytes start old new never same = absurd never
+reading_stops_keys told bytes start old new is same = grind arith
 
 pub key_stops : (fault : RunFault) (bytes : Option (List ℕ)) (start new : Bool) (line : List ℕ) → new ≡ start
     → (fault ≡ Memory) ⊎ ((fault ≡ KeyNotText) × (line ≢ []) × (¬ IsUtf8 line))

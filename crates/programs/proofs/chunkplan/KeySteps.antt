@@ -1,5 +1,5 @@
 -- What a step leaves that reads keys, and then sends what they leave of a plan.
-use Rattle.std.proofs.Common.{◌≡◌, ◌⊎◌, ℕ, Bool, List, [], Contains, IsErrAnd, Option, Some, Result, Ok, Err, inl, inr, refl, ⊎_elim}
+use Rattle.std.proofs.Common.{◌≡◌, ◌⊎◌, ℕ, Bool, List, [], Contains, IsErrAnd, Option, Some, Result, Ok, Err, inl, inr, refl, ⊎_elim, arith}
 use Rattle.std.specs.Str.{IsUtf8}
 use Rattle.programs.specs.chunkplan.Keys.{AreKeys}
 use Rattle.programs.specs.chunkplan.seen.Missing.{IsKeysStop, KeyStepLeaves}
@@ -41,11 +41,7 @@ module _ (Planned : List (List ℕ) → List ℕ → Type 0) (IsFault : List (Li
   pub sent_after_keys : (after : Output) (keys : List (List ℕ)) (read : Bool) → AreKeys bytes keys → read ≡ start → left ≡ Some []
       → (r : Result (Unit {0}) RunFault) → StepLeaves (Planned keys) (λ _. ⊥) r before after
       → KeyStepLeaves Planned IsFault bytes r start read left before after
-  sent_after_keys after keys read are same end (Ok _) leaves = (same, end, keys, are, leaves)
-  sent_after_keys after keys read are same end (Err Memory) leaves =
-      (same, leaves.0, ⊎_elim inl (λ begun. inr (keys, are, begun)) leaves.1)
-  sent_after_keys after keys read are same end (Err Write) leaves = (same, end, leaves.0, keys, are, leaves.1)
-  sent_after_keys after keys read are same end (Err _) leaves = absurd leaves.2
+  sent_after_keys after keys read are same end r leaves = grind arith
 
 -- what a step leaves, in other words
 module _ (P Q : List (List ℕ) → List ℕ → Type 0) (F G : List (List ℕ) → RunFault → Type 0)

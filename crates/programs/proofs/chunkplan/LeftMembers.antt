@@ -120,20 +120,11 @@ module _ (d left : Data) (same : Alike d left) where
 
 -- what is asked for with the target that there is
 pub with_target : (d m : Data) (task : Task) → get (codes "target") d ≡ Some m → IsTaskTo d m task → IsCopying d task
-with_target d m (rechunk_to stored b) there is = (m, there, is)
-with_target d m (rechunk_by_source stored) there is = (m, there, is)
-with_target d m (rechunk_within stored most stage) there is = (m, there, is)
-with_target d m (copy_to shape stored region at) there is = (m, there, is)
-with_target d m _ there is = absurd is
+with_target d m task there is = grind arith
 
 -- what is copied, where there is no resize
 pub without_resize : (d : Data) (task : Task) → get (codes "resize") d ≡ None → IsCopying d task → IsTask d task
-without_resize d (read_of b clip ranges) none is = (none, is)
-without_resize d (rechunk_to stored b) none is = (none, is)
-without_resize d (rechunk_by_source stored) none is = (none, is)
-without_resize d (rechunk_within stored most stage) none is = (none, is)
-without_resize d (copy_to shape stored region at) none is = (none, is)
-without_resize d (resize_to shape keep) none (m, there, is) = absurd is
+without_resize d task none is = grind arith
 
 -- ---- the task, which is read where the array's own metadata were taken out
 

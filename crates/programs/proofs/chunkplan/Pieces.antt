@@ -118,17 +118,9 @@ begin_ends Source at of part =
     let chunk = json_tokens (chunk_json part) in
     let number = json_tokens (count_json at) in
     let count = json_tokens (count_json of) in
-    let last : List Token = begin_array ∷ [] in
     let third : List Token = key (codes "of") ∷ (count ++ key (codes "to") ∷ []) in
     let second : List Token = key (codes "number") ∷ (number ++ third) in
-    let (front, ends) = ends_with_bracket (begin_object ∷ key (codes "from") ∷ (chunk ++ second)) in (
-      front,
-      ap (λ ts. print (begin_object ∷ key (codes "from") ∷ ts))
-          (ap (λ ts. chunk ++ key (codes "number") ∷ ts)
-          (ap (λ ts. number ++ key (codes "of") ∷ ts) (sym (append_assoc count (key (codes "to") ∷ []) last)) ∙ sym (append_assoc number third last))
-          ∙ sym (append_assoc chunk second last))
-          ∙ ends,
-    )
+    simp append_assoc at (ends_with_bracket (begin_object ∷ key (codes "from") ∷ (chunk ++ second)))
 
 -- the text that begins the line of a chunk of the target has no character to escape
 pub begin_escaped : (at of : Option ℕ) (part : Part) → unbroken (print (begin_tokens Target at of part)) ≡ print (begin_tokens Target at of part)

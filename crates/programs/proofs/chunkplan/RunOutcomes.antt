@@ -1,5 +1,5 @@
 -- The outcomes of a run, put together from its steps.
-use Rattle.std.proofs.Common.{◌≡◌, ◌∙◌, ℕ, Bool, true, false, List, [], ◌++◌, Option, None, Some, Ok, Err, append_assoc, ap, codes, inl, inr, refl}
+use Rattle.std.proofs.Common.{◌≡◌, ◌∙◌, ℕ, Bool, true, false, List, [], ◌++◌, Option, None, Some, Ok, Err, append_assoc, ap, arith, codes, inl, inr, refl}
 use Rattle.std.proofs.Common.{sym, true≢false}
 use Rattle.std.proofs.Common.{unwrap_or, ⊎_elim}
 use Rattle.serde_json.specs.Data.{Data}
@@ -50,77 +50,38 @@ moves _ = false
 
 -- what holds of neither holds of others alone
 still : (P : RunFault → Type 0) → ¬ P Read → ¬ P Write → (fault : RunFault) → P fault → moves fault ≡ false
-still P no_read no_write Read is = absurd (no_read is)
-still P no_read no_write Write is = absurd (no_write is)
-still P no_read no_write _ is = refl
+still P no_read no_write fault is = grind arith
 
 of_document_still : (told : DocumentFault) → moves (of_document told) ≡ false
-of_document_still NotJson = refl
-of_document_still NotObject = refl
-of_document_still (Missing _) = refl
-of_document_still (WrongValue _) = refl
-of_document_still (Metadata _ _) = refl
-of_document_still NoMemory = refl
+of_document_still told = grind arith
 
 of_create_still : (told : CreateFault) → moves (of_create told) ≡ false
-of_create_still (Grid _) = refl
-of_create_still (Encoding _) = refl
-of_create_still NoRoom = refl
+of_create_still told = grind arith
 
 of_region_still : (told : RegionError) → moves (of_region_error told) ≡ false
-of_region_still (Region _) = refl
-of_region_still (Target _) = refl
-of_region_still (At _) = refl
-of_region_still PastSource = refl
-of_region_still PastTarget = refl
+of_region_still told = grind arith
 
 box_still : (d : Data) (field : List ℕ) (fault : RunFault) → HasBoxFault d field fault → moves fault ≡ false
-box_still d field fault (m, _, is) = still (IsBoxFormFault m field) (λ h. h) (λ h. h) fault is
+box_still d field fault is = grind arith
 
 target_still : (d target : Data) (fault : RunFault) → IsTaskToFault d target fault → moves fault ≡ false
-target_still d target fault (of_misfit _ is) = still (IsTargetMisfit d target) (λ h. h) (λ h. h) fault is
-target_still d target fault (of_target_stored told _ _ _ same) = ap moves same ∙ of_document_still told
-target_still d target fault (of_max_elements _ _ _ _ (_, _, _, is)) = still (TellsWrongValue (codes "max_elements")) (λ h. h) (λ h. h) fault is
-target_still d target fault (of_stage _ _ _ _ _ _ (_, _, _, is)) = still (TellsWrongValue (codes "stage")) (λ h. h) (λ h. h) fault is
-target_still d target fault (of_order _ _ _ _ (_, _, _, is)) = still (TellsWrongValue (codes "order")) (λ h. h) (λ h. h) fault is
-target_still d target fault (of_chunks_box _ _ _ _ _ is) = box_still d (codes "chunks") fault is
-target_still d target fault (of_type _ is) = still (IsTypeMisfit d target) (λ h. h) (λ h. h) fault is
-target_still d target fault (of_shape told _ _ _ same) = ap moves same ∙ of_document_still told
-target_still d target fault (of_region_stored told _ _ _ _ same) = ap moves same ∙ of_document_still told
-target_still d target fault (of_region_box _ _ _ _ is) = box_still d (codes "subset") fault is
-target_still d target fault (of_at _ _ _ _ _ _ (_, _, _, is)) = still (TellsWrongValue (codes "at")) (λ h. h) (λ h. h) fault is
+target_still d target fault is = grind (arith, of_document_still)
 
 ranges_still : (d : Data) (fault : RunFault) → HasRangesFault d fault → moves fault ≡ false
-ranges_still d fault (of_item_size (_, _, _, is)) = still (TellsWrongValue (codes "item_size")) (λ h. h) (λ h. h) fault is
-ranges_still d fault (of_memory_order _ _ _ _ (_, _, _, is)) = still (TellsWrongValue (codes "memory_order")) (λ h. h) (λ h. h) fault is
-ranges_still d fault (of_max_ranges _ _ _ _ _ _ (_, _, _, is)) = still (TellsWrongValue (codes "max_ranges")) (λ h. h) (λ h. h) fault is
+ranges_still d fault is = grind arith
 
 copying_still : (d : Data) (fault : RunFault) → IsCopyingFault d fault → moves fault ≡ false
-copying_still d fault (of_subset_box _ is) = box_still d (codes "subset") fault is
-copying_still d fault (of_clip _ _ _ (_, _, _, is)) = still (TellsWrongValue (codes "clip")) (λ h. h) (λ h. h) fault is
-copying_still d fault (of_ranges _ _ _ _ _ is) = ranges_still d fault is
-copying_still d fault (of_target_tree _ _ _ is) = still (TellsWrongValue (codes "target")) (λ h. h) (λ h. h) fault is
-copying_still d fault (of_task target _ _ is) = target_still d target fault is
+copying_still d fault is = grind (arith, box_still, ranges_still, target_still)
 
 task_still : (d : Data) (fault : RunFault) → IsTaskFault d fault → moves fault ≡ false
-task_still d fault (of_resize_form (_, _, _, is)) = still (TellsWrongValue (codes "resize")) (λ h. h) (λ h. h) fault is
-task_still d fault (of_keep _ _ (_, _, _, is)) = still (TellsWrongValue (codes "keep")) (λ h. h) (λ h. h) fault is
-task_still d fault (of_copying _ is) = copying_still d fault is
+task_still d fault is = grind (arith, copying_still)
 
 -- a fault of what is wanted is a wrong value
 wanted_still : (d : Data) (fault : RunFault) → HasWantedFault d fault → moves fault ≡ false
-wanted_still d fault (inl (_, _, _, is)) = still (TellsWrongValue (codes "counts")) (λ h. h) (λ h. h) fault is
-wanted_still d fault (inr (_, (_, _, is, _))) = still (TellsWrongValue (codes "share")) (λ h. h) (λ h. h) fault is
+wanted_still d fault is = grind arith
 
 form_still : (d : Data) (fault : RunFault) → IsFormFault d fault → moves fault ≡ false
-form_still d fault (unknown is) = still (IsUnknownFault d) (λ h. h) (λ h. h) fault is
-form_still d fault (missing name _ _ is) = still (TellsMissing name) (λ h. h) (λ h. h) fault is
-form_still d fault (misfit _ _ is) = still (IsMisfit d) (λ h. h) (λ h. h) fault is
-form_still d fault (misformed_shape _ _ _ _ is) = still (TellsWrongValue (codes "shape")) (λ h. h) (λ h. h) fault is
-form_still d fault (misformed_wanted _ _ _ _ is) = wanted_still d fault is
-form_still d fault (misformed_keys _ _ _ _ _ _ (_, _, _, is)) = still (TellsWrongValue (codes "keys")) (λ h. h) (λ h. h) fault is
-form_still d fault (misformed_stored told _ _ _ _ _ _ _ _ _ same) = ap moves same ∙ of_document_still told
-form_still d fault (misformed_task _ _ _ _ _ _ _ _ _ _ is) = task_still d fault is
+form_still d fault is = grind (arith, of_document_still, wanted_still, task_still)
 
 copy_still : (source target : List Dimension) (region : Box) (at : List ℕ) (fault : RunFault) → IsCopyFault source target region at fault
     → moves fault ≡ false
@@ -128,33 +89,16 @@ copy_still source target region at fault (told, _, same) = ap moves same ∙ of_
 
 within_still : (source target : List Dimension) (most : ℕ) (stage : Option Stage) (wanted : Wanted) (fault : RunFault)
     → IsFaultWithin source target most stage wanted fault → moves fault ≡ false
-within_still source target most (Some stage) wanted fault is = still (IsBetweenFault source target most) (λ h. h) (λ h. h) fault is
-within_still source target most None (lines_wanted share) fault is = still (IsOneStageFault source target most) (λ h. h) (λ h. h) fault is
-within_still source target most None counts_wanted fault is = still (IsStagesCountsFault source target) (λ h. h) (λ h. h) fault is
+within_still source target most stage wanted fault is = grind arith
 
 plan_still : (document : Document) (fault : RunFault) → IsPlanFault document fault → moves fault ≡ false
-plan_still document fault (of_source told _ same) = ap moves same ∙ of_create_still told
-plan_still document fault (of_subset subset clip _ grid _ _ _ is) =
-    still (IsReadFault clip grid.dimensions (unwrap_or subset (array_box grid.dimensions))) (λ h. h) (λ h. h) fault is
-plan_still document fault (of_target stored _ _ _ _ _ is) = still (IsTargetFault stored document.shape) (λ h. h) (λ h. h) fault is
-plan_still document fault (of_chunks _ chunks _ target _ _ _ _ _ is) =
-    still (IsChunksFault target.dimensions (unwrap_or chunks (all_chunks_box target.dimensions))) (λ h. h) (λ h. h) fault is
-plan_still document fault (of_source_order_target stored _ _ _ _ is) = still (IsTargetFault stored document.shape) (λ h. h) (λ h. h) fault is
-plan_still document fault (of_bound_target stored _ _ _ _ _ _ is) = still (IsTargetFault stored document.shape) (λ h. h) (λ h. h) fault is
-plan_still document fault (of_bound _ most stage source target _ _ _ _ _ is) =
-    within_still source.dimensions target.dimensions most stage document.wanted fault is
-plan_still document fault (of_region_target shape stored _ _ _ _ _ _ is) = still (IsTargetFault stored shape) (λ h. h) (λ h. h) fault is
-plan_still document fault (of_region _ _ region at source target _ _ _ _ _ is) =
-    copy_still source.dimensions target.dimensions region (begins_at region at) fault is
-plan_still document fault (of_resize shape _ _ _ _ _ is) = still (IsResizeFault document.stored shape) (λ h. h) (λ h. h) fault is
+plan_still document fault is = grind (arith, of_create_still, copy_still, within_still)
 
 input_still : (input : List ℕ) (fault : RunFault) → IsInputFault input fault → moves fault ≡ false
-input_still input fault (no_object told _ same) = ap moves same ∙ of_document_still told
-input_still input fault (not_of_form tree _ is) = form_still tree fault is
+input_still input fault is = grind (arith, of_document_still, form_still)
 
 beside_still : (document : Document) (keys : List (List ℕ)) (fault : RunFault) → IsFaultBeside document keys fault → moves fault ≡ false
-beside_still document keys fault (of_plan is) = plan_still document fault is
-beside_still document keys fault (of_keys _ _ groups _ is) = still (IsKeysFault groups keys) (λ h. h) (λ h. h) fault is
+beside_still document keys fault is = grind (arith, plan_still)
 
 first_still : (input : List ℕ) (fault : RunFault) → IsFirstFault input fault → moves fault ≡ false
 first_still input fault (no_document _ is) = input_still input fault is

@@ -22,9 +22,7 @@ use Rattle.programs.specs.chunkplan.seen.Missing.{HaveMarked, HaveNoted, is_left
 use Rattle.programs.specs.chunkplan.seen.Opened.{CopiesToCome}
 
 both_true : (one other : Bool) → IsTrue (one && other) ↔ (IsTrue one × IsTrue other)
-both_true true true = (λ is. (refl, refl), λ is. refl)
-both_true true false = (λ is. (refl, is), λ is. is.1)
-both_true false other = (λ is. absurd (true≢false (sym is)), λ is. is.0)
+both_true one other = grind arith
 
 some_at : {X : Type 0} (P : X → Type 0) (o : Option X) → IsSomeAnd o P → (x : X) × (o ≡ Some x) × P x
 some_at P None is = absurd is
