@@ -1,5 +1,5 @@
 -- What is read of a tree, and the first fault.
-use Rattle.std.proofs.Common.{◌≡◌, ℕ, true, None, Option, Some, Result, Ok, Err, Vec, is_some, map, refl, true≢false}
+use Rattle.std.proofs.Common.{◌≡◌, ℕ, true, None, Option, Some, Result, Ok, Err, Vec, is_some, map, refl, true≢false, arith}
 use Rattle.std.proofs.lemmas.List.{map-id}
 use Rattle.std.specs.Option.{ok_or}
 use Rattle.std.specs.declared.alloc.Global.{Global}
@@ -13,8 +13,7 @@ use Rattle.zarrs_chunk_questions.specs.seen.Read.{IsRead, lists_of}
 
 -- where there is something, all is read that is read of it
 goes_on : {X Y : Type 0} (found : Option X) (fault : Fault) (next : Reading Y) → true ≡ is_some found → next ≡ then (ok_or found fault) (λ _. next)
-goes_on (Some x) fault next is = refl
-goes_on None fault next is = absurd (true≢false is)
+goes_on found fault next is = grind arith
 
 -- as of an object
 pub of_object : {Y : Type 0} (d : Data) (next : Reading Y) → true ≡ is_some (as_object d) → next ≡ then (ok_or (as_object d) not_object) (λ _. next)

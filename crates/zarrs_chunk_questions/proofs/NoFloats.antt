@@ -135,32 +135,8 @@ of_counts share many = grind (arith, or_none, no_float_in_numbers, a_line_number
 
 of_an_array : (shape : List ℕ) (own : Data) (asked : Asked) (kind : GridKind) (grid : Grid) (t : Data) → IsArrayAnswer shape own asked kind grid t
     → HasNone t
-of_an_array shape own (of_grid call) kind grid t is = of_alone call kind grid t is
-of_an_array shape own (of_numbers call xs) kind grid t is = of_list_of_numbers call grid xs t is
-of_an_array shape own (of_box call lists) kind grid t is = of_a_box call grid.dimensions (box_of lists) t is.1
-of_an_array shape own (of_walk walk wanted) kind grid t is = ap has_float is ∙ of_a_walk walk grid.dimensions wanted.most wanted.first
-of_an_array shape own (runs dimension) kind grid t (of_kind, (answer, told, is)) = of_says size_tree (λ n. refl) answer t is
-of_an_array shape own (counted index) kind grid t (of_kind, is) =
-    ap has_float is.tree ∙ ap (λ b. b || (false || false)) (or_none items_tree (λ v. no_float_in_numbers v.items) is.answer)
-of_an_array shape own (located tree index) kind grid t (encoding, made, (answer, may, is)) =
-    of_says located_tree (λ at. rw (no_float_in_numbers at.chunk.items, no_float_in_numbers at.element.items) refl) answer t is
-of_an_array shape own (parts tree wanted lists) kind grid t (encoding, made, is_box, (answer, may, is)) =
-    of_says (parts_tree (first_of wanted)) (of_some_parts (first_of wanted)) answer t is
-of_an_array shape own (copies tree target wanted chunks) kind grid t is =
-    let (as_long, in_all, groups, are, same) = is.answers in
-    ap has_float same ∙ of_page (map group_tree groups) (is_more (first_of wanted) (length groups) in_all) (no_float_mapped group_tree a_group groups)
-of_an_array shape own (counts tree target share chunks) kind grid t is =
-    let counted = is.answers.1 in ap has_float counted.tree ∙ of_counts share counted.counts
-of_an_array shape own (copies_of_region tree target wanted region) kind grid t is =
-    let page = is.answers in
-    ap has_float page.tree
-    ∙ of_page (map moved_group_tree page.groups) (is_more (first_of wanted) (length page.groups) page.in_all)
-    (no_float_mapped moved_group_tree a_moved_group page.groups)
-of_an_array shape own (counts_of_region tree target share region) kind grid t is = ap has_float is.answers.tree ∙ of_counts share is.answers.counts
-of_an_array shape own (changed_chunks resize) kind grid t is =
-    let changed = is.changed in
-    ap has_float is.same
-    ∙ rw (no_float_in_numbers changed.after.items, no_float_in_numbers changed.before.items, no_float_in_numbers changed.kept.items) refl
+of_an_array shape own asked kind grid t is =
+    grind (arith, of_alone, of_list_of_numbers, of_a_box, of_a_walk, of_says, of_some_parts, of_page, of_counts, or_none, no_float_in_numbers, a_group, a_moved_group, no_float_mapped)
 
 of_ranges : (ranges : ByteRanges) → HasNone (ranges_tree ranges)
 of_ranges ranges = rw (no_float_in_numbers ranges.counts.items, no_float_in_numbers ranges.strides.items) refl

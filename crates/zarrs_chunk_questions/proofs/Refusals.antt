@@ -36,11 +36,6 @@ pub length_fault : {X : Type 0} (Stores : Type 0) (given expected : ℕ) (Found 
     → TellsError answer fault → IsLengthFault given expected fault
 length_fault Stores given expected Found Absent answer fault may (e, same, told) = rw told (rw same at may)
 
--- what is said of what there is, in other words
-pub if_some : {X : Type 0} (P R : X → Type 0) (found : Option X) → ((x : X) → P x → R x) → IfSome found P → IfSome found R
-if_some P R None of_each is = tt
-if_some P R (Some x) of_each is = of_each x is
-
 -- what is said of an answer and of a refusal, each in other words
 pub in_other_words : {X : Type 0} (P R : X → Type 0) (Q S : LineFault → Type 0) (result : Result X (Refusal LineFault)) → ((x : X) → P x → R x)
     → ((fault : LineFault) → Q fault → S fault) → MatchResult result P (OrMemory Q) → MatchResult result R (OrMemory S)

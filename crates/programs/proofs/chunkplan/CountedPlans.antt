@@ -70,5 +70,4 @@ chunks_fault source target ds chunks error same is = grind arith
 
 -- the box of all chunks has the grid's number of dimensions
 pub no_chunks_fault : (ds : List Dimension) (fault : RunFault) → ¬ IsChunksFault ds (all_chunks_box ds) fault
-no_chunks_fault ds (Copies (Chunks _)) (other, _) = other (length-replicate (length ds) 0)
-no_chunks_fault ds _ is = is
+no_chunks_fault ds fault is = grind (arith, length-replicate)

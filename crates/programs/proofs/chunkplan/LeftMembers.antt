@@ -75,15 +75,10 @@ module _ (d left : Data) (same : Alike d left) where
     is_of_type is = record { known = is.known; same_data_type = rw same.data_type at is.same_data_type }
 
     is_target_misfit : (fault : RunFault) → IsTargetMisfit left m fault → IsTargetMisfit d m fault
-    is_target_misfit (UnknownOfTarget told) is = is
-    is_target_misfit OtherShape is = rw same.shape at is
-    is_target_misfit OtherDataType is = rw (same.shape, same.data_type) at is
-    is_target_misfit _ is = absurd is
+    is_target_misfit fault is = let shape = same.shape in let data_type = same.data_type in grind arith
 
     is_type_misfit : (fault : RunFault) → IsTypeMisfit left m fault → IsTypeMisfit d m fault
-    is_type_misfit (UnknownOfTarget told) is = is
-    is_type_misfit OtherDataType is = rw same.data_type at is
-    is_type_misfit _ is = absurd is
+    is_type_misfit fault is = let data_type = same.data_type in grind arith
 
     -- ---- what is asked for with a target
 

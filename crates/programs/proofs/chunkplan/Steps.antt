@@ -1,5 +1,5 @@
 -- What a step leaves that sends the text of a plan, in other words.
-use Rattle.std.proofs.Common.{◌≡◌, ◌⊎◌, ℕ, IfOk, IsErrAnd, List, Result, Ok, Err, Vec, inl, inr, refl, ⊎_elim}
+use Rattle.std.proofs.Common.{◌≡◌, ◌⊎◌, ℕ, IfOk, IsErrAnd, List, Result, Ok, Err, Vec, inl, inr, refl, ⊎_elim, arith}
 use Rattle.std.specs.declared.alloc.AllocError.{AllocError}
 use Rattle.std.specs.declared.alloc.Global.{Global}
 use Rattle.zarrs_chunk_base.specs.Refusal.{OrMemory}
@@ -43,10 +43,7 @@ step_made P made has before after r =
 
 module _ (P : List ℕ → Type 0) (F : RunFault → Type 0) where
   stops_early : (fault : RunFault) (before : Output) → (¬ F Write) → (fault ≡ Memory) ⊎ F fault → StepLeaves P F (Err fault) before before
-  stops_early fault before none (inl is) = rw is (refl, inl refl)
-  stops_early Write before none (inr is) = absurd (none is)
-  stops_early Memory before none (inr is) = (refl, inl refl)
-  stops_early _ before none (inr is) = (refl, refl, is)
+  stops_early fault before none which = grind arith
 
   -- a call's fault before anything was sent
   pub early : {G : Type 0} (r : Result (Unit {0}) RunFault) (fault : RunFault) (before : Output) → IsErrAnd r (λ other. other ≡ fault) → (¬ F Write)

@@ -1,8 +1,9 @@
 use Rattle.std.proofs.Common.{option_map}
+use Rattle.std.proofs.lemmas.Option.{IfSome_then}
 use Rattle.serde_json.specs.View.{view}
 use Rattle.zarrs_chunk_questions.specs.Pages.{IsCopiesAnswer, first_of}
 use Rattle.zarrs_chunk_questions.specs.seen.Read.{items_of, lists_of, target_of}
-use Rattle.zarrs_chunk_questions.proofs.Refusals.{if_some, in_other_words}
+use Rattle.zarrs_chunk_questions.proofs.Refusals.{in_other_words}
 use Rattle.zarrs_chunk_questions.proofs.RechunkingsAsked.{answered, refused}
 use Rattle.zarrs_chunk_questions.proofs.array_question.some_copies.Goals as goal
 
@@ -17,7 +18,7 @@ returns c =
     let made = c.in_ok-rechunking.rechunking in
     let is = c.in_ok-rechunking.ensures in
     in_other_words _ _ _ _ c.copies_from.result
-    (λ found. if_some _ _ found
+    (λ found some. IfSome_then found some
     (λ t. answered shape grid tree target chunks made is
     (λ source IsSourceKey to IsTargetKey b. IsCopiesAnswer source IsSourceKey to IsTargetKey b (first_of items) items.most) (view t)))
     (refused shape grid tree target chunks made is) (rw (c.unwrap_or-first.ensures, c.limits_of-limits.ensures) at c.copies_from.ensures)

@@ -1,8 +1,9 @@
+use Rattle.std.proofs.lemmas.Option.{IfSome_then}
 use Rattle.serde_json.specs.View.{view}
 use Rattle.zarrs_chunk_questions.specs.Pages.{first_of}
 use Rattle.zarrs_chunk_questions.specs.Regions.{IsRegionCopiesAnswer}
 use Rattle.zarrs_chunk_questions.specs.seen.Read.{items_of, region_of, target_array_of}
-use Rattle.zarrs_chunk_questions.proofs.Refusals.{if_some, in_other_words}
+use Rattle.zarrs_chunk_questions.proofs.Refusals.{in_other_words}
 use Rattle.zarrs_chunk_questions.proofs.RegionsAsked.{answered, refused}
 use Rattle.zarrs_chunk_questions.proofs.array_question.some_region_copies.Goals as goal
 
@@ -16,5 +17,5 @@ returns c =
     let made = c.in_ok-copied.copied in
     let is = c.in_ok-copied.ensures in
     in_other_words _ _ _ _ c.region_copies_from.result
-    (λ found. if_some _ _ found (λ t. answered grid tree target region made is (IsRegionCopiesAnswer (first_of items) items.most) (view t)))
+    (λ found some. IfSome_then found some (λ t. answered grid tree target region made is (IsRegionCopiesAnswer (first_of items) items.most) (view t)))
     (refused grid tree target region made is) (rw (c.unwrap_or-first.ensures, c.limits_of-limits.ensures) at c.region_copies_from.ensures)
