@@ -1,5 +1,5 @@
 -- What is read of a tree, and the first fault.
-use Rattle.std.proofs.Common.{◌≡◌, ℕ, true, None, Option, Some, Result, Ok, Err, Vec, is_some, map, refl, true≢false, arith}
+use Rattle.std.proofs.Common.{◌≡◌, ℕ, true, Option, Result, Ok, Err, Vec, is_some, map, arith}
 use Rattle.std.proofs.lemmas.List.{map-id}
 use Rattle.std.specs.Option.{ok_or}
 use Rattle.std.specs.declared.alloc.Global.{Global}

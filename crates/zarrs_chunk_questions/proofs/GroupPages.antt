@@ -1,5 +1,5 @@
 -- The groups of a plan: those that came of a walk, and the page of some of them.
-use Rattle.std.proofs.Common.{◌≡◌, ◌≢◌, ◌∙◌, ℕ, ◌+◌, ◌-◌, ◌≤◌, List, [], ◌∷◌, ◌++◌, IfSome, Option, Some, None, ap, ap₂, append-nil, drop, length, map}
+use Rattle.std.proofs.Common.{◌≡◌, ◌≢◌, ◌∙◌, ℕ, ◌-◌, ◌≤◌, List, [], ◌∷◌, ◌++◌, IfSome, Option, Some, None, ap, ap₂, append-nil, drop, length, map}
 use Rattle.std.proofs.Common.{min, refl, subst, sym, take, arith}
 use Rattle.std.proofs.Math.Seq.{take-append_seam}
 use Rattle.std.proofs.lemmas.List.{length-map, map-append, take_all}

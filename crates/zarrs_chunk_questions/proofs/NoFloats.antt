@@ -1,7 +1,6 @@
 -- No answer has a float: its numbers are sizes.
-use Rattle.std.proofs.Common.{◌≡◌, ◌∙◌, ◌||◌, ℕ, zero, suc, ◌+◌, Bool, false, List, [], ◌∷◌, Option, Some, None, ap, ap₂, length, map, nat_lt, refl, take, arith}
+use Rattle.std.proofs.Common.{◌≡◌, ◌∙◌, ◌||◌, ℕ, zero, suc, Bool, false, List, [], ◌∷◌, Option, Some, None, ap, ap₂, length, map, nat_lt, refl, take, arith}
 use Rattle.std.proofs.lemmas.Bool.{or_parts}
-use Rattle.std.specs.Int.NonZero.{non_zero_u64_get}
 use Rattle.serde_json.specs.Data.{Data, Members}
 use Rattle.serde_json.specs.View.{items_of}
 use Rattle.serde_json.specs.Written.{has_float, items_have_float, members_have_float}
@@ -12,33 +11,25 @@ use Rattle.zarrs_chunk_base.specs.Metadata.{extension_tree}
 use Rattle.zarrs_chunks.specs.GridKinds.{GridKind}
 use Rattle.zarrs_chunks.proofs.NoFloats.{no_float_in_list, no_float_in_numbers, no_float_mapped}
 use Rattle.zarrs_chunks.proofs.SeenGrids.{no_float_written}
-use Rattle.zarrs_chunks.specs.Walks.{box_at, boxed, chunks_of}
-use Rattle.zarrs_chunk_base.specs.Dimension.{Dimension, array_sizes, grid_sizes}
+use Rattle.zarrs_chunks.specs.Walks.{boxed, chunks_of}
+use Rattle.zarrs_chunk_base.specs.Dimension.{Dimension}
 use Rattle.zarrs_chunk_plan.specs.Counted.{counted as counted_up_to}
-use Rattle.zarrs_chunk_plan.specs.Counts.{product}
 use Rattle.zarrs_chunk_plan.specs.Rechunking.{Group}
 use Rattle.zarrs_chunk_plan.specs.Region.{shifted}
-use Rattle.zarrs_chunk_plan.specs.Shares.{before_share}
 use Rattle.zarrs_chunk_plan.specs.declared.bytes.ByteRanges.{ByteRanges}
 use Rattle.zarrs_chunk_plan.specs.declared.counts.Counts.{Counts}
 use Rattle.zarrs_chunk_plan.specs.declared.numbered_parts.SomeParts.{SomeParts}
-use Rattle.zarrs_chunk_questions.specs.Answers.{IsAnswer, IsArrayAnswer, IsBoxAnswer, IsGridAnswer, IsNumbersAnswer, edges_tree, items_tree}
-use Rattle.zarrs_chunk_questions.specs.Answers.{located_tree}
+use Rattle.zarrs_chunk_questions.specs.Answers.{IsAnswer, IsArrayAnswer, IsBoxAnswer, IsGridAnswer, IsNumbersAnswer}
 use Rattle.zarrs_chunk_questions.specs.Bytes.{ranges_tree}
-use Rattle.zarrs_chunk_questions.specs.Counts.{count_tree, counts_tree, line_number_tree}
-use Rattle.zarrs_chunk_questions.specs.Pages.{chunks_from, first_of, group_tree, is_more, item_tree, item_trees, count_of, page_tree, part_tree}
+use Rattle.zarrs_chunk_questions.specs.Counts.{counts_tree, line_number_tree}
+use Rattle.zarrs_chunk_questions.specs.Pages.{chunks_from, group_tree, is_more, item_tree, item_trees, count_of, page_tree, part_tree}
 use Rattle.zarrs_chunk_questions.specs.Pages.{parts_tree, source_tree, walk_page}
-use Rattle.zarrs_chunk_questions.specs.Question.{Asked, Question, ShareAsked, byte_ranges, changed_chunks, copies, copies_of_region, counted, counts, counts_of_region, decode}
-use Rattle.zarrs_chunk_questions.specs.Question.{encode, located, of_array, of_box, of_grid, of_numbers, of_walk, parts, runs}
+use Rattle.zarrs_chunk_questions.specs.Question.{Asked, Question, ShareAsked}
 use Rattle.zarrs_chunk_questions.specs.Regions.{moved_group_tree, moved_source_tree}
-use Rattle.zarrs_chunk_questions.specs.Trees.{box_of, box_tree, numbers_tree, or_null}
+use Rattle.zarrs_chunk_questions.specs.Trees.{box_tree, numbers_tree, or_null}
 use Rattle.zarrs_chunk_questions.specs.declared.call.OfBox.{OfBox}
-use Rattle.zarrs_chunk_questions.specs.declared.call.OfBox.TheVariants.{ChunksInArraySubset, ChunksSubset}
 use Rattle.zarrs_chunk_questions.specs.declared.call.OfGrid.{OfGrid}
-use Rattle.zarrs_chunk_questions.specs.declared.call.OfGrid.TheVariants.{ArrayShape, Configuration, Dimensionality, GridShape, Metadata}
 use Rattle.zarrs_chunk_questions.specs.declared.call.OfNumbers.{OfNumbers}
-use Rattle.zarrs_chunk_questions.specs.declared.call.OfNumbers.TheVariants.{ArrayIndicesInbounds, ChunkElementIndices, ChunkIndices}
-use Rattle.zarrs_chunk_questions.specs.declared.call.OfNumbers.TheVariants.{ChunkIndicesInbounds, ChunkOrigin, ChunkShape, ChunkShapeNumbers, Subset}
 use Rattle.zarrs_chunk_questions.specs.declared.call.WalkOf.{WalkOf}
 use Rattle.zarrs_chunk_questions.specs.declared.call.WalkOf.TheVariants.{Boxes, Chunks, ChunksAndBoxes}
 

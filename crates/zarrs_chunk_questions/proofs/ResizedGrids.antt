@@ -1,17 +1,15 @@
 -- Grids that one tree is the metadata of, of two array shapes.
-use Rattle.std.proofs.Common.{◌≡◌, ◌≢◌, ◌∙◌, List, [], ◌∷◌, ℕ, suc, None, Option, Some, ap, ap₂, length, refl, subst, sym, arith}
-use Rattle.std.proofs.lemmas.Option.{none-some, same_Some}
-use Rattle.serde_json.specs.Data.{Data, null, boolean, number, string, array, object as object_of, Members}
-use Rattle.serde_json.specs.Find.{as_object, as_str, get}
-use Rattle.std.specs.Prelude.{codes}
+use Rattle.std.proofs.Common.{◌≡◌, ◌≢◌, List, [], ◌∷◌, ℕ, suc, Option, Some, ap, ap₂, length, refl, subst, arith}
+use Rattle.serde_json.specs.Data.{Data, Members}
+use Rattle.serde_json.specs.Find.{as_object, as_str}
 use Rattle.zarrs_chunk_base.specs.Dimension.{Dimension}
 use Rattle.zarrs_chunk_base.specs.Grid.{Grid}
 use Rattle.zarrs_chunk_base.specs.Kinds.{IsOf}
-use Rattle.zarrs_chunk_base.specs.Metadata.{Extension, IsExtension, IsOptional, name_alone, name_of, object}
+use Rattle.zarrs_chunk_base.specs.Metadata.{Extension, IsExtension, IsOptional, name_of}
 use Rattle.zarrs_chunk_base.specs.Refusal.{IsRefusedAnd, MatchRefusal, OrMemory, TellsLengths}
 use Rattle.zarrs_chunk_base.specs.declared.incompatible_dimensionality_error.IncompatibleDimensionalityError.{IncompatibleDimensionalityError}
 use Rattle.zarrs_chunk_base.specs.declared.refusal.Refusal.{Refusal}
-use Rattle.zarrs_chunk_base.specs.declared.refusal.Refusal.TheVariants.{Refused, Memory}
+use Rattle.zarrs_chunk_base.specs.declared.refusal.Refusal.TheVariants.{Memory}
 use Rattle.zarrs_chunks.specs.GridKinds.{GridKind, IsGridIn, grid_kind}
 use Rattle.zarrs_chunk_plan.specs.Resize.{AreResized}
 use Rattle.zarrs_chunk_plan.proofs.OneConfiguration.{one_configuration}

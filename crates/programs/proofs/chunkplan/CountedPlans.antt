@@ -8,7 +8,6 @@ use Rattle.zarrs_chunk_plan.specs.Counts.{AreReadCounts}
 use Rattle.zarrs_chunk_plan.specs.Rechunking.{AreTargets, Group, IsRechunking, all_chunks_box, array_box}
 use Rattle.zarrs_chunk_plan.specs.Region.{CanBeMoved, IsCopy, moved}
 use Rattle.zarrs_chunk_plan.specs.declared.copies_error.CopiesError.{CopiesError}
-use Rattle.zarrs_chunk_plan.specs.declared.copies_error.CopiesError.TheVariants.{ArrayShapes, Chunks}
 use Rattle.zarrs_chunk_plan.specs.declared.counts.Counts.{Counts}
 use Rattle.zarrs_chunk_plan.specs.seen.Copies.{IsCopiesFault}
 use Rattle.zarrs_chunk_parts.specs.declared.part.Part.{Part}

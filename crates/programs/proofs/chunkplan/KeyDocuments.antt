@@ -1,5 +1,5 @@
 -- What a document before keys asks for.
-use Rattle.std.proofs.Common.{◌≡◌, ◌⊎◌, ◌∙◌, ℕ, Bool, true, false, not, ◌&&◌, Contains, IsFalse, IsSome, List, Option, None, Some, ap, codes, inl, inr, is_some, refl, sym, true≢false, arith}
+use Rattle.std.proofs.Common.{◌≡◌, ◌⊎◌, ◌∙◌, ℕ, true, Contains, IsFalse, IsSome, List, Option, None, Some, ap, codes, inl, inr, is_some, refl, sym, true≢false, arith}
 use Rattle.std.proofs.lemmas.List.Elements.{All-contains, All-from_recursion}
 use Rattle.std.proofs.lemmas.Option.{none-some, same_Some}
 use Rattle.serde_json.specs.Data.{Data}
@@ -12,8 +12,7 @@ use Rattle.programs.specs.chunkplan.Document.{Document, HasFlag, HasWanted, Asks
 use Rattle.programs.specs.chunkplan.Document.{HasOrder, lines_wanted, read_of, rechunk_by_source, rechunk_to, rechunk_within, resize_to}
 use Rattle.programs.specs.chunkplan.Keys.{HasKeysBehind}
 use Rattle.programs.specs.chunkplan.MemberRules.{Fit, Rule, excludes, is_broken, needs, rules}
-use Rattle.programs.specs.declared.chunkplan.line.Order.{Order}
-use Rattle.programs.specs.declared.chunkplan.line.Order.TheVariants.{Source, Target}
+use Rattle.programs.specs.declared.chunkplan.line.Order.TheVariants.{Source}
 
 -- ---- what a document has that breaks no rule
 

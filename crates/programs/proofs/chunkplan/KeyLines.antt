@@ -18,7 +18,6 @@ use Rattle.programs.specs.chunkplan.seen.Missing.{HaveMarked, HaveNoted, IsKeysS
 use Rattle.programs.specs.declared.chunkplan.run_fault.RunFault.{RunFault}
 use Rattle.programs.specs.declared.chunkplan.run_fault.RunFault.TheVariants.{KeyNotText, Memory}
 use Rattle.streams.specs.declared.stream_fault.StreamFault.{StreamFault}
-use Rattle.streams.specs.declared.stream_fault.StreamFault.TheVariants.{Memory as NoMemory, Read as ReadFailed, Write as WriteFailed}
 
 -- ---- the keys in some lines
 

@@ -4,7 +4,6 @@ use Rattle.std.proofs.Common.{arith, get_or}
 use Rattle.serde_json.specs.Data.{Data}
 use Rattle.serde_json.specs.Find.{get}
 use Rattle.programs.specs.declared.chunkplan.run_fault.RunFault.{RunFault}
-use Rattle.programs.specs.declared.chunkplan.run_fault.RunFault.TheVariants.{OtherDataType, OtherShape, UnknownOfTarget}
 use Rattle.programs.specs.chunkplan.Document.{HasRanges, IsCopying, IsOfArray, IsOfType, IsTask, IsTaskTo, RangesWanted, Task, copy_to, read_of}
 use Rattle.programs.specs.chunkplan.Document.{rechunk_by_source, rechunk_to, rechunk_within, resize_to}
 use Rattle.programs.specs.chunkplan.DocumentFault.{HasRangesFault, IsCopyingFault, IsTargetMisfit, IsTaskFault}

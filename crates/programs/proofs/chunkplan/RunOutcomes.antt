@@ -1,32 +1,21 @@
 -- The outcomes of a run, put together from its steps.
-use Rattle.std.proofs.Common.{◌≡◌, ◌∙◌, ℕ, Bool, true, false, List, [], ◌++◌, Option, None, Some, Ok, Err, append_assoc, ap, arith, codes, inl, inr, refl}
+use Rattle.std.proofs.Common.{◌≡◌, ◌∙◌, ℕ, Bool, true, false, List, [], ◌++◌, Option, Some, Ok, Err, append_assoc, ap, arith, inl, inr}
 use Rattle.std.proofs.Common.{sym, true≢false}
-use Rattle.std.proofs.Common.{unwrap_or, ⊎_elim}
+use Rattle.std.proofs.Common.{⊎_elim}
 use Rattle.serde_json.specs.Data.{Data}
 use Rattle.zarrs_chunk_base.specs.ArraySubset.{Box}
 use Rattle.zarrs_chunk_base.specs.Dimension.{Dimension}
-use Rattle.zarrs_chunk_plan.specs.Rechunking.{all_chunks_box, array_box}
 use Rattle.zarrs_chunk_plan.specs.declared.region_error.RegionError.{RegionError}
-use Rattle.zarrs_chunk_plan.specs.declared.region_error.RegionError.TheVariants.{At, PastSource, PastTarget, Region, Target}
 use Rattle.streams.specs.Streams.{IsReadToEnd, Streams}
-use Rattle.programs.specs.chunkplan.Document.{Document, Wanted, counts_wanted, lines_wanted}
-use Rattle.programs.specs.chunkplan.DocumentFault.{HasBoxFault, HasWantedFault, IsBoxFormFault, IsCopyingFault, IsFormFault, IsInputFault, IsMisfit, IsTargetMisfit}
-use Rattle.programs.specs.chunkplan.DocumentFault.{misfit, misformed_keys, misformed_shape, misformed_stored, misformed_task, misformed_wanted, missing}
-use Rattle.programs.specs.chunkplan.DocumentFault.{no_object, not_of_form}
-use Rattle.programs.specs.chunkplan.DocumentFault.{IsTaskFault, IsTaskToFault, IsTypeMisfit, IsUnknownFault, TellsMissing, TellsWrongValue, of_at}
-use Rattle.programs.specs.chunkplan.DocumentFault.{of_clip, of_copying, of_keep, of_misfit, of_order, of_region_stored, of_shape, of_target_stored}
-use Rattle.programs.specs.chunkplan.DocumentFault.{HasRangesFault, of_item_size, of_max_elements, of_max_ranges, of_memory_order, of_ranges}
-use Rattle.programs.specs.chunkplan.DocumentFault.{of_resize as of_resize_form}
-use Rattle.programs.specs.chunkplan.DocumentFault.{of_stage, of_task, of_type, unknown}
-use Rattle.programs.specs.chunkplan.DocumentFault.{of_chunks as of_chunks_box, of_region as of_region_box, of_subset as of_subset_box}
-use Rattle.programs.specs.chunkplan.DocumentFault.{of_target as of_target_tree}
-use Rattle.programs.specs.chunkplan.PlanFault.{IsChunksFault, IsCopyFault, IsFaultBeside, IsFirstFault, IsPlanFault, IsReadFault, IsResizeFault, IsTargetFault}
-use Rattle.programs.specs.chunkplan.PlanFault.{beside_keys, long_document, no_document, no_first_document, of_keys, of_plan}
-use Rattle.programs.specs.chunkplan.PlanFault.{IsBetweenFault, IsFaultWithin, IsOneStageFault, IsStagesCountsFault, no_plan, of_bound}
-use Rattle.programs.specs.chunkplan.PlanFault.{of_bound_target, of_chunks}
-use Rattle.programs.specs.chunkplan.PlanFault.{of_region, of_region_target, of_resize, of_source, of_subset, of_source_order_target, of_target}
-use Rattle.programs.specs.chunkplan.Keys.{IsKeysFault, first_line}
-use Rattle.programs.specs.chunkplan.Planned.{IsPlanOf, begins_at}
+use Rattle.programs.specs.chunkplan.Document.{Document, Wanted}
+use Rattle.programs.specs.chunkplan.DocumentFault.{HasBoxFault, HasWantedFault, IsCopyingFault, IsFormFault, IsInputFault}
+use Rattle.programs.specs.chunkplan.DocumentFault.{IsTaskFault, IsTaskToFault}
+use Rattle.programs.specs.chunkplan.DocumentFault.{HasRangesFault}
+use Rattle.programs.specs.chunkplan.PlanFault.{IsCopyFault, IsFaultBeside, IsFirstFault, IsPlanFault}
+use Rattle.programs.specs.chunkplan.PlanFault.{beside_keys, long_document, no_document, no_first_document}
+use Rattle.programs.specs.chunkplan.PlanFault.{IsFaultWithin, no_plan}
+use Rattle.programs.specs.chunkplan.Keys.{first_line}
+use Rattle.programs.specs.chunkplan.Planned.{IsPlanOf}
 use Rattle.programs.specs.chunkplan.Run.{HasBegunPlan, RunLeaves}
 use Rattle.programs.specs.chunkplan.RunFault.{of_create, of_document, of_region as of_region_error, of_stream}
 use Rattle.programs.specs.chunkplan.seen.Steps.{HasBegun, InputStepLeaves}
@@ -35,9 +24,7 @@ use Rattle.programs.specs.declared.chunkplan.run_fault.RunFault.{RunFault}
 use Rattle.programs.specs.declared.chunkplan.run_fault.RunFault.TheVariants.{Memory, Read, Write}
 use Rattle.programs.specs.declared.chunkplan.stage.Stage.{Stage}
 use Rattle.documents.specs.declared.document_fault.DocumentFault.{DocumentFault}
-use Rattle.documents.specs.declared.document_fault.DocumentFault.TheVariants.{Memory as NoMemory, Metadata, Missing, NotJson, NotObject, WrongValue}
 use Rattle.documents.specs.declared.stored.CreateFault.{CreateFault}
-use Rattle.documents.specs.declared.stored.CreateFault.TheVariants.{Encoding, Grid, Memory as NoRoom}
 use Rattle.streams.specs.declared.stream_fault.StreamFault.{StreamFault}
 use Rattle.streams.specs.declared.stream_fault.StreamFault.TheVariants.{Write as WriteFailed}
 

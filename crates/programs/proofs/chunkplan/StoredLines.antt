@@ -1,6 +1,6 @@
 -- What a store hasn't of a plan, by the keys that were noted.
-use Rattle.std.proofs.Common.{◌≡◌, ◌↔◌, ◌<◌, ◌^◌, ◌++◌, ◌&&◌, ℕ, Bool, true, false, IsSomeAnd, IsTrue, List, [], Option, Some, None, ap, arith, length, refl}
-use Rattle.std.proofs.Common.{slice_get, sym, true≢false, ⊎_elim}
+use Rattle.std.proofs.Common.{◌≡◌, ◌↔◌, ◌<◌, ◌^◌, ◌++◌, ◌&&◌, ℕ, Bool, IsSomeAnd, IsTrue, List, [], Option, Some, None, ap, arith, length, refl}
+use Rattle.std.proofs.Common.{slice_get, ⊎_elim}
 use Rattle.std.proofs.lemmas.Option.{slice_get_within}
 use Rattle.std.proofs.lemmas.Slice.Zip.{AllZip-long, AllZip-right}
 use Rattle.std.specs.List.{AllZip}
