@@ -1,5 +1,5 @@
 -- What is answered of what a look-up finds, and why a question is refused.
-use Rattle.std.proofs.Common.{◌≡◌, ℕ, Option, Result, Ok, Err, IsErrAnd, IfErr, IfOk, MatchResult, arith}
+use Rattle.std.proofs.Common.{◌≡◌, ℕ, Option, Result, Ok, IsErrAnd, IfErr, IfOk, MatchResult, arith}
 use Rattle.std.proofs.lemmas.Result.{err_from_is_err_and}
 use Rattle.serde_json.specs.View.{view}
 use Rattle.serde_json.specs.declared.value.Value.{Value}
@@ -7,7 +7,6 @@ use Rattle.zarrs_chunk_base.specs.ArraySubset.{Box}
 use Rattle.zarrs_chunk_base.specs.Refusal.{AnswersStoring, OrMemory}
 use Rattle.zarrs_chunk_base.specs.declared.incompatible_dimensionality_error.IncompatibleDimensionalityError.{IncompatibleDimensionalityError}
 use Rattle.zarrs_chunk_base.specs.declared.refusal.Refusal.{Refusal}
-use Rattle.zarrs_chunk_base.specs.declared.refusal.Refusal.TheVariants.{Refused, Memory}
 use Rattle.zarrs_chunks.specs.Subsets.{LookedBox}
 use Rattle.zarrs_chunk_questions.specs.Trees.{Says, box_tree, or_null}
 use Rattle.zarrs_chunk_questions.specs.Refused.{IsErrorOf, IsLengthFault}
@@ -25,16 +24,14 @@ pub says_box : (MayAnswer : LookedBox → Type 0) (answer : LookedBox) (result :
     → IfOk result (λ t. (found : Option Box) × (answer ≡ Ok found) × (view t ≡ or_null box_tree found))
     → IfErr result (OrMemory (TellsError answer))
     → MatchResult result (λ t. Says box_tree MayAnswer (view t)) (OrMemory (IsErrorOf MayAnswer))
-says_box MayAnswer answer (Ok t) may (found, same, tree) refused = (found, rw same at may, tree)
-says_box MayAnswer answer (Err (Refused fault)) may said (e, same, told) = rw told (rw same at may)
-says_box MayAnswer answer (Err (Memory _)) may said refused = tt
+says_box MayAnswer answer result may said refused = grind arith
 
 -- a look-up refuses another length only
 pub length_fault : {X : Type 0} (Stores : Type 0) (given expected : ℕ) (Found : X → Type 0) (Absent : Type 0)
     (answer : Result (Option X) (Refusal IncompatibleDimensionalityError)) (fault : LineFault)
     → AnswersStoring Stores given expected Found Absent answer
     → TellsError answer fault → IsLengthFault given expected fault
-length_fault Stores given expected Found Absent answer fault may (e, same, told) = rw told (rw same at may)
+length_fault Stores given expected Found Absent answer fault may told = grind arith
 
 -- what is said of an answer and of a refusal, each in other words
 pub in_other_words : {X : Type 0} (P R : X → Type 0) (Q S : LineFault → Type 0) (result : Result X (Refusal LineFault)) → ((x : X) → P x → R x)

@@ -1,10 +1,10 @@
-use Rattle.std.proofs.Common.{◌≡◌, Some, codes, inl, inr, rules, ⊎_elim}
+use Rattle.std.proofs.Common.{◌≡◌, Some, codes, rules}
 use Rattle.std.specs.Int.NonZero.{non_zero_u64_get}
 use Rattle.serde_json.specs.Find.{get}
 use Rattle.serde_json.specs.View.{view}
 use Rattle.zarrs_chunk_base.specs.Json.{edge_of}
 use Rattle.programs.specs.chunkplan.DocumentFault.{of_max_ranges, of_memory_order}
-use Rattle.programs.proofs.chunkplan.Exits.{handed}
+use Rattle.programs.proofs.chunkplan.Exits.{exits_or}
 use Rattle.programs.proofs.chunkplan.ranges.member_ranges.Goals as goal
 
 pub returns-in_err-order : goal.returns-in_err-order
@@ -13,7 +13,7 @@ returns-in_err-order c =
     let item = non_zero_u64_get c.in-Some-2.item_size in
     let there : get (codes "item_size") (view c.args.tree.now) ≡ Some m = search rules in
     let size : edge_of m ≡ Some item = search rules in
-    rw (handed _ _ c.from_residual-in_err-order.ensures.1) (⊎_elim (λ memory. inl memory) (λ is. inr (of_memory_order m item there size is)) c.in_err-order.ensures)
+    exits_or _ _ _ _ c.from_residual-in_err-order.ensures.1 c.in_err-order.ensures (of_memory_order m item there size)
 
 pub returns-in_err-most : goal.returns-in_err-most
 returns-in_err-most c =
@@ -21,5 +21,5 @@ returns-in_err-most c =
     let item = non_zero_u64_get c.in-Some-2.item_size in
     let there : get (codes "item_size") (view c.args.tree.now) ≡ Some m = search rules in
     let size : edge_of m ≡ Some item = search rules in
-    rw (handed _ _ c.from_residual-in_err-most.ensures.1)
-    (⊎_elim (λ memory. inl memory) (λ is. inr (of_max_ranges m item c.in_ok-order.order there size c.in_ok-order.ensures is)) c.in_err-most.ensures)
+    exits_or _ _ _ _ c.from_residual-in_err-most.ensures.1 c.in_err-most.ensures
+    (of_max_ranges m item c.in_ok-order.order there size c.in_ok-order.ensures)
