@@ -6,7 +6,7 @@ use Rattle.std.proofs.lemmas.List.{nil_from_length}
 use Rattle.std.specs.Io.KnownBytes.{Consumes, IsAtEnd, Keeps}
 use Rattle.streams.specs.declared.stream_fault.StreamFault.{StreamFault}
 use Rattle.streams.specs.declared.stream_fault.StreamFault.TheVariants.{Memory, Read, Write}
-use Rattle.programs.specs.chunkcalls.Lines.{AreAnswers, AreEndedAnswers, AreFirstAnswers, HasAnsweredRead, HasBegunAnswers, HoldsAnswers, IsReplyTo, last_line, no_ended}
+use Rattle.programs.specs.chunkcalls.Lines.{AreAnswers, AreAnswersRead, AreEndedAnswers, AreFirstAnswers, HasAnsweredRead, HasBegunAnswers, HoldsAnswers, IsReplyTo, last_line, no_ended}
 use Rattle.programs.specs.chunkcalls.seen.Answered.{HasAnsweredBefore, HasAnsweredPiece, HasStopped, HasStoppedAt, HasStoppedIn, IsBegun}
 use Rattle.streams.specs.Watched.{IsWriteFailure}
 use Rattle.streams.specs.seen.Sent.{IsSent, Output, Sends}
@@ -220,6 +220,7 @@ module _ (input : List ℕ) (before : Output) (left : Option (List ℕ)) (held :
   part_way_answered None keeps empty = absurd (rw way.is_left at keeps)
   part_way_answered (Some rest) keeps empty =
       let same : rest ≡ way.rest = rw way.is_left at keeps in
+      let read : AreAnswersRead input (Some rest) way.answers =
       record {
         lines = way.lines;
         line = way.line;
@@ -227,11 +228,10 @@ module _ (input : List ℕ) (before : Output) (left : Option (List ℕ)) (held :
         is_input = way.is_input;
         unbroken = way.begun.unbroken;
         is_left = ap Some same;
-        answers = way.answers;
         are_answers = way.are_answers;
-        sent = way.sent;
-        is_empty = empty;
       }
+      in
+      (way.answers, read, way.sent, empty)
 
   -- what was held back is sent in part
   pub part_way_stopped_writing : (after : Output) (rest : List ℕ) → Sends now [] after.holds rest → HasStopped input Write before after
@@ -407,21 +407,11 @@ module _ {T : Type 0} (left left_after : Option (List ℕ)) (before now : Output
       → OnErr end (IfSome now.holds (λ held. (written : List ℕ) × (others : List ℕ) × (bytes ≡ written ++ others) × (after ≡ Some (held ++ written))))
       → IfSome left (λ input. IfSome before.holds (λ held. HasAnsweredRead input held left_after after))
   answered_read end bytes after same all some = for_both left before.holds _ (λ input held is_input is_held.
-      let read : HasAnsweredBefore input left_after before now = rw is_input at answered in
-      let (first, holds, whole) = sent_so_far before held read.answers now.held_back now.holds is_held none read.sent in
-      let empty : now.held_back ≡ [] = read.is_empty none in
-      let sent : first ≡ read.answers = sym (whole ∙ ap (λ back. first ++ back) empty ∙ append-nil first) in
-      record {
-        lines = read.lines;
-        line = read.line;
-        rest = read.rest;
-        is_input = read.is_input;
-        unbroken = read.unbroken;
-        is_left = read.is_left;
-        answers = read.answers;
-        are_answers = read.are_answers;
-        is = written_nothing end bytes (held ++ first) after (same ∙ empty) holds all some ∙ ap (λ back. Some (held ++ back)) sent;
-      })
+      let (answers, read, is_sent, is_empty) = rw is_input at answered in
+      let (first, holds, whole) = sent_so_far before held answers now.held_back now.holds is_held none is_sent in
+      let empty : now.held_back ≡ [] = is_empty none in
+      let sent : first ≡ answers = sym (whole ∙ ap (λ back. first ++ back) empty ∙ append-nil first) in
+      (answers, read, written_nothing end bytes (held ++ first) after (same ∙ empty) holds all some ∙ ap (λ back. Some (held ++ back)) sent))
 
 -- all was answered, and the last write failed
 module _ {T : Type 0} where

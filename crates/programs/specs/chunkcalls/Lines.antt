@@ -63,17 +63,19 @@ pub record HasBegunAnswers (input held : List ℕ) (holds : Option (List ℕ)) :
   pub parts : answers ≡ written ++ others
   pub is : holds ≡ Some (held ++ written)
 
--- Of an input some is left. The writer held some bytes, and now holds behind them the answers to all lines that ended in what was read.
-pub record HasAnsweredRead (input held : List ℕ) (left holds : Option (List ℕ)) : Type 0 where
+-- Of an input some is left. These are the answers to all lines that ended in what was read.
+pub record AreAnswersRead (input : List ℕ) (left : Option (List ℕ)) (answers : List ℕ) : Type 0 where
   pub lines : List ℕ
   pub line : List ℕ
   pub rest : List ℕ
   pub is_input : input ≡ lines ++ (line ++ rest)
   pub unbroken : line_feeds line ≡ 0
   pub is_left : left ≡ Some rest
-  pub answers : List ℕ
   pub are_answers : AreEndedAnswers lines answers
-  pub is : holds ≡ Some (held ++ answers)
+
+-- the writer held some bytes, and now holds these answers after them
+abbrev pub HasAnsweredRead : (input held : List ℕ) → (left holds : Option (List ℕ)) → Type 0
+HasAnsweredRead input held left holds = (answers : List ℕ) × AreAnswersRead input left answers × (holds ≡ Some (held ++ answers))
 
 -- the writer held some bytes, and now holds the answers to the input's lines behind them
 abbrev pub HoldsAnswers : (input held : List ℕ) → Option (List ℕ) → Type 0

@@ -1,10 +1,10 @@
 -- What a step leaves that answers lines.
-use Rattle.std.specs.Prelude.{◌≡◌, ◌⊎◌, ℕ, suc, List, [], ◌++◌, Option, Some, take}
+use Rattle.std.specs.Prelude.{◌≡◌, ◌⊎◌, ℕ, suc, List, [], ◌++◌, Option, take}
 use Rattle.streams.specs.OneLine.{line_feeds}
 use Rattle.streams.specs.declared.stream_fault.StreamFault.{StreamFault}
 use Rattle.streams.specs.declared.stream_fault.StreamFault.TheVariants.{Memory, Read, Write}
 use Rattle.streams.specs.seen.Sent.{IsSent, Output, Sends}
-use Rattle.programs.specs.chunkcalls.Lines.{AreEndedAnswers, AreFirstAnswers, IsReplyTo, longest_line}
+use Rattle.programs.specs.chunkcalls.Lines.{AreAnswersRead, AreEndedAnswers, AreFirstAnswers, IsReplyTo, longest_line}
 
 -- what is kept of a line: as much as shows that it is too long
 abbrev pub kept : List ℕ → List ℕ
@@ -56,15 +56,8 @@ pub record HasStopped (input : List ℕ) (fault : StreamFault) (before after : O
   pub rest : List ℕ
   pub sent : AreSentBut answers rest fault before after
 
--- where a read failed: the answers to all lines were sent that had ended by then
-pub record HasAnsweredBefore (input : List ℕ) (left : Option (List ℕ)) (before after : Output) : Type 0 where
-  pub lines : List ℕ
-  pub line : List ℕ
-  pub rest : List ℕ
-  pub is_input : input ≡ lines ++ (line ++ rest)
-  pub unbroken : line_feeds line ≡ 0
-  pub is_left : left ≡ Some rest
-  pub answers : List ℕ
-  pub are_answers : AreEndedAnswers lines answers
-  pub sent : IsSent before after answers
-  pub is_empty : before.held_back ≡ [] → after.held_back ≡ []
+-- after a failed read: the answers to all lines that had ended were sent, and none of them is held back
+abbrev pub HasAnsweredBefore : (input : List ℕ) → (left : Option (List ℕ)) → Output → Output → Type 0
+HasAnsweredBefore input left before after =
+    (answers : List ℕ) × AreAnswersRead input left answers × IsSent before after answers
+    × (before.held_back ≡ [] → after.held_back ≡ [])
