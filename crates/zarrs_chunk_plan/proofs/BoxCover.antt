@@ -1,9 +1,9 @@
 -- The cover of a box, which may be empty.
 use Rattle.std.proofs.Common.{◌≡◌, ◌≢◌, ◌↔◌, ◌⊎◌, ◌∙◌, ℕ, zero, suc, ◌+◌, ◌<◌, ◌≤◌, List, [], ◌∷◌, Some, Ok, length, replicate, ap, ap₂, refl, subst, inl, ⊎_elim}
-use Rattle.std.proofs.Common.{arith}
+use Rattle.std.proofs.Common.{arith, sym}
 use Rattle.std.proofs.lemmas.Bool.{cases_lt}
 use Rattle.std.proofs.lemmas.List.{length-map, length-replicate}
-use Rattle.std.specs.List.{AllByRecursion}
+use Rattle.std.specs.List.{AllByRecursion, AllZip}
 use Rattle.zarrs_chunk_base.specs.ArraySubset.{AreWithin, Box, IsBox, IsEmptyBox, IsInside, zero_box}
 use Rattle.zarrs_chunk_base.specs.Dimension.{Dimension, Holds, InBox, IsChain, array_sizes}
 use Rattle.zarrs_chunk_base.proofs.InEach.{length_numbers}
@@ -13,6 +13,8 @@ use Rattle.zarrs_chunks.proofs.Chains.{apart, earlier_has}
 use Rattle.zarrs_chunks.proofs.Meeting.{cover_meets}
 use Rattle.zarrs_chunk_parts.specs.Plan.{Meets}
 use Rattle.zarrs_chunk_plan.specs.Rechunking.{array_box}
+use Rattle.zarrs_chunk_plan.specs.seen.Used.{UsesFirst}
+use Rattle.zarrs_chunk_plan.proofs.HeldBoxes.{hold_meets, meets_hold, some_chunks, uses_first, uses_none}
 use Rattle.zarrs_chunk_plan.proofs.Plans.{empty_or_some, not_empty_if_inside}
 
 pub none_below : (n : ℕ) → n ≢ 0 → (chunk : List ℕ) → ¬ IsInside (zero_box n) chunk
@@ -48,6 +50,18 @@ module _ (ds : List Dimension) (b : Box) (dimensions : IsEmptyBox b → length d
           λ (index, box, inside). absurd (not_empty_if_inside _ _ index inside empty),
         )
 
+-- what lies in a box that begins at 0 is below its shape
+pub below_from_zero : (n : ℕ) (shape chunk : List ℕ) → length shape ≡ n → AreBelow shape chunk ↔ AreWithin (replicate n 0) shape chunk
+below_from_zero zero [] [] same = (λ _. tt, λ _. tt)
+below_from_zero zero [] (_ ∷ _) same = (λ h. absurd h, λ h. absurd h)
+below_from_zero (suc n) (size ∷ shape) [] same = (λ h. absurd h, λ h. absurd h)
+below_from_zero (suc n) (size ∷ shape) (c ∷ chunk) same =
+    let rest = below_from_zero n shape chunk (omega arith) in (
+      λ below. let less : c < size = below.0 in (omega arith, omega arith, rest.0 below.1),
+      λ within. let less : c < 0 + size = within.1 in (omega arith, rest.1 within.2),
+    )
+below_from_zero _ _ chunk same = absurd (omega arith)
+
 -- ---- the chunks that a whole array takes up begin with the first one
 
 first_chunk : (d : Dimension) → IsChain d → (c : ℕ) → Holds d c 0 → c ≡ 0
@@ -77,14 +91,25 @@ cover_start ds r if_empty if_some cover is chains =
     (λ some. first_chunks ds cover.start chains (subst (AnswersCover ds (array_box ds)) is (if_some (inl some))).1.first)
     (empty_or_some (array_sizes ds))
 
--- what lies in a box that begins at 0 is below its shape
-pub below_from_zero : (n : ℕ) (shape chunk : List ℕ) → length shape ≡ n → AreBelow shape chunk ↔ AreWithin (replicate n 0) shape chunk
-below_from_zero zero [] [] same = (λ _. tt, λ _. tt)
-below_from_zero zero [] (_ ∷ _) same = (λ h. absurd h, λ h. absurd h)
-below_from_zero (suc n) (size ∷ shape) [] same = (λ h. absurd h, λ h. absurd h)
-below_from_zero (suc n) (size ∷ shape) (c ∷ chunk) same =
-    let rest = below_from_zero n shape chunk (omega arith) in (
-      λ below. let less : c < size = below.0 in (omega arith, omega arith, rest.0 below.1),
-      λ within. let less : c < 0 + size = within.1 in (omega arith, rest.1 within.2),
-    )
-below_from_zero _ _ chunk same = absurd (omega arith)
+-- and along each dimension they are those from the first one on, as many as it has
+pub cover_uses : (ds : List Dimension) (r : LookedBox)
+    → (IsEmptyBox (array_box ds) → length ds ≢ 0 → AnswersEmptyCover ds r)
+    → ((¬ IsEmptyBox (array_box ds)) ⊎ (length ds ≡ 0) → AnswersCover ds (array_box ds) r)
+    → (cover : Box) → r ≡ Ok (Some cover) → AllByRecursion IsChain ds → IsBox (array_box ds) → AllZip UsesFirst ds cover.shape
+cover_uses ds r if_empty if_some cover is chains is_array = ⊎_elim of_empty of_some (empty_or_some (array_sizes ds)) where
+  of_empty : IsEmptyBox (array_box ds) → AllZip UsesFirst ds cover.shape
+  of_empty empty =
+      subst (λ (z : Box). AllZip UsesFirst ds z.shape) (sym (subst (AnswersEmptyCover ds) is (if_empty empty (some_dimension ds empty)))) (uses_none ds)
+
+  of_some : (¬ IsEmptyBox (array_box ds)) → AllZip UsesFirst ds cover.shape
+  of_some some =
+      let is_cover = (subst (AnswersCover ds (array_box ds)) is (if_some (inl some))).1 in
+      let start = first_chunks ds cover.start chains is_cover.first in
+      let long : length cover.shape ≡ length ds = sym is_cover.is_box.lengths ∙ ap length start ∙ length-replicate (length ds) 0 in
+      let named = cover_names ds (array_box ds) (some_dimension ds) r if_empty if_some cover is chains is_array in
+      uses_first ds cover.shape long (some_chunks ds cover chains some (λ chunk. (named chunk).1))
+      (λ chunk.
+      let below = below_from_zero (length ds) cover.shape chunk long in (
+        λ less. meets_hold ds chunk ((named chunk).0 (subst (λ first. AreWithin first cover.shape chunk) (sym start) (below.0 less))),
+        λ hold. below.1 (subst (λ first. AreWithin first cover.shape chunk) start ((named chunk).1 (hold_meets ds chunk hold))),
+      ))

@@ -2,6 +2,7 @@
 use Rattle.std.proofs.Common.{◌≡◌, ◌↔◌, ◌∙◌, ℕ, ◌+◌, ◌-◌, ◌<◌, ◌≤◌, List, [], ◌∷◌, ◌++◌, Contains, Some, length, map, max, min}
 use Rattle.std.proofs.Common.{ap, ap₂, arith, mul-pos, refl, replicate, reverse, subst, sym, ⊎_elim}
 use Rattle.std.proofs.lemmas.List.{length-map, length-replicate, map-append, reverse-append, reverse-reverse}
+use Rattle.std.proofs.lemmas.List.Elements.{All-replicate, recursion_from_All}
 use Rattle.std.proofs.lemmas.Slice.Zip.{AllZip-long}
 use Rattle.std.specs.Int.NonZero.{non_zero_u64_get}
 use Rattle.std.specs.List.{AllByRecursion, AllZip}
@@ -23,7 +24,7 @@ use Rattle.zarrs_chunk_plan.proofs.EdgesTried.{only_ones, tried_long}
 use Rattle.zarrs_chunk_plan.proofs.EqualChunks.{one_box, sizes_are}
 use Rattle.zarrs_chunk_plan.proofs.Plans.{empty_or_some, not_empty_if_inside}
 use Rattle.zarrs_chunk_plan.proofs.Between.{none_below}
-use Rattle.zarrs_chunk_plan.proofs.StageReads.{all_alike, chosen_from, length_of, reads_are}
+use Rattle.zarrs_chunk_plan.proofs.StageReads.{chosen_from, length_of, reads_are}
 use Rattle.zarrs_chunk_plan.proofs.Written.{first_within}
 
 -- ---- sizes
@@ -37,6 +38,9 @@ shape_positive [] [] [] chains is = tt
 shape_positive (d ∷ ds) (c ∷ chunk) (s ∷ shape) chains is =
     (omega arith, shape_positive ds chunk shape chains.1 is.1)
 shape_positive _ _ _ chains is = absurd is
+
+all_alike : (many edge : ℕ) → 0 < edge → AllByRecursion (λ e. 0 < e) (replicate many edge)
+all_alike many edge some = recursion_from_All _ _ (All-replicate (λ e. 0 < e) many edge some)
 
 pub largest_positive : (ds : List Dimension) (shape : List ℕ) → AllByRecursion IsChain ds → IsLargest ds shape → AllByRecursion (λ e. 0 < e) shape
 largest_positive ds shape chains is =
@@ -150,8 +154,8 @@ rows_ascend (row ∷ rows) up = (up.0, rows_ascend rows up.1)
 module _ (source target : List Dimension) (chains : AllByRecursion IsChain source) (target_chains : AllByRecursion IsChain target)
     (one_array : array_sizes source ≡ array_sizes target) (is_array : IsBox (array_box target)) (most : ℕ) (fits : most ≤ greatest)
     (largest other : List ℕ) (is_largest : IsLargest source largest) (is_other : IsLargest target other) (rows : List (List Edge)) (are : map (map edge_of) rows ≡ all_tried (array_sizes source) largest other)
-    (reads : (¬ IsEmptyBox (array_box target)) → (chunks : Box) × IsBox chunks × (length chunks.start ≡ length target)
-    × ((chunk : List ℕ) → IsInside chunks chunk ↔ Meets target (array_box target) chunk) × AreRows source target chunks 0 rows) where
+    (reads : (¬ IsEmptyBox (array_box target)) → (chunks : Box) × IsBox chunks × (chunks.start ≡ replicate (length target) 0)
+    × ((chunk : List ℕ) → IsInside chunks chunk ↔ Meets target (array_box target) chunk) × AreRows source target chunks.shape rows) where
   abbrev room : ℕ
   room = most - max (min greatest (product largest)) (min greatest (product other))
 
@@ -179,9 +183,9 @@ module _ (source target : List Dimension) (chains : AllByRecursion IsChain sourc
   told : (choice : List Edge) → IsChoice rows choice → (¬ IsEmptyBox (array_box target)) → (many : ℕ)
       → AreStages source target (map edge_of choice) many → min greatest many ≡ reads_of 1 1 choice
   told choice chosen some many stages =
-      let (chunks, is_box, long, named, row_reads) = reads some in
-      let is = reads_are source target chains target_chains one_array is_array some chunks is_box long named choice
-      (chosen_from source target chunks 0 rows choice row_reads chosen) (edges_positive choice) many stages in
+      let (chunks, is_box, start, named, row_reads) = reads some in
+      let is = reads_are source target chains target_chains one_array is_array some chunks is_box start named choice
+      (chosen_from source target chunks.shape rows choice row_reads chosen) (edges_positive choice) many stages in
       ap (min greatest) (is ∙ omega arith)
 
   -- of an array without elements one shape alone is tried

@@ -1,13 +1,12 @@
 -- Dimensions of equal edges: they are chains, each chunk that they count holds an element of the array, and none is longer than the edges.
-use Rattle.std.proofs.Common.{◌≡◌, ◌∙◌, ℕ, zero, suc, ◌+◌, ◌*◌, ◌/◌, ◌<◌, ◌≤◌, List, [], ◌∷◌, Contains, length, replicate}
+use Rattle.std.proofs.Common.{◌≡◌, ◌∙◌, ℕ, zero, suc, ◌+◌, ◌*◌, ◌/◌, ◌<◌, ◌≤◌, List, [], ◌∷◌, length, replicate}
 use Rattle.std.proofs.Common.{ap, ap₂, arith, div-lt_iff_lt-mul, div-mul-le_self, mul-le-mul_right, sym, ⊎_elim}
 use Rattle.std.proofs.lemmas.Bool.{cases_lt}
 use Rattle.std.proofs.lemmas.List.{length-map}
 use Rattle.std.specs.List.{AllByRecursion, AllZip}
-use Rattle.zarrs_chunk_base.specs.ArraySubset.{IsEmptyBox, IsInside}
+use Rattle.zarrs_chunk_base.specs.ArraySubset.{IsInside}
 use Rattle.zarrs_chunk_base.specs.Dimension.{Dimension, Holds, InBox, IsChain, IsShape, array_sizes, grid_sizes}
-use Rattle.zarrs_chunk_base.proofs.InEach.{length_values, numbers_are}
-use Rattle.zarrs_chunks.proofs.Covers.{head_some, tail_some}
+use Rattle.zarrs_chunk_base.proofs.InEach.{numbers_are}
 use Rattle.zarrs_chunk_axes.specs.EqualEdges.{AreEqualEdges, IsEqualEdges}
 use Rattle.zarrs_chunk_axes.specs.InBounds.{AreBelow}
 use Rattle.zarrs_chunk_parts.specs.Plan.{Meets}
@@ -38,16 +37,17 @@ is_chain d size edge is some = record {
       (cases_lt (i / edge) d.grid_size)
 
 -- a chunk that is counted holds an element of the array
-first_held : (d : Dimension) (size edge c : ℕ) → IsEqualEdges d size edge → c < d.grid_size → 0 < d.array_size
-    → (i : ℕ) × Holds d c i × (i < d.array_size)
-first_held d size zero c is counted some =
+pub first_held : (d : Dimension) (size edge c : ℕ) → IsEqualEdges d size edge → c < d.grid_size → (i : ℕ) × Holds d c i × (i < d.array_size)
+first_held d size zero c is counted =
     let covers : size ≤ d.grid_size * 0 = is.covers in
-    let same = is.array_size in
-    absurd (omega (arith, same, covers))
-first_held d size (suc e) c is counted some =
+    let none : size ≤ 0 * 0 = omega arith in
+    let few = is.least 0 none in
+    absurd (omega arith)
+first_held d size (suc e) c is counted =
+    let start : d.start c ≡ c * suc e = is.start c in
+    let end : d.end c ≡ (c + 1) * suc e = is.end c in
     let within : c * suc e < size =
-    ⊎_elim (λ (less : c * suc e < size). less)
-    (λ (le : size ≤ c * suc e). let few = is.least c le in absurd (omega arith)) (cases_lt (c * suc e) size)
+    ⊎_elim (λ (less : c * suc e < size). less) (λ (le : size ≤ c * suc e). let few = is.least c le in absurd (omega arith)) (cases_lt (c * suc e) size)
     in
     (c * suc e, record { chunk = is.chunks c; from = omega arith; below = omega arith }, omega (arith, is.array_size))
 
@@ -62,22 +62,19 @@ are_chains _ _ _ are some = absurd are
 pub sizes_are : (ds : List Dimension) (sizes edges : List ℕ) → AreEqualEdges ds sizes edges → array_sizes ds ≡ sizes
 sizes_are ds sizes edges are = sym (numbers_are IsEqualEdges (λ d. d.array_size) (λ d n e is. is.array_size) ds sizes edges are)
 
-pub edges_long : (ds : List Dimension) (sizes edges : List ℕ) → AreEqualEdges ds sizes edges → length edges ≡ length ds
-edges_long = length_values IsEqualEdges
-
 all_held : (ds : List Dimension) (sizes edges chunk : List ℕ) → AreEqualEdges ds sizes edges → AreBelow (grid_sizes ds) chunk
-    → (¬ Contains (array_sizes ds) 0) → (index : List ℕ) × InBox ds chunk index × AreBelow (array_sizes ds) index
-all_held [] [] [] [] are below some = ([], tt, tt)
-all_held (d ∷ ds) (n ∷ sizes) (e ∷ edges) (c ∷ chunk) are below some =
-    let (i, held, within) = first_held d n e c are.0 below.0 (head_some d.array_size (array_sizes ds) some) in
-    let (index, box, all) = all_held ds sizes edges chunk are.1 below.1 (tail_some d.array_size (array_sizes ds) some) in
+    → (index : List ℕ) × InBox ds chunk index × AreBelow (array_sizes ds) index
+all_held [] [] [] [] are below = ([], tt, tt)
+all_held (d ∷ ds) (n ∷ sizes) (e ∷ edges) (c ∷ chunk) are below =
+    let (i, held, within) = first_held d n e c are.0 below.0 in
+    let (index, box, all) = all_held ds sizes edges chunk are.1 below.1 in
     (i ∷ index, (held, box), (within, all))
-all_held _ _ _ _ are below some = absurd (first_of (assumption, omega arith))
+all_held _ _ _ _ are below = absurd (first_of (assumption, omega arith))
 
-pub counted_meet : (ds : List Dimension) (sizes edges : List ℕ) → AreEqualEdges ds sizes edges → (¬ IsEmptyBox (array_box ds))
-    → (chunk : List ℕ) → IsInside (all_chunks_box ds) chunk → Meets ds (array_box ds) chunk
-counted_meet ds sizes edges are some chunk inside =
-    let (index, box, below) = all_held ds sizes edges chunk are ((from_zero (λ d. d.grid_size) ds chunk).1 inside) some in
+pub counted_meet : (ds : List Dimension) (sizes edges : List ℕ) → AreEqualEdges ds sizes edges → (chunk : List ℕ) → IsInside (all_chunks_box ds) chunk
+    → Meets ds (array_box ds) chunk
+counted_meet ds sizes edges are chunk inside =
+    let (index, box, below) = all_held ds sizes edges chunk are ((from_zero (λ d. d.grid_size) ds chunk).1 inside) in
     (index, box, (in_array ds index).0 below)
 
 -- each chunk is as long as the edges

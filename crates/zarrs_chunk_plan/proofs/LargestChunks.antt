@@ -1,121 +1,152 @@
 -- A chunk that is a longest one along each dimension is a largest one.
-use Rattle.std.proofs.Common.{◌≡◌, ◌⊎◌, ℕ, zero, suc, ◌+◌, ◌<◌, ◌≤◌, Bool, true, false, IsTrue, List, [], ◌∷◌, ◌++◌, length, replicate}
-use Rattle.std.proofs.Common.{arith, inl, inr, refl, slice_index_or, subst, sym, true≢false, ⊎_elim}
+use Rattle.std.proofs.Common.{◌≡◌, ◌⊎◌, ℕ, zero, suc, ◌+◌, ◌-◌, ◌<◌, ◌≤◌, Bool, true, false, IsTrue, List, [], ◌∷◌, ◌++◌, Contains, get_or, length}
+use Rattle.std.proofs.Common.{ap₂, arith, inl, inr, max, refl, replicate, subst, sym, true≢false, ⊎_elim}
 use Rattle.std.proofs.lemmas.Bool.{cases_lt}
 use Rattle.std.proofs.lemmas.List.{get_or_append_left, get_or_push}
-use Rattle.std.specs.List.{AllByRecursion, AllZip}
-use Rattle.zarrs_chunk_base.specs.ArraySubset.{AreWithin, Box, IsEmptyBox, IsInside}
-use Rattle.zarrs_chunk_base.specs.Dimension.{Dimension, HasEdge, IsChain, IsShape, array_sizes}
-use Rattle.zarrs_chunk_base.proofs.InEach.{length_values}
-use Rattle.zarrs_chunks.proofs.FittingChunks.{counted_home}
-use Rattle.zarrs_chunks.proofs.OneDimension.{zeros_below}
-use Rattle.zarrs_chunk_parts.specs.Plan.{Meets}
-use Rattle.zarrs_chunk_plan.specs.Rechunking.{array_box}
+use Rattle.std.specs.List.{AllZip}
+use Rattle.zarrs_chunk_base.specs.ArraySubset.{Box, IsEmptyBox}
+use Rattle.zarrs_chunk_base.specs.Dimension.{Dimension, HasEdge, InEach, IsChain, IsShape}
+use Rattle.zarrs_chunk_axes.specs.Along.{Along, IsRegular}
+use Rattle.zarrs_chunks.proofs.Chains.{earlier_has, in_chain}
+use Rattle.zarrs_chunks.proofs.Covers.{head_some, tail_some}
 use Rattle.zarrs_chunk_plan.specs.Counts.{AreFew}
+use Rattle.zarrs_chunk_plan.specs.Rechunking.{array_box}
 use Rattle.zarrs_chunk_plan.specs.Stages.{AreUsed, HasManyChunks, IsLargest}
-use Rattle.zarrs_chunk_plan.specs.seen.Stages.{HasEdgeAlong}
+use Rattle.zarrs_chunk_plan.specs.seen.Used.{HoldsSome, IsLongest, UsesFirst}
+use Rattle.zarrs_chunk_plan.proofs.HeldBoxes.{AllHoldSome, hold_meets, meets_hold}
 use Rattle.zarrs_chunk_plan.proofs.Plans.{not_empty_if_inside}
-use Rattle.zarrs_chunk_plan.proofs.Rechunkings.{in_array}
+use Rattle.zarrs_chunk_plan.proofs.RegularDimensions.{regular_start}
 
--- ---- one dimension of a list
+-- ---- one dimension
 
--- the edge along a dimension is that of the shape
-pub edge_along : (ds : List Dimension) (chunk shape : List ℕ) (k : ℕ) → IsShape ds chunk shape → k < length ds
-    → HasEdgeAlong ds k (slice_index_or chunk k 0) (slice_index_or shape k 0)
-edge_along [] chunk shape k is within = absurd (omega arith)
-edge_along (d ∷ ds) (c ∷ chunk) (e ∷ shape) zero is within = is.0
-edge_along (d ∷ ds) (c ∷ chunk) (e ∷ shape) (suc k) is within = edge_along ds chunk shape k is.1 (omega arith)
-edge_along _ _ _ k is within = absurd is
+-- of no chunks
+pub longest_of_none : (d : Dimension) → IsLongest d 0 1
+longest_of_none d =
+    record { of_none = λ _. refl; is_one = λ some. absurd (omega arith); none_longer = λ c other below. absurd (omega arith) }
 
--- a chunk has one edge along a dimension
-pub one_edge : (ds : List Dimension) (k c edge other : ℕ) → HasEdgeAlong ds k c edge → HasEdgeAlong ds k c other → edge ≡ other
-one_edge [] k c edge other has also = absurd has
-one_edge (d ∷ ds) zero c edge other has also =
-    omega arith
-one_edge (d ∷ ds) (suc k) c edge other has also = one_edge ds k c edge other has also
+-- of one chunk more
+pub longest_of_more : (d : Dimension) → IsChain d → (many edge next : ℕ) → IsLongest d many edge → HasEdge d many next → IsLongest d (many + 1) (max edge next)
+longest_of_more d chain many edge next is has = record {
+  of_none = λ none. absurd (omega arith);
+  is_one = λ _.
+      ⊎_elim
+      (λ (longer : next < edge).
+      let (c, below, one) = is.is_one (some_before longer) in
+      (c, omega arith, let same : edge ≡ max edge next = omega arith in subst (HasEdge d c) same one))
+      (λ (le : edge ≤ next). (many, omega arith, let same : next ≡ max edge next = omega arith in subst (HasEdge d many) same has)) (cases_lt next edge);
+  none_longer = λ c other below one.
+      ⊎_elim (λ (before : c < many). let le = is.none_longer c other before one in omega arith)
+      (λ (not_before : many ≤ c). let same : c ≡ many = omega arith in let here = subst (λ n. HasEdge d n other) same one in omega (arith, has.edge, here.edge))
+      (cases_lt c many);
+} where
+  some_before : next < edge → 0 < many
+  some_before longer =
+      ⊎_elim (λ (some : 0 < many). some)
+      (λ (none : many ≤ 0). let one = is.of_none (omega arith) in let some = chain.not_empty many has.chunk in absurd (omega (arith, one, some, has.edge)))
+      (cases_lt 0 many)
 
--- so a shape that is at least as long along each dimension is so at all
-at_least : (ds : List Dimension) (chunk shape largest : List ℕ) → IsShape ds chunk shape → length largest ≡ length ds
-    → ((k : ℕ) → k < length ds → slice_index_or shape k 0 ≤ slice_index_or largest k 0) → AllZip ◌≤◌ shape largest
-at_least [] [] [] [] is long each = tt
-at_least (d ∷ ds) (c ∷ chunk) (e ∷ shape) (l ∷ largest) is long each =
-    (each 0 (omega arith), at_least ds chunk shape largest is.1 (omega arith) (λ k within. each (suc k) (omega arith)))
-at_least _ _ _ _ is long each = absurd (first_of (assumption, omega arith))
+-- along a regular dimension all chunks that hold elements, but the last one, have its edge
+edge_before : (d : Dimension) → IsChain d → (edge : ℕ) → 0 < edge → IsRegular d edge → (c last its : ℕ) → HoldsSome d last → c < last → HasEdge d c its
+    → its ≡ edge
+edge_before d chain edge some regular c last its (has, _, within) before is =
+    let up_to = in_chain d chain (c + 1) last (omega arith) has in
+    let gap = chain.no_gap c (earlier_has d chain (c + 1) last (omega arith) has) in
+    let from = in_chain d chain c (c + 1) (omega arith) (earlier_has d chain (c + 1) last (omega arith) has) in
+    let start = regular_start d chain edge some regular c gap.0 (omega (arith, from, up_to)) in
+    let next = regular_start d chain edge some regular (c + 1) (earlier_has d chain (c + 1) last (omega arith) has) (omega (arith, up_to)) in
+    omega (arith, start, next, gap.1, is.edge)
 
--- what holds of the numbers of a list, and of one more behind them
-pub pushed : (P : ℕ → ℕ → Type 0) (xs : List ℕ) (x n : ℕ) → length xs ≡ n → ((k : ℕ) → k < n → P k (slice_index_or xs k 0)) → P n x
-    → (k : ℕ) → k < n + 1 → P k (slice_index_or (xs ++ x ∷ []) k 0)
-pushed P xs x n long each last k within =
-    ⊎_elim (λ (before : k < n). subst (P k) (sym (get_or_append_left xs (x ∷ []) 0 k (omega arith))) (each k before))
+-- so a longest one has that edge, or it is the last one
+pub longest_of_regular : (d : Dimension) → IsChain d → (edge : ℕ) → 0 < edge → IsRegular d edge → (many last : ℕ) → UsesFirst d many → 1 < many
+    → HasEdge d (many - 1) last → IsLongest d many (max last edge)
+longest_of_regular d chain edge some regular many last used more is_last = record {
+  of_none = λ none. absurd (omega arith);
+  is_one = λ _.
+      ⊎_elim
+      (λ (longer : edge < last). (many - 1, omega arith, let same : last ≡ max last edge = omega arith in subst (HasEdge d (many - 1)) same is_last))
+      (λ (le : last ≤ edge). (0, omega arith, let same : d.end 0 - d.start 0 ≡ max last edge = omega (arith, first 0 (omega arith)) in subst (HasEdge d 0) same (has 0 (omega arith))))
+      (cases_lt edge last);
+  none_longer = λ c other below one.
+      ⊎_elim (λ (before : c < many - 1). omega (arith, edge_before d chain edge some regular c (many - 1) other end before one))
+      (λ (not_before : many - 1 ≤ c).
+      let same : c ≡ many - 1 = omega arith in let here = subst (λ n. HasEdge d n other) same one in omega (arith, is_last.edge, here.edge))
+      (cases_lt c (many - 1));
+} where
+  end : HoldsSome d (many - 1)
+  end = (used (omega arith) (many - 1)).0 (omega arith)
+
+  has : (c : ℕ) → c < many - 1 → HasEdge d c (d.end c - d.start c)
+  has c before = let there = earlier_has d chain c (many - 1) (omega arith) end.0 in record { chunk = there; edge = omega (arith, chain.not_empty c there) }
+
+  first : (c : ℕ) → c < many - 1 → d.end c - d.start c ≡ edge
+  first c before = edge_before d chain edge some regular c (many - 1) (d.end c - d.start c) end before (has c before)
+
+-- ---- each dimension
+
+-- what holds of the members of a list, and of one more behind them
+pub pushed : {X : Type 0} (P : ℕ → X → Type 0) (xs : List X) (x e : X) (n : ℕ) → length xs ≡ n → ((k : ℕ) → k < n → P k (get_or xs k e)) → P n x
+    → (k : ℕ) → k < n + 1 → P k (get_or (xs ++ x ∷ []) k e)
+pushed P xs x e n long each last k within =
+    ⊎_elim (λ (before : k < n). subst (P k) (sym (get_or_append_left xs (x ∷ []) e k (omega arith))) (each k before))
     (λ (past : n ≤ k).
     let here : k ≡ n = omega arith in
-    subst (λ m. P m (slice_index_or (xs ++ x ∷ []) m 0)) (sym here) (subst (P n) (sym (get_or_push xs x 0 n long)) last))
+    subst (λ m. P m (get_or (xs ++ x ∷ []) m e)) (sym here) (subst (P n) (sym (get_or_push xs x e n long)) last))
     (cases_lt k n)
 
--- ---- a box of chunks that begins at 0
+-- what holds along the dimension of each number holds in each dimension
+pub in_each : (R : Dimension → ℕ → ℕ → Type 0) (ds : List Dimension) (numbers values : List ℕ) → length numbers ≡ length ds → length values ≡ length ds
+    → ((k : ℕ) → k < length ds → Along (λ d. R d (get_or numbers k 0) (get_or values k 0)) ds k) → InEach R ds numbers values
+in_each R [] [] [] e f each = tt
+in_each R (d ∷ ds) (n ∷ numbers) (x ∷ values) e f each =
+    (each 0 (omega arith), in_each R ds numbers values (omega arith) (omega arith) (λ k within. each (suc k) (omega arith)))
+in_each R _ _ _ e f each = absurd (omega arith)
 
-pub inside_below : (n : ℕ) (shape chunk : List ℕ) (k : ℕ) → AreWithin (replicate n 0) shape chunk → k < n
-    → slice_index_or chunk k 0 < slice_index_or shape k 0
-inside_below zero shape chunk k within less = absurd (omega arith)
-inside_below (suc n) (s ∷ shape) (c ∷ chunk) zero within less = let below = within.1 in omega arith
-inside_below (suc n) (s ∷ shape) (c ∷ chunk) (suc k) within less = inside_below n shape chunk k within.2 (omega arith)
-inside_below _ _ _ k within less = absurd within
+pub used_along : (ds : List Dimension) (used : List ℕ) (k : ℕ) → AllZip UsesFirst ds used → k < length ds → Along (λ d. UsesFirst d (get_or used k 0)) ds k
+used_along (d ∷ ds) (n ∷ used) zero uses within = uses.0
+used_along (d ∷ ds) (n ∷ used) (suc k) uses within = used_along ds used k uses.1 (omega arith)
+used_along _ _ k uses within = absurd (first_of (assumption, omega arith))
 
-below_inside : (n : ℕ) (shape chunk : List ℕ) → length shape ≡ n → length chunk ≡ n
-    → ((k : ℕ) → k < n → slice_index_or chunk k 0 < slice_index_or shape k 0) → AreWithin (replicate n 0) shape chunk
-below_inside zero [] [] long also each = tt
-below_inside (suc n) (s ∷ shape) (c ∷ chunk) long also each =
-    let here : c < s = each 0 (omega arith) in
-    (omega arith, omega arith, below_inside n shape chunk (omega arith) (omega arith) (λ k within. each (suc k) (omega arith)))
-below_inside _ _ _ long also each = absurd (omega arith)
+longest_chunk : (ds : List Dimension) (used edges : List ℕ) → AllZip UsesFirst ds used → (¬ Contains used 0) → InEach IsLongest ds used edges
+    → (chunk : List ℕ) × AllHoldSome ds chunk × IsShape ds chunk edges
+longest_chunk [] [] [] uses some longest = ([], tt, tt)
+longest_chunk (d ∷ ds) (n ∷ used) (e ∷ edges) uses some longest =
+    let (chunk, hold, is) = longest_chunk ds used edges uses.1 (tail_some n used some) longest.1 in
+    let first = head_some n used some in
+    let (c, below, one) = longest.0.is_one first in
+    (c ∷ chunk, ((uses.0 first c).0 below, hold), (one, is))
+longest_chunk _ _ _ uses some longest = absurd assumption
 
--- ---- the array
+none_is_longer : (ds : List Dimension) (used edges chunk shape : List ℕ) → AllZip UsesFirst ds used → (¬ Contains used 0) → InEach IsLongest ds used edges
+    → AllHoldSome ds chunk → IsShape ds chunk shape → AllZip ◌≤◌ shape edges
+none_is_longer [] [] [] [] [] uses some longest hold is = tt
+none_is_longer (d ∷ ds) (n ∷ used) (e ∷ edges) (c ∷ chunk) (s ∷ shape) uses some longest hold is =
+    let first = head_some n used some in
+    (longest.0.none_longer c s ((uses.0 first c).1 hold.0) is.0, none_is_longer ds used edges chunk shape uses.1 (tail_some n used some) longest.1 hold.1 is.1)
+none_is_longer _ _ _ _ _ uses some longest hold is = absurd assumption
 
--- an array that isn't empty has a chunk with some of it
-pub some_chunk : (ds : List Dimension) → AllByRecursion IsChain ds → (¬ IsEmptyBox (array_box ds))
-    → (chunk : List ℕ) × Meets ds (array_box ds) chunk
-some_chunk ds chains some =
-    let index = replicate (length (array_sizes ds)) 0 in
-    let below = zeros_below (array_sizes ds) some in
-    let (home, counted, box) = counted_home ds index chains below in
-    (home, (index, box, (in_array ds index).0 below))
-
-pub some_chunks : (ds : List Dimension) (chunks : Box) → AllByRecursion IsChain ds → (¬ IsEmptyBox (array_box ds))
-    → ((chunk : List ℕ) → Meets ds (array_box ds) chunk → IsInside chunks chunk) → ¬ IsEmptyBox chunks
-some_chunks ds chunks chains some named empty =
-    let (chunk, meets) = some_chunk ds chains some in
-    not_empty_if_inside _ _ chunk (named chunk meets) empty
-
--- of an array without elements
-pub largest_of_none : (ds : List Dimension) → IsEmptyBox (array_box ds) → IsLargest ds (replicate (length ds) 1)
-largest_of_none ds empty = record {
-  none_longer = λ chunk shape meets is. absurd (not_empty_if_inside _ _ meets.0 (let (index, box, inside) = meets in inside) empty);
-  is_one = λ some. absurd (some empty);
-  of_no_elements = λ _. refl;
+pub is_largest : (ds : List Dimension) (used edges : List ℕ) → AllZip UsesFirst ds used → (¬ Contains used 0) → InEach IsLongest ds used edges
+    → (¬ IsEmptyBox (array_box ds)) → IsLargest ds edges
+is_largest ds used edges uses some longest not_empty = record {
+  none_longer = λ chunk shape meets is. none_is_longer ds used edges chunk shape uses some longest (meets_hold ds chunk meets) is;
+  is_one = λ _. let (chunk, hold, is) = longest_chunk ds used edges uses some longest in (chunk, hold_meets ds chunk hold, is);
+  of_no_elements = λ empty. absurd (not_empty empty);
 }
 
--- the chunk that is a longest one along each dimension
-pub is_largest : (ds : List Dimension) (chunks : Box) (chunk shape : List ℕ) → (¬ IsEmptyBox (array_box ds))
-    → chunks.start ≡ replicate (length ds) 0 → length chunks.shape ≡ length ds
-    → ((c : List ℕ) → IsInside chunks c → Meets ds (array_box ds) c) → ((c : List ℕ) → Meets ds (array_box ds) c → IsInside chunks c)
-    → length chunk ≡ length chunks.shape
-    → ((k : ℕ) → k < length chunks.shape → slice_index_or chunk k 0 < slice_index_or chunks.shape k 0)
-    → ((k other edge its : ℕ) → k < length chunks.shape → other < slice_index_or chunks.shape k 0 → HasEdgeAlong ds k other edge
-    → HasEdgeAlong ds k (slice_index_or chunk k 0) its → edge ≤ its)
-    → IsShape ds chunk shape → IsLargest ds shape
-is_largest ds chunks chunk shape some start long meets named many below longest is = record {
-  none_longer = λ other sides has are.
-      at_least ds other sides shape are (length_values HasEdge ds chunk shape is)
-      (λ k within.
-      let inside = rw start at (named other has) in
-      longest k (slice_index_or other k 0) (slice_index_or sides k 0) (slice_index_or shape k 0) (omega (arith, long))
-      (inside_below (length ds) chunks.shape other k inside within) (edge_along ds other sides k are within)
-      (edge_along ds chunk shape k is within));
-  is_one = λ _. (chunk, meets chunk inside, is);
-  of_no_elements = λ empty. absurd (some empty);
-} where
-  inside : IsInside chunks chunk
-  inside = rw start (below_inside (length ds) chunks.shape chunk long (omega (arith, many, long)) (λ k within. below k (omega (arith, long))))
+-- of an array without elements
+all_ones : (ds : List Dimension) (edges : List ℕ) → InEach IsLongest ds (replicate (length ds) 0) edges → edges ≡ replicate (length ds) 1
+all_ones [] [] longest = refl
+all_ones (d ∷ ds) (e ∷ edges) longest = ap₂ (λ x xs. x ∷ xs) (longest.0.of_none refl) (all_ones ds edges longest.1)
+all_ones _ _ longest = absurd longest
+
+pub largest_of_none : (ds : List Dimension) (edges : List ℕ) → IsEmptyBox (array_box ds) → InEach IsLongest ds (replicate (length ds) 0) edges
+    → IsLargest ds edges
+largest_of_none ds edges empty longest = record {
+  none_longer = λ chunk shape (index, box, inside) is. absurd (not_empty_if_inside _ _ index inside empty);
+  is_one = λ some. absurd (some empty);
+  of_no_elements = λ _. all_ones ds edges longest;
+}
+
+-- ---- many chunks
 
 -- chunks are few enough, or too many
 pub few_or_many : (ds : List Dimension) (chunks : Box) (few : Bool) → AreUsed ds chunks → (AreFew chunks → IsTrue few) → HasManyChunks ds ⊎ IsTrue few

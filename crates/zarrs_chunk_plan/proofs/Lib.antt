@@ -24,7 +24,6 @@ pub mod HeldLines
 pub mod Joined
 pub mod Kept
 pub mod LargestChunks
-pub mod LongestChunks
 pub mod MarkedChunks
 pub mod MetChunks
 pub mod MetCovers

@@ -1,5 +1,5 @@
 -- How many chunks of the source share elements with a chunk of the target: what is found of a cover is what is computed.
-use Rattle.std.proofs.Common.{◌≡◌, ◌∙◌, ◌↔◌, ℕ, zero, suc, ◌+◌, ◌-◌, ◌<◌, ◌≤◌, List, [], ◌∷◌, Contains, IsTrue, length, max, min}
+use Rattle.std.proofs.Common.{◌≡◌, ◌∙◌, ◌↔◌, ℕ, zero, suc, ◌+◌, ◌-◌, ◌<◌, ◌≤◌, List, [], ◌∷◌, Contains, IsTrue, length}
 use Rattle.std.proofs.Common.{refl, ap, ap₂, subst, sym, ⊎_elim, arith}
 use Rattle.std.proofs.lemmas.Bool.{cases_lt, le-ltb, lt-ltb}
 use Rattle.std.specs.List.{AllByRecursion}
@@ -9,7 +9,7 @@ use Rattle.zarrs_chunks.specs.Walks.{counted_from}
 use Rattle.zarrs_chunks.proofs.Chains.{apart, at_most_start, earlier_has, no_later}
 use Rattle.zarrs_chunks.proofs.Covers.{head_some, tail_some}
 use Rattle.zarrs_chunk_parts.specs.Plan.{Meets}
-use Rattle.zarrs_chunk_plan.specs.seen.Sources.{counters_from, home, home_from, met, met_by, taken, taken_box, taken_from, taken_sizes, taken_starts}
+use Rattle.zarrs_chunk_plan.specs.seen.Sources.{TakesSome, counters_from, home, home_from, met, met_by, taken, taken_box, taken_from, taken_sizes, taken_starts}
 
 -- ---- one dimension
 
@@ -77,10 +77,6 @@ met_at_most s chain a b first size some low high =
     (cases_lt a b)
 
 -- ---- each dimension
-
--- the chunk holds an index of the range
-abbrev pub TakesSome : Dimension → (at size chunk : ℕ) → Type 0
-TakesSome d at size chunk = IsTrue (d.has_chunk chunk) × (max at (d.start chunk) < min (d.end chunk) (at + size))
 
 -- a chunk that holds an element of a box does so in each dimension
 abbrev pub AllTakeSome : List Dimension → (at shape chunk : List ℕ) → Type 0

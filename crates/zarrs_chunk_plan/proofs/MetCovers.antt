@@ -1,10 +1,9 @@
 -- The cover of what a chunk of the target takes.
-use Rattle.std.proofs.Common.{◌≡◌, ◌≢◌, ◌↔◌, ◌∙◌, ℕ, zero, suc, ◌≤◌, List, [], ◌∷◌, length, refl, ap, ap₂, subst, sym, arith}
+use Rattle.std.proofs.Common.{◌≡◌, ◌≢◌, ◌↔◌, ◌∙◌, ℕ, zero, suc, ◌<◌, ◌≤◌, List, [], get_or, length, refl, ap, ap₂, subst, sym, arith}
 use Rattle.std.proofs.lemmas.List.{length-map}
 use Rattle.std.specs.List.{AllByRecursion, AllZip}
 use Rattle.zarrs_chunk_base.specs.ArraySubset.{Box, IsBox, IsEmptyBox, IsInside, ends, lasts, zero_box}
 use Rattle.zarrs_chunk_base.specs.Dimension.{Dimension, Holds, InBox, IsChain, array_sizes}
-use Rattle.zarrs_chunk_base.specs.Greatest.{AllFit}
 use Rattle.zarrs_chunk_base.proofs.Boxes.{within_lengths}
 use Rattle.zarrs_chunk_base.proofs.InEach.{length_values}
 use Rattle.zarrs_chunk_axes.specs.InBounds.{AreBelow}
@@ -14,23 +13,16 @@ use Rattle.zarrs_chunk_parts.specs.Plan.{AreShared, Meets}
 use Rattle.zarrs_chunk_plan.specs.Rechunking.{array_box}
 use Rattle.zarrs_chunk_plan.specs.Region.{shifted}
 use Rattle.zarrs_chunk_parts.specs.seen.Shared.{distances}
-use Rattle.zarrs_chunk_plan.specs.seen.Sources.{AreTaking, counters, met_by, taken_box, taken_sizes, taken_starts}
+use Rattle.zarrs_chunk_plan.specs.seen.Sources.{AreRanges, AreTaking, counters, met_by, met_by_range, met_in, taken_box, taken_sizes, taken_starts}
 use Rattle.zarrs_chunk_plan.proofs.BoxCover.{none_below}
 use Rattle.zarrs_chunk_plan.proofs.MetChunks.{cover_sizes, met_along_each, meets_take, shares_met, taken_common}
 use Rattle.zarrs_chunk_plan.proofs.MovedBoxes.{within_long, within_starts}
+use Rattle.zarrs_chunk_plan.proofs.OneDimension.{OfRanges, ranges_at, row_has}
 use Rattle.zarrs_chunk_plan.proofs.Plans.{not_empty_if_inside}
 use Rattle.zarrs_chunk_plan.proofs.Rechunkings.{counted_from_zeros, in_array}
 use Rattle.zarrs_chunk_plan.proofs.SameBoxes.{same_box_of}
 use Rattle.zarrs_chunk_plan.proofs.Written.{RangesTake, all_taken, all_taken_has, counters_long, first_within, last_within, ranges_take}
 use Rattle.zarrs_chunk_plan.proofs.Written.{starts_before_ends}
-
--- the numbers of a shape fit
-pub shape_fits : (start shape : List ℕ) → IsBox (record { start = start; shape = shape }) → AllFit shape
-shape_fits [] [] is = tt
-shape_fits (a ∷ start) (n ∷ shape) is =
-    let others : IsBox (record { start = start; shape = shape }) = record { lengths = omega (arith, is.lengths); fits = is.fits.1 } in
-    (omega arith, shape_fits start shape others)
-shape_fits _ _ is = absurd (omega (arith, is.lengths))
 
 -- ---- what is found of a chunk and a box
 
@@ -104,11 +96,24 @@ module _ {source target : List Dimension} {region moved targets : Box} (chains :
       ∙ shares_met target moved.start moved.shape chunk source region.start in_subset.start (meets_take target moved chunk meets)
       as_many_dimensions as_many_starts (starts_are target moved chunk meets in_chunk in_subset boxes)
 
-  module _ (some : ¬ IsEmptyBox targets) where
-    pub taking_ranges : RangesTake target moved.start moved.shape targets.start targets.shape
-    taking_ranges =
-        ranges_take target moved.start moved.shape targets.start targets.shape taking.long taking.is_box.lengths some
-        (λ chunk within. meets_take target moved chunk (taking.meet chunk within))
+  -- along each dimension they are ranges
+  pub ranges_along : IsBox region → (¬ IsEmptyBox targets) → (k : ℕ) → k < length targets.shape
+      → OfRanges AreRanges source target region.start moved.start moved.shape targets.start targets.shape k
+  ranges_along is_region some k within =
+      ranges_at source target region.start moved.start moved.shape targets.start targets.shape k as_many_dimensions as_many_starts
+      (rw taking.one_shape taking.in_source) taking.in_target (rw taking.one_shape is_region.fits) taking.is_moved.fits taking.is_box.fits
+      (ranges_take target moved.start moved.shape targets.start targets.shape taking.long taking.is_box.lengths some
+      (λ chunk within. meets_take target moved chunk (taking.meet chunk within)))
+      (omega (arith, taking.long, taking.is_box.lengths))
+
+  -- what is told of them along one is told of the row in the table
+  pub row_along : (P : List ℕ → Type 0) (k : ℕ)
+      → OfRanges (λ s t first at size chunk chunks. P (met_by_range s t first at size chunk chunks)) source target region.start moved.start moved.shape
+      targets.start targets.shape k
+      → P (get_or (met_in (counters source target region moved) targets.start targets.shape) k [])
+  row_along P k is =
+      row_has P source target region.start moved.start moved.shape targets.start targets.shape k is as_many_dimensions as_many_starts
+      (omega (arith, moved_long, taking.is_moved.lengths)) moved_long taking.long (omega (arith, taking.long, taking.is_box.lengths))
 
 -- some ranges from 0 to 0 hold nothing
 pub zeros_none : (n : ℕ) → n ≢ 0 → IsEmptyBox (zero_box n)

@@ -1,31 +1,65 @@
--- What two grids answer about one dimension: with how many chunks of the source a chunk of the target shares elements along it.
-use Rattle.std.proofs.Common.{◌≡◌, ℕ, zero, suc, ◌+◌, ◌-◌, ◌<◌, ◌≤◌, List, [], ◌∷◌, arith, length, max, min, slice_index_or, slice_set, subst, sym}
-use Rattle.std.proofs.lemmas.List.{get_or-set_same}
+-- One dimension of a list of them, and one of each of two lists: with how many chunks of the source a chunk of the target shares elements along it.
+use Rattle.std.proofs.Common.{◌≡◌, ℕ, zero, suc, ◌+◌, ◌-◌, ◌<◌, ◌≤◌, List, [], ◌∷◌, arith, length, min, slice_index_or, subst, sym}
 use Rattle.std.specs.List.{AllByRecursion}
-use Rattle.zarrs_chunk_base.specs.ArraySubset.{Box, IsBox, IsEmptyBox, ends}
-use Rattle.zarrs_chunk_base.specs.Dimension.{Dimension, Holds, IsChain}
-use Rattle.zarrs_chunk_base.specs.Greatest.{AllFit, greatest}
-use Rattle.zarrs_chunk_axes.specs.Along.{HoldsAlong, IsRange, IsRangeAlong}
+use Rattle.zarrs_chunk_base.specs.ArraySubset.{ends}
+use Rattle.zarrs_chunk_base.specs.Dimension.{Dimension, Holds, IsChain, array_sizes}
+use Rattle.zarrs_chunk_base.specs.Greatest.{AllFit}
+use Rattle.zarrs_chunk_axes.specs.Along.{Along, IsRange}
 use Rattle.zarrs_chunks.proofs.Chains.{no_later}
-use Rattle.zarrs_chunk_plan.specs.seen.Sources.{AreTaking, counters, counters_from, met, met_along, met_by, met_in, taken, taken_from}
-use Rattle.zarrs_chunk_plan.specs.seen.Stages.{HasEdgeAlong}
-use Rattle.zarrs_chunk_plan.proofs.ByNumber.{sum_fits}
-use Rattle.zarrs_chunk_plan.proofs.MetChunks.{AllTakeSome, TakesSome, meets_take, met_at_most, met_is}
-use Rattle.zarrs_chunk_plan.proofs.MetCovers.{as_many_counters, as_many_dimensions, as_many_starts, moved_long}
-use Rattle.zarrs_chunk_plan.proofs.Written.{met_there, set_within}
+use Rattle.zarrs_chunk_plan.specs.Region.{EndWithin}
+use Rattle.zarrs_chunk_plan.specs.seen.Sources.{AreRanges, TakesSome, counters_from, met, met_along, met_by_range, met_in, taken, taken_from}
+use Rattle.zarrs_chunk_plan.proofs.MetChunks.{met_at_most, met_is}
+use Rattle.zarrs_chunk_plan.proofs.Written.{RangesTake, take_long}
 
--- the edge of a chunk is that of its range
-pub edge_of_range : (ds : List Dimension) (k c : ℕ) (range : ℕ × ℕ) → IsRangeAlong ds k c range → HasEdgeAlong ds k c range.1
-edge_of_range [] k c range is = absurd is
-edge_of_range (d ∷ ds) zero c range is = is.edge
-edge_of_range (d ∷ ds) (suc k) c range is = edge_of_range ds k c range is
+-- ---- the dimension of a number, which has a property
 
--- what a chunk takes of a range, as steps behind the range's first index: the first one, and the one after the last
-abbrev pub steps_before : (at start : ℕ) → ℕ
-steps_before at start = start - at
+pub record One (P : Dimension → Type 0) (ds : List Dimension) (k : ℕ) : Type 1 where
+  pub d : Dimension
+  pub chain : IsChain d
+  pub is : P d
+  pub at : (Q : Dimension → Type 0) → Along Q ds k → Q d
+  pub back : (Q : Dimension → Type 0) → Q d → Along Q ds k
 
-abbrev pub steps_to_end : (at size start edge : ℕ) → ℕ
-steps_to_end at size start edge = min (start + edge - at) size
+pub one : (P : Dimension → Type 0) (ds : List Dimension) (k : ℕ) → AllByRecursion IsChain ds → Along P ds k → One P ds k
+one P [] k chains is = absurd is
+one P (d ∷ ds) zero chains is = record { d = d; chain = chains.0; is = is; at = λ Q has. has; back = λ Q has. has }
+one P (d ∷ ds) (suc k) chains is =
+    let rest = one P ds k chains.1 is in record { d = rest.d; chain = rest.chain; is = rest.is; at = rest.at; back = rest.back }
+
+-- and those of two numbers, of two lists
+pub record Two (P : Dimension → Dimension → Type 0) (source target : List Dimension) (j k : ℕ) : Type 1 where
+  pub s : Dimension
+  pub t : Dimension
+  pub chain : IsChain s
+  pub also : IsChain t
+  pub is : P s t
+  pub in_source : (Q : Dimension → Type 0) → Along Q source j → Q s
+  pub in_target : (Q : Dimension → Type 0) → Along Q target k → Q t
+  pub back_source : (Q : Dimension → Type 0) → Q s → Along Q source j
+  pub back_target : (Q : Dimension → Type 0) → Q t → Along Q target k
+  pub at : (Q : Dimension → Dimension → Type 0) → Along (λ s. Along (Q s) target k) source j → Q s t
+  pub back : (Q : Dimension → Dimension → Type 0) → Q s t → Along (λ s. Along (Q s) target k) source j
+
+pub two : (P : Dimension → Dimension → Type 0) (source target : List Dimension) (j k : ℕ) → AllByRecursion IsChain source
+    → AllByRecursion IsChain target → Along (λ s. Along (P s) target k) source j → Two P source target j k
+two P source target j k chains also is =
+    let first = one (λ s. Along (P s) target k) source j chains is in
+    let second = one (P first.d) target k also first.is in
+    record {
+      s = first.d;
+      t = second.d;
+      chain = first.chain;
+      also = second.chain;
+      is = second.is;
+      in_source = first.at;
+      in_target = second.at;
+      back_source = first.back;
+      back_target = second.back;
+      at = λ Q has. second.at (Q first.d) (first.at (λ s. Along (Q s) target k) has);
+      back = λ Q has. first.back (λ s. Along (Q s) target k) (second.back (Q first.d) has);
+    }
+
+-- ---- what a chunk of the target takes of a range
 
 -- so many are met
 pub record AreMet (low high many size : ℕ) : Type 0 where
@@ -33,103 +67,57 @@ pub record AreMet (low high many size : ℕ) : Type 0 where
   pub as_many : suc high - low ≡ many
   pub at_most : suc high - low ≤ size
 
-one_met : (s t : Dimension) (from at size c start edge before end low high : ℕ) → IsChain s → TakesSome t at size c → IsRange t c (start, edge)
-    → before ≡ steps_before at start → end ≡ steps_to_end at size start edge → Holds s low (from + before) → Holds s high (from + (end - 1))
-    → AreMet low high (met_along s t from at size c) size
-one_met s t from at size c start edge before end low high chain (has, some) range before_is end_is first last =
-    let index = from + (taken_from t at c - at) in
+pub one_met : (s t : Dimension) (first at size c start edge low high i j : ℕ) → IsChain s → TakesSome t at size c → IsRange t c (start, edge)
+    → i ≡ first + (start - at) → j ≡ first + (min (start + edge - at) size - 1) → Holds s low i → Holds s high j
+    → AreMet low high (met_along s t first at size c) size
+one_met s t first at size c start edge low high i j chain (has, some) range i_is j_is lowest highest =
+    let index = first + (taken_from t at c - at) in
     let many = taken t at size c in
-    let first_is : from + before ≡ index = omega arith in
-    let last_is : from + (end - 1) ≡ index + (many - 1) = omega arith in
-    let lowest = subst (Holds s low) first_is first in
-    let highest = subst (Holds s high) last_is last in
-    let count : met s index many ≡ suc high - low = met_is s chain low high index many lowest highest in
-    let most : met s index many ≤ many = met_at_most s chain low high index many (omega arith) lowest highest in
+    let first_is : i ≡ index = omega arith in
+    let last_is : j ≡ index + (many - 1) = omega arith in
+    let low_holds = subst (Holds s low) first_is lowest in
+    let high_holds = subst (Holds s high) last_is highest in
+    let count : met s index many ≡ suc high - low = met_is s chain low high index many low_holds high_holds in
+    let most : met s index many ≤ many = met_at_most s chain low high index many (omega arith) low_holds high_holds in
     record {
-      in_order = no_later s chain low high index (index + (many - 1)) (omega arith) lowest highest;
+      in_order = no_later s chain low high index (index + (many - 1)) (omega arith) low_holds high_holds;
       as_many = sym count;
       at_most = omega arith;
     }
 
--- along a dimension
-pub all_met : (source target : List Dimension) (from at shape chunk : List ℕ) (k start edge before end low high : ℕ) → AllByRecursion IsChain source
-    → AllTakeSome target at shape chunk → length source ≡ length target → length from ≡ length target → k < length target
-    → IsRangeAlong target k (slice_index_or chunk k 0) (start, edge) → before ≡ steps_before (slice_index_or at k 0) start
-    → end ≡ steps_to_end (slice_index_or at k 0) (slice_index_or shape k 0) start edge
-    → HoldsAlong source k (slice_index_or from k 0 + before) low → HoldsAlong source k (slice_index_or from k 0 + (end - 1)) high
-    → AreMet low high (slice_index_or (met_by (counters_from source target from at shape) chunk) k 0) (slice_index_or shape k 0)
-all_met (s ∷ source) (t ∷ target) (f ∷ from) (a ∷ at) (n ∷ shape) (c ∷ chunk) zero start edge before end low high chains takes e g within range =
-    one_met s t f a n c start edge before end low high chains.0 takes.0 range
-all_met (s ∷ source) (t ∷ target) (f ∷ from) (a ∷ at) (n ∷ shape) (c ∷ chunk) (suc k) start edge before end low high chains takes e g within range =
-    all_met source target from at shape chunk k start edge before end low high chains.1 takes.1 (omega arith) (omega arith) (omega arith) range
-all_met _ _ _ _ _ _ k start edge before end low high chains takes e g within range = absurd (first_of (assumption, omega arith))
+-- ---- a dimension of a move
 
--- the chunk takes some of the range
-pub takes_along : (ds : List Dimension) (at shape chunk : List ℕ) (k start edge : ℕ) → AllTakeSome ds at shape chunk → k < length ds
-    → IsRangeAlong ds k (slice_index_or chunk k 0) (start, edge)
-    → max (slice_index_or at k 0) start < min (start + edge) (slice_index_or at k 0 + slice_index_or shape k 0)
-takes_along (d ∷ ds) (a ∷ at) (n ∷ shape) (c ∷ chunk) zero start edge (some, _) within range =
-    omega arith
-takes_along (d ∷ ds) (a ∷ at) (n ∷ shape) (c ∷ chunk) (suc k) start edge some within range =
-    takes_along ds at shape chunk k start edge some.1 (omega arith) range
-takes_along _ _ _ _ k start edge some within range = absurd (first_of (assumption, omega arith))
+-- what holds along the dimension of a number, of the numbers there of five lists
+abbrev pub OfRanges : (P : Dimension → Dimension → (first at size chunk chunks : ℕ) → Type 0) → (source target : List Dimension)
+    → (first at shape begin sizes : List ℕ) → ℕ → Type 0
+OfRanges P source target first at shape begin sizes k =
+    Along (λ s. Along (λ t. P s t (slice_index_or first k 0) (slice_index_or at k 0) (slice_index_or shape k 0) (slice_index_or begin k 0)
+    (slice_index_or sizes k 0)) target k) source k
 
--- ---- of a chunk of the target that takes some
+pub ranges_at : (source target : List Dimension) (first at shape begin sizes : List ℕ) (k : ℕ) → length source ≡ length target
+    → length first ≡ length target → EndWithin first shape (array_sizes source) → EndWithin at shape (array_sizes target) → AllFit (ends first shape)
+    → AllFit (ends at shape) → AllFit (ends begin sizes) → RangesTake target at shape begin sizes → k < length target
+    → OfRanges AreRanges source target first at shape begin sizes k
+ranges_at (s ∷ source) (t ∷ target) (f ∷ first) (a ∷ at) (n ∷ shape) (c ∷ begin) (m ∷ sizes) zero e g lies lies_t fit fit_t fit_c takes within = record {
+  in_source = lies.0;
+  in_target = lies_t.0;
+  source_fits = fit.0;
+  target_fits = fit_t.0;
+  chunks_fit = fit_c.0;
+  take = takes.0;
+}
+ranges_at (s ∷ source) (t ∷ target) (f ∷ first) (a ∷ at) (n ∷ shape) (c ∷ begin) (m ∷ sizes) (suc k) e g lies lies_t fit fit_t fit_c takes within =
+    ranges_at source target first at shape begin sizes k (omega arith) (omega arith) lies.1 lies_t.1 fit.1 fit_t.1 fit_c.1 takes.1 (omega arith)
+ranges_at _ target _ at shape begin sizes k e g lies lies_t fit fit_t fit_c takes within =
+    let long = take_long target at shape begin sizes takes in absurd (omega (arith, long.0, long.1, long.2, long.3))
 
--- where a range of a box ends
-pub ends_fit : (start shape : List ℕ) (k : ℕ) → AllFit (ends start shape) → length start ≡ length shape → k < length start
-    → slice_index_or start k 0 + slice_index_or shape k 0 ≤ greatest
-ends_fit (a ∷ start) (n ∷ shape) zero fits e within = fits.0
-ends_fit (a ∷ start) (n ∷ shape) (suc k) fits e within = ends_fit start shape k fits.1 (omega arith) (omega arith)
-ends_fit _ _ k fits e within = absurd (omega arith)
-
--- what the look-ups along a dimension need, and what is found by them
-pub record AreAsked (source target : List Dimension) (region moved targets : Box) (k steps : ℕ) : Type 0 where
-  pub chunk_fits : slice_index_or targets.start k 0 + steps ≤ greatest
-  pub in_region : k < length region.start
-  pub in_start : k < length moved.start
-  pub in_shape : k < length moved.shape
-  pub region_fits : IsBox region → slice_index_or region.start k 0 + slice_index_or moved.shape k 0 ≤ greatest
-  pub moved_fits : slice_index_or moved.start k 0 + slice_index_or moved.shape k 0 ≤ greatest
-  pub takes : (start edge : ℕ) → IsRangeAlong target k (slice_index_or targets.start k 0 + steps) (start, edge)
-      → max (slice_index_or moved.start k 0) start < min (start + edge) (slice_index_or moved.start k 0 + slice_index_or moved.shape k 0)
-  pub met : (start edge before end low high : ℕ) → IsRangeAlong target k (slice_index_or targets.start k 0 + steps) (start, edge)
-      → before ≡ steps_before (slice_index_or moved.start k 0) start
-      → end ≡ steps_to_end (slice_index_or moved.start k 0) (slice_index_or moved.shape k 0) start edge
-      → HoldsAlong source k (slice_index_or region.start k 0 + before) low → HoldsAlong source k (slice_index_or region.start k 0 + (end - 1)) high
-      → AreMet low high
-      (slice_index_or (slice_index_or (met_in (counters source target region moved) targets.start targets.shape) k []) steps 0)
-      (slice_index_or moved.shape k 0)
-
-pub are_asked : {source target : List Dimension} {region moved targets : Box} (k steps : ℕ) → AllByRecursion IsChain source
-    → AreTaking source target region moved targets → (¬ IsEmptyBox targets) → k < length targets.shape
-    → steps < slice_index_or targets.shape k 0 → AreAsked source target region moved targets k steps
-are_asked {source} {target} {region} {moved} {targets} k steps chains taking some within less =
-    let number = slice_index_or targets.start k 0 + steps in
-    let chunk = slice_set targets.start k number in
-    let inside = set_within targets.start targets.shape k steps taking.is_box.lengths some within less in
-    let take = meets_take target moved chunk (taking.meet chunk inside) in
-    let one = as_many_dimensions chains taking in
-    let region_long = as_many_starts chains taking in
-    let moved_long = moved_long chains taking in
-    let here : slice_index_or chunk k 0 ≡ number = get_or-set_same targets.start k number 0 (omega (arith, taking.is_box.lengths)) in
-    let at = λ (start edge : ℕ) (range : IsRangeAlong target k number (start, edge)).
-    subst (λ n. IsRangeAlong target k n (start, edge)) (sym here) range in
-    record {
-      chunk_fits = sum_fits targets.start targets.shape k steps taking.is_box.fits (omega (arith, taking.is_box.lengths)) within less;
-      in_region = omega (arith, taking.long, taking.is_box.lengths);
-      in_start = omega (arith, taking.long, taking.is_box.lengths, taking.is_moved.lengths);
-      in_shape = omega (arith, taking.long, taking.is_box.lengths);
-      region_fits = λ box.
-          rw taking.one_shape (ends_fit region.start region.shape k box.fits box.lengths (omega (arith, taking.long, taking.is_box.lengths)));
-      moved_fits = ends_fit moved.start moved.shape k taking.is_moved.fits taking.is_moved.lengths
-          (omega (arith, taking.long, taking.is_box.lengths, taking.is_moved.lengths));
-      takes = λ start edge range.
-          takes_along target moved.start moved.shape chunk k start edge take (omega (arith, taking.long, taking.is_box.lengths)) (at start edge range);
-      met = λ start edge before end low high range before_is end_is lowest highest.
-          subst (λ n. AreMet low high n (slice_index_or moved.shape k 0))
-          (met_there (counters source target region moved) targets.start targets.shape k steps
-          (let many = as_many_counters chains taking in omega (arith, taking.long)) taking.is_box.lengths within less)
-          (all_met source target region.start moved.start moved.shape chunk k start edge before end low high chains take one region_long
-          (omega (arith, taking.long, taking.is_box.lengths)) (at start edge range) before_is end_is lowest highest);
-    }
+-- what holds of the counts along a dimension holds of their row in the table
+pub row_has : (P : List ℕ → Type 0) (source target : List Dimension) (first at shape begin sizes : List ℕ) (k : ℕ)
+    → OfRanges (λ s t first at size chunk chunks. P (met_by_range s t first at size chunk chunks)) source target first at shape begin sizes k
+    → length source ≡ length target → length first ≡ length target → length at ≡ length target → length shape ≡ length target
+    → length begin ≡ length target → length sizes ≡ length target
+    → P (slice_index_or (met_in (counters_from source target first at shape) begin sizes) k [])
+row_has P (s ∷ source) (t ∷ target) (f ∷ first) (a ∷ at) (n ∷ shape) (c ∷ begin) (m ∷ sizes) zero is e f' g h i j = is
+row_has P (s ∷ source) (t ∷ target) (f ∷ first) (a ∷ at) (n ∷ shape) (c ∷ begin) (m ∷ sizes) (suc k) is e f' g h i j =
+    row_has P source target first at shape begin sizes k is (omega arith) (omega arith) (omega arith) (omega arith) (omega arith) (omega arith)
+row_has P _ _ _ _ _ _ _ k is e f' g h i j = absurd (first_of (assumption, omega arith))

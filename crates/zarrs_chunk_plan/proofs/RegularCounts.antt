@@ -1,5 +1,6 @@
 -- Counting the chunks of one regular grid that meet those of another.
-use Rattle.std.proofs.Common.{◌≡◌, ◌∙◌, ◌↔◌, ℕ, zero, suc, ◌+◌, ◌-◌, ◌*◌, ◌/◌, ◌%◌, ◌<◌, ◌≤◌, ◌++◌, List, [], ◌∷◌, ap, arith, fold, length, max, refl, subst, sym, ⊎_elim}
+use Rattle.std.proofs.Common.{◌≡◌, ◌∙◌, ◌↔◌, ℕ, zero, suc, ◌+◌, ◌-◌, ◌*◌, ◌/◌, ◌%◌, ◌<◌, ◌≤◌, ◌++◌, List, [], ◌∷◌, ap, arith, fold, length, max, nat_cmp, refl, rules, subst, sym, tests, ⊎_elim}
+use Rattle.std.specs.Ordering.{ord_max}
 use Rattle.std.specs.List.{AllByRecursion, sum}
 use Rattle.zarrs_chunk_plan.specs.seen.RegularCounts.{all_meeting, meeting}
 use Rattle.std.proofs.Math.Nat.{div-eq_of_lt-le, mod-lt, mod-add-div', mul-le-mul_right}
@@ -146,6 +147,10 @@ fold_max (x ∷ xs) n =
     let one = fold_max xs (max n x) in
     let two = fold_max xs (max 0 x) in
     omega arith
+
+-- the greater of two numbers
+pub greater_of : (a b : ℕ) → ord_max nat_cmp a b ≡ max a b
+greater_of a b = search (rules, tests)
 
 pub fold_max_push : (xs : List ℕ) (y : ℕ) → fold max 0 (xs ++ y ∷ []) ≡ max (fold max 0 xs) y
 fold_max_push [] y = omega arith

@@ -1,24 +1,19 @@
 -- Along regular dimensions where elements keep their index, the chunks met by each chunk but the first and the last are computed.
 use Rattle.std.proofs.Common.{◌≡◌, ◌∙◌, ℕ, zero, suc, ◌+◌, ◌-◌, ◌*◌, ◌/◌, ◌<◌, ◌≤◌, ◌++◌, List, [], ◌∷◌, IsTrue}
-use Rattle.std.proofs.Common.{ap, ap₂, arith, fold, length, map, max, refl, slice_index_or, subst, sym, take}
+use Rattle.std.proofs.Common.{ap, ap₂, arith, fold, map, max, refl, subst, sym}
 use Rattle.std.proofs.Math.Nat.{div-mul-le_self}
-use Rattle.std.proofs.lemmas.List.{get_or_push, take_all}
-use Rattle.std.proofs.lemmas.List.FromFn.{length-map-range_with_len, map-range_with_len_more}
-use Rattle.std.proofs.lemmas.List.Sums.{sum_by-cons, sum_by_more, sum_by_push}
-use Rattle.std.specs.List.{AllByRecursion, range_with_len, sum}
-use Rattle.zarrs_chunk_base.specs.ArraySubset.{Box, IsEmptyBox}
+use Rattle.std.proofs.lemmas.List.FromFn.{map-range_with_len_more}
+use Rattle.std.proofs.lemmas.List.Sums.{sum_by-cons, sum_by_push}
+use Rattle.std.specs.List.{range_with_len, sum}
 use Rattle.zarrs_chunk_base.specs.Greatest.{greatest}
-use Rattle.zarrs_chunk_base.specs.Dimension.{Dimension, Holds, IsChain, array_sizes}
-use Rattle.zarrs_chunk_axes.specs.Along.{IsRegular, IsRegularAlong}
+use Rattle.zarrs_chunk_base.specs.Dimension.{Dimension, Holds, IsChain}
+use Rattle.zarrs_chunk_axes.specs.Along.{IsRegular}
 use Rattle.zarrs_chunks.proofs.Chains.{no_later}
-use Rattle.zarrs_chunk_plan.specs.Region.{EndWithin}
 use Rattle.zarrs_chunk_plan.specs.seen.RegularCounts.{all_meeting, meeting}
-use Rattle.zarrs_chunk_plan.specs.seen.Sources.{AreTaking, counters, counters_from, met_along, met_in, taken, taken_from}
-use Rattle.zarrs_chunk_plan.proofs.MetChunks.{TakesSome, met_is}
-use Rattle.zarrs_chunk_plan.proofs.MetCovers.{as_many_counters, as_many_dimensions, as_many_starts, moved_long, shape_fits, taking_ranges}
-use Rattle.zarrs_chunk_plan.proofs.OneDimension.{ends_fit}
+use Rattle.zarrs_chunk_plan.specs.seen.Sources.{AreRanges, RangeTakes, TakesSome, met_along, met_by_range, taken, taken_from}
+use Rattle.zarrs_chunk_plan.proofs.MetChunks.{met_is}
 use Rattle.zarrs_chunk_plan.proofs.RegularCounts.{fold_max, fold_max_push, left_of}
-use Rattle.zarrs_chunk_plan.proofs.Written.{RangeTakes, RangesTake, sums_fit, table_long, take_long}
+use Rattle.zarrs_chunk_plan.proofs.Written.{sum_fits, sum_more}
 
 -- an index lies in one chunk
 one_home : (d : Dimension) → IsChain d → (c e i : ℕ) → Holds d c i → Holds d e i → c ≡ e
@@ -101,45 +96,8 @@ last_start t also b some regular at size c within takes =
     let start = regular_start t also b some regular c takes.0 (omega (arith, some_taken)) in
     omega (arith, some_taken)
 
--- ---- a dimension of a list
-
-pub record IsRow (row : List ℕ) (a b begin between bound : ℕ) : Type 0 where
-  pub is : row ≡ slice_index_or row 0 0 ∷ (all_meeting a b (begin + 1) between ++ slice_index_or row (suc between) 0 ∷ [])
-  pub below : (begin + 1 + between) * b < bound
-
-pub row_along : (target : List Dimension) (at shape begin sizes : List ℕ) (source : List Dimension) (first : List ℕ) (k a b between : ℕ)
-    → AllByRecursion IsChain source → AllByRecursion IsChain target → length source ≡ length target → length first ≡ length target
-    → EndWithin first shape (array_sizes source) → EndWithin at shape (array_sizes target) → RangesTake target at shape begin sizes → k < length sizes
-    → 0 < a → 0 < b → IsRegularAlong source k a → IsRegularAlong target k b → slice_index_or first k 0 ≡ slice_index_or at k 0
-    → slice_index_or sizes k 0 ≡ suc (suc between)
-    → IsRow (slice_index_or (met_in (counters_from source target first at shape) begin sizes) k []) a b (slice_index_or begin k 0) between
-    (slice_index_or at k 0 + slice_index_or shape k 0)
-row_along (t ∷ target) (x ∷ at) (n ∷ shape) (c ∷ begin) (m ∷ sizes) (s ∷ source) (f ∷ first) zero a b between chains also e g lies lies_t takes within
-    some_a some_b regular regular_t stays many =
-    let take = subst (λ (m' : ℕ). RangeTakes t x n c m') many takes.0 in
-    let in_source : x + n ≤ s.array_size = let there = lies.0 in omega arith in
-    let in_target : x + n ≤ t.array_size = lies_t.0 in
-    let row : map (met_along s t f x n) (range_with_len c m)
-    ≡ met_along s t x x n c ∷ (all_meeting a b (c + 1) between ++ met_along s t x x n (c + 1 + between) ∷ []) =
-    ap₂ (λ p q. map (met_along s t p x n) (range_with_len c q)) stays many
-    ∙ row_is s t chains.0 also.0 a b some_a some_b regular regular_t x n c between in_source in_target take in
-    let last_is = get_or_push (all_meeting a b (c + 1) between) (met_along s t x x n (c + 1 + between)) 0 between
-    (length-map-range_with_len (meeting a b) (c + 1) between) in
-    record {
-      is = row ∙ ap₂ (λ p q. p ∷ (all_meeting a b (c + 1) between ++ q ∷ []))
-          (sym (ap (λ xs. slice_index_or xs 0 0) row)) (sym (ap (λ xs. slice_index_or xs (suc between) 0) row ∙ last_is));
-      below = last_start t also.0 b some_b regular_t x n (c + 1 + between) in_target (take (c + 1 + between) (omega arith) (omega arith));
-    }
-row_along (t ∷ target) (x ∷ at) (n ∷ shape) (c ∷ begin) (m ∷ sizes) (s ∷ source) (f ∷ first) (suc k) a b between chains also e g lies lies_t takes
-    within some_a some_b regular regular_t stays many =
-    row_along target at shape begin sizes source first k a b between chains.1 also.1 (omega arith) (omega arith) lies.1 lies_t.1 takes.1 (omega arith)
-    some_a some_b regular regular_t stays many
-row_along target at shape begin sizes _ _ k a b between chains also e g lies lies_t takes within some_a some_b regular regular_t stays many =
-    let long = take_long target at shape begin sizes takes in
-    absurd (omega (arith, long.0, long.1, long.2, long.3))
-
 -- together, and the greatest
-pub of_row : (x y : ℕ) (xs row : List ℕ) → row ≡ x ∷ (xs ++ y ∷ [])
+of_row : (x y : ℕ) (xs row : List ℕ) → row ≡ x ∷ (xs ++ y ∷ [])
     → (sum row ≡ x + sum xs + y) × (fold max 0 row ≡ max (max x (fold max 0 xs)) y)
 of_row x y xs row is =
     let rest = sum_by_push (λ n. n) xs y in
@@ -149,55 +107,39 @@ of_row x y xs row is =
     let last = fold_max_push xs y in
     (ap sum is ∙ omega (arith, rest, all), ap (fold max 0) is ∙ omega (arith, greatest, last))
 
--- ---- chunks of the target that each take some
+-- ---- all chunks, where there are more than two
 
--- all but the last number of a row, and the last, are all of it
-whole_sum : (row : List ℕ) (n : ℕ) → length row ≡ suc n → sum (take n row) + slice_index_or row n 0 ≡ sum row
-whole_sum row n long = sym (sum_by_more (λ m. m) row n 0 (omega arith)) ∙ ap sum (take_all (n + 1) row (omega arith))
+-- their counts are computed from that of the first one, and that of the last one
+pub record AreCounted (row : List ℕ) (a b first last begin between : ℕ) : Type 0 where
+  pub in_all : sum row ≡ first + sum (all_meeting a b begin between) + last
+  pub most : fold max 0 row ≡ max (max first (fold max 0 (all_meeting a b begin between))) last
+  pub last_fits : (begin + between) * b ≤ greatest
+  pub all_fit : sum row ≤ greatest
 
-pub record IsCounted (row : List ℕ) (a b begin between last : ℕ) : Type 0 where
-  pub in_all : sum row ≡ slice_index_or row 0 0 + sum (all_meeting a b (begin + 1) between) + slice_index_or row last 0
-  pub most : fold max 0 row ≡ max (max (slice_index_or row 0 0) (fold max 0 (all_meeting a b (begin + 1) between))) (slice_index_or row last 0)
-  pub begin_fits : begin + 1 ≤ greatest
-  pub last_fits : (begin + 1 + between) * b ≤ greatest
-  pub sum_fits : sum row ≤ greatest
-
-pub counted : {source target : List Dimension} {region moved targets : Box} (k a b : ℕ) → AllByRecursion IsChain source
-    → AllByRecursion IsChain target → AreTaking source target region moved targets → (¬ IsEmptyBox targets) → k < length targets.shape → 0 < a → 0 < b
-    → IsRegularAlong source k a → IsRegularAlong target k b → slice_index_or region.start k 0 ≡ slice_index_or moved.start k 0
-    → 2 < slice_index_or targets.shape k 0
-    → IsCounted (slice_index_or (met_in (counters source target region moved) targets.start targets.shape) k []) a b
-    (slice_index_or targets.start k 0) (slice_index_or targets.shape k 0 - 2) (slice_index_or targets.shape k 0 - 1)
-counted {source} {target} {region} {moved} {targets} k a b chains also taking some within some_a some_b regular regular_t stays more =
-    let many = slice_index_or targets.shape k 0 in
-    let between = many - 2 in
-    let row = slice_index_or (met_in (counters source target region moved) targets.start targets.shape) k [] in
-    let one = as_many_dimensions chains taking in
-    let starts = as_many_starts chains taking in
-    let ranges = taking_ranges chains taking some in
-    let lies : EndWithin region.start moved.shape (array_sizes source) = rw taking.one_shape taking.in_source in
-    let is_row = row_along target moved.start moved.shape targets.start targets.shape source region.start k a b between chains also one starts lies
-    taking.in_target ranges within some_a some_b regular regular_t stays (omega arith) in
-    let (in_all, most) = of_row (slice_index_or row 0 0) (slice_index_or row (suc between) 0) (all_meeting a b (slice_index_or targets.start k 0 + 1) between) row is_row.is in
-    let bound : slice_index_or moved.start k 0 + slice_index_or moved.shape k 0 ≤ greatest =
-    ends_fit moved.start moved.shape k taking.is_moved.fits taking.is_moved.lengths
-    (let long = moved_long chains taking in omega (arith, taking.long, taking.is_box.lengths, taking.is_moved.lengths)) in
-    let up_to = sums_fit target moved.start moved.shape targets.start targets.shape source region.start k (suc between) chains also one starts lies
-    (shape_fits moved.start moved.shape taking.is_moved) ranges within (omega arith) in
-    let as_many : length row ≡ many =
-    table_long (counters source target region moved) targets.start targets.shape k
-    (let counters_are = as_many_counters chains taking in omega (arith, taking.long)) taking.is_box.lengths within in
-    let whole = whole_sum row (suc between) (omega arith) in
-    let begins : slice_index_or targets.start k 0 + many ≤ greatest =
-    ends_fit targets.start targets.shape k taking.is_box.fits taking.is_box.lengths (omega (arith, taking.is_box.lengths)) in
-    let last : suc between ≡ many - 1 = omega arith in
+pub counted : (s t : Dimension) → IsChain s → IsChain t → (a b : ℕ) → 0 < a → 0 < b → IsRegular s a → IsRegular t b → (first at size chunk chunks : ℕ)
+    → AreRanges s t first at size chunk chunks → first ≡ at → 2 < chunks
+    → AreCounted (met_by_range s t first at size chunk chunks) a b (met_along s t first at size (chunk + 0))
+    (met_along s t first at size (chunk + (chunks - 1))) (chunk + 1) (chunks - 2)
+counted s t chain also a b some_a some_b regular regular_t first at size chunk chunks are stays more =
+    let between = chunks - 2 in
+    let f = met_along s t first at size in
+    let same : suc (suc between) ≡ chunks = omega arith in
+    let begin : chunk + 0 ≡ chunk = omega arith in
+    let end : chunk + 1 + between ≡ chunk + (chunks - 1) = omega arith in
+    let takes = subst (RangeTakes t at size chunk) (sym same) are.take in
+    let row : met_by_range s t first at size chunk chunks ≡ f chunk ∷ (all_meeting a b (chunk + 1) between ++ f (chunk + (chunks - 1)) ∷ []) =
+    ap₂ (λ p n. map (met_along s t p at size) (range_with_len chunk n)) stays (sym same)
+    ∙ row_is s t chain also a b some_a some_b regular regular_t at size chunk between (let here = are.in_source in omega (arith, here, stays)) are.in_target takes
+    ∙ ap₂ (λ p q. met_along s t p at size chunk ∷ (all_meeting a b (chunk + 1) between ++ met_along s t p at size q ∷ [])) (sym stays) end
+    in
+    let (in_all, most) = of_row (f chunk) (f (chunk + (chunks - 1))) (all_meeting a b (chunk + 1) between) (met_by_range s t first at size chunk chunks) row in
+    let last = last_start t also b some_b regular_t at size (chunk + (chunks - 1)) are.in_target (are.take (chunk + (chunks - 1)) (omega arith) (omega arith)) in
+    let fit = sum_fits s t chain also first at size are.in_source chunk chunks (chunks - 1) are.take (omega arith) in
+    let all : chunks - 1 + 1 ≡ chunks = omega arith in
+    let whole = rw all at (sum_more f chunk (chunks - 1)) in
     record {
-      in_all = subst (λ n. sum row ≡ slice_index_or row 0 0 + sum (all_meeting a b (slice_index_or targets.start k 0 + 1) between) + slice_index_or row n 0)
-          last in_all;
-      most = subst
-          (λ n. fold max 0 row ≡ max (max (slice_index_or row 0 0) (fold max 0 (all_meeting a b (slice_index_or targets.start k 0 + 1) between))) (slice_index_or row n 0))
-          last most;
-      begin_fits = omega arith;
-      last_fits = omega arith;
-      sum_fits = omega arith;
+      in_all = rw begin in_all;
+      most = rw begin most;
+      last_fits = rw end (omega (arith, last, are.target_fits));
+      all_fit = omega (arith, fit, whole, are.target_fits);
     }

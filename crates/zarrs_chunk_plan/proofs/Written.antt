@@ -1,26 +1,23 @@
 -- The chunks of the target that take some of a box: what they hold of it, along each dimension and all together.
-use Rattle.std.proofs.Common.{◌≡◌, ◌↔◌, ◌∙◌, ℕ, zero, suc, ◌+◌, ◌-◌, ◌<◌, ◌≤◌, List, [], ◌∷◌, Contains, IsTrue, get_or, length, map, set, take}
-use Rattle.std.proofs.Common.{refl, ap, subst, sym, arith}
-use Rattle.std.proofs.lemmas.List.FromFn.{get_or-map-range_with_len, length-map-range_with_len, map-range_with_len_more, take-map-range_with_len}
+use Rattle.std.proofs.Common.{◌≡◌, ◌↔◌, ◌∙◌, ℕ, zero, suc, ◌+◌, ◌-◌, ◌<◌, ◌≤◌, List, [], ◌∷◌, Contains, IsTrue, fold, length, map, max}
+use Rattle.std.proofs.Common.{refl, ap, subst, arith}
+use Rattle.std.proofs.lemmas.List.FromFn.{map-range_with_len_more}
 use Rattle.std.proofs.lemmas.List.Sums.{sum_by_push}
 use Rattle.std.specs.List.{AllByRecursion, AllZip, range_with_len, sum}
 use Rattle.zarrs_chunk_base.specs.ArraySubset.{AreWithin, Box, IsInside, ends, lasts}
-use Rattle.zarrs_chunk_base.specs.Dimension.{Dimension, InBox, IsChain, array_sizes}
-use Rattle.zarrs_chunk_base.specs.Greatest.{AllFit, greatest}
+use Rattle.zarrs_chunk_base.specs.Dimension.{Dimension, InBox, IsChain}
 use Rattle.zarrs_chunks.proofs.Chains.{in_chain}
 use Rattle.zarrs_chunks.proofs.Covers.{head_some, tail_some}
 use Rattle.zarrs_chunks.proofs.Meeting.{lies_between, lies_within}
 use Rattle.zarrs_chunk_parts.specs.seen.Shared.{distances}
-use Rattle.zarrs_chunk_plan.specs.Region.{EndWithin}
-use Rattle.zarrs_chunk_plan.specs.seen.Sources.{counters_from, met_along, met_by, met_in, taken, taken_from, taken_sizes, taken_starts}
-use Rattle.zarrs_chunk_plan.proofs.MetChunks.{AllTakeSome, TakesSome, met_at_most}
+use Rattle.zarrs_chunk_plan.specs.seen.Sources.{RangeTakes, TakesSome, counters_from, met_along, met_by_range, met_in, taken, taken_from, taken_sizes}
+use Rattle.zarrs_chunk_plan.specs.seen.Sources.{taken_starts}
+use Rattle.zarrs_chunk_plan.proofs.MetChunks.{AllTakeSome, met_at_most}
+use Rattle.zarrs_chunk_plan.proofs.RegularCounts.{fold_max_push}
 
 -- ---- along each dimension
 
--- each chunk of the range holds an index of another range
-abbrev pub RangeTakes : Dimension → (at count first size : ℕ) → Type 0
-RangeTakes d at count first size = (c : ℕ) → first ≤ c → c < first + size → TakesSome d at count c
-
+-- in each dimension each chunk of a range holds an index of another range
 abbrev pub RangesTake : List Dimension → (at shape first sizes : List ℕ) → Type 0
 RangesTake [] [] [] [] [] = Unit {0}
 RangesTake (d ∷ ds) (a ∷ at) (n ∷ shape) (c ∷ first) (k ∷ sizes) = RangeTakes d a n c k × RangesTake ds at shape first sizes
@@ -64,38 +61,11 @@ ranges_take _ at shape first sizes e f some each =
     let of_first = each first (first_within first sizes f some) in
     absurd (first_of (assumption, omega arith))
 
--- a chunk that is some steps along one dimension behind the first one
-pub set_within : (first sizes : List ℕ) (k j : ℕ) → length first ≡ length sizes → (¬ Contains sizes 0) → k < length sizes → j < get_or sizes k 0
-    → AreWithin first sizes (set first k (get_or first k 0 + j))
-set_within (a ∷ first) (n ∷ sizes) zero j e some within less =
-    (omega arith, omega arith, first_within first sizes (omega arith) (tail_some n sizes some))
-set_within (a ∷ first) (n ∷ sizes) (suc k) j e some within less =
-    let here = head_some n sizes some in
-    (omega arith, omega arith, set_within first sizes k j (omega arith) (tail_some n sizes some) (omega arith) less)
-set_within _ _ k j e some within less = absurd (omega arith)
-
--- has the count that stands in the table
-pub met_there : (counters : List (ℕ → ℕ)) (first sizes : List ℕ) (k j : ℕ) → length first ≡ length counters → length first ≡ length sizes
-    → k < length sizes → j < get_or sizes k 0
-    → get_or (met_by counters (set first k (get_or first k 0 + j))) k 0 ≡ get_or (get_or (met_in counters first sizes) k []) j 0
-met_there (f ∷ counters) (a ∷ first) (n ∷ sizes) zero j e g within less =
-    sym (get_or-map-range_with_len f a n j (a + j) 0 less refl)
-met_there (f ∷ counters) (a ∷ first) (n ∷ sizes) (suc k) j e g within less =
-    met_there counters first sizes k j (omega arith) (omega arith) (omega arith) less
-met_there _ _ _ k j e g within less = absurd (omega arith)
-
 pub tables_long : (counters : List (ℕ → ℕ)) (first sizes : List ℕ) → length first ≡ length counters → length first ≡ length sizes
     → length (met_in counters first sizes) ≡ length sizes
 tables_long [] [] [] e g = refl
 tables_long (f ∷ counters) (a ∷ first) (n ∷ sizes) e g = ap suc (tables_long counters first sizes (omega arith) (omega arith))
 tables_long _ _ _ e g = absurd (omega arith)
-
-pub table_long : (counters : List (ℕ → ℕ)) (first sizes : List ℕ) (k : ℕ) → length first ≡ length counters → length first ≡ length sizes
-    → k < length sizes → length (get_or (met_in counters first sizes) k []) ≡ get_or sizes k 0
-table_long (f ∷ counters) (a ∷ first) (n ∷ sizes) zero e g within = length-map-range_with_len f a n
-table_long (f ∷ counters) (a ∷ first) (n ∷ sizes) (suc k) e g within =
-    table_long counters first sizes k (omega arith) (omega arith) (omega arith)
-table_long _ _ _ k e g within = absurd (omega arith)
 
 pub counters_long : (source target : List Dimension) (first at shape : List ℕ) → length source ≡ length target → length first ≡ length target
     → length at ≡ length target → length shape ≡ length target → length (counters_from source target first at shape) ≡ length target
@@ -105,6 +75,16 @@ counters_long (s ∷ source) (t ∷ target) (x ∷ first) (a ∷ at) (n ∷ shap
 counters_long _ _ _ _ _ e f g h = absurd (omega arith)
 
 -- ---- their sum is at most how many indices go there
+
+-- of one chunk more
+pub sum_more : (f : ℕ → ℕ) (begin many : ℕ) → sum (map f (range_with_len begin (many + 1))) ≡ sum (map f (range_with_len begin many)) + f (begin + many)
+sum_more f begin many =
+    ap sum (map-range_with_len_more f begin many (begin + many) refl) ∙ sum_by_push (λ n. n) (map f (range_with_len begin many)) (f (begin + many))
+
+pub most_more : (f : ℕ → ℕ) (begin many : ℕ)
+    → fold max 0 (map f (range_with_len begin (many + 1))) ≡ max (fold max 0 (map f (range_with_len begin many))) (f (begin + many))
+most_more f begin many =
+    ap (fold max 0) (map-range_with_len_more f begin many (begin + many) refl) ∙ fold_max_push (map f (range_with_len begin many)) (f (begin + many))
 
 module _ (s t : Dimension) (chain : IsChain s) (also : IsChain t) (first at count : ℕ) (within : first + count ≤ s.array_size) where
   at_most_taken : (c : ℕ) → TakesSome t at count c → met_along s t first at count c ≤ taken t at count c
@@ -116,7 +96,7 @@ module _ (s t : Dimension) (chain : IsChain s) (also : IsChain t) (first at coun
 
   -- the sum up to a chunk is at most what lies before it
   sum_before : (begin size j : ℕ) → RangeTakes t at count begin size → j < size
-      → sum (map (met_along s t first at count) (range_with_len begin j)) + taken_from t at begin ≤ taken_from t at (begin + j)
+      → sum (met_by_range s t first at count begin j) + taken_from t at begin ≤ taken_from t at (begin + j)
   sum_before begin size zero takes less = let here : begin + 0 ≡ begin = omega arith in let start = ap t.start here in omega arith
   sum_before begin size (suc j) takes less =
       let rest = sum_before begin size j takes (omega arith) in
@@ -126,38 +106,17 @@ module _ (s t : Dimension) (chain : IsChain s) (also : IsChain t) (first at coun
       let (has, any) = takes (begin + suc j) (omega arith) (omega arith) in
       let gap = also.no_gap (begin + j) (subst (λ n. IsTrue (t.has_chunk n)) next has) in
       let start = ap t.start next in
-      let one : suc j ≡ j + 1 = omega arith in
-      let more : sum (map (met_along s t first at count) (range_with_len begin (suc j)))
-      ≡ sum (map (met_along s t first at count) (range_with_len begin j)) + met_along s t first at count (begin + j) =
-      ap (λ n. sum (map (met_along s t first at count) (range_with_len begin n))) one
-      ∙ ap sum (map-range_with_len_more (met_along s t first at count) begin j (begin + j) refl)
-      ∙ sum_by_push (λ n. n) (map (met_along s t first at count) (range_with_len begin j)) (met_along s t first at count (begin + j))
-      in
-      omega (arith, gap.1)
+      let one : j + 1 ≡ suc j = omega arith in
+      let more = rw one at (sum_more (met_along s t first at count) begin j) in
+      omega (arith, gap.1, more)
 
-  sum_fits : (begin size j : ℕ) → RangeTakes t at count begin size → j < size
-      → sum (map (met_along s t first at count) (range_with_len begin j)) + met_along s t first at count (begin + j) ≤ count
+  pub sum_fits : (begin size j : ℕ) → RangeTakes t at count begin size → j < size
+      → sum (met_by_range s t first at count begin j) + met_along s t first at count (begin + j) ≤ count
   sum_fits begin size j takes less =
       let before = sum_before begin size j takes less in
       let most = at_most_taken (begin + j) (takes (begin + j) (omega arith) (omega arith)) in
       let (_, some) = takes (begin + j) (omega arith) (omega arith) in
       omega arith
-
-pub sums_fit : (target : List Dimension) (at shape begin sizes : List ℕ) (source : List Dimension) (first : List ℕ) (k j : ℕ)
-    → AllByRecursion IsChain source → AllByRecursion IsChain target → length source ≡ length target → length first ≡ length target
-    → EndWithin first shape (array_sizes source) → AllFit shape → RangesTake target at shape begin sizes → k < length sizes → j < get_or sizes k 0
-    → sum (take j (get_or (met_in (counters_from source target first at shape) begin sizes) k []))
-    + get_or (get_or (met_in (counters_from source target first at shape) begin sizes) k []) j 0 ≤ greatest
-sums_fit (t ∷ target) (a ∷ at) (n ∷ shape) (b ∷ begin) (m ∷ sizes) (s ∷ source) (f ∷ first) zero j chains also e g lies fit takes within less =
-    let most = sum_fits s t chains.0 also.0 f a n lies.0 b m j takes.0 less in
-    let up_to = take-map-range_with_len (met_along s t f a n) b m j (omega arith) in
-    let here = get_or-map-range_with_len (met_along s t f a n) b m j (b + j) 0 less refl in
-    rw (up_to, here) (omega arith)
-sums_fit (t ∷ target) (a ∷ at) (n ∷ shape) (b ∷ begin) (m ∷ sizes) (s ∷ source) (f ∷ first) (suc k) j chains also e g lies fit takes within less =
-    sums_fit target at shape begin sizes source first k j chains.1 also.1 (omega arith) (omega arith) lies.1 fit.1 takes.1 (omega arith) less
-sums_fit target at shape begin sizes _ _ k j chains also e g lies fit takes within less =
-    let long = take_long target at shape begin sizes takes in
-    absurd (omega (arith, long.0, long.1, long.2, long.3))
 
 -- ---- all together
 

@@ -2,7 +2,7 @@
 ghost use Rattle.std.specs.Prelude.{◌≡◌, IsTrue, length};
 ghost use Rattle.zarrs_chunk_plan.specs.Counts.{AreFew};
 
-use crate::sources::{Move, regular_edges};
+use crate::sources::Move;
 use zarrs_chunk_base::ArraySubset;
 use zarrs_chunks::ChunkGridTraits;
 
@@ -24,7 +24,11 @@ pub(crate) fn are_few<G: ChunkGridTraits, H: ChunkGridTraits>(
     }
     let mut left = MOST_WALKED;
     for dimension in 0..targets.shape().len() {
-        if regular_edges(copied, dimension).is_some() {
+        let stays = copied.region.start()[dimension] == copied.moved.start()[dimension];
+        if stays
+            && copied.source.regular_along(dimension).is_some()
+            && copied.target.regular_along(dimension).is_some()
+        {
             continue;
         }
         match left.checked_sub(targets.shape()[dimension]) {

@@ -1,12 +1,14 @@
 //! The plan of a rechunking.
 ghost use Rattle.std.specs.Prelude.{◌≡◌, ◌≢◌, ◌↔◌, ℕ, IfErr, IfOk, IsTrue, List, length, replicate};
-ghost use Rattle.zarrs_chunk_base.specs.ArraySubset.{Box, IsBox, IsEmptyBox, IsInside};
+ghost use Rattle.std.specs.List.{AllZip};
+ghost use Rattle.zarrs_chunk_base.specs.ArraySubset.{Box, IsBox, IsEmptyBox, IsInside, zero_box};
 ghost use Rattle.zarrs_chunk_base.specs.Dimension.{array_sizes};
 ghost use Rattle.zarrs_chunk_base.specs.Refusal.{HasMemory, OrMemory};
 ghost use Rattle.zarrs_chunks.specs.Walks.{chunks_in};
 ghost use Rattle.zarrs_chunk_parts.specs.Plan.{Meets};
 ghost use Rattle.zarrs_chunk_plan.specs.Rechunking.{AreTargets, array_box};
 ghost use Rattle.zarrs_chunk_plan.specs.seen.Copies.{CanMove, IsAboutCopies, IsCopiesFault, all_targets, first_of, targets_to_come};
+ghost use Rattle.zarrs_chunk_plan.specs.seen.Used.{UsesFirst};
 
 use crate::boxes_from_zero::{whole_array, zeros};
 use crate::chunk_copies::Copies;
@@ -135,6 +137,9 @@ pub(crate) fn chunks_of_array<G: ChunkGridTraits>(
         ↔ Meets (G.dimensions grid.now) (array_box (G.dimensions grid.now)) chunk) }
     ensures start { IfOk result (λ chunks. chunks.start
         ≡ replicate (length (G.dimensions grid.now)) 0) }
+    ensures each { IfOk result (λ chunks. AllZip UsesFirst (G.dimensions grid.now) chunks.shape) }
+    ensures empty { IsEmptyBox array.now → IfOk result (λ chunks. chunks
+        ≡ zero_box (length (G.dimensions grid.now))) }
 {
     array.is_a_box();
     let cover = grid.chunks_in_array_subset(alloc, array);

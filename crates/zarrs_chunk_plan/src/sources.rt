@@ -1,11 +1,10 @@
 //! How many chunks of the source share elements with chunks of the target, along each dimension by itself.
-ghost use Rattle.std.specs.Prelude.{◌≡◌, ◌<◌, [], IfOk, IfSome, Some, fold, length, max, slice_index_or};
+ghost use Rattle.std.specs.Prelude.{◌≡◌, ◌+◌, ◌<◌, IfOk, IfSome, Some, fold, max};
 ghost use Rattle.std.specs.Int.NonZero.{non_zero_u64_get};
 ghost use Rattle.std.specs.List.{sum};
-ghost use Rattle.zarrs_chunk_base.specs.ArraySubset.{IsEmptyBox};
 ghost use Rattle.zarrs_chunk_axes.specs.Along.{HoldsAlong, IsRegularAlong};
 ghost use Rattle.zarrs_chunk_plan.specs.Counts.{product};
-ghost use Rattle.zarrs_chunk_plan.specs.seen.Sources.{AreTaking, counters, met_in};
+ghost use Rattle.zarrs_chunk_plan.specs.seen.Sources.{AreTaking, IsSide, OfSide, counters, met_along, met_by_side};
 ghost use Rattle.zarrs_chunk_plan.specs.seen.TargetCounts.{met_by_each};
 
 use crate::regular_counts::met_by_whole;
@@ -25,6 +24,24 @@ pub(crate) struct Move<'a, G, H> {
     pub(crate) region: &'a ArraySubset,
     /// Where they go, as a box of the target's array.
     pub(crate) moved: &'a ArraySubset,
+}
+
+/// One dimension of a copy: a range along a dimension of the source goes to one along a dimension of the target, into neighbouring chunks.
+#[derive(Drop)]
+pub(crate) struct Side<'a, G, H> {
+    /// The grid of the array that the elements come from, and which of its dimensions it is.
+    pub(crate) source: &'a G,
+    pub(crate) source_dimension: usize,
+    /// The grid of the array that they go to, and which of its dimensions it is.
+    pub(crate) target: &'a H,
+    pub(crate) target_dimension: usize,
+    /// Where the range begins in the source, where in the target, and how many indices it has.
+    pub(crate) first: u64,
+    pub(crate) at: u64,
+    pub(crate) size: u64,
+    /// The first chunk of the target, and how many there are. Each takes some of the range.
+    pub(crate) chunk: u64,
+    pub(crate) chunks: u64,
 }
 
 /// For each dimension, of the chunks of the source that each chunk of the target shares elements with along it:
@@ -64,7 +81,18 @@ pub(crate) fn sources_along_each<G: ChunkGridTraits, H: ChunkGridTraits>(
     let mut in_all = Vec::with_capacity(alloc, shape.len())?;
     let mut most = Vec::with_capacity(alloc, shape.len())?;
     for dimension in 0..shape.len() {
-        let (sum, greatest) = sources_along(alloc, copied, targets, dimension)?;
+        let side = Side {
+            source: copied.source,
+            source_dimension: dimension,
+            target: copied.target,
+            target_dimension: dimension,
+            first: copied.region.start()[dimension],
+            at: copied.moved.start()[dimension],
+            size: copied.moved.shape()[dimension],
+            chunk: targets.start()[dimension],
+            chunks: shape[dimension],
+        };
+        let (sum, greatest) = sources_along(alloc, &side)?;
         in_all.push(sum)?;
         most.push(greatest)?;
     }
@@ -77,58 +105,41 @@ pub(crate) fn sources_along_each<G: ChunkGridTraits, H: ChunkGridTraits>(
 /// Out of memory.
 pub(crate) fn sources_along<G: ChunkGridTraits, H: ChunkGridTraits>(
     alloc: Global,
-    copied: &Move<G, H>,
-    targets: &ArraySubset,
-    dimension: usize,
+    side: &Side<G, H>,
 ) -> Result<(u64, u64), AllocError>
-    requires taking { AreTaking (G.dimensions copied.now.source.now)
-        (H.dimensions copied.now.target.now) copied.now.region.now copied.now.moved.now
-        targets.now }
-    requires some { ¬ IsEmptyBox targets.now }
-    requires dimension { dimension < length targets.now.shape }
-    ensures sum { IfOk result (λ along. along.0 ≡ sum (slice_index_or (met_in
-        (counters (G.dimensions copied.now.source.now) (H.dimensions copied.now.target.now)
-        copied.now.region.now copied.now.moved.now)
-        targets.now.start targets.now.shape) dimension [])) }
-    ensures most { IfOk result (λ along. along.1 ≡ fold max 0 (slice_index_or (met_in
-        (counters (G.dimensions copied.now.source.now) (H.dimensions copied.now.target.now)
-        copied.now.region.now copied.now.moved.now)
-        targets.now.start targets.now.shape) dimension [])) }
+    requires { OfSide G.dimensions H.dimensions side.now (IsSide side.now) }
+    ensures sum { IfOk result (λ along. OfSide G.dimensions H.dimensions side.now
+        (λ s t. along.0 ≡ sum (met_by_side side.now s t))) }
+    ensures most { IfOk result (λ along. OfSide G.dimensions H.dimensions side.now
+        (λ s t. along.1 ≡ fold max 0 (met_by_side side.now s t))) }
 {
-    let many = targets.shape()[dimension];
-    match regular_edges(copied, dimension) {
-        Some((edge, other)) if many > 2 => {
-            // The first and the last chunk may be cut by the box.
-            let first = sources_at(alloc, copied, targets, dimension, 0)?;
-            let last = sources_at(alloc, copied, targets, dimension, many - 1)?;
-            let whole = targets.start()[dimension] + 1;
-            let (sum, most) = met_by_whole(edge, other, whole, many - 2);
-            Ok((first + sum + last, first.max(most).max(last)))
-        }
-        _ => sources_one_by_one(alloc, copied, targets, dimension),
-    }
+    let Some((edge, other)) = edges_of_most(side) else {
+        return sources_one_by_one(alloc, side);
+    };
+    // The first and the last chunk may be cut by the range.
+    let first = sources_at(alloc, side, 0)?;
+    let last = sources_at(alloc, side, side.chunks - 1)?;
+    let (sum, most) = met_by_whole(edge, other, side.chunk + 1, side.chunks - 2);
+    Ok((first + sum + last, first.max(most).max(last)))
 }
 
-/// The edges of the source's chunks and of the target's along a dimension, where both are regular along it, and elements have the same index in both
-/// arrays.
-pub(crate) fn regular_edges<G: ChunkGridTraits, H: ChunkGridTraits>(
-    copied: &Move<G, H>,
-    dimension: usize,
+/// The edge of the source's chunks and that of the target's, where both dimensions are regular, elements keep their index, and there are chunks besides
+/// the first and the last one.
+fn edges_of_most<G: ChunkGridTraits, H: ChunkGridTraits>(
+    side: &Side<G, H>,
 ) -> Option<(NonZeroU64, NonZeroU64)>
-    requires region { dimension < length copied.now.region.now.start }
-    requires moved { dimension < length copied.now.moved.now.start }
-    ensures source { IfSome result (λ edges. IsRegularAlong (G.dimensions copied.now.source.now)
-        dimension (non_zero_u64_get edges.0)) }
-    ensures target { IfSome result (λ edges. IsRegularAlong (H.dimensions copied.now.target.now)
-        dimension (non_zero_u64_get edges.1)) }
-    ensures stays { IfSome result (λ _. slice_index_or copied.now.region.now.start dimension 0
-        ≡ slice_index_or copied.now.moved.now.start dimension 0) }
+    ensures source { IfSome result (λ edges. IsRegularAlong (G.dimensions side.now.source.now)
+        side.now.source_dimension (non_zero_u64_get edges.0)) }
+    ensures target { IfSome result (λ edges. IsRegularAlong (H.dimensions side.now.target.now)
+        side.now.target_dimension (non_zero_u64_get edges.1)) }
+    ensures stays { IfSome result (λ _. side.now.first ≡ side.now.at) }
+    ensures more { IfSome result (λ _. 2 < side.now.chunks) }
 {
-    if copied.region.start()[dimension] != copied.moved.start()[dimension] {
+    if side.first != side.at || side.chunks <= 2 {
         return None;
     }
-    let edge = copied.source.regular_along(dimension)?;
-    let other = copied.target.regular_along(dimension)?;
+    let edge = side.source.regular_along(side.source_dimension)?;
+    let other = side.target.regular_along(side.target_dimension)?;
     Some((edge, other))
 }
 
@@ -138,69 +149,55 @@ pub(crate) fn regular_edges<G: ChunkGridTraits, H: ChunkGridTraits>(
 /// Out of memory.
 fn sources_one_by_one<G: ChunkGridTraits, H: ChunkGridTraits>(
     alloc: Global,
-    copied: &Move<G, H>,
-    targets: &ArraySubset,
-    dimension: usize,
+    side: &Side<G, H>,
 ) -> Result<(u64, u64), AllocError>
-    requires taking { AreTaking (G.dimensions copied.now.source.now)
-        (H.dimensions copied.now.target.now) copied.now.region.now copied.now.moved.now
-        targets.now }
-    requires some { ¬ IsEmptyBox targets.now }
-    requires dimension { dimension < length targets.now.shape }
-    ensures sum { IfOk result (λ along. along.0 ≡ sum (slice_index_or (met_in
-        (counters (G.dimensions copied.now.source.now) (H.dimensions copied.now.target.now)
-        copied.now.region.now copied.now.moved.now)
-        targets.now.start targets.now.shape) dimension [])) }
-    ensures most { IfOk result (λ along. along.1 ≡ fold max 0 (slice_index_or (met_in
-        (counters (G.dimensions copied.now.source.now) (H.dimensions copied.now.target.now)
-        copied.now.region.now copied.now.moved.now)
-        targets.now.start targets.now.shape) dimension [])) }
+    requires { OfSide G.dimensions H.dimensions side.now (IsSide side.now) }
+    ensures sum { IfOk result (λ along. OfSide G.dimensions H.dimensions side.now
+        (λ s t. along.0 ≡ sum (met_by_side side.now s t))) }
+    ensures most { IfOk result (λ along. OfSide G.dimensions H.dimensions side.now
+        (λ s t. along.1 ≡ fold max 0 (met_by_side side.now s t))) }
 {
     let mut sum = 0;
     let mut most = 0;
-    for steps in 0..targets.shape()[dimension] {
-        let sources = sources_at(alloc, copied, targets, dimension, steps)?;
+    for steps in 0..side.chunks {
+        let sources = sources_at(alloc, side, steps)?;
         sum += sources;
         most = most.max(sources);
     }
     Ok((sum, most))
 }
 
-/// With how many chunks of the source a chunk of the target shares elements along a dimension. The chunk is so many steps along it behind the first
-/// one.
+/// With how many chunks of the source a chunk of the target shares elements. The chunk is so many steps behind the first one.
 ///
 /// # Errors
 /// Out of memory.
 fn sources_at<G: ChunkGridTraits, H: ChunkGridTraits>(
     alloc: Global,
-    copied: &Move<G, H>,
-    targets: &ArraySubset,
-    dimension: usize,
+    side: &Side<G, H>,
     steps: u64,
 ) -> Result<u64, AllocError>
-    requires taking { AreTaking (G.dimensions copied.now.source.now)
-        (H.dimensions copied.now.target.now) copied.now.region.now copied.now.moved.now
-        targets.now }
-    requires some { ¬ IsEmptyBox targets.now }
-    requires dimension { dimension < length targets.now.shape }
-    requires steps { steps < slice_index_or targets.now.shape dimension 0 }
-    ensures { IfOk result (λ sources. sources ≡ slice_index_or (slice_index_or (met_in
-        (counters (G.dimensions copied.now.source.now) (H.dimensions copied.now.target.now)
-        copied.now.region.now copied.now.moved.now)
-        targets.now.start targets.now.shape) dimension []) steps 0) }
+    requires side { OfSide G.dimensions H.dimensions side.now (IsSide side.now) }
+    requires steps { steps < side.now.chunks }
+    ensures { IfOk result (λ sources. OfSide G.dimensions H.dimensions side.now (λ s t. sources
+        ≡ met_along s t side.now.first side.now.at side.now.size (side.now.chunk + steps))) }
 {
-    let chunk = targets.start()[dimension] + steps;
-    let range = copied.target.range_along(alloc, dimension, chunk)?;
+    // No sum or difference is cut off: the chunk takes some of the range, which lies in both arrays.
+    let chunk = side.chunk.saturating_add(steps);
+    let range = side
+        .target
+        .range_along(alloc, side.target_dimension, chunk)?;
     let (start, edge) = expect_found(range)?;
-    // What the chunk takes of the box, as steps behind the box's first element.
-    let at = copied.moved.start()[dimension];
-    let first = start.saturating_sub(at);
-    let end = start.saturating_add(edge).saturating_sub(at);
-    let last = end.min(copied.moved.shape()[dimension]) - 1;
-    let from = copied.region.start()[dimension];
-    let first = home_along(alloc, copied.source, dimension, from + first)?;
-    let last = home_along(alloc, copied.source, dimension, from + last)?;
-    Ok(last - first + 1)
+    // What the chunk takes of the range, as steps behind the range's first index.
+    let before = start.saturating_sub(side.at);
+    let end = start
+        .saturating_add(edge)
+        .saturating_sub(side.at)
+        .min(side.size);
+    let first = side.first.saturating_add(before);
+    let last = side.first.saturating_add(end.saturating_sub(1));
+    let first = home_along(alloc, side.source, side.source_dimension, first)?;
+    let last = home_along(alloc, side.source, side.source_dimension, last)?;
+    Ok(last.saturating_sub(first).saturating_add(1))
 }
 
 /// The chunk that holds an index along a dimension.

@@ -6,7 +6,7 @@
 //! between  [2048, 80, 1440]    first stage: 45 lines, each reads 2048 chunks of the source or fewer
 //! target   [8760, 10, 10]      second stage: 10368 lines, each reads 5 chunks of the array between
 //! ```
-ghost use Rattle.std.specs.Prelude.{◌≡◌, ◌≢◌, ◌↔◌, ◌⊎◌, ◌<◌, ℕ, IfErr, IfOk, IfSome, IsTrue, List, length, map, min, option_map, replicate, reverse};
+ghost use Rattle.std.specs.Prelude.{◌≡◌, ◌≢◌, ◌↔◌, ◌⊎◌, ◌<◌, ℕ, ◌∷◌, [], IfErr, IfOk, IfSome, IsTrue, List, length, map, min, option_map, replicate, reverse};
 ghost use Rattle.std.specs.Int.NonZero.{non_zero_u64_get};
 ghost use Rattle.std.specs.List.{AllByRecursion};
 ghost use Rattle.zarrs_chunk_axes.specs.EqualEdges.{AreEqualEdges};
@@ -19,15 +19,15 @@ ghost use Rattle.zarrs_chunk_plan.specs.Counts.{product};
 ghost use Rattle.zarrs_chunk_parts.specs.Plan.{Meets};
 ghost use Rattle.zarrs_chunk_plan.specs.Rechunking.{array_box};
 ghost use Rattle.zarrs_chunk_plan.specs.Stages.{FindsShape, HasManyChunks, HoldAtMost, IsLargest, IsBoundFault, IsStagesFault, shapes_tried};
-ghost use Rattle.zarrs_chunk_plan.specs.seen.Ends.{AreEnds};
-ghost use Rattle.zarrs_chunk_plan.specs.seen.Stages.{AreRead, AreRows, edge_of, numbers_of, rows_of};
+ghost use Rattle.zarrs_chunk_plan.specs.seen.Ends.{AreEnds, OfEnds};
+ghost use Rattle.zarrs_chunk_plan.specs.seen.Stages.{AreRead, AreRows, IsRow, edge_of, numbers_of, rows_of};
 
-use crate::boxes_from_zero::{all_chunks, whole_array};
+use crate::boxes_from_zero::whole_array;
 use crate::few::are_few;
 use crate::fewest::{Edge, fewest};
 use crate::largest::largest_chunk;
 use crate::rechunking::chunks_of_array;
-use crate::sources::{Move, sources_along};
+use crate::sources::{Move, Side, sources_along};
 use crate::stages_error::StagesError;
 use crate::tried::{all_tried, saturating_product};
 use std::alloc::{AllocError, Global};
@@ -202,15 +202,16 @@ fn largest_of_both<G: ChunkGridTraits, H: ChunkGridTraits>(
     Ok((largest, other))
 }
 
-/// What the two stages are between, with what is needed again and again.
+/// What the two stages are between, along one dimension.
 #[derive(Drop)]
 struct Ends<'a, G, H> {
     source: &'a G,
     target: &'a H,
-    /// All elements of the array.
-    array: &'a ArraySubset,
-    /// The chunks of the target that hold some of them.
-    chunks: &'a ArraySubset,
+    dimension: usize,
+    /// How many elements the array has along it.
+    size: u64,
+    /// How many chunks of the target hold some of them.
+    chunks: u64,
 }
 
 /// For each dimension the edges that are tried, with what is read by them.
@@ -232,24 +233,26 @@ fn all_rows<G: ChunkGridTraits, H: ChunkGridTraits>(
         ≡ numbers_of tried.now) }
     ensures reads { (¬ IsEmptyBox (array_box (H.dimensions target.now)))
         → IfOk result (λ rows. (chunks : Box) × IsBox chunks
-        × (length chunks.start ≡ length (H.dimensions target.now))
+        × (chunks.start ≡ replicate (length (H.dimensions target.now)) 0)
         × ((chunk : List ℕ) → IsInside chunks chunk ↔ Meets (H.dimensions target.now)
         (array_box (H.dimensions target.now)) chunk)
-        × AreRows (G.dimensions source.now) (H.dimensions target.now) chunks 0
+        × AreRows (G.dimensions source.now) (H.dimensions target.now) chunks.shape
         (rows_of rows.items)) }
 {
     let array = whole_array(alloc, target)?;
     let chunks = chunks_of_array(alloc, target, &array)?;
     chunks.is_a_box();
-    let ends = Ends {
-        source,
-        target,
-        array: &array,
-        chunks: &chunks,
-    };
+    let used = chunks.shape();
     let mut rows = Vec::with_capacity(alloc, tried.len())?;
     for (dimension, edges) in tried.iter().enumerate() {
-        rows.push(row_along(alloc, &ends, dimension, edges)?)?;
+        let ends = Ends {
+            source,
+            target,
+            dimension,
+            size: source.array_shape()[dimension],
+            chunks: used[dimension],
+        };
+        rows.push(row_along(alloc, &ends, edges)?)?;
     }
     Ok(rows)
 }
@@ -261,22 +264,18 @@ fn all_rows<G: ChunkGridTraits, H: ChunkGridTraits>(
 fn row_along<G: ChunkGridTraits, H: ChunkGridTraits>(
     alloc: Global,
     ends: &Ends<G, H>,
-    dimension: usize,
     edges: &[u64],
 ) -> Result<Vec<Edge>, AllocError>
     requires ends { AreEnds G.dimensions H.dimensions ends.now }
-    requires dimension { dimension < length (G.dimensions ends.now.source.now) }
     requires positive { AllByRecursion (λ edge. 0 < edge) edges.now }
     ensures edges { IfOk result (λ row. map edge_of row.items ≡ edges.now) }
-    ensures reads { (¬ IsEmptyBox ends.now.array.now) → IfOk result (λ row.
-        AllByRecursion (λ e. AreRead (G.dimensions ends.now.source.now)
-        (H.dimensions ends.now.target.now) ends.now.chunks.now dimension
-        (edge_of e) e.first e.second) row.items) }
+    ensures reads { 0 < ends.now.chunks → IfOk result (λ row. OfEnds G.dimensions H.dimensions
+        ends.now (λ s t. IsRow s t ends.now.chunks row.items)) }
 {
     let mut row = Vec::with_capacity(alloc, edges.len())?;
     for edge in edges {
         let edge = non_zero(*edge);
-        let (first, second) = reads_along(alloc, ends, dimension, edge)?;
+        let (first, second) = reads_along(alloc, ends, edge)?;
         row.push(Edge {
             edge,
             first,
@@ -297,57 +296,60 @@ fn non_zero(number: u64) -> NonZeroU64
     }
 }
 
-/// How many chunks each stage reads along a dimension by an edge there: as where the array between has it along each. Where the array has no
-/// elements, none.
+/// How many chunks each stage reads along a dimension by an edge there. Where no chunk of the target holds elements, none.
 ///
 /// # Errors
 /// Out of memory.
 fn reads_along<G: ChunkGridTraits, H: ChunkGridTraits>(
     alloc: Global,
     ends: &Ends<G, H>,
-    dimension: usize,
     edge: NonZeroU64,
 ) -> Result<(u64, u64), AllocError>
-    requires ends { AreEnds G.dimensions H.dimensions ends.now }
-    requires dimension { dimension < length (G.dimensions ends.now.source.now) }
-    ensures { (¬ IsEmptyBox ends.now.array.now) → IfOk result (λ reads.
-        AreRead (G.dimensions ends.now.source.now) (H.dimensions ends.now.target.now)
-        ends.now.chunks.now dimension (non_zero_u64_get edge) reads.0 reads.1) }
+    requires { AreEnds G.dimensions H.dimensions ends.now }
+    ensures { 0 < ends.now.chunks → IfOk result (λ reads. OfEnds G.dimensions H.dimensions ends.now
+        (λ s t. AreRead s t ends.now.chunks (non_zero_u64_get edge) reads.0 reads.1)) }
 {
-    if ends.array.is_empty() {
+    if ends.chunks == 0 {
         return Ok((0, 0));
     }
-    let between = cubes(alloc, ends.source.array_shape(), edge)?;
-    let chunks = all_chunks(alloc, &between)?;
-    chunks.is_a_box();
-    let into = Move {
+    let between = line(alloc, ends.size, edge)?;
+    let into = Side {
         source: ends.source,
+        source_dimension: ends.dimension,
         target: &between,
-        region: ends.array,
-        moved: ends.array,
+        target_dimension: 0,
+        first: 0,
+        at: 0,
+        size: ends.size,
+        chunk: 0,
+        chunks: between.grid_shape()[0],
     };
-    let (first, _) = sources_along(alloc, &into, &chunks, dimension)?;
-    let from = Move {
+    let (first, _) = sources_along(alloc, &into)?;
+    let from = Side {
         source: &between,
+        source_dimension: 0,
         target: ends.target,
-        region: ends.array,
-        moved: ends.array,
+        target_dimension: ends.dimension,
+        first: 0,
+        at: 0,
+        size: ends.size,
+        chunk: 0,
+        chunks: ends.chunks,
     };
-    let (second, _) = sources_along(alloc, &from, ends.chunks, dimension)?;
+    let (second, _) = sources_along(alloc, &from)?;
     Ok((first, second))
 }
 
-/// The grid of an array of this shape whose chunks have the same edge along each dimension.
+/// The grid of an array of one dimension, whose chunks have this edge.
 ///
 /// # Errors
 /// Out of memory.
-fn cubes(alloc: Global, shape: &[u64], edge: NonZeroU64) -> Result<RegularChunkGrid, AllocError>
-    ensures { IfOk result (λ grid. AreEqualEdges (regular_of grid).dimensions shape.now
-        (replicate (length shape.now) (non_zero_u64_get edge))) }
+fn line(alloc: Global, size: u64, edge: NonZeroU64) -> Result<RegularChunkGrid, AllocError>
+    ensures { IfOk result (λ grid. AreEqualEdges (regular_of grid).dimensions (size ∷ [])
+        (non_zero_u64_get edge ∷ [])) }
 {
-    let mut edges = Vec::with_capacity(alloc, shape.len())?;
-    edges.resize(shape.len(), edge)?;
-    match RegularChunkGrid::new(alloc, Vec::from_slice(alloc, shape)?, edges) {
+    let shape = Vec::from_slice(alloc, &[size])?;
+    match RegularChunkGrid::new(alloc, shape, Vec::from_slice(alloc, &[edge])?) {
         Ok(grid) => Ok(grid),
         Err(_) => Err(AllocError),
     }

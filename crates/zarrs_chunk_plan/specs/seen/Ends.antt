@@ -1,17 +1,23 @@
--- What two stages are between.
-use Rattle.std.specs.Prelude.{◌≡◌, ◌↔◌, ℕ, List, length}
-use Rattle.zarrs_chunk_base.specs.ArraySubset.{IsBox, IsInside}
-use Rattle.zarrs_chunk_base.specs.Dimension.{Dimension, array_sizes}
-use Rattle.zarrs_chunk_parts.specs.Plan.{Meets}
-use Rattle.zarrs_chunk_plan.specs.Rechunking.{array_box}
+-- What two stages are between, along one dimension.
+use Rattle.std.specs.Prelude.{◌≡◌, ◌<◌, ◌≤◌, ℕ, List}
+use Rattle.zarrs_chunk_base.specs.Dimension.{Dimension}
+use Rattle.zarrs_chunk_base.specs.Greatest.{greatest}
+use Rattle.zarrs_chunk_axes.specs.Along.{Along}
 use Rattle.zarrs_chunk_plan.specs.declared.stages.Ends.{Ends}
+use Rattle.zarrs_chunk_plan.specs.seen.Used.{UsesFirst}
 
--- both grids are of one array, of which this is the box of all elements, and those are the chunks of the target that hold some
-pub record AreEnds {G H : Type 0} (source_dimensions : G → List Dimension) (target_dimensions : H → List Dimension) (ends : Ends G H) : Type 0 where
-  pub one_array : array_sizes (source_dimensions ends.source.now) ≡ array_sizes (target_dimensions ends.target.now)
-  pub array : ends.array.now ≡ array_box (target_dimensions ends.target.now)
-  pub is_array : IsBox (array_box (target_dimensions ends.target.now))
-  pub is_box : IsBox ends.chunks.now
-  pub long : length ends.chunks.now.start ≡ length (target_dimensions ends.target.now)
-  pub chunks : (chunk : List ℕ) → IsInside ends.chunks.now chunk
-      ↔ Meets (target_dimensions ends.target.now) (array_box (target_dimensions ends.target.now)) chunk
+-- both dimensions are of one size, and so many chunks of the target hold elements
+pub record AreOfOneSize (size chunks : ℕ) (source target : Dimension) : Type 0 where
+  pub source_size : source.array_size ≡ size
+  pub target_size : target.array_size ≡ size
+  pub fits : size ≤ greatest
+  pub chunks_fit : chunks ≤ greatest
+  pub used : UsesFirst target chunks
+
+-- what holds of the two dimensions
+abbrev pub OfEnds : {G H : Type 0} → (G → List Dimension) → (H → List Dimension) → Ends G H → (Dimension → Dimension → Type 0) → Type 0
+OfEnds sources targets ends P = Along (λ s. Along (P s) (targets ends.target.now) ends.dimension) (sources ends.source.now) ends.dimension
+
+-- if the target has chunks that hold elements
+abbrev pub AreEnds : {G H : Type 0} → (G → List Dimension) → (H → List Dimension) → Ends G H → Type 0
+AreEnds sources targets ends = 0 < ends.chunks → OfEnds sources targets ends (AreOfOneSize ends.size ends.chunks)

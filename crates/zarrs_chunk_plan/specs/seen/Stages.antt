@@ -1,48 +1,38 @@
 -- How the shape of an array between is looked for: dimension by dimension what a shape would cost, and then a choice of one edge along each.
-use Rattle.std.specs.Prelude.{◌≡◌, ℕ, suc, ◌+◌, ◌*◌, ◌≤◌, ◌<◌, List, [], ◌∷◌, MatchOption, Option, Some, None, Vec}
-use Rattle.std.specs.Prelude.{cond, length, map, min, nat_lt, replicate, reverse, slice_index_or}
+use Rattle.std.specs.Prelude.{◌≡◌, ℕ, ◌+◌, ◌*◌, ◌≤◌, ◌<◌, List, [], ◌∷◌, MatchOption, Option, Some, None, Vec}
+use Rattle.std.specs.Prelude.{cond, map, min, nat_lt, reverse}
 use Rattle.std.specs.Int.NonZero.{non_zero_u64_get}
 use Rattle.std.specs.List.{AllByRecursion, AllZip, Contains, sum}
 use Rattle.std.specs.declared.alloc.Global.{Global}
-use Rattle.zarrs_chunk_base.specs.ArraySubset.{Box}
-use Rattle.zarrs_chunk_base.specs.Dimension.{Dimension, HasEdge, array_sizes, grid_sizes}
+use Rattle.zarrs_chunk_base.specs.Dimension.{Dimension}
 use Rattle.zarrs_chunk_base.specs.Greatest.{greatest}
-use Rattle.zarrs_chunk_axes.specs.Along.{Along}
-use Rattle.zarrs_chunk_axes.specs.EqualEdges.{AreEqualEdges}
+use Rattle.zarrs_chunk_axes.specs.EqualEdges.{IsEqualEdges}
 use Rattle.zarrs_chunk_axes.specs.RowMajor.{IsBefore}
 use Rattle.zarrs_chunk_plan.specs.Counts.{product}
-use Rattle.zarrs_chunk_plan.specs.Rechunking.{array_box}
 use Rattle.zarrs_chunk_plan.specs.declared.fewest.Chosen.{Chosen}
 use Rattle.zarrs_chunk_plan.specs.declared.fewest.Edge.{Edge}
-use Rattle.zarrs_chunk_plan.specs.seen.Sources.{counters, met_in}
+use Rattle.zarrs_chunk_plan.specs.seen.Sources.{met_by_range}
 
--- chunk c of the dimension of this number is so many elements long
-abbrev pub HasEdgeAlong : List Dimension → (dimension c edge : ℕ) → Type 0
-HasEdgeAlong ds dimension c edge = Along (λ d. HasEdge d c edge) ds dimension
-
--- how many chunks of the source share elements with chunks of the target along a dimension, all together
-abbrev pub met_along_dimension : (source target : List Dimension) → (first sizes : List ℕ) → (dimension : ℕ) → ℕ
-met_along_dimension source target first sizes dimension =
-    sum (slice_index_or (met_in (counters source target (array_box target) (array_box target)) first sizes) dimension [])
-
--- What is read along a dimension in two stages, by an array between that has this edge there: as of the array that has it along each dimension.
--- These are the chunks of the target that hold elements.
-pub record AreRead (source target : List Dimension) (chunks : Box) (dimension edge first second : ℕ) : Type 0 where
-  pub between : List Dimension
-  pub equal : AreEqualEdges between (array_sizes source) (replicate (length source) edge)
-  pub in_first : first ≡ met_along_dimension source between (replicate (length between) 0) (grid_sizes between) dimension
-  pub in_second : second ≡ met_along_dimension between target chunks.start chunks.shape dimension
+-- What is read along a dimension in two stages, by way of a dimension whose chunks have this edge. So many chunks of the target hold elements.
+pub record AreRead (source target : Dimension) (chunks edge first second : ℕ) : Type 0 where
+  pub between : Dimension
+  pub equal : IsEqualEdges between source.array_size edge
+  pub in_first : first ≡ sum (met_by_range source between 0 0 source.array_size 0 between.grid_size)
+  pub in_second : second ≡ sum (met_by_range between target 0 0 source.array_size 0 chunks)
 
 -- the edge as a number
 abbrev pub edge_of : Edge → ℕ
 edge_of e = non_zero_u64_get e.edge
 
--- of an array that has elements, each edge is with what is read by it, along the dimension of this number and those behind it
-abbrev pub AreRows : (source target : List Dimension) → Box → ℕ → List (List Edge) → Type 0
-AreRows source target chunks dimension [] = Unit {0}
-AreRows source target chunks dimension (row ∷ rows) =
-    AllByRecursion (λ (e : Edge). AreRead source target chunks dimension (edge_of e) e.first e.second) row
-    × AreRows source target chunks (suc dimension) rows
+-- each edge of a row is with what is read by it
+abbrev pub IsRow : (source target : Dimension) → (chunks : ℕ) → List Edge → Type 0
+IsRow source target chunks = AllByRecursion (λ (e : Edge). AreRead source target chunks (edge_of e) e.first e.second)
+
+-- and so is each row along its dimension
+abbrev pub AreRows : (source target : List Dimension) → (chunks : List ℕ) → List (List Edge) → Type 0
+AreRows [] [] [] [] = Unit {0}
+AreRows (s ∷ source) (t ∷ target) (n ∷ chunks) (row ∷ rows) = IsRow s t n row × AreRows source target chunks rows
+AreRows _ _ _ _ = ⊥
 
 -- edges that are tried, without where they lie in memory
 abbrev pub numbers_of : List (Vec ℕ Global) → List (List ℕ)

@@ -1,5 +1,5 @@
--- What a resize keeps along one dimension.
-use Rattle.std.specs.Prelude.{◌≡◌, ◌↔◌, ◌-◌, ◌<◌, ℕ, IsTrue, List, min}
+-- Which chunks hold elements of the array along one dimension, and which of them a resize keeps.
+use Rattle.std.specs.Prelude.{◌≡◌, ◌↔◌, ◌-◌, ◌<◌, ◌≤◌, ℕ, IsTrue, List, min}
 use Rattle.zarrs_chunk_base.specs.Dimension.{Dimension, HasEdge}
 use Rattle.zarrs_chunk_axes.specs.Along.{Along}
 use Rattle.zarrs_chunk_plan.specs.Resize.{IsResized}
@@ -7,6 +7,16 @@ use Rattle.zarrs_chunk_plan.specs.Resize.{IsResized}
 -- the chunk holds an element of the array
 abbrev pub HoldsSome : Dimension → ℕ → Type 0
 HoldsSome d c = IsTrue (d.has_chunk c) × (d.start c < d.end c) × (d.start c < d.array_size)
+
+-- so many chunks hold an element of the array, from the first one on, if there are some
+abbrev pub UsesFirst : Dimension → ℕ → Type 0
+UsesFirst d used = 0 < used → (c : ℕ) → c < used ↔ HoldsSome d c
+
+-- The longest of so many chunks, from the first one on, is so many elements long; 1, if there are none.
+pub record IsLongest (d : Dimension) (many edge : ℕ) : Type 0 where
+  pub of_none : many ≡ 0 → edge ≡ 1
+  pub is_one : 0 < many → (c : ℕ) × (c < many) × HasEdge d c edge
+  pub none_longer : (c other : ℕ) → c < many → HasEdge d c other → other ≤ edge
 
 -- the chunk holds elements of both arrays, begins and ends where it did, and so do the elements that it holds
 pub record KeptAlong (before after : Dimension) (c : ℕ) : Type 0 where

@@ -6,8 +6,8 @@ use Rattle.zarrs_chunk_plan.proofs.few.are_few.Goals as goal
 pub loop-dimension-init : goal.loop-dimension-init
 loop-dimension-init g c = omega arith
 
-pub loop-dimension-preserved-then-is_some : goal.loop-dimension-preserved-then-is_some
-loop-dimension-preserved-then-is_some g c =
+pub loop-dimension-preserved-then-is_some-2 : goal.loop-dimension-preserved-then-is_some-2
+loop-dimension-preserved-then-is_some-2 g c =
     let within = rw c.shape-dimension-end.ensures.value at c.loop-dimension-test.true in
     let more = sum_by_more (λ n. n) c.args.targets.now.shape c.loop-dimension.dimension 0 (omega (arith, within)) in
     omega (arith, c.loop-dimension.invariant, more)

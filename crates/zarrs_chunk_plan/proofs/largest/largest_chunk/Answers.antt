@@ -1,6 +1,13 @@
-use Rattle.std.proofs.Common.{◌≡◌, ◌∙◌, ap, arith, length, refl, replicate, subst, sym, true≢false}
-use Rattle.zarrs_chunk_plan.specs.Stages.{IsLargest}
-use Rattle.zarrs_chunk_plan.proofs.LargestChunks.{is_largest, largest_of_none, some_chunks}
+use Rattle.std.proofs.Common.{◌∙◌, ◌+◌, ap, arith, get_or, subst, sym, true≢false, ⊎_elim}
+use Rattle.std.proofs.lemmas.List.{length_push}
+use Rattle.std.proofs.lemmas.Slice.Zip.{AllZip-long}
+use Rattle.zarrs_chunk_base.specs.Dimension.{InEach}
+use Rattle.zarrs_chunk_axes.specs.Along.{Along}
+use Rattle.zarrs_chunk_plan.specs.Rechunking.{array_box}
+use Rattle.zarrs_chunk_plan.specs.seen.Used.{IsLongest, UsesFirst}
+use Rattle.zarrs_chunk_plan.proofs.HeldBoxes.{some_chunks}
+use Rattle.zarrs_chunk_plan.proofs.LargestChunks.{in_each, is_largest, largest_of_none, pushed, used_along}
+use Rattle.zarrs_chunk_plan.proofs.Plans.{empty_or_some}
 use Rattle.zarrs_chunk_plan.proofs.largest.largest_chunk.Goals as goal
 
 pub returns-then-not-are_few-clause-few : goal.returns-then-not-are_few-clause-few
@@ -9,29 +16,44 @@ returns-then-not-are_few-clause-few g c =
     let many = c.if-not-are_few.ensures {u = tt} in
     (c.in_ok-chunks.chunks, record { is_box = c.is_a_box.ensures; are_those = chunks.named }, λ few. true≢false (sym (many few)))
 
-pub longest_along_each-requires-clause-long : goal.longest_along_each-requires-clause-long
-longest_along_each-requires-clause-long g c = omega (arith, c.is_a_box.ensures.lengths, (c.in_ok-chunks.ensures {u = tt}).lengths)
-
-pub longest_along_each-requires-clause-some : goal.longest_along_each-requires-clause-some
-longest_along_each-requires-clause-some g c =
+pub longest_along-requires : goal.longest_along-requires
+longest_along-requires g c =
     let ds = g.G.ChunkGridTraits.dimensions c.args.grid.now in
-    let chunks = c.in_ok-chunks.ensures {u = tt} in
-    let some = rw (c.in_ok-array.ensures {u = tt}).elements at (c.if-is_empty.ensures {u = tt}).1 in
-    some_chunks ds c.in_ok-chunks.chunks (g.met.G.ChunkGridTraits.chained c.args.grid.now) (λ empty. true≢false (sym (some empty))) (λ chunk. (chunks.named chunk).1)
+    let used = c.in_ok-chunks.chunks.shape in
+    let each = (c.in_ok-chunks.ensures {u = tt}).each in
+    let less = rw c.shape-used.ensures.value at c.loop-dimension-test.true in
+    rw c.shape-used.ensures.value (used_along ds used c.loop-dimension.dimension each (omega (arith, less, AllZip-long UsesFirst ds used each)))
 
-pub returns-then-is_empty-clause-largest : goal.returns-then-is_empty-clause-largest
-returns-then-is_empty-clause-largest g c =
+pub loop-dimension-preserved : goal.loop-dimension-preserved
+loop-dimension-preserved g c =
     let ds = g.G.ChunkGridTraits.dimensions c.args.grid.now in
-    let empty = rw (c.in_ok-array.ensures {u = tt}).elements at (c.if-is_empty.ensures {u = tt}).0 refl in
-    subst (IsLargest ds) (sym (c.in_ok-ones.ensures {u = tt} ∙ ap (λ n. replicate n 1) c.dimensionality.ensures)) (largest_of_none ds empty)
+    let used = c.shape-used.result.now in
+    let xs = c.loop-dimension.shape.items in
+    let x = c.in_ok-longest_along.field-0 in
+    let n = c.loop-dimension.dimension in
+    let (long, longest) = c.loop-dimension.invariant in
+    rw (c.in_ok-push.ensures {u = tt}).items (
+      length_push xs x ∙ ap (λ m. m + 1) long,
+      pushed (λ k edge. Along (λ d. IsLongest d (get_or used k 0) edge) ds k) xs x 0 n long longest (c.in_ok-longest_along.ensures {u = tt}),
+    )
 
 pub returns-clause-largest : goal.returns-clause-largest
 returns-clause-largest g c =
     let ds = g.G.ChunkGridTraits.dimensions c.args.grid.now in
     let chunks = c.in_ok-chunks.ensures {u = tt} in
-    let long : length c.in_ok-chunks.chunks.shape ≡ length ds = omega (arith, c.is_a_box.ensures.lengths, chunks.lengths) in
-    let some = rw (c.in_ok-array.ensures {u = tt}).elements at (c.if-is_empty.ensures {u = tt}).1 in
-    let (many, is) = rw (c.in_ok-shape.ensures {u = tt}, c.deref.ensures.value) at c.chunk_shape_u64.ensures in
-    let chunk = c.in_ok-chunk.ensures {u = tt} in
-    is_largest _ _ _ _ (λ empty. true≢false (sym (some empty))) chunks.start long (λ chunk. (chunks.named chunk).0) (λ chunk. (chunks.named chunk).1)
-    chunk.long chunk.below chunk.longest is
+    let used = c.in_ok-chunks.chunks.shape in
+    let edges = c.loop-dimension.shape.items in
+    let uses = chunks.each in
+    let (long, longest) = rw c.shape-used.ensures.value at c.loop-dimension.invariant in
+    let ended = rw c.shape-used.ensures.value at c.loop-dimension-test.false in
+    let end = rw c.shape-used.ensures.value at c.loop-dimension.auto.dimension-end in
+    let many = AllZip-long UsesFirst ds used uses in
+    let all = in_each IsLongest ds used edges many (omega (arith, long, many, ended, end)) (λ k within. longest k (omega (arith, many, ended))) in
+    ⊎_elim
+    (λ empty.
+    let none = chunks.empty (rw (c.in_ok-array.ensures {u = tt}).elements empty) in
+    largest_of_none ds edges empty (subst (λ n. InEach IsLongest ds n edges) (ap (λ b. b.shape) none) all))
+    (λ some.
+    is_largest ds used edges uses (some_chunks ds c.in_ok-chunks.chunks (g.met.G.ChunkGridTraits.chained c.args.grid.now) some (λ chunk. (chunks.named chunk).1))
+    all some)
+    (empty_or_some (array_box ds).shape)

@@ -1,76 +1,81 @@
 use Rattle.std.proofs.Common.{arith}
-use Rattle.zarrs_chunk_plan.proofs.MetCovers.{as_many_starts, moved_long}
+use Rattle.zarrs_chunk_plan.specs.seen.Sources.{IsSide}
+use Rattle.zarrs_chunk_plan.proofs.OneDimension.{two}
 use Rattle.zarrs_chunk_plan.proofs.RegularDimensions.{counted}
 use Rattle.zarrs_chunk_plan.proofs.sources.sources_along.Goals as goal
 
-pub regular_edges-requires-clause-region : goal.regular_edges-requires-clause-region
-regular_edges-requires-clause-region g c =
-    let chains = g.met.G.ChunkGridTraits.chained c.args.copied.now.source.now in
-    let starts = as_many_starts chains c.requires.taking in
-    omega (arith, c.requires.taking.long, c.requires.taking.is_box.lengths, c.requires.dimension)
-
-pub regular_edges-requires-clause-moved : goal.regular_edges-requires-clause-moved
-regular_edges-requires-clause-moved g c =
-    let chains = g.met.G.ChunkGridTraits.chained c.args.copied.now.source.now in
-    let long = moved_long chains c.requires.taking in
-    omega (arith, c.requires.taking.long, c.requires.taking.is_box.lengths, c.requires.taking.is_moved.lengths, c.requires.dimension)
-
-pub overflow_add-whole : goal.overflow_add-whole
-overflow_add-whole g c =
-    let chains = g.met.G.ChunkGridTraits.chained c.args.copied.now.source.now in
-    let also = g.met.H.ChunkGridTraits.chained c.args.copied.now.target.now in
-    let more = rw c.shape.ensures.value at c.if-many-gt2.true in
-    let is = c.in-Some.ensures in
-    let row = counted c.args.dimension _ _ chains also c.requires.taking c.requires.some c.requires.dimension c.in-Some.edge.ok c.in-Some.other.ok
-    is.source is.target is.stays more in
-    rw c.start.ensures.value (omega (arith, row.begin_fits))
+pub overflow_add-side : goal.overflow_add-side
+overflow_add-side g c =
+    let side = c.args.side.now in
+    let both =
+    two (IsSide side) _ _ side.source_dimension side.target_dimension (g.met.G.ChunkGridTraits.chained side.source.now)
+    (g.met.H.ChunkGridTraits.chained side.target.now) c.requires
+    in
+    omega (arith, both.is.chunks_fit, c.in-Some.ensures.more)
 
 pub met_by_whole-sum-requires-clause-fits : goal.met_by_whole-sum-requires-clause-fits
 met_by_whole-sum-requires-clause-fits g c =
-    let chains = g.met.G.ChunkGridTraits.chained c.args.copied.now.source.now in
-    let also = g.met.H.ChunkGridTraits.chained c.args.copied.now.target.now in
-    let more = rw c.shape.ensures.value at c.if-many-gt2.true in
-    let is = c.in-Some.ensures in
-    let row = counted c.args.dimension _ _ chains also c.requires.taking c.requires.some c.requires.dimension c.in-Some.edge.ok c.in-Some.other.ok
-    is.source is.target is.stays more in
-    rw (c.start.ensures.value, c.shape.ensures.value) (omega (arith, row.last_fits))
+    let side = c.args.side.now in
+    let both =
+    two (IsSide side) _ _ side.source_dimension side.target_dimension (g.met.G.ChunkGridTraits.chained side.source.now)
+    (g.met.H.ChunkGridTraits.chained side.target.now) c.requires
+    in
+    let are = c.in-Some.ensures in
+    let row = counted both.s both.t both.chain both.also _ _ c.in-Some.edge.ok c.in-Some.other.ok (both.in_source _ are.source) (both.in_target _ are.target)
+    side.first side.at side.size side.chunk side.chunks both.is are.stays are.more in
+    omega (arith, row.last_fits)
 
 pub overflow_add-result : goal.overflow_add-result
 overflow_add-result g c =
-    let chains = g.met.G.ChunkGridTraits.chained c.args.copied.now.source.now in
-    let also = g.met.H.ChunkGridTraits.chained c.args.copied.now.target.now in
-    let more = rw c.shape.ensures.value at c.if-many-gt2.true in
-    let is = c.in-Some.ensures in
-    let row = counted c.args.dimension _ _ chains also c.requires.taking c.requires.some c.requires.dimension c.in-Some.edge.ok c.in-Some.other.ok
-    is.source is.target is.stays more in
-    let whole = rw (c.start.ensures.value, c.shape.ensures.value) at c.met_by_whole-sum.ensures.sum in
-    omega (arith, (c.in_ok-first-in-Some.ensures {u = tt}), whole, row.in_all, row.sum_fits)
+    let side = c.args.side.now in
+    let both =
+    two (IsSide side) _ _ side.source_dimension side.target_dimension (g.met.G.ChunkGridTraits.chained side.source.now)
+    (g.met.H.ChunkGridTraits.chained side.target.now) c.requires
+    in
+    let are = c.in-Some.ensures in
+    let row = counted both.s both.t both.chain both.also _ _ c.in-Some.edge.ok c.in-Some.other.ok (both.in_source _ are.source) (both.in_target _ are.target)
+    side.first side.at side.size side.chunk side.chunks both.is are.stays are.more in
+    let first = both.at _ (c.in_ok-first.ensures {u = tt}) in
+    omega (arith, first, c.met_by_whole-sum.ensures.sum, row.in_all, row.all_fit)
 
-pub overflow_add-result-in-Some : goal.overflow_add-result-in-Some
-overflow_add-result-in-Some g c =
-    let chains = g.met.G.ChunkGridTraits.chained c.args.copied.now.source.now in
-    let also = g.met.H.ChunkGridTraits.chained c.args.copied.now.target.now in
-    let more = rw c.shape.ensures.value at c.if-many-gt2.true in
-    let is = c.in-Some.ensures in
-    let row = counted c.args.dimension _ _ chains also c.requires.taking c.requires.some c.requires.dimension c.in-Some.edge.ok c.in-Some.other.ok
-    is.source is.target is.stays more in
-    let last = rw c.shape.ensures.value at (c.in_ok-last-in-Some.ensures {u = tt}) in
-    let whole = rw (c.start.ensures.value, c.shape.ensures.value) at c.met_by_whole-sum.ensures.sum in
-    omega (arith, (c.in_ok-first-in-Some.ensures {u = tt}), last, whole, row.in_all, row.sum_fits)
+pub overflow_add-result-2 : goal.overflow_add-result-2
+overflow_add-result-2 g c =
+    let side = c.args.side.now in
+    let both =
+    two (IsSide side) _ _ side.source_dimension side.target_dimension (g.met.G.ChunkGridTraits.chained side.source.now)
+    (g.met.H.ChunkGridTraits.chained side.target.now) c.requires
+    in
+    let are = c.in-Some.ensures in
+    let row = counted both.s both.t both.chain both.also _ _ c.in-Some.edge.ok c.in-Some.other.ok (both.in_source _ are.source) (both.in_target _ are.target)
+    side.first side.at side.size side.chunk side.chunks both.is are.stays are.more in
+    let first = both.at _ (c.in_ok-first.ensures {u = tt}) in
+    let last = both.at _ (c.in_ok-last.ensures {u = tt}) in
+    omega (arith, first, last, c.met_by_whole-sum.ensures.sum, row.in_all, row.all_fit)
 
-pub returns-in_ok-last-in-Some : goal.returns-in_ok-last-in-Some
-returns-in_ok-last-in-Some g c =
-    let chains = g.met.G.ChunkGridTraits.chained c.args.copied.now.source.now in
-    let also = g.met.H.ChunkGridTraits.chained c.args.copied.now.target.now in
-    let more = rw c.shape.ensures.value at c.if-many-gt2.true in
-    let is = c.in-Some.ensures in
-    let row = counted c.args.dimension _ _ chains also c.requires.taking c.requires.some c.requires.dimension c.in-Some.edge.ok c.in-Some.other.ok
-    is.source is.target is.stays more in
-    let first = c.in_ok-first-in-Some.ensures {u = tt} in
-    let last = rw c.shape.ensures.value at (c.in_ok-last-in-Some.ensures {u = tt}) in
-    let sum = rw (c.start.ensures.value, c.shape.ensures.value) at c.met_by_whole-sum.ensures.sum in
-    let most = rw (c.start.ensures.value, c.shape.ensures.value) at c.met_by_whole-sum.ensures.most in
-    record {
-      sum = omega (arith, first, last, sum, row.in_all);
-      most = omega (arith, first, last, most, row.most, c.max.ensures, c.max-in-Some.ensures);
-    }
+pub returns-clause-sum : goal.returns-clause-sum
+returns-clause-sum g c =
+    let side = c.args.side.now in
+    let both =
+    two (IsSide side) _ _ side.source_dimension side.target_dimension (g.met.G.ChunkGridTraits.chained side.source.now)
+    (g.met.H.ChunkGridTraits.chained side.target.now) c.requires
+    in
+    let are = c.in-Some.ensures in
+    let row = counted both.s both.t both.chain both.also _ _ c.in-Some.edge.ok c.in-Some.other.ok (both.in_source _ are.source) (both.in_target _ are.target)
+    side.first side.at side.size side.chunk side.chunks both.is are.stays are.more in
+    let first = both.at _ (c.in_ok-first.ensures {u = tt}) in
+    let last = both.at _ (c.in_ok-last.ensures {u = tt}) in
+    both.back _ (omega (arith, first, last, c.met_by_whole-sum.ensures.sum, row.in_all))
+
+pub returns-clause-most : goal.returns-clause-most
+returns-clause-most g c =
+    let side = c.args.side.now in
+    let both =
+    two (IsSide side) _ _ side.source_dimension side.target_dimension (g.met.G.ChunkGridTraits.chained side.source.now)
+    (g.met.H.ChunkGridTraits.chained side.target.now) c.requires
+    in
+    let are = c.in-Some.ensures in
+    let row = counted both.s both.t both.chain both.also _ _ c.in-Some.edge.ok c.in-Some.other.ok (both.in_source _ are.source) (both.in_target _ are.target)
+    side.first side.at side.size side.chunk side.chunks both.is are.stays are.more in
+    let first = both.at _ (c.in_ok-first.ensures {u = tt}) in
+    let last = both.at _ (c.in_ok-last.ensures {u = tt}) in
+    both.back _ (omega (arith, first, last, c.met_by_whole-sum.ensures.most, row.most, c.max.ensures, c.max-2.ensures))

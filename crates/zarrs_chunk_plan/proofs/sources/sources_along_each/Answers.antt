@@ -1,10 +1,11 @@
-use Rattle.std.proofs.Common.{◌≡◌, ◌∙◌, ◌+◌, ◌<◌, ◌++◌, ◌∷◌, [], ℕ, List, ap, ap₂, fold, length, map, max, slice_index_or, sym, take, arith}
+use Rattle.std.proofs.Common.{◌≡◌, ◌∙◌, ◌+◌, ◌<◌, ◌++◌, ◌∷◌, [], ℕ, List, ap, ap₂, fold, length, map, max, slice_index_or, sym, take, arith, true≢false}
 use Rattle.std.proofs.lemmas.List.{map-append, take_all, take_more}
 use Rattle.std.specs.List.{sum}
+use Rattle.zarrs_chunk_base.specs.ArraySubset.{IsEmptyBox}
 use Rattle.zarrs_chunk_plan.specs.Counts.{product}
 use Rattle.zarrs_chunk_plan.specs.seen.Sources.{counters, met_in}
 use Rattle.zarrs_chunk_plan.proofs.BoxCounts.{product_of_none}
-use Rattle.zarrs_chunk_plan.proofs.MetCovers.{as_many_counters}
+use Rattle.zarrs_chunk_plan.proofs.MetCovers.{as_many_counters, as_many_starts, moved_long, ranges_along, row_along}
 use Rattle.zarrs_chunk_plan.proofs.Products.{greatest_of_products, met_by_all, of_none, sum_of_products}
 use Rattle.zarrs_chunk_plan.proofs.Written.{tables_long}
 use Rattle.zarrs_chunk_plan.proofs.sources.sources_along_each.Goals as goal
@@ -12,6 +13,35 @@ use Rattle.zarrs_chunk_plan.proofs.sources.sources_along_each.Goals as goal
 map_more : (f : List ℕ → ℕ) (lists : List (List ℕ)) (k : ℕ) → k < length lists
     → map f (take (k + 1) lists) ≡ map f (take k lists) ++ f (slice_index_or lists k []) ∷ []
 map_more f lists k within = ap (map f) (take_more lists k [] within) ∙ map-append f (take k lists) (slice_index_or lists k [] ∷ [])
+
+pub bounds-start-dimension : goal.bounds-start-dimension
+bounds-start-dimension g c =
+    let chains = g.met.G.ChunkGridTraits.chained c.args.copied.now.source.now in
+    let starts = as_many_starts chains c.requires in
+    let less = rw c.shape-shape.ensures.value at c.loop-dimension-test.true in
+    rw c.start.ensures.value (omega (arith, less, starts, c.requires.long, c.requires.is_box.lengths))
+
+pub bounds-start-dimension-in-loop-dimension : goal.bounds-start-dimension-in-loop-dimension
+bounds-start-dimension-in-loop-dimension g c =
+    let chains = g.met.G.ChunkGridTraits.chained c.args.copied.now.source.now in
+    let long = moved_long chains c.requires in
+    let less = rw c.shape-shape.ensures.value at c.loop-dimension-test.true in
+    rw c.start-in-loop-dimension.ensures.value
+    (omega (arith, less, long, c.requires.is_moved.lengths, c.requires.long, c.requires.is_box.lengths))
+
+pub bounds-shape-dimension : goal.bounds-shape-dimension
+bounds-shape-dimension g c =
+    let chains = g.met.G.ChunkGridTraits.chained c.args.copied.now.source.now in
+    let long = moved_long chains c.requires in
+    let less = rw c.shape-shape.ensures.value at c.loop-dimension-test.true in
+    rw c.shape.ensures.value (omega (arith, less, long, c.requires.long, c.requires.is_box.lengths))
+
+pub sources_along-requires : goal.sources_along-requires
+sources_along-requires g c =
+    let some : ¬ IsEmptyBox c.args.targets.now = λ empty. true≢false (sym (c.is_empty.ensures.1 empty) ∙ c.if-is_empty.false) in
+    rw (c.start.ensures.value, c.start-in-loop-dimension.ensures.value, c.shape.ensures.value, c.start-in-loop-dimension-2.ensures.value, c.shape-shape.ensures.value)
+    (ranges_along (g.met.G.ChunkGridTraits.chained c.args.copied.now.source.now) c.requires c.start.ensures.is_box some c.loop-dimension.dimension
+    (rw c.shape-shape.ensures.value at c.loop-dimension-test.true))
 
 pub loop-dimension-preserved : goal.loop-dimension-preserved
 loop-dimension-preserved g c =
@@ -21,15 +51,20 @@ loop-dimension-preserved g c =
     let taking = c.requires in
     let all = counters source target c.args.copied.now.region.now c.args.copied.now.moved.now in
     let met = met_in all targets.start targets.shape in
-    let many = as_many_counters (g.met.G.ChunkGridTraits.chained c.args.copied.now.source.now) taking in
+    let chains = g.met.G.ChunkGridTraits.chained c.args.copied.now.source.now in
+    let many = as_many_counters chains taking in
     let long = tables_long all targets.start targets.shape (omega (arith, taking.long, many)) taking.is_box.lengths in
     let less = rw c.shape-shape.ensures.value at c.loop-dimension-test.true in
     let (in_all, most) = c.loop-dimension.invariant in
     let k = c.loop-dimension.dimension in
     let some = map_more sum met k (omega (arith, less)) in
-    let greatest = map_more (fold max 0) met k (omega (arith, less)) in (
-      c.in_ok-push.ensures.items ∙ ap₂ (λ xs x. xs ++ x ∷ []) in_all c.in_ok-sum.ensures.sum ∙ sym some,
-      c.in_ok-push-2.ensures.items ∙ ap₂ (λ xs x. xs ++ x ∷ []) most c.in_ok-sum.ensures.most ∙ sym greatest,
+    let greatest = map_more (fold max 0) met k (omega (arith, less)) in
+    let sums =
+    rw (c.start.ensures.value, c.start-in-loop-dimension.ensures.value, c.shape.ensures.value, c.start-in-loop-dimension-2.ensures.value, c.shape-shape.ensures.value)
+    at (c.in_ok-sum.ensures {u = tt})
+    in (
+      c.in_ok-push.ensures.items ∙ ap₂ (λ xs x. xs ++ x ∷ []) in_all (row_along chains taking (λ row. c.in_ok-sum.sum ≡ sum row) k sums.sum) ∙ sym some,
+      c.in_ok-push-2.ensures.items ∙ ap₂ (λ xs x. xs ++ x ∷ []) most (row_along chains taking (λ row. c.in_ok-sum.greatest ≡ fold max 0 row) k sums.most) ∙ sym greatest,
     )
 
 pub returns-then-is_empty : goal.returns-then-is_empty

@@ -1,12 +1,22 @@
 use Rattle.std.proofs.Common.{◌∙◌, ◌<◌, ◌++◌, ◌∷◌, [], ap₂, arith, refl, sym}
 use Rattle.std.proofs.lemmas.List.{map-append, take_all, take_more}
 use Rattle.zarrs_chunk_plan.specs.declared.fewest.Edge.{Edge}
-use Rattle.zarrs_chunk_plan.specs.seen.Stages.{edge_of}
+use Rattle.zarrs_chunk_plan.specs.seen.Ends.{AreOfOneSize}
+use Rattle.zarrs_chunk_plan.specs.seen.Stages.{IsRow, edge_of}
 use Rattle.std.proofs.ByRecursion.{All-get_or, All-push}
+use Rattle.zarrs_chunk_plan.proofs.OneDimension.{two}
 use Rattle.zarrs_chunk_plan.proofs.stages.row_along.Goals as goal
 
 pub loop-edge-init : goal.loop-edge-init
-loop-edge-init g c = rw (c.in_ok-row.ensures {u = tt}).items (refl, λ some. tt)
+loop-edge-init g c =
+    let ends = c.args.ends.now in
+    rw (c.in_ok-row.ensures {u = tt}).items (
+      refl,
+      λ some.
+          let both = two (AreOfOneSize ends.size ends.chunks) _ _ ends.dimension ends.dimension (g.met.G.ChunkGridTraits.chained ends.source.now)
+          (g.met.H.ChunkGridTraits.chained ends.target.now) (c.requires.ends some) in
+          both.back (λ s t. IsRow s t ends.chunks []) tt,
+    )
 
 pub non_zero-edge-requires : goal.non_zero-edge-requires
 non_zero-edge-requires g c =
@@ -21,7 +31,12 @@ loop-edge-preserved g c =
     rw items (
       map-append edge_of c.loop-edge.row.items (e ∷ [])
           ∙ ap₂ (λ xs x. xs ++ x ∷ []) c.loop-edge.invariant.0 c.non_zero-edge.ensures ∙ sym more,
-      λ some. All-push _ c.loop-edge.row.items e (c.loop-edge.invariant.1 some) ((c.in_ok-first.ensures {u = tt}) some),
+      λ some.
+          let ends = c.args.ends.now in
+          let both = two (AreOfOneSize ends.size ends.chunks) _ _ ends.dimension ends.dimension (g.met.G.ChunkGridTraits.chained ends.source.now)
+          (g.met.H.ChunkGridTraits.chained ends.target.now) (c.requires.ends some) in
+          both.back (λ s t. IsRow s t ends.chunks (c.loop-edge.row.items ++ e ∷ []))
+          (All-push _ c.loop-edge.row.items e (both.at _ (c.loop-edge.invariant.1 some)) (both.at _ ((c.in_ok-first.ensures {u = tt}) some))),
     )
 
 pub returns-clause-edges : goal.returns-clause-edges
