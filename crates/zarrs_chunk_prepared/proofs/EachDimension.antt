@@ -1,5 +1,7 @@
 -- What holds along each dimension of a prepared grid holds of the grid.
-use Rattle.std.proofs.Common.{◌≡◌, ◌∙◌, ℕ, zero, suc, ◌+◌, ◌<◌, ◌≤◌, ◌^◌, List, [], ◌∷◌, ap, arith, get_or, length, map, refl}
+use Rattle.std.proofs.Common.{◌≡◌, ◌∙◌, ℕ, zero, suc, ◌+◌, ◌<◌, ◌≤◌, ◌^◌, List, [], ◌∷◌, arith, get_or, length, map, refl, sym}
+use Rattle.std.proofs.lemmas.List.{length-map}
+use Rattle.std.proofs.lemmas.Slice.Zip.{AllZip-long}
 use Rattle.std.specs.List.{AllByRecursion, AllZip}
 use Rattle.zarrs_chunk_axes.specs.LookUp.{AreRanges}
 use Rattle.zarrs_chunk_base.specs.ArraySubset.{ends}
@@ -14,10 +16,7 @@ use Rattle.zarrs_chunks.proofs.Subsets.{is_end, no_ranges}
 
 -- there are as many dimensions
 pub as_many : (ds : List Dimension) (axes : List PreparedAxis) → AllZip IsTableOf ds (map table_of axes) → length ds ≡ length axes
-as_many [] [] are = refl
-as_many (d ∷ ds) (a ∷ axes) are = ap suc (as_many ds axes are.1)
-as_many [] (_ ∷ _) are = absurd are
-as_many (_ ∷ _) [] are = absurd are
+as_many ds axes are = sym (AllZip-long IsTableOf ds (map table_of axes) are) ∙ length-map axes table_of
 
 -- what two numbers are to each dimension
 pub in_each : (R : Dimension → ℕ → ℕ → Type 0) (ds : List Dimension) (axes : List PreparedAxis) (xs ys : List ℕ)
