@@ -1,5 +1,5 @@
 -- The numbers of listed edges are those of their dimension.
-use Rattle.std.proofs.Common.{◌≡◌, ◌≢◌, ◌∙◌, ◌++◌, ℕ, zero, suc, ◌+◌, ◌-◌, ◌*◌, ◌/◌, ◌%◌, ◌<◌, ◌≤◌, List, [], ◌∷◌, ap, arith, get_or, length, map, refl, subst, sym, take, ⊎_elim}
+use Rattle.std.proofs.Common.{◌≡◌, ◌≢◌, ◌∙◌, ◌++◌, ℕ, zero, suc, ◌+◌, ◌-◌, ◌*◌, ◌/◌, ◌%◌, ◌<◌, ◌≤◌, List, [], ◌∷◌, ap, arith, below_more, get_or, length, map, refl, subst, sym, take, ⊎_elim}
 use Rattle.std.proofs.Math.Seq.{take-length}
 use Rattle.std.proofs.lemmas.Bool.{cases_lt}
 use Rattle.std.proofs.lemmas.List.{get_or_append_left, get_or_default, length-append, take_all, take-map}
@@ -70,12 +70,10 @@ not_none (e ∷ edges) some = omega arith
 -- what holds at the places of some numbers, and of one more behind them
 at_one_more : (P : ℕ → ℕ → Type 0) (n x : ℕ) (numbers : List ℕ) → length numbers ≡ n → ((k : ℕ) → k < n → P k (get_or numbers k 0)) → P n x
     → (k : ℕ) → k < n + 1 → P k (get_or (numbers ++ x ∷ []) k 0)
-at_one_more P n x numbers long so_far here k less =
-    ⊎_elim (λ (before : k < n). rw (get_or_append_left numbers (x ∷ []) 0 k (omega arith)) (so_far k before))
-    (λ (from : n ≤ k).
-    let at : n ≡ k = omega arith in
-    subst (λ j. P j (get_or (numbers ++ x ∷ []) j 0)) at (subst (P n) (sym (ap (λ m. get_or (numbers ++ x ∷ []) m 0) (sym long) ∙ get_or-append_seam numbers x [] 0)) here))
-    (cases_lt k n)
+at_one_more P n x numbers long so_far here =
+    below_more (λ k. P k (get_or (numbers ++ x ∷ []) k 0)) n
+    (λ k before. rw (get_or_append_left numbers (x ∷ []) 0 k (omega arith)) (so_far k before))
+    (subst (P n) (sym (ap (λ m. get_or (numbers ++ x ∷ []) m 0) (sym long) ∙ get_or-append_seam numbers x [] 0)) here)
 
 -- one run more
 pub table_more : (runs : List (ℕ × ℕ)) (n start chunk edge count : ℕ) (starts chunks edges : List ℕ) → n < length runs
