@@ -4,7 +4,7 @@
     bindings/build.py [--after-ci]
 
 `bindings/out/llvm` gets both as LLVM compiles them, `bindings/out/rattle` as Rattle's own compiler does. The shared library is called by the version of its interface, as
-`libzarrs_chunks.so.2`, and `libzarrs_chunks.so` is a link to it. The crate and those below it are proved first,
+`libzarrs_chunks.so.3`, and `libzarrs_chunks.so` is a link to it. The crate and those below it are proved first,
 which takes longest the first time. Right after `rt ci` the flag spares the crates below, which are taken as that left them, proved; where `rt ci` gave back
 what an earlier check had kept, they are checked again. It ends with the status 1 where the names that are exported aren't those of the header.
 """

@@ -1,9 +1,9 @@
-"""What the calls answer and refuse, at any number of dimensions, beside plain arithmetic of Python, and what they do with
-any numbers in place of those of a prepared grid: `test.py` runs it.
+"""Compares the calls with plain arithmetic of Python: `test.py` runs it. They are asked for answers at several numbers of
+dimensions, for each fault at one of these, and with any numbers in place of a prepared grid's.
 
 Each call is taken as the list of its arguments, by the names of the header. So an argument can be made longer or
 shorter, or be exchanged for a wrong one, and what the call ends with is compared with the order of faults that the
-header tells.
+header tells. After each array lies an item that no call may change.
 """
 import ctypes
 import itertools
@@ -16,8 +16,9 @@ from chunk_keys import Encoding
 from extensions import GREATEST, grid_metadata
 
 DIMENSIONS = (1, 2, 3, 4, 5, 9, 300)
+FAULTS_OF = 3  # dimensions: which fault is told, and what it leaves, is the same of any number of them
 LEFT = 7  # what buffers hold before a call
-ROUNDS = 500  # of prepared grids with any numbers
+ROUNDS = 100  # of prepared grids with any numbers
 
 # The order in which faults are told: those of the grid, of the encoding, and then the others.
 METADATA = {"no JSON": (b'{"name":', -3), "no extension": (b"3", -4), "refused": (b'"no"', -5)}
@@ -39,21 +40,23 @@ class Asked:
         self.name, self.arguments, self.measured = name, arguments, measured
 
     def ends(self, library, **exchanged):
-        """Makes the call with some arguments exchanged. Gives its code and the arguments as the call leaves them."""
+        """Makes the call with some arguments exchanged. Gives its code, the arguments as the call leaves them, and the names
+        of those beside which it writes, or whose pointer it moves."""
         kept = {name: own(part) for name, part in {**self.arguments, **exchanged}.items()}
+        told, beside = {}, []
         if self.name == "zarrs_parts_of":
-            code, told, moved = library.parts_of(kept, before=LEFT)
-            return code, {**{name: seen(part) for name, part in kept.items()}, **told, "moved": moved}
-        passed = (ctypes.byref(part) if isinstance(part, Count) else part for part in kept.values())
-        code = library.call(self.name, *passed)
-        return code, {name: seen(part) for name, part in kept.items()}
+            code, told, beside = library.parts_of(kept, before=LEFT)
+        else:
+            code = library.call(self.name, *(ctypes.byref(part) if isinstance(part, Count) else part for part in kept.values()))
+        beside += [name for name, part in kept.items() if isinstance(part, np.ndarray) and part.base[-1] != LEFT]
+        return code, {name: seen(part) for name, part in kept.items()} | told, beside
 
 
 def own(part):
-    """A copy of what a call may write to."""
+    """A copy of what a call may write to, with one item more after it."""
     if isinstance(part, Count):
         return Count(part.value)
-    return part.copy() if isinstance(part, np.ndarray) else part
+    return np.append(part, np.array([LEFT], part.dtype))[:-1] if isinstance(part, np.ndarray) else part
 
 
 def seen(part):
@@ -117,7 +120,7 @@ def flat(lists):
 def grid_calls(rng, dimensions):
     """Each call of a grid with arguments that are right, and what it leaves by name."""
     grid, count = bounded(rng, dimensions), 6
-    given, counts = given_of(grid), grid.grid_shape()
+    counts = grid.grid_shape()
     inside = [[rng.randrange(size) for size in grid.shape] for _ in range(count)]
     # Of three indices one is outside along one dimension, and of three chunks one is past those that are counted.
     indices = [[*index] for index in inside]
@@ -134,21 +137,21 @@ def grid_calls(rng, dimensions):
 
     prepared = numbers_of(grid)
     asked, expected = {"numbers": filled(prepared.size), "needed": Count(LEFT)}, {"numbers": prepared.tolist(), "needed": prepared.size}
-    yield Asked("zarrs_prepare_grid", {**given, **asked}, []), expected
-    for prefix, given in (("zarrs", given), ("zarrs_prepared", {"numbers": prepared})):
-        yield Asked(f"{prefix}_grid_shape", {**given, "grid_shape": filled(dimensions)}, ["grid_shape"]), {"grid_shape": counts}
-        for name, lists, names, answers in (
-            ("chunk_indices_of", {"indices": indices}, ["chunks"], homes),
-            ("homes_of", {"indices": indices}, ["chunks", "places"], homes),
-            ("chunk_boxes_of", {"chunks": chunks}, ["origins", "shapes"], boxes),
-            ("covers_of", {"starts": indices, "shapes": sizes}, ["first_chunks", "chunk_counts"], covers),
-        ):
-            written, marks = batch(answers, len(names), dimensions)
-            asked = {**given, **{name: flat(numbers) for name, numbers in lists.items()}}
-            asked |= {**{name: filled(count * dimensions) for name in names}, "found": filled(count, np.uint8)}
-            if name == "covers_of":
-                asked["wrong"] = Count(LEFT)
-            yield Asked(f"{prefix}_{name}", asked, [*lists, *names, "found"]), {**dict(zip(names, written)), "found": marks}
+    yield Asked("zarrs_prepare_grid", {**given_of(grid), **asked}, []), expected
+    given = {"numbers": prepared}
+    yield Asked("zarrs_prepared_grid_shape", {**given, "grid_shape": filled(dimensions)}, ["grid_shape"]), {"grid_shape": counts}
+    for name, lists, names, answers in (
+        ("chunk_indices_of", {"indices": indices}, ["chunks"], homes),
+        ("homes_of", {"indices": indices}, ["chunks", "places"], homes),
+        ("chunk_boxes_of", {"chunks": chunks}, ["origins", "shapes"], boxes),
+        ("covers_of", {"starts": indices, "shapes": sizes}, ["first_chunks", "chunk_counts"], covers),
+    ):
+        written, marks = batch(answers, len(names), dimensions)
+        asked = {**given, **{name: flat(numbers) for name, numbers in lists.items()}}
+        asked |= {**{name: filled(count * dimensions) for name in names}, "found": filled(count, np.uint8)}
+        if name == "covers_of":
+            asked["wrong"] = Count(LEFT)
+        yield Asked(f"zarrs_prepared_{name}", asked, [*lists, *names, "found"]), {**dict(zip(names, written)), "found": marks}
 
 
 def key_calls(rng, dimensions):
@@ -160,19 +163,15 @@ def key_calls(rng, dimensions):
     numbers = np.array([int.from_bytes(b"zarrkeys", "big"), 0, ord("/")], np.uint64)
     asked, expected = {"numbers": filled(3), "needed": Count(LEFT)}, {"numbers": numbers.tolist(), "needed": 3}
     yield Asked("zarrs_prepare_encoding", {"chunk_key_encoding": b'"default"', **asked}, []), expected
-    forms = (("zarrs", {"chunk_key_encoding": b'"default"'}), ("zarrs_prepared", {"numbers": numbers}))
-    for prefix, given in forms:
-        asked = {**given, "dimensionality": dimensions, "chunks": flat(chunks)}
-        asked |= {"text": filled(len(text), np.uint8), "offsets": filled(count + 1), "needed": Count(LEFT)}
-        expected = {"text": list(text), "offsets": offsets, "needed": len(text)}
-        yield Asked(f"{prefix}_keys_of", asked, ["chunks", "offsets"]), expected
+    given = {"numbers": numbers, "dimensionality": dimensions}
+    asked = {**given, "chunks": flat(chunks), "text": filled(len(text), np.uint8), "offsets": filled(count + 1), "needed": Count(LEFT)}
+    expected = {"text": list(text), "offsets": offsets, "needed": len(text)}
+    yield Asked("zarrs_prepared_keys_of", asked, ["chunks", "offsets"]), expected
     keys[1] = b"c/01"
     text, offsets = np.frombuffer(b"".join(keys), np.uint8), np.array(offsets_of(keys), np.uint64)
     written, marks = batch([None if k == 1 else (chunk,) for k, chunk in enumerate(chunks)], 1, dimensions)
-    for prefix, given in forms:
-        asked = {**given, "dimensionality": dimensions, "text": text, "offsets": offsets, "chunks": filled(count * dimensions)}
-        asked |= {"found": filled(count, np.uint8), "wrong": Count(LEFT)}
-        yield Asked(f"{prefix}_chunks_of_keys", asked, ["offsets", "chunks", "found"]), {"chunks": written[0], "found": marks}
+    asked = {**given, "text": text, "offsets": offsets, "chunks": filled(count * dimensions), "found": filled(count, np.uint8), "wrong": Count(LEFT)}
+    yield Asked("zarrs_prepared_chunks_of_keys", asked, ["offsets", "chunks", "found"]), {"chunks": written[0], "found": marks}
 
 
 def plan_call(rng, dimensions):
@@ -198,10 +197,10 @@ def plan_call(rng, dimensions):
 
     measured = ["start", "box_shape", *lists, "offsets"]
     expected = {name: flat(numbers).tolist() for name, numbers in lists.items()}
-    told = {"needed": len(text), "count": len(parts), "in_all": len(parts), "found": 1, "moved": []}
+    told = {"needed": len(text), "count": len(parts), "in_all": len(parts), "found": 1}
     told |= {"text": list(text), "offsets": offsets_of(keys)}
     yield Asked("zarrs_parts_of", asked_of(start, sizes), measured), {**expected, **told}
-    none = {"needed": 0, "count": 0, "in_all": 0, "found": 0, "moved": []}
+    none = {"needed": 0, "count": 0, "in_all": 0, "found": 0}
     yield Asked("zarrs_parts_of", asked_of(grid.shape, [1] * dimensions), measured), none
 
 
@@ -263,7 +262,7 @@ def wrong_arguments(asked):
         # The grid is refused that has another number of dimensions.
         yield 0, "shape longer", METADATA["refused"][1], {"shape": np.concatenate([given["shape"], given["shape"][:1]])}
         yield 0, "shape shorter", METADATA["refused"][1], {"shape": given["shape"][:-1]}
-    if asked.name.startswith("zarrs_prepared"):
+    if asked.name.startswith("zarrs_prepared_"):
         others = other_encodings if "dimensionality" in given else other_numbers
         for what, numbers in others(given["numbers"]):
             yield 0, what, NOT_PREPARED, {"numbers": numbers}
@@ -274,13 +273,13 @@ def wrong_arguments(asked):
             far, long = given[start].copy(), given[shape].copy()
             far[-1], long[-1] = GREATEST, 1
             yield 3, "no box", NOT_A_BOX, {start: far, shape: long}
-    if asked.name in ("zarrs_chunks_of_keys", "zarrs_prepared_chunks_of_keys"):
+    if asked.name == "zarrs_prepared_chunks_of_keys":
         descending, past = given["offsets"].copy(), given["offsets"].copy()
         descending[-2] = descending[-1] + np.uint64(1)
         past[-1] = given["text"].size + 1
         yield 4, "descending offsets", OFFSETS, {"offsets": descending}
         yield 4, "offsets past the text", OFFSETS, {"offsets": past}
-    if asked.name in ("zarrs_keys_of", "zarrs_prepared_keys_of", "zarrs_parts_of"):
+    if asked.name in ("zarrs_prepared_keys_of", "zarrs_parts_of"):
         yield 5, "a short buffer", SHORT, {"text": given["text"][:-1]}
     if asked.name in ("zarrs_prepare_grid", "zarrs_prepare_encoding"):
         yield 5, "a short buffer", SHORT, {"numbers": given["numbers"][:-1]}
@@ -303,36 +302,35 @@ def merged(first, second):
     return None if first.keys() & second.keys() else {**first, **second}
 
 
-def ends_of(tally, library, dimensions):
-    rng = random.Random(dimensions)
-    for asked, expected in calls(rng, dimensions):
-        what = f"{asked.name} of {dimensions} dimensions"
-        code, left = asked.ends(library)
-        tally.same(what, (code, {name: left[name] for name in expected}), (0, expected))
-        has_plan = expected.get("found") != 0
-        wrong = [fault for fault in wrong_arguments(asked) if has_plan or fault[2] != SHORT]
-        wrong.sort(key=lambda fault: fault[0])
-        for _place, fault, told, exchanged in wrong:
-            code, left = asked.ends(library, **exchanged)
-            tally.same(f"{what}, {fault}", code, told)
-            if "wrong" in left and told in (NOT_A_BOX, OFFSETS):
-                tally.same(f"{what}, {fault}: of which", left["wrong"], first_wrong(asked, exchanged))
-        for one, other in itertools.combinations(wrong, 2):
-            both = merged(one[3], other[3])
-            if one[0] != other[0] and both is not None:
-                tally.same(f"{what}, {one[1]} and {other[1]}", asked.ends(library, **both)[0], one[2])
-        short(tally, library, asked, expected, what)
+def ends_of(tally, library, asked, expected, what):
+    code, left, beside = asked.ends(library)
+    tally.same(what, (code, {name: left[name] for name in expected}, beside), (0, expected, []))
+
+
+def faults_of(tally, library, asked, expected, what):
+    """Each fault of a call, and each two where one comes before the other."""
+    has_plan = expected.get("found") != 0
+    wrong = [fault for fault in wrong_arguments(asked) if has_plan or fault[2] != SHORT]
+    wrong.sort(key=lambda fault: fault[0])
+    for _place, fault, told, exchanged in wrong:
+        code, left, beside = asked.ends(library, **exchanged)
+        of_which = left["wrong"] if "wrong" in left and told in (NOT_A_BOX, OFFSETS) else None
+        right = None if of_which is None else first_wrong(asked, exchanged)
+        tally.same(f"{what}, {fault}", (code, of_which, beside), (told, right, []))
+    for one, other in itertools.combinations(wrong, 2):
+        both = merged(one[3], other[3])
+        if one[0] != other[0] and both is not None:
+            code, _left, beside = asked.ends(library, **both)
+            tally.same(f"{what}, {one[1]} and {other[1]}", (code, beside), (one[2], []))
 
 
 def short(tally, library, asked, expected, what):
     """A buffer that is too short for its text or its numbers: all else is written, and their length is told."""
-    if expected.get("needed"):
-        filling = "text" if "text" in expected else "numbers"
-        for room in (0, expected["needed"] - 1):
-            code, left = asked.ends(library, **{filling: filled(room, asked.arguments[filling].dtype)})
-            tally.same(f"{what}, room for {room}", (code, left[filling]), (SHORT, [LEFT] * room))
-            rest = {name: part for name, part in expected.items() if name != filling}
-            tally.same(f"{what}, room for {room}: the rest", {name: left[name] for name in rest}, rest)
+    filling = "text" if "text" in expected else "numbers"
+    for room in (0, expected["needed"] - 1):
+        code, left, beside = asked.ends(library, **{filling: filled(room, asked.arguments[filling].dtype)})
+        right = {**expected, filling: [LEFT] * room}
+        tally.same(f"{what}, room for {room}", (code, {name: left[name] for name in right}, beside), (SHORT, right, []))
 
 
 def any_numbers(tally, library):
@@ -369,5 +367,11 @@ def numbers_of_runs(rng, dimensions):
 
 def faults(tally, library):
     for dimensions in DIMENSIONS:
-        ends_of(tally, library, dimensions)
+        for asked, expected in calls(random.Random(dimensions), dimensions):
+            what = f"{asked.name} of {dimensions} dimensions"
+            ends_of(tally, library, asked, expected, what)
+            if dimensions == FAULTS_OF:
+                faults_of(tally, library, asked, expected, what)
+                if expected.get("needed"):
+                    short(tally, library, asked, expected, what)
     any_numbers(tally, library)

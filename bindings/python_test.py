@@ -69,12 +69,12 @@ def table(tally):
 
 def unfit_arguments(tally):
     """What isn't fit for the library never reaches it."""
-    shape, text, sizes = np.array([5, 7], np.uint64), json.dumps(REGULAR).encode(), _library.room(2)
+    shape, text, numbers = np.array([5, 7], np.uint64), json.dumps(REGULAR).encode(), _library.room(16)
 
     def call(**exchanged):
-        return lambda: _library.call("zarrs_grid_shape", **{"shape": shape, "chunk_grid": text, "grid_shape": sizes, **exchanged})
+        return lambda: _library.call("zarrs_prepare_grid", **{"shape": shape, "chunk_grid": text, "numbers": numbers, **exchanged})
 
-    tally.same("fit arguments", (call()(), sizes.tolist()), ((_library.OK, {}), [3, 3]))
+    tally.same("fit arguments", (call()(), int(numbers[1])), ((_library.OK, {"needed": 16}), 2))
     frozen = _library.room(2)
     frozen.flags.writeable = False
     unfit = {
@@ -83,21 +83,21 @@ def unfit_arguments(tally):
             [5, 7], None, 5, b"5",
         ],  # fmt: skip
         "chunk_grid": ["text", bytearray(text), memoryview(text), np.frombuffer(text, np.uint8), None, 7],
-        "grid_shape": [frozen, sizes[::-1], _library.room(4)[::2], _library.room(4)[:2], sizes.view(np.int64), np.zeros(2, ">u8"), None, 0],
+        "numbers": [frozen, numbers[::-1], _library.room(4)[::2], _library.room(4)[:2], numbers.view(np.int64), np.zeros(2, ">u8"), None, 0],
     }
     for name, values in unfit.items():
         for value in values:
             words = f"{name}: the library can't be given this {type(value).__name__}"
             tally.raises(f"{name} as {value!r}", TypeError, words, call(**{name: value}))
     for call in (
-        lambda: _library.call("zarrs_grid_shape", shape=shape, chunk_grid=text),
-        lambda: _library.call("zarrs_grid_shape", shape=shape, chunk_grid=text, grid_shape=sizes, found=sizes),
+        lambda: _library.call("zarrs_prepare_grid", shape=shape, chunk_grid=text),
+        lambda: _library.call("zarrs_prepare_grid", shape=shape, chunk_grid=text, numbers=numbers, found=numbers),
         lambda: _library.call("zarrs_answer", question=b"", line=_library.text_room(1), needed=ctypes.c_size_t()),
     ):
         tally.same("a wrong number of arguments", kind_of_error(call), TypeError)
-    keys = {"chunk_key_encoding": b'"v2"', "chunks": shape, "text": _library.text_room(9), "offsets": sizes}
+    keys = {"numbers": numbers, "chunks": shape, "text": _library.text_room(9), "offsets": _library.room(2)}
     for number in (-1, 2**64, 1.0, None, True):
-        tally.same(f"a size of {number}", kind_of_error(lambda: _library.call("zarrs_keys_of", dimensionality=number, **keys)), TypeError)
+        tally.same(f"a size of {number}", kind_of_error(lambda: _library.call("zarrs_prepared_keys_of", dimensionality=number, **keys)), TypeError)
     plan = {
         "array": {"shape": shape, "chunk_grid": text, "chunk_key_encoding": b'"v2"'}, "elements": {"start": shape, "shape": shape}, "first": 0,
         "buffers": {name: _library.room(2) for name in ("chunks", "in_chunk", "in_subset", "shapes", "offsets")} | {"text": _library.text_room(9)},

@@ -11,13 +11,13 @@ all, each tenth vector, batches, plans and the examples. What is compared:
 - every vector of `chunkcalls`, through `zarrs_answer`, and each tenth, with `--thorough` each, by a program in C;
 - batches and plans with the same questions one by one, and batches with numpy's own division and `searchsorted`;
 - each call at one to three hundred dimensions with plain arithmetic, and each fault of each call, alone and with a
-  later one (`faults.py`);
-- no lists, null, strided, misaligned and negative numbers, other types, buffers of other lengths, offsets that descend;
+  later one, with what lies behind each buffer (`faults.py`);
+- no lists, null, lists of very many numbers, and other layouts of arrays;
 - what the Python package takes, refuses and keeps, also while another thread changes it (`python_test.py`), and any
   values for all its arguments (`fuzz.py`);
 - its methods with all vectors, with models in plain arithmetic, with numpy and with zarr-python, and the package as a
   program (`python_calls_test.py`);
-- what a call tells of a refusal, walks that are longer than their buffer, and pages (`words_and_bounds.py`);
+- what a call tells of a refusal, and walks that are longer than their buffer (`words_and_bounds.py`);
 - the stack that a call needs, and traps for floats;
 - memory that is refused: under an address space that gets smaller, and allocation by allocation;
 - the examples in C and Python, the C one under memcheck, those of the docstrings, and the tests of the crate for Rust.
@@ -73,15 +73,12 @@ class Tally:
 
 
 def vectors(tally, library, rows):
-    """Vectors, each with a buffer that its answer fills, and with one that is a byte too short."""
+    """Vectors, each with a buffer that its answer fills."""
     needed = ctypes.c_size_t()
     for question, answer in ((question.encode(), answer.encode() + b"\n") for question, answer in rows):
-        short = b"\7" * len(answer)
-        for room, expected in ((len(answer), (0, answer)), (len(answer) - 1, (library.SHORT_BUFFER, short))):
-            line = np.full(len(answer) + 1, 7, np.uint8)
-            code = library.call("zarrs_answer", np.frombuffer(question, np.uint8), line[:room], ctypes.byref(needed))
-            found = ((code, line[:-1].tobytes()), int(line[-1]), needed.value)
-            tally.same(question, found, (expected, 7, len(answer)))
+        line = np.full(len(answer) + 1, 7, np.uint8)
+        code = library.call("zarrs_answer", np.frombuffer(question, np.uint8), line[:-1], ctypes.byref(needed))
+        tally.same(question, (code, line.tobytes(), needed.value), (0, answer + b"\7", len(answer)))
     return len(rows)
 
 
@@ -132,8 +129,7 @@ def against_single_calls(tally, library):
         tally.same(f"{grid} chunk_indices alone", alone, [chunks.tolist(), found.tolist()])
         tally.same(f"{grid} no chunk leaves zeros", chunks[~found].any() or places[~found].any(), False)
         for call, (of, answers) in batches.items():
-            for question, answer in zip(of, answers):
-                tally.same(f"{grid} {call} {question}", answer, answered(library, array, call=call, of=question))
+            tally.same(f"{grid} {call} {of}", [*answers], [answered(library, array, call=call, of=question) for question in of])
         tally.same(f"{grid} grid_shape", list(grid.grid_shape), answered(library, array, call="grid_shape"))
 
 
@@ -186,12 +182,11 @@ def keys_against_single_calls(tally, library):
             tally.same(f"{encoding} of {dimensionality} dimensions", keys, single)
             texts = keys + ["", "c", "/", "c/01", "c/1/", "0", "c/1.é", "18446744073709551616"]
             chunks, found = encoding.decode(texts, dimensionality)
-            for text, chunk in zip(texts, rows(found, chunks)):
-                asked = {"chunk_key_encoding": metadata, "call": "decode", "of": text, "dimensionality": dimensionality}
-                single = library.answer(asked)
-                # A text that is no store key is refused there, and is the key of no chunk here.
-                expected = None if single.startswith("refused: ") else json.loads(single)
-                tally.same(f"{encoding} {text!r}", chunk, expected)
+            question = {"chunk_key_encoding": metadata, "call": "decode", "dimensionality": dimensionality}
+            single = [library.answer({**question, "of": text}) for text in texts]
+            # A text that is no store key is refused there, and is the key of no chunk here.
+            single = [None if answer.startswith("refused: ") else json.loads(answer) for answer in single]
+            tally.same(f"{encoding} of {dimensionality} dimensions, {texts}", [*rows(found, chunks)], single)
         text, offsets = encoding.encode_text(np.zeros((0, 2), np.uint64))
         tally.same("no keys", (text, offsets.tolist()), (b"", [0]))
 
@@ -229,19 +224,11 @@ def buffers(tally, library):
     expected = grid.chunk_indices(numbers[::2, 1:3].copy())[0].tolist()
     tally.same("strided", grid.chunk_indices(numbers[::2, 1:3])[0].tolist(), expected)
     tally.same("as Fortran has it", grid.chunk_indices(np.asfortranarray(numbers[::2, 1:3]))[0].tolist(), expected)
-    shifted = misaligned(numbers[::2, 1:3])
-    tally.same("misaligned", (shifted.flags.aligned, grid.chunk_indices(shifted)[0].tolist()), (False, expected))
-    tally.same("of the other byte order", grid.chunk_indices(numbers[::2, 1:3].astype(">u8"))[0].tolist(), expected)
-    tally.same("of 16 bits, with a sign", grid.chunk_indices(numbers[::2, 1:3].astype(np.int16))[0].tolist(), expected)
     readonly = numbers[::2, 1:3].copy()
     readonly.flags.writeable = False
     tally.same("read-only", grid.chunk_indices(readonly)[0].tolist(), expected)
     tally.same("more axes", grid.chunk_indices(numbers.reshape(3, 2, 2, 2))[0].shape, (3, 2, 2, 2))
     tally.same("no lists", [part.shape for part in grid.find_home(np.zeros((0, 2), np.uint64))], [(0, 2), (0, 2), (0,)])
-    floats = "indices: whole numbers are wanted, and the array is of float64"
-    tally.raises("floats", TypeError, floats, lambda: grid.chunk_indices([[0.0, 1.0]]))
-    below = "indices: numbers are those from 0 to 18446744073709551615, and one is below"
-    tally.raises("below 0", ValueError, below, lambda: grid.chunk_indices([[0, -1]]))
     shaped = "indices: the last axis is to have 2 numbers, one a dimension, and the array's shape is (1, 3)"
     tally.raises("three numbers", ValueError, shaped, lambda: grid.chunk_indices([[0, 1, 2]]))
     far = "box 1 ends past 18446744073709551615"
@@ -249,75 +236,21 @@ def buffers(tally, library):
     tally.raises("a box too far", ValueError, far, lambda: grid.chunks_in_array_subset(starts, ones))
     far = "a box ends past 18446744073709551615"
     tally.raises("a read too far", ValueError, far, lambda: grid.parts(encoding, [GREATEST, 0], [1, 1]))
-    descending = "the offsets of key {} descend, or lie past the text"
-    for key, offsets in enumerate(([3, 0], [0, 3, 4])):
-        words = descending.format(key)
-        tally.raises(f"offsets {offsets}", ValueError, words, lambda: encoding.decode_text(b"c/1", offsets, 1))
-    tally.raises("a name", ValueError, "name `no` is not supported", lambda: Grid([1], "no"))
-    tally.raises("no extension", ValueError, "not an extension", lambda: Grid([1], 3))
-    tally.raises("no encoding", ValueError, "name is missing", lambda: Encoding({}))
-    lengths(tally, library)
+    descending = "the offsets of key 1 descend, or lie past the text"
+    tally.raises("offsets", ValueError, descending, lambda: encoding.decode_text(b"c/1", [0, 3, 4], 1))
+    null_and_great(tally, library)
 
 
-def lengths(tally, library):
-    """Calls whose buffers are of other lengths than they should be: a code, and nothing is written beside a buffer."""
-    shape, text = np.array([5, 7], np.uint64), json.dumps(REGULAR).encode()
-    encoding = b'"default"'
-    right = {"indices": 6, "chunks": 6, "places": 6, "found": 3}
-    wrong = [(name, size) for name in right for size in range(9) if size != right[name]]
-    for name, size in [*wrong, ("shape", 1), ("shape", 3)]:
-        sizes = {**right, name: size}
-        kept = [np.full(sizes[part] + 1, 7, np.uint64) for part in ("chunks", "places")]
-        kept.append(np.full(sizes["found"] + 1, 7, np.uint8))
-        given, indices = np.full(sizes.get("shape", 2), 5, np.uint64), np.zeros(sizes["indices"], np.uint64)
-        code = library.call("zarrs_homes_of", given, text, indices, *(part[:-1] for part in kept))
-        expected = library.REFUSED if name == "shape" else library.WRONG_LENGTH
-        tally.same(f"homes, {size} {name}", (code, [int(part[-1]) for part in kept]), (expected, [7, 7, 7]))
-    chunks, keys, offsets = np.zeros(4, np.uint64), np.full(11, 7, np.uint8), np.full(4, 7, np.uint64)
-    needed = ctypes.c_size_t()
-    for room in range(11):
-        code = library.call("zarrs_keys_of", encoding, 2, chunks, keys[:room], offsets[:3], ctypes.byref(needed))
-        expected = (0, b"c/0/0c/0/0\7") if room == 10 else (library.SHORT_BUFFER, b"\7" * 11)
-        found = ((code, keys.tobytes()), needed.value, offsets.tolist())
-        tally.same(f"keys, room for {room}", found, (expected, 10, [0, 5, 10, 7]))
-    for size in (0, 1, 2, 4):
-        code = library.call("zarrs_keys_of", encoding, 2, chunks, keys[:10], offsets[:size], ctypes.byref(needed))
-        tally.same(f"keys, {size} offsets", code, library.WRONG_LENGTH)
-    code = library.call("zarrs_keys_of", encoding, 2**63, chunks[:0], keys, offsets[:3], ctypes.byref(needed))
+def null_and_great(tally, library):
+    """Pointers that are null where there are no items, and lists of so many numbers that a product of lengths would wrap."""
+    grid = prepared("grid", 16, shape=np.array([5, 7], np.uint64), chunk_grid=json.dumps(REGULAR).encode())
+    none, needed = (ctypes.c_void_p(None), ctypes.c_size_t(0)), ctypes.c_size_t()
+    tally.same("null and no lists", library.call("zarrs_prepared_homes_of", grid, *none * 4), 0)
+    tally.same("null for numbers", library.call("zarrs_prepared_homes_of", *none * 5), library.NOT_PREPARED)
+    tally.same("null for metadata", library.call("zarrs_prepare_grid", *none * 3, ctypes.byref(needed)), library.NOT_JSON)
+    encoding, offsets = prepared("encoding", 3, chunk_key_encoding=b'"default"'), np.zeros(3, np.uint64)
+    code = library.call("zarrs_prepared_keys_of", encoding, 2**63, *none * 2, offsets, ctypes.byref(needed))
     tally.same("lists of 2 ** 63 numbers", code, library.WRONG_LENGTH)
-    plan_lengths(tally, library, shape, text, encoding)
-    none = (ctypes.c_void_p(None), ctypes.c_size_t(0))
-    tally.same("null and no lists", library.call("zarrs_homes_of", shape, text, *none * 4), 0)
-    tally.same("null for all", library.call("zarrs_homes_of", *none * 6), library.NOT_JSON)
-    left = np.full(4, 7, np.uint64)
-    tally.same("no JSON", library.call("zarrs_grid_shape", shape, b'{"name":', left[:2]), library.NOT_JSON)
-    bounded = json.dumps(grid_metadata("zarrs.regular_bounded", [2, 3])).encode()
-    indices = np.array([9, 9, 4, 6], np.uint64)
-    library.call("zarrs_chunk_indices_of", shape, bounded, indices, left, np.zeros(2, np.uint8))
-    tally.same("numbers of no answer stay", left.tolist(), [7, 7, 2, 2])
-
-
-def plan_lengths(tally, library, shape, text, encoding):
-    """The plan of a box of four parts, with too little room for its keys, and with buffers of other lengths."""
-    right = {"start": 2, "box_shape": 2, "chunks": 8, "in_chunk": 8, "in_subset": 8, "shapes": 8, "offsets": 5}
-    written = ("chunks", "in_chunk", "in_subset", "shapes")
-
-    def call(sizes, room):
-        kept = {name: np.full(sizes[name] + 1, 7, np.uint64) for name in (*written, "offsets")}
-        kept["text"] = np.full(room + 1, 7, np.uint8)
-        asked = {"start": np.full(sizes["start"], 1, np.uint64), "box_shape": np.full(sizes["box_shape"], 3, np.uint64), "first": 0}
-        asked |= {"shape": shape, "chunk_grid": text, "chunk_key_encoding": encoding, **{name: part[:-1] for name, part in kept.items()}}
-        code, told, moved = library.parts_of(asked)
-        beside = [int(part[-1]) for part in kept.values()], moved
-        return code, asked["chunks"].tolist(), asked["text"].tobytes(), [*told.values()], beside
-
-    chunks, keys = [0, 0, 0, 1, 1, 0, 1, 1], b"c/0/0c/0/1c/1/0c/1/1"
-    for room in range(21):
-        code, text_is = (0, keys) if room == 20 else (library.SHORT_BUFFER, b"\7" * room)
-        tally.same(f"a plan, room for {room}", call(right, room), (code, chunks, text_is, [20, 4, 4, 1], ([7] * 6, [])))
-    for name, size in [(name, size) for name in right for size in range(10) if size != right[name]]:
-        code, *_others, beside = call({**right, name: size}, 20)
-        tally.same(f"a plan, {size} {name}", (code, beside), (library.WRONG_LENGTH, ([7] * 6, [])))
 
 
 # ---- memory
@@ -331,21 +264,24 @@ def refused_memory(backend):
 
     listed, plain = (json.dumps(grid).encode() for grid in (grid_metadata("rectangular", [[1] * 20000]), regular(3)))
     shape, indices = np.array([20000], np.uint64), np.arange(40000, dtype=np.uint64) % 20000
-    chunks, found = np.zeros(40001, np.uint64), np.zeros(40001, np.uint8)
+    grid, encoding = prepared("grid", 9, shape=shape, chunk_grid=plain), prepared("encoding", 3, chunk_key_encoding=b'"default"')
+    # The array's edges are one run, so the grid has nine numbers.
+    numbers, chunks, found = np.zeros(10, np.uint64), np.zeros(40001, np.uint64), np.zeros(40001, np.uint8)
     keys, offsets, needed = np.zeros(2**19, np.uint8), np.zeros(40001, np.uint64), ctypes.c_size_t()
-    ended = {0: 0, library.OUT_OF_MEMORY: 0}
+    ended, written = {0: 0, library.OUT_OF_MEMORY: 0}, set()
     wrong, before = 0, used()
     for more in [*range(0, 2**22, 2**16), *range(2**22, 2**25, 2**20)]:
-        chunks[:], found[:] = 7, 7
+        numbers[:], chunks[:], found[:] = 7, 7, 7
         with at_most(before + more):
-            first = library.call("zarrs_chunk_indices_of", shape, listed, indices, chunks[:-1], found[:-1])
-            second = library.call("zarrs_keys_of", b'"default"', 1, indices, keys, offsets, ctypes.byref(needed))
-        wrong += first not in ended or second not in ended or chunks[-1] != 7 or found[-1] != 7
-        wrong += first == 0 and not (chunks[:-1] == indices).all()
+            first = library.call("zarrs_prepare_grid", shape, listed, numbers[:-1], ctypes.byref(needed))
+            second = library.call("zarrs_prepared_keys_of", encoding, 1, indices, keys, offsets, ctypes.byref(needed))
+        written |= {numbers.tobytes()} if first == 0 else set()
         for code in (first, second):
+            wrong += code not in ended
             ended[code] = ended.get(code, 0) + 1
-        wrong += library.call("zarrs_chunk_indices_of", shape, plain, indices, chunks[:-1], found[:-1]) != 0
-        wrong += not (chunks[:-1] == indices // np.uint64(3)).all()
+        wrong += library.call("zarrs_prepared_chunk_indices_of", grid, indices, chunks[:-1], found[:-1]) != 0
+        wrong += numbers[-1] != 7 or chunks[-1] != 7 or found[-1] != 7 or not (chunks[:-1] == indices // np.uint64(3)).all()
+    wrong += written != {np.append(prepared("grid", 9, shape=shape, chunk_grid=listed), np.uint64(7)).tobytes()}
     counted = f"{ended[0]} calls answered under little memory, {ended[library.OUT_OF_MEMORY]} refused"
     print(f"{backend}: {counted}, {wrong} otherwise than expected")
     sys.exit(1 if wrong or 0 in ended.values() else 0)
@@ -362,7 +298,7 @@ def refused_one_by_one(tally, backend, program):
         for ended in refusing.each([program], b"", allocations):
             # An allocation that the C library makes for its own output does without.
             refused += ended.returncode == 1
-            expected = (1, b"", b"code -1\n") if ended.returncode == 1 else (0, EXAMPLE, b"")
+            expected = (1, b"", b"out of memory\n") if ended.returncode == 1 else (0, EXAMPLE, b"")
             tally.same("the example without an allocation", (ended.returncode, ended.stdout, ended.stderr), expected)
         tally.same("the example is refused memory", refused > 3, True)
         print(f"{backend}: {refused} allocations of the C example refused", flush=True)
@@ -488,6 +424,6 @@ if __name__ == "__main__":
         sys.exit("bindings/test.py needs numpy, as Debian's python3-numpy has it for /usr/bin/python3")
     if "--backend" in sys.argv:
         from faults import faults, seen_parts
-        from odd_values import misaligned
         from zarrs_chunks import Encoding, Grid
+        from zarrs_chunks._prepared import prepared
     main()

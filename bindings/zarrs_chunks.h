@@ -5,9 +5,9 @@
  * items it has; with 0 items the pointer may be null. The call of the plan takes structs of such arrays.
  *
  * A grid is the array's shape (d numbers) and the text of the member `chunk_grid` of its zarr.json; an encoding is the text of the member
- * `chunk_key_encoding`. Texts are UTF-8 and end at their length, not at a zero byte. Each call makes its grid and its encoding anew and keeps
- * nothing, so calls may run in several threads at once. Where a grid or an encoding is asked often, zarrs_prepare_grid and zarrs_prepare_encoding
- * write it once as numbers, which the caller keeps, and the calls `zarrs_prepared_...` take these in place of the shape and the text.
+ * `chunk_key_encoding`. Texts are UTF-8 and end at their length, not at a zero byte. zarrs_prepare_grid and zarrs_prepare_encoding write a grid
+ * and an encoding as numbers, which the caller keeps. The batches, `zarrs_prepared_...`, take these numbers. No call keeps anything, so calls may
+ * run in several threads at once.
  *
  * Each call answers ZARRS_OK or one of the codes below. After another code than ZARRS_OK and ZARRS_SHORT_BUFFER the buffers that are written to
  * hold anything, but nothing is written beside them; what a call tells of its refusal all the same is said there. After these two, what lies behind a
@@ -49,7 +49,7 @@ extern "C" {
 #endif
 
 /* The version of this interface. That of the library that is loaded is told by zarrs_abi_version; the two are to be equal. */
-#define ZARRS_ABI_VERSION 2
+#define ZARRS_ABI_VERSION 3
 
 /* The version of the library that this header is of. That of the library that is loaded is told by zarrs_version. */
 #define ZARRS_VERSION "0.1.0"
@@ -88,75 +88,42 @@ int32_t zarrs_version(
     uint8_t *version, size_t version_len,
     size_t *needed);
 
-/* How many chunks are counted along each dimension: grid_shape gets d numbers. */
-int32_t zarrs_grid_shape(
-    const uint64_t *shape, size_t shape_len,
-    const uint8_t *chunk_grid, size_t chunk_grid_len,
-    uint64_t *grid_shape, size_t grid_shape_len);
-
-/* The chunk of each element. indices: n * d; chunks: n * d; found: n, 0 where no chunk holds the element. */
-int32_t zarrs_chunk_indices_of(
-    const uint64_t *shape, size_t shape_len,
-    const uint8_t *chunk_grid, size_t chunk_grid_len,
-    const uint64_t *indices, size_t indices_len,
-    uint64_t *chunks, size_t chunks_len,
-    uint8_t *found, size_t found_len);
-
-/* The chunk of each element, and the element's place there, counted from the chunk's first element. indices, chunks, places: n * d; found: n,
- * 0 where no chunk holds the element. */
-int32_t zarrs_homes_of(
-    const uint64_t *shape, size_t shape_len,
-    const uint8_t *chunk_grid, size_t chunk_grid_len,
-    const uint64_t *indices, size_t indices_len,
-    uint64_t *chunks, size_t chunks_len,
-    uint64_t *places, size_t places_len,
-    uint8_t *found, size_t found_len);
-
-/* The box of each chunk: the index of its first element, and how many elements it has along each dimension. chunks, origins, shapes: n * d;
- * found: n, 0 where there is no such chunk, or it ends past 18446744073709551615. */
-int32_t zarrs_chunk_boxes_of(
-    const uint64_t *shape, size_t shape_len,
-    const uint8_t *chunk_grid, size_t chunk_grid_len,
-    const uint64_t *chunks, size_t chunks_len,
-    uint64_t *origins, size_t origins_len,
-    uint64_t *shapes, size_t shapes_len,
-    uint8_t *found, size_t found_len);
-
-/* The cover of each box of elements: the box of all chunks that hold some of them. A box is its first index and its shape, the cover its first
- * chunk and how many chunks it has along each dimension; the cover of an empty box has no chunks. starts, shapes, first_chunks, chunk_counts:
- * n * d; found: n, 0 where the first or the last element of the box lies in no chunk. ZARRS_NOT_A_BOX where a box ends past
- * 18446744073709551615, and *wrong gets the number of the first such box, counted from 0. */
-int32_t zarrs_covers_of(
-    const uint64_t *shape, size_t shape_len,
-    const uint8_t *chunk_grid, size_t chunk_grid_len,
-    const uint64_t *starts, size_t starts_len,
-    const uint64_t *shapes, size_t shapes_len,
-    uint64_t *first_chunks, size_t first_chunks_len,
-    uint64_t *chunk_counts, size_t chunk_counts_len,
-    uint8_t *found, size_t found_len,
-    size_t *wrong);
-
-/* The numbers of a grid, for the calls below. *needed gets how many they are: 2, and for each dimension 4, and 3 for each run of equal edges, where
- * one edge for all chunks is one run. ZARRS_SHORT_BUFFER where they are more than numbers has room for: nothing is written to it. */
+/* Writes the numbers of a grid, for the five calls below.
+ *
+ *   needed   how many numbers there are: 2, 4 for each dimension, and 3 for each run of equal edges. One edge for all chunks is one run
+ *
+ * ZARRS_SHORT_BUFFER if numbers has room for fewer: nothing is written to it, but needed is written.
+ *
+ * The five calls take all numbers that zarrs_prepare_grid wrote. Their layout may change, so numbers are for the version that wrote them. Any other
+ * numbers are safe: a call ends with ZARRS_NOT_PREPARED, or its answer means nothing. */
 int32_t zarrs_prepare_grid(
     const uint64_t *shape, size_t shape_len,
     const uint8_t *chunk_grid, size_t chunk_grid_len,
     uint64_t *numbers, size_t numbers_len,
     size_t *needed);
 
-/* The calls above of a grid that is prepared: numbers are those that zarrs_prepare_grid wrote, all of them. They answer as the calls above, and
- * sooner: nothing is read but the numbers. Those that this version wrote are for this version alone, since their layout may change. Numbers may be
- * any: others than those of a grid are refused by ZARRS_NOT_PREPARED, or answered as if they were those of one, and such an answer means nothing. */
+/* Writes how many chunks are counted along each dimension: d numbers. */
 int32_t zarrs_prepared_grid_shape(
     const uint64_t *numbers, size_t numbers_len,
     uint64_t *grid_shape, size_t grid_shape_len);
 
+/* Writes the chunk of each element.
+ *
+ *   indices   n * d   the elements
+ *   chunks    n * d   the chunk that holds each element
+ *   found     n       0 if no chunk holds the element */
 int32_t zarrs_prepared_chunk_indices_of(
     const uint64_t *numbers, size_t numbers_len,
     const uint64_t *indices, size_t indices_len,
     uint64_t *chunks, size_t chunks_len,
     uint8_t *found, size_t found_len);
 
+/* Writes the chunk of each element, and the element's place in it.
+ *
+ *   indices   n * d   the elements
+ *   chunks    n * d   the chunk that holds each element
+ *   places    n * d   the element's index, counted from the chunk's first element
+ *   found     n       0 if no chunk holds the element */
 int32_t zarrs_prepared_homes_of(
     const uint64_t *numbers, size_t numbers_len,
     const uint64_t *indices, size_t indices_len,
@@ -164,6 +131,12 @@ int32_t zarrs_prepared_homes_of(
     uint64_t *places, size_t places_len,
     uint8_t *found, size_t found_len);
 
+/* Writes the box of each chunk.
+ *
+ *   chunks    n * d   the chunks
+ *   origins   n * d   the index of the chunk's first element
+ *   shapes    n * d   how many elements the chunk has along each dimension
+ *   found     n       0 if there is no such chunk, or if it ends past 18446744073709551615 */
 int32_t zarrs_prepared_chunk_boxes_of(
     const uint64_t *numbers, size_t numbers_len,
     const uint64_t *chunks, size_t chunks_len,
@@ -171,6 +144,14 @@ int32_t zarrs_prepared_chunk_boxes_of(
     uint64_t *shapes, size_t shapes_len,
     uint8_t *found, size_t found_len);
 
+/* Writes the cover of each box of elements: the box of all chunks that hold some of them. The cover of an empty box has no chunks.
+ *
+ *   starts         n * d   the first index of each box
+ *   shapes         n * d   the shape of each box
+ *   first_chunks   n * d   the first chunk of the cover
+ *   chunk_counts   n * d   how many chunks the cover has along each dimension
+ *   found          n       0 if the first or the last element of the box lies in no chunk
+ *   wrong          1       after ZARRS_NOT_A_BOX: the number of the first box that ends past 18446744073709551615, counted from 0 */
 int32_t zarrs_prepared_covers_of(
     const uint64_t *numbers, size_t numbers_len,
     const uint64_t *starts, size_t starts_len,
@@ -180,38 +161,24 @@ int32_t zarrs_prepared_covers_of(
     uint8_t *found, size_t found_len,
     size_t *wrong);
 
-/* The key of each chunk, one after another, without a byte between two. chunks: n * d; text: as many bytes as the keys have; offsets: n + 1,
- * where each key begins in the text, in bytes, and at last where the last one ends. *needed gets how many bytes the keys have.
- * ZARRS_SHORT_BUFFER where text is shorter: offsets and *needed are written all the same, and text isn't. */
-int32_t zarrs_keys_of(
-    const uint8_t *chunk_key_encoding, size_t chunk_key_encoding_len,
-    size_t dimensionality,
-    const uint64_t *chunks, size_t chunks_len,
-    uint8_t *text, size_t text_len,
-    uint64_t *offsets, size_t offsets_len,
-    size_t *needed);
-
-/* The chunk of each key: the one with d numbers whose key it is. text: the keys, one after another; offsets: n + 1, as zarrs_keys_of writes
- * them; chunks: n * d; found: n, 0 where a text is the key of no such chunk. The chunk may lie outside of the grid. ZARRS_WRONG_OFFSETS where offsets
- * descend or lie past the text, and *wrong gets the number of the first key of which they do, counted from 0. */
-int32_t zarrs_chunks_of_keys(
-    const uint8_t *chunk_key_encoding, size_t chunk_key_encoding_len,
-    size_t dimensionality,
-    const uint8_t *text, size_t text_len,
-    const uint64_t *offsets, size_t offsets_len,
-    uint64_t *chunks, size_t chunks_len,
-    uint8_t *found, size_t found_len,
-    size_t *wrong);
-
-/* The numbers of an encoding, for the two calls below. *needed gets how many they are: 3, and one for each byte of the suffix. ZARRS_SHORT_BUFFER
- * where they are more than numbers has room for: nothing is written to it. */
+/* Writes the numbers of an encoding, for the two calls below. They are kept and used as the numbers of a grid are.
+ *
+ *   needed   how many numbers there are: 3, and one for each byte of the suffix
+ *
+ * ZARRS_SHORT_BUFFER if numbers has room for fewer: nothing is written to it, but needed is written. */
 int32_t zarrs_prepare_encoding(
     const uint8_t *chunk_key_encoding, size_t chunk_key_encoding_len,
     uint64_t *numbers, size_t numbers_len,
     size_t *needed);
 
-/* The two calls above under an encoding that is prepared: numbers are those that zarrs_prepare_encoding wrote, all of them. What is said of the
- * numbers of a grid holds of these too. */
+/* Writes the key of each chunk, one after another, without a byte between two.
+ *
+ *   chunks    n * d   the chunks
+ *   text      needed  the keys
+ *   offsets   n + 1   where each key begins in the text, in bytes, and where the last one ends
+ *   needed    1       how many bytes the keys have
+ *
+ * ZARRS_SHORT_BUFFER if text is shorter than the keys: nothing is written to text, but offsets and needed are written. */
 int32_t zarrs_prepared_keys_of(
     const uint64_t *numbers, size_t numbers_len,
     size_t dimensionality,
@@ -220,6 +187,13 @@ int32_t zarrs_prepared_keys_of(
     uint64_t *offsets, size_t offsets_len,
     size_t *needed);
 
+/* Writes the chunk of each key: the chunk with d numbers that has this key. The chunk may lie outside of the grid.
+ *
+ *   text      any     the keys, one after another
+ *   offsets   n + 1   as zarrs_prepared_keys_of writes them
+ *   chunks    n * d   the chunk of each key
+ *   found     n       0 if a text is not the key of a chunk with d numbers
+ *   wrong     1       after ZARRS_WRONG_OFFSETS: the number of the first key whose offsets descend or lie past the text, counted from 0 */
 int32_t zarrs_prepared_chunks_of_keys(
     const uint64_t *numbers, size_t numbers_len,
     size_t dimensionality,
@@ -249,7 +223,7 @@ struct zarrs_part_buffers {
     uint64_t *in_chunk; size_t in_chunk_len; /* n * d: the part's first element, counted from that of the chunk */
     uint64_t *in_subset; size_t in_subset_len; /* n * d: the same, counted from that of the box */
     uint64_t *shapes; size_t shapes_len; /* n * d: the part's shape */
-    uint8_t *text; size_t text_len; /* the keys of the chunks, as zarrs_keys_of writes them */
+    uint8_t *text; size_t text_len; /* the keys of the chunks, as zarrs_prepared_keys_of writes them */
     uint64_t *offsets; size_t offsets_len; /* n + 1: where each key begins in the text, and at last where the last one ends */
     size_t needed; /* how many bytes the keys have */
     size_t count; /* how many parts are written */
@@ -277,7 +251,7 @@ int32_t zarrs_answer(
     uint8_t *line, size_t line_len,
     size_t *needed);
 
-/* Why metadata say no grid of an array of this shape. It answers the code that each call of this grid does, and writes it in words: *needed gets how
+/* Why metadata say no grid of an array of this shape. It answers the code that zarrs_prepare_grid does, and writes it in words: *needed gets how
  * many bytes they have, and where words is shorter, nothing is written to it. ZARRS_OK where they say one, and *needed is 0 then. */
 int32_t zarrs_grid_fault(
     const uint64_t *shape, size_t shape_len,

@@ -1,4 +1,4 @@
-/* Times one list a call from C: the chunk of an element, by the grid's metadata and by its numbers.
+/* Times one list a call from C: the chunk of an element, by the numbers of a prepared grid.
  *
  *     cc -O2 -Ibindings measure/one_list.c -Lbindings/out/llvm -lzarrs_chunks -Wl,-rpath,$PWD/bindings/out/llvm -o one_list && ./one_list
  *
@@ -17,15 +17,7 @@ enum { DIMENSIONS = 3, ROUNDS = 9 };
 static uint64_t shape[DIMENSIONS], indices[DIMENSIONS], chunks[DIMENSIONS], *numbers;
 static uint8_t found;
 static char *text;
-static size_t text_length, count;
-
-static int32_t by_metadata(void) {
-    return zarrs_chunk_indices_of(shape, DIMENSIONS, (uint8_t *)text, text_length, indices, DIMENSIONS, chunks, DIMENSIONS, &found, 1);
-}
-
-static int32_t by_numbers(void) {
-    return zarrs_prepared_chunk_indices_of(numbers, count, indices, DIMENSIONS, chunks, DIMENSIONS, &found, 1);
-}
+static size_t count;
 
 /* Another index each time, within the array. */
 static void next(uint64_t *state) {
@@ -35,7 +27,7 @@ static void next(uint64_t *state) {
     }
 }
 
-static double nanoseconds(int32_t call(void), size_t calls) {
+static double nanoseconds(size_t calls) {
     double least = 1e18;
     for (int round = 0; round < ROUNDS; round++) {
         uint64_t state = 1;
@@ -43,7 +35,8 @@ static double nanoseconds(int32_t call(void), size_t calls) {
         clock_gettime(CLOCK_MONOTONIC, &begin);
         for (size_t k = 0; k < calls; k++) {
             next(&state);
-            if (call() != ZARRS_OK || found != 1) exit(1);
+            int32_t code = zarrs_prepared_chunk_indices_of(numbers, count, indices, DIMENSIONS, chunks, DIMENSIONS, &found, 1);
+            if (code != ZARRS_OK || found != 1) exit(1);
         }
         clock_gettime(CLOCK_MONOTONIC, &end);
         double passed = (end.tv_sec - begin.tv_sec) * 1e9 + (end.tv_nsec - begin.tv_nsec);
@@ -73,7 +66,7 @@ static void make(size_t edges) {
         }
         at += sprintf(at, "]}}");
     }
-    text_length = at - text;
+    size_t text_length = at - text;
     zarrs_prepare_grid(shape, DIMENSIONS, (uint8_t *)text, text_length, NULL, 0, &count);
     numbers = realloc(numbers, count * sizeof *numbers);
     if (zarrs_prepare_grid(shape, DIMENSIONS, (uint8_t *)text, text_length, numbers, count, &count) != ZARRS_OK) exit(1);
@@ -81,10 +74,10 @@ static void make(size_t edges) {
 
 int main(void) {
     static const size_t edges[] = {0, 20, 200, 2000, 20000};
-    printf("%8s %12s %12s\n", "edges", "by metadata", "by numbers");
+    printf("%8s %12s\n", "edges", "nanoseconds");
     for (size_t k = 0; k < sizeof edges / sizeof *edges; k++) {
         make(edges[k]);
-        printf("%8zu %12.0f %12.0f\n", edges[k], nanoseconds(by_metadata, 10 + 1000000 / (100 + 50 * edges[k])), nanoseconds(by_numbers, 200000));
+        printf("%8zu %12.0f\n", edges[k], nanoseconds(200000));
     }
     free(text);
     free(numbers);

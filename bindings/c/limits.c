@@ -49,23 +49,16 @@ static int make_prepared_calls(const uint64_t *grid, size_t grid_len, const uint
 
 /* Makes every call. Answers how many ended otherwise than they should. */
 static int make_calls(const char *grid, const char *encoding, const char *question, int code) {
-    const uint64_t shape[2] = {5, 7}, index[2] = {4, 6}, box_shape[2] = {1, 1}, key_offsets[2] = {0, 5};
+    const uint64_t shape[2] = {5, 7}, index[2] = {4, 6}, box_shape[2] = {1, 1};
     const struct zarrs_stored_array array = {shape, 2, BYTES(grid), BYTES(encoding)};
     const struct zarrs_element_box box = {index, 2, box_shape, 2};
     uint64_t first[2], second[2], third[2], fourth[2], offsets[2];
-    uint8_t found, text[64];
+    uint8_t text[64];
     uint64_t numbers[16] = {0}, key_numbers[16] = {0};
     struct zarrs_part_buffers parts = {first, 2, second, 2, third, 2, fourth, 2, text, sizeof text, offsets, 2, 0, 0, 0, 0};
-    size_t needed, wrong, count, key_count;
+    size_t needed, count, key_count;
     int other = 0;
 
-    other += zarrs_grid_shape(shape, 2, BYTES(grid), first, 2) != code;
-    other += zarrs_chunk_indices_of(shape, 2, BYTES(grid), index, 2, first, 2, &found, 1) != code;
-    other += zarrs_homes_of(shape, 2, BYTES(grid), index, 2, first, 2, second, 2, &found, 1) != code;
-    other += zarrs_chunk_boxes_of(shape, 2, BYTES(grid), box_shape, 2, first, 2, second, 2, &found, 1) != code;
-    other += zarrs_covers_of(shape, 2, BYTES(grid), index, 2, box_shape, 2, first, 2, second, 2, &found, 1, &wrong) != code;
-    other += zarrs_keys_of(BYTES(encoding), 2, index, 2, text, sizeof text, offsets, 2, &needed) != code;
-    other += zarrs_chunks_of_keys(BYTES(encoding), 2, (const uint8_t *)"c/4/6", 5, key_offsets, 2, first, 2, &found, 1, &wrong) != code;
     other += zarrs_parts_of(&array, &box, 0, &parts) != code;
     other += zarrs_prepare_grid(shape, 2, BYTES(grid), numbers, 16, &count) != code;
     other += zarrs_prepare_encoding(BYTES(encoding), key_numbers, 16, &key_count) != code;

@@ -18,7 +18,7 @@ import numpy.typing as npt
 from . import _processor
 
 # The version of zarrs_chunks.h that the calls below are those of.
-VERSION = 2
+VERSION = 3
 
 OK, OUT_OF_MEMORY, WRONG_LENGTH, NOT_JSON, NOT_METADATA, REFUSED, NOT_A_BOX, WRONG_OFFSETS, SHORT_BUFFER, NOT_PREPARED = range(0, -10, -1)
 
@@ -51,6 +51,7 @@ NUMBER, SIZE, CODE, TOLD_SIZE = (ctypes.c_uint64,), (ctypes.c_size_t,), (ctypes.
 
 _GRID: dict[str, Any] = {"shape": NUMBERS, "chunk_grid": BYTES}
 _ENCODING: dict[str, Any] = {"chunk_key_encoding": BYTES}
+_PREPARED: dict[str, Any] = {"numbers": NUMBERS}
 
 
 def _struct(**kinds: Any) -> Any:
@@ -70,35 +71,28 @@ PartBuffers = _struct(
 STORED_ARRAY, ELEMENT_BOX, PART_BUFFERS = ((ctypes.POINTER(struct),) for struct in (StoredArray, ElementBox, PartBuffers))
 _STRUCTS = {STORED_ARRAY: StoredArray, ELEMENT_BOX: ElementBox, PART_BUFFERS: PartBuffers}
 
-# What is asked of a grid and of an encoding: the calls `zarrs_...` take their metadata before it, and `zarrs_prepared_...` their numbers.
-_ASKED_OF_GRID: dict[str, dict[str, Any]] = {
-    "grid_shape": {"grid_shape": WRITTEN_NUMBERS},
-    "chunk_indices_of": {"indices": NUMBERS, "chunks": WRITTEN_NUMBERS, "found": WRITTEN_BYTES},
-    "homes_of": {"indices": NUMBERS, "chunks": WRITTEN_NUMBERS, "places": WRITTEN_NUMBERS, "found": WRITTEN_BYTES},
-    "chunk_boxes_of": {"chunks": NUMBERS, "origins": WRITTEN_NUMBERS, "shapes": WRITTEN_NUMBERS, "found": WRITTEN_BYTES},
-    "covers_of": {
-        "starts": NUMBERS, "shapes": NUMBERS,
-        "first_chunks": WRITTEN_NUMBERS, "chunk_counts": WRITTEN_NUMBERS, "found": WRITTEN_BYTES, "wrong": TOLD_SIZE,
-    },
-}  # fmt: skip
-_ASKED_OF_ENCODING: dict[str, dict[str, Any]] = {
-    "keys_of": {"dimensionality": SIZE, "chunks": NUMBERS, "text": WRITTEN_BYTES, "offsets": WRITTEN_NUMBERS, "needed": TOLD_SIZE},
-    "chunks_of_keys": {
-        "dimensionality": SIZE, "text": BYTES, "offsets": NUMBERS,
-        "chunks": WRITTEN_NUMBERS, "found": WRITTEN_BYTES, "wrong": TOLD_SIZE,
-    },
-}  # fmt: skip
-
 # The calls of zarrs_chunks.h, with the names and the order of their arguments there. Each answers a code, and the first one the version.
 CALLS: dict[str, dict[str, Any]] = {
     "zarrs_abi_version": {},
     "zarrs_version": {"version": WRITTEN_BYTES, "needed": TOLD_SIZE},
-    **{f"zarrs_{name}": {**_GRID, **asked} for name, asked in _ASKED_OF_GRID.items()},
     "zarrs_prepare_grid": {**_GRID, "numbers": WRITTEN_NUMBERS, "needed": TOLD_SIZE},
-    **{f"zarrs_prepared_{name}": {"numbers": NUMBERS, **asked} for name, asked in _ASKED_OF_GRID.items()},
-    **{f"zarrs_{name}": {**_ENCODING, **asked} for name, asked in _ASKED_OF_ENCODING.items()},
+    "zarrs_prepared_grid_shape": {**_PREPARED, "grid_shape": WRITTEN_NUMBERS},
+    "zarrs_prepared_chunk_indices_of": {**_PREPARED, "indices": NUMBERS, "chunks": WRITTEN_NUMBERS, "found": WRITTEN_BYTES},
+    "zarrs_prepared_homes_of": {**_PREPARED, "indices": NUMBERS, "chunks": WRITTEN_NUMBERS, "places": WRITTEN_NUMBERS, "found": WRITTEN_BYTES},
+    "zarrs_prepared_chunk_boxes_of": {**_PREPARED, "chunks": NUMBERS, "origins": WRITTEN_NUMBERS, "shapes": WRITTEN_NUMBERS, "found": WRITTEN_BYTES},
+    "zarrs_prepared_covers_of": {
+        **_PREPARED, "starts": NUMBERS, "shapes": NUMBERS,
+        "first_chunks": WRITTEN_NUMBERS, "chunk_counts": WRITTEN_NUMBERS, "found": WRITTEN_BYTES, "wrong": TOLD_SIZE,
+    },
     "zarrs_prepare_encoding": {**_ENCODING, "numbers": WRITTEN_NUMBERS, "needed": TOLD_SIZE},
-    **{f"zarrs_prepared_{name}": {"numbers": NUMBERS, **asked} for name, asked in _ASKED_OF_ENCODING.items()},
+    "zarrs_prepared_keys_of": {
+        **_PREPARED, "dimensionality": SIZE, "chunks": NUMBERS,
+        "text": WRITTEN_BYTES, "offsets": WRITTEN_NUMBERS, "needed": TOLD_SIZE,
+    },
+    "zarrs_prepared_chunks_of_keys": {
+        **_PREPARED, "dimensionality": SIZE, "text": BYTES, "offsets": NUMBERS,
+        "chunks": WRITTEN_NUMBERS, "found": WRITTEN_BYTES, "wrong": TOLD_SIZE,
+    },
     "zarrs_parts_of": {"array": STORED_ARRAY, "elements": ELEMENT_BOX, "first": NUMBER, "buffers": PART_BUFFERS},
     "zarrs_answer": {"question": BYTES, "line": WRITTEN_BYTES, "needed": TOLD_SIZE},
     "zarrs_grid_fault": {**_GRID, "words": WRITTEN_BYTES, "needed": TOLD_SIZE},

@@ -1,13 +1,19 @@
 -- Lists of one length, one after another, and the answers of a batch.
 use Rattle.std.proofs.Common.{◌≡◌, ◌≢◌, ◌∙◌, ℕ, ◌+◌, ◌*◌, ◌<◌, ◌≤◌, Bool, true, false, List, drop, length, cond, slice_index_or, slice_set, take}
-use Rattle.std.proofs.Common.{⊎_elim, inl, inr, refl, ap, subst, sym, arith, add-mul}
+use Rattle.std.proofs.Common.{⊎_elim, inl, inr, refl, ap, subst, sym, arith, add-mul, below_more, mul-le-mul_right}
 use Rattle.std.proofs.Math.Nat.{mul_comm}
 use Rattle.std.proofs.lemmas.List.{drop-take, get_or-set_other, get_or-set_same, length-drop, length-take-le}
 use Rattle.std.proofs.lemmas.Bool.{cases_lt}
 use Rattle.std.proofs.lemmas.Slice.{drop-put_mid, take-put_mid_below}
 use borrow.Rule.Slice.PartMut.{put_mid}
 use Rattle.zarrs_chunk_batches.specs.Batch.{AreAnswered, AreAnsweredBelow, IsMarked, list_at}
-use Rattle.zarrs_chunk_batches.proofs.EachList.{ends_before}
+
+-- a list ends before those with a greater number begin
+pub ends_before : (width other number : ℕ) → other < number → other * width + width ≤ number * width
+ends_before width other number less =
+    let more = mul-le-mul_right {m = other + 1} {n = number} width (omega arith) in
+    let split = add-mul other 1 width in
+    omega arith
 
 -- a list that is written changes none with another number
 pub list_at-other : (width number start count : ℕ) (xs ys : List ℕ) → start ≡ number * width → count ≡ width → start ≤ length xs → length ys ≡ count
@@ -77,17 +83,14 @@ module _ (Answer : ℕ → List ℕ → List ℕ → Type 0) (None : ℕ → Typ
       → ((k : ℕ) → k ≢ number → list_at widths.1 second_after k ≡ list_at widths.1 second k)
       → IsMarked mark (Answer number (list_at widths.0 first_after number) (list_at widths.1 second_after number)) (None number)
       → AreAnsweredBelow (number + 1) Answer None widths first_after second_after (slice_set marks number mark)
-  answered_one_more first second first_after second_after marks number mark before within same_first same_second is k less =
-      ⊎_elim
-      (λ (earlier : k < number).
+  answered_one_more first second first_after second_after marks number mark before within same_first same_second is =
+      below_more
+      (λ k. IsMarked (slice_index_or (slice_set marks number mark) k 0)
+      (Answer k (list_at widths.0 first_after k) (list_at widths.1 second_after k)) (None k)) number
+      (λ k earlier.
       let other : k ≢ number = λ at. absurd (omega arith) in
       rw (same_first k other, same_second k other, get_or-set_other marks number k mark 0 (λ at. absurd (omega arith))) (before k earlier))
-      (λ (last : number ≤ k).
-      let at : number ≡ k = omega arith in
-      let own = get_or-set_same marks number mark 0 within in
-      subst (λ n. IsMarked (slice_index_or (slice_set marks number mark) n 0)
-      (Answer n (list_at widths.0 first_after n) (list_at widths.1 second_after n)) (None n)) at (rw own is))
-      (cases_lt k number)
+      (let own = get_or-set_same marks number mark 0 within in rw own is)
 
 -- answers that say more, and so do those that there is none
 pub answered_for : (A B : ℕ → List ℕ → List ℕ → Type 0) (None Nothing : ℕ → Type 0) (widths : ℕ × ℕ) (first second marks : List ℕ)

@@ -1,5 +1,5 @@
 -- Keys and other texts one after another.
-use Rattle.std.proofs.Common.{◌≡◌, ℕ, ◌+◌, ◌-◌, ◌<◌, ◌≤◌, List, [], ◌++◌, length, drop, take, slice_index_or, slice_set, ⊎_elim, subst, length-append}
+use Rattle.std.proofs.Common.{◌≡◌, ℕ, ◌+◌, ◌-◌, ◌<◌, ◌≤◌, List, [], ◌++◌, length, drop, take, slice_index_or, slice_set, ⊎_elim, below_more, length-append}
 use Rattle.std.proofs.Common.{arith}
 use Rattle.std.proofs.lemmas.Bool.{cases_lt}
 use Rattle.std.proofs.lemmas.List.{drop-append-le, get_or-set_other, get_or-set_same, length-drop, take-append-le}
@@ -65,12 +65,7 @@ module _ (IsText : ℕ → List ℕ → Type 0) where
       within = λ number le.
           ⊎_elim
           (λ below. let is = same number (omega arith) in let bound = before.within number (omega arith) in omega (arith, long))
-          (λ at. let is : number ≡ count + 1 = omega arith in rw (is, own) (omega arith))
+          (λ (at : count + 1 ≤ number). let is : number ≡ count + 1 = omega arith in rw (is, own) (omega arith))
           (cases_lt number (count + 1));
-      texts = λ number less.
-          ⊎_elim (earlier number)
-          (λ at.
-          let is : count ≡ number = omega arith in
-          subst (λ n. IsText n (text_at longer after n)) is (rw last_text is_text))
-          (cases_lt number count);
+      texts = below_more (λ number. IsText number (text_at longer after number)) count earlier (rw last_text is_text);
     }

@@ -1,5 +1,4 @@
 pub mod Batches
-pub mod EachList
 pub mod Ends
 pub mod JoinedKeys
 pub mod LongParts

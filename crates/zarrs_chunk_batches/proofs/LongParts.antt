@@ -1,6 +1,7 @@
 -- Parts of a plan: how many are found at most, and how long their lists are.
-use Rattle.std.proofs.Common.{◌≡◌, ◌⊎◌, ◌∙◌, ℕ, zero, suc, ◌-◌, ◌≤◌, List, [], ◌∷◌, drop, length, min, take, Option, Some, None, MatchOption, ap}
+use Rattle.std.proofs.Common.{◌≡◌, ◌⊎◌, ◌∙◌, ℕ, ◌-◌, ◌≤◌, List, [], ◌∷◌, drop, length, min, take, Option, Some, None, MatchOption, ap}
 use Rattle.std.proofs.Common.{⊎_elim, arith}
+use Rattle.std.proofs.lemmas.List.Elements.{All-drop, All-from_recursion, All-take, recursion_from_All}
 use Rattle.std.specs.List.{AllByRecursion, AllZip}
 use Rattle.zarrs_chunk_base.proofs.Boxes.{within_lengths}
 use Rattle.zarrs_chunk_base.proofs.InEach.{length_numbers, length_values}
@@ -19,16 +20,9 @@ use Rattle.zarrs_chunk_batches.specs.seen.Parts.{AreFoundParts, IsLongPart}
 
 -- ---- lists
 
-module _ {X : Type 0} (P : X → Type 0) where
-  all_taken : (n : ℕ) (xs : List X) → AllByRecursion P xs → AllByRecursion P (take n xs)
-  all_taken zero xs all = tt
-  all_taken (suc n) [] all = tt
-  all_taken (suc n) (x ∷ xs) all = (all.0, all_taken n xs all.1)
-
-  all_dropped : (n : ℕ) (xs : List X) → AllByRecursion P xs → AllByRecursion P (drop n xs)
-  all_dropped zero xs all = all
-  all_dropped (suc n) [] all = tt
-  all_dropped (suc n) (x ∷ xs) all = all_dropped n xs all.1
+all_taken : {X : Type 0} (P : X → Type 0) (first count : ℕ) (xs : List X) → AllByRecursion P xs → AllByRecursion P (take count (drop first xs))
+all_taken P first count xs all =
+    recursion_from_All P (take count (drop first xs)) (All-take P count (drop first xs) (All-drop P first xs (All-from_recursion P xs all)))
 
 all_zipped : {X Y : Type 0} (P : X → Type 0) (R : X → Y → Type 0) (Q : Y → Type 0) → ((x : X) (y : Y) → P x → R x y → Q y)
     → (xs : List X) (ys : List Y) → AllByRecursion P xs → AllZip R xs ys → AllByRecursion Q ys
@@ -68,7 +62,7 @@ module _ (ds : List Dimension) (IsKey : List ℕ → List ℕ → Type 0) (b : B
         in
         let meet = covered_meet ds b cover chains is_box (λ empty _. is_cover.1 empty) if_some in
         all_zipped (Meets ds b) (IsPart ds IsKey b) (IsLongPart (length ds)) long_part (take count (drop first (chunks_in cover))) some.parts.items
-        (all_taken (Meets ds b) count (drop first (chunks_in cover)) (all_dropped (Meets ds b) first (chunks_in cover) meet)) are.are_parts
+        (all_taken (Meets ds b) first count (chunks_in cover) meet) are.are_parts
 
     pub few_of_answer : (found : Option SomeParts) → MatchOption found (HasNoCover ds b) (AreFoundParts ds IsKey b first most)
         → MatchOption found (Unit {0}) (λ some. length some.parts.items ≤ most)

@@ -1,9 +1,9 @@
 -- Parts of a plan that were found, and what is written of them.
 use Rattle.std.proofs.Common.{◌≡◌, ◌≢◌, ◌⊎◌, ◌∙◌, ℕ, zero, suc, ◌+◌, ◌-◌, ◌*◌, ◌<◌, ◌≤◌, List, [], ◌∷◌, Option, Some, None, Ok, MatchOption}
-use Rattle.std.proofs.Common.{drop, get_or, length, min, take, inl, inr, ⊎_elim, refl, ap, subst, sym, arith, add-mul}
-use Rattle.std.proofs.lemmas.Bool.{cases_lt}
+use Rattle.std.proofs.Common.{below_more, drop, get_or, length, min, take, inl, inr, ⊎_elim, refl, ap, subst, sym, arith, add-mul}
 use Rattle.std.proofs.lemmas.List.{drop-drop, get_or-drop, get_or-take, length-drop, length-take}
 use Rattle.std.proofs.lemmas.Option.{get_or_from_slice_get}
+use Rattle.std.proofs.lemmas.Slice.Zip.{AllZip-long}
 use Rattle.std.specs.List.{AllZip, slice_get}
 use Rattle.zarrs_chunk_base.specs.ArraySubset.{Box, IsBox, IsEmptyBox, zero_box}
 use Rattle.zarrs_chunk_base.specs.Dimension.{Dimension}
@@ -87,24 +87,14 @@ pub written_more : (width number : ℕ) (parts : List Part) (part : Part) (befor
     → part ≡ get_or parts number part → IsWritten width part after number
     → ((k : ℕ) → k < number → (p : Part) → IsWritten width p before k → IsWritten width p after k)
     → AreWrittenBelow (number + 1) width parts after
-written_more width number parts part before after are is here earlier k less p found =
-    ⊎_elim (λ (below : k < number). earlier k below p (are k below p found))
-    (λ (last : number ≤ k).
-    let at : number ≡ k = omega arith in
-    let part_here : slice_get parts number ≡ Some p = ap (slice_get parts) at ∙ found in
-    let same : part ≡ p = is ∙ get_or_from_slice_get parts number p part part_here in
-    subst (λ n. IsWritten width p after n) at (subst (λ q. IsWritten width q after number) same here))
-    (cases_lt k number)
+written_more width number parts part before after are is here earlier =
+    below_more (λ k. (p : Part) → slice_get parts k ≡ Some p → IsWritten width p after k) number
+    (λ k below p found. earlier k below p (are k below p found))
+    (λ p found. subst (λ q. IsWritten width q after number) (is ∙ get_or_from_slice_get parts number p part found) here)
 
 -- ---- what is written of what was found
 
 module _ {X Y : Type 0} (R : X → Y → Type 0) where
-  as_long : (xs : List X) (ys : List Y) → AllZip R xs ys → length ys ≡ length xs
-  as_long [] [] are = refl
-  as_long (x ∷ xs) (y ∷ ys) are = ap suc (as_long xs ys are.1)
-  as_long [] (_ ∷ _) are = absurd are
-  as_long (_ ∷ _) [] are = absurd are
-
   at_place : (xs : List X) (ys : List Y) (k : ℕ) → AllZip R xs ys → k < length ys
       → (x : X) × ((y : Y) × (slice_get xs k ≡ Some x) × (slice_get ys k ≡ Some y) × R x y)
   at_place [] [] k are less = absurd (omega arith)
@@ -147,7 +137,7 @@ module _ (ds : List Dimension) (IsKey : List ℕ → List ℕ → Type 0) (subse
 
     pub count_is : length parts ≡ count
     count_is =
-        let same = as_long IsPartOf taken parts are.are_parts in
+        let same = AllZip-long IsPartOf taken parts are.are_parts in
         let long = length-take count (drop first chunks) in
         let rest = length-drop first chunks in
         let in_all = are.in_all in

@@ -6,7 +6,7 @@ use Rattle.zarrs_chunk_batches.specs.declared.codes.Fault.TheVariants.{Memory, L
 
 -- the version of the interface
 abbrev pub abi_version : ℤ
-abi_version = pos 2
+abi_version = pos 3
 
 -- the version of the library
 abbrev pub library_version : List ℕ

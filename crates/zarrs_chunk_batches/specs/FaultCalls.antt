@@ -10,7 +10,7 @@ use Rattle.zarrs_chunk_batches.specs.KeyCalls.{encoding_call, encoding_request}
 use Rattle.zarrs_chunk_batches.specs.declared.codes.Fault.{Fault}
 use Rattle.zarrs_chunk_batches.specs.declared.codes.Fault.TheVariants.{Extension, Short}
 
--- Why metadata says no grid: it ends as each call of a grid does. Of metadata that says one there are no words.
+-- Why metadata says no grid: it ends as the call that prepares the grid does. Of metadata that says one there are no words.
 abbrev pub grid_fault_call : (shape metadata : List ℕ) (needed : ℕ) → Call Grid
 grid_fault_call shape metadata needed = grid_call shape metadata (grid_request [] 0 RefusesNone (λ _. needed ≡ 0))
 

@@ -1,4 +1,4 @@
--- The calls of a chunk grid: what each is given, in the order of its parameters, and what answers it.
+-- What is asked of a chunk grid: what each request is given, in the order of the parameters of its call, and what answers it.
 -- Sources: Zarr V3 core, chunk grids.
 use Rattle.std.specs.Prelude.{◌≡◌, ℕ, List, [], ◌∷◌, length}
 use Rattle.zarrs_chunk_base.specs.ArraySubset.{Box, IsBox}
@@ -32,9 +32,6 @@ grid_call shape metadata = asks (IsNoGrid metadata shape) (SaysGrid metadata sha
 abbrev pub grid_shape_request : (grid_shape : List ℕ) → Request Grid
 grid_shape_request grid_shape = grid_request (length grid_shape ∷ []) 1 RefusesNone (λ grid. grid_shape ≡ grid_sizes grid.dimensions)
 
-abbrev pub grid_shape_call : (shape metadata grid_shape : List ℕ) → Call Grid
-grid_shape_call shape metadata grid_shape = grid_call shape metadata (grid_shape_request grid_shape)
-
 -- the chunk of each element
 abbrev pub AreChunksOf : List Dimension → (indices chunks marks : List ℕ) → Type 0
 AreChunksOf ds indices chunks marks =
@@ -44,9 +41,6 @@ AreChunksOf ds indices chunks marks =
 abbrev pub chunk_indices_request : (indices chunks marks : List ℕ) → Request Grid
 chunk_indices_request indices chunks marks =
     grid_request (length indices ∷ length chunks ∷ []) (length marks) RefusesNone (λ grid. AreChunksOf grid.dimensions indices chunks marks)
-
-abbrev pub chunk_indices_call : (shape metadata indices chunks marks : List ℕ) → Call Grid
-chunk_indices_call shape metadata indices chunks marks = grid_call shape metadata (chunk_indices_request indices chunks marks)
 
 -- the chunk of each element, and the place there
 abbrev pub AreHomesOf : List Dimension → (indices chunks places marks : List ℕ) → Type 0
@@ -59,9 +53,6 @@ homes_request indices chunks places marks =
     grid_request (length indices ∷ length chunks ∷ length places ∷ []) (length marks) RefusesNone
     (λ grid. AreHomesOf grid.dimensions indices chunks places marks)
 
-abbrev pub homes_call : (shape metadata indices chunks places marks : List ℕ) → Call Grid
-homes_call shape metadata indices chunks places marks = grid_call shape metadata (homes_request indices chunks places marks)
-
 -- the box of each chunk
 abbrev pub chunk_boxes_request : (chunks origins shapes marks : List ℕ) → Request Grid
 chunk_boxes_request chunks origins shapes marks =
@@ -72,9 +63,6 @@ chunk_boxes_request chunks origins shapes marks =
     (λ k origin sizes.
     Spans grid.dimensions (list_at width chunks k) (list_at width chunks k) (record { start = origin; shape = sizes }))
     (λ k. HasNoBox grid.dimensions (list_at width chunks k)) (width, width) origins shapes marks)
-
-abbrev pub chunk_boxes_call : (shape metadata chunks origins shapes marks : List ℕ) → Call Grid
-chunk_boxes_call shape metadata chunks origins shapes marks = grid_call shape metadata (chunk_boxes_request chunks origins shapes marks)
 
 -- the box of the start and the shape with this number
 abbrev pub box_asked : ℕ → (starts shapes : List ℕ) → ℕ → Box
@@ -93,7 +81,3 @@ covers_request starts shapes first_chunks chunk_counts marks wrong =
     × AreAnswered
     (λ k first counts. IsCoverOf grid.dimensions (box_asked width starts shapes k) (record { start = first; shape = counts }))
     (λ k. HasNoCover grid.dimensions (box_asked width starts shapes k)) (width, width) first_chunks chunk_counts marks)
-
-abbrev pub covers_call : (shape metadata starts shapes first_chunks chunk_counts marks : List ℕ) (wrong : ℕ) → Call Grid
-covers_call shape metadata starts shapes first_chunks chunk_counts marks wrong =
-    grid_call shape metadata (covers_request starts shapes first_chunks chunk_counts marks wrong)

@@ -1,4 +1,4 @@
--- The calls of a chunk key encoding: what each is given, in the order of its parameters, and what answers it.
+-- What is asked of a chunk key encoding: what each request is given, in the order of the parameters of its call, and what answers it.
 -- Sources: Zarr V3 core, chunk key encodings.
 use Rattle.std.specs.Prelude.{◌≡◌, ℕ, ◌+◌, ◌-◌, List, [], ◌∷◌, length}
 use Rattle.zarrs_chunk_keys.specs.ChunkKey.{Encoding, IsKey}
@@ -30,9 +30,6 @@ keys_request dimensionality chunks text offsets needed =
     × IsTooLong (λ keys. AreKeys (IsKey encoding) dimensionality (length offsets - 1) chunks keys offsets) text needed)
     (λ encoding. IsWhole (λ keys. AreKeys (IsKey encoding) dimensionality (length offsets - 1) chunks keys offsets) text needed)
 
-abbrev pub keys_call : (metadata : List ℕ) (dimensionality : ℕ) (chunks text offsets : List ℕ) (needed : ℕ) → Call Encoding
-keys_call metadata dimensionality chunks text offsets needed = encoding_call metadata (keys_request dimensionality chunks text offsets needed)
-
 -- the chunk of each key; the first key whose offsets descend or lie past the text is refused, and which it is is told
 abbrev pub chunks_of_keys_request : (dimensionality : ℕ) (text offsets chunks marks : List ℕ) (wrong : ℕ) → Request Encoding
 chunks_of_keys_request dimensionality text offsets chunks marks wrong =
@@ -43,7 +40,3 @@ chunks_of_keys_request dimensionality text offsets chunks marks wrong =
     × AreAnswered (λ k chunk _. IsChunkOf (IsKey encoding) dimensionality (text_at text offsets k) chunk)
     (λ k. (chunk : List ℕ) → ¬ IsChunkOf (IsKey encoding) dimensionality (text_at text offsets k) chunk)
     (dimensionality, 0) chunks [] marks)
-
-abbrev pub chunks_of_keys_call : (metadata : List ℕ) (dimensionality : ℕ) (text offsets chunks marks : List ℕ) (wrong : ℕ) → Call Encoding
-chunks_of_keys_call metadata dimensionality text offsets chunks marks wrong =
-    encoding_call metadata (chunks_of_keys_request dimensionality text offsets chunks marks wrong)

@@ -1,57 +1,13 @@
 //! A batch: many questions, each answered by two lists of numbers, or by none.
 ghost use Rattle.std.specs.Prelude.{◌≡◌, ◌≢◌, ◌⊎◌, ℕ, ◌*◌, ◌<◌, List, IfErr, IfOk, OnOk, cond, false, length};
-ghost use Rattle.zarrs_chunk_base.specs.Refusal.{MatchRefusal};
 ghost use Rattle.zarrs_chunk_batches.specs.Batch.{AreAnswered, AreKept, list_at};
 ghost use Rattle.zarrs_chunk_batches.specs.Calls.{AreQuestions, IsFirstWrong};
-ghost use Rattle.zarrs_chunk_batches.specs.declared.batch.Unanswered.TheVariants.{Memory as OutOfMemory, NoQuestion};
 ghost use Rattle.zarrs_chunk_batches.specs.declared.codes.Fault.{Fault as AnyFault};
 ghost use Rattle.zarrs_chunk_batches.specs.declared.codes.Fault.TheVariants.{Memory};
 ghost use Rattle.zarrs_chunk_batches.specs.seen.Lists.{HasList};
 
 use crate::codes::Fault;
-use std::alloc::{AllocError, Global};
-use zarrs_chunk_base::{IncompatibleDimensionalityError, Refusal};
-
-/// Why a question isn't answered.
-#[derive(Drop)]
-pub(crate) enum Unanswered {
-    /// Out of memory.
-    Memory,
-    /// What is asked is no question.
-    NoQuestion,
-}
-
-impl From<AllocError> for Unanswered {
-    ghost use Rattle.zarrs_chunk_batches.specs.declared.batch.Unanswered.TheVariants.{Memory as OutOfMemory};
-
-    ghost from_gives = { λ _ why. why ≡ OutOfMemory };
-
-    fn from(_error: AllocError) -> Unanswered {
-        Unanswered::Memory
-    }
-}
-
-/// A list of another length than there are dimensions is no question.
-impl From<IncompatibleDimensionalityError> for Unanswered {
-    ghost from_gives = { λ _ why. why ≡ NoQuestion };
-
-    fn from(_error: IncompatibleDimensionalityError) -> Unanswered {
-        Unanswered::NoQuestion
-    }
-}
-
-/// The same, or out of memory.
-impl From<Refusal<IncompatibleDimensionalityError>> for Unanswered {
-    ghost from_gives = { λ refusal why. MatchRefusal refusal
-        (λ _. why ≡ NoQuestion) (λ _. why ≡ OutOfMemory) };
-
-    fn from(refusal: Refusal<IncompatibleDimensionalityError>) -> Unanswered {
-        match refusal {
-            Refusal::Refused(_) => Unanswered::NoQuestion,
-            Refusal::Memory(_) => Unanswered::Memory,
-        }
-    }
-}
+use std::alloc::Global;
 
 /// Questions, numbered from 0, of a grid or of an encoding.
 pub(crate) trait Questions {
@@ -87,7 +43,7 @@ pub(crate) trait Questions {
         number: usize,
         first: &mut [u64],
         second: &mut [u64],
-    ) -> Result<bool, Unanswered>
+    ) -> Result<bool, Fault>
         requires given { given self.now number }
         requires first_long { length first.old ≡ (widths self.now).0 }
         requires second_long { length second.old ≡ (widths self.now).1 }
@@ -97,12 +53,8 @@ pub(crate) trait Questions {
         ensures kept { IfOk result (λ found. found ≡ false
             → (first.new ≡ first.old) × (second.new ≡ second.old)) }
         ensures asked { OnOk result (is_question self.now number) }
-        ensures refused { IfErr result (λ why. (why ≡ OutOfMemory)
-            ⊎ ((why ≡ NoQuestion) × ¬ is_question self.now number)) };
-
-    /// The fault of what isn't a question. Where all that can be asked is one, it is never told.
-    fn fault(&self) -> Fault
-        ensures { result ≡ fault self.now };
+        ensures refused { IfErr result (λ told. (told ≡ Memory)
+            ⊎ ((told ≡ fault self.now) × ¬ is_question self.now number)) };
 }
 
 /// Answers the questions that have a mark, in order. The answers go to lists of one length each, one after another, and each question's
@@ -135,10 +87,9 @@ pub(crate) fn answer_all<Q: Questions>(
     for number in 0..found.len() {
         match answer_one(alloc, questions, widths, number, first, second) {
             Ok(is_found) => found[number] = mark_of(is_found),
-            Err(Unanswered::Memory) => return Err(Fault::Memory),
-            Err(Unanswered::NoQuestion) => {
+            Err(fault) => {
                 *wrong = number;
-                return Err(questions.fault());
+                return Err(fault);
             }
         }
     }
@@ -156,7 +107,7 @@ fn answer_one<Q: Questions>(
     number: usize,
     first: &mut [u64],
     second: &mut [u64],
-) -> Result<bool, Unanswered>
+) -> Result<bool, Fault>
     requires given { Q.given questions.now number }
     requires widths { widths ≡ Q.widths questions.now }
     requires first_room { HasList widths.0 first.old number }
@@ -165,8 +116,8 @@ fn answer_one<Q: Questions>(
         (Q.answered questions.now number (list_at widths.0 first.new number)
         (list_at widths.1 second.new number)) (Q.unanswered questions.now number)) }
     ensures asked { OnOk result (Q.is_question questions.now number) }
-    ensures refused { IfErr result (λ why. (why ≡ OutOfMemory)
-        ⊎ ((why ≡ NoQuestion) × ¬ Q.is_question questions.now number)) }
+    ensures refused { IfErr result (λ told. (told ≡ Memory)
+        ⊎ ((told ≡ Q.fault questions.now) × ¬ Q.is_question questions.now number)) }
     ensures first_kept { IfOk result (λ found. found ≡ false → first.new ≡ first.old) }
     ensures second_kept { IfOk result (λ found. found ≡ false → second.new ≡ second.old) }
     ensures other_first { (k : ℕ) → k ≢ number

@@ -1,12 +1,11 @@
 //! What is asked of a chunk key encoding, key by key.
-ghost use Rattle.std.specs.Prelude.{ℕ, ◌+◌, ◌<◌, IfOk, List, MatchOption, length};
+ghost use Rattle.std.specs.Prelude.{◌≡◌, ℕ, ◌+◌, ◌<◌, IfOk, List, MatchOption, MatchResult, length};
 ghost use Rattle.zarrs_chunk_batches.specs.Asked.{IsChunkOf};
 ghost use Rattle.zarrs_chunk_batches.specs.Batch.{HasText, text_at};
 ghost use Rattle.zarrs_chunk_batches.specs.declared.codes.Fault.TheVariants.{Offsets};
 
-use crate::batch::{Questions, Unanswered};
+use crate::batch::Questions;
 use crate::codes::Fault;
-use crate::texts::text_of;
 use std::alloc::{AllocError, Global};
 use zarrs_chunk_base::{ArrayIndices, StoreKey};
 use zarrs_chunk_keys::ChunkKeyEncodingTraits;
@@ -47,20 +46,31 @@ impl<E: ChunkKeyEncodingTraits> Questions for ChunksOfKeys<'_, E> {
         number: usize,
         first: &mut [u64],
         _second: &mut [u64],
-    ) -> Result<bool, Unanswered> {
-        let Ok(key) = text_of(self.text, self.offsets, number) else {
-            return Err(Unanswered::NoQuestion);
-        };
+    ) -> Result<bool, Fault> {
+        let key = text_of(self.text, self.offsets, number)?;
         let Some(chunk) = chunk_of_key(alloc, self.encoding, self.dimensionality, key)? else {
             return Ok(false);
         };
         first.copy_from_slice(&chunk);
         Ok(true)
     }
+}
 
-    fn fault(&self) -> Fault {
-        Fault::Offsets
+/// Of texts one after another the one with this number, counted from 0: from its own offset up to the next one, in bytes.
+///
+/// # Errors
+/// The offsets descend, or the second lies past the text.
+fn text_of<'t>(text: &'t [u8], offsets: &[u64], number: usize) -> Result<&'t [u8], Fault>
+    requires { number + 1 < length offsets.now }
+    ensures value { IfOk result (λ part. part.now ≡ text_at text.now offsets.now number) }
+    ensures refused { MatchResult result (λ _. HasText text.now offsets.now number)
+        (λ fault. (fault ≡ Offsets) × ¬ HasText text.now offsets.now number) }
+{
+    let (start, end) = (offsets[number], offsets[number + 1]);
+    if start > end || end > text.len() as u64 {
+        return Err(Fault::Offsets);
     }
+    Ok(&text[start as usize..end as usize])
 }
 
 /// The chunk with this many numbers whose key some bytes are; `None` if there is none. Bytes that are no store key are the key of none.

@@ -1,18 +1,14 @@
 //! Batches of questions to chunk grids and chunk key encodings, over flat arrays.
 //!
-//! A grid is given as its array's shape and the bytes of its metadata, an encoding as the bytes of its metadata, each as in `zarr.json`.
-//! A batch is many lists of one length, one after another in one array. A call makes its grid and its encoding, answers all questions
-//! and keeps nothing; a grid and an encoding may also be prepared once, as numbers, for many calls. A call writes its answer, or ends with a
-//! [`Fault`]. Lengths are tested, so a call takes any buffers.
+//! A grid is prepared once from its array's shape and the bytes of its metadata, an encoding from the bytes of its metadata, each as in `zarr.json`.
+//! The caller keeps what is prepared, as numbers. A batch is many lists of one length, one after another in one array. Its call takes the numbers,
+//! answers all questions and keeps nothing. A call writes its answer, or ends with a [`Fault`]. Lengths are tested, so a call takes any buffers.
 //! `zarrs_chunks_c` exports the calls to C: [`code_of`] turns the end of a call into the code that C sees.
 //!
 //! | Module | What it holds |
 //! |---|---|
-//! | `grid_calls` | the calls of a grid that metadata says: `grid_shape_of`, `chunk_indices_of`, `homes_of`, `chunk_boxes_of`, `covers_of` |
-//! | `prepared_calls` | `prepare_grid` |
-//! | `prepared_grid` | the calls of a prepared grid: `grid_shape_in`, `chunk_indices_in`, `homes_in`, `chunk_boxes_in`, `covers_in` |
-//! | `key_calls` | the calls of an encoding that metadata says: `keys_of`, `chunks_of_keys` |
-//! | `prepared_key_calls` | `prepare_encoding`, and the calls of a prepared encoding: `keys_in`, `chunks_in` |
+//! | `grid_calls` | `prepare_grid`, and the calls of a prepared grid: `grid_shape_in`, `chunk_indices_in`, `homes_in`, `chunk_boxes_in`, `covers_in` |
+//! | `key_calls` | `prepare_encoding`, and the calls of a prepared encoding: `keys_in`, `chunks_in` |
 //! | `plan_call` | `parts_of`: the plan of reading a box |
 //! | `answer_call` | `answer_line`: any question as text |
 //! | `fault_calls` | `grid_fault`, `encoding_fault`, `code_words`: why a call is refused, in words |
@@ -20,10 +16,9 @@
 //! | `batch` | the loop over the questions of a batch |
 //! | `lists` | lists of one length, one after another |
 //! | `parts` | parts of a plan, one after another |
-//! | `texts` | texts one after another |
 //! | `buffers` | what is written to the front of a buffer |
 //! | `questions` | what is asked of a prepared grid, list by list |
-//! | `keys` | the keys of chunks, and the chunks of keys, under an encoding |
+//! | `keys` | the keys of chunks, one after another |
 //! | `key_questions` | what is asked of an encoding, key by key |
 //! | `metadata` | the grid and the encoding that metadata says |
 //! | `codes` | why a call is refused, the code of it, and what the code says |
@@ -42,21 +37,16 @@ mod lists;
 mod metadata;
 mod parts;
 mod plan_call;
-mod prepared_calls;
-mod prepared_grid;
-mod prepared_key_calls;
 mod questions;
 mod structs;
-mod texts;
 
 pub use answer_call::answer_line;
 pub use buffers::write_text;
 pub use codes::{Fault, code_of};
 pub use fault_calls::{code_words, encoding_fault, grid_fault};
-pub use grid_calls::{chunk_boxes_of, chunk_indices_of, covers_of, grid_shape_of, homes_of};
-pub use key_calls::{chunks_of_keys, keys_of};
+pub use grid_calls::{
+    chunk_boxes_in, chunk_indices_in, covers_in, grid_shape_in, homes_in, prepare_grid,
+};
+pub use key_calls::{chunks_in, keys_in, prepare_encoding};
 pub use plan_call::parts_of;
-pub use prepared_calls::prepare_grid;
-pub use prepared_grid::{chunk_boxes_in, chunk_indices_in, covers_in, grid_shape_in, homes_in};
-pub use prepared_key_calls::{chunks_in, keys_in, prepare_encoding};
 pub use structs::{ElementBox, PartBuffers, StoredArray};

@@ -3,12 +3,10 @@ ghost use Rattle.serde_json.specs.Data.{Data, depth};
 ghost use Rattle.serde_json.specs.Read.{max_depth};
 ghost use Rattle.serde_json.specs.View.{view};
 ghost use Rattle.std.specs.Prelude.{◌≡◌, ◌⊎◌, ◌≤◌, IfErr, IfOk, MatchResult, length};
-ghost use Rattle.zarrs_chunk_base.specs.Grid.{Grid};
 ghost use Rattle.zarrs_chunk_base.specs.Json.{IsJsonOf};
 ghost use Rattle.zarrs_chunk_batches.specs.Said.{IsNoEncoding, IsNoGrid, SaysEncoding, SaysGrid};
 ghost use Rattle.zarrs_chunk_batches.specs.declared.codes.Fault.TheVariants.{Memory, NotJson};
 ghost use Rattle.zarrs_chunk_keys.specs.seen.Encodings.{encoding_in};
-ghost use Rattle.zarrs_chunk_prepared.specs.Prepared.{IsPreparedGrid};
 ghost use Rattle.zarrs_chunks.specs.seen.Grids.{grid_in};
 
 use crate::codes::Fault;
@@ -17,24 +15,6 @@ use std::alloc::Global;
 use zarrs_chunk_base::read_json;
 use zarrs_chunk_keys::ChunkKeyEncoding;
 use zarrs_chunks::ChunkGrid;
-
-/// The numbers of the grid that metadata says, of an array of this shape.
-///
-/// # Errors
-/// The text isn't JSON, or no extension's metadata, or the grid can't be made; or out of memory.
-pub(crate) fn numbers_of_grid(
-    alloc: Global,
-    shape: &[u64],
-    chunk_grid: &[u8],
-) -> Result<Vec<u64>, Fault>
-    ensures { MatchResult result
-        (λ numbers. (grid : Grid) × SaysGrid chunk_grid.now shape.now grid
-        × IsPreparedGrid numbers.items grid × (length grid.dimensions ≡ length shape.now))
-        (λ fault. (fault ≡ Memory) ⊎ IsNoGrid chunk_grid.now shape.now fault) }
-{
-    let grid = grid_of(alloc, shape, chunk_grid)?;
-    Ok(zarrs_chunk_prepared::prepare_grid(alloc, &grid)?)
-}
 
 /// The grid that metadata says, of an array of this shape.
 ///

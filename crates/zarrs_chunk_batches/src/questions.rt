@@ -1,5 +1,5 @@
 //! What is asked of a prepared grid, list by list.
-ghost use Rattle.std.specs.Prelude.{◌≡◌, ◌⊎◌, cond, IfErr, IfOk, MatchOption};
+ghost use Rattle.std.specs.Prelude.{◌≡◌, ◌⊎◌, cond, IfErr, IfOk};
 ghost use Rattle.zarrs_chunk_base.specs.ArraySubset.{IsBox};
 ghost use Rattle.zarrs_chunk_base.specs.Grid.{Grid};
 ghost use Rattle.zarrs_chunk_batches.specs.Batch.{list_at};
@@ -10,10 +10,10 @@ ghost use Rattle.zarrs_chunk_prepared.specs.LookedUp.{HasNoCover, IsCoverOf, IsH
 ghost use Rattle.zarrs_chunk_prepared.specs.seen.PreparedGrid.{IsReadOf, width_of};
 ghost use Rattle.zarrs_chunks.specs.Subsets.{HasNoBox, HasNoHome, Spans};
 
-use crate::batch::{Questions, Unanswered};
+use crate::batch::Questions;
 use crate::codes::Fault;
 use crate::lists::list_of;
-use std::alloc::{AllocError, Global};
+use std::alloc::Global;
 use zarrs_chunk_base::ArraySubset;
 use zarrs_chunk_prepared::PreparedGrid;
 
@@ -57,13 +57,9 @@ impl Questions for Homes<'_> {
         number: usize,
         first: &mut [u64],
         second: &mut [u64],
-    ) -> Result<bool, Unanswered> {
+    ) -> Result<bool, Fault> {
         let index = list_of(self.indices, self.grid.dimensionality(), number);
         Ok(self.grid.find_home(index, first, second)?)
-    }
-
-    fn fault(&self) -> Fault {
-        Fault::Memory
     }
 }
 
@@ -100,13 +96,9 @@ impl Questions for ChunkBoxes<'_> {
         number: usize,
         first: &mut [u64],
         second: &mut [u64],
-    ) -> Result<bool, Unanswered> {
+    ) -> Result<bool, Fault> {
         let chunk = list_of(self.chunks, self.grid.dimensionality(), number);
         Ok(self.grid.find_box(chunk, first, second)?)
-    }
-
-    fn fault(&self) -> Fault {
-        Fault::Memory
     }
 }
 
@@ -148,17 +140,11 @@ impl Questions for Covers<'_> {
         number: usize,
         first: &mut [u64],
         second: &mut [u64],
-    ) -> Result<bool, Unanswered> {
+    ) -> Result<bool, Fault> {
         let start = list_of(self.starts, self.grid.dimensionality(), number);
         let shape = list_of(self.shapes, self.grid.dimensionality(), number);
-        let Some(elements) = made_box(alloc, start, shape)? else {
-            return Err(Unanswered::NoQuestion);
-        };
+        let elements = box_of(alloc, start, shape)?;
         Ok(self.grid.find_cover(alloc, &elements, first, second)?)
-    }
-
-    fn fault(&self) -> Fault {
-        Fault::NotBox
     }
 }
 
@@ -173,22 +159,10 @@ pub(crate) fn box_of(alloc: Global, start: &[u64], shape: &[u64]) -> Result<Arra
     ensures refused { IfErr result (λ fault. (fault ≡ Memory) ⊎ ((fault ≡ NotBox)
         × ¬ IsBox (record { start = start.now; shape = shape.now }))) }
 {
-    match made_box(alloc, start, shape)? {
-        Some(subset) => Ok(subset),
-        None => Err(Fault::NotBox),
-    }
-}
-
-/// The same, or `None` where there is no such box.
-///
-/// # Errors
-/// Out of memory.
-fn made_box(alloc: Global, start: &[u64], shape: &[u64]) -> Result<Option<ArraySubset>, AllocError>
-    ensures { IfOk result (λ made. MatchOption made
-        (¬ IsBox (record { start = start.now; shape = shape.now }))
-        (λ subset. (subset ≡ record { start = start.now; shape = shape.now }) × IsBox subset)) }
-{
     let start = Vec::from_slice(alloc, start)?;
     let shape = Vec::from_slice(alloc, shape)?;
-    Ok(ArraySubset::new_with_start_shape(start, shape).ok())
+    match ArraySubset::new_with_start_shape(start, shape) {
+        Ok(subset) => Ok(subset),
+        Err(_) => Err(Fault::NotBox),
+    }
 }

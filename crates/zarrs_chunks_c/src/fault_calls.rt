@@ -8,7 +8,8 @@ ghost use Rattle.zarrs_chunk_batches.specs.declared.codes.Fault.TheVariants.{Mem
 use std::alloc::Global;
 use zarrs_chunk_batches::{code_of, code_words, encoding_fault, grid_fault};
 
-/// Why metadata says no grid of an array of this shape: the code that each call ends with, and words. Where it says one, there are none.
+/// Writes why metadata says no grid of an array of this shape, in words, and ends with the code of `zarrs_prepare_grid`. If it says a grid, there are
+/// no words.
 #[unsafe(no_mangle)]
 pub extern "C" fn zarrs_grid_fault(
     alloc: Global,
@@ -26,7 +27,7 @@ pub extern "C" fn zarrs_grid_fault(
     code_of(grid_fault(alloc, shape, chunk_grid, words, needed))
 }
 
-/// Why metadata says no encoding: the code that each call ends with, and words. Where it says one, there are none.
+/// Writes why metadata says no encoding, in words, and ends with the code of `zarrs_prepare_encoding`. If it says an encoding, there are no words.
 #[unsafe(no_mangle)]
 pub extern "C" fn zarrs_encoding_fault(
     alloc: Global,

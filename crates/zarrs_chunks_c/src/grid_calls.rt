@@ -1,95 +1,108 @@
-//! The calls of a chunk grid that metadata says.
-ghost use Rattle.std.specs.Prelude.{OnOk, length};
-ghost use Rattle.zarrs_chunk_batches.specs.Batch.{AreKept};
-ghost use Rattle.zarrs_chunk_batches.specs.Calls.{IsEndOf};
+//! The calls of a prepared grid, and the call that prepares one.
+ghost use Rattle.std.specs.Prelude.{◌≡◌, OnOk, drop};
+ghost use Rattle.zarrs_chunk_batches.specs.Calls.{IfWritten, IsEndOf, IsKeptIfShort};
 ghost use Rattle.zarrs_chunk_batches.specs.Codes.{Ends};
-ghost use Rattle.zarrs_chunk_batches.specs.GridCalls.{chunk_boxes_call, chunk_indices_call, covers_call, grid_shape_call, homes_call};
+ghost use Rattle.zarrs_chunk_batches.specs.GridCalls.{chunk_boxes_request, chunk_indices_request, covers_request, grid_shape_request, homes_request};
+ghost use Rattle.zarrs_chunk_batches.specs.PreparedCalls.{AreKeptForPrepared, EndsForPrepared, prepare_grid_call};
 
 use std::alloc::Global;
 use zarrs_chunk_batches::{
-    chunk_boxes_of, chunk_indices_of, code_of, covers_of, grid_shape_of, homes_of,
+    chunk_boxes_in, chunk_indices_in, code_of, covers_in, grid_shape_in, homes_in, prepare_grid,
 };
 
-/// How many chunks are counted along each dimension.
+/// The numbers of the grid, by which the calls of a prepared grid answer as it does.
 #[unsafe(no_mangle)]
-pub extern "C" fn zarrs_grid_shape(
+pub extern "C" fn zarrs_prepare_grid(
     alloc: Global,
     shape: &[u64],
     chunk_grid: &[u8],
+    numbers: &mut [u64],
+    needed: &mut usize,
+) -> i32
+    ensures ends { Ends (IsEndOf (prepare_grid_call
+        shape.now chunk_grid.now numbers.new needed.new)) result }
+    ensures kept_if_short { Ends (IsKeptIfShort numbers.old numbers.new) result }
+    ensures kept_behind { Ends (λ end. IfWritten
+        (drop needed.new numbers.new ≡ drop needed.new numbers.old) end) result }
+{
+    code_of(prepare_grid(alloc, shape, chunk_grid, numbers, needed))
+}
+
+/// How many chunks are counted along each dimension.
+#[unsafe(no_mangle)]
+pub extern "C" fn zarrs_prepared_grid_shape(
+    alloc: Global,
+    numbers: &[u64],
     grid_shape: &mut [u64],
 ) -> i32
-    ensures { Ends (IsEndOf (grid_shape_call
-        shape.now chunk_grid.now grid_shape.new)) result }
+    ensures { Ends (EndsForPrepared numbers.now
+        (grid_shape_request grid_shape.new)) result }
 {
-    code_of(grid_shape_of(alloc, shape, chunk_grid, grid_shape))
+    code_of(grid_shape_in(alloc, numbers, grid_shape))
 }
 
 /// The chunk of each element.
 #[unsafe(no_mangle)]
-pub extern "C" fn zarrs_chunk_indices_of(
+pub extern "C" fn zarrs_prepared_chunk_indices_of(
     alloc: Global,
-    shape: &[u64],
-    chunk_grid: &[u8],
+    numbers: &[u64],
     indices: &[u64],
     chunks: &mut [u64],
     found: &mut [u8],
 ) -> i32
-    ensures ends { Ends (IsEndOf (chunk_indices_call
-        shape.now chunk_grid.now indices.now chunks.new found.new)) result }
+    ensures ends { Ends (EndsForPrepared numbers.now
+        (chunk_indices_request indices.now chunks.new found.new)) result }
     ensures chunks_kept { Ends (λ end. OnOk end
-        (AreKept (length shape.now) chunks.old chunks.new found.new)) result }
+        (AreKeptForPrepared numbers.now chunks.old chunks.new found.new)) result }
 {
-    code_of(chunk_indices_of(alloc, shape, chunk_grid, indices, chunks, found))
+    code_of(chunk_indices_in(alloc, numbers, indices, chunks, found))
 }
 
 /// The chunk of each element, and the element's place there.
 #[unsafe(no_mangle)]
-pub extern "C" fn zarrs_homes_of(
+pub extern "C" fn zarrs_prepared_homes_of(
     alloc: Global,
-    shape: &[u64],
-    chunk_grid: &[u8],
+    numbers: &[u64],
     indices: &[u64],
     chunks: &mut [u64],
     places: &mut [u64],
     found: &mut [u8],
 ) -> i32
-    ensures ends { Ends (IsEndOf (homes_call
-        shape.now chunk_grid.now indices.now chunks.new places.new found.new)) result }
+    ensures ends { Ends (EndsForPrepared numbers.now
+        (homes_request indices.now chunks.new places.new found.new)) result }
     ensures chunks_kept { Ends (λ end. OnOk end
-        (AreKept (length shape.now) chunks.old chunks.new found.new)) result }
+        (AreKeptForPrepared numbers.now chunks.old chunks.new found.new)) result }
     ensures places_kept { Ends (λ end. OnOk end
-        (AreKept (length shape.now) places.old places.new found.new)) result }
+        (AreKeptForPrepared numbers.now places.old places.new found.new)) result }
 {
-    code_of(homes_of(alloc, shape, chunk_grid, indices, chunks, places, found))
+    code_of(homes_in(alloc, numbers, indices, chunks, places, found))
 }
 
 /// The box of each chunk, as its origin and its shape.
 #[unsafe(no_mangle)]
-pub extern "C" fn zarrs_chunk_boxes_of(
+pub extern "C" fn zarrs_prepared_chunk_boxes_of(
     alloc: Global,
-    shape: &[u64],
-    chunk_grid: &[u8],
+    numbers: &[u64],
     chunks: &[u64],
     origins: &mut [u64],
     shapes: &mut [u64],
     found: &mut [u8],
 ) -> i32
-    ensures ends { Ends (IsEndOf (chunk_boxes_call
-        shape.now chunk_grid.now chunks.now origins.new shapes.new found.new)) result }
+    ensures ends { Ends (EndsForPrepared numbers.now
+        (chunk_boxes_request chunks.now origins.new shapes.new found.new)) result }
     ensures origins_kept { Ends (λ end. OnOk end
-        (AreKept (length shape.now) origins.old origins.new found.new)) result }
+        (AreKeptForPrepared numbers.now origins.old origins.new found.new)) result }
     ensures shapes_kept { Ends (λ end. OnOk end
-        (AreKept (length shape.now) shapes.old shapes.new found.new)) result }
+        (AreKeptForPrepared numbers.now shapes.old shapes.new found.new)) result }
 {
-    code_of(chunk_boxes_of(alloc, shape, chunk_grid, chunks, origins, shapes, found))
+    code_of(chunk_boxes_in(alloc, numbers, chunks, origins, shapes, found))
 }
 
-/// The cover of each box of elements: the box of the chunks that hold some of them. Which box is the first that is none is told as `wrong`.
+/// The cover of each box of elements. `wrong` says which box is the first that ends past 18446744073709551615.
 #[unsafe(no_mangle)]
-pub extern "C" fn zarrs_covers_of(
+pub extern "C" fn zarrs_prepared_covers_of(
     alloc: Global,
-    shape: &[u64],
-    chunk_grid: &[u8],
+    numbers: &[u64],
     starts: &[u64],
     shapes: &[u64],
     first_chunks: &mut [u64],
@@ -97,18 +110,17 @@ pub extern "C" fn zarrs_covers_of(
     found: &mut [u8],
     wrong: &mut usize,
 ) -> i32
-    ensures ends { Ends (IsEndOf (covers_call
-        shape.now chunk_grid.now starts.now shapes.now
+    ensures ends { Ends (EndsForPrepared numbers.now
+        (covers_request starts.now shapes.now
         first_chunks.new chunk_counts.new found.new wrong.new)) result }
     ensures first_chunks_kept { Ends (λ end. OnOk end
-        (AreKept (length shape.now) first_chunks.old first_chunks.new found.new)) result }
+        (AreKeptForPrepared numbers.now first_chunks.old first_chunks.new found.new)) result }
     ensures chunk_counts_kept { Ends (λ end. OnOk end
-        (AreKept (length shape.now) chunk_counts.old chunk_counts.new found.new)) result }
+        (AreKeptForPrepared numbers.now chunk_counts.old chunk_counts.new found.new)) result }
 {
-    code_of(covers_of(
+    code_of(covers_in(
         alloc,
-        shape,
-        chunk_grid,
+        numbers,
         starts,
         shapes,
         first_chunks,

@@ -14,7 +14,7 @@ const VERSION: &str = "0.1.0";
 pub extern "C" fn zarrs_abi_version() -> i32
     ensures { result ≡ abi_version }
 {
-    2
+    3
 }
 
 /// The version of the library.

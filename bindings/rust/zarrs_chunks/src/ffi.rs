@@ -2,7 +2,7 @@
 //! takes and writes. An array is a pointer and the number of its items.
 
 /// The version of the header that these declarations are those of.
-pub(crate) const ABI_VERSION: i32 = 2;
+pub(crate) const ABI_VERSION: i32 = 3;
 /// How many bytes of stack a call needs at most.
 pub(crate) const STACK: usize = 163_840;
 

@@ -11,7 +11,7 @@ use crate::ffi;
 /// # Example
 ///
 /// ```
-/// assert_eq!(zarrs_chunks::ABI_VERSION, 2);
+/// assert_eq!(zarrs_chunks::ABI_VERSION, 3);
 /// ```
 pub const ABI_VERSION: i32 = ffi::ABI_VERSION;
 

@@ -589,8 +589,8 @@ fn errors_are_errors_with_words() {
         (Error::OutOfMemory, "out of memory"),
         (Error::TooLong { most: 1 << 30 }, "the answer is longer than 1073741824 bytes"),
         (
-            Error::WrongVersion { found: 3 },
-            "the library has the version 3 of the calls, and this crate is for the version 2",
+            Error::WrongVersion { found: 2 },
+            "the library has the version 2 of the calls, and this crate is for the version 3",
         ),
         (
             Error::WrongProcessor { missing: "sse4_2" },
@@ -610,7 +610,7 @@ fn errors_are_errors_with_words() {
         assert_eq!(error.to_string(), expected);
         assert!(error.source().is_none());
     }
-    assert_eq!((abi_version(), ABI_VERSION, STACK), (2, 2, 163_840));
+    assert_eq!((abi_version(), ABI_VERSION, STACK), (3, 3, 163_840));
 }
 
 #[test]

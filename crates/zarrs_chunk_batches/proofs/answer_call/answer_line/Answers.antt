@@ -1,9 +1,9 @@
 use Rattle.std.proofs.Common.{inl, inr, ⊎_elim, refl, subst, sym}
-use Rattle.std.proofs.lemmas.Result.{IfErr-weaker}
+use Rattle.std.proofs.lemmas.Result.{MatchResult-weaker}
 use Rattle.zarrs_chunk_batches.specs.Calls.{late}
 use Rattle.zarrs_chunk_questions.specs.AnswerLine.{IsAnswerTo}
 use Rattle.zarrs_chunk_batches.specs.PlanCall.{answer_call}
-use Rattle.zarrs_chunk_batches.proofs.Ends.{ends_late, is_too_long, is_whole}
+use Rattle.zarrs_chunk_batches.proofs.Ends.{ends_with, in_front}
 use Rattle.zarrs_chunk_batches.proofs.answer_call.answer_line.Goals as goal
 
 pub returns-in_default-clause-ends : goal.returns-in_default-clause-ends
@@ -17,7 +17,7 @@ returns-clause-ends c =
     let told = c.write_front.ensures in
     let found = c.in_ok-answer.ensures in
     let is_answer = subst (IsAnswerTo question) (sym c.deref.ensures.value) (rw c.in-Some.is at found.one, rw c.in-Some.is at found.says) in
-    ends_late (answer_call question wrote.buffer wrote.needed) tt c.write_front.result tt tt
-    (is_whole (IsAnswerTo question) line wrote.buffer wrote.needed told.told is_answer c.write_front.result told.fits told.written)
-    (IfErr-weaker c.write_front.result _ _ (λ fault is. ⊎_elim (λ memory. inl memory) (λ short. inr (short.0, inl short.1)) is)
-    (is_too_long (IsAnswerTo question) line wrote.buffer wrote.needed told.told is_answer c.write_front.result told.short))
+    ends_with (answer_call question wrote.buffer wrote.needed) tt c.write_front.result tt tt
+    (MatchResult-weaker c.write_front.result
+    (in_front (IsAnswerTo question) line wrote.buffer wrote.needed c.write_front.result told.told is_answer told.fits told.written told.short)
+    (λ _ whole. whole) (λ fault is. ⊎_elim (λ memory. inl memory) (λ short. inr (short.0, inl short.1)) is))

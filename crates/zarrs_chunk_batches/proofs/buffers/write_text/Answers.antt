@@ -1,6 +1,6 @@
 use Rattle.std.proofs.Common.{◌≡◌}
 use Rattle.zarrs_chunk_batches.specs.FaultCalls.{text_call}
-use Rattle.zarrs_chunk_batches.proofs.Ends.{ends_late, is_too_long, is_whole}
+use Rattle.zarrs_chunk_batches.proofs.Ends.{ends_with, in_front}
 use Rattle.zarrs_chunk_batches.proofs.buffers.write_text.Goals as goal
 
 pub returns-clause-ends : goal.returns-clause-ends
@@ -9,6 +9,5 @@ returns-clause-ends c =
     let says : bytes ≡ c.args.text.now = c.as_bytes.ensures.value in
     let wrote = c.write_front.new in
     let told = c.write_front.ensures in
-    ends_late (text_call c.args.text.now wrote.buffer wrote.needed) tt c.write_front.result tt tt
-    (is_whole (λ t. t ≡ c.args.text.now) bytes wrote.buffer wrote.needed told.told says c.write_front.result told.fits told.written)
-    (is_too_long (λ t. t ≡ c.args.text.now) bytes wrote.buffer wrote.needed told.told says c.write_front.result told.short)
+    ends_with (text_call c.args.text.now wrote.buffer wrote.needed) tt c.write_front.result tt tt
+    (in_front (λ t. t ≡ c.args.text.now) bytes wrote.buffer wrote.needed c.write_front.result told.told says told.fits told.written told.short)

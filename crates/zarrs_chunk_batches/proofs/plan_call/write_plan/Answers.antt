@@ -1,13 +1,13 @@
 use Rattle.std.proofs.Common.{◌≡◌, ◌-◌, ap, inl, inr, length, refl, string_bytes, subst, sym, ⊎_elim, arith}
-use Rattle.std.proofs.lemmas.Result.{IfErr-weaker, MatchResult-from_both, on_ok_weaker}
+use Rattle.std.proofs.lemmas.Result.{MatchResult-weaker}
 use Rattle.std.proofs.Math.Nat.{mul_comm}
 use borrow.Rule.Slice.Mut.{set_vals}
 use Rattle.zarrs_chunk_batches.specs.Batch.{AreTexts}
 use Rattle.zarrs_chunk_batches.specs.Parts.{IsPlanWith}
 use Rattle.zarrs_chunk_batches.specs.declared.structs.PartBuffers.{PartBuffers}
 use Rattle.zarrs_chunk_batches.specs.seen.Parts.{AreWrittenBelow, IsKeyOf}
-use Rattle.zarrs_chunk_batches.proofs.EachList.{ends_before}
-use Rattle.zarrs_chunk_batches.proofs.Ends.{is_too_long, is_whole}
+use Rattle.zarrs_chunk_batches.proofs.Batches.{ends_before}
+use Rattle.zarrs_chunk_batches.proofs.Ends.{in_front}
 use Rattle.zarrs_chunk_batches.proofs.Planned.{all_written}
 use Rattle.zarrs_chunk_batches.proofs.plan_call.write_plan.Goals as goal
 
@@ -57,8 +57,6 @@ returns-clause-ends g c =
     let texts = subst (λ text. AreTexts (IsKeyOf parts) (length parts) text offsets) (sym c.as_bytes.ensures.value) of_keys in
     let is_plan = all_written ds IsKey c.args.elements.now c.args.first c.args.room some buffers keys found refl counted room are_written texts in
     let IsPlan = IsPlanWith ds IsKey c.args.elements.now c.args.first buffers in
-    MatchResult-from_both c.write_front.result _ _
-    (on_ok_weaker c.write_front.result (λ whole. inl (refl, whole))
-    (is_whole IsPlan keys wrote.buffer wrote.needed told.told is_plan c.write_front.result told.fits told.written))
-    (IfErr-weaker c.write_front.result _ _ (λ fault is. ⊎_elim (λ memory. inl memory) (λ short. inr (short.0, (refl, short.1))) is)
-    (is_too_long IsPlan keys wrote.buffer wrote.needed told.told is_plan c.write_front.result told.short))
+    MatchResult-weaker c.write_front.result
+    (in_front IsPlan keys wrote.buffer wrote.needed c.write_front.result told.told is_plan told.fits told.written told.short)
+    (λ _ whole. inl (refl, whole)) (λ fault is. ⊎_elim (λ memory. inl memory) (λ short. inr (short.0, (refl, short.1))) is)

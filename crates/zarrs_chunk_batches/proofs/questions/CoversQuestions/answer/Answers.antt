@@ -1,5 +1,5 @@
-use Rattle.std.proofs.Common.{◌≡◌, ◌∙◌, MatchOption, ap₂, cond, subst}
-use Rattle.zarrs_chunk_base.specs.ArraySubset.{Box, IsBox}
+use Rattle.std.proofs.Common.{◌≡◌, ◌∙◌, ap₂, cond, subst}
+use Rattle.zarrs_chunk_base.specs.ArraySubset.{Box}
 use Rattle.zarrs_chunk_base.specs.Grid.{Grid}
 use Rattle.zarrs_chunk_prepared.specs.LookedUp.{HasNoCover, IsCoverOf}
 use Rattle.zarrs_chunk_prepared.specs.seen.PreparedGrid.{IsReadOf, width_of}
@@ -16,12 +16,10 @@ returns-clause-answers c =
     (λ width. c.list_of-start.result.now ≡ list_at width self.starts.now c.args.number) c.dimensionality.ensures c.list_of-start.ensures in
     let shape = subst
     (λ width. c.list_of-shape.result.now ≡ list_at width self.shapes.now c.args.number) c.dimensionality-2.ensures c.list_of-shape.ensures in
-    let boxed : Box = record { start = c.list_of-start.result.now; shape = c.list_of-shape.result.now } in
-    let made = subst (λ made. MatchOption made (¬ IsBox boxed) (λ subset. (subset ≡ boxed) × IsBox subset)) c.in-Some.is c.in_ok-elements.ensures in
     let cover : Box = record { start = c.find_cover.new.first; shape = c.find_cover.new.counts } in
     of_each (λ (grid : Grid). IsReadOf grid self.grid) (λ grid. IsCoverOf grid.dimensions asked cover) (λ grid. HasNoCover grid.dimensions asked)
     c.in_ok-find_cover.field-0
     (λ grid are.
     subst (λ b. cond c.in_ok-find_cover.field-0 (IsCoverOf grid.dimensions b cover) (HasNoCover grid.dimensions b))
-    (made.0 ∙ ap₂ {C = Box} (λ s h. record { start = s; shape = h }) start shape)
+    (c.in_ok-elements.ensures.value ∙ ap₂ {C = Box} (λ s h. record { start = s; shape = h }) start shape)
     (c.in_ok-find_cover.ensures.cover grid are))

@@ -1,0 +1,18 @@
+use Rattle.std.proofs.Common.{inl, inr, refl, arith, ⊎_elim}
+use Rattle.std.proofs.lemmas.Result.{err_from_is_err_and}
+use Rattle.zarrs_chunk_batches.proofs.PreparedAnswers.{width_is}
+use Rattle.zarrs_chunk_batches.proofs.grid_calls.grid_shape_in.Goals as goal
+
+pub returns-in_err-read_grid : goal.returns-in_err-read_grid
+returns-in_err-read_grid c grid prepared =
+    let p = err_from_is_err_and c.from_residual.result c.from_residual.ensures.1 in
+    rw (p.1, p.2) (⊎_elim (λ memory. inl memory) (λ unread. absurd (unread.1 grid prepared)) c.in_err-read_grid.ensures)
+
+pub returns-in_err-write_grid_shape : goal.returns-in_err-write_grid_shape
+returns-in_err-write_grid_shape c grid prepared =
+    let told = c.from_residual-in_err-write_grid_shape in
+    let p = err_from_is_err_and told.result told.ensures.1 in
+    let width = width_is grid c.in_ok-read_grid.field-0 (c.in_ok-read_grid.ensures grid prepared) in
+    let same = c.write_grid_shape.auto.sizes in
+    rw (p.1, p.2)
+    (inr (inl (refl, λ fits. c.in_err-write_grid_shape.ensures.lengths (let own = fits.0 in omega (arith, width, same)))))

@@ -1,0 +1,50 @@
+use Rattle.std.proofs.Common.{◌≡◌, ◌∙◌, ◌*◌, inl, inr, length, ⊎_elim}
+use Rattle.std.proofs.lemmas.Result.{MatchResult-from_both, err_from_is_err_and, on_ok_weaker}
+use Rattle.zarrs_chunk_base.specs.Dimension.{InBox, IsPlace}
+use Rattle.zarrs_chunk_prepared.specs.LookedUp.{IsHomeIn}
+use Rattle.zarrs_chunk_prepared.specs.seen.PreparedGrid.{width_of}
+use Rattle.zarrs_chunks.specs.Subsets.{HasNoHome}
+use Rattle.zarrs_chunk_batches.specs.Batch.{list_at}
+use Rattle.zarrs_chunk_batches.specs.GridCalls.{RefusesNone, homes_request}
+use Rattle.zarrs_chunk_batches.proofs.Batches.{long_at}
+use Rattle.zarrs_chunk_batches.proofs.Ends.{ends_for, memory_alone}
+use Rattle.zarrs_chunk_batches.proofs.PreparedAnswers.{kept, of_grid, width_is}
+use Rattle.zarrs_chunk_batches.proofs.grid_calls.homes_in.Goals as goal
+
+pub returns-in_err-grid-clause-ends : goal.returns-in_err-grid-clause-ends
+returns-in_err-grid-clause-ends c grid prepared =
+    let p = err_from_is_err_and c.from_residual.result c.from_residual.ensures.1 in
+    rw (p.1, p.2) (⊎_elim (λ memory. inl memory) (λ misfits. inr (inl misfits)) (c.in_err-grid.ensures.read grid prepared))
+
+pub returns-clause-ends : goal.returns-clause-ends
+returns-clause-ends c grid prepared =
+    let (are, fits) = c.in_ok-grid.ensures.read grid prepared in
+    let wrote = c.answer_all.new in
+    let same = c.answer_all.auto in
+    let indices = c.args.indices.now in
+    let width = width_of c.in_ok-grid.grid in
+    let long : length wrote.second ≡ width * length wrote.found = rw (same.second, same.found) c.in_ok-grid.ensures.fits.1.1.0 in
+    ends_for (homes_request indices wrote.first wrote.second wrote.found) grid c.answer_all.result
+    (rw (same.first, same.second, same.found) fits)
+    (MatchResult-from_both c.answer_all.result _ _
+    (on_ok_weaker c.answer_all.result
+    (of_grid grid c.in_ok-grid.grid are (λ g n k chunk place. IsHomeIn g.dimensions (list_at n indices k) chunk place)
+    (λ g n k chunk place. InBox g.dimensions chunk (list_at n indices k) × IsPlace g.dimensions chunk (list_at n indices k) place)
+    (λ g n k. HasNoHome g.dimensions (list_at n indices k)) (λ n. (n, n)) wrote.first wrote.second wrote.found
+    (λ k less is. (is.0, is.1 (long_at width (length wrote.found) wrote.second k long less ∙ width_is grid c.in_ok-grid.grid are))))
+    c.answer_all.ensures.answered)
+    (memory_alone c.answer_all.result (RefusesNone grid) _ c.answer_all.ensures.refused))
+
+pub returns-clause-chunks_kept : goal.returns-clause-chunks_kept
+returns-clause-chunks_kept c =
+    on_ok_weaker c.answer_all.result
+    (λ keeps grid prepared.
+    kept grid c.in_ok-grid.grid (c.in_ok-grid.ensures.read grid prepared).0 c.args.chunks.now c.answer_all.new.first c.answer_all.new.found keeps)
+    c.answer_all.ensures.first_kept
+
+pub returns-clause-places_kept : goal.returns-clause-places_kept
+returns-clause-places_kept c =
+    on_ok_weaker c.answer_all.result
+    (λ keeps grid prepared.
+    kept grid c.in_ok-grid.grid (c.in_ok-grid.ensures.read grid prepared).0 c.args.places.now c.answer_all.new.second c.answer_all.new.found keeps)
+    c.answer_all.ensures.second_kept
