@@ -1,5 +1,5 @@
 -- Parts of a plan: how many are found at most, and how long their lists are.
-use Rattle.std.proofs.Common.{◌≡◌, ◌⊎◌, ◌∙◌, ℕ, ◌-◌, ◌≤◌, List, [], ◌∷◌, drop, length, min, take, Option, Some, None, MatchOption, ap}
+use Rattle.std.proofs.Common.{◌≡◌, ◌⊎◌, ◌∙◌, ℕ, ◌-◌, ◌≤◌, List, [], ◌∷◌, drop, length, min, take, ap}
 use Rattle.std.proofs.Common.{⊎_elim, arith}
 use Rattle.std.proofs.lemmas.List.Elements.{All-drop, All-from_recursion, All-take, recursion_from_All}
 use Rattle.std.specs.List.{AllByRecursion, AllZip}
@@ -15,7 +15,6 @@ use Rattle.zarrs_chunk_parts.specs.declared.part.Part.{Part}
 use Rattle.zarrs_chunk_plan.specs.declared.numbered_parts.SomeParts.{SomeParts}
 use Rattle.zarrs_chunks.proofs.Covers.{none_is_not_empty}
 use Rattle.zarrs_chunk_batches.proofs.Planned.{count_is}
-use Rattle.zarrs_chunk_prepared.specs.LookedUp.{HasNoCover}
 use Rattle.zarrs_chunk_batches.specs.seen.Parts.{AreFoundParts, IsLongPart}
 
 -- ---- lists
@@ -50,10 +49,10 @@ module _ (ds : List Dimension) (IsKey : List ℕ → List ℕ → Type 0) (b : B
       record { chunk = numbers; in_chunk = omega arith; in_subset = omega arith; shape = omega arith }
 
   module _ (first most : ℕ) where
-    few_parts : (some : SomeParts) → AreFoundParts ds IsKey b first most some → length some.parts.items ≤ most
+    pub few_parts : (some : SomeParts) → AreFoundParts ds IsKey b first most some → length some.parts.items ≤ most
     few_parts some (cover, is_cover, are) = let is = count_is ds IsKey b first most some cover are in omega arith
 
-    long_parts : AllByRecursion IsChain ds → IsBox b → length b.start ≡ length ds → (some : SomeParts) → AreFoundParts ds IsKey b first most some
+    pub long_parts : AllByRecursion IsChain ds → IsBox b → length b.start ≡ length ds → (some : SomeParts) → AreFoundParts ds IsKey b first most some
         → AllByRecursion (IsLongPart (length ds)) some.parts.items
     long_parts chains is_box long some (cover, is_cover, are) =
         let count = min (some.in_all - first) most in
@@ -63,14 +62,3 @@ module _ (ds : List Dimension) (IsKey : List ℕ → List ℕ → Type 0) (b : B
         let meet = covered_meet ds b cover chains is_box (λ empty _. is_cover.1 empty) if_some in
         all_zipped (Meets ds b) (IsPart ds IsKey b) (IsLongPart (length ds)) long_part (take count (drop first (chunks_in cover))) some.parts.items
         (all_taken (Meets ds b) first count (chunks_in cover) meet) are.are_parts
-
-    pub few_of_answer : (found : Option SomeParts) → MatchOption found (HasNoCover ds b) (AreFoundParts ds IsKey b first most)
-        → MatchOption found (Unit {0}) (λ some. length some.parts.items ≤ most)
-    few_of_answer None is = tt
-    few_of_answer (Some some) is = few_parts some is
-
-    pub long_of_answer : AllByRecursion IsChain ds → IsBox b → length b.start ≡ length ds → (found : Option SomeParts)
-        → MatchOption found (HasNoCover ds b) (AreFoundParts ds IsKey b first most)
-        → MatchOption found (Unit {0}) (λ some. AllByRecursion (IsLongPart (length ds)) some.parts.items)
-    long_of_answer chains is_box long None is = tt
-    long_of_answer chains is_box long (Some some) is = long_parts chains is_box long some is

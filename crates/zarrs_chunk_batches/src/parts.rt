@@ -1,6 +1,7 @@
 //! Parts of a plan that are written one after another.
 ghost use Rattle.std.specs.List.{AllByRecursion};
-ghost use Rattle.std.specs.Prelude.{◌≡◌, ℕ, ◌+◌, ◌<◌, ◌≤◌, IfErr, IfOk, MatchOption, drop, length, string_bytes};
+ghost use Rattle.std.specs.Prelude.{◌≡◌, ℕ, ◌+◌, ◌<◌, IfErr, IfOk, MatchOption, drop, length, string_bytes};
+ghost use Rattle.zarrs_chunk_base.specs.ArraySubset.{IsBox};
 ghost use Rattle.zarrs_chunk_batches.specs.Batch.{AreTexts};
 ghost use Rattle.zarrs_chunk_batches.specs.Parts.{AreListsKept, AreSameBuffers};
 ghost use Rattle.zarrs_chunk_batches.specs.declared.codes.Fault.TheVariants.{Memory};
@@ -34,10 +35,7 @@ pub(crate) fn find_parts<G: ChunkGridTraits, E: ChunkKeyEncodingTraits>(
     ensures parts { IfOk result (λ found. MatchOption found
         (HasNoCover (G.dimensions grid.now) elements.now)
         (AreFoundParts (G.dimensions grid.now) (E.is_key encoding.now) elements.now first most)) }
-    ensures few { IfOk result (λ found. MatchOption found (Unit {0})
-        (λ some. length some.parts.items ≤ most)) }
-    ensures long { IfOk result (λ found. MatchOption found (Unit {0})
-        (λ some. AllByRecursion (IsLongPart (length (G.dimensions grid.now))) some.parts.items)) }
+    ensures is_box { IsBox elements.now }
     ensures refused { IfErr result (λ fault. fault ≡ Memory) }
 {
     elements.is_a_box();

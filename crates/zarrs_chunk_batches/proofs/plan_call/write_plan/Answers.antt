@@ -8,18 +8,32 @@ use Rattle.zarrs_chunk_batches.specs.declared.structs.PartBuffers.{PartBuffers}
 use Rattle.zarrs_chunk_batches.specs.seen.Parts.{AreWrittenBelow, IsKeyOf}
 use Rattle.zarrs_chunk_batches.proofs.Batches.{ends_before}
 use Rattle.zarrs_chunk_batches.proofs.Ends.{in_front}
+use Rattle.zarrs_chunk_batches.proofs.LongParts.{few_parts, long_parts}
 use Rattle.zarrs_chunk_batches.proofs.Planned.{all_written}
 use Rattle.zarrs_chunk_batches.proofs.plan_call.write_plan.Goals as goal
 
 pub write_parts-requires-clause-room : goal.write_parts-requires-clause-room
 write_parts-requires-clause-room g c k less =
     let width = c.dimensionality.result in
-    let few = rw c.in-Some.is at c.in_ok-some.ensures.few in
+    let few = few_parts _ _ _ _ _ c.in-Some.some (rw c.in-Some.is at c.in_ok-some.ensures.parts) in
     let long = ap length c.deref.ensures.value in
     let ends = ends_before width k c.args.room (omega arith) in
     let turned = mul_comm c.args.room width in
     let (chunks, (in_chunk, (in_subset, (shapes, _)))) = rw (← c.dimensionality.ensures) at c.requires.room.1 in
     record { has_chunk = omega arith; has_in_chunk = omega arith; has_in_subset = omega arith; has_shape = omega arith }
+
+pub write_parts-requires-clause-long : goal.write_parts-requires-clause-long
+write_parts-requires-clause-long g c =
+    let found = c.in_ok-some.ensures in
+    rw (c.deref.ensures.value, c.dimensionality.ensures) (long_parts _ _ _ _ _ (g.met.G.ChunkGridTraits.chained c.args.grid.now) found.is_box
+    c.requires.long c.in-Some.some (rw c.in-Some.is at found.parts))
+
+pub join_keys-requires : goal.join_keys-requires
+join_keys-requires g c =
+    let few = few_parts _ _ _ _ _ c.in-Some.some (rw c.in-Some.is at c.in_ok-some.ensures.parts) in
+    let had = c.requires.room.0 in
+    let same = c.write_parts.ensures.same_buffers.offsets.1 in
+    omega (arith, ap length c.deref-2.ensures.value)
 
 pub returns-clause-ends : goal.returns-clause-ends
 returns-clause-ends g c =
