@@ -3,7 +3,7 @@ use Rattle.std.proofs.Common.{◌≡◌, ◌≢◌, ◌∙◌, ℕ, ◌+◌, ◌
 use Rattle.std.proofs.Common.{⊎_elim, inl, inr, refl, ap, subst, sym, arith, add-mul, below_more, mul-le-mul_right}
 use Rattle.std.proofs.Math.Nat.{mul_comm}
 use Rattle.std.proofs.lemmas.List.{drop-take, get_or-set_other, get_or-set_same, length-drop, length-take-le}
-use Rattle.std.proofs.lemmas.Bool.{cases_lt}
+use Rattle.std.proofs.lemmas.Bool.{cases_eq, cases_lt}
 use Rattle.std.proofs.lemmas.Slice.{drop-put_mid, take-put_mid_below}
 use borrow.Rule.Slice.PartMut.{put_mid}
 use Rattle.zarrs_chunk_batches.specs.Batch.{AreAnswered, AreAnsweredBelow, IsMarked, list_at}
@@ -55,25 +55,18 @@ AreKeptBelow number width before now marks =
 pub kept_one_more : (width number : ℕ) (found : Bool) (before now after marks : List ℕ) → AreKeptBelow number width before now marks
     → number < length marks → (found ≡ false → after ≡ now) → ((k : ℕ) → k ≢ number → list_at width after k ≡ list_at width now k)
     → AreKeptBelow (number + 1) width before after (slice_set marks number (cond found 1 0))
-kept_one_more width number found before now after marks kept within none others k without =
-    ⊎_elim earlier (λ (from : number ≤ k). ⊎_elim later last (cases_lt number k)) (cases_lt k number) where
-      earlier : k < number → list_at width after k ≡ list_at width before k
-      earlier less =
-          let same = get_or-set_other marks number k (cond found 1 0) 0 (λ at. absurd (omega arith)) in
-          others k (λ at. absurd (omega arith)) ∙ kept k (λ _. sym same ∙ without (omega arith))
+kept_one_more width number found before now after marks kept within none others k without = ⊎_elim last other (cases_eq k number) where
+  last : k ≡ number → list_at width after k ≡ list_at width before k
+  last at =
+      let own = subst (λ n. slice_index_or (slice_set marks number (cond found 1 0)) n 0 ≡ cond found 1 0) (sym at)
+      (get_or-set_same marks number (cond found 1 0) 0 within) in
+      let is_none = unmarked found (sym own ∙ without (omega arith)) in
+      ap (λ numbers. list_at width numbers k) (none is_none) ∙ kept k (λ less. absurd (omega arith))
 
-      later : number < k → list_at width after k ≡ list_at width before k
-      later more = others k (λ at. absurd (omega arith)) ∙ kept k (λ less. absurd (omega arith))
-
-      last : k ≤ number → list_at width after k ≡ list_at width before k
-      last le = ⊎_elim earlier
-          (λ (from : number ≤ k).
-          let at : number ≡ k = omega arith in
-          let own = subst (λ n. slice_index_or (slice_set marks number (cond found 1 0)) n 0 ≡ cond found 1 0) at
-          (get_or-set_same marks number (cond found 1 0) 0 within) in
-          let is_none = unmarked found (sym own ∙ without (omega arith)) in
-          ap (λ numbers. list_at width numbers k) (none is_none) ∙ kept k (λ less. absurd (omega arith)))
-          (cases_lt k number)
+  other : k ≢ number → list_at width after k ≡ list_at width before k
+  other differs =
+      let same = get_or-set_other marks number k (cond found 1 0) 0 differs in
+      others k differs ∙ kept k (λ less. sym same ∙ without (omega arith))
 
 module _ (Answer : ℕ → List ℕ → List ℕ → Type 0) (None : ℕ → Type 0) (widths : ℕ × ℕ) where
   -- one question more
