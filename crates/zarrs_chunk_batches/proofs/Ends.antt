@@ -25,12 +25,6 @@ module _ {X : Type 0} (call : Call X) where
   ends_as x (Err fault) (Err told) A misses fits as_made is answers =
       ⊎_elim (λ memory. inl memory) (λ same. rw same (⊎_elim (λ memory. inl memory) (λ missed. inr (early (no_metadata missed))) misses)) as_made
 
--- what refuses nothing but for memory
-pub memory_alone : (end : End) (Refuses : Fault → Type 0) (None : Type 0) → IfErr end (λ fault. (fault ≡ Memory) ⊎ ((fault ≡ Memory) × None))
-    → IfErr end (λ fault. (fault ≡ Memory) ⊎ Refuses fault)
-memory_alone (Ok _) Refuses None refused = tt
-memory_alone (Err fault) Refuses None refused = ⊎_elim (λ memory. inl memory) (λ is. inl is.0) refused
-
 -- a text that was written to the front of its buffer, or is longer than it
 pub in_front : (P : List ℕ → Type 0) (text buffer : List ℕ) (needed : ℕ) (end : End) → needed ≡ length text → P text
     → OnOk end (length text ≤ length buffer) → OnOk end (take (length text) buffer ≡ text)

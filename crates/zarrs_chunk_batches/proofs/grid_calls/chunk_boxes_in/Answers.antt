@@ -1,9 +1,9 @@
 use Rattle.std.proofs.Common.{inl, inr, ⊎_elim}
-use Rattle.std.proofs.lemmas.Result.{MatchResult-from_both, err_from_is_err_and, on_ok_weaker}
+use Rattle.std.proofs.lemmas.Result.{IfErr-weaker, MatchResult-from_both, err_from_is_err_and, on_ok_weaker}
 use Rattle.zarrs_chunks.specs.Subsets.{HasNoBox, Spans}
 use Rattle.zarrs_chunk_batches.specs.Batch.{list_at}
-use Rattle.zarrs_chunk_batches.specs.GridCalls.{RefusesNone, chunk_boxes_request}
-use Rattle.zarrs_chunk_batches.proofs.Ends.{ends_for, memory_alone}
+use Rattle.zarrs_chunk_batches.specs.GridCalls.{chunk_boxes_request}
+use Rattle.zarrs_chunk_batches.proofs.Ends.{ends_for}
 use Rattle.zarrs_chunk_batches.proofs.PreparedAnswers.{kept, of_grid}
 use Rattle.zarrs_chunk_batches.proofs.grid_calls.chunk_boxes_in.Goals as goal
 
@@ -27,7 +27,7 @@ returns-clause-ends c grid prepared =
     (λ g n k origin sizes. Spans g.dimensions (list_at n chunks k) (list_at n chunks k) (record { start = origin; shape = sizes }))
     (λ g n k. HasNoBox g.dimensions (list_at n chunks k)) (λ n. (n, n)) wrote.first wrote.second wrote.found (λ k less is. is))
     c.answer_all.ensures.answered)
-    (memory_alone c.answer_all.result (RefusesNone grid) _ c.answer_all.ensures.refused))
+    (IfErr-weaker c.answer_all.result _ _ (λ fault is. inl (⊎_elim (λ memory. memory) (λ none. none.0) is)) c.answer_all.ensures.refused))
 
 pub returns-clause-origins_kept : goal.returns-clause-origins_kept
 returns-clause-origins_kept c =

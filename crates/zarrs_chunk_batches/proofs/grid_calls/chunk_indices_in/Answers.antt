@@ -1,11 +1,11 @@
 use Rattle.std.proofs.Common.{[], inl, inr, ⊎_elim}
-use Rattle.std.proofs.lemmas.Result.{MatchResult-from_both, err_from_is_err_and, on_ok_weaker}
+use Rattle.std.proofs.lemmas.Result.{IfErr-weaker, MatchResult-from_both, err_from_is_err_and, on_ok_weaker}
 use Rattle.zarrs_chunk_base.specs.Dimension.{InBox}
 use Rattle.zarrs_chunk_prepared.specs.LookedUp.{IsHomeIn}
 use Rattle.zarrs_chunks.specs.Subsets.{HasNoHome}
 use Rattle.zarrs_chunk_batches.specs.Batch.{list_at}
-use Rattle.zarrs_chunk_batches.specs.GridCalls.{RefusesNone, chunk_indices_request}
-use Rattle.zarrs_chunk_batches.proofs.Ends.{ends_for, memory_alone}
+use Rattle.zarrs_chunk_batches.specs.GridCalls.{chunk_indices_request}
+use Rattle.zarrs_chunk_batches.proofs.Ends.{ends_for}
 use Rattle.zarrs_chunk_batches.proofs.PreparedAnswers.{kept, of_grid}
 use Rattle.zarrs_chunk_batches.proofs.grid_calls.chunk_indices_in.Goals as goal
 
@@ -28,7 +28,7 @@ returns-clause-ends c grid prepared =
     (λ g n k chunk _. InBox g.dimensions chunk (list_at n indices k)) (λ g n k. HasNoHome g.dimensions (list_at n indices k)) (λ n. (n, 0))
     wrote.first [] wrote.found (λ k less is. is.0))
     c.answer_all.ensures.answered)
-    (memory_alone c.answer_all.result (RefusesNone grid) _ c.answer_all.ensures.refused))
+    (IfErr-weaker c.answer_all.result _ _ (λ fault is. inl (⊎_elim (λ memory. memory) (λ none. none.0) is)) c.answer_all.ensures.refused))
 
 pub returns-clause-chunks_kept : goal.returns-clause-chunks_kept
 returns-clause-chunks_kept c =

@@ -1,13 +1,13 @@
 use Rattle.std.proofs.Common.{◌≡◌, ◌∙◌, ◌*◌, inl, inr, length, ⊎_elim}
-use Rattle.std.proofs.lemmas.Result.{MatchResult-from_both, err_from_is_err_and, on_ok_weaker}
+use Rattle.std.proofs.lemmas.Result.{IfErr-weaker, MatchResult-from_both, err_from_is_err_and, on_ok_weaker}
 use Rattle.zarrs_chunk_base.specs.Dimension.{InBox, IsPlace}
 use Rattle.zarrs_chunk_prepared.specs.LookedUp.{IsHomeIn}
 use Rattle.zarrs_chunk_prepared.specs.seen.PreparedGrid.{width_of}
 use Rattle.zarrs_chunks.specs.Subsets.{HasNoHome}
 use Rattle.zarrs_chunk_batches.specs.Batch.{list_at}
-use Rattle.zarrs_chunk_batches.specs.GridCalls.{RefusesNone, homes_request}
+use Rattle.zarrs_chunk_batches.specs.GridCalls.{homes_request}
 use Rattle.zarrs_chunk_batches.proofs.Batches.{long_at}
-use Rattle.zarrs_chunk_batches.proofs.Ends.{ends_for, memory_alone}
+use Rattle.zarrs_chunk_batches.proofs.Ends.{ends_for}
 use Rattle.zarrs_chunk_batches.proofs.PreparedAnswers.{kept, of_grid, width_is}
 use Rattle.zarrs_chunk_batches.proofs.grid_calls.homes_in.Goals as goal
 
@@ -33,7 +33,7 @@ returns-clause-ends c grid prepared =
     (λ g n k. HasNoHome g.dimensions (list_at n indices k)) (λ n. (n, n)) wrote.first wrote.second wrote.found
     (λ k less is. (is.0, is.1 (long_at width (length wrote.found) wrote.second k long less ∙ width_is grid c.in_ok-grid.grid are))))
     c.answer_all.ensures.answered)
-    (memory_alone c.answer_all.result (RefusesNone grid) _ c.answer_all.ensures.refused))
+    (IfErr-weaker c.answer_all.result _ _ (λ fault is. inl (⊎_elim (λ memory. memory) (λ none. none.0) is)) c.answer_all.ensures.refused))
 
 pub returns-clause-chunks_kept : goal.returns-clause-chunks_kept
 returns-clause-chunks_kept c =
