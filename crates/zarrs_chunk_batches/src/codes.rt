@@ -4,7 +4,7 @@ ghost use Rattle.zarrs_chunk_base.specs.Refusal.{MatchRefusal};
 ghost use Rattle.zarrs_chunk_batches.specs.Codes.{code_words, end_code, fault_code};
 ghost use Rattle.zarrs_chunk_batches.specs.declared.codes.Fault.TheVariants.{Extension, Length, Memory};
 
-use std::alloc::{AllocError, AllocFailed};
+use std::alloc::AllocError;
 use zarrs_chunk_base::{ExtensionError, IncompatibleDimensionalityError, Refusal};
 
 /// Why a call is refused. The header `zarrs_chunks.h` names the codes.
@@ -80,14 +80,6 @@ impl From<AllocError> for Fault {
     ghost from_gives = { λ _ fault. fault ≡ Memory };
 
     fn from(_error: AllocError) -> Fault {
-        Fault::Memory
-    }
-}
-
-impl<T: Drop> From<AllocFailed<T>> for Fault {
-    ghost from_gives = { λ _ fault. fault ≡ Memory };
-
-    fn from(_failed: AllocFailed<T>) -> Fault {
         Fault::Memory
     }
 }
