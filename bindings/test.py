@@ -17,7 +17,7 @@ all, each tenth vector, batches, plans and the examples. What is compared:
   values for all its arguments (`fuzz.py`);
 - its methods with all vectors, with models in plain arithmetic, with numpy and with zarr-python, and the package as a
   program (`python_calls_test.py`);
-- what a call tells of a refusal, and walks that are longer than their buffer (`words_and_bounds.py`);
+- what a call says of a refusal, and walks that are longer than their buffer (`words_and_bounds.py`);
 - the stack that a call needs, and traps for floats;
 - memory that is refused: under an address space that gets smaller, and allocation by allocation;
 - the examples in C and Python, the C one under memcheck, those of the docstrings, and the tests of the crate for Rust.
@@ -242,7 +242,7 @@ def buffers(tally, library):
 
 
 def null_and_great(tally, library):
-    """Pointers that are null where there are no items, and lists of so many numbers that a product of lengths would wrap."""
+    """Null pointers to no items, and lists whose length times their count would wrap."""
     grid = prepared("grid", 16, shape=np.array([5, 7], np.uint64), chunk_grid=json.dumps(REGULAR).encode())
     none, needed = (ctypes.c_void_p(None), ctypes.c_size_t(0)), ctypes.c_size_t()
     tally.same("null and no lists", library.call("zarrs_prepared_homes_of", grid, *none * 4), 0)

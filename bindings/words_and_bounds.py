@@ -1,7 +1,7 @@
 """What a call tells of a refusal, and how much a walk may take: `test.py` runs it.
 
-Words of metadata's faults and of codes; walks whose items are longer than the buffer for their answer; of two faults the
-same one through `zarrs_answer` and through a call of its own.
+It compares the words of metadata's faults and of codes. Walks are asked for with a buffer that is too short for their
+items. Of two faults, `zarrs_answer` and the call of a plan are to tell the same one.
 """
 import ctypes
 import itertools

@@ -56,7 +56,7 @@ impl<E: ChunkKeyEncodingTraits> Questions for ChunksOfKeys<'_, E> {
     }
 }
 
-/// Of texts one after another the one with this number, counted from 0: from its own offset up to the next one, in bytes.
+/// The text with this number, counted from 0, among texts one after another: from its own offset up to the next one, in bytes.
 ///
 /// # Errors
 /// The offsets descend, or the second lies past the text.
