@@ -167,12 +167,12 @@ pub as_many : (start shape : List ℕ) → length (chunks_in (record { start = s
 as_many start shape = length-map (row_major shape) (counted_from start)
 
 -- one size more behind
-length-behind : (shape : List ℕ) (size : ℕ) → length (row_major (shape ++ size ∷ [])) ≡ length (row_major shape) * size
+pub length-behind : (shape : List ℕ) (size : ℕ) → length (row_major (shape ++ size ∷ [])) ≡ length (row_major shape) * size
 unfolding row_major
 length-behind [] size = let is = length-shape size [] in omega arith
 length-behind (n ∷ shape) size = rw (length-shape n (shape ++ size ∷ []), length-shape n shape, length-behind shape size) (omega arith)
 
-at_most_times : (a b most : ℕ) → min (min a most * b) most ≡ min (a * b) most
+pub at_most_times : (a b most : ℕ) → min (min a most * b) most ≡ min (a * b) most
 at_most_times a zero most = let none = mul-zero a in let also = mul-zero (min a most) in omega arith
 at_most_times a (suc b) most =
     ⊎_elim

@@ -1,11 +1,9 @@
 -- Bits of numbers, the place of a chunk in a box, and what is known of the chunks that a store has.
 use Rattle.std.proofs.Common.{◌≡◌, ◌≢◌, ◌==◌, ◌↔◌, ◌⊎◌, ◌∙◌, ℕ, zero, suc, ◌+◌, ◌-◌, ◌*◌, ◌^◌, ◌/◌, ◌%◌, ◌<◌, ◌≤◌, Bool, true, false, List}
-use Rattle.std.proofs.Common.{[], ◌∷◌, Option, Some, None, drop, get_or, length, replicate, set, MatchOption, IsTrue, refl, ap, subst, sym, inl, inr, ⊎_elim, arith, true≢false}
-use Rattle.std.proofs.Math.Nat.{mul-suc}
-use Rattle.std.proofs.Math.Seq.{drop-length}
+use Rattle.std.proofs.Common.{[], ◌∷◌, ◌++◌, Option, Some, None, get_or, length, min, replicate, set, take, MatchOption, IsTrue, refl, ap, subst, sym, inl, inr, ⊎_elim, arith, true≢false}
 use Rattle.std.proofs.lemmas.Bool.{cases_lt, eq-eqb}
 use Rattle.std.proofs.lemmas.Bool.Decides.{eqb_tells}
-use Rattle.std.proofs.lemmas.List.{drop_more, get_or-replicate, get_or-set_other, get_or-set_same, get_or_past, length-replicate}
+use Rattle.std.proofs.lemmas.List.{get_or-replicate, get_or-set_other, get_or-set_same, get_or_past, length-replicate, length-take-le, take_more}
 use Rattle.std.proofs.lemmas.Nat.Bits.{bit_at-zero}
 use Rattle.std.proofs.lemmas.Option.{get_or_from_slice_get, slice_get_within}
 use Rattle.std.specs.Int.{bit_at}
@@ -15,7 +13,7 @@ use Rattle.std.specs.Prelude.{Vec}
 use Rattle.std.specs.declared.alloc.Global.{Global}
 use Rattle.zarrs_chunk_base.specs.ArraySubset.{AreWithin, Box, IsBox, IsInside}
 use Rattle.zarrs_chunk_base.specs.Dimension.{Dimension}
-use Rattle.zarrs_chunk_base.specs.Greatest.{AllFit}
+use Rattle.zarrs_chunk_base.specs.Greatest.{AllFit, greatest}
 use Rattle.zarrs_chunk_axes.specs.RowMajor.{row_major}
 use Rattle.zarrs_chunks.specs.Walks.{chunks_in}
 use Rattle.zarrs_chunks.proofs.ChunksInBoxes.{are_those_inside, chunks_once, inside_fits}
@@ -24,7 +22,7 @@ use Rattle.zarrs_chunk_plan.specs.Rechunking.{array_box}
 use Rattle.zarrs_chunk_plan.specs.StoredChunks.{IsListed, IsOfArray}
 use Rattle.zarrs_chunk_plan.specs.declared.stored_chunks.StoredChunks.{StoredChunks}
 use Rattle.zarrs_chunk_plan.specs.seen.StoredChunks.{IsMarked, Knows, is_stored}
-use Rattle.zarrs_chunk_plan.proofs.ByNumber.{as_many, at_digit, length-shape}
+use Rattle.zarrs_chunk_plan.proofs.ByNumber.{at_digit, at_most_times, length-behind}
 
 -- ---- a bit of a list of numbers
 
@@ -102,66 +100,35 @@ length_start (s ∷ start) (n ∷ shape) (c ∷ chunk) within =
     (omega arith, omega arith)
 length_start _ _ _ within = absurd within
 
--- The dimensions so far have given this number; those that are left have the rest of the chunk's.
-pub record IsCounted (start shape chunk : List ℕ) (dimension number : ℕ) : Type 0 where
-  pub left : AreWithin (drop dimension start) (drop dimension shape) (drop dimension chunk)
-  pub is : number * length (row_major (drop dimension shape)) + place_of (drop dimension start) (drop dimension shape) (drop dimension chunk)
-      ≡ place_of start shape chunk
+-- of one dimension more
+pub place_last : (start shape chunk : List ℕ) (s n c : ℕ) → length start ≡ length shape → length chunk ≡ length shape
+    → place_of (start ++ s ∷ []) (shape ++ n ∷ []) (chunk ++ c ∷ []) ≡ place_of start shape chunk * n + (c - s)
+unfolding row_major
+place_last [] [] [] s n c e f = omega arith
+place_last (a ∷ start) (m ∷ shape) (b ∷ chunk) s n c e f =
+    rw (length-behind shape n, place_last start shape chunk s n c (omega arith) (omega arith)) (omega arith)
+place_last _ _ _ s n c e f = absurd (omega arith)
 
--- what the next dimension adds to the number
-pub record IsNext (start shape chunk : List ℕ) (dimension number : ℕ) : Type 0 where
-  pub low : get_or start dimension 0 ≤ get_or chunk dimension 0
-  pub few : number * get_or shape dimension 0 + (get_or chunk dimension 0 - get_or start dimension 0) ≤ place_of start shape chunk
-  pub next : IsCounted start shape chunk (dimension + 1)
-      (number * get_or shape dimension 0 + (get_or chunk dimension 0 - get_or start dimension 0))
-
-no_more : (number lists place all : ℕ) → 0 < lists → number * lists + place ≡ all → number ≤ all
-no_more number zero place all some is = absurd (omega arith)
-no_more number (suc lists) place all some is = let more = mul-suc number lists in omega arith
-
-one_more : (number size digit lists place : ℕ) → (number * size + digit) * lists + place ≡ number * (size * lists) + (digit * lists + place)
-one_more number size digit lists place = omega arith
-
-module _ (start shape chunk : List ℕ) (within : AreWithin start shape chunk) where
-  pub none_counted : IsCounted start shape chunk 0 0
-  none_counted = record { left = within; is = omega arith }
-
-  pub counted_next : (dimension number : ℕ) → dimension < length shape → IsCounted start shape chunk dimension number
-      → IsNext start shape chunk dimension number
-  counted_next dimension number more so_far =
-      let (one, other) = length_start start shape chunk within in
-      let s = get_or start dimension 0 in
-      let n = get_or shape dimension 0 in
-      let c = get_or chunk dimension 0 in
-      let starts : drop dimension start ≡ s ∷ drop (dimension + 1) start = drop_more start dimension 0 (omega arith) in
-      let sizes : drop dimension shape ≡ n ∷ drop (dimension + 1) shape = drop_more shape dimension 0 more in
-      let numbers : drop dimension chunk ≡ c ∷ drop (dimension + 1) chunk = drop_more chunk dimension 0 (omega arith) in
-      let left = rw (starts, sizes, numbers) at so_far.left in
-      let is = rw (starts, sizes, numbers) at so_far.is in
-      let low : s ≤ c = left.0 in
-      let rest = left.2 in
-      let lists = length (row_major (drop (dimension + 1) shape)) in
-      let place = place_of (drop (dimension + 1) start) (drop (dimension + 1) shape) (drop (dimension + 1) chunk) in
-      let found = slice_get_within _ place _ (at_place (drop (dimension + 1) start) (drop (dimension + 1) shape) (drop (dimension + 1) chunk) rest) in
-      let many = as_many (drop (dimension + 1) start) (drop (dimension + 1) shape) in
-      let all : (number * n + (c - s)) * lists + place ≡ place_of start shape chunk =
-      one_more number n (c - s) lists place ∙ (rw (length-shape n (drop (dimension + 1) shape)) at is)
-      in
-      record {
-        low = low;
-        few = no_more (number * n + (c - s)) lists place (place_of start shape chunk) (omega arith) all;
-        next = record { left = rest; is = all };
-      }
-
-  pub all_counted : (number : ℕ) → IsCounted start shape chunk (length shape) number → number ≡ place_of start shape chunk
-  unfolding row_major
-  all_counted number so_far =
-      let (one, other) = length_start start shape chunk within in
-      let long : length shape ≡ length start = omega arith in
-      let is = rw (drop-length shape) at so_far.is in
-      let none : drop (length shape) start ≡ [] = rw long (drop-length start) in
-      let is = rw none at is in
-      omega arith
+-- and of one more of those in a box, as far as a number counts it
+pub place_more : (start shape chunk : List ℕ) → AreWithin start shape chunk → (k number : ℕ) → k < length shape
+    → number ≡ min (place_of (take k start) (take k shape) (take k chunk)) greatest
+    → min (min (number * get_or shape k 0) greatest + (get_or chunk k 0 - get_or start k 0)) greatest
+    ≡ min (place_of (take (k + 1) start) (take (k + 1) shape) (take (k + 1) chunk)) greatest
+place_more start shape chunk within k number less is =
+    let (one, other) = length_start start shape chunk within in
+    let n = get_or shape k 0 in
+    let place = place_of (take k start) (take k shape) (take k chunk) in
+    let starts = length-take-le k start (omega arith) in
+    let sizes = length-take-le k shape (omega arith) in
+    let numbers = length-take-le k chunk (omega arith) in
+    let times : min (number * n) greatest ≡ min (place * n) greatest = ap (λ m. min (m * n) greatest) is ∙ at_most_times place n greatest in
+    rw (
+      take_more start k 0 (omega arith),
+      take_more shape k 0 less,
+      take_more chunk k 0 (omega arith),
+      place_last (take k start) (take k shape) (take k chunk) (get_or start k 0) n (get_or chunk k 0) (omega arith) (omega arith),
+    )
+    (omega (arith, times))
 
 -- the number that is found in a box fits, and is that of the chunk
 pub counted_within : (b : Box) (start shape chunk : List ℕ) → start ≡ b.start → shape ≡ b.shape → IsInside b chunk → length (chunks_in b) < 2 ^ 29

@@ -167,9 +167,13 @@ fn number_in(chunks: &ArraySubset, chunk: &[u64]) -> u64
     ensures is_box { IsBox chunks.now }
 {
     let (start, shape) = (chunks.start(), chunks.shape());
-    let mut number = 0;
+    let mut number = 0u64;
     for dimension in 0..shape.len() {
-        number = number * shape[dimension] + (chunk[dimension] - start[dimension]);
+        // Nothing is cut off, since the chunks of the box are few.
+        let steps = chunk[dimension].saturating_sub(start[dimension]);
+        number = number
+            .saturating_mul(shape[dimension])
+            .saturating_add(steps);
     }
     number
 }

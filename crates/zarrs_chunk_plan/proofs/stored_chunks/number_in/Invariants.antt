@@ -1,6 +1,8 @@
-use Rattle.zarrs_chunk_plan.proofs.MarkedChunks.{IsCounted}
+use Rattle.std.proofs.Common.{◌≡◌, min, take}
+use Rattle.zarrs_chunk_base.specs.Greatest.{greatest}
+use Rattle.zarrs_chunk_plan.proofs.MarkedChunks.{place_of}
 use Rattle.zarrs_chunk_plan.proofs.stored_chunks.number_in.Given as goal
 
--- the dimensions so far have given this number
+-- the number that the dimensions so far give
 abbrev pub invariant-loop-dimension : goal.invariant-loop-dimension
-invariant-loop-dimension l = IsCounted l.start l.shape l.chunk l.dimension l.number
+invariant-loop-dimension l = l.number ≡ min (place_of (take l.dimension l.start) (take l.dimension l.shape) (take l.dimension l.chunk)) greatest
