@@ -1,8 +1,9 @@
 -- What a chunk holds of the whole array, and which chunks hold some of it.
-use Rattle.std.proofs.Common.{◌≡◌, ◌↔◌, ℕ, List, [], ◌∷◌, Contains, arith, length, replicate}
+use Rattle.std.proofs.Common.{◌≡◌, ◌↔◌, ℕ, zero, suc, ◌<◌, List, [], ◌∷◌, Contains, arith, get_or, length, replicate}
 use Rattle.std.specs.List.{AllByRecursion, AllZip}
 use Rattle.zarrs_chunk_base.specs.ArraySubset.{Box, IsEmptyBox, IsInside}
 use Rattle.zarrs_chunk_base.specs.Dimension.{Dimension, InBox, IsChain, array_sizes}
+use Rattle.zarrs_chunk_axes.specs.Along.{Along}
 use Rattle.zarrs_chunk_axes.specs.InBounds.{AreBelow}
 use Rattle.zarrs_chunks.proofs.Covers.{head_some, tail_some}
 use Rattle.zarrs_chunks.proofs.FittingChunks.{counted_home}
@@ -38,6 +39,13 @@ some_held _ _ hold = absurd hold
 
 pub hold_meets : (ds : List Dimension) (chunk : List ℕ) → AllHoldSome ds chunk → Meets ds (array_box ds) chunk
 hold_meets ds chunk hold = let (index, box, below) = some_held ds chunk hold in (index, box, (in_array ds index).0 below)
+
+-- along the dimension of a number
+pub along_each : (R : Dimension → ℕ → Type 0) (ds : List Dimension) (numbers : List ℕ) (k : ℕ) → AllZip R ds numbers → k < length ds
+    → Along (λ d. R d (get_or numbers k 0)) ds k
+along_each R (d ∷ ds) (n ∷ numbers) zero each within = each.0
+along_each R (d ∷ ds) (n ∷ numbers) (suc k) each within = along_each R ds numbers k each.1 (omega arith)
+along_each R _ _ k each within = absurd (first_of (assumption, omega arith))
 
 -- what a chunk shares with the whole array are the elements that it holds
 pub held_elements : (ds : List Dimension) (chunk index : List ℕ) → IsCommon ds (array_box ds) chunk index ↔ HasElementOf ds chunk index

@@ -1,5 +1,5 @@
 -- A chunk that is a longest one along each dimension is a largest one.
-use Rattle.std.proofs.Common.{◌≡◌, ◌⊎◌, ℕ, zero, suc, ◌+◌, ◌-◌, ◌<◌, ◌≤◌, Bool, true, false, IsTrue, List, [], ◌∷◌, ◌++◌, Contains, get_or, length}
+use Rattle.std.proofs.Common.{◌≡◌, ◌⊎◌, ℕ, suc, ◌+◌, ◌-◌, ◌<◌, ◌≤◌, Bool, true, false, IsTrue, List, [], ◌∷◌, ◌++◌, Contains, get_or, length}
 use Rattle.std.proofs.Common.{ap₂, arith, inl, inr, max, refl, replicate, subst, sym, true≢false, ⊎_elim}
 use Rattle.std.proofs.lemmas.Bool.{cases_lt}
 use Rattle.std.proofs.lemmas.List.{get_or_append_left, get_or_push}
@@ -100,11 +100,6 @@ in_each R [] [] [] e f each = tt
 in_each R (d ∷ ds) (n ∷ numbers) (x ∷ values) e f each =
     (each 0 (omega arith), in_each R ds numbers values (omega arith) (omega arith) (λ k within. each (suc k) (omega arith)))
 in_each R _ _ _ e f each = absurd (omega arith)
-
-pub used_along : (ds : List Dimension) (used : List ℕ) (k : ℕ) → AllZip UsesFirst ds used → k < length ds → Along (λ d. UsesFirst d (get_or used k 0)) ds k
-used_along (d ∷ ds) (n ∷ used) zero uses within = uses.0
-used_along (d ∷ ds) (n ∷ used) (suc k) uses within = used_along ds used k uses.1 (omega arith)
-used_along _ _ k uses within = absurd (first_of (assumption, omega arith))
 
 longest_chunk : (ds : List Dimension) (used edges : List ℕ) → AllZip UsesFirst ds used → (¬ Contains used 0) → InEach IsLongest ds used edges
     → (chunk : List ℕ) × AllHoldSome ds chunk × IsShape ds chunk edges

@@ -21,6 +21,7 @@ pub mod Exchanged
 pub mod FromNumber
 pub mod HeldBoxes
 pub mod HeldLines
+pub mod HeldRanges
 pub mod Joined
 pub mod Kept
 pub mod LargestChunks

@@ -1,8 +1,8 @@
 -- The cover of what a chunk of the target takes.
-use Rattle.std.proofs.Common.{◌≡◌, ◌≢◌, ◌↔◌, ◌∙◌, ℕ, zero, suc, ◌<◌, ◌≤◌, List, [], get_or, length, refl, ap, ap₂, subst, sym, arith}
+use Rattle.std.proofs.Common.{◌≡◌, ◌≢◌, ◌↔◌, ◌∙◌, ℕ, zero, suc, ◌<◌, List, [], get_or, length, refl, ap, sym, arith}
 use Rattle.std.proofs.lemmas.List.{length-map}
-use Rattle.std.specs.List.{AllByRecursion, AllZip}
-use Rattle.zarrs_chunk_base.specs.ArraySubset.{Box, IsBox, IsEmptyBox, IsInside, ends, lasts, zero_box}
+use Rattle.std.specs.List.{AllByRecursion}
+use Rattle.zarrs_chunk_base.specs.ArraySubset.{Box, IsBox, IsEmptyBox, IsInside, zero_box}
 use Rattle.zarrs_chunk_base.specs.Dimension.{Dimension, Holds, InBox, IsChain, array_sizes}
 use Rattle.zarrs_chunk_base.proofs.Boxes.{within_lengths}
 use Rattle.zarrs_chunk_base.proofs.InEach.{length_values}
@@ -10,19 +10,15 @@ use Rattle.zarrs_chunk_axes.specs.InBounds.{AreBelow}
 use Rattle.zarrs_chunks.specs.Subsets.{IsCover}
 use Rattle.zarrs_chunks.specs.Walks.{counted_from}
 use Rattle.zarrs_chunk_parts.specs.Plan.{AreShared, Meets}
-use Rattle.zarrs_chunk_plan.specs.Rechunking.{array_box}
 use Rattle.zarrs_chunk_plan.specs.Region.{shifted}
-use Rattle.zarrs_chunk_parts.specs.seen.Shared.{distances}
 use Rattle.zarrs_chunk_plan.specs.seen.Sources.{AreRanges, AreTaking, counters, met_by, met_by_range, met_in, taken_box, taken_sizes, taken_starts}
 use Rattle.zarrs_chunk_plan.proofs.BoxCover.{none_below}
 use Rattle.zarrs_chunk_plan.proofs.MetChunks.{cover_sizes, met_along_each, meets_take, shares_met, taken_common}
 use Rattle.zarrs_chunk_plan.proofs.MovedBoxes.{within_long, within_starts}
 use Rattle.zarrs_chunk_plan.proofs.OneDimension.{OfRanges, ranges_at, row_has}
 use Rattle.zarrs_chunk_plan.proofs.Plans.{not_empty_if_inside}
-use Rattle.zarrs_chunk_plan.proofs.Rechunkings.{counted_from_zeros, in_array}
 use Rattle.zarrs_chunk_plan.proofs.SameBoxes.{same_box_of}
-use Rattle.zarrs_chunk_plan.proofs.Written.{RangesTake, all_taken, all_taken_has, counters_long, first_within, last_within, ranges_take}
-use Rattle.zarrs_chunk_plan.proofs.Written.{starts_before_ends}
+use Rattle.zarrs_chunk_plan.proofs.Written.{counters_long, ranges_take}
 
 -- ---- what is found of a chunk and a box
 
@@ -50,15 +46,6 @@ module _ (ds : List Dimension) (b : Box) (chunk : List ℕ) (meets : Meets ds b 
         let long = within_lengths boxes.shared.start boxes.shared.shape meets.0 ((boxes.elements meets.0).1 (meets.1, meets.2)) in
         let shapes = ap length boxes.from_subset.shape in
         omega (arith, boxes.is_box.lengths, boxes.from_subset.is_box.lengths)
-
--- of the whole array that is its box of the array
-held_is : (ds : List Dimension) (chunk : List ℕ) (in_chunk in_subset : Box) → AreShared ds (array_box ds) chunk in_chunk in_subset
-    → Meets ds (array_box ds) chunk → in_subset ≡ taken_box ds (array_box ds) chunk
-held_is ds chunk in_chunk in_subset boxes meets =
-    let many = as_many ds (array_box ds) chunk meets in_chunk in_subset boxes in
-    ap₂ (λ (a b : List ℕ). record { start = a; shape = b })
-    (sym (counted_from_zeros (length ds) in_subset.start many) ∙ starts_are ds (array_box ds) chunk meets in_chunk in_subset boxes)
-    (sizes_are ds (array_box ds) chunk meets in_chunk in_subset boxes)
 
 -- ---- chunks that take some of a box
 
@@ -120,64 +107,19 @@ pub zeros_none : (n : ℕ) → n ≢ 0 → IsEmptyBox (zero_box n)
 zeros_none zero some = absurd (some refl)
 zeros_none (suc n) some = (0, omega arith, refl)
 
--- ---- the elements that chunks of a grid hold, which each hold some
+-- ---- no chunks
 
-module _ (ds : List Dimension) (chunks : Box) (is_box : IsBox chunks) (long : length chunks.start ≡ length ds) where
-  pub some_dimensions : IsEmptyBox chunks → length ds ≢ 0
-  some_dimensions (k, within, is) none = absurd (omega (arith, is_box.lengths))
+module _ (ds : List Dimension) (chunks : Box) (is_box : IsBox chunks) (long : length chunks.start ≡ length ds) (empty : IsEmptyBox chunks) where
+  pub some_dimensions : length ds ≢ 0
+  some_dimensions none = let (k, within, is) = empty in absurd (omega (arith, is_box.lengths))
 
-  -- none, of no chunks
-  pub none_held : IsEmptyBox chunks → (index : List ℕ)
+  pub none_held : (index : List ℕ)
       → IsInside (zero_box (length ds)) index
       ↔ (AreBelow (array_sizes ds) index × ((chunk : List ℕ) × IsInside chunks chunk × InBox ds chunk index))
-  none_held empty index = (
-    λ inside. absurd (none_below (length ds) (some_dimensions empty) index inside),
+  none_held index = (
+    λ inside. absurd (none_below (length ds) some_dimensions index inside),
     λ (_, (chunk, inside, _)). absurd (not_empty_if_inside chunks.start chunks.shape chunk inside empty),
   )
 
-  pub zeros_empty : IsEmptyBox chunks → IsEmptyBox (zero_box (length ds))
-  zeros_empty empty = zeros_none (length ds) (some_dimensions empty)
-
-  module _ (chains : AllByRecursion IsChain ds) (some : ¬ IsEmptyBox chunks)
-      (meet : (chunk : List ℕ) → IsInside chunks chunk → Meets ds (array_box ds) chunk) where
-    first_meets : Meets ds (array_box ds) chunks.start
-    first_meets = meet chunks.start (first_within chunks.start chunks.shape is_box.lengths some)
-
-    last_meets : Meets ds (array_box ds) (lasts chunks.start chunks.shape)
-    last_meets = meet (lasts chunks.start chunks.shape) (last_within chunks.start chunks.shape is_box.lengths some)
-
-    take : RangesTake ds (array_box ds).start (array_box ds).shape chunks.start chunks.shape
-    take =
-        ranges_take ds (array_box ds).start (array_box ds).shape chunks.start chunks.shape long is_box.lengths some
-        (λ chunk within. meets_take ds (array_box ds) chunk (meet chunk within))
-
-    module _ (first first_in last last_in : Box)
-        (of_first : Meets ds (array_box ds) chunks.start → AreShared ds (array_box ds) chunks.start first_in first)
-        (of_last : Meets ds (array_box ds) (lasts chunks.start chunks.shape)
-        → AreShared ds (array_box ds) (lasts chunks.start chunks.shape) last_in last) where
-      first_is : first ≡ taken_box ds (array_box ds) chunks.start
-      first_is = held_is ds chunks.start first_in first (of_first first_meets) first_meets
-
-      last_is : last ≡ taken_box ds (array_box ds) (lasts chunks.start chunks.shape)
-      last_is = held_is ds (lasts chunks.start chunks.shape) last_in last (of_last last_meets) last_meets
-
-      pub in_order : AllZip ◌≤◌ first.start (ends last.start last.shape)
-      in_order = rw (first_is, last_is) (starts_before_ends ds (array_box ds).start (array_box ds).shape chunks.start chunks.shape chains take some)
-
-      pub between_has : (b : Box) → b ≡ record { start = first.start; shape = distances first.start (ends last.start last.shape) }
-          → (index : List ℕ)
-          → IsInside b index
-          ↔ (AreBelow (array_sizes ds) index × ((chunk : List ℕ) × IsInside chunks chunk × InBox ds chunk index))
-      between_has b is index =
-          let has = all_taken_has ds (array_box ds).start (array_box ds).shape chunks.start chunks.shape chains take some index in
-          let all : b ≡ all_taken ds (array_box ds).start (array_box ds).shape chunks.start chunks.shape = rw (is, first_is, last_is) refl in (
-            λ inside. let (within, held) = has.0 (subst (λ z. IsInside z index) all inside) in ((in_array ds index).1 within, held),
-            λ (below, held). subst (λ z. IsInside z index) (sym all) (has.1 ((in_array ds index).0 below, held)),
-          )
-
-      pub between_some : (b : Box) → b ≡ record { start = first.start; shape = distances first.start (ends last.start last.shape) }
-          → ¬ IsEmptyBox b
-      between_some b is =
-          let (index, box, inside) = first_meets in
-          not_empty_if_inside b.start b.shape index
-          ((between_has b is index).1 ((in_array ds index).1 inside, (chunks.start, first_within chunks.start chunks.shape is_box.lengths some, box)))
+  pub zeros_empty : IsEmptyBox (zero_box (length ds))
+  zeros_empty = zeros_none (length ds) some_dimensions

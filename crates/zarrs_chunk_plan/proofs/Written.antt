@@ -1,17 +1,13 @@
 -- The chunks of the target that take some of a box: what they hold of it, along each dimension and all together.
-use Rattle.std.proofs.Common.{◌≡◌, ◌↔◌, ◌∙◌, ℕ, zero, suc, ◌+◌, ◌-◌, ◌<◌, ◌≤◌, List, [], ◌∷◌, Contains, IsTrue, fold, length, map, max}
+use Rattle.std.proofs.Common.{◌≡◌, ◌∙◌, ℕ, zero, suc, ◌+◌, ◌-◌, ◌<◌, ◌≤◌, List, [], ◌∷◌, Contains, IsTrue, fold, length, map, max}
 use Rattle.std.proofs.Common.{refl, ap, subst, arith}
 use Rattle.std.proofs.lemmas.List.FromFn.{map-range_with_len_more}
 use Rattle.std.proofs.lemmas.List.Sums.{sum_by_push}
-use Rattle.std.specs.List.{AllByRecursion, AllZip, range_with_len, sum}
-use Rattle.zarrs_chunk_base.specs.ArraySubset.{AreWithin, Box, IsInside, ends, lasts}
-use Rattle.zarrs_chunk_base.specs.Dimension.{Dimension, InBox, IsChain}
-use Rattle.zarrs_chunks.proofs.Chains.{in_chain}
+use Rattle.std.specs.List.{range_with_len, sum}
+use Rattle.zarrs_chunk_base.specs.ArraySubset.{AreWithin, lasts}
+use Rattle.zarrs_chunk_base.specs.Dimension.{Dimension, IsChain}
 use Rattle.zarrs_chunks.proofs.Covers.{head_some, tail_some}
-use Rattle.zarrs_chunks.proofs.Meeting.{lies_between, lies_within}
-use Rattle.zarrs_chunk_parts.specs.seen.Shared.{distances}
-use Rattle.zarrs_chunk_plan.specs.seen.Sources.{RangeTakes, TakesSome, counters_from, met_along, met_by_range, met_in, taken, taken_from, taken_sizes}
-use Rattle.zarrs_chunk_plan.specs.seen.Sources.{taken_starts}
+use Rattle.zarrs_chunk_plan.specs.seen.Sources.{RangeTakes, TakesSome, counters_from, met_along, met_by_range, met_in, taken, taken_from}
 use Rattle.zarrs_chunk_plan.proofs.MetChunks.{AllTakeSome, met_at_most}
 use Rattle.zarrs_chunk_plan.proofs.RegularCounts.{fold_max_push}
 
@@ -117,69 +113,3 @@ module _ (s t : Dimension) (chain : IsChain s) (also : IsChain t) (first at coun
       let most = at_most_taken (begin + j) (takes (begin + j) (omega arith) (omega arith)) in
       let (_, some) = takes (begin + j) (omega arith) (omega arith) in
       omega arith
-
--- ---- all together
-
--- the box from the first element that the first chunk takes to the last one that the last does
-abbrev pub all_taken : List Dimension → (at shape first sizes : List ℕ) → Box
-all_taken ds at shape first sizes =
-    let last = lasts first sizes in
-    record {
-      start = taken_starts ds at first;
-      shape = distances (taken_starts ds at first) (ends (taken_starts ds at last) (taken_sizes ds at shape last));
-    }
-
--- the first chunk's share starts before the last one's ends
-pub starts_before_ends : (ds : List Dimension) (at shape first sizes : List ℕ) → AllByRecursion IsChain ds → RangesTake ds at shape first sizes
-    → (¬ Contains sizes 0)
-    → AllZip ◌≤◌ (taken_starts ds at first) (ends (taken_starts ds at (lasts first sizes)) (taken_sizes ds at shape (lasts first sizes)))
-starts_before_ends [] [] [] [] [] chains takes some = tt
-starts_before_ends (d ∷ ds) (a ∷ at) (n ∷ shape) (c ∷ first) (k ∷ sizes) chains takes some =
-    let here = head_some k sizes some in
-    let (has, any) = takes.0 (c + (k - 1)) (omega arith) (omega arith) in
-    let (start, _) = in_chain d chains.0 c (c + (k - 1)) (omega arith) has in
-    (omega arith, starts_before_ends ds at shape first sizes chains.1 takes.1 (tail_some k sizes some))
-starts_before_ends _ _ _ _ _ chains takes some = absurd takes
-
--- it has the elements of the box that the chunks hold
-abbrev HasAllTaken : List Dimension → (at shape first sizes index : List ℕ) → Type 0
-HasAllTaken ds at shape first sizes index = IsInside (all_taken ds at shape first sizes) index
-    ↔ (AreWithin at shape index × ((chunk : List ℕ) × AreWithin first sizes chunk × InBox ds chunk index))
-
-module _ (d : Dimension) (chain : IsChain d) (ds : List Dimension) (a n c k i : ℕ) (at shape first sizes index : List ℕ) (some : 0 < k)
-    (takes : RangeTakes d a n c k) (others : HasAllTaken ds at shape first sizes index) where
-  last_takes : TakesSome d a n (c + (k - 1))
-  last_takes = takes (c + (k - 1)) (omega arith) (omega arith)
-
-  find : IsInside (all_taken (d ∷ ds) (a ∷ at) (n ∷ shape) (c ∷ first) (k ∷ sizes)) (i ∷ index)
-      → AreWithin (a ∷ at) (n ∷ shape) (i ∷ index)
-      × ((chunk : List ℕ) × AreWithin (c ∷ first) (k ∷ sizes) chunk × InBox (d ∷ ds) chunk (i ∷ index))
-  find within =
-      let (has, any) = last_takes in
-      let last = c + (k - 1) in
-      let (start, _) = in_chain d chain c last (omega arith) has in
-      let (rest, (chunk, between, box)) = others.0 within.2 in
-      let (b, low, high, in_chunk) = lies_between d chain c (k - 1) i has (omega arith) (omega arith) in
-      ((omega arith, omega arith, rest), (b ∷ chunk, (low, omega arith, between), (in_chunk, box)))
-
-  lie : (chunk : List ℕ) → AreWithin (a ∷ at) (n ∷ shape) (i ∷ index) → AreWithin (c ∷ first) (k ∷ sizes) chunk → InBox (d ∷ ds) chunk (i ∷ index)
-      → IsInside (all_taken (d ∷ ds) (a ∷ at) (n ∷ shape) (c ∷ first) (k ∷ sizes)) (i ∷ index)
-  lie [] below within box = absurd within
-  lie (b ∷ chunk) below within box =
-      let (has, any) = last_takes in
-      let low : c ≤ b = within.0 in
-      let (from, end) = lies_within d chain c (c + (k - 1)) b i has low (omega arith) box.0 in
-      (omega arith, omega arith, others.1 (below.2, (chunk, within.2, box.1)))
-
-pub all_taken_has : (ds : List Dimension) (at shape first sizes : List ℕ) → AllByRecursion IsChain ds → RangesTake ds at shape first sizes
-    → (¬ Contains sizes 0) → (index : List ℕ) → HasAllTaken ds at shape first sizes index
-all_taken_has [] [] [] [] [] chains takes some [] = (λ _. (tt, ([], tt, tt)), λ _. tt)
-all_taken_has [] [] [] [] [] chains takes some (_ ∷ _) = (λ h. absurd h, λ h. absurd h.0)
-all_taken_has (d ∷ ds) (a ∷ at) (n ∷ shape) (c ∷ first) (k ∷ sizes) chains takes some [] = (λ h. absurd h, λ h. absurd h.0)
-all_taken_has (d ∷ ds) (a ∷ at) (n ∷ shape) (c ∷ first) (k ∷ sizes) chains takes some (i ∷ index) =
-    let others = all_taken_has ds at shape first sizes chains.1 takes.1 (tail_some k sizes some) index in
-    let here = head_some k sizes some in (
-      find d chains.0 ds a n c k i at shape first sizes index here takes.0 others,
-      λ (below, (chunk, within, box)). lie d chains.0 ds a n c k i at shape first sizes index here takes.0 others chunk below within box,
-    )
-all_taken_has _ _ _ _ _ chains takes some index = absurd takes

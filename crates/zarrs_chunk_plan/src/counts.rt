@@ -1,9 +1,10 @@
 //! How much a plan copies, without a walk over it.
-ghost use Rattle.std.specs.Prelude.{◌≡◌, ◌≢◌, ◌⊎◌, ◌≤◌, ◌↔◌, ℕ, IfErr, IfOk, List, MatchOption, fold, length, map, max, min};
-ghost use Rattle.std.specs.List.{AllZip, sum};
-ghost use Rattle.zarrs_chunk_base.specs.ArraySubset.{Box, IsBox, IsEmptyBox, IsInside, ends};
+ghost use Rattle.std.specs.Prelude.{◌≡◌, ◌≢◌, ◌⊎◌, ◌<◌, ◌≤◌, ◌↔◌, ℕ, IfErr, IfOk, List, MatchOption, fold, length, map, max, min};
+ghost use Rattle.std.specs.List.{sum};
+ghost use Rattle.zarrs_chunk_base.specs.ArraySubset.{Box, IsBox, IsEmptyBox, IsInside};
 ghost use Rattle.zarrs_chunk_base.specs.Dimension.{InBox, array_sizes};
 ghost use Rattle.zarrs_chunk_base.specs.Refusal.{HasMemory, OrMemory};
+ghost use Rattle.zarrs_chunk_axes.specs.Along.{Along};
 ghost use Rattle.zarrs_chunk_axes.specs.InBounds.{AreBelow};
 ghost use Rattle.zarrs_chunk_plan.specs.Counts.{AreCopyCounts, AreFew, product};
 ghost use Rattle.zarrs_chunk_parts.specs.Plan.{Meets};
@@ -11,22 +12,23 @@ ghost use Rattle.zarrs_chunk_plan.specs.Rechunking.{AreTargets, Group, IsRechunk
 ghost use Rattle.zarrs_chunk_plan.specs.Region.{AnyChunk, CanBeMoved, IsRegionCopy, IsRegionFault, moved};
 ghost use Rattle.zarrs_chunk_plan.specs.seen.Copies.{IsCopiesFault};
 ghost use Rattle.zarrs_chunk_plan.specs.seen.ReadCounts.{AnswersCounts, AnswersNoCounts};
-ghost use Rattle.zarrs_chunk_parts.specs.seen.Shared.{distances};
 ghost use Rattle.zarrs_chunk_plan.specs.seen.TargetCounts.{AreTargetCounts, met_by_each};
 ghost use Rattle.zarrs_chunk_plan.specs.seen.Sources.{AreTaking, counters};
+ghost use Rattle.zarrs_chunk_plan.specs.seen.Used.{HoldsSome, IsHeldRange};
 
 use crate::boxes_from_zero::whole_array;
 use crate::copies_error::CopiesError;
 use crate::few::are_few;
+use crate::laws::all_fit;
 use crate::rechunking::{chunks_with, targets_of};
 use crate::region::moved_box;
 use crate::region_error::RegionError;
-use crate::sources::{Move, sources_along_each};
+use crate::sources::{Move, expect_found, sources_along_each};
 use crate::stored_array::StoredArray;
 use std::alloc::{AllocError, Global};
 use zarrs_chunk_base::{ArrayShape, ArraySubset, IncompatibleDimensionalityError, Refusal};
 use zarrs_chunk_keys::ChunkKeyEncodingTraits;
-use zarrs_chunk_parts::{box_of, shared_elements, steps_to};
+use zarrs_chunk_parts::box_of;
 use zarrs_chunks::ChunkGridTraits;
 
 /// How much a plan copies. Each count is the product of the numbers in its list: it may be larger than any integer type holds. These are found
@@ -133,7 +135,7 @@ pub fn counts_of_rechunking<
 {
     let targets = targets_of(alloc, &source.grid, &target.grid, chunks)?;
     let array = whole_array(alloc, &target.grid)?;
-    let elements = elements_in(alloc, &target.grid, &array, &targets)?;
+    let elements = elements_in(alloc, &target.grid, &targets)?;
     let whole = Move {
         source: &source.grid,
         target: &target.grid,
@@ -248,18 +250,15 @@ fn copies_along<G: ChunkGridTraits, H: ChunkGridTraits>(
     Ok((Some(sources.in_all), Some(sources.most)))
 }
 
-/// The box of the elements of the array that chunks hold, which each hold some: from the first one of the first chunk to the last one of the last. Of
-/// no chunks it is an empty box.
+/// The box of the elements of the array that chunks hold, which each hold some. Of no chunks it is an empty box.
 ///
 /// # Errors
 /// Out of memory.
 fn elements_in<G: ChunkGridTraits>(
     alloc: Global,
     grid: &G,
-    array: &ArraySubset,
     chunks: &ArraySubset,
 ) -> Result<ArraySubset, AllocError>
-    requires array { array.now ≡ array_box (G.dimensions grid.now) }
     requires meet { (chunk : List ℕ) → IsInside chunks.now chunk
         → Meets (G.dimensions grid.now) (array_box (G.dimensions grid.now)) chunk }
     requires long { length chunks.now.start ≡ length (G.dimensions grid.now) }
@@ -272,29 +271,39 @@ fn elements_in<G: ChunkGridTraits>(
     let Some(last) = chunks.end_inc(alloc)? else {
         return Ok(ArraySubset::new_empty(alloc, grid.dimensionality())?);
     };
-    let first = shared_elements(alloc, grid, array, chunks.start())?.in_subset;
-    let last = shared_elements(alloc, grid, array, &last)?.in_subset;
-    Ok(box_between(alloc, &first, &last)?)
+    let first = chunks.start();
+    let mut start = Vec::with_capacity(alloc, first.len())?;
+    let mut shape = Vec::with_capacity(alloc, first.len())?;
+    for dimension in 0..first.len() {
+        let range = elements_along(alloc, grid, dimension, first[dimension], last[dimension])?;
+        start.push(range.0)?;
+        shape.push(range.1)?;
+    }
+    Ok(box_of(start, shape))
 }
 
-/// The box from the start of one box to the end of another.
+/// The elements of the array that the chunks of a dimension hold from one up to another, which both hold some: the first one, and how many they are.
 ///
 /// # Errors
 /// Out of memory.
-fn box_between(
+fn elements_along<G: ChunkGridTraits>(
     alloc: Global,
-    first: &ArraySubset,
-    last: &ArraySubset,
-) -> Result<ArraySubset, AllocError>
-    requires { AllZip ◌≤◌ first.now.start (ends last.now.start last.now.shape) }
-    ensures { IfOk result (λ b. b ≡ record {
-      start = first.now.start;
-      shape = distances first.now.start (ends last.now.start last.now.shape);
-    }) }
+    grid: &G,
+    dimension: usize,
+    first: u64,
+    last: u64,
+) -> Result<(u64, u64), AllocError>
+    requires first { Along (λ d. HoldsSome d first) (G.dimensions grid.now) dimension }
+    requires last { Along (λ d. HoldsSome d last) (G.dimensions grid.now) dimension }
+    requires in_order { first ≤ last }
+    requires dimension { dimension < length (G.dimensions grid.now) }
+    ensures { IfOk result (λ range. Along (λ d. IsHeldRange d first last range.0 range.1)
+        (G.dimensions grid.now) dimension) }
 {
-    last.is_a_box();
-    let end = last.end_exc(alloc)?;
-    let start = first.start().to_vec(alloc)?;
-    let shape = steps_to(start.clone()?, &end);
-    Ok(box_of(start, shape))
+    let (start, _) = expect_found(grid.range_along(alloc, dimension, first)?)?;
+    let (last_start, edge) = expect_found(grid.range_along(alloc, dimension, last)?)?;
+    let sizes = grid.array_shape();
+    all_fit(sizes);
+    let end = last_start.saturating_add(edge).min(sizes[dimension]);
+    Ok((start, end.saturating_sub(start)))
 }

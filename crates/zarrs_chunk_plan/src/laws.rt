@@ -489,7 +489,7 @@ pub fn each_chunk_has_one_change<G: ChunkGridTraits, H: ChunkGridTraits, E: Chun
 }
 
 /// That sizes are at most the greatest number: the types say it.
-fn all_fit(sizes: &[u64])
+pub(crate) fn all_fit(sizes: &[u64])
     ensures { AllFit sizes.now }
 {}
 

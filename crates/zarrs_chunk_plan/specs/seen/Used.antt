@@ -1,6 +1,7 @@
 -- Which chunks hold elements of the array along one dimension, and which of them a resize keeps.
-use Rattle.std.specs.Prelude.{◌≡◌, ◌↔◌, ◌-◌, ◌<◌, ◌≤◌, ℕ, IsTrue, List, min}
-use Rattle.zarrs_chunk_base.specs.Dimension.{Dimension, HasEdge}
+use Rattle.std.specs.Prelude.{◌≡◌, ◌↔◌, ◌+◌, ◌-◌, ◌<◌, ◌≤◌, ℕ, IsTrue, List, min}
+use Rattle.zarrs_chunk_base.specs.Dimension.{Dimension, HasEdge, Holds}
+use Rattle.zarrs_chunk_base.specs.Greatest.{greatest}
 use Rattle.zarrs_chunk_axes.specs.Along.{Along}
 use Rattle.zarrs_chunk_plan.specs.Resize.{IsResized}
 
@@ -11,6 +12,12 @@ HoldsSome d c = IsTrue (d.has_chunk c) × (d.start c < d.end c) × (d.start c < 
 -- so many chunks hold an element of the array, from the first one on, if there are some
 abbrev pub UsesFirst : Dimension → ℕ → Type 0
 UsesFirst d used = 0 < used → (c : ℕ) → c < used ↔ HoldsSome d c
+
+-- the chunks from `first` up to `last` hold `size` elements of the array, those from `start` on
+pub record IsHeldRange (d : Dimension) (first last start size : ℕ) : Type 0 where
+  pub are : (i : ℕ) → ((start ≤ i) × (i < start + size)) ↔ ((i < d.array_size) × ((c : ℕ) × (first ≤ c) × (c ≤ last) × Holds d c i))
+  pub some : 0 < size
+  pub fits : start + size ≤ greatest
 
 -- The longest of so many chunks, from the first one on, is so many elements long; 1, if there are none.
 pub record IsLongest (d : Dimension) (many edge : ℕ) : Type 0 where

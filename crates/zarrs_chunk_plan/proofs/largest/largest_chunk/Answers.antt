@@ -5,8 +5,8 @@ use Rattle.zarrs_chunk_base.specs.Dimension.{InEach}
 use Rattle.zarrs_chunk_axes.specs.Along.{Along}
 use Rattle.zarrs_chunk_plan.specs.Rechunking.{array_box}
 use Rattle.zarrs_chunk_plan.specs.seen.Used.{IsLongest, UsesFirst}
-use Rattle.zarrs_chunk_plan.proofs.HeldBoxes.{some_chunks}
-use Rattle.zarrs_chunk_plan.proofs.LargestChunks.{in_each, is_largest, largest_of_none, pushed, used_along}
+use Rattle.zarrs_chunk_plan.proofs.HeldBoxes.{along_each, some_chunks}
+use Rattle.zarrs_chunk_plan.proofs.LargestChunks.{in_each, is_largest, largest_of_none, pushed}
 use Rattle.zarrs_chunk_plan.proofs.Plans.{empty_or_some}
 use Rattle.zarrs_chunk_plan.proofs.largest.largest_chunk.Goals as goal
 
@@ -22,7 +22,7 @@ longest_along-requires g c =
     let used = c.in_ok-chunks.chunks.shape in
     let each = (c.in_ok-chunks.ensures {u = tt}).each in
     let less = rw c.shape-used.ensures.value at c.loop-dimension-test.true in
-    rw c.shape-used.ensures.value (used_along ds used c.loop-dimension.dimension each (omega (arith, less, AllZip-long UsesFirst ds used each)))
+    rw c.shape-used.ensures.value (along_each UsesFirst ds used c.loop-dimension.dimension each (omega (arith, less, AllZip-long UsesFirst ds used each)))
 
 pub loop-dimension-preserved : goal.loop-dimension-preserved
 loop-dimension-preserved g c =
