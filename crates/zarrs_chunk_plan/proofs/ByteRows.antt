@@ -1,24 +1,25 @@
 -- Byte ranges along one more dimension.
-use Rattle.std.proofs.Common.{◌≡◌, ◌≢◌, ◌↔◌, ◌∙◌, ℕ, zero, suc, ◌+◌, ◌-◌, ◌*◌, ◌/◌, ◌%◌, ◌<◌, ◌≤◌, List, [], ◌∷◌, ◌++◌, Contains, map, length, drop, get_or, Bool, true, false}
-use Rattle.std.proofs.Common.{◌&&◌, ◌==◌, refl, ap, ap₂, eq-eqb, ne_eqb, subst, sym, ⊎_elim, arith}
-use Rattle.std.proofs.Math.Nat.{add-mul, div-add-mod, mod-lt, mul-le-mul_right, mul_assoc, mul_comm}
-use Rattle.std.proofs.lemmas.List.{get_or-map, length-map, map-append}
+use Rattle.std.proofs.Common.{◌≡◌, ◌↔◌, ◌∙◌, ℕ, zero, suc, ◌+◌, ◌-◌, ◌*◌, ◌/◌, ◌%◌, ◌<◌, ◌≤◌, List, [], ◌∷◌, ◌++◌, Contains, map, length, drop, get_or, Bool, true, false}
+use Rattle.std.proofs.Common.{◌&&◌, ◌==◌, refl, ap, ap₂, false-eqb, subst, sym, ⊎_elim, arith}
+use Rattle.std.proofs.Math.Arith.{lt_of_le-ne}
+use Rattle.std.proofs.Math.Nat.{add-mul, div-lt_iff_lt-mul, mod-lt, mul-le-mul_right, mul_assoc}
 use Rattle.std.proofs.Math.Seq.{drop-cons}
-use Rattle.std.proofs.lemmas.Nat.{le-div}
-use Rattle.std.proofs.lemmas.Bool.{cases_lt, true≢false}
+use Rattle.std.proofs.lemmas.Bool.{eqb-true, true≢false}
+use Rattle.std.proofs.lemmas.List.{map-append}
 use Rattle.std.proofs.lemmas.List.Elements.{Contains-append_cases, Contains-append_left, Contains-append_right}
+use Rattle.std.proofs.lemmas.Nat.{div-add-mod', le-div, row_fits}
 use Rattle.std.specs.List.{AllPairs}
 use Rattle.zarrs_chunk_base.specs.ArraySubset.{AreWithin}
 use Rattle.zarrs_chunk_base.specs.Greatest.{greatest}
 use Rattle.zarrs_chunks.proofs.ChunksInBoxes.{made_of, source_of}
 use Rattle.zarrs_chunks.proofs.Covers.{head_some, tail_some}
-use Rattle.zarrs_chunk_plan.specs.Bytes.{AreRanges, IsByteIn, begins, place, repeated}
+use Rattle.zarrs_chunk_plan.specs.Bytes.{AreRanges, HasByte, IsByteIn, begins, place, repeated}
 use Rattle.zarrs_chunk_plan.specs.Counts.{product}
 use Rattle.zarrs_chunk_plan.specs.Region.{EndWithin}
-use Rattle.zarrs_chunk_plan.specs.seen.Rows.{AreInRow}
+use Rattle.zarrs_chunk_plan.specs.Strided.{Strided, along}
 use Rattle.zarrs_chunk_plan.specs.declared.bytes.MemoryOrder.{MemoryOrder}
 use Rattle.zarrs_chunk_plan.specs.declared.bytes.MemoryOrder.TheVariants.{C}
-use Rattle.zarrs_chunk_plan.proofs.Joined.{pairs_of_both}
+use Rattle.zarrs_chunk_plan.proofs.Joined.{pairs_mapped, pairs_of_both}
 
 -- ---- numbers that are repeated
 
@@ -45,22 +46,21 @@ to_repeated (suc count) stride numbers (suc k) x less among =
     rw same (Contains-append_right numbers (repeated count stride (map (λ y. y + stride) numbers)) ((x + stride) + k * stride)
     (to_repeated count stride (map (λ y. y + stride) numbers) k (x + stride) (omega arith) (made_of (λ y. y + stride) numbers x among)))
 
-shifted_apart : (a long : ℕ) (numbers : List ℕ) → AllPairs (λ one later. one + long < later) numbers
+pub shifted_apart : (a long : ℕ) (numbers : List ℕ) → AllPairs (λ one later. one + long < later) numbers
     → AllPairs (λ one later. one + long < later) (map (λ x. x + a) numbers)
-shifted_apart a long numbers apart = λ i j d before within.
-    let many = length-map numbers (λ (x : ℕ). x + a) in
-    rw (get_or-map (λ (x : ℕ). x + a) numbers i 0 d (omega arith), get_or-map (λ (x : ℕ). x + a) numbers j 0 d (omega arith))
-    (let less : get_or numbers i 0 + long < get_or numbers j 0 = apart i j 0 before (omega arith) in omega arith)
+shifted_apart a long numbers apart =
+    pairs_mapped (λ x. x + a) (λ one later. one + long < later) numbers
+    (λ i j d before within. let less : get_or numbers i d + long < get_or numbers j d = apart i j d before within in omega arith)
 
 -- those of one time lie before those of the next one
-pub repeated_apart : (count stride length first end : ℕ) (numbers : List ℕ) → AllPairs (λ one later. one + length < later) numbers
-    → ((n : ℕ) → Contains numbers n → (first ≤ n) × (n + length ≤ end)) → end < first + stride
-    → AllPairs (λ one later. one + length < later) (repeated count stride numbers)
-repeated_apart zero stride length first end numbers apart lie short = λ i j d before within. absurd (omega arith)
-repeated_apart (suc count) stride length first end numbers apart lie short =
-    pairs_of_both (λ one later. one + length < later) numbers (repeated count stride (map (λ x. x + stride) numbers)) apart
-    (repeated_apart count stride length (first + stride) (end + stride) (map (λ x. x + stride) numbers) (shifted_apart stride length numbers apart)
-    (λ n has. let (x, among, is) = source_of (λ x. x + stride) numbers n has in let (from, to) = lie x among in (omega arith, omega arith)) (omega arith))
+pub repeated_apart : (count stride long first : ℕ) (numbers : List ℕ) → AllPairs (λ one later. one + long < later) numbers
+    → ((n : ℕ) → Contains numbers n → (first ≤ n) × (n + long < first + stride))
+    → AllPairs (λ one later. one + long < later) (repeated count stride numbers)
+repeated_apart zero stride long first numbers apart lie = λ i j d before within. absurd (omega arith)
+repeated_apart (suc count) stride long first numbers apart lie =
+    pairs_of_both (λ one later. one + long < later) numbers (repeated count stride (map (λ x. x + stride) numbers)) apart
+    (repeated_apart count stride long (first + stride) (map (λ x. x + stride) numbers) (shifted_apart stride long numbers apart)
+    (λ n has. let (x, among, is) = source_of (λ x. x + stride) numbers n has in let (from, to) = lie x among in (omega arith, omega arith)))
     (λ one later was is_later.
     let (k, y, less, there, is) = in_repeated count stride (map (λ x. x + stride) numbers) later is_later in
     let (x, among, same) = source_of (λ x. x + stride) numbers y there in
@@ -89,212 +89,203 @@ begin_later a first (count ∷ counts) (stride ∷ strides) =
 
 -- ---- the bytes of a box along one more dimension
 
-module _ (item edge start count : ℕ) (edges starts shape : List ℕ) where
+-- where the ranges of a form begin
+abbrev pub starts_of : Strided → List ℕ
+starts_of form = begins form.first form.counts form.strides
+
+-- a form that is one range
+abbrev pub one_range : (first long : ℕ) → Strided
+one_range first long = record { first = first; length = long; counts = []; strides = [] }
+
+-- These are the ranges of a box along some inner dimensions, in a row. Where the box has all of the row, the one range is the row; where it hasn't,
+-- they reach less far than a row is long.
+pub record AreInRow (item : ℕ) (edges start shape : List ℕ) (form : Strided) (whole : Bool) : Type 0 where
+  pub some : 0 < product edges * item
+  pub long : 0 < form.length
+  pub lists : length form.counts ≡ length form.strides
+  pub are_ranges : AreRanges item C edges start shape form.length (starts_of form)
+  pub lie : (n : ℕ) → Contains (starts_of form) n → (form.first ≤ n) × (n + form.length ≤ product edges * item)
+  pub all : whole ≡ true → form ≡ one_range 0 (product edges * item)
+  pub shorter : whole ≡ false → (n : ℕ) → Contains (starts_of form) n → n + form.length < form.first + product edges * item
+
+pub only : (m n : ℕ) → Contains (m ∷ []) n → n ≡ m
+only m n (zero, small, is) = sym is
+only m n (suc k, small, is) = absurd (omega arith)
+
+pub in_one : (m long byte : ℕ) → HasByte long (m ∷ []) byte ↔ ((m ≤ byte) × (byte < m + long))
+in_one m long byte =
+    (λ (n, has, low, high). let at = only m n has in (omega arith, omega arith), λ (low, high). (m, (zero, omega arith, refl), low, high))
+
+module _ (item edge s n : ℕ) (edges start shape : List ℕ) where
+  abbrev Row : ℕ
+  Row = product edges * item
+
   -- the byte lies in one of the box's rows, where the box along the other dimensions has it
-  abbrev InRow : ℕ → Type 0
-  InRow byte = (i : ℕ) × (b : ℕ) × (start ≤ i) × (i < start + count) × IsByteIn item C edges starts shape b × (byte ≡ b + i * (product edges * item))
-
-  bytes_before : (i : ℕ) (index : List ℕ) → place (edge ∷ edges) (i ∷ index) * item ≡ i * (product edges * item) + place edges index * item
-  bytes_before i index = add-mul (i * product edges) (place edges index) item ∙ ap (λ n. n + place edges index * item) (mul_assoc i (product edges) item)
-
-  pub in_row : (byte : ℕ) → IsByteIn item C (edge ∷ edges) (start ∷ starts) (count ∷ shape) byte ↔ InRow byte
+  in_row : (byte : ℕ) → IsByteIn item C (edge ∷ edges) (s ∷ start) (n ∷ shape) byte
+      ↔ ((i : ℕ) × (b : ℕ) × (s ≤ i) × (i < s + n) × IsByteIn item C edges start shape b × (byte ≡ b + i * Row))
   in_row byte = (
     λ (index, within, (from, below)). first index within from below,
     λ (i, b, from, less, (index, within, (low, high)), is).
         let before = bytes_before i index in (i ∷ index, (from, less, within), (omega arith, omega arith)),
   )
     where
-      first : (index : List ℕ) → AreWithin (start ∷ starts) (count ∷ shape) index → place (edge ∷ edges) index * item ≤ byte
-          → byte < place (edge ∷ edges) index * item + item → InRow byte
-      first (i ∷ index) within from below =
-          let (from_start, to_end, inside) = within in
-          let inner : IsByteIn item C edges starts shape (byte - i * (product edges * item)) = (index, inside, (omega arith, omega arith)) in
-          (i, byte - i * (product edges * item), from_start, to_end, inner, omega arith)
+      bytes_before : (i : ℕ) (index : List ℕ) → place (edge ∷ edges) (i ∷ index) * item ≡ i * Row + place edges index * item
+      bytes_before i index = add-mul (i * product edges) (place edges index) item ∙ ap (λ n. n + place edges index * item) (mul_assoc i (product edges) item)
+
+      first : (index : List ℕ) → AreWithin (s ∷ start) (n ∷ shape) index → place (edge ∷ edges) index * item ≤ byte
+          → byte < place (edge ∷ edges) index * item + item
+          → (i : ℕ) × (b : ℕ) × (s ≤ i) × (i < s + n) × IsByteIn item C edges start shape b × (byte ≡ b + i * Row)
+      first (i ∷ index) (from_start, to_end, inside) from below =
+          let before = bytes_before i index in
+          (i, byte - i * Row, from_start, to_end, (index, inside, (omega arith, omega arith)), omega arith)
       first [] within from below = absurd within
 
-module _ (item edge start count : ℕ) (edges starts shape : List ℕ) (first long : ℕ) (counts strides : List ℕ) (row : ℕ)
-    (some : 0 < count) (within : start + count ≤ edge) (counted : edge * row ≤ greatest) where
-  row_of_all : row ≡ product edges * item → edge * row ≡ product (edge ∷ edges) * item
-  row_of_all is = ap (λ n. edge * n) is ∙ sym (mul_assoc edge (product edges) item)
+  module _ (some : 0 < n) (within : s + n ≤ edge) where
+    row_of_all : product (edge ∷ edges) * item ≡ edge * Row
+    row_of_all = mul_assoc edge (product edges) item
 
-  some_of_all : 0 < row → 0 < edge * row
-  some_of_all any = let more = mul-le-mul_right {m = 1} {n = edge} row (omega arith) in omega arith
-
-  -- the box has all of each row
-  pub all_of_rows : (whole : Bool) → (whole ≡ true → count ≡ edge) → (whole ≡ false → count ≢ edge)
-      → AreInRow item edges starts shape first long counts strides row true
-      → AreInRow item (edge ∷ edges) (start ∷ starts) (count ∷ shape) (first + start * row) (count * row) counts strides (edge * row) whole
-  all_of_rows whole same other was =
-      let (first_is, long_is, no_counts, no_strides) = was.all refl in
-      let none : start * row ≡ 0 + start * row = omega arith in
-      let one : begins (first + start * row) counts strides ≡ (start * row) ∷ [] = rw (no_counts, first_is) (ap (λ n. n ∷ []) (sym none)) in
-      let before : begins first counts strides ≡ 0 ∷ [] = rw (no_counts, first_is) refl in
-      let all_rows = mul-le-mul_right row within in
-      let any = was.some in
-      record {
-        row_is = row_of_all was.row_is;
-        some = some_of_all was.some;
-        fits = counted;
-        long = let more = mul-le-mul_right {m = 1} {n = count} row (omega arith) in let single : 1 * row ≡ row = omega arith in omega arith;
-        lists = was.lists;
-        form = rw (was.row_is, ← was.whole_is, ← was.form) refl;
-        whole_is = equal_or_not whole same other ∙ ap (λ b. b && (count == edge)) was.whole_is;
-        are_ranges = record {
-          those = λ byte. (
-            λ has.
-                let (i, b, from, less, inner, is) = (in_row item edge start count edges starts shape byte).0 has in
-                let (n, among, low, high) = (was.are_ranges.those b).0 inner in
-                let n_is : n ≡ 0 = only 0 n (subst (λ xs. Contains xs n) before among) in
-                let at : byte ≡ b + i * row = rw was.row_is is in
-                let up = mul-le-mul_right row from in
-                let down = mul-le-mul_right {m = i + 1} {n = start + count} row (omega arith) in
-                let next = add-mul i 1 row in
-                let single : 1 * row ≡ row = omega arith in
-                (start * row, subst (λ xs. Contains xs (start * row)) (sym one) (zero, omega arith, refl), omega arith, omega arith),
-            λ (n, among, low, high).
-                let n_is : n ≡ start * row = only (start * row) n (subst (λ xs. Contains xs n) one among) in
-                let i = byte / row in
-                let b = byte % row in
-                let whole_rows : i * row + b ≡ byte = ap (λ m. m + b) (mul_comm i row) ∙ div-add-mod byte row in
-                let part : b < row = mod-lt byte any in
-                let from : start ≤ i = le-div start byte row any (omega arith) in
-                let below : i < start + count =
-                ⊎_elim (λ less. less)
-                (λ (past : start + count ≤ i). let more = mul-le-mul_right row past in absurd (omega arith))
-                (cases_lt i (start + count))
-                in
-                let inner = (was.are_ranges.those b).1 (0, subst (λ xs. Contains xs 0) (sym before) (zero, omega arith, refl), omega arith, omega arith) in
-                let at : byte ≡ b + i * row = omega arith in
-                (in_row item edge start count edges starts shape byte).1 (i, b, from, below, inner, rw (sym was.row_is) at),
-          );
-          apart = subst (AllPairs (λ m later. m + count * row < later)) (sym one) (λ i j d less within. absurd (omega arith));
-        };
-        end = start * row + count * row;
-        lie = λ n has. let n_is : n ≡ start * row = only (start * row) n (subst (λ xs. Contains xs n) one has) in (omega arith, omega arith);
-        from = omega arith;
-        within = omega arith;
-        all = λ is.
-            let equal = same is in
-            let at : start ≡ 0 = omega arith in (
-              rw at (let nothing : first + 0 * row ≡ 0 = omega arith in nothing),
-              ap (λ n. n * row) equal,
-              no_counts,
-              no_strides,
+    -- the box has all of each row
+    all_of_rows : AreInRow item edges start shape (one_range 0 Row) true
+        → AreInRow item (edge ∷ edges) (s ∷ start) (n ∷ shape) (one_range (0 + s * Row) (n * Row)) (n == edge)
+    all_of_rows was =
+        let any = was.some in
+        let outer = row_of_all in
+        let rows = mul-le-mul_right Row within in
+        let split = add-mul s n Row in
+        let long = row_fits 0 Row n Row some (omega arith) in
+        record {
+          some = omega arith;
+          long = omega arith;
+          lists = refl;
+          are_ranges = record {
+            those = λ byte. (
+              λ has.
+                  let (i, b, from, less, inner, is) = (in_row byte).0 has in
+                  let (_, part) = (in_one 0 Row b).0 ((was.are_ranges.those b).0 inner) in
+                  let up = mul-le-mul_right Row from in
+                  let down = row_fits i Row (s + n) Row less (omega arith) in
+                  (in_one (0 + s * Row) (n * Row) byte).1 (omega arith, omega arith),
+              λ has.
+                  let (low, high) = (in_one (0 + s * Row) (n * Row) byte).0 has in
+                  let is = div-add-mod' byte Row in
+                  let part = mod-lt byte any in
+                  let inner = (was.are_ranges.those (byte % Row)).1 ((in_one 0 Row (byte % Row)).1 (omega arith, omega arith)) in
+                  (in_row byte).1
+                  (byte / Row, byte % Row, le-div s byte Row any (omega arith), (div-lt_iff_lt-mul any).1 (omega arith), inner, omega arith),
             );
-        shorter = λ is.
-            let differ = other is in
-            let fewer : count + 1 ≤ edge = less_than count edge (omega arith) differ in
-            let rows = mul-le-mul_right row fewer in
-            let single : 1 * row ≡ row = omega arith in
-            omega arith;
-      }
-    where
-      equal_or_not : (w : Bool) → (w ≡ true → count ≡ edge) → (w ≡ false → count ≢ edge) → w ≡ (count == edge)
-      equal_or_not true is isnt = sym (eq-eqb count edge (is refl))
-      equal_or_not false is isnt = sym (ne_eqb count edge (isnt refl))
+            apart = λ i j d less within. absurd (omega arith);
+          };
+          lie = λ m has. let at = only (0 + s * Row) m has in (omega arith, omega arith);
+          all = λ is.
+              let equal : n ≡ edge = eqb-true n edge is in
+              let at : s ≡ 0 = omega arith in
+              let none : 0 + 0 * Row ≡ 0 = omega arith in
+              ap₂ one_range (ap (λ k. 0 + k * Row) at ∙ none) (ap (λ k. k * Row) equal ∙ sym outer);
+          shorter = λ is m has.
+              let at = only (0 + s * Row) m has in
+              let fewer : n < edge = lt_of_le-ne (omega arith) (false-eqb n edge (sym is)) in
+              let less = row_fits n Row edge Row fewer (omega arith) in
+              omega arith;
+        }
 
-      only : (m n : ℕ) → Contains (m ∷ []) n → n ≡ m
-      only m n (zero, small, is) = sym is
-      only m n (suc k, small, is) = absurd (omega arith)
+    module _ (form : Strided) where
+      abbrev Inner : List ℕ
+      Inner = begins (form.first + s * Row) form.counts form.strides
 
-      less_than : (m n : ℕ) → m ≤ n → m ≢ n → m + 1 ≤ n
-      less_than m n most differ = ⊎_elim (λ (less : m < n). omega arith) (λ (le : n ≤ m). absurd (differ (omega arith))) (cases_lt m n)
+      shifted : Inner ≡ map (λ x. x + s * Row) (starts_of form)
+      shifted = begin_later (s * Row) form.first form.counts form.strides
 
-  -- it has a part of each
-  pub part_of_rows : AreInRow item edges starts shape first long counts strides row false
-      → AreInRow item (edge ∷ edges) (start ∷ starts) (count ∷ shape) (first + start * row) long (count ∷ counts) (row ∷ strides) (edge * row) false
-  part_of_rows was =
-      let less = was.shorter refl in
-      let numbers = begins (first + start * row) counts strides in
-      let later = begin_later (start * row) first counts strides in
-      let end = was.end + start * row + (count - 1) * row in
-      let fewer = add-mul (count - 1) 1 row in
-      let single : 1 * row ≡ row = omega arith in
-      let whole_count : (count - 1 + 1) * row ≡ count * row = ap (λ n. n * row) (let same : count - 1 + 1 ≡ count = omega arith in same) in
-      let reach = was.within in
-      let all_rows = mul-le-mul_right row within in
-      record {
-        row_is = row_of_all was.row_is;
-        some = some_of_all was.some;
-        fits = counted;
-        long = was.long;
-        lists = ap suc was.lists;
-        form = rw (was.row_is, ← was.whole_is, ← was.form) refl;
-        whole_is = ap (λ b. b && (count == edge)) was.whole_is;
-        are_ranges = record {
-          those = λ byte. (
-            λ has.
-                let (i, b, from, less, inner, is) = (in_row item edge start count edges starts shape byte).0 has in
-                let (x, among, low, high) = (was.are_ranges.those b).0 inner in
-                let at : byte ≡ b + i * row = rw was.row_is is in
-                let split = add-mul start (i - start) row in
-                let sum : (start + (i - start)) * row ≡ i * row = ap (λ n. n * row) (let same : start + (i - start) ≡ i = omega arith in same) in
-                let there : Contains numbers (x + start * row) = rw later (made_of (λ y. y + start * row) (begins first counts strides) x among) in (
-                  x + start * row + (i - start) * row,
-                  to_repeated count row numbers (i - start) (x + start * row) (omega arith) there,
-                  omega arith,
-                  omega arith,
-                ),
-            λ (n, has, low, high).
-                let (k, y, before, there, is) = in_repeated count row numbers n has in
-                let (x, among, same) = source_of (λ x. x + start * row) (begins first counts strides) y (subst (λ xs. Contains xs y) later there) in
-                let inner = (was.are_ranges.those (byte - (start + k) * row)).1 (x, among, omega arith, omega arith) in
-                let at : byte ≡ (byte - (start + k) * row) + (start + k) * row = omega arith in
-                (in_row item edge start count edges starts shape byte).1
-                (start + k, byte - (start + k) * row, omega arith, omega arith, inner, rw (sym was.row_is) at),
-          );
-          apart = repeated_apart count row long (first + start * row) (was.end + start * row) numbers
-              (rw later (shifted_apart (start * row) long (begins first counts strides) was.are_ranges.apart))
-              (λ n has. let (x, among, is) = source_of (λ x. x + start * row) (begins first counts strides) n (subst (λ xs. Contains xs n) later has) in
-              let (low, high) = was.lie x among in (omega arith, omega arith)) (omega arith);
-        };
-        end = end;
-        lie = λ n has.
-            let (k, y, before, there, is) = in_repeated count row numbers n has in
-            let (x, among, same) = source_of (λ x. x + start * row) (begins first counts strides) y (subst (λ xs. Contains xs y) later there) in
-            let (low, high) = was.lie x among in
-            let steps = mul-le-mul_right {m = k} {n = count - 1} row (omega arith) in
-            (omega arith, omega arith);
-        from = let start_first = was.from in omega arith;
-        within = omega arith;
-        all = λ no. absurd (true≢false (sym no));
-        shorter = λ _. let rest = less in omega arith;
-      }
+      -- a range of the inner dimensions begins in each of the rows
+      in_outer : (m : ℕ) → Contains (repeated n Row Inner) m
+          → (i : ℕ) × (x : ℕ) × (s ≤ i) × (i < s + n) × Contains (starts_of form) x × (m ≡ x + i * Row)
+      in_outer m has =
+          let (k, y, before, there, is) = in_repeated n Row Inner m has in
+          let (x, among, same) = source_of (λ x. x + s * Row) (starts_of form) y (subst (λ xs. Contains xs y) shifted there) in
+          let sum = add-mul s k Row in
+          (s + k, x, omega arith, omega arith, among, omega arith)
+
+      to_outer : (i x : ℕ) → s ≤ i → i < s + n → Contains (starts_of form) x → Contains (repeated n Row Inner) (x + i * Row)
+      to_outer i x from less among =
+          let at : s + (i - s) ≡ i = omega arith in
+          let sum : i * Row ≡ s * Row + (i - s) * Row = ap (λ k. k * Row) (sym at) ∙ add-mul s (i - s) Row in
+          let is : x + s * Row + (i - s) * Row ≡ x + i * Row = omega arith in
+          subst (Contains (repeated n Row Inner)) is
+          (to_repeated n Row Inner (i - s) (x + s * Row) (omega arith) (rw shifted (made_of (λ y. y + s * Row) (starts_of form) x among)))
+
+      -- it has a part of each
+      part_of_rows : AreInRow item edges start shape form false
+          → AreInRow item (edge ∷ edges) (s ∷ start) (n ∷ shape) (along Row s n false form) false
+      part_of_rows was =
+          let outer = row_of_all in
+          let room = row_fits s Row edge Row (omega arith) (omega arith) in
+          record {
+            some = let any = was.some in omega arith;
+            long = was.long;
+            lists = ap suc was.lists;
+            are_ranges = record {
+              those = λ byte. (
+                λ has.
+                    let (i, b, from, less, inner, is) = (in_row byte).0 has in
+                    let (x, among, low, high) = (was.are_ranges.those b).0 inner in
+                    (x + i * Row, to_outer i x from less among, omega arith, omega arith),
+                λ (m, has, low, high).
+                    let (i, x, from, less, among, is) = in_outer m has in
+                    (in_row byte).1
+                    (i, byte - i * Row, from, less, (was.are_ranges.those (byte - i * Row)).1 (x, among, omega arith, omega arith), omega arith),
+              );
+              apart = repeated_apart n Row form.length (form.first + s * Row) Inner
+                  (rw shifted (shifted_apart (s * Row) form.length (starts_of form) was.are_ranges.apart))
+                  (λ m has. let (x, among, is) = source_of (λ x. x + s * Row) (starts_of form) m (subst (λ xs. Contains xs m) shifted has) in
+                  let (low, high) = was.lie x among in
+                  let reach = was.shorter refl x among in
+                  (omega arith, omega arith));
+            };
+            lie = λ m has.
+                let (i, x, from, less, among, is) = in_outer m has in
+                let (low, high) = was.lie x among in
+                let up = mul-le-mul_right Row from in
+                let down = row_fits i Row edge Row (omega arith) (omega arith) in
+                (omega arith, omega arith);
+            all = λ no. absurd (true≢false (sym no));
+            shorter = λ _ m has.
+                let (i, x, from, less, among, is) = in_outer m has in
+                let reach = was.shorter refl x among in
+                let down = row_fits i Row edge Row (omega arith) (omega arith) in
+                omega arith;
+          }
+
+    pub one_more : (form : Strided) (whole : Bool) → AreInRow item edges start shape form whole
+        → AreInRow item (edge ∷ edges) (s ∷ start) (n ∷ shape) (along Row s n whole form) (whole && (n == edge))
+    one_more form true was =
+        let same = was.all refl in
+        subst (λ f. AreInRow item (edge ∷ edges) (s ∷ start) (n ∷ shape) (along Row s n true f) (n == edge)) (sym same)
+        (all_of_rows (subst (λ f. AreInRow item edges start shape f true) same was))
+    one_more form false was = part_of_rows form was
 
 -- ---- all dimensions
 
--- along each dimension the box has some of the chunk
-some_edges : (start shape edges : List ℕ) → EndWithin start shape edges → (¬ Contains shape 0) → ¬ Contains edges 0
-some_edges (s ∷ start) (n ∷ shape) (edge ∷ edges) within some (zero, small, is) =
+-- along each dimension the box has some of the chunk, so that the chunk has no fewer elements than a row of it
+inner_fewer : (start shape edges : List ℕ) (d : ℕ) → EndWithin start shape edges → (¬ Contains shape 0)
+    → product (drop d edges) ≤ product edges
+inner_fewer start shape edges zero within some = omega arith
+inner_fewer [] [] [] (suc d) within some = omega arith
+inner_fewer (s ∷ start) (n ∷ shape) (edge ∷ edges) (suc d) (ends, within) some =
     let any = head_some n shape some in
-    absurd (omega arith)
-some_edges (s ∷ start) (n ∷ shape) (edge ∷ edges) within some (suc k, small, is) =
-    some_edges start shape edges within.1 (tail_some n shape some) (k, omega arith, is)
-some_edges [] [] [] within some (k, small, is) = absurd (omega arith)
-some_edges _ _ _ within some has = absurd assumption
-
--- a chunk has no fewer elements than a row of it
-inner_fewer : (edges : List ℕ) (d : ℕ) → (¬ Contains edges 0) → product (drop d edges) ≤ product edges
-inner_fewer edges zero some = omega arith
-inner_fewer [] (suc d) some = omega arith
-inner_fewer (edge ∷ edges) (suc d) some =
-    let any : 0 < edge = head_some edge edges some in
-    let rest = inner_fewer edges d (tail_some edge edges some) in
-    let more = mul-le-mul_right {m = 1} {n = edge} (product edges) (omega arith) in
-    let single : 1 * product edges ≡ product edges = omega arith in
+    let rest = inner_fewer start shape edges d within (tail_some n shape some) in
+    let more = row_fits 0 (product edges) edge (product edges) (omega arith) (omega arith) in
     omega arith
+inner_fewer _ _ _ (suc d) within some = absurd assumption
 
-module _ (item : ℕ) (start shape edges : List ℕ) (within : EndWithin start shape edges) (some : ¬ Contains shape 0) where
-  -- where the bytes of some rows aren't counted, those of the chunk aren't
-  pub too_long : (d row : ℕ) → d < length edges → row ≡ product (drop (suc d) edges) * item → greatest < get_or edges d 0 * row
-      → greatest < product edges * item
-  too_long d row below is past =
-      let split : product (drop d edges) ≡ get_or edges d 0 * product (drop (suc d) edges) = ap product (drop-cons edges d 0 below) in
-      let rows : product (drop d edges) * item ≡ get_or edges d 0 * row =
-      ap (λ n. n * item) split ∙ mul_assoc (get_or edges d 0) (product (drop (suc d) edges)) item ∙ ap (λ n. get_or edges d 0 * n) (sym is)
-      in
-      let fewer = mul-le-mul_right item (inner_fewer edges d (some_edges start shape edges within some)) in
-      omega arith
+-- where the bytes of some rows aren't counted, those of the chunk aren't
+pub too_long : (item : ℕ) (start shape edges : List ℕ) → EndWithin start shape edges → (¬ Contains shape 0) → (d row : ℕ) → d < length edges
+    → row ≡ product (drop (suc d) edges) * item → greatest < get_or edges d 0 * row → greatest < product edges * item
+too_long item start shape edges within some d row below is past =
+    let rows : product (drop d edges) * item ≡ get_or edges d 0 * row =
+    ap (λ ns. product ns * item) (drop-cons edges d 0 below) ∙ mul_assoc (get_or edges d 0) (product (drop (suc d) edges)) item
+    ∙ ap (λ n. get_or edges d 0 * n) (sym is)
+    in
+    let fewer = mul-le-mul_right item (inner_fewer start shape edges d within some) in
+    omega arith
 
 -- along each dimension: the box has some, and ends within the chunk
 pub some_at : (shape : List ℕ) (d : ℕ) → (¬ Contains shape 0) → d < length shape → 0 < get_or shape d 0
@@ -310,19 +301,16 @@ within_at [] [] [] d within below = absurd (omega arith)
 within_at _ _ _ d within below = absurd assumption
 
 -- an empty box has no bytes
-pub no_bytes : (item : ℕ) (order : MemoryOrder) (edges start shape : List ℕ) (length : ℕ) (numbers : List ℕ) → Contains shape 0 → numbers ≡ []
-    → AreRanges item order edges start shape length numbers
-no_bytes item order edges start shape long numbers empty none = record {
+pub no_bytes : (item : ℕ) (order : MemoryOrder) (edges start shape : List ℕ) (length : ℕ) → Contains shape 0
+    → AreRanges item order edges start shape length []
+no_bytes item order edges start shape long empty = record {
   those = λ byte. (
     λ (index, within, _). absurd (nothing_within start shape index empty within),
-    λ (n, among, _, _). absurd (no_number n (subst (λ xs. Contains xs n) none among)),
+    λ (n, (k, small, is), _, _). absurd (omega arith),
   );
-  apart = subst (AllPairs (λ m later. m + long < later)) (sym none) (λ i j d less within. absurd (omega arith));
+  apart = λ i j d less within. absurd (omega arith);
 }
   where
-    no_number : (n : ℕ) → ¬ Contains [] n
-    no_number n (k, small, is) = omega arith
-
     nothing_within : (start shape index : List ℕ) → Contains shape 0 → ¬ AreWithin start shape index
     nothing_within (s ∷ start) (n ∷ shape) (i ∷ index) (zero, small, is) (from, below, rest) = let none : n ≡ 0 = is in absurd (omega arith)
     nothing_within (s ∷ start) (n ∷ shape) (i ∷ index) (suc k, small, is) (from, below, rest) =

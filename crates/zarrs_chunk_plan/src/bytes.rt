@@ -5,9 +5,8 @@ ghost use Rattle.zarrs_chunk_base.specs.Greatest.{greatest};
 ghost use Rattle.zarrs_chunk_base.specs.Refusal.{HasMemory, OrMemory, TellsLengths};
 ghost use Rattle.zarrs_chunk_plan.specs.Bytes.{FindsRanges, HasPast, begins, in_order};
 ghost use Rattle.zarrs_chunk_plan.specs.Region.{EndWithin};
-ghost use Rattle.zarrs_chunk_plan.specs.Strided.{form_of, no_ranges, ranges_of, strided};
-ghost use Rattle.zarrs_chunk_plan.specs.declared.bytes.MemoryOrder.TheVariants.{C};
-ghost use Rattle.zarrs_chunk_plan.specs.seen.Rows.{HasRanges};
+ghost use Rattle.zarrs_chunk_plan.specs.Strided.{form_of, no_ranges, ranges_of};
+ghost use Rattle.zarrs_chunk_plan.specs.seen.Rows.{HasRanges, IsStrided};
 
 use crate::moved::lies_in;
 use std::alloc::{AllocError, Global};
@@ -114,10 +113,7 @@ fn some_ranges(
 ) -> Result<Option<ByteRanges>, AllocError>
     requires within { EndWithin start.now shape.now edges.now }
     requires some { ¬ Contains shape.now 0 }
-    ensures found { IfOk result (FindsRanges (non_zero_u64_get item_size) C edges.now start.now
-        shape.now) }
-    ensures form { IfOk result (λ found. IfSome found (λ ranges. form_of ranges
-        ≡ strided (non_zero_u64_get item_size) edges.now start.now shape.now)) }
+    ensures { IfOk result (IsStrided (non_zero_u64_get item_size) edges.now start.now shape.now) }
 {
     let mut rows = Rows::of_an_element(alloc, item_size);
     for dimension in (0..edges.len()).rev() {
@@ -126,12 +122,7 @@ fn some_ranges(
             return Ok(None);
         }
     }
-    Ok(Some(ByteRanges {
-        first: rows.first,
-        length: rows.length,
-        counts: rows.counts,
-        strides: rows.strides,
-    }))
+    Ok(Some(rows.ranges))
 }
 
 /// No ranges.
@@ -139,11 +130,7 @@ fn some_ranges(
 /// # Errors
 /// Out of memory.
 fn no_ranges(alloc: Global) -> Result<ByteRanges, AllocError>
-    ensures lists { IfOk result (λ ranges. length ranges.counts.items
-        ≡ length ranges.strides.items) }
-    ensures none { IfOk result (λ ranges.
-        begins ranges.first ranges.counts.items ranges.strides.items ≡ []) }
-    ensures form { IfOk result (λ ranges. form_of ranges ≡ no_ranges) }
+    ensures { IfOk result (λ ranges. form_of ranges ≡ no_ranges) }
 {
     let mut counts = Vec::with_capacity(alloc, 1)?;
     counts.push(0)?;
@@ -160,10 +147,7 @@ fn no_ranges(alloc: Global) -> Result<ByteRanges, AllocError>
 /// The byte ranges of a box along some inner dimensions, in one row of the chunk along the next outer one.
 #[derive(Drop)]
 struct Rows {
-    first: u64,
-    length: u64,
-    counts: Vec<u64>,
-    strides: Vec<u64>,
+    ranges: ByteRanges,
     /// How many bytes a row has.
     row: u64,
     /// Whether the box has all of the row.
@@ -175,11 +159,14 @@ impl Rows {
     fn of_an_element(alloc: Global, item_size: NonZeroU64) -> Rows
         ensures { HasRanges (non_zero_u64_get item_size) [] [] [] result }
     {
-        Rows {
+        let ranges = ByteRanges {
             first: 0,
             length: item_size.get(),
             counts: Vec::new(alloc),
             strides: Vec::new(alloc),
+        };
+        Rows {
+            ranges,
             row: item_size.get(),
             whole: true,
         }
@@ -204,13 +191,13 @@ impl Rows {
         };
         // No product and no sum is cut off, since none is past that of all rows.
         let before = start.saturating_mul(self.row);
-        self.first = self.first.saturating_add(before);
+        self.ranges.first = self.ranges.first.saturating_add(before);
         if self.whole {
-            self.length = count.saturating_mul(self.row);
+            self.ranges.length = count.saturating_mul(self.row);
             self.whole = count == edge;
         } else {
-            self.counts.insert(0, count)?;
-            self.strides.insert(0, self.row)?;
+            self.ranges.counts.insert(0, count)?;
+            self.ranges.strides.insert(0, self.row)?;
         }
         self.row = outer;
         Ok(true)

@@ -1,4 +1,4 @@
-use Rattle.std.proofs.Common.{◌≡◌, ◌-◌, ◌≤◌, suc, arith, inr, drop, length, subst}
+use Rattle.std.proofs.Common.{◌≡◌, ◌-◌, ◌≤◌, suc, arith, drop, length, subst}
 use Rattle.std.proofs.Math.ListN.{drop_of_length-le}
 use Rattle.std.proofs.Math.Seq.{drop-cons}
 use Rattle.std.specs.Int.NonZero.{non_zero_u64_get}
@@ -36,15 +36,12 @@ pub go_out-requires-clause-within : goal.go_out-requires-clause-within
 go_out-requires-clause-within c =
     within_at c.args.start.now c.args.shape.now c.args.edges.now (c.loop-dimension.dimension - 1) c.requires.within (omega arith)
 
-pub returns-then-not-is_counted-clause-found : goal.returns-then-not-is_counted-clause-found
-returns-then-not-is_counted-clause-found c =
+pub returns-then-not-is_counted : goal.returns-then-not-is_counted
+returns-then-not-is_counted c =
     let left = c.loop-dimension.dimension - 1 in
     let is : c.loop-dimension.dimension ≡ suc left = omega arith in
-    inr (
-      c.requires.some,
-      too_long (non_zero_u64_get c.args.item_size) c.args.start.now c.args.shape.now c.args.edges.now c.requires.within c.requires.some left
-          c.loop-dimension.rows.row (omega arith) (rw is at c.loop-dimension.invariant.row_is) (c.in_ok-is_counted.ensures.too_long c.if-not-is_counted.true),
-    )
+    too_long (non_zero_u64_get c.args.item_size) c.args.start.now c.args.shape.now c.args.edges.now c.requires.within c.requires.some left
+    c.loop-dimension.rows.row (omega arith) (rw is at c.loop-dimension.invariant.row_is) (c.in_ok-is_counted.ensures.too_long c.if-not-is_counted.true)
 
 pub loop-dimension-preserved : goal.loop-dimension-preserved
 loop-dimension-preserved c =
@@ -60,23 +57,9 @@ loop-dimension-preserved c =
     rw (drop-cons edges left 0 (omega arith), drop-cons start left 0 (omega arith), drop-cons shape left 0 (omega arith))
     (c.in_ok-is_counted.ensures.outer c.if-not-is_counted.false item (drop (suc left) edges) (drop (suc left) start) (drop (suc left) shape) was)
 
-pub returns-clause-found : goal.returns-clause-found
-returns-clause-found c =
+pub returns : goal.returns
+returns c =
     let ended : c.loop-dimension.dimension ≡ 0 = omega arith in
     let all = subst (λ d. HasRanges (non_zero_u64_get c.args.item_size) (drop d c.args.edges.now) (drop d c.args.start.now) (drop d c.args.shape.now)
     c.loop-dimension.rows) ended c.loop-dimension.invariant in
-    record {
-      lies = c.requires.within;
-      counted = λ _. rw all.row_is at all.fits;
-      lists = all.lists;
-      none = λ empty. absurd (c.requires.some empty);
-      some = λ _. all.long;
-      are_ranges = all.are_ranges;
-    }
-
-pub returns-clause-form : goal.returns-clause-form
-returns-clause-form c =
-    let ended : c.loop-dimension.dimension ≡ 0 = omega arith in
-    let all = subst (λ d. HasRanges (non_zero_u64_get c.args.item_size) (drop d c.args.edges.now) (drop d c.args.start.now) (drop d c.args.shape.now)
-    c.loop-dimension.rows) ended c.loop-dimension.invariant in
-    all.form
+    (rw all.row_is at all.fits, all.form)

@@ -1,6 +1,7 @@
-use Rattle.std.proofs.Common.{◌≡◌, ◌+◌, ◌*◌, sym, arith, eqb-true, false-eqb}
-use Rattle.std.proofs.Math.Nat.{mul-le-mul_right}
-use Rattle.zarrs_chunk_plan.proofs.ByteRows.{all_of_rows, part_of_rows}
+use Rattle.std.proofs.Common.{◌≡◌, ◌∙◌, ◌+◌, ◌*◌, ◌&&◌, ◌==◌, ap, refl, sym, arith}
+use Rattle.std.proofs.Math.Nat.{add-mul, mul-le-mul_right, mul_assoc}
+use Rattle.std.proofs.lemmas.Nat.{row_fits}
+use Rattle.zarrs_chunk_plan.specs.Counts.{product}
 use Rattle.zarrs_chunk_plan.proofs.bytes.Rows.go_out.Goals as goal
 use Rattle.zarrs_chunk_plan.proofs.bytes.Rows.go_out.Goals.{then-self, else-self+in_ok-insert+in_ok-insert-2}
 
@@ -10,22 +11,27 @@ returns-clause-outer c = λ _ item edges starts shape was.
     let start = c.args.start in
     let count = c.args.count in
     let edge = c.args.edge in
-    let within = c.requires.within in
     let (fits, outer_is) = c.in-Some.ensures in
-    let all_rows = mul-le-mul_right row within in
-    let one_row = mul-le-mul_right {m = 1} {n = count} row (omega arith) in
-    let single : 1 * row ≡ row = omega arith in
-    let before : c.saturating_mul-before.result ≡ start * row = omega arith in
-    let first : c.saturating_add-self.result ≡ c.args.self.now.first + start * row = omega arith in
+    let all_rows = mul-le-mul_right row c.requires.within in
+    let split = add-mul start count row in
+    let room = row_fits start row edge row (omega arith) (omega arith) in
+    let row_is = ap (λ n. edge * n) was.row_is ∙ sym (mul_assoc edge (product edges) item) in
+    let whole_is = ap (λ b. b && (count == edge)) was.whole_is in
+    let within = was.within in
+    let first : c.saturating_add-self.result ≡ c.args.self.now.ranges.first + start * row = omega arith in
     elim c.if-self.branch [
       | then-self w ↦
           let long : w.saturating_mul-self.result ≡ count * row = omega arith in
-          rw (w.self-is, outer_is)
-          (rw (first, long)
-          (all_of_rows item edge start count edges starts shape c.args.self.now.first c.args.self.now.length c.args.self.now.counts.items
-          c.args.self.now.strides.items row (omega arith) within (omega arith) _ (eqb-true count edge) (λ miss. false-eqb count edge (sym miss)) (rw w.if-self.true at was)))
+          let all = rw w.if-self.true at whole_is in
+          rw (w.self-is, outer_is, first, long)
+          (record { row_is = row_is; fits = omega arith; within = omega arith; form = rw (was.row_is, ← was.whole_is, w.if-self.true, ← was.form) refl; whole_is = all })
       | else-self+in_ok-insert+in_ok-insert-2 w ↦
-          rw (w.self-is, outer_is)
-          (rw (first, w.in_ok-insert.ensures.items, w.in_ok-insert-2.ensures.items, w.if-self.false)
-          (part_of_rows _ _ _ _ _ _ _ _ _ _ _ _ (omega arith) within (omega arith) (rw w.if-self.false at was)))
+          let part = rw w.if-self.false at whole_is in
+          rw (w.self-is, outer_is, first, w.if-self.false) (record {
+            row_is = row_is;
+            fits = omega arith;
+            within = omega arith;
+            form = rw (w.in_ok-insert.ensures.items, w.in_ok-insert-2.ensures.items, was.row_is, ← was.whole_is, w.if-self.false, ← was.form) refl;
+            whole_is = part;
+          })
     ]
