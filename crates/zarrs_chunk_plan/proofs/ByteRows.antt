@@ -3,10 +3,12 @@ use Rattle.std.proofs.Common.{◌≡◌, ◌↔◌, ◌∙◌, ℕ, zero, suc, �
 use Rattle.std.proofs.Common.{◌&&◌, ◌==◌, refl, ap, ap₂, false-eqb, subst, sym, ⊎_elim, arith}
 use Rattle.std.proofs.Math.Arith.{lt_of_le-ne}
 use Rattle.std.proofs.Math.Nat.{add-mul, div-lt_iff_lt-mul, mod-lt, mul-le-mul_right, mul_assoc}
+use Rattle.std.proofs.Math.Path.{fun_ext}
 use Rattle.std.proofs.Math.Seq.{drop-cons}
 use Rattle.std.proofs.lemmas.Bool.{eqb-true, true≢false}
 use Rattle.std.proofs.lemmas.List.{map-append}
 use Rattle.std.proofs.lemmas.List.Elements.{Contains-append_cases, Contains-append_left, Contains-append_right}
+use Rattle.std.proofs.lemmas.Simd.{map-map}
 use Rattle.std.proofs.lemmas.Nat.{div-add-mod', le-div, row_fits}
 use Rattle.std.specs.List.{AllPairs}
 use Rattle.zarrs_chunk_base.specs.ArraySubset.{AreWithin}
@@ -68,18 +70,19 @@ repeated_apart (suc count) stride long first numbers apart lie =
     let (from_one, to_one) = lie one was in
     omega arith)
 
+pub shifted_twice : (a b : ℕ) (xs : List ℕ) → map (λ x. x + b) (map (λ x. x + a) xs) ≡ map (λ x. x + (a + b)) xs
+shifted_twice a b xs =
+    map-map (λ x. x + b) (λ x. x + a) xs ∙ ap (λ f. map f xs) (fun_ext (λ x. let same : x + a + b ≡ x + (a + b) = omega arith in same))
+
 -- where the first range begins later, all do
 repeated_later : (a count stride : ℕ) (numbers : List ℕ)
     → repeated count stride (map (λ x. x + a) numbers) ≡ map (λ x. x + a) (repeated count stride numbers)
 repeated_later a zero stride numbers = refl
 repeated_later a (suc count) stride numbers =
-    let other : map (λ x. x + stride) (map (λ x. x + a) numbers) ≡ map (λ x. x + a) (map (λ x. x + stride) numbers) = both_later a stride numbers in
+    let turned : a + stride ≡ stride + a = omega arith in
+    let other = shifted_twice a stride numbers ∙ ap (λ b. map (λ x. x + b) numbers) turned ∙ sym (shifted_twice stride a numbers) in
     ap (λ xs. map (λ x. x + a) numbers ++ xs) (ap (repeated count stride) other ∙ repeated_later a count stride (map (λ x. x + stride) numbers))
     ∙ sym (map-append (λ x. x + a) numbers (repeated count stride (map (λ x. x + stride) numbers)))
-  where
-    both_later : (a b : ℕ) (xs : List ℕ) → map (λ x. x + b) (map (λ x. x + a) xs) ≡ map (λ x. x + a) (map (λ x. x + b) xs)
-    both_later a b [] = refl
-    both_later a b (x ∷ xs) = ap₂ (λ y ys. y ∷ ys) (let same : x + a + b ≡ x + b + a = omega arith in same) (both_later a b xs)
 
 pub begin_later : (a first : ℕ) (counts strides : List ℕ) → begins (first + a) counts strides ≡ map (λ x. x + a) (begins first counts strides)
 begin_later a first [] strides = refl

@@ -1,9 +1,10 @@
 //! Where byte ranges begin, one after another.
-ghost use Rattle.std.specs.Prelude.{◌≡◌, ◌≢◌, ◌↔◌, ◌+◌, ◌<◌, ◌≤◌, ◌⊎◌, Contains, IfOk, IfSome, IsTrue, MatchOption, None, length, map};
+ghost use Rattle.std.specs.Prelude.{◌≡◌, ◌≢◌, ◌+◌, ◌<◌, ◌≤◌, ◌⊎◌, IfOk, IfSome, MatchOption, None, length, map};
 ghost use Rattle.zarrs_chunk_plan.specs.Bytes.{HasPast, begins, repeated};
 ghost use Rattle.zarrs_chunk_plan.specs.Counts.{product};
 
 use crate::bytes::ByteRanges;
+use crate::tried::saturating_product;
 use std::alloc::{AllocError, Global};
 
 impl ByteRanges {
@@ -27,36 +28,19 @@ impl ByteRanges {
         if self.counts.len() != self.strides.len() {
             return Ok(None);
         }
-        if has_zero(&self.counts) {
-            return Ok(Some(Vec::new(alloc)));
-        }
-        if !are_few(&self.counts, most) {
+        let many = saturating_product(&self.counts);
+        if many > most {
             return Ok(None);
+        }
+        // No memory holds as many numbers, or more.
+        if many == u64::MAX {
+            return Err(AllocError);
+        }
+        if many == 0 {
+            return Ok(Some(Vec::new(alloc)));
         }
         some_starts(alloc, self.first, &self.counts, &self.strides)
     }
-}
-
-/// Whether one of the numbers is 0.
-fn has_zero(numbers: &[u64]) -> bool
-    ensures { IsTrue result ↔ Contains numbers.now 0 }
-{
-    numbers.contains(&0)
-}
-
-/// Whether the product of the numbers is at most `most`.
-fn are_few(counts: &[u64], most: u64) -> bool
-    requires { ¬ Contains counts.now 0 }
-    ensures { IsTrue result ↔ (product counts.now ≤ most) }
-{
-    let mut many: u64 = 1;
-    for count in counts {
-        let Some(more) = many.checked_mul(*count) else {
-            return false;
-        };
-        many = more;
-    }
-    many <= most
 }
 
 /// Where each of some ranges begins; `None` where one begins past 18446744073709551615.
@@ -70,14 +54,14 @@ fn some_starts(
     strides: &[u64],
 ) -> Result<Option<Vec<u64>>, AllocError>
     requires lists { length counts.now ≡ length strides.now }
-    requires some { ¬ Contains counts.now 0 }
+    requires some { 0 < product counts.now }
     ensures { IfOk result (λ found. MatchOption found (HasPast (begins first counts.now strides.now))
         (λ starts. starts.items ≡ begins first counts.now strides.now)) }
 {
     let mut starts = Vec::with_capacity(alloc, 1)?;
     starts.push(first)?;
     for dimension in (0..counts.len()).rev() {
-        match repeated(alloc, counts[dimension], strides[dimension], starts)? {
+        match repeated(alloc, counts[dimension], strides[dimension], &starts)? {
             Some(all) => starts = all,
             None => return Ok(None),
         }
@@ -93,37 +77,37 @@ fn repeated(
     alloc: Global,
     count: u64,
     stride: u64,
-    numbers: Vec<u64>,
+    numbers: &[u64],
 ) -> Result<Option<Vec<u64>>, AllocError>
-    requires { 0 < count }
-    ensures { IfOk result (λ found. MatchOption found
-        (HasPast (repeated count stride numbers.items))
-        (λ all. all.items ≡ repeated count stride numbers.items)) }
+    requires { 0 < length numbers.now }
+    ensures { IfOk result (λ found. MatchOption found (HasPast (repeated count stride numbers.now))
+        (λ all. all.items ≡ repeated count stride numbers.now)) }
 {
-    let mut all = Vec::from_slice(alloc, &numbers)?;
-    let mut last = numbers;
-    for _ in 1..count {
-        match later(alloc, &last, stride)? {
-            Some(next) => last = next,
+    let mut all = Vec::new(alloc);
+    for times in 0..count {
+        let Some(shift) = times.checked_mul(stride) else {
+            return Ok(None);
+        };
+        match later(alloc, numbers, shift)? {
+            Some(next) => all.extend_from_slice(&next)?,
             None => return Ok(None),
         }
-        all.extend_from_slice(&last)?;
     }
     Ok(Some(all))
 }
 
-/// Each number, greater by a stride; `None` where one is past 18446744073709551615.
+/// Each number, greater by a shift; `None` where one is past 18446744073709551615.
 ///
 /// # Errors
 /// Out of memory.
-fn later(alloc: Global, numbers: &[u64], stride: u64) -> Result<Option<Vec<u64>>, AllocError>
+fn later(alloc: Global, numbers: &[u64], shift: u64) -> Result<Option<Vec<u64>>, AllocError>
     ensures { IfOk result (λ found. MatchOption found
-        (HasPast (map (λ n. n + stride) numbers.now))
-        (λ sums. sums.items ≡ map (λ n. n + stride) numbers.now)) }
+        (HasPast (map (λ n. n + shift) numbers.now))
+        (λ sums. sums.items ≡ map (λ n. n + shift) numbers.now)) }
 {
     let mut sums = Vec::with_capacity(alloc, numbers.len())?;
     for number in numbers {
-        match number.checked_add(stride) {
+        match number.checked_add(shift) {
             Some(sum) => sums.push(sum)?,
             None => return Ok(None),
         }

@@ -1,6 +1,5 @@
-use Rattle.std.proofs.Common.{◌≡◌, ◌-◌, ◌≤◌, suc, arith, drop, length, subst}
-use Rattle.std.proofs.Math.ListN.{drop_of_length-le}
-use Rattle.std.proofs.Math.Seq.{drop-cons}
+use Rattle.std.proofs.Common.{◌≡◌, ◌-◌, suc, arith, drop, subst}
+use Rattle.std.proofs.Math.Seq.{drop-cons, drop-length}
 use Rattle.std.specs.Int.NonZero.{non_zero_u64_get}
 use Rattle.zarrs_chunk_plan.specs.seen.Rows.{HasRanges}
 use Rattle.zarrs_chunk_plan.proofs.ByteRows.{some_at, too_long, within_at}
@@ -11,10 +10,7 @@ pub loop-dimension-init : goal.loop-dimension-init
 loop-dimension-init c =
     let shapes = within_long c.args.start.now c.args.shape.now c.args.edges.now c.requires.within in
     let starts = within_starts c.args.start.now c.args.shape.now c.args.edges.now c.requires.within in
-    let edges_done : length c.args.edges.now ≤ length c.args.edges.now = omega arith in
-    let start_done : length c.args.start.now ≤ length c.args.edges.now = omega arith in
-    let shape_done : length c.args.shape.now ≤ length c.args.edges.now = omega arith in
-    rw (drop_of_length-le c.args.edges.now edges_done, drop_of_length-le c.args.start.now start_done, drop_of_length-le c.args.shape.now shape_done)
+    rw (drop-length c.args.edges.now, ← starts, drop-length c.args.start.now, starts, ← shapes, drop-length c.args.shape.now)
     c.of_an_element-rows.ensures
 
 pub bounds-start-dimension : goal.bounds-start-dimension
@@ -60,6 +56,5 @@ loop-dimension-preserved c =
 pub returns : goal.returns
 returns c =
     let ended : c.loop-dimension.dimension ≡ 0 = omega arith in
-    let all = subst (λ d. HasRanges (non_zero_u64_get c.args.item_size) (drop d c.args.edges.now) (drop d c.args.start.now) (drop d c.args.shape.now)
-    c.loop-dimension.rows) ended c.loop-dimension.invariant in
+    let all = rw ended at c.loop-dimension.invariant in
     (rw all.row_is at all.fits, all.form)

@@ -1,6 +1,6 @@
-use Rattle.std.proofs.Common.{◌≡◌, ◌+◌, ◌++◌, drop, map}
+use Rattle.std.proofs.Common.{◌≡◌, ◌+◌, map, take}
 use Rattle.zarrs_chunk_plan.proofs.range_starts.later.Given as goal
 
--- with the sums of the numbers that are left, these are all
+-- these are the sums of the numbers so far
 abbrev pub invariant-loop-number : goal.invariant-loop-number
-invariant-loop-number l = l.sums.items ++ map (λ n. n + l.stride) (drop l.number-index l.numbers) ≡ map (λ n. n + l.stride) l.numbers
+invariant-loop-number l = l.sums.items ≡ map (λ n. n + l.shift) (take l.number-index l.numbers)

@@ -1,8 +1,7 @@
-use Rattle.std.proofs.Common.{◌≡◌, ◌+◌, ◌-◌, ◌++◌, map}
+use Rattle.std.proofs.Common.{◌≡◌}
 use Rattle.zarrs_chunk_plan.specs.Bytes.{repeated}
 use Rattle.zarrs_chunk_plan.proofs.range_starts.repeated.Given as goal
 
--- with what the times to come add behind the last one, these are all
-abbrev pub invariant-loop : goal.invariant-loop
-invariant-loop l =
-    l.all.items ++ repeated (l.count - l.counter) l.stride (map (λ n. n + l.stride) l.last.items) ≡ repeated l.count l.stride l.fn.numbers.items
+-- these are the numbers, as often as they were repeated
+abbrev pub invariant-loop-times : goal.invariant-loop-times
+invariant-loop-times l = l.all.items ≡ repeated l.times l.stride l.numbers

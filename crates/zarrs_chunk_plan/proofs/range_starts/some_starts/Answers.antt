@@ -1,11 +1,12 @@
 use Rattle.std.proofs.Common.{◌≡◌, ◌-◌, ◌≤◌, length, suc, arith, refl, sym}
 use Rattle.std.proofs.Math.ListN.{drop_of_length-le}
-use Rattle.zarrs_chunk_plan.proofs.ByteRows.{some_at}
-use Rattle.zarrs_chunk_plan.proofs.RangeStarts.{inner_among, one_more_dimension}
+use Rattle.zarrs_chunk_plan.proofs.RangeStarts.{inner_among, inner_some, one_more_dimension}
 use Rattle.zarrs_chunk_plan.proofs.range_starts.some_starts.Goals as goal
 
 pub repeated-requires : goal.repeated-requires
-repeated-requires c = some_at c.args.counts.now (c.loop-dimension.dimension - 1) c.requires.some (omega arith)
+repeated-requires c =
+    rw (c.deref.ensures.value, c.loop-dimension.invariant)
+    (inner_some c.args.first c.args.counts.now c.args.strides.now c.loop-dimension.dimension c.requires.some c.requires.lists)
 
 pub loop-dimension-init : goal.loop-dimension-init
 loop-dimension-init c =
@@ -19,7 +20,7 @@ loop-dimension-preserved c =
     let is : c.loop-dimension.dimension ≡ suc left = omega arith in
     let outer = one_more_dimension c.args.first c.args.counts.now c.args.strides.now left c.requires.lists (omega arith) in
     let was = rw is at c.loop-dimension.invariant in
-    let all = rw c.in-Some.is at c.in_ok-all.ensures in
+    let all = rw (c.in-Some.is, c.deref.ensures.value) at c.in_ok-all.ensures in
     rw (outer, ← was) all
 
 pub returns-in-None : goal.returns-in-None
@@ -31,7 +32,7 @@ returns-in-None c =
     let is : c.loop-dimension.dimension ≡ suc left = omega arith in
     let outer = one_more_dimension first counts strides left c.requires.lists (omega arith) in
     let was = rw is at c.loop-dimension.invariant in
-    let (n, among, past) = rw (c.in-None.is, was, sym outer) at c.in_ok-all.ensures in
+    let (n, among, past) = rw (c.in-None.is, c.deref.ensures.value, was, sym outer) at c.in_ok-all.ensures in
     (n, inner_among first counts strides left n c.requires.some c.requires.lists among, past)
 
 pub returns : goal.returns
