@@ -1,14 +1,11 @@
 -- Byte ranges along one more dimension.
-use Rattle.std.proofs.Common.{◌≡◌, ◌↔◌, ◌∙◌, ℕ, zero, suc, ◌+◌, ◌-◌, ◌*◌, ◌/◌, ◌%◌, ◌<◌, ◌≤◌, List, [], ◌∷◌, ◌++◌, Contains, map, length, drop, get_or, Bool, true, false}
+use Rattle.std.proofs.Common.{◌≡◌, ◌↔◌, ◌∙◌, ℕ, zero, suc, ◌+◌, ◌-◌, ◌*◌, ◌/◌, ◌%◌, ◌<◌, ◌≤◌, List, [], ◌∷◌, Contains, map, length, drop, get_or, Bool, true, false}
 use Rattle.std.proofs.Common.{◌&&◌, ◌==◌, refl, ap, ap₂, false-eqb, subst, sym, ⊎_elim, arith}
 use Rattle.std.proofs.Math.Arith.{lt_of_le-ne}
 use Rattle.std.proofs.Math.Nat.{add-mul, div-lt_iff_lt-mul, mod-lt, mul-le-mul_right, mul_assoc}
-use Rattle.std.proofs.Math.Path.{fun_ext}
 use Rattle.std.proofs.Math.Seq.{drop-cons}
 use Rattle.std.proofs.lemmas.Bool.{eqb-true, true≢false}
-use Rattle.std.proofs.lemmas.List.{map-append}
 use Rattle.std.proofs.lemmas.List.Elements.{Contains-append_cases, Contains-append_left, Contains-append_right}
-use Rattle.std.proofs.lemmas.Simd.{map-map}
 use Rattle.std.proofs.lemmas.Nat.{div-add-mod', le-div, row_fits}
 use Rattle.std.specs.List.{AllPairs}
 use Rattle.zarrs_chunk_base.specs.ArraySubset.{AreWithin}
@@ -70,46 +67,23 @@ repeated_apart (suc count) stride long first numbers apart lie =
     let (from_one, to_one) = lie one was in
     omega arith)
 
-pub shifted_twice : (a b : ℕ) (xs : List ℕ) → map (λ x. x + b) (map (λ x. x + a) xs) ≡ map (λ x. x + (a + b)) xs
-shifted_twice a b xs =
-    map-map (λ x. x + b) (λ x. x + a) xs ∙ ap (λ f. map f xs) (fun_ext (λ x. let same : x + a + b ≡ x + (a + b) = omega arith in same))
-
--- where the first range begins later, all do
-repeated_later : (a count stride : ℕ) (numbers : List ℕ)
-    → repeated count stride (map (λ x. x + a) numbers) ≡ map (λ x. x + a) (repeated count stride numbers)
-repeated_later a zero stride numbers = refl
-repeated_later a (suc count) stride numbers =
-    let turned : a + stride ≡ stride + a = omega arith in
-    let other = shifted_twice a stride numbers ∙ ap (λ b. map (λ x. x + b) numbers) turned ∙ sym (shifted_twice stride a numbers) in
-    ap (λ xs. map (λ x. x + a) numbers ++ xs) (ap (repeated count stride) other ∙ repeated_later a count stride (map (λ x. x + stride) numbers))
-    ∙ sym (map-append (λ x. x + a) numbers (repeated count stride (map (λ x. x + stride) numbers)))
-
-pub begin_later : (a first : ℕ) (counts strides : List ℕ) → begins (first + a) counts strides ≡ map (λ x. x + a) (begins first counts strides)
-begin_later a first [] strides = refl
-begin_later a first (count ∷ counts) [] = refl
-begin_later a first (count ∷ counts) (stride ∷ strides) =
-    ap (repeated count stride) (begin_later a first counts strides) ∙ repeated_later a count stride (begins first counts strides)
-
 -- ---- the bytes of a box along one more dimension
-
--- where the ranges of a form begin
-abbrev pub starts_of : Strided → List ℕ
-starts_of form = begins form.first form.counts form.strides
 
 -- a form that is one range
 abbrev pub one_range : (first long : ℕ) → Strided
 one_range first long = record { first = first; length = long; counts = []; strides = [] }
 
--- These are the ranges of a box along some inner dimensions, in a row. Where the box has all of the row, the one range is the row; where it hasn't,
--- they reach less far than a row is long.
+-- These are the ranges of a box along some inner dimensions, in a row, whatever number is told as the first one. Where the box has all of the row, the
+-- one range is the row; where it hasn't, they reach less far than a row is long.
 pub record AreInRow (item : ℕ) (edges start shape : List ℕ) (form : Strided) (whole : Bool) : Type 0 where
-  pub some : 0 < product edges * item
   pub long : 0 < form.length
   pub lists : length form.counts ≡ length form.strides
-  pub are_ranges : AreRanges item C edges start shape form.length (starts_of form)
-  pub lie : (n : ℕ) → Contains (starts_of form) n → (form.first ≤ n) × (n + form.length ≤ product edges * item)
+  pub those : (f byte : ℕ) → HasByte form.length (begins f form.counts form.strides) byte
+      ↔ ((b : ℕ) × IsByteIn item C edges start shape b × (byte + form.first ≡ b + f))
+  pub apart : (f : ℕ) → AllPairs (λ one later. one + form.length < later) (begins f form.counts form.strides)
+  pub lie : (f n : ℕ) → Contains (begins f form.counts form.strides) n
+      → (f ≤ n) × (n + form.length + form.first ≤ product edges * item + f) × (whole ≡ false → n + form.length < f + product edges * item)
   pub all : whole ≡ true → form ≡ one_range 0 (product edges * item)
-  pub shorter : whole ≡ false → (n : ℕ) → Contains (starts_of form) n → n + form.length < form.first + product edges * item
 
 pub only : (m n : ℕ) → Contains (m ∷ []) n → n ≡ m
 only m n (zero, small, is) = sym is
@@ -151,111 +125,87 @@ module _ (item edge s n : ℕ) (edges start shape : List ℕ) where
     all_of_rows : AreInRow item edges start shape (one_range 0 Row) true
         → AreInRow item (edge ∷ edges) (s ∷ start) (n ∷ shape) (one_range (0 + s * Row) (n * Row)) (n == edge)
     all_of_rows was =
-        let any = was.some in
+        let any = was.long in
         let outer = row_of_all in
         let rows = mul-le-mul_right Row within in
         let split = add-mul s n Row in
         let long = row_fits 0 Row n Row some (omega arith) in
         record {
-          some = omega arith;
           long = omega arith;
           lists = refl;
-          are_ranges = record {
-            those = λ byte. (
-              λ has.
-                  let (i, b, from, less, inner, is) = (in_row byte).0 has in
-                  let (_, part) = (in_one 0 Row b).0 ((was.are_ranges.those b).0 inner) in
-                  let up = mul-le-mul_right Row from in
-                  let down = row_fits i Row (s + n) Row less (omega arith) in
-                  (in_one (0 + s * Row) (n * Row) byte).1 (omega arith, omega arith),
-              λ has.
-                  let (low, high) = (in_one (0 + s * Row) (n * Row) byte).0 has in
-                  let is = div-add-mod' byte Row in
-                  let part = mod-lt byte any in
-                  let inner = (was.are_ranges.those (byte % Row)).1 ((in_one 0 Row (byte % Row)).1 (omega arith, omega arith)) in
-                  (in_row byte).1
-                  (byte / Row, byte % Row, le-div s byte Row any (omega arith), (div-lt_iff_lt-mul any).1 (omega arith), inner, omega arith),
-            );
-            apart = λ i j d less within. absurd (omega arith);
-          };
-          lie = λ m has. let at = only (0 + s * Row) m has in (omega arith, omega arith);
+          those = λ f byte. (
+            λ has.
+                let (low, high) = (in_one f (n * Row) byte).0 has in
+                let at = byte - f + s * Row in
+                let sum = div-add-mod' at Row in
+                let part = mod-lt at any in
+                let (b, inside, is) = (was.those 0 (at % Row)).0 ((in_one 0 Row (at % Row)).1 (omega arith, omega arith)) in
+                let less : at / Row < s + n = (div-lt_iff_lt-mul any).1 (omega arith) in
+                (at, (in_row at).1 (at / Row, b, le-div s at Row any (omega arith), less, inside, omega arith), omega arith),
+            λ (at, has, same).
+                let (i, b, from, less, inner, is) = (in_row at).0 has in
+                let (_, part) = (in_one 0 Row b).0 ((was.those 0 b).1 (b, inner, refl)) in
+                let up = mul-le-mul_right Row from in
+                let down = row_fits i Row (s + n) Row less (omega arith) in
+                (in_one f (n * Row) byte).1 (omega arith, omega arith),
+          );
+          apart = λ f i j d less within. absurd (omega arith);
+          lie = λ f m has.
+              let at = only f m has in (
+                omega arith,
+                omega arith,
+                λ is.
+                    let fewer : n < edge = lt_of_le-ne (omega arith) (false-eqb n edge (sym is)) in
+                    let less = row_fits n Row edge Row fewer (omega arith) in
+                    omega arith,
+              );
           all = λ is.
               let equal : n ≡ edge = eqb-true n edge is in
               let at : s ≡ 0 = omega arith in
               let none : 0 + 0 * Row ≡ 0 = omega arith in
               ap₂ one_range (ap (λ k. 0 + k * Row) at ∙ none) (ap (λ k. k * Row) equal ∙ sym outer);
-          shorter = λ is m has.
-              let at = only (0 + s * Row) m has in
-              let fewer : n < edge = lt_of_le-ne (omega arith) (false-eqb n edge (sym is)) in
-              let less = row_fits n Row edge Row fewer (omega arith) in
-              omega arith;
         }
 
-    module _ (form : Strided) where
-      abbrev Inner : List ℕ
-      Inner = begins (form.first + s * Row) form.counts form.strides
-
-      shifted : Inner ≡ map (λ x. x + s * Row) (starts_of form)
-      shifted = begin_later (s * Row) form.first form.counts form.strides
-
-      -- a range of the inner dimensions begins in each of the rows
-      in_outer : (m : ℕ) → Contains (repeated n Row Inner) m
-          → (i : ℕ) × (x : ℕ) × (s ≤ i) × (i < s + n) × Contains (starts_of form) x × (m ≡ x + i * Row)
-      in_outer m has =
-          let (k, y, before, there, is) = in_repeated n Row Inner m has in
-          let (x, among, same) = source_of (λ x. x + s * Row) (starts_of form) y (subst (λ xs. Contains xs y) shifted there) in
-          let sum = add-mul s k Row in
-          (s + k, x, omega arith, omega arith, among, omega arith)
-
-      to_outer : (i x : ℕ) → s ≤ i → i < s + n → Contains (starts_of form) x → Contains (repeated n Row Inner) (x + i * Row)
-      to_outer i x from less among =
-          let at : s + (i - s) ≡ i = omega arith in
-          let sum : i * Row ≡ s * Row + (i - s) * Row = ap (λ k. k * Row) (sym at) ∙ add-mul s (i - s) Row in
-          let is : x + s * Row + (i - s) * Row ≡ x + i * Row = omega arith in
-          subst (Contains (repeated n Row Inner)) is
-          (to_repeated n Row Inner (i - s) (x + s * Row) (omega arith) (rw shifted (made_of (λ y. y + s * Row) (starts_of form) x among)))
-
-      -- it has a part of each
-      part_of_rows : AreInRow item edges start shape form false
-          → AreInRow item (edge ∷ edges) (s ∷ start) (n ∷ shape) (along Row s n false form) false
-      part_of_rows was =
-          let outer = row_of_all in
-          let room = row_fits s Row edge Row (omega arith) (omega arith) in
-          record {
-            some = let any = was.some in omega arith;
-            long = was.long;
-            lists = ap suc was.lists;
-            are_ranges = record {
-              those = λ byte. (
-                λ has.
-                    let (i, b, from, less, inner, is) = (in_row byte).0 has in
-                    let (x, among, low, high) = (was.are_ranges.those b).0 inner in
-                    (x + i * Row, to_outer i x from less among, omega arith, omega arith),
-                λ (m, has, low, high).
-                    let (i, x, from, less, among, is) = in_outer m has in
-                    (in_row byte).1
-                    (i, byte - i * Row, from, less, (was.are_ranges.those (byte - i * Row)).1 (x, among, omega arith, omega arith), omega arith),
-              );
-              apart = repeated_apart n Row form.length (form.first + s * Row) Inner
-                  (rw shifted (shifted_apart (s * Row) form.length (starts_of form) was.are_ranges.apart))
-                  (λ m has. let (x, among, is) = source_of (λ x. x + s * Row) (starts_of form) m (subst (λ xs. Contains xs m) shifted has) in
-                  let (low, high) = was.lie x among in
-                  let reach = was.shorter refl x among in
-                  (omega arith, omega arith));
-            };
-            lie = λ m has.
-                let (i, x, from, less, among, is) = in_outer m has in
-                let (low, high) = was.lie x among in
-                let up = mul-le-mul_right Row from in
-                let down = row_fits i Row edge Row (omega arith) (omega arith) in
-                (omega arith, omega arith);
-            all = λ no. absurd (true≢false (sym no));
-            shorter = λ _ m has.
-                let (i, x, from, less, among, is) = in_outer m has in
-                let reach = was.shorter refl x among in
-                let down = row_fits i Row edge Row (omega arith) (omega arith) in
-                omega arith;
-          }
+    -- it has a part of each
+    part_of_rows : (form : Strided) → AreInRow item edges start shape form false
+        → AreInRow item (edge ∷ edges) (s ∷ start) (n ∷ shape) (along Row s n false form) false
+    part_of_rows form was =
+        let outer = row_of_all in
+        record {
+          long = was.long;
+          lists = ap suc was.lists;
+          those = λ f byte. (
+            λ (m, has, low, high).
+                let (k, x, less, among, is) = in_repeated n Row (begins f form.counts form.strides) m has in
+                let (b, inside, same) = (was.those f (byte - k * Row)).0 (x, among, omega arith, omega arith) in
+                let sum = add-mul s k Row in
+                (b + (s + k) * Row, (in_row (b + (s + k) * Row)).1 (s + k, b, omega arith, omega arith, inside, refl), omega arith),
+            λ (at, has, same).
+                let (i, b, from, less, inner, is) = (in_row at).0 has in
+                let (m, there, up, _) = (was.those form.first b).1 (b, inner, refl) in
+                let (first, _, _) = was.lie form.first m there in
+                let sum : i * Row ≡ s * Row + (i - s) * Row = rest i from in
+                let (x, among, low, high) = (was.those f (byte - (i - s) * Row)).1 (b, inner, omega arith) in (
+                  x + (i - s) * Row,
+                  to_repeated n Row (begins f form.counts form.strides) (i - s) x (omega arith) among,
+                  omega arith,
+                  omega arith,
+                ),
+          );
+          apart = λ f. repeated_apart n Row form.length f (begins f form.counts form.strides) (was.apart f)
+              (λ m has. let (from, _, short) = was.lie f m has in (from, short refl));
+          lie = λ f m has.
+              let (k, x, less, among, is) = in_repeated n Row (begins f form.counts form.strides) m has in
+              let (from, to, short) = was.lie f x among in
+              let reach = short refl in
+              let sum = add-mul s k Row in
+              let room = row_fits (s + k) Row edge Row (omega arith) (omega arith) in
+              (omega arith, omega arith, λ _. omega arith);
+          all = λ not. absurd (true≢false (sym not));
+        }
+      where
+        rest : (i : ℕ) → s ≤ i → i * Row ≡ s * Row + (i - s) * Row
+        rest i from = let same : i ≡ s + (i - s) = omega arith in ap (λ k. k * Row) same ∙ add-mul s (i - s) Row
 
     pub one_more : (form : Strided) (whole : Bool) → AreInRow item edges start shape form whole
         → AreInRow item (edge ∷ edges) (s ∷ start) (n ∷ shape) (along Row s n whole form) (whole && (n == edge))
@@ -291,17 +241,13 @@ too_long item start shape edges within some d row below is past =
     omega arith
 
 -- along each dimension: the box has some, and ends within the chunk
-pub some_at : (shape : List ℕ) (d : ℕ) → (¬ Contains shape 0) → d < length shape → 0 < get_or shape d 0
-some_at (n ∷ shape) zero some below = head_some n shape some
-some_at (n ∷ shape) (suc d) some below = some_at shape d (tail_some n shape some) (omega arith)
-some_at [] d some below = absurd (omega arith)
-
-pub within_at : (start shape edges : List ℕ) (d : ℕ) → EndWithin start shape edges → d < length edges
-    → get_or start d 0 + get_or shape d 0 ≤ get_or edges d 0
-within_at (s ∷ start) (n ∷ shape) (edge ∷ edges) zero within below = within.0
-within_at (s ∷ start) (n ∷ shape) (edge ∷ edges) (suc d) within below = within_at start shape edges d within.1 (omega arith)
-within_at [] [] [] d within below = absurd (omega arith)
-within_at _ _ _ d within below = absurd assumption
+pub at_each : (start shape edges : List ℕ) (d : ℕ) → EndWithin start shape edges → (¬ Contains shape 0) → d < length edges
+    → (0 < get_or shape d 0) × (get_or start d 0 + get_or shape d 0 ≤ get_or edges d 0)
+at_each (s ∷ start) (n ∷ shape) (edge ∷ edges) zero within some below = (head_some n shape some, within.0)
+at_each (s ∷ start) (n ∷ shape) (edge ∷ edges) (suc d) within some below =
+    at_each start shape edges d within.1 (tail_some n shape some) (omega arith)
+at_each [] [] [] d within some below = absurd (omega arith)
+at_each _ _ _ d within some below = absurd assumption
 
 -- an empty box has no bytes
 pub no_bytes : (item : ℕ) (order : MemoryOrder) (edges start shape : List ℕ) (length : ℕ) → Contains shape 0

@@ -5,11 +5,16 @@ use Rattle.std.proofs.Math.Nat.{suc-mul}
 use Rattle.std.proofs.Math.Path.{fun_ext}
 use Rattle.std.proofs.Math.Seq.{drop-cons}
 use Rattle.std.proofs.lemmas.List.{length-map, map-id}
+use Rattle.std.proofs.lemmas.Simd.{map-map}
 use Rattle.zarrs_chunk_plan.specs.Bytes.{begins, repeated}
 use Rattle.zarrs_chunk_plan.specs.Counts.{product}
-use Rattle.zarrs_chunk_plan.proofs.ByteRows.{shifted_twice, to_repeated}
+use Rattle.zarrs_chunk_plan.proofs.ByteRows.{to_repeated}
 
 -- ---- one dimension
+
+shifted_twice : (a b : ℕ) (xs : List ℕ) → map (λ x. x + b) (map (λ x. x + a) xs) ≡ map (λ x. x + (a + b)) xs
+shifted_twice a b xs =
+    map-map (λ x. x + b) (λ x. x + a) xs ∙ ap (λ f. map f xs) (fun_ext (λ x. let same : x + a + b ≡ x + (a + b) = omega arith in same))
 
 module _ (stride : ℕ) where
   abbrev Later : List ℕ → List ℕ

@@ -1,18 +1,19 @@
 -- The form of the ranges that are found, and what it means.
-use Rattle.std.proofs.Common.{◌≡◌, ◌↔◌, ◌∙◌, ℕ, zero, suc, ◌+◌, ◌*◌, ◌<◌, ◌≤◌, Bool, true, false, List, [], ◌∷◌, Contains, IfSome, Option, None, Some, nat_le}
+use Rattle.std.proofs.Common.{◌≡◌, ◌↔◌, ◌∙◌, ℕ, zero, suc, ◌+◌, ◌-◌, ◌*◌, ◌<◌, ◌≤◌, Bool, true, false, List, [], ◌∷◌, Contains, IfSome, Option, None, Some, nat_le}
 use Rattle.std.proofs.Common.{ap, arith, cond, inl, inr, length, ne_eqb, option_map, refl, subst, sym, ⊎_elim}
 use Rattle.std.proofs.lemmas.Bool.{cases_lt, le-leb, leb-true, lt-leb, true≢false}
 use Rattle.std.proofs.lemmas.Option.{same_Some}
 use Rattle.zarrs_chunk_base.specs.Greatest.{greatest}
 use Rattle.zarrs_chunk_base.proofs.FirstMembers.{contained}
 use Rattle.zarrs_chunks.proofs.Covers.{head_some, tail_some}
-use Rattle.zarrs_chunk_plan.specs.Bytes.{FindsRanges, HasPast, begins, in_order, place}
+use Rattle.zarrs_chunk_plan.specs.Bytes.{FindsRanges, HasPast, IsByteIn, begins, in_order, place}
 use Rattle.zarrs_chunk_plan.specs.Counts.{product}
 use Rattle.zarrs_chunk_plan.specs.Region.{EndWithin}
 use Rattle.zarrs_chunk_plan.specs.Strided.{Strided, form_of, has_all, has_zero, lies_in, no_ranges, ranges_of, strided}
 use Rattle.zarrs_chunk_plan.specs.seen.Rows.{IsStrided}
 use Rattle.zarrs_chunk_plan.specs.declared.bytes.ByteRanges.{ByteRanges}
 use Rattle.zarrs_chunk_plan.specs.declared.bytes.MemoryOrder.{MemoryOrder}
+use Rattle.zarrs_chunk_plan.specs.declared.bytes.MemoryOrder.TheVariants.{C}
 use Rattle.zarrs_chunk_plan.proofs.ByteRows.{AreInRow, in_one, no_bytes, one_more, one_range, only}
 use Rattle.zarrs_chunk_plan.proofs.StoredOrder.{ends_in_order, product_in_order, ranges_in_order, some_in_order}
 
@@ -69,19 +70,15 @@ module _ (item : ℕ) (any_item : 0 < item) where
   one_element =
       let single : 1 * item ≡ item = omega arith in
       record {
-        some = omega arith;
         long = any_item;
         lists = refl;
-        are_ranges = record {
-          those = λ byte. (
-            λ (index, within, (low, high)). (in_one 0 item byte).1 (omega arith, no_place index high),
-            λ has. let (low, high) = (in_one 0 item byte).0 has in ([], tt, (omega arith, omega arith)),
-          );
-          apart = λ i j d less within. absurd (omega arith);
-        };
-        lie = λ n has. let none : n ≡ 0 = only 0 n has in (omega arith, omega arith);
+        those = λ f byte. (
+          λ has. let (low, high) = (in_one f item byte).0 has in (byte - f, ([], tt, (omega arith, omega arith)), omega arith),
+          λ (b, (index, within, (low, high)), is). let less = no_place index high in (in_one f item byte).1 (omega arith, omega arith),
+        );
+        apart = λ f i j d less within. absurd (omega arith);
+        lie = λ f n has. let at : n ≡ f = only f n has in (omega arith, omega arith, λ not. absurd (true≢false not));
         all = λ _. ap (one_range 0) (sym single);
-        shorter = λ no. absurd (true≢false no);
       }
     where
       no_place : {byte : ℕ} (index : List ℕ) → byte < place [] index * item + item → byte < 0 + item
@@ -121,9 +118,18 @@ module _ (item : ℕ) (any_item : 0 < item) where
             lists = all.lists;
             none = λ empty. absurd (some empty);
             some = λ _. all.long;
-            are_ranges = ranges_in_order item order edges start shape ranges.length _ all.are_ranges;
+            are_ranges = ranges_in_order item order edges start shape ranges.length _ (record {
+              those = λ byte. (
+                λ inside. (all.those ranges.first byte).1 (byte, inside, refl),
+                λ has.
+                    let (b, inside, at) = (all.those ranges.first byte).0 has in
+                    let here : b ≡ byte = omega arith in
+                    subst (IsByteIn item C (in_order order edges) (in_order order start) (in_order order shape)) here inside,
+              );
+              apart = all.apart ranges.first;
+            });
           },
-          λ (n, among, past). let (low, high) = all.lie n among in omega arith,
+          λ (n, among, past). let (low, high, _) = all.lie ranges.first n among in omega arith,
         )
 
     of_empty : EndWithin start shape edges → Contains shape 0 → (ranges : ByteRanges) → form_of ranges ≡ no_ranges → AreTold (Some ranges)

@@ -2,7 +2,7 @@ use Rattle.std.proofs.Common.{◌≡◌, ◌-◌, suc, arith, drop, subst}
 use Rattle.std.proofs.Math.Seq.{drop-cons, drop-length}
 use Rattle.std.specs.Int.NonZero.{non_zero_u64_get}
 use Rattle.zarrs_chunk_plan.specs.seen.Rows.{HasRanges}
-use Rattle.zarrs_chunk_plan.proofs.ByteRows.{some_at, too_long, within_at}
+use Rattle.zarrs_chunk_plan.proofs.ByteRows.{at_each, too_long}
 use Rattle.zarrs_chunk_plan.proofs.MovedBoxes.{within_long, within_starts}
 use Rattle.zarrs_chunk_plan.proofs.bytes.some_ranges.Goals as goal
 
@@ -25,12 +25,11 @@ bounds-shape-dimension c =
 
 pub go_out-requires-clause-some : goal.go_out-requires-clause-some
 go_out-requires-clause-some c =
-    let shapes = within_long c.args.start.now c.args.shape.now c.args.edges.now c.requires.within in
-    some_at c.args.shape.now (c.loop-dimension.dimension - 1) c.requires.some (omega arith)
+    (at_each c.args.start.now c.args.shape.now c.args.edges.now (c.loop-dimension.dimension - 1) c.requires.within c.requires.some (omega arith)).0
 
 pub go_out-requires-clause-within : goal.go_out-requires-clause-within
 go_out-requires-clause-within c =
-    within_at c.args.start.now c.args.shape.now c.args.edges.now (c.loop-dimension.dimension - 1) c.requires.within (omega arith)
+    (at_each c.args.start.now c.args.shape.now c.args.edges.now (c.loop-dimension.dimension - 1) c.requires.within c.requires.some (omega arith)).1
 
 pub returns-then-not-is_counted : goal.returns-then-not-is_counted
 returns-then-not-is_counted c =
