@@ -8,15 +8,13 @@ use Rattle.std.proofs.lemmas.Bool.{eqb-true, true≢false}
 use Rattle.std.proofs.lemmas.List.Elements.{Contains-append_cases, Contains-append_left, Contains-append_right}
 use Rattle.std.proofs.lemmas.Nat.{div-add-mod', le-div, row_fits}
 use Rattle.std.specs.List.{AllPairs}
-use Rattle.zarrs_chunk_base.specs.ArraySubset.{AreWithin}
 use Rattle.zarrs_chunk_base.specs.Greatest.{greatest}
 use Rattle.zarrs_chunks.proofs.ChunksInBoxes.{made_of, source_of}
 use Rattle.zarrs_chunks.proofs.Covers.{head_some, tail_some}
-use Rattle.zarrs_chunk_plan.specs.Bytes.{AreRanges, HasByte, IsByteIn, begins, place, repeated}
+use Rattle.zarrs_chunk_plan.specs.Bytes.{HasByte, IsByteIn, begins, place, repeated}
 use Rattle.zarrs_chunk_plan.specs.Counts.{product}
 use Rattle.zarrs_chunk_plan.specs.Region.{EndWithin}
 use Rattle.zarrs_chunk_plan.specs.Strided.{Strided, along}
-use Rattle.zarrs_chunk_plan.specs.declared.bytes.MemoryOrder.{MemoryOrder}
 use Rattle.zarrs_chunk_plan.specs.declared.bytes.MemoryOrder.TheVariants.{C}
 use Rattle.zarrs_chunk_plan.proofs.Joined.{pairs_mapped, pairs_of_both}
 
@@ -98,35 +96,28 @@ module _ (item edge s n : ℕ) (edges start shape : List ℕ) where
   Row = product edges * item
 
   -- the byte lies in one of the box's rows, where the box along the other dimensions has it
-  in_row : (byte : ℕ) → IsByteIn item C (edge ∷ edges) (s ∷ start) (n ∷ shape) byte
-      ↔ ((i : ℕ) × (b : ℕ) × (s ≤ i) × (i < s + n) × IsByteIn item C edges start shape b × (byte ≡ b + i * Row))
-  in_row byte = (
-    λ (index, within, (from, below)). first index within from below,
-    λ (i, b, from, less, (index, within, (low, high)), is).
-        let before = bytes_before i index in (i ∷ index, (from, less, within), (omega arith, omega arith)),
-  )
-    where
-      bytes_before : (i : ℕ) (index : List ℕ) → place (edge ∷ edges) (i ∷ index) * item ≡ i * Row + place edges index * item
-      bytes_before i index = add-mul (i * product edges) (place edges index) item ∙ ap (λ n. n + place edges index * item) (mul_assoc i (product edges) item)
+  abbrev InRow : ℕ → Type 0
+  InRow byte = (i : ℕ) × (b : ℕ) × (s ≤ i) × (i < s + n) × IsByteIn item C edges start shape b × (byte ≡ b + i * Row)
 
-      first : (index : List ℕ) → AreWithin (s ∷ start) (n ∷ shape) index → place (edge ∷ edges) index * item ≤ byte
-          → byte < place (edge ∷ edges) index * item + item
-          → (i : ℕ) × (b : ℕ) × (s ≤ i) × (i < s + n) × IsByteIn item C edges start shape b × (byte ≡ b + i * Row)
-      first (i ∷ index) (from_start, to_end, inside) from below =
-          let before = bytes_before i index in
-          (i, byte - i * Row, from_start, to_end, (index, inside, (omega arith, omega arith)), omega arith)
-      first [] within from below = absurd within
+  bytes_before : (i : ℕ) (index : List ℕ) → place (edge ∷ edges) (i ∷ index) * item ≡ i * Row + place edges index * item
+  bytes_before i index = add-mul (i * product edges) (place edges index) item ∙ ap (λ n. n + place edges index * item) (mul_assoc i (product edges) item)
+
+  to_row : (byte : ℕ) → IsByteIn item C (edge ∷ edges) (s ∷ start) (n ∷ shape) byte → InRow byte
+  to_row byte (i ∷ index, (from, less, within), (low, high)) =
+      let before = bytes_before i index in (i, byte - i * Row, from, less, (index, within, (omega arith, omega arith)), omega arith)
+  to_row byte ([], within, _) = absurd within
+
+  in_row : (byte : ℕ) → InRow byte → IsByteIn item C (edge ∷ edges) (s ∷ start) (n ∷ shape) byte
+  in_row byte (i, b, from, less, (index, within, (low, high)), is) =
+      let before = bytes_before i index in (i ∷ index, (from, less, within), (omega arith, omega arith))
 
   module _ (some : 0 < n) (within : s + n ≤ edge) where
-    row_of_all : product (edge ∷ edges) * item ≡ edge * Row
-    row_of_all = mul_assoc edge (product edges) item
-
     -- the box has all of each row
     all_of_rows : AreInRow item edges start shape (one_range 0 Row) true
         → AreInRow item (edge ∷ edges) (s ∷ start) (n ∷ shape) (one_range (0 + s * Row) (n * Row)) (n == edge)
     all_of_rows was =
         let any = was.long in
-        let outer = row_of_all in
+        let outer = mul_assoc edge (product edges) item in
         let rows = mul-le-mul_right Row within in
         let split = add-mul s n Row in
         let long = row_fits 0 Row n Row some (omega arith) in
@@ -141,9 +132,9 @@ module _ (item edge s n : ℕ) (edges start shape : List ℕ) where
                 let part = mod-lt at any in
                 let (b, inside, is) = (was.those 0 (at % Row)).0 ((in_one 0 Row (at % Row)).1 (omega arith, omega arith)) in
                 let less : at / Row < s + n = (div-lt_iff_lt-mul any).1 (omega arith) in
-                (at, (in_row at).1 (at / Row, b, le-div s at Row any (omega arith), less, inside, omega arith), omega arith),
+                (at, in_row at (at / Row, b, le-div s at Row any (omega arith), less, inside, omega arith), omega arith),
             λ (at, has, same).
-                let (i, b, from, less, inner, is) = (in_row at).0 has in
+                let (i, b, from, less, inner, is) = to_row at has in
                 let (_, part) = (in_one 0 Row b).0 ((was.those 0 b).1 (b, inner, refl)) in
                 let up = mul-le-mul_right Row from in
                 let down = row_fits i Row (s + n) Row less (omega arith) in
@@ -170,7 +161,7 @@ module _ (item edge s n : ℕ) (edges start shape : List ℕ) where
     part_of_rows : (form : Strided) → AreInRow item edges start shape form false
         → AreInRow item (edge ∷ edges) (s ∷ start) (n ∷ shape) (along Row s n false form) false
     part_of_rows form was =
-        let outer = row_of_all in
+        let outer = mul_assoc edge (product edges) item in
         record {
           long = was.long;
           lists = ap suc was.lists;
@@ -179,9 +170,9 @@ module _ (item edge s n : ℕ) (edges start shape : List ℕ) where
                 let (k, x, less, among, is) = in_repeated n Row (begins f form.counts form.strides) m has in
                 let (b, inside, same) = (was.those f (byte - k * Row)).0 (x, among, omega arith, omega arith) in
                 let sum = add-mul s k Row in
-                (b + (s + k) * Row, (in_row (b + (s + k) * Row)).1 (s + k, b, omega arith, omega arith, inside, refl), omega arith),
+                (b + (s + k) * Row, in_row (b + (s + k) * Row) (s + k, b, omega arith, omega arith, inside, refl), omega arith),
             λ (at, has, same).
-                let (i, b, from, less, inner, is) = (in_row at).0 has in
+                let (i, b, from, less, inner, is) = to_row at has in
                 let (m, there, up, _) = (was.those form.first b).1 (b, inner, refl) in
                 let (first, _, _) = was.lie form.first m there in
                 let sum : i * Row ≡ s * Row + (i - s) * Row = rest i from in
@@ -248,21 +239,3 @@ at_each (s ∷ start) (n ∷ shape) (edge ∷ edges) (suc d) within some below =
     at_each start shape edges d within.1 (tail_some n shape some) (omega arith)
 at_each [] [] [] d within some below = absurd (omega arith)
 at_each _ _ _ d within some below = absurd assumption
-
--- an empty box has no bytes
-pub no_bytes : (item : ℕ) (order : MemoryOrder) (edges start shape : List ℕ) (length : ℕ) → Contains shape 0
-    → AreRanges item order edges start shape length []
-no_bytes item order edges start shape long empty = record {
-  those = λ byte. (
-    λ (index, within, _). absurd (nothing_within start shape index empty within),
-    λ (n, (k, small, is), _, _). absurd (omega arith),
-  );
-  apart = λ i j d less within. absurd (omega arith);
-}
-  where
-    nothing_within : (start shape index : List ℕ) → Contains shape 0 → ¬ AreWithin start shape index
-    nothing_within (s ∷ start) (n ∷ shape) (i ∷ index) (zero, small, is) (from, below, rest) = let none : n ≡ 0 = is in absurd (omega arith)
-    nothing_within (s ∷ start) (n ∷ shape) (i ∷ index) (suc k, small, is) (from, below, rest) =
-        nothing_within start shape index (k, omega arith, is) rest
-    nothing_within [] [] [] (k, small, is) within = absurd (omega arith)
-    nothing_within _ _ _ empty within = absurd assumption

@@ -27,9 +27,6 @@ inside_onto (s ∷ start) (n ∷ shape) (i ∷ index) a b c (from, below, rest) 
     inside_onto start shape index (s ∷ a) (n ∷ b) (i ∷ c) rest (from, below, within)
 inside_onto _ _ _ a b c out _ = absurd out
 
-inside_reversed : (start shape index : List ℕ) → AreWithin start shape index → AreWithin (reverse start) (reverse shape) (reverse index)
-inside_reversed start shape index within = inside_onto start shape index [] [] [] within tt
-
 zero_reversed : (numbers : List ℕ) → Contains (reverse numbers) 0 → Contains numbers 0
 zero_reversed numbers (k, small, is) =
     let long = length-reverse numbers in
@@ -69,12 +66,10 @@ pub ranges_in_order : (item : ℕ) (order : MemoryOrder) (edges start shape : Li
 ranges_in_order item C edges start shape long numbers are = are
 ranges_in_order item F edges start shape long numbers are = record {
   those = λ byte. (
-    λ (index, within, of). (are.those byte).0 (reverse index, inside_reversed start shape index within, of),
+    λ (index, within, of). (are.those byte).0 (reverse index, inside_onto start shape index [] [] [] within tt, of),
     λ has. let (index, within, of) = (are.those byte).1 has in (
       reverse index,
-      subst (λ s. AreWithin s shape (reverse index)) (reverse-reverse start)
-          (subst (λ n. AreWithin (reverse (reverse start)) n (reverse index)) (reverse-reverse shape)
-          (inside_reversed (reverse start) (reverse shape) index within)),
+      rw (reverse-reverse start, reverse-reverse shape) at (inside_onto (reverse start) (reverse shape) index [] [] [] within tt),
       rw (reverse-reverse index) of,
     ),
   );

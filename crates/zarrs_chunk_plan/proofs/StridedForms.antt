@@ -14,7 +14,8 @@ use Rattle.zarrs_chunk_plan.specs.seen.Rows.{IsStrided}
 use Rattle.zarrs_chunk_plan.specs.declared.bytes.ByteRanges.{ByteRanges}
 use Rattle.zarrs_chunk_plan.specs.declared.bytes.MemoryOrder.{MemoryOrder}
 use Rattle.zarrs_chunk_plan.specs.declared.bytes.MemoryOrder.TheVariants.{C}
-use Rattle.zarrs_chunk_plan.proofs.ByteRows.{AreInRow, in_one, no_bytes, one_more, one_range, only}
+use Rattle.zarrs_chunk_plan.proofs.ByteRows.{AreInRow, in_one, one_more, one_range, only}
+use Rattle.zarrs_chunk_plan.proofs.Plans.{not_empty_if_inside}
 use Rattle.zarrs_chunk_plan.proofs.StoredOrder.{ends_in_order, product_in_order, ranges_in_order, some_in_order}
 
 -- ---- what the tests tell
@@ -141,7 +142,13 @@ module _ (item : ℕ) (any_item : 0 < item) where
             lists = subst (λ f. length f.counts ≡ length f.strides) (sym is) refl;
             none = λ _. none;
             some = λ some. absurd (some empty);
-            are_ranges = rw none (no_bytes item order edges start shape ranges.length empty);
+            are_ranges = rw none (record {
+              those = λ byte. (
+                λ (index, within, _). absurd (not_empty_if_inside start shape index within empty),
+                λ (n, (k, small, is), _, _). absurd (omega arith),
+              );
+              apart = λ i j d less within. absurd (omega arith);
+            });
           },
           rw none (λ (n, (k, small, is), past). absurd (omega arith)),
         )
