@@ -1,69 +1,20 @@
 -- Byte ranges along one more dimension.
-use Rattle.std.proofs.Common.{◌≡◌, ◌↔◌, ◌∙◌, ℕ, zero, suc, ◌+◌, ◌-◌, ◌*◌, ◌/◌, ◌%◌, ◌<◌, ◌≤◌, List, [], ◌∷◌, Contains, map, length, drop, get_or, Bool, true, false}
-use Rattle.std.proofs.Common.{◌&&◌, ◌==◌, refl, ap, ap₂, false-eqb, subst, sym, ⊎_elim, arith}
+use Rattle.std.proofs.Common.{◌≡◌, ◌↔◌, ◌∙◌, ℕ, zero, suc, ◌+◌, ◌-◌, ◌*◌, ◌/◌, ◌%◌, ◌<◌, ◌≤◌, List, [], ◌∷◌, Contains, length, drop, get_or, Bool, true, false}
+use Rattle.std.proofs.Common.{◌&&◌, ◌==◌, refl, ap, ap₂, false-eqb, subst, sym, arith}
 use Rattle.std.proofs.Math.Arith.{lt_of_le-ne}
 use Rattle.std.proofs.Math.Nat.{add-mul, div-lt_iff_lt-mul, mod-lt, mul-le-mul_right, mul_assoc}
 use Rattle.std.proofs.Math.Seq.{drop-cons}
 use Rattle.std.proofs.lemmas.Bool.{eqb-true, true≢false}
-use Rattle.std.proofs.lemmas.List.Elements.{Contains-append_cases, Contains-append_left, Contains-append_right}
 use Rattle.std.proofs.lemmas.Nat.{div-add-mod', le-div, row_fits}
 use Rattle.std.specs.List.{AllPairs}
 use Rattle.zarrs_chunk_base.specs.Greatest.{greatest}
-use Rattle.zarrs_chunks.proofs.ChunksInBoxes.{made_of, source_of}
 use Rattle.zarrs_chunks.proofs.Covers.{head_some, tail_some}
-use Rattle.zarrs_chunk_plan.specs.Bytes.{HasByte, IsByteIn, begins, place, repeated}
+use Rattle.zarrs_chunk_plan.specs.Bytes.{HasByte, IsByteIn, begins, place}
 use Rattle.zarrs_chunk_plan.specs.Counts.{product}
 use Rattle.zarrs_chunk_plan.specs.Region.{EndWithin}
 use Rattle.zarrs_chunk_plan.specs.Strided.{Strided, along}
 use Rattle.zarrs_chunk_plan.specs.declared.bytes.MemoryOrder.TheVariants.{C}
-use Rattle.zarrs_chunk_plan.proofs.Joined.{pairs_mapped, pairs_of_both}
-
--- ---- numbers that are repeated
-
--- each is one of the numbers, by so many strides greater
-pub in_repeated : (count stride : ℕ) (numbers : List ℕ) (n : ℕ) → Contains (repeated count stride numbers) n
-    → (k : ℕ) × (x : ℕ) × (k < count) × Contains numbers x × (n ≡ x + k * stride)
-in_repeated zero stride numbers n (k, within, is) = absurd (omega arith)
-in_repeated (suc count) stride numbers n has =
-    ⊎_elim (λ first. (0, n, omega arith, first, let same : n ≡ n + 0 * stride = omega arith in same))
-    (λ later.
-    let (k, y, less, there, is) = in_repeated count stride (map (λ x. x + stride) numbers) n later in
-    let (x, among, same) = source_of (λ x. x + stride) numbers y there in
-    (k + 1, x, omega arith, among, omega arith))
-    (Contains-append_cases numbers (repeated count stride (map (λ x. x + stride) numbers)) n has)
-
-pub to_repeated : (count stride : ℕ) (numbers : List ℕ) (k x : ℕ) → k < count → Contains numbers x
-    → Contains (repeated count stride numbers) (x + k * stride)
-to_repeated zero stride numbers k x less among = absurd (omega arith)
-to_repeated (suc count) stride numbers zero x less among =
-    let same : x + 0 * stride ≡ x = omega arith in
-    rw same (Contains-append_left numbers (repeated count stride (map (λ y. y + stride) numbers)) x among)
-to_repeated (suc count) stride numbers (suc k) x less among =
-    let same : x + suc k * stride ≡ (x + stride) + k * stride = omega arith in
-    rw same (Contains-append_right numbers (repeated count stride (map (λ y. y + stride) numbers)) ((x + stride) + k * stride)
-    (to_repeated count stride (map (λ y. y + stride) numbers) k (x + stride) (omega arith) (made_of (λ y. y + stride) numbers x among)))
-
-pub shifted_apart : (a long : ℕ) (numbers : List ℕ) → AllPairs (λ one later. one + long < later) numbers
-    → AllPairs (λ one later. one + long < later) (map (λ x. x + a) numbers)
-shifted_apart a long numbers apart =
-    pairs_mapped (λ x. x + a) (λ one later. one + long < later) numbers
-    (λ i j d before within. let less : get_or numbers i d + long < get_or numbers j d = apart i j d before within in omega arith)
-
--- those of one time lie before those of the next one
-pub repeated_apart : (count stride long first : ℕ) (numbers : List ℕ) → AllPairs (λ one later. one + long < later) numbers
-    → ((n : ℕ) → Contains numbers n → (first ≤ n) × (n + long < first + stride))
-    → AllPairs (λ one later. one + long < later) (repeated count stride numbers)
-repeated_apart zero stride long first numbers apart lie = λ i j d before within. absurd (omega arith)
-repeated_apart (suc count) stride long first numbers apart lie =
-    pairs_of_both (λ one later. one + long < later) numbers (repeated count stride (map (λ x. x + stride) numbers)) apart
-    (repeated_apart count stride long (first + stride) (map (λ x. x + stride) numbers) (shifted_apart stride long numbers apart)
-    (λ n has. let (x, among, is) = source_of (λ x. x + stride) numbers n has in let (from, to) = lie x among in (omega arith, omega arith)))
-    (λ one later was is_later.
-    let (k, y, less, there, is) = in_repeated count stride (map (λ x. x + stride) numbers) later is_later in
-    let (x, among, same) = source_of (λ x. x + stride) numbers y there in
-    let (from, to) = lie x among in
-    let (from_one, to_one) = lie one was in
-    omega arith)
+use Rattle.zarrs_chunk_plan.proofs.RangeStarts.{in_repeated, repeated_apart, to_repeated}
 
 -- ---- the bytes of a box along one more dimension
 
@@ -167,7 +118,7 @@ module _ (item edge s n : ℕ) (edges start shape : List ℕ) where
           lists = ap suc was.lists;
           those = λ f byte. (
             λ (m, has, low, high).
-                let (k, x, less, among, is) = in_repeated n Row (begins f form.counts form.strides) m has in
+                let (k, x, less, among, is) = in_repeated Row (begins f form.counts form.strides) n m has in
                 let (b, inside, same) = (was.those f (byte - k * Row)).0 (x, among, omega arith, omega arith) in
                 let sum = add-mul s k Row in
                 (b + (s + k) * Row, in_row (b + (s + k) * Row) (s + k, b, omega arith, omega arith, inside, refl), omega arith),
@@ -178,15 +129,15 @@ module _ (item edge s n : ℕ) (edges start shape : List ℕ) where
                 let sum : i * Row ≡ s * Row + (i - s) * Row = rest i from in
                 let (x, among, low, high) = (was.those f (byte - (i - s) * Row)).1 (b, inner, omega arith) in (
                   x + (i - s) * Row,
-                  to_repeated n Row (begins f form.counts form.strides) (i - s) x (omega arith) among,
+                  to_repeated Row (begins f form.counts form.strides) n (i - s) x (omega arith) among,
                   omega arith,
                   omega arith,
                 ),
           );
-          apart = λ f. repeated_apart n Row form.length f (begins f form.counts form.strides) (was.apart f)
-              (λ m has. let (from, _, short) = was.lie f m has in (from, short refl));
+          apart = λ f. repeated_apart Row (begins f form.counts form.strides) form.length f (was.apart f)
+              (λ m has. let (from, _, short) = was.lie f m has in (from, short refl)) n;
           lie = λ f m has.
-              let (k, x, less, among, is) = in_repeated n Row (begins f form.counts form.strides) m has in
+              let (k, x, less, among, is) = in_repeated Row (begins f form.counts form.strides) n m has in
               let (from, to, short) = was.lie f x among in
               let reach = short refl in
               let sum = add-mul s k Row in

@@ -1,6 +1,6 @@
 -- Where byte ranges begin, dimension by dimension.
-use Rattle.std.proofs.Common.{◌≡◌, ◌∙◌, ℕ, zero, suc, ◌+◌, ◌*◌, ◌<◌, List, [], ◌∷◌, ◌++◌, Contains, drop, get_or, length, length-append, map}
-use Rattle.std.proofs.Common.{ap, ap₂, append-nil, append_assoc, arith, refl, subst, sym}
+use Rattle.std.proofs.Common.{◌≡◌, ◌∙◌, ℕ, zero, suc, ◌+◌, ◌*◌, ◌<◌, ◌≤◌, List, [], ◌∷◌, ◌++◌, Contains, drop, get_or, length, length-append, map}
+use Rattle.std.proofs.Common.{ap, ap₂, append-nil, append_assoc, arith, refl, subst, sym, ⊎_elim}
 use Rattle.std.proofs.Math.Nat.{suc-mul}
 use Rattle.std.proofs.Math.Path.{fun_ext}
 use Rattle.std.proofs.Math.Seq.{drop-cons}
@@ -8,7 +8,12 @@ use Rattle.std.proofs.lemmas.List.{length-map, map-id}
 use Rattle.std.proofs.lemmas.Simd.{map-map}
 use Rattle.zarrs_chunk_plan.specs.Bytes.{begins, repeated}
 use Rattle.zarrs_chunk_plan.specs.Counts.{product}
-use Rattle.zarrs_chunk_plan.proofs.ByteRows.{to_repeated}
+use Rattle.zarrs_chunks.proofs.ChunksInBoxes.{made_of, source_of}
+use Rattle.std.proofs.lemmas.Bool.{cases_lt}
+use Rattle.std.proofs.lemmas.Nat.{row_fits}
+use Rattle.std.proofs.lemmas.List.Elements.{Contains-append_cases, Contains-append_left, Contains-append_right}
+use Rattle.std.specs.List.{AllPairs}
+use Rattle.zarrs_chunk_plan.proofs.Joined.{pairs_mapped, pairs_of_both}
 
 -- ---- one dimension
 
@@ -16,30 +21,70 @@ shifted_twice : (a b : ℕ) (xs : List ℕ) → map (λ x. x + b) (map (λ x. x 
 shifted_twice a b xs =
     map-map (λ x. x + b) (λ x. x + a) xs ∙ ap (λ f. map f xs) (fun_ext (λ x. let same : x + a + b ≡ x + (a + b) = omega arith in same))
 
-module _ (stride : ℕ) where
-  abbrev Later : List ℕ → List ℕ
-  Later = map (λ n. n + stride)
+-- once more behind so many times
+pub repeated_more : (stride count : ℕ) (numbers : List ℕ)
+    → repeated (suc count) stride numbers ≡ repeated count stride numbers ++ map (λ n. n + count * stride) numbers
+repeated_more stride zero numbers =
+    let none : (n : ℕ) → n + 0 * stride ≡ n = λ n. omega arith in
+    append-nil numbers ∙ sym (map-id numbers) ∙ ap (λ f. map f numbers) (fun_ext (λ n. sym (none n)))
+repeated_more stride (suc count) numbers =
+    let later = map (λ n. n + stride) numbers in
+    let more : stride + count * stride ≡ suc count * stride = omega (arith, suc-mul count stride) in
+    ap (λ ns. numbers ++ ns) (repeated_more stride count later)
+    ∙ sym (append_assoc numbers (repeated count stride later) (map (λ n. n + count * stride) later))
+    ∙ ap (λ ns. repeated (suc count) stride numbers ++ ns)
+    (shifted_twice stride (count * stride) numbers ∙ ap (λ a. map (λ n. n + a) numbers) more)
 
-  repeated_length : (count : ℕ) (numbers : List ℕ) → length (repeated count stride numbers) ≡ count * length numbers
-  repeated_length zero numbers = let none : 0 ≡ 0 * length numbers = omega arith in none
-  repeated_length (suc count) numbers =
-      let both = length-append numbers (repeated count stride (Later numbers)) in
-      let rest = repeated_length count (Later numbers) ∙ ap (λ n. count * n) (length-map numbers (λ (n : ℕ). n + stride)) in
+module _ (stride : ℕ) (numbers : List ℕ) where
+  -- each is one of the numbers, by so many strides greater
+  pub in_repeated : (count n : ℕ) → Contains (repeated count stride numbers) n
+      → (k : ℕ) × (x : ℕ) × (k < count) × Contains numbers x × (n ≡ x + k * stride)
+  in_repeated zero n (k, within, is) = absurd (omega arith)
+  in_repeated (suc count) n has =
+      ⊎_elim (λ before. let (k, x, less, among, is) = in_repeated count n before in (k, x, omega arith, among, is))
+      (λ last. let (x, among, is) = source_of (λ x. x + count * stride) numbers n last in (count, x, omega arith, among, sym is))
+      (Contains-append_cases (repeated count stride numbers) (map (λ x. x + count * stride) numbers) n
+      (subst (λ xs. Contains xs n) (repeated_more stride count numbers) has))
+
+  pub to_repeated : (count k x : ℕ) → k < count → Contains numbers x → Contains (repeated count stride numbers) (x + k * stride)
+  to_repeated zero k x less among = absurd (omega arith)
+  to_repeated (suc count) k x less among =
+      let last = map (λ y. y + count * stride) numbers in
+      subst (λ xs. Contains xs (x + k * stride)) (sym (repeated_more stride count numbers))
+      (⊎_elim (λ (before : k < count). Contains-append_left (repeated count stride numbers) last (x + k * stride) (to_repeated count k x before among))
+      (λ (le : count ≤ k).
+      let is : k ≡ count = omega arith in
+      rw is (Contains-append_right (repeated count stride numbers) last (x + count * stride) (made_of (λ y. y + count * stride) numbers x among)))
+      (cases_lt k count))
+
+  -- those of one time lie before those of the next one
+  pub repeated_apart : (long first : ℕ) → AllPairs (λ one later. one + long < later) numbers
+      → ((n : ℕ) → Contains numbers n → (first ≤ n) × (n + long < first + stride))
+      → (count : ℕ) → AllPairs (λ one later. one + long < later) (repeated count stride numbers)
+  repeated_apart long first apart lie zero = λ i j d before within. absurd (omega arith)
+  repeated_apart long first apart lie (suc count) =
+      subst (AllPairs (λ one later. one + long < later)) (sym (repeated_more stride count numbers))
+      (pairs_of_both (λ one later. one + long < later) (repeated count stride numbers) (map (λ x. x + count * stride) numbers)
+      (repeated_apart long first apart lie count)
+      (pairs_mapped (λ x. x + count * stride) (λ one later. one + long < later) numbers
+      (λ i j d before within. let less : get_or numbers i d + long < get_or numbers j d = apart i j d before within in omega arith))
+      (λ one later was is_later.
+      let (k, x, less, among, is) = in_repeated count one was in
+      let (y, there, same) = source_of (λ x. x + count * stride) numbers later is_later in
+      let (_, short) = lie x among in
+      let (from, _) = lie y there in
+      let up = row_fits k stride count stride less (omega arith) in
+      omega arith))
+
+  repeated_length : (count : ℕ) → length (repeated count stride numbers) ≡ count * length numbers
+  repeated_length zero = let none : 0 ≡ 0 * length numbers = omega arith in none
+  repeated_length (suc count) =
+      let both = ap length (repeated_more stride count numbers) in
+      let parts = length-append (repeated count stride numbers) (map (λ n. n + count * stride) numbers) in
+      let rest = repeated_length count in
+      let same = length-map numbers (λ (n : ℕ). n + count * stride) in
       let counts = suc-mul count (length numbers) in
       omega arith
-
-  -- once more behind so many times
-  pub repeated_more : (count : ℕ) (numbers : List ℕ)
-      → repeated (suc count) stride numbers ≡ repeated count stride numbers ++ map (λ n. n + count * stride) numbers
-  repeated_more zero numbers =
-      let none : (n : ℕ) → n + 0 * stride ≡ n = λ n. omega arith in
-      append-nil numbers ∙ sym (map-id numbers) ∙ ap (λ f. map f numbers) (fun_ext (λ n. sym (none n)))
-  repeated_more (suc count) numbers =
-      let more : stride + count * stride ≡ suc count * stride = omega (arith, suc-mul count stride) in
-      ap (λ ns. numbers ++ ns) (repeated_more count (Later numbers))
-      ∙ sym (append_assoc numbers (repeated count stride (Later numbers)) (map (λ n. n + count * stride) (Later numbers)))
-      ∙ ap (λ ns. repeated (suc count) stride numbers ++ ns)
-      (shifted_twice stride (count * stride) numbers ∙ ap (λ a. map (λ n. n + a) numbers) more)
 
 -- ---- dimension by dimension
 
@@ -52,7 +97,7 @@ some_both (suc a) (suc b) some = (omega arith, omega arith)
 pub begins_length : (first : ℕ) (counts strides : List ℕ) → length counts ≡ length strides → length (begins first counts strides) ≡ product counts
 begins_length first [] [] same = refl
 begins_length first (count ∷ counts) (stride ∷ strides) same =
-    repeated_length stride count (begins first counts strides) ∙ ap (λ n. count * n) (begins_length first counts strides (omega arith))
+    repeated_length stride (begins first counts strides) count ∙ ap (λ n. count * n) (begins_length first counts strides (omega arith))
 begins_length first _ _ same = absurd (omega arith)
 
 module _ (first : ℕ) where
@@ -60,23 +105,19 @@ module _ (first : ℕ) where
   Inner d counts strides = begins first (drop d counts) (drop d strides)
 
   -- along the inner dimensions there are some, and each is one of all
-  pub inner_some : (counts strides : List ℕ) (d : ℕ) → 0 < product counts → length counts ≡ length strides → 0 < length (Inner d counts strides)
-  inner_some counts strides zero some same = let many = begins_length first counts strides same in omega arith
-  inner_some [] [] (suc d) some same = omega arith
-  inner_some (count ∷ counts) (stride ∷ strides) (suc d) some same =
-      inner_some counts strides d (some_both count (product counts) some).1 (omega arith)
-  inner_some _ _ (suc d) some same = absurd (omega arith)
-
-  pub inner_among : (counts strides : List ℕ) (d n : ℕ) → 0 < product counts → length counts ≡ length strides
-      → Contains (Inner d counts strides) n → Contains (begins first counts strides) n
-  inner_among counts strides zero n some same has = has
-  inner_among [] [] (suc d) n some same has = has
-  inner_among (count ∷ counts) (stride ∷ strides) (suc d) n some same has =
+  pub inner_of_all : (counts strides : List ℕ) (d : ℕ) → 0 < product counts → length counts ≡ length strides
+      → (0 < length (Inner d counts strides)) × ((n : ℕ) → Contains (Inner d counts strides) n → Contains (begins first counts strides) n)
+  inner_of_all counts strides zero some same = let many = begins_length first counts strides same in (omega arith, λ n has. has)
+  inner_of_all [] [] (suc d) some same = (omega arith, λ n has. has)
+  inner_of_all (count ∷ counts) (stride ∷ strides) (suc d) some same =
       let (any, rest) = some_both count (product counts) some in
-      let is : n + 0 * stride ≡ n = omega arith in
-      subst (Contains (begins first (count ∷ counts) (stride ∷ strides))) is
-      (to_repeated count stride (begins first counts strides) 0 n any (inner_among counts strides d n rest (omega arith) has))
-  inner_among _ _ (suc d) n some same has = absurd (omega arith)
+      let (here, among) = inner_of_all counts strides d rest (omega arith) in
+      let is : (n : ℕ) → n + 0 * stride ≡ n = λ n. omega arith in (
+        here,
+        λ n has. subst (Contains (begins first (count ∷ counts) (stride ∷ strides))) (is n)
+            (to_repeated stride (begins first counts strides) count 0 n any (among n has)),
+      )
+  inner_of_all _ _ (suc d) some same = absurd (omega arith)
 
   -- along one more dimension
   pub one_more_dimension : (counts strides : List ℕ) (d : ℕ) → length counts ≡ length strides → d < length counts

@@ -1,8 +1,7 @@
 use Rattle.std.proofs.Common.{◌≡◌, ◌+◌, ◌*◌, suc, arith, get_or, sym}
 use Rattle.std.proofs.lemmas.List.Elements.{Contains-get_or}
 use Rattle.zarrs_chunks.proofs.ChunksInBoxes.{source_of}
-use Rattle.zarrs_chunk_plan.proofs.ByteRows.{to_repeated}
-use Rattle.zarrs_chunk_plan.proofs.RangeStarts.{repeated_more}
+use Rattle.zarrs_chunk_plan.proofs.RangeStarts.{repeated_more, to_repeated}
 use Rattle.zarrs_chunk_plan.proofs.range_starts.repeated.Goals as goal
 
 pub returns-in_default : goal.returns-in_default
@@ -10,7 +9,7 @@ returns-in_default c =
     let numbers = c.args.numbers.now in
     let first = get_or numbers 0 0 in (
       first + c.loop-times.times * c.args.stride,
-      to_repeated c.args.count c.args.stride numbers c.loop-times.times first c.loop-times-test.true (Contains-get_or numbers 0 0 c.requires),
+      to_repeated c.args.stride numbers c.args.count c.loop-times.times first c.loop-times-test.true (Contains-get_or numbers 0 0 c.requires),
       omega (arith, c.in_default.ensures),
     )
 
@@ -21,7 +20,7 @@ returns-in-None c =
     let (x, has, is) = source_of (λ n. n + c.in-Some.shift) numbers n among in
     let shift_is = c.in-Some.ensures.1 in (
       x + c.loop-times.times * c.args.stride,
-      to_repeated c.args.count c.args.stride numbers c.loop-times.times x c.loop-times-test.true has,
+      to_repeated c.args.stride numbers c.args.count c.loop-times.times x c.loop-times-test.true has,
       omega arith,
     )
 
