@@ -6,14 +6,13 @@ use Rattle.std.proofs.lemmas.Option.{same_Some}
 use Rattle.zarrs_chunk_base.specs.Greatest.{greatest}
 use Rattle.zarrs_chunk_base.proofs.FirstMembers.{contained}
 use Rattle.zarrs_chunks.proofs.Covers.{head_some, tail_some}
-use Rattle.zarrs_chunk_plan.specs.Bytes.{FindsRanges, HasPast, IsByteIn, begins, in_order, place}
+use Rattle.zarrs_chunk_plan.specs.Bytes.{FindsRanges, HasPast, begins, in_order}
 use Rattle.zarrs_chunk_plan.specs.Counts.{product}
 use Rattle.zarrs_chunk_plan.specs.Region.{EndWithin}
 use Rattle.zarrs_chunk_plan.specs.Strided.{Strided, form_of, has_all, has_zero, lies_in, no_ranges, ranges_of, strided}
 use Rattle.zarrs_chunk_plan.specs.seen.Rows.{IsStrided}
 use Rattle.zarrs_chunk_plan.specs.declared.bytes.ByteRanges.{ByteRanges}
 use Rattle.zarrs_chunk_plan.specs.declared.bytes.MemoryOrder.{MemoryOrder}
-use Rattle.zarrs_chunk_plan.specs.declared.bytes.MemoryOrder.TheVariants.{C}
 use Rattle.zarrs_chunk_plan.proofs.ByteRows.{AreInRow, in_one, one_more, one_range, only}
 use Rattle.zarrs_chunk_plan.proofs.Plans.{not_empty_if_inside}
 use Rattle.zarrs_chunk_plan.proofs.StoredOrder.{ends_in_order, product_in_order, ranges_in_order, some_in_order}
@@ -75,15 +74,12 @@ module _ (item : ℕ) (any_item : 0 < item) where
         lists = refl;
         those = λ f byte. (
           λ has. let (low, high) = (in_one f item byte).0 has in (byte - f, ([], tt, (omega arith, omega arith)), omega arith),
-          λ (b, (index, within, (low, high)), is). let less = no_place index high in (in_one f item byte).1 (omega arith, omega arith),
+          λ (b, (index, within, (low, high)), is). let less : b < 0 * item + item = high in (in_one f item byte).1 (omega arith, omega arith),
         );
         apart = λ f i j d less within. absurd (omega arith);
         lie = λ f n has. let at : n ≡ f = only f n has in (omega arith, omega arith, λ not. absurd (true≢false not));
         all = λ _. ap (one_range 0) (sym single);
       }
-    where
-      no_place : {byte : ℕ} (index : List ℕ) → byte < place [] index * item + item → byte < 0 + item
-      no_place index high = let none : 0 * item ≡ 0 = omega arith in omega (arith, high)
 
   strided_rows : (start shape edges : List ℕ) → EndWithin start shape edges → (¬ Contains shape 0)
       → AreInRow item edges start shape (strided item edges start shape) (has_all edges shape)
@@ -106,12 +102,7 @@ module _ (item : ℕ) (any_item : 0 < item) where
     of_full : EndWithin start shape edges → (¬ Contains shape 0) → product edges * item ≤ greatest → (ranges : ByteRanges)
         → form_of ranges ≡ Ordered → AreTold (Some ranges)
     of_full lies some fits ranges is =
-        let rows = strided_rows (in_order order start) (in_order order shape) (in_order order edges) (ends_in_order order start shape edges lies)
-        (some_in_order order shape some)
-        in
-        let all = subst (λ f. AreInRow item (in_order order edges) (in_order order start) (in_order order shape) f
-        (has_all (in_order order edges) (in_order order shape))) (sym is) rows
-        in
+        let all = rw (← is) at (strided_rows _ _ _ (ends_in_order order start shape edges lies) (some_in_order order shape some)) in
         let same = ap (λ n. n * item) (product_in_order order edges) in (
           record {
             lies = lies;
@@ -125,7 +116,7 @@ module _ (item : ℕ) (any_item : 0 < item) where
                 λ has.
                     let (b, inside, at) = (all.those ranges.first byte).0 has in
                     let here : b ≡ byte = omega arith in
-                    subst (IsByteIn item C (in_order order edges) (in_order order start) (in_order order shape)) here inside,
+                    rw (← here) inside,
               );
               apart = all.apart ranges.first;
             });
@@ -163,10 +154,7 @@ module _ (item : ℕ) (any_item : 0 < item) where
     told true true fits L E F (Some ranges) same = of_empty (L.0 refl) (E.0 refl) ranges (same_Some (form_of ranges) no_ranges same)
     told true false true L E F (Some ranges) same =
         of_full (L.0 refl) (λ has. true≢false (sym (E.1 has))) (F.0 refl) ranges (same_Some (form_of ranges) Ordered same)
-    told false empty fits L E F (Some ranges) same = cc
-    told true true fits L E F None same = cc
-    told true false true L E F None same = cc
-    told true false false L E F (Some ranges) same = cc
+    told _ _ _ L E F _ same = cc
 
     pub form_tells : (found : Option ByteRanges) → option_map form_of found ≡ ranges_of item order edges start shape → AreTold found
     form_tells =

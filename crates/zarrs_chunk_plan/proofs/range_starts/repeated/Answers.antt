@@ -30,6 +30,3 @@ loop-times-preserved c =
     let one : c.loop-times.times + 1 ≡ suc c.loop-times.times = omega arith in
     rw (c.in_ok-extend_from_slice-in-Some-2.ensures.items, c.deref.ensures.value, next, c.in-Some.ensures.1, c.loop-times.invariant, one)
     (sym (repeated_more c.args.stride c.loop-times.times c.args.numbers.now))
-
-pub returns : goal.returns
-returns c = let ended : c.loop-times.times ≡ c.args.count = omega (arith, c.loop-times-test.false) in rw ended at c.loop-times.invariant

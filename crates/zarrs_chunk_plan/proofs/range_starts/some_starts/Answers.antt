@@ -1,5 +1,4 @@
-use Rattle.std.proofs.Common.{◌≡◌, ◌-◌, suc, arith, refl, sym}
-use Rattle.std.proofs.Math.Seq.{drop-length}
+use Rattle.std.proofs.Common.{◌≡◌, ◌-◌, suc, arith, sym}
 use Rattle.zarrs_chunk_plan.proofs.RangeStarts.{inner_of_all, one_more_dimension}
 use Rattle.zarrs_chunk_plan.proofs.range_starts.some_starts.Goals as goal
 
@@ -7,9 +6,6 @@ pub repeated-requires : goal.repeated-requires
 repeated-requires c =
     rw (c.deref.ensures.value, c.loop-dimension.invariant)
     (inner_of_all c.args.first c.args.counts.now c.args.strides.now c.loop-dimension.dimension c.requires.some c.requires.lists).0
-
-pub loop-dimension-init : goal.loop-dimension-init
-loop-dimension-init c = rw (c.in_ok-push.ensures.items, c.in_ok-starts.ensures.items, drop-length c.args.counts.now) refl
 
 pub loop-dimension-preserved : goal.loop-dimension-preserved
 loop-dimension-preserved c =
@@ -27,6 +23,3 @@ returns-in-None c =
     let was = rw is at c.loop-dimension.invariant in
     let (n, among, past) = rw (c.in-None.is, c.deref.ensures.value, was, sym outer) at c.in_ok-all.ensures in
     (n, (inner_of_all c.args.first c.args.counts.now c.args.strides.now left c.requires.some c.requires.lists).1 n among, past)
-
-pub returns : goal.returns
-returns c = let ended : c.loop-dimension.dimension ≡ 0 = omega arith in rw ended at c.loop-dimension.invariant
