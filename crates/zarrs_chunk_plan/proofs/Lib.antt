@@ -4,7 +4,6 @@ pub mod Between
 pub mod BoxCounts
 pub mod BoxCover
 pub mod ByNumber
-pub mod ByteRows
 pub mod ChosenShapes
 pub mod ChunksChanged
 pub mod Clipped

@@ -1,7 +1,7 @@
 use Rattle.std.proofs.Common.{◌≡◌, ◌-◌, suc, arith}
 use Rattle.std.proofs.Math.Seq.{drop-cons, drop-length}
 use Rattle.std.specs.Int.NonZero.{non_zero_u64_get}
-use Rattle.zarrs_chunk_plan.proofs.ByteRows.{at_each, too_long}
+use Rattle.zarrs_chunk_plan.proofs.StridedForms.{too_long}
 use Rattle.zarrs_chunk_plan.proofs.MovedBoxes.{within_long, within_starts}
 use Rattle.zarrs_chunk_plan.proofs.bytes.some_ranges.Goals as goal
 
@@ -11,20 +11,6 @@ loop-dimension-init c =
     let starts = within_starts _ _ _ c.requires.within in
     rw (drop-length c.args.edges.now, ← starts, drop-length c.args.start.now, starts, ← shapes, drop-length c.args.shape.now)
     c.of_an_element-rows.ensures
-
-pub bounds-start-dimension : goal.bounds-start-dimension
-bounds-start-dimension c = let starts = within_starts _ _ _ c.requires.within in omega arith
-
-pub bounds-shape-dimension : goal.bounds-shape-dimension
-bounds-shape-dimension c = let shapes = within_long _ _ _ c.requires.within in omega arith
-
-pub go_out-requires-clause-some : goal.go_out-requires-clause-some
-go_out-requires-clause-some c =
-    (at_each _ _ _ (c.loop-dimension.dimension - 1) c.requires.within c.requires.some (omega arith)).0
-
-pub go_out-requires-clause-within : goal.go_out-requires-clause-within
-go_out-requires-clause-within c =
-    (at_each _ _ _ (c.loop-dimension.dimension - 1) c.requires.within c.requires.some (omega arith)).1
 
 pub returns-then-not-is_counted : goal.returns-then-not-is_counted
 returns-then-not-is_counted c =
