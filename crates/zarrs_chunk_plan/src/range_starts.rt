@@ -14,6 +14,7 @@ impl ByteRanges {
     ///
     /// # Errors
     /// Out of memory.
+    #[tactic(auto, using(crate::proofs::RangeStarts::begins_length))]
     pub fn starts(&self, alloc: Global, most: u64) -> Result<Option<Vec<u64>>, AllocError>
         ensures starts { IfOk result (λ found. IfSome found (λ starts. starts.items
             ≡ begins self.now.first self.now.counts.items self.now.strides.items)) }
@@ -47,6 +48,7 @@ impl ByteRanges {
 ///
 /// # Errors
 /// Out of memory.
+#[tactic(auto, using(crate::proofs::RangeStarts::one_more_dimension, crate::proofs::RangeStarts::inner_of_all))]
 fn some_starts(
     alloc: Global,
     first: u64,

@@ -1,4 +1,4 @@
-use Rattle.std.proofs.Common.{◌≡◌, ◌∙◌, ◌≤◌, ℕ, IfOk, IfSome, List, MatchOption, None, Option, Result, Some, Ok, Err, Vec, Global, ap, arith, inl, inr, length, rules, sym}
+use Rattle.std.proofs.Common.{◌≡◌, ◌∙◌, ◌≤◌, ℕ, IfOk, IfSome, List, MatchOption, None, Option, Result, Some, Ok, Err, Vec, Global, ap, arith, length, rules, sym}
 use Rattle.std.proofs.lemmas.List.{nil_from_length}
 use Rattle.std.specs.declared.alloc.AllocError.{AllocError}
 use Rattle.zarrs_chunk_plan.specs.Bytes.{HasPast, begins}
@@ -11,14 +11,6 @@ so_many : (r : Result (Option (Vec ℕ Global)) AllocError) (numbers : List ℕ)
 so_many (Ok (Some v)) numbers most few is = let same = ap length is in omega arith
 so_many (Ok None) numbers most few is = tt
 so_many (Err error) numbers most few is = tt
-
-pub returns-then-many-most-clause-none : goal.returns-then-many-most-clause-none
-returns-then-many-most-clause-none c = λ none.
-    let ranges = c.args.self.now in
-    let long = begins_length ranges.first ranges.counts.items ranges.strides.items (search rules) in
-    let many = rw c.deref.ensures.value at c.saturating_product-many.ensures in
-    let more = c.if-many-most.true in
-    inr (inl (omega arith))
 
 pub returns-then-many-eq0-clause-starts : goal.returns-then-many-eq0-clause-starts
 returns-then-many-eq0-clause-starts c =
