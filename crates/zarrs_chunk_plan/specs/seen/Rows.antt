@@ -14,7 +14,7 @@ pub record HasRanges (item : ℕ) (edges start shape : List ℕ) (rows : Rows) :
   pub form : form_of rows.ranges ≡ strided item edges start shape
   pub whole_is : rows.whole ≡ has_all edges shape
 
--- the ranges of a box that isn't empty, in a row-major chunk; none, where no number counts the chunk's bytes
+-- the ranges of a box that isn't empty, in a row-major chunk; `None` if no number counts the chunk's bytes
 abbrev pub IsStrided : (item : ℕ) (edges start shape : List ℕ) → Option ByteRanges → Type 0
 IsStrided item edges start shape found =
     MatchOption found (greatest < product edges * item)
