@@ -15,7 +15,7 @@
 //! With no words it is `run_to_status` of `programs::chunkcalls`, over what the process was given; words, which `read_words` reads, are answered by `answer_words`.
 #![tactic(auto)]
 
-use programs::chunkcalls::{Watched, run_to_status};
+use programs::chunkcalls::{Sink, Watched, run_to_status};
 use programs::{answer_words, read_words};
 use std::process::ExitCode;
 
@@ -38,12 +38,13 @@ Ends with the status 0, or with 1 where reading or writing failed or memory ran
 out, which standard error tells.";
 
 fn main(rt: HostRuntime) -> ExitCode {
-    let mut writer = Watched::new(rt.stdout());
     let mut errors = rt.stderr();
     let asked = read_words(&rt);
+    let mut writer = Watched::new(rt.stdout());
     if let Some(status) = answer_words(asked, "chunkcalls", HELP, &mut writer, &mut errors) {
         return ExitCode::from(status);
     }
     let mut reader = Watched::new(rt.stdin());
-    ExitCode::from(run_to_status(rt.alloc(), &mut reader, &mut writer, &mut errors))
+    let mut sink = Sink::new(rt.alloc(), rt.stdout());
+    ExitCode::from(run_to_status(rt.alloc(), &mut reader, &mut sink, &mut errors))
 }

@@ -25,21 +25,24 @@
 //! | `missing` | what is left of a plan beside keys |
 //! | `product` | products of numbers, in decimal digits |
 //! | `run_fault` | why a run stops |
-ghost use Rattle.std.specs.Prelude.{◌≡◌, ◌≤◌, ◌⊎◌, ℕ, false, IfSome, List, MatchResult, OnOk, Some};
+ghost use Rattle.std.specs.Prelude.{◌≡◌, ◌≤◌, ◌⊎◌, ℕ, false, IfOk, IfSome, List, MatchResult, OnOk, Some};
 ghost use Rattle.std.specs.Io.KnownBytes.{Keeps};
 ghost use Rattle.streams.specs.Watched.{has_failed, watched};
 ghost use Rattle.serde_json.specs.Data.{Data};
 ghost use Rattle.zarrs_chunk_base.specs.Json.{IsJsonOf};
-ghost use Rattle.programs.specs.chunkplan.Document.{Document as PlanDocument, IsDocument};
+ghost use Rattle.programs.specs.chunkplan.Document.{Document as PlanDocument, IsDocument, document_of};
 ghost use Rattle.programs.specs.chunkplan.DocumentFault.{IsInputFault};
 ghost use Rattle.programs.specs.chunkplan.Keys.{HasKeysBehind, first_line};
-ghost use Rattle.programs.specs.chunkplan.PlanFault.{IsFaultBeside, IsFirstFault};
+ghost use Rattle.programs.specs.chunkplan.PlanFault.{IsFaultBeside, IsFirstFault, IsWholeFault};
 ghost use Rattle.programs.specs.chunkplan.Planned.{IsPlanOf, IsPlannedBeside};
 ghost use Rattle.programs.specs.chunkplan.seen.Missing.{KeyStepLeaves};
 ghost use Rattle.streams.specs.seen.Lines.{left};
 ghost use Rattle.programs.specs.chunkplan.Run.{RunEndsWith, RunLeaves};
 ghost use Rattle.programs.specs.chunkplan.seen.Steps.{InputStepLeaves, StepLeaves};
-ghost use Rattle.streams.specs.seen.Sent.{output};
+ghost use Rattle.programs.specs.chunkplan.RunFault.{is_not_json};
+ghost use Rattle.programs.specs.declared.chunkplan.run_fault.RunFault.TheVariants.{Memory};
+ghost use Rattle.streams.specs.Streams.{streams_of};
+ghost use Rattle.streams.specs.seen.Sent.{HoldsAll, written};
 
 mod between;
 mod boxes;
@@ -64,39 +67,35 @@ mod stage;
 mod stages_line;
 mod within;
 
-use document::parse;
-use keys::has_keys_behind;
+use document::{Document, parse};
+use keys::{closed_lines, has_keys_behind};
 pub use known_members::UnknownMember;
 pub use member_rules::MemberRule;
 use missing::write_beside_keys;
 use plan::write_plan;
 pub use run_fault::RunFault;
-use std::alloc::Global;
+use std::alloc::{AllocError, Global};
 use std::io::{Read, Write};
-pub use streams::Watched;
-use streams::{Escaped, Lines, write_all};
+use streams::{Escaped, Lines};
+pub use streams::{Sink, Watched};
 
 /// Runs the program, tells its fault in one line, if it had one, and answers the status to end with:
 /// 0 where the run succeeded, and 1 after a fault.
 pub fn run_to_status<R: Read, W: Write, E: Write>(
     alloc: Global,
     reader: &mut Watched<R>,
-    writer: &mut Watched<W>,
+    sink: &mut Sink<W>,
     errors: &mut E,
 ) -> u8
-    ensures outcome { IfSome (R.remaining (watched reader.old)) (λ input.
-        IfSome (W.contents (watched writer.old)) (λ held.
-        has_failed reader.old ≡ false → has_failed writer.old ≡ false
-        → RunEndsWith input held result (record {
-          left = R.remaining (watched reader.new);
-          read_failed = has_failed reader.new;
-          holds = W.contents (watched writer.new);
-          write_failed = has_failed writer.new;
-        }))) }
+    ensures outcome { IfSome (R.remaining (watched reader.old)) (λ input. (held : List ℕ)
+        → HoldsAll held (written W.contents sink.old)
+        → has_failed reader.old ≡ false → (written W.contents sink.old).failed ≡ false
+        → RunEndsWith input held result
+        (streams_of R.remaining W.contents reader.new sink.new)) }
     ensures silent { result ≡ 0 → Keeps (E.contents errors.old) (E.contents errors.new) }
     ensures zero_or_one { result ≤ 1 }
 {
-    let outcome = run(alloc, reader, writer);
+    let outcome = run(alloc, reader, sink);
     finish(&outcome, errors)
 }
 
@@ -113,21 +112,15 @@ pub fn run_to_status<R: Read, W: Write, E: Write>(
 pub fn run<R: Read, W: Write>(
     alloc: Global,
     reader: &mut Watched<R>,
-    writer: &mut Watched<W>,
+    sink: &mut Sink<W>,
 ) -> Result<(), RunFault>
-    ensures { IfSome (R.remaining (watched reader.old))
-        (λ input. IfSome (W.contents (watched writer.old)) (λ held.
-        has_failed reader.old ≡ false → has_failed writer.old ≡ false
-        → RunLeaves input held result (record {
-          left = R.remaining (watched reader.new);
-          read_failed = has_failed reader.new;
-          holds = W.contents (watched writer.new);
-          write_failed = has_failed writer.new;
-        }))) }
+    ensures { IfSome (R.remaining (watched reader.old)) (λ input. (held : List ℕ)
+        → HoldsAll held (written W.contents sink.old)
+        → has_failed reader.old ≡ false → (written W.contents sink.old).failed ≡ false
+        → RunLeaves input held result (streams_of R.remaining W.contents reader.new sink.new)) }
 {
-    let mut held_back = Vec::new(alloc);
-    answer_input(alloc, reader, &mut held_back, writer)?;
-    write_all(writer, &held_back)?;
+    answer_input(alloc, reader, sink)?;
+    sink.flush()?;
     Ok(())
 }
 
@@ -135,24 +128,22 @@ pub fn run<R: Read, W: Write>(
 fn answer_input<R: Read, W: Write>(
     alloc: Global,
     reader: &mut Watched<R>,
-    held_back: &mut Vec<u8>,
-    writer: &mut Watched<W>,
+    sink: &mut Sink<W>,
 ) -> Result<(), RunFault>
     ensures { IfSome (R.remaining (watched reader.old)) (λ input. has_failed reader.old ≡ false
         → InputStepLeaves input result (has_failed reader.new) (R.remaining (watched reader.new))
-        (output W.contents held_back.old.items writer.old)
-        (output W.contents held_back.new.items writer.new)) }
+        (written W.contents sink.old) (written W.contents sink.new)) }
 {
     let mut lines = Lines::new(alloc);
     let mut input = Vec::new(alloc);
     let ended = lines.read_line(reader, &mut input)?;
     if has_keys_behind(alloc, &input)? {
-        return answer_beside_keys(alloc, input, &mut lines, reader, held_back, writer);
+        return answer_beside_keys(alloc, input, &mut lines, reader, sink);
     }
     if ended {
         lines.read_rest(reader, &mut input)?;
     }
-    answer(alloc, input, held_back, writer)
+    answer(alloc, input, sink)
 }
 
 /// Sends what is left of the plan that a first line asks for, of a store with the keys behind it.
@@ -161,44 +152,76 @@ fn answer_beside_keys<R: Read, W: Write>(
     line: Vec<u8>,
     lines: &mut Lines,
     reader: &mut Watched<R>,
-    held_back: &mut Vec<u8>,
-    writer: &mut Watched<W>,
+    sink: &mut Sink<W>,
 ) -> Result<(), RunFault>
     requires { HasKeysBehind line.items }
     ensures { (bytes : List ℕ) → left lines.old (R.remaining (watched reader.old)) ≡ Some bytes
         → KeyStepLeaves
         (λ keys text. (tree : Data) × (document : PlanDocument) × IsJsonOf line.items tree
         × IsDocument tree document × IsPlannedBeside document keys text)
-        (λ keys fault. IsInputFault line.items fault
+        (λ fault. IsInputFault line.items fault
         ⊎ ((tree : Data) × (document : PlanDocument) × IsJsonOf line.items tree
-        × IsDocument tree document × IsFaultBeside document keys fault)) bytes result
+        × IsDocument tree document × IsFaultBeside document bytes fault)) bytes result
         (has_failed reader.old) (has_failed reader.new) (R.remaining (watched reader.new))
-        (output W.contents held_back.old.items writer.old)
-        (output W.contents held_back.new.items writer.new) }
+        (written W.contents sink.old) (written W.contents sink.new) }
 {
     let document = parse(alloc, &line)?;
     drop(line);
-    write_beside_keys(alloc, document, lines, reader, held_back, writer)
+    write_beside_keys(alloc, document, lines, reader, sink)
 }
 
 /// Sends the plan that an input asks for, which is all a document.
-fn answer<W: Write>(
-    alloc: Global,
-    input: Vec<u8>,
-    held_back: &mut Vec<u8>,
-    writer: &mut Watched<W>,
-) -> Result<(), RunFault>
+fn answer<W: Write>(alloc: Global, input: Vec<u8>, sink: &mut Sink<W>) -> Result<(), RunFault>
     ensures { (¬ HasKeysBehind (first_line input.items))
         → StepLeaves (IsPlanOf input.items) (IsFirstFault input.items) result
-        (output W.contents held_back.old.items writer.old)
-        (output W.contents held_back.new.items writer.new) }
+        (written W.contents sink.old) (written W.contents sink.new) }
 {
-    let document = parse(alloc, &input)?;
+    let document = parse_whole(alloc, &input)?;
     drop(input);
     if document.keys {
         return Err(RunFault::KeysOfLongDocument);
     }
-    write_plan(alloc, document, held_back, writer)
+    write_plan(alloc, document, sink)
+}
+
+/// Returns the document that an input is the text of, if its first line has no keys after it.
+///
+/// # Errors
+/// As of `parse`. An input that is no JSON, but a document of several lines with keys after it, isn't one line.
+fn parse_whole(alloc: Global, input: &[u8]) -> Result<Document, RunFault>
+    ensures { MatchResult result
+        (λ document. (tree : Data) × IsJsonOf input.now tree
+        × IsDocument tree (document_of document))
+        (λ fault. (fault ≡ Memory) ⊎ IsWholeFault input.now fault) }
+{
+    match parse(alloc, input) {
+        Ok(document) => Ok(document),
+        Err(fault) => Err(whole_fault(alloc, input, fault)?),
+    }
+}
+
+/// Returns the fault of an input that is no document, by what is wrong with its text.
+///
+/// # Errors
+/// Out of memory.
+fn whole_fault(alloc: Global, input: &[u8], fault: RunFault) -> Result<RunFault, AllocError>
+    requires { (fault ≡ Memory) ⊎ IsInputFault input.now fault }
+    ensures { IfOk result (λ told. (told ≡ Memory) ⊎ IsWholeFault input.now told) }
+{
+    if !is_not_json(&fault) {
+        return Ok(fault);
+    }
+    if has_keys_behind(alloc, closed_lines(input))? {
+        return Ok(RunFault::KeysOfLongDocument);
+    }
+    Ok(RunFault::NotJson)
+}
+
+/// Whether a fault is that the input is no text of JSON.
+fn is_not_json(fault: &RunFault) -> bool
+    ensures { result ≡ is_not_json fault.now }
+{
+    matches!(fault, RunFault::NotJson)
 }
 
 /// Tells a run's fault in one line, if it had one, and answers the status to end with: 0, or 1

@@ -1,7 +1,7 @@
 //! What no contract says: readers and writers that fail, what is told then, and when an answer is flushed.
 use crate::ended::{check_bytes, check_ending, check_that};
 use crate::failing::{FailingReader, FailingWriter};
-use programs::chunkcalls::{RunFault, Watched, finish, run_to_status};
+use programs::chunkcalls::{RunFault, Sink, Watched, finish, run_to_status};
 use std::alloc::{AllocError, Global};
 use std::io::ErrorKind;
 use std::process::Abort;
@@ -36,8 +36,8 @@ fn check_read(
     });
     let mut written = Vec::new(rt.alloc());
     let mut errors = Vec::new(rt.alloc());
-    let mut writer = Watched::new(&mut written);
-    let status = run_to_status(rt.alloc(), &mut reader, &mut writer, &mut errors);
+    let mut sink = Sink::new(rt.alloc(), &mut written);
+    let status = run_to_status(rt.alloc(), &mut reader, &mut sink, &mut errors);
     check_ending(
         rt,
         (status, &errors),
@@ -91,8 +91,8 @@ fn check_write(
 ) {
     let mut errors = Vec::new(rt.alloc());
     let mut reader = Watched::new(input);
-    let mut watched = Watched::new(&mut writer);
-    let status = run_to_status(rt.alloc(), &mut reader, &mut watched, &mut errors);
+    let mut sink = Sink::new(rt.alloc(), &mut writer);
+    let status = run_to_status(rt.alloc(), &mut reader, &mut sink, &mut errors);
     let writes = taken.len();
     check_ending(
         rt,
@@ -130,8 +130,8 @@ fn check_flush(
     let mut writer = failing_writer(rt.alloc(), 100, None, true);
     let mut errors = Vec::new(rt.alloc());
     let mut reader = Watched::new(input.as_slice());
-    let mut watched = Watched::new(&mut writer);
-    let status = run_to_status(rt.alloc(), &mut reader, &mut watched, &mut errors);
+    let mut sink = Sink::new(rt.alloc(), &mut writer);
+    let status = run_to_status(rt.alloc(), &mut reader, &mut sink, &mut errors);
     check_that(rt, status == 1, output.len());
     check_bytes(rt, &writer.taken, &output, output.len());
     Ok(())
@@ -148,10 +148,11 @@ fn an_answer_is_flushed_unless_a_line_waits(rt: HostRuntime) -> Result<(), Fail>
 fn an_empty_output_is_flushed(rt: HostRuntime) {
     for flush_fails in [false, true] {
         let other = Some(ErrorKind::Other);
-        let mut writer = Watched::new(failing_writer(rt.alloc(), 0, other, flush_fails));
+        let writer = failing_writer(rt.alloc(), 0, other, flush_fails);
+        let mut sink = Sink::new(rt.alloc(), writer);
         let mut errors = Vec::new(rt.alloc());
         let mut reader = Watched::new(b"".as_slice());
-        let status = run_to_status(rt.alloc(), &mut reader, &mut writer, &mut errors);
+        let status = run_to_status(rt.alloc(), &mut reader, &mut sink, &mut errors);
         check_that(&rt, status == u8::from(flush_fails), 0);
     }
 }

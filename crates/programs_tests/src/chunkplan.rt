@@ -2,7 +2,7 @@
 //! of a document is data, which `.ci/plans` reads.
 use crate::ended::{check_bytes, check_ending, check_that};
 use crate::failing::{FailingReader, FailingWriter};
-use programs::chunkplan::{Watched, run_to_status};
+use programs::chunkplan::{Sink, Watched, run_to_status};
 use std::io::ErrorKind;
 use std::process::Abort;
 
@@ -37,7 +37,7 @@ const LINES_BESIDE_KEYS: &[u8] =
 "#;
 
 const KEY_NOT_TEXT: &[u8] =
-    b"{\"shape\":[],\"chunk_grid\":{\"name\":\"regular\",\"configuration\":{\"chunk_shape\":[]}},\"chunk_key_encoding\":\"v2\",\"keys\":true,\"target\":{\"chunk_grid\":{\"name\":\"regular\",\"configuration\":{\"chunk_shape\":[]}},\"chunk_key_encoding\":\"v2\"}}\n\xff\n";
+    b"{\"shape\":[],\"chunk_grid\":{\"name\":\"regular\",\"configuration\":{\"chunk_shape\":[]}},\"chunk_key_encoding\":\"v2\",\"keys\":true,\"target\":{\"chunk_grid\":{\"name\":\"regular\",\"configuration\":{\"chunk_shape\":[]}},\"chunk_key_encoding\":\"v2\"}}\n0\n\n\xff\n\xff\n";
 
 /// The same array, which gets a fifth element: the second chunk gets it.
 const RESIZED: &[u8] =
@@ -70,9 +70,9 @@ fn check_read(
         reads,
         fault,
     });
-    let mut writer = Watched::new(Vec::new(rt.alloc()));
+    let mut sink = Sink::new(rt.alloc(), Vec::new(rt.alloc()));
     let mut errors = Vec::new(rt.alloc());
-    let status = run_to_status(rt.alloc(), &mut reader, &mut writer, &mut errors);
+    let status = run_to_status(rt.alloc(), &mut reader, &mut sink, &mut errors);
     check_ending(
         rt,
         (status, &errors),
@@ -81,7 +81,7 @@ fn check_read(
         reads,
     );
     let written = if succeeds { lines } else { b"".as_slice() };
-    check_bytes(rt, writer.inner(), written, reads);
+    check_bytes(rt, sink.writer().inner(), written, reads);
     check_that(rt, reader.failed() != succeeds, reads);
 }
 
@@ -111,15 +111,16 @@ fn check_write(
     taken: &[u8],
 ) {
     let (document, lines) = asked;
-    let mut writer = Watched::new(FailingWriter {
+    let writer = FailingWriter {
         taken: Vec::new(rt.alloc()),
         writes,
         fault,
         flush_fails,
-    });
+    };
+    let mut sink = Sink::new(rt.alloc(), writer);
     let mut errors = Vec::new(rt.alloc());
     let mut reader = Watched::new(document);
-    let status = run_to_status(rt.alloc(), &mut reader, &mut writer, &mut errors);
+    let status = run_to_status(rt.alloc(), &mut reader, &mut sink, &mut errors);
     let succeeds = writes == lines.len() && !flush_fails;
     check_ending(
         rt,
@@ -128,8 +129,8 @@ fn check_write(
         "chunkplan: output failed\n",
         writes,
     );
-    check_bytes(rt, &writer.inner().taken, taken, writes);
-    check_that(rt, writer.failed() != succeeds, writes);
+    check_bytes(rt, &sink.writer().inner().taken, taken, writes);
+    check_that(rt, sink.writer().failed() != succeeds, writes);
 }
 
 /// The same of each number of writes up to the one that is enough.
@@ -160,11 +161,11 @@ fn a_failed_write_leaves_a_beginning(rt: HostRuntime) {
 /// The fault of a document is told by this line, and nothing is written.
 fn check_fault(rt: &(impl Abort + AllocGlobal), document: &[u8], line: &str) {
     let mut reader = Watched::new(document);
-    let mut writer = Watched::new(Vec::new(rt.alloc()));
+    let mut sink = Sink::new(rt.alloc(), Vec::new(rt.alloc()));
     let mut errors = Vec::new(rt.alloc());
-    let status = run_to_status(rt.alloc(), &mut reader, &mut writer, &mut errors);
+    let status = run_to_status(rt.alloc(), &mut reader, &mut sink, &mut errors);
     check_ending(rt, (status, &errors), false, line, 0);
-    check_bytes(rt, writer.inner(), b"", 0);
+    check_bytes(rt, sink.writer().inner(), b"", 0);
 }
 
 #[test]
@@ -172,6 +173,6 @@ fn a_key_that_is_no_text_is_told(rt: HostRuntime) {
     check_fault(
         &rt,
         KEY_NOT_TEXT,
-        "chunkplan: field `keys`: a line behind the document isn't UTF-8\n",
+        "chunkplan: field `keys`: line 4 is not UTF-8\n",
     );
 }

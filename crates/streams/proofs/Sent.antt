@@ -23,10 +23,9 @@ module _ (before : Output) where
   all_sent after bytes all is sent = for_known before.holds _ (λ held is_held. (all, rw is_held at sent, sym is ∙ sym (append-nil all)))
 
   -- and nothing is held back then
-  pub flushed : (after : Output) (all : List ℕ) → all ≡ before.held_back → after.held_back ≡ []
-      → IfSome before.holds (λ held. after.holds ≡ Some (held ++ all))
+  pub flushed : (after : Output) → after.held_back ≡ [] → IfSome before.holds (λ held. after.holds ≡ Some (held ++ before.held_back))
       → IsSent before after []
-  flushed after all is none sent = rw none (all_sent after.holds [] all (is ∙ sym (append-nil before.held_back)) sent)
+  flushed after none sent = rw none (all_sent after.holds [] before.held_back (sym (append-nil before.held_back)) sent)
 
   -- or a beginning of it
   pub some_sent : (after : Option (List ℕ)) (bytes all : List ℕ) → all ≡ before.held_back ++ bytes

@@ -1,9 +1,8 @@
 //! Bytes from a reader and to a writer, and how a run that moved them ends.
 ghost use Rattle.std.specs.Prelude.{◌≡◌, [], ◌++◌, ℕ, List, IfErr, IfOk, IfSome, MatchResult, OnErr, OnOk, Some, true};
 ghost use Rattle.std.specs.Io.KnownBytes.{Keeps};
-ghost use Rattle.streams.specs.Watched.{watched, has_failed, IsReadFailure, IsWriteFailure};
-ghost use Rattle.streams.specs.seen.Sent.{Sends, output};
-ghost use Rattle.streams.specs.declared.stream_fault.StreamFault.TheVariants.{Memory, Write as WriteFailed};
+ghost use Rattle.streams.specs.Watched.{watched, has_failed, IsReadFailure};
+ghost use Rattle.streams.specs.declared.stream_fault.StreamFault.TheVariants.{Write as WriteFailed};
 
 use crate::stream_fault::StreamFault;
 use crate::watched::Watched;
@@ -13,9 +12,6 @@ use std::io::{Read, Write};
 
 /// How many bytes are asked for at once.
 pub const BUFFER_LEN: usize = 16384;
-
-/// So many bytes are sent once they are there.
-const ENOUGH: usize = 8192;
 
 /// All that a reader has left. A reader that never ends is answered with `Memory`.
 ///
@@ -38,34 +34,6 @@ pub fn read_to_end<R: Read>(alloc: Global, reader: &mut Watched<R>) -> Result<Ve
         }
         bytes.extend_from_slice(&buffer[..count])?;
     }
-}
-
-/// Holds bytes back until there are enough of them, and then sends all that are held back.
-///
-/// # Errors
-/// A write failed, or took nothing; or out of memory. Out of memory, all is as it was.
-pub fn send<W: Write>(
-    bytes: &[u8],
-    held_back: &mut Vec<u8>,
-    writer: &mut Watched<W>,
-) -> Result<(), StreamFault>
-    ensures sent { (rest : List ℕ) × Sends
-        (output W.contents held_back.old.items writer.old)
-        bytes.now (W.contents (watched writer.new)) rest
-        × OnOk result (rest ≡ held_back.new.items) }
-    ensures failed { MatchResult result (λ _. has_failed writer.new ≡ has_failed writer.old)
-        (λ fault. IsWriteFailure fault (has_failed writer.old) (has_failed writer.new)) }
-    ensures unchanged { IfErr result (λ fault. fault ≡ Memory
-        → output W.contents held_back.new.items writer.new
-        ≡ output W.contents held_back.old.items writer.old) }
-{
-    held_back.extend_from_slice(bytes)?;
-    if held_back.len() < ENOUGH {
-        return Ok(());
-    }
-    write_bytes(writer, held_back)?;
-    held_back.clear();
-    Ok(())
 }
 
 /// Writes all bytes, in order, and flushes.
@@ -93,7 +61,10 @@ pub fn write_all<W: Write>(writer: &mut Watched<W>, bytes: &[u8]) -> Result<(), 
 ///
 /// # Errors
 /// A write failed, or took nothing. A beginning of the bytes may have been written.
-fn write_bytes<W: Write>(writer: &mut Watched<W>, bytes: &[u8]) -> Result<(), StreamFault>
+pub(crate) fn write_bytes<W: Write>(
+    writer: &mut Watched<W>,
+    bytes: &[u8],
+) -> Result<(), StreamFault>
     ensures ok { OnOk result (IfSome (W.contents (watched writer.old)) (λ held.
         W.contents (watched writer.new) ≡ Some (held ++ bytes.now))) }
     ensures unfailed { OnOk result (has_failed writer.new ≡ has_failed writer.old) }

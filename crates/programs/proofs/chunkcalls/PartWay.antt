@@ -1,5 +1,5 @@
 -- What holds after some bytes were read, and the lines that ended in them were answered.
-use Rattle.std.proofs.Common.{◌≡◌, ◌∙◌, ℕ, ◌+◌, ◌<◌, List, [], ◌∷◌, ◌++◌, Option, None, Some, Result, Ok, Err, IfErr, IfSome, MatchResult, OnErr, OnOk, Bool, ◌≢◌, ap, inl, inr, ⊎_elim}
+use Rattle.std.proofs.Common.{◌≡◌, ◌∙◌, ℕ, ◌+◌, ◌<◌, List, [], ◌∷◌, ◌++◌, Option, None, Some, Result, Ok, Err, IfErr, IfSome, MatchResult, OnErr, OnOk, ◌≢◌, ap, inl, inr, ⊎_elim}
 use Rattle.std.proofs.Common.{append-nil, append_assoc, arith, get_or, length, length-append, refl, suc, sym, take}
 use Rattle.std.proofs.Math.Seq.{take-suc}
 use Rattle.std.proofs.lemmas.List.{nil_from_length}
@@ -9,8 +9,8 @@ use Rattle.streams.specs.declared.stream_fault.StreamFault.TheVariants.{Memory, 
 use Rattle.programs.specs.chunkcalls.Lines.{AreAnswers, AreAnswersRead, AreEndedAnswers, AreFirstAnswers, HasAnsweredRead, HasBegunAnswers, HoldsAnswers, IsReplyTo, last_line, no_ended}
 use Rattle.programs.specs.chunkcalls.seen.Answered.{HasAnsweredBefore, HasAnsweredPiece, HasStopped, HasStoppedAt, HasStoppedIn, IsBegun}
 use Rattle.streams.specs.Watched.{IsWriteFailure}
-use Rattle.streams.specs.seen.Sent.{IsSent, Output, Sends}
-use Rattle.streams.proofs.Known.{for_both}
+use Rattle.streams.specs.seen.Sent.{HoldsAll, IsSent, Output, Sends}
+use Rattle.streams.proofs.Known.{for_known}
 use Rattle.streams.proofs.Sent.{sends_more, sends_nothing}
 use Rattle.programs.proofs.chunkcalls.Ended.{ended_more, ended_one, ended_then}
 use Rattle.programs.proofs.chunkcalls.KeptLines.{kept_bytes, nothing_begun, of_whole}
@@ -304,28 +304,28 @@ module _ {T E : Type 0} where
   answer_sent (Err _) line answer bytes before after same is sent = tt
 
   -- all is answered, and what was held back at the end is written
-  pub all_written : (end : Result T E) (left : Option (List ℕ)) (before now : Output) (bytes : List ℕ) (after : Option (List ℕ))
+  pub all_written : (end : Result T E) (left : Option (List ℕ)) (before now : Output) (after : Option (List ℕ))
       (P : (input held : List ℕ) → Type 0) → ((input held : List ℕ) → HoldsAnswers input held after → P input held)
-      → before.held_back ≡ [] → bytes ≡ now.held_back
       → IfSome left (λ input. (answers : List ℕ) × AreAnswers input answers × IsSent before now answers)
-      → OnOk end (IfSome now.holds (λ held. after ≡ Some (held ++ bytes))) → OnOk end (IfSome left (λ input. IfSome before.holds (P input)))
-  all_written (Ok _) left before now bytes after P says none same answered wrote = for_both left before.holds P (λ input held is_input is_held.
-      let (answers, are, (first, holds, whole)) = rw (is_input, is_held, none) at answered in
-      let then : after ≡ Some ((held ++ first) ++ now.held_back) = rw (holds, same) at wrote in
+      → OnOk end (IfSome now.holds (λ held. after ≡ Some (held ++ now.held_back)))
+      → OnOk end (IfSome left (λ input. (held : List ℕ) → HoldsAll held before → P input held))
+  all_written (Ok _) left before now after P says answered wrote = for_known left _ (λ input is_input held all.
+      let (answers, are, (first, holds, whole)) = rw (is_input, all.0, all.1) at answered in
+      let then : after ≡ Some ((held ++ first) ++ now.held_back) = rw holds at wrote in
       says input held (answers, are, then ∙ ap Some (append_assoc held first now.held_back ∙ ap (λ behind. held ++ behind) (sym whole))))
-  all_written (Err _) left before now bytes after P says none same answered wrote = tt
+  all_written (Err _) left before now after P says answered wrote = tt
 
 -- memory ran out, or a write failed in the answer to a line
 module _ {T : Type 0} where
-  pub answer_stopped : (end : Result T StreamFault) (line answer bytes : List ℕ) (before after : Output) (failed_before failed_after : Bool)
+  pub answer_stopped : (end : Result T StreamFault) (line answer bytes : List ℕ) (before after : Output)
       → bytes ≡ answer → IsReplyTo line answer → (rest : List ℕ) × Sends before bytes after.holds rest × OnOk end (rest ≡ after.held_back)
-      → MatchResult end (λ _. failed_after ≡ failed_before) (λ fault. IsWriteFailure fault failed_before failed_after)
+      → MatchResult end (λ _. after.failed ≡ before.failed) (λ fault. IsWriteFailure fault before.failed after.failed)
       → IfErr end (λ fault. fault ≡ Memory → after ≡ before) → IfErr end (λ fault. HasStoppedAt line fault before after)
-  answer_stopped (Ok _) line answer bytes before after failed_before failed_after equal is sent failed same = tt
-  answer_stopped (Err Memory) line answer bytes before after failed_before failed_after equal is sent failed same = same refl
-  answer_stopped (Err Write) line answer bytes before after failed_before failed_after equal is (rest, sends, _) failed same =
+  answer_stopped (Ok _) line answer bytes before after equal is sent failed same = tt
+  answer_stopped (Err Memory) line answer bytes before after equal is sent failed same = same refl
+  answer_stopped (Err Write) line answer bytes before after equal is (rest, sends, _) failed same =
       (answer, is, rest, rw equal at sends)
-  answer_stopped (Err Read) line answer bytes before after failed_before failed_after equal is sent failed same = absurd failed
+  answer_stopped (Err Read) line answer bytes before after equal is sent failed same = absurd failed
 
 -- ---- how a run ends that stopped
 
@@ -342,18 +342,22 @@ begun_with input held answers first written others rest holds after are is whole
   is = rw is at then ∙ ap Some (append_assoc held first written);
 }
 
+-- of what was held back a beginning was written
+abbrev SomeWritten : Output → (after : Option (List ℕ)) → Type 0
+SomeWritten now after = IfSome now.holds (λ held.
+    (written : List ℕ) × (others : List ℕ) × (now.held_back ≡ written ++ others) × (after ≡ Some (held ++ written)))
+
 -- as much of it as a last write wrote
 module _ {T : Type 0} where
-  pub begun_at_last : (end : Result T StreamFault) (input held answers first rest : List ℕ) (holds after : Option (List ℕ))
-      → AreFirstAnswers input answers → holds ≡ Some (held ++ first) → answers ≡ first ++ rest
-      → OnOk end (IfSome holds (λ held. after ≡ Some (held ++ rest)))
-      → OnErr end (IfSome holds (λ held. (written : List ℕ) × (others : List ℕ) × (rest ≡ written ++ others) × (after ≡ Some (held ++ written))))
+  pub begun_at_last : (end : Result T StreamFault) (input held answers first : List ℕ) (now : Output) (after : Option (List ℕ))
+      → AreFirstAnswers input answers → now.holds ≡ Some (held ++ first) → answers ≡ first ++ now.held_back
+      → OnOk end (IfSome now.holds (λ held. after ≡ Some (held ++ now.held_back))) → OnErr end (SomeWritten now after)
       → HasBegunAnswers input held after
-  begun_at_last (Ok _) input held answers first rest holds after are is whole all some =
-      begun_with input held answers first rest [] rest holds after are is whole (sym (append-nil rest)) all
-  begun_at_last (Err _) input held answers first rest holds after are is whole all some =
+  begun_at_last (Ok _) input held answers first now after are is whole all some =
+      begun_with input held answers first now.held_back [] now.held_back now.holds after are is whole (sym (append-nil now.held_back)) all
+  begun_at_last (Err _) input held answers first now after are is whole all some =
       let (written, others, parts, then) = rw is at some in
-      begun_with input held answers first written others rest (Some (held ++ first)) after are refl whole parts then
+      begun_with input held answers first written others now.held_back (Some (held ++ first)) after are refl whole parts then
 
 front_of_nothing : (front back : List ℕ) → front ++ back ≡ [] → front ≡ []
 front_of_nothing front back none =
@@ -362,72 +366,63 @@ front_of_nothing front back none =
     nil_from_length front (omega arith)
 
 -- a run that stopped, and then wrote what was held back, unless a write had failed
-sent_so_far : (before : Output) (held answers rest : List ℕ) (holds : Option (List ℕ)) → before.holds ≡ Some held → before.held_back ≡ []
+sent_so_far : (before : Output) (held answers rest : List ℕ) (holds : Option (List ℕ)) → HoldsAll held before
     → Sends before answers holds rest → (first : List ℕ) × (holds ≡ Some (held ++ first)) × (answers ≡ first ++ rest)
-sent_so_far before held answers rest holds is_held none sends = rw (is_held, none) at sends
+sent_so_far before held answers rest holds all sends = rw (all.0, all.1) at sends
 
-module _ (left : Option (List ℕ)) (before now : Output) (none : before.held_back ≡ []) (fault : StreamFault)
-    (stopped : IfSome left (λ input. HasStopped input fault before now)) where
-  begun_by : (after : Option (List ℕ)) → ((input held : List ℕ) → before.holds ≡ Some held → HasStopped input fault before now
-      → HasBegunAnswers input held after) → IfSome left (λ input. IfSome before.holds (λ held. HasBegunAnswers input held after))
-  begun_by after says = for_both left before.holds _ (λ input held is_input is_held. says input held is_held (rw is_input at stopped))
+module _ (left : Option (List ℕ)) (before now : Output) (fault : StreamFault) (stopped : IfSome left (λ input. HasStopped input fault before now)) where
+  begun_by : (after : Option (List ℕ)) → ((input held : List ℕ) → HoldsAll held before → HasStopped input fault before now
+      → HasBegunAnswers input held after) → IfSome left (λ input. (held : List ℕ) → HoldsAll held before → HasBegunAnswers input held after)
+  begun_by after says = for_known left _ (λ input is_input held all. says input held all (rw is_input at stopped))
 
-  pub begun_unwritten : IfSome left (λ input. IfSome before.holds (λ held. HasBegunAnswers input held now.holds))
+  pub begun_unwritten : IfSome left (λ input. (held : List ℕ) → HoldsAll held before → HasBegunAnswers input held now.holds)
   begun_unwritten = begun_by now.holds (λ input held is_held at_input.
-      let (first, holds, whole) = sent_so_far before held at_input.answers at_input.rest now.holds is_held none at_input.sent.sends in
+      let (first, holds, whole) = sent_so_far before held at_input.answers at_input.rest now.holds is_held at_input.sent.sends in
       record { answers = at_input.answers; are_first = at_input.are_first; written = first; others = at_input.rest; parts = whole; is = holds })
 
-  pub begun_held_back : {T : Type 0} (end : Result T StreamFault) (bytes : List ℕ) (after : Option (List ℕ)) → fault ≢ Write → bytes ≡ now.held_back
-      → OnOk end (IfSome now.holds (λ held. after ≡ Some (held ++ bytes)))
-      → OnErr end (IfSome now.holds (λ held. (written : List ℕ) × (others : List ℕ) × (bytes ≡ written ++ others) × (after ≡ Some (held ++ written))))
-      → IfSome left (λ input. IfSome before.holds (λ held. HasBegunAnswers input held after))
-  begun_held_back end bytes after other same all some = begun_by after (λ input held is_held at_input.
-      let (first, holds, whole) = sent_so_far before held at_input.answers at_input.rest now.holds is_held none at_input.sent.sends in
-      let rest : at_input.rest ≡ bytes = ⊎_elim (λ is. absurd (other is)) (λ is. is ∙ sym same) at_input.sent.is_held_back in
-      begun_at_last end input held at_input.answers first bytes now.holds after at_input.are_first holds (whole ∙ ap (λ back. first ++ back) rest) all
-      some)
+  pub begun_held_back : {T : Type 0} (end : Result T StreamFault) (after : Option (List ℕ)) → fault ≢ Write
+      → OnOk end (IfSome now.holds (λ held. after ≡ Some (held ++ now.held_back)))
+      → OnErr end (SomeWritten now after) → IfSome left (λ input. (held : List ℕ) → HoldsAll held before → HasBegunAnswers input held after)
+  begun_held_back end after other all some = begun_by after (λ input held is_held at_input.
+      let (first, holds, whole) = sent_so_far before held at_input.answers at_input.rest now.holds is_held at_input.sent.sends in
+      let rest : at_input.rest ≡ now.held_back = ⊎_elim (λ is. absurd (other is)) (λ is. is) at_input.sent.is_held_back in
+      begun_at_last end input held at_input.answers first now after at_input.are_first holds (whole ∙ ap (λ back. first ++ back) rest) all some)
 
 -- a read failed, and nothing was held back
-module _ {T : Type 0} (left left_after : Option (List ℕ)) (before now : Output) (none : before.held_back ≡ [])
+module _ {T : Type 0} (left left_after : Option (List ℕ)) (before now : Output)
     (answered : IfSome left (λ input. HasAnsweredBefore input left_after before now)) where
-  written_nothing : (end : Result T StreamFault) (bytes : List ℕ) (held : List ℕ) (after : Option (List ℕ)) → bytes ≡ [] → now.holds ≡ Some held
-      → OnOk end (IfSome now.holds (λ held. after ≡ Some (held ++ bytes)))
-      → OnErr end (IfSome now.holds (λ held. (written : List ℕ) × (others : List ℕ) × (bytes ≡ written ++ others) × (after ≡ Some (held ++ written))))
-      → after ≡ Some held
-  written_nothing (Ok _) bytes held after empty is all some =
-      let then : after ≡ Some (held ++ bytes) = rw is at all in
+  written_nothing : (end : Result T StreamFault) (held : List ℕ) (after : Option (List ℕ)) → now.held_back ≡ [] → now.holds ≡ Some held
+      → OnOk end (IfSome now.holds (λ held. after ≡ Some (held ++ now.held_back))) → OnErr end (SomeWritten now after) → after ≡ Some held
+  written_nothing (Ok _) held after empty is all some =
+      let then : after ≡ Some (held ++ now.held_back) = rw is at all in
       then ∙ ap (λ back. Some (held ++ back)) empty ∙ ap Some (append-nil held)
-  written_nothing (Err _) bytes held after empty is all some =
+  written_nothing (Err _) held after empty is all some =
       let (written, others, parts, then) = rw is at some in
       let nothing : written ≡ [] = front_of_nothing written others (sym parts ∙ empty) in
       then ∙ ap (λ back. Some (held ++ back)) nothing ∙ ap Some (append-nil held)
 
-  pub answered_read : (end : Result T StreamFault) (bytes : List ℕ) (after : Option (List ℕ)) → bytes ≡ now.held_back
-      → OnOk end (IfSome now.holds (λ held. after ≡ Some (held ++ bytes)))
-      → OnErr end (IfSome now.holds (λ held. (written : List ℕ) × (others : List ℕ) × (bytes ≡ written ++ others) × (after ≡ Some (held ++ written))))
-      → IfSome left (λ input. IfSome before.holds (λ held. HasAnsweredRead input held left_after after))
-  answered_read end bytes after same all some = for_both left before.holds _ (λ input held is_input is_held.
+  pub answered_read : (end : Result T StreamFault) (after : Option (List ℕ))
+      → OnOk end (IfSome now.holds (λ held. after ≡ Some (held ++ now.held_back))) → OnErr end (SomeWritten now after)
+      → IfSome left (λ input. (held : List ℕ) → HoldsAll held before → HasAnsweredRead input held left_after after)
+  answered_read end after all some = for_known left _ (λ input is_input held is_held.
       let (answers, read, is_sent, is_empty) = rw is_input at answered in
-      let (first, holds, whole) = sent_so_far before held answers now.held_back now.holds is_held none is_sent in
-      let empty : now.held_back ≡ [] = is_empty none in
+      let (first, holds, whole) = sent_so_far before held answers now.held_back now.holds is_held is_sent in
+      let empty : now.held_back ≡ [] = is_empty is_held.1 in
       let sent : first ≡ answers = sym (whole ∙ ap (λ back. first ++ back) empty ∙ append-nil first) in
-      (answers, read, written_nothing end bytes (held ++ first) after (same ∙ empty) holds all some ∙ ap (λ back. Some (held ++ back)) sent))
+      (answers, read, written_nothing end (held ++ first) after empty holds all some ∙ ap (λ back. Some (held ++ back)) sent))
 
 -- all was answered, and the last write failed
 module _ {T : Type 0} where
-  pub begun_at_end : (end : Result T StreamFault) (left : Option (List ℕ)) (before now : Output) (bytes : List ℕ) (after : Option (List ℕ))
-      → before.held_back ≡ [] → bytes ≡ now.held_back
-      → IfSome left (λ input. (answers : List ℕ) × AreAnswers input answers × IsSent before now answers)
-      → OnErr end (IfSome now.holds (λ held. (written : List ℕ) × (others : List ℕ) × (bytes ≡ written ++ others) × (after ≡ Some (held ++ written))))
-      → OnErr end (IfSome left (λ input. IfSome before.holds (λ held. HasBegunAnswers input held after)))
-  begun_at_end (Ok _) left before now bytes after none same answered some = tt
-  begun_at_end (Err fault) left before now bytes after none same answered some = for_both left before.holds _ (λ input held is_input is_held.
+  pub begun_at_end : (end : Result T StreamFault) (left : Option (List ℕ)) (before now : Output) (after : Option (List ℕ))
+      → IfSome left (λ input. (answers : List ℕ) × AreAnswers input answers × IsSent before now answers) → OnErr end (SomeWritten now after)
+      → OnErr end (IfSome left (λ input. (held : List ℕ) → HoldsAll held before → HasBegunAnswers input held after))
+  begun_at_end (Ok _) left before now after answered some = tt
+  begun_at_end (Err fault) left before now after answered some = for_known left _ (λ input is_input held is_held.
       let (answers, are, sent) = rw is_input at answered in
-      let (first, holds, whole) = sent_so_far before held answers now.held_back now.holds is_held none sent in
+      let (first, holds, whole) = sent_so_far before held answers now.held_back now.holds is_held sent in
       let all : AreFirstAnswers input answers =
       record { lines = input; rest = []; is_input = sym (append-nil input); are_answers = inr (refl, are) } in
-      begun_at_last {T = T} (Err fault) input held answers first bytes now.holds after all holds (whole ∙ ap (λ back. first ++ back) (sym same)) tt
-      some)
+      begun_at_last {T = T} (Err fault) input held answers first now after all holds whole tt some)
 
 -- how a call ends by how another did
 module _ {T E : Type 0} (P Q : E → Type 0) (R : Type 0) where

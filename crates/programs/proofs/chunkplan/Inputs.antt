@@ -29,15 +29,15 @@ abbrev pub IsTextBeside : (line : List ℕ) → (keys : List (List ℕ)) → Lis
 IsTextBeside line keys text =
     (tree : Data) × (document : Document) × IsJsonOf line tree × IsDocument tree document × IsPlannedBeside document keys text
 
-abbrev pub IsFaultOfLine : (line : List ℕ) → (keys : List (List ℕ)) → RunFault → Type 0
-IsFaultOfLine line keys fault =
-    IsInputFault line fault ⊎ ((tree : Data) × (document : Document) × IsJsonOf line tree × IsDocument tree document × IsFaultBeside document keys fault)
+abbrev pub IsFaultOfLine : (line bytes : List ℕ) → RunFault → Type 0
+IsFaultOfLine line bytes fault =
+    IsInputFault line fault ⊎ ((tree : Data) × (document : Document) × IsJsonOf line tree × IsDocument tree document × IsFaultBeside document bytes fault)
 
 module _ (input : List ℕ) (has : HasKeysBehind (first_line input)) (read_before read_after : Bool) (not_read : read_before ≡ false)
     (left : Option (List ℕ)) (before after : Output) where
   pub sent_beside_keys : (r : Result (Unit {0}) RunFault)
-      → KeyStepLeaves (IsTextBeside (first_line input)) (IsFaultOfLine (first_line input)) (behind_first input) r read_before read_after left before
-      after → InputStepLeaves input r read_after left before after
+      → KeyStepLeaves (IsTextBeside (first_line input)) (IsFaultOfLine (first_line input) (behind_first input)) (behind_first input) r read_before
+      read_after left before after → InputStepLeaves input r read_after left before after
   sent_beside_keys (Ok _) (same, end, keys, are, (text, (tree, document, json, stands, planned), sends, failed)) =
       (same ∙ not_read, end, (text, of_keys tree document keys has json stands are planned, sends, failed))
   sent_beside_keys (Err Read) leaves = leaves
@@ -56,5 +56,5 @@ module _ (input : List ℕ) (has : HasKeysBehind (first_line input)) (read_befor
     leaves.1,
     leaves.2,
     ⊎_elim (λ of_line. no_first_document has of_line)
-        (λ (tree, document, json, stands, beside). beside_keys tree document leaves.3 has json stands leaves.4 beside) leaves.5,
+        (λ (tree, document, json, stands, beside). beside_keys tree document has json stands beside) leaves.3,
   )

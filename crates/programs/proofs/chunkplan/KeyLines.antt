@@ -1,15 +1,14 @@
 -- Keys behind a document, line after line.
-use Rattle.std.proofs.Common.{◌≡◌, ◌≢◌, ◌↔◌, ◌⊎◌, ◌∙◌, ℕ, zero, suc, ◌≤◌, Bool, true, false, cond, eqb, List, [], ◌∷◌, ◌++◌, Contains, IfOk, IfSome, IsTrue, OnOk, Option, Some, None, Result, Ok, Err, append-nil, append_assoc}
+use Rattle.std.proofs.Common.{◌≡◌, ◌≢◌, ◌↔◌, ◌⊎◌, ◌∙◌, ℕ, Bool, List, [], ◌∷◌, ◌++◌, Contains, IfOk, IfSome, IsTrue, OnOk, Option, Result, Ok, Err, append-nil, append_assoc}
 use Rattle.std.proofs.Common.{ap, arith, inl, inr, length, refl, subst, sym, ⊎_elim}
 use Rattle.std.proofs.lemmas.List.Elements.{Contains-append_cases, Contains-append_left, Contains-append_right, Contains-push, Contains-push_cases}
-use Rattle.std.specs.Io.BufRead.{drop_through}
 use Rattle.std.specs.Str.{IsUtf8}
 use Rattle.zarrs_chunk_base.specs.Dimension.{Dimension}
 use Rattle.zarrs_chunk_base.specs.StoreKey.{EndsInSlash}
 use Rattle.zarrs_chunk_plan.specs.StoredChunks.{IsOfArray}
 use Rattle.zarrs_chunk_plan.specs.declared.stored_chunks.StoredChunks.{StoredChunks}
 use Rattle.zarrs_chunk_plan.specs.seen.StoredChunks.{Knows}
-use Rattle.programs.specs.chunkplan.Keys.{AreForeign, AreKeys, IsKeyOfTarget, behind_first, empty_line, foreign_json, foreign_lines}
+use Rattle.programs.specs.chunkplan.Keys.{AreForeign, AreKeys, IsFirstNoText, IsKeyOfTarget, behind_first, empty_line, foreign_json, foreign_lines}
 use Rattle.programs.specs.chunkplan.Keys.{key_line, no_line, unended}
 use Rattle.programs.specs.chunkplan.Line.{line_of}
 use Rattle.streams.specs.Watched.{IsReadFailure}
@@ -21,18 +20,6 @@ use Rattle.streams.specs.declared.stream_fault.StreamFault.{StreamFault}
 
 -- ---- the keys in some lines
 
-shorter_at : (ended : Bool) (bytes : List ℕ) → length (drop_through 10 bytes) ≤ length bytes
-    → length (cond ended bytes (drop_through 10 bytes)) ≤ length bytes
-shorter_at true bytes short = omega arith
-shorter_at false bytes short = short
-
-behind_shorter : (bytes : List ℕ) → length (behind_first bytes) ≤ length bytes
-behind_shorter [] = omega arith
-behind_shorter (byte ∷ bytes) = let short = shorter_at (eqb byte 10) bytes (behind_shorter bytes) in omega arith
-
-behind_less : (byte : ℕ) (bytes : List ℕ) → length (behind_first (byte ∷ bytes)) ≤ length bytes
-behind_less byte bytes = shorter_at (eqb byte 10) bytes (behind_shorter bytes)
-
 -- the first line, and the keys behind it
 pub first_of_keys : (bytes : List ℕ) (keys : List (List ℕ)) → bytes ≢ [] → AreKeys (behind_first bytes) keys
     → AreKeys bytes (with_line [] (unended bytes) ++ keys)
@@ -42,18 +29,6 @@ first_of_keys bytes keys some are = at (unended bytes) refl
     at [] is = empty_line bytes keys some is are
     at (byte ∷ line) is =
         rw (sym is) (key_line bytes keys (λ none. absurd (omega (arith, ap length (sym is ∙ none)))) are)
-
-keys_in : (most : ℕ) (bytes : List ℕ) → length bytes ≤ most → (keys : List (List ℕ)) × AreKeys bytes keys
-keys_in most [] short = ([], no_line)
-keys_in zero (byte ∷ bytes) short = absurd (omega (arith, short))
-keys_in (suc most) (byte ∷ bytes) short =
-    let less = behind_less byte bytes in
-    let (keys, are) = keys_in most (behind_first (byte ∷ bytes)) (omega (arith, less, short)) in
-    (_, first_of_keys (byte ∷ bytes) keys (λ none. absurd (omega (arith, ap length none))) are)
-
--- any lines have keys
-pub some_keys : (bytes : List ℕ) → (keys : List (List ℕ)) × AreKeys bytes keys
-some_keys bytes = keys_in (length bytes) bytes (omega arith)
 
 -- these keys were read, and the rest is left of the lines
 abbrev pub HaveCome : (bytes : List ℕ) (came : List (List ℕ)) (rest : List ℕ) → Type 0
@@ -78,17 +53,6 @@ one_more_line bytes came (byte ∷ rest) have = λ others are.
 
 pub no_more_lines : (bytes : List ℕ) (came : List (List ℕ)) → HaveCome bytes came [] → AreKeys bytes came
 no_more_lines bytes came have = rw append-nil at (have [] no_line)
-
--- a key that was just read is among all
-pub is_among : (bytes : List ℕ) (came : List (List ℕ)) (rest : List ℕ) (line : List ℕ) → line ≢ [] → HaveCome bytes (with_line came line) rest
-    → (keys : List (List ℕ)) × AreKeys bytes keys × Contains keys line
-is_among bytes came rest [] some have = absurd (some refl)
-is_among bytes came rest (byte ∷ line) some have =
-    let (others, are) = some_keys rest in (
-      _,
-      have others are,
-      Contains-append_left (came ++ (byte ∷ line) ∷ []) others (byte ∷ line) (Contains-push came (byte ∷ line)),
-    )
 
 -- ---- keys that are none of the target's
 
@@ -212,11 +176,8 @@ pub reading_stops_keys : (told : StreamFault) (bytes : Option (List ℕ)) (start
     → IsKeysStop (of_stream told) bytes start new
 reading_stops_keys told bytes start old new is same = grind arith
 
-pub key_stops : (fault : RunFault) (bytes : Option (List ℕ)) (start new : Bool) (line : List ℕ) → new ≡ start
-    → (fault ≡ Memory) ⊎ ((fault ≡ KeyNotText) × (line ≢ []) × (¬ IsUtf8 line))
-    → (line ≢ [] → IfSome bytes (λ bs. (keys : List (List ℕ)) × AreKeys bs keys × Contains keys line)) → IsKeysStop fault bytes start new
-key_stops fault bytes start new line same (inl memory) among = rw memory same
-key_stops fault None start new line same (inr (is, some, not_text)) among = rw is (same, tt)
-key_stops fault (Some bs) start new line same (inr (is, some, not_text)) among =
-    let (keys, are, there) = among some in
-    rw is (same, (keys, are, line, there, not_text))
+pub key_stops : (fault : RunFault) (bytes : Option (List ℕ)) (start new : Bool) (number : ℕ) (line : List ℕ) → new ≡ start
+    → (fault ≡ Memory) ⊎ ((fault ≡ KeyNotText number) × (¬ IsUtf8 line)) → ((¬ IsUtf8 line) → IfSome bytes (λ bs. IsFirstNoText 2 bs number))
+    → IsKeysStop fault bytes start new
+key_stops fault bytes start new number line same (inl memory) first = rw memory same
+key_stops fault bytes start new number line same (inr (is, not_text)) first = rw is (same, first not_text)

@@ -1,40 +1,36 @@
 -- What a step leaves that reads keys, and then sends what they leave of a plan.
-use Rattle.std.proofs.Common.{◌≡◌, ◌⊎◌, ℕ, Bool, List, [], Contains, IsErrAnd, Option, Some, Result, Ok, Err, inl, inr, refl, ⊎_elim, arith}
-use Rattle.std.specs.Str.{IsUtf8}
-use Rattle.programs.specs.chunkplan.Keys.{AreKeys}
+use Rattle.std.proofs.Common.{◌≡◌, ◌⊎◌, ℕ, Bool, List, [], IsErrAnd, Option, Some, Result, Ok, Err, inl, inr, refl, ⊎_elim, arith}
+use Rattle.programs.specs.chunkplan.Keys.{AreKeys, IsFirstNoText}
 use Rattle.programs.specs.chunkplan.seen.Missing.{IsKeysStop, KeyStepLeaves}
 use Rattle.programs.specs.chunkplan.seen.Steps.{HasBegun, StepLeaves}
 use Rattle.streams.specs.seen.Sent.{Output}
 use Rattle.programs.specs.declared.chunkplan.run_fault.RunFault.{RunFault}
 use Rattle.programs.specs.declared.chunkplan.run_fault.RunFault.TheVariants.{KeyNotText, Memory, Read, Write}
 use Rattle.programs.proofs.chunkplan.Exits.{handed}
-use Rattle.programs.proofs.chunkplan.KeyLines.{some_keys}
 
-module _ (Planned : List (List ℕ) → List ℕ → Type 0) (IsFault : List (List ℕ) → RunFault → Type 0) (bytes : List ℕ) (start : Bool)
+module _ (Planned : List (List ℕ) → List ℕ → Type 0) (IsFault : RunFault → Type 0) (bytes : List ℕ) (start : Bool)
     (left : Option (List ℕ)) (before : Output) where
-  module _ (no_read : (keys : List (List ℕ)) → ¬ IsFault keys Read) (no_write : (keys : List (List ℕ)) → ¬ IsFault keys Write) where
-    stops_early : (fault : RunFault) → (fault ≡ Memory) ⊎ ((keys : List (List ℕ)) → IsFault keys fault)
+  module _ (no_read : ¬ IsFault Read) (no_write : ¬ IsFault Write) where
+    stops_early : (fault : RunFault) → (fault ≡ Memory) ⊎ IsFault fault
         → KeyStepLeaves Planned IsFault bytes (Err fault) start start left before before
     stops_early fault (inl is) = rw is (refl, refl, inl refl)
-    stops_early Read (inr is) = absurd (no_read [] (is []))
-    stops_early Write (inr is) = absurd (no_write [] (is []))
+    stops_early Read (inr is) = absurd (no_read is)
+    stops_early Write (inr is) = absurd (no_write is)
     stops_early Memory (inr is) = (refl, refl, inl refl)
-    stops_early _ (inr is) = let (keys, are) = some_keys bytes in (refl, refl, refl, keys, are, is keys)
+    stops_early _ (inr is) = (refl, refl, refl, is)
 
     -- a call's fault before any key was read, and before anything was sent
     pub early_beside : {G : Type 0} (r : Result (Unit {0}) RunFault) (fault : RunFault) → IsErrAnd r (λ other. other ≡ fault) → (fault ≡ Memory) ⊎ G
-        → (G → (keys : List (List ℕ)) → IsFault keys fault) → KeyStepLeaves Planned IsFault bytes r start start left before before
+        → (G → IsFault fault) → KeyStepLeaves Planned IsFault bytes r start start left before before
     early_beside r fault same which step = rw (handed r fault same) (stops_early fault (⊎_elim inl (λ is. inr (step is)) which))
 
   -- reading the keys stopped
   pub noting_stops : (fault : RunFault) (read : Bool) → IsKeysStop fault (Some bytes) start read
-      → ((keys : List (List ℕ)) (key : List ℕ) → Contains keys key → (¬ IsUtf8 key) → IsFault keys KeyNotText)
+      → ((number : ℕ) → IsFirstNoText 2 bytes number → IsFault (KeyNotText number))
       → KeyStepLeaves Planned IsFault bytes (Err fault) start read left before before
   noting_stops Read read stops blames = (stops, refl, refl)
   noting_stops Memory read stops blames = (stops, refl, inl refl)
-  noting_stops KeyNotText read stops blames =
-      let (same, (keys, are, key, there, not_text)) = stops in
-      (same, refl, refl, keys, are, blames keys key there not_text)
+  noting_stops (KeyNotText number) read stops blames = (stops.0, refl, refl, blames number stops.1)
   noting_stops _ read stops blames = absurd stops
 
   -- all keys were read, and then a text is sent
@@ -44,9 +40,9 @@ module _ (Planned : List (List ℕ) → List ℕ → Type 0) (IsFault : List (Li
   sent_after_keys after keys read are same end r leaves = grind arith
 
 -- what a step leaves, in other words
-module _ (P Q : List (List ℕ) → List ℕ → Type 0) (F G : List (List ℕ) → RunFault → Type 0)
+module _ (P Q : List (List ℕ) → List ℕ → Type 0) (F G : RunFault → Type 0)
     (step : (keys : List (List ℕ)) (text : List ℕ) → P keys text → Q keys text)
-    (blames : (keys : List (List ℕ)) (fault : RunFault) → F keys fault → G keys fault) (bytes : List ℕ) (start read : Bool)
+    (blames : (fault : RunFault) → F fault → G fault) (bytes : List ℕ) (start read : Bool)
     (left : Option (List ℕ)) (before after : Output) where
   begun_beside : (keys : List (List ℕ)) → HasBegun (P keys) before after → HasBegun (Q keys) before after
   begun_beside keys (text, is, rest, sends) = (text, step keys text is, rest, sends)
@@ -58,4 +54,4 @@ module _ (P Q : List (List ℕ) → List ℕ → Type 0) (F G : List (List ℕ) 
   key_step_follows (Err Memory) leaves =
       (leaves.0, leaves.1, ⊎_elim inl (λ (keys, are, begun). inr (keys, are, begun_beside keys begun)) leaves.2)
   key_step_follows (Err Write) leaves = (leaves.0, leaves.1, leaves.2, leaves.3, leaves.4, begun_beside leaves.3 leaves.5)
-  key_step_follows (Err _) leaves = (leaves.0, leaves.1, leaves.2, leaves.3, leaves.4, blames leaves.3 _ leaves.5)
+  key_step_follows (Err _) leaves = (leaves.0, leaves.1, leaves.2, blames _ leaves.3)

@@ -11,10 +11,10 @@ use Rattle.programs.specs.chunkplan.Document.{Document, Wanted}
 use Rattle.programs.specs.chunkplan.DocumentFault.{HasBoxFault, HasWantedFault, IsCopyingFault, IsFormFault, IsInputFault}
 use Rattle.programs.specs.chunkplan.DocumentFault.{IsTaskFault, IsTaskToFault}
 use Rattle.programs.specs.chunkplan.DocumentFault.{HasRangesFault}
-use Rattle.programs.specs.chunkplan.PlanFault.{IsCopyFault, IsFaultBeside, IsFirstFault, IsPlanFault}
-use Rattle.programs.specs.chunkplan.PlanFault.{beside_keys, long_document, no_document, no_first_document}
+use Rattle.programs.specs.chunkplan.PlanFault.{IsCopyFault, IsFaultBeside, IsFirstFault, IsPlanFault, IsWholeFault}
+use Rattle.programs.specs.chunkplan.PlanFault.{beside_keys, long_document, no_document, no_first_document, of_input, several_lines}
 use Rattle.programs.specs.chunkplan.PlanFault.{IsFaultWithin, no_plan}
-use Rattle.programs.specs.chunkplan.Keys.{first_line}
+use Rattle.programs.specs.chunkplan.Keys.{behind_first, first_line}
 use Rattle.programs.specs.chunkplan.Planned.{IsPlanOf}
 use Rattle.programs.specs.chunkplan.Run.{HasBegunPlan, RunLeaves}
 use Rattle.programs.specs.chunkplan.RunFault.{of_create, of_document, of_region as of_region_error, of_stream}
@@ -84,15 +84,19 @@ plan_still document fault is = grind (arith, of_create_still, copy_still, within
 input_still : (input : List ℕ) (fault : RunFault) → IsInputFault input fault → moves fault ≡ false
 input_still input fault is = grind (arith, of_document_still, form_still)
 
-beside_still : (document : Document) (keys : List (List ℕ)) (fault : RunFault) → IsFaultBeside document keys fault → moves fault ≡ false
-beside_still document keys fault is = grind (arith, plan_still)
+beside_still : (document : Document) (bytes : List ℕ) (fault : RunFault) → IsFaultBeside document bytes fault → moves fault ≡ false
+beside_still document bytes fault is = grind (arith, plan_still)
+
+whole_still : (input : List ℕ) (fault : RunFault) → IsWholeFault input fault → moves fault ≡ false
+whole_still input fault (of_input is _) = input_still input fault is
+whole_still input fault (several_lines _ _ same) = ap moves same
 
 first_still : (input : List ℕ) (fault : RunFault) → IsFirstFault input fault → moves fault ≡ false
-first_still input fault (no_document _ is) = input_still input fault is
+first_still input fault (no_document _ is) = whole_still input fault is
 first_still input fault (long_document _ _ _ _ _ _ same) = ap moves same
 first_still input fault (no_plan _ document _ _ _ _ is) = plan_still document fault is
 first_still input fault (no_first_document _ is) = input_still (first_line input) fault is
-first_still input fault (beside_keys _ document keys _ _ _ _ is) = beside_still document keys fault is
+first_still input fault (beside_keys _ document _ _ _ is) = beside_still document (behind_first input) fault is
 
 pub no_failed_write : (document : Document) → ¬ IsPlanFault document Write
 no_failed_write document is = true≢false (plan_still document Write is)
@@ -103,11 +107,11 @@ no_failed_copy source target region at is = true≢false (copy_still source targ
 pub no_write : (input : List ℕ) → ¬ IsFirstFault input Write
 no_write input is = true≢false (first_still input Write is)
 
-pub no_read_beside : (document : Document) (keys : List (List ℕ)) → ¬ IsFaultBeside document keys Read
-no_read_beside document keys is = true≢false (beside_still document keys Read is)
+pub no_read_beside : (document : Document) (bytes : List ℕ) → ¬ IsFaultBeside document bytes Read
+no_read_beside document bytes is = true≢false (beside_still document bytes Read is)
 
-pub no_write_beside : (document : Document) (keys : List (List ℕ)) → ¬ IsFaultBeside document keys Write
-no_write_beside document keys is = true≢false (beside_still document keys Write is)
+pub no_write_beside : (document : Document) (bytes : List ℕ) → ¬ IsFaultBeside document bytes Write
+no_write_beside document bytes is = true≢false (beside_still document bytes Write is)
 
 pub no_read_of_input : (input : List ℕ) → ¬ IsInputFault input Read
 no_read_of_input input is = true≢false (input_still input Read is)

@@ -92,5 +92,5 @@ module _ (walk : Copies ChunkGrid ChunkKeyEncoding ChunkGrid ChunkKeyEncoding) w
   TextOf target IsKeyOf share keys text = (groups : List Group) × CopiesToCome walk groups
       × IsMissingText target IsKeyOf keys share groups text
 
-  abbrev pub FaultOf : List (List ℕ) → RunFault → Type 0
-  FaultOf keys fault = (groups : List Group) × CopiesToCome walk groups × IsKeysFault groups keys fault
+  abbrev pub FaultOf : (bytes : List ℕ) → RunFault → Type 0
+  FaultOf bytes fault = (groups : List Group) × CopiesToCome walk groups × IsKeysFault groups bytes fault

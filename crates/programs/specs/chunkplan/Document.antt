@@ -3,7 +3,7 @@
 -- `order`, or `max_elements` and `stage`, if they are wanted; for the copy of a region, `target` and `subset`, and `at` if it is wanted. `share` or
 -- `counts` says what is wanted of the plan, if not all lines; beside a target, `keys` that keys of its store stand behind the document. For a resize
 -- it has `resize`, and `keep` if it is wanted, and none of these. What else an array's `zarr.json` has may stand in it and in the target.
-use Rattle.std.specs.Prelude.{◌≡◌, ◌⊎◌, ◌==◌, ◌^◌, ℕ, Bool, true, false, if◌then◌else◌, List, [], Option, Some, None, bytes_eq, codes}
+use Rattle.std.specs.Prelude.{◌≡◌, ◌⊎◌, ◌==◌, ◌^◌, ℕ, Bool, true, false, if◌then◌else◌, List, Option, Some, None, bytes_eq, codes}
 use Rattle.std.specs.Prelude.{MatchOption}
 use Rattle.std.specs.Prelude.{nat_lt, option_and_then, option_map}
 use Rattle.std.specs.Int.NonZero.{non_zero_u64_get}

@@ -1,6 +1,6 @@
 -- Keys behind a document, a line each, and what they leave of a plan.
 -- Source: the form of the input and of the lines is this program's own.
-use Rattle.std.specs.Prelude.{◌≡◌, ◌≢◌, ◌↔◌, ◌⊎◌, ◌≤◌, ◌<◌, ◌^◌, ◌==◌, ℕ, Bool, true, IsTrue, if◌then◌else◌, List, [], ◌∷◌, ◌++◌, Contains}
+use Rattle.std.specs.Prelude.{◌≡◌, ◌≢◌, ◌↔◌, ◌⊎◌, ◌≤◌, ◌<◌, ◌^◌, ◌==◌, ◌&&◌, ◌+◌, ℕ, suc, pred, take, Bool, true, IsTrue, if◌then◌else◌, List, [], ◌∷◌, ◌++◌, Contains}
 use Rattle.std.specs.Prelude.{length, codes, Some}
 use Rattle.std.specs.List.{slice_get}
 use Rattle.std.specs.Io.BufRead.{drop_through, take_through}
@@ -38,6 +38,19 @@ HasKeysBehind line = (tree : Data) × IsJsonOf line tree × HasFlag tree (codes 
 abbrev pub unended : List ℕ → List ℕ
 unended [] = []
 unended (byte ∷ bytes) = if byte == 10 then [] else byte ∷ unended bytes
+
+-- how many braces are open after a byte
+abbrev pub braces_after : (braces byte : ℕ) → ℕ
+braces_after braces byte = if byte == 123 then suc braces else (if byte == 125 then pred braces else braces)
+
+-- how many bytes the lines have up to the first one at whose end no brace is open
+abbrev pub closed_length : (braces : ℕ) → List ℕ → ℕ
+closed_length braces [] = 0
+closed_length braces (byte ∷ bytes) = suc (if byte == 10 && braces == 0 then 0 else closed_length (braces_after braces byte) bytes)
+
+-- These lines: a document that is written over several lines ends with the last of them.
+abbrev pub closed_lines : List ℕ → List ℕ
+closed_lines input = take (closed_length 0 input) input
 
 -- The keys in some lines, in order: each line that isn't empty is one.
 pub data AreKeys : (bytes : List ℕ) (keys : List (List ℕ)) → Type 0 where
@@ -102,8 +115,14 @@ pub record IsMissingText (target : List Dimension) (IsKeyOf : List ℕ → List 
   pub are_foreign : AreForeign target IsKeyOf keys foreign
   pub text_is : text ≡ missing_lines is_there share groups ++ foreign_lines foreign
 
--- the fault says that the plan has too many lines; or else that a key is no text
-abbrev pub IsKeysFault : List Group → (keys : List (List ℕ)) → RunFault → Type 0
-IsKeysFault groups keys TooManyForKeys = 2 ^ 29 ≤ length groups
-IsKeysFault groups keys KeyNotText = (length groups < 2 ^ 29) × (key : List ℕ) × Contains keys key × (¬ IsUtf8 key)
-IsKeysFault groups keys _ = ⊥
+-- The first line that is no text has this number, if the lines are counted from a first number on.
+pub data IsFirstNoText : (first : ℕ) (bytes : List ℕ) (number : ℕ) → Type 0 where
+  here : (first : ℕ) (bytes : List ℕ) → (¬ IsUtf8 (unended bytes)) → IsFirstNoText first bytes first
+  behind : (first : ℕ) (bytes : List ℕ) (number : ℕ) → IsUtf8 (unended bytes) → IsFirstNoText (first + 1) (behind_first bytes) number
+      → IsFirstNoText first bytes number
+
+-- the fault says that the plan has too many lines; or else which line is the first that is no text, where the document is line 1
+abbrev pub IsKeysFault : List Group → (bytes : List ℕ) → RunFault → Type 0
+IsKeysFault groups bytes TooManyForKeys = 2 ^ 29 ≤ length groups
+IsKeysFault groups bytes (KeyNotText line) = (length groups < 2 ^ 29) × IsFirstNoText 2 bytes line
+IsKeysFault groups bytes _ = ⊥

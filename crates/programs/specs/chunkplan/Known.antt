@@ -1,9 +1,10 @@
 -- The members that a document may have, and those in which source and target have to agree.
 -- Source: Zarr V3 core, array metadata; `at`, `chunks`, `clip`, `counts`, `item_size`, `keep`, `keys`, `max_elements`, `max_ranges`,
 -- `memory_order`, `order`, `resize`, `share`, `stage`, `subset` and `target` are this program's own.
-use Rattle.std.specs.Prelude.{◌≡◌, ◌≢◌, ℕ, List, [], ◌∷◌, ◌++◌, Some, codes, false, string_bytes}
-use Rattle.serde_json.specs.Data.{Data, Members}
+use Rattle.std.specs.Prelude.{◌≡◌, ◌≢◌, ◌≤◌, ℕ, List, [], ◌∷◌, ◌++◌, Some, codes, false, string_bytes}
+use Rattle.serde_json.specs.Data.{Data, Members, depth}
 use Rattle.serde_json.specs.Find.{as_object, get}
+use Rattle.serde_json.specs.Read.{max_depth}
 use Rattle.serde_json.specs.Written.{compact_text, has_float}
 use Rattle.zarrs_chunk_base.specs.Configuration.{HasNoUnknown, IsLeastName, IsUnknown}
 use Rattle.programs.specs.declared.chunkplan.known_members.UnknownMember.{UnknownMember}
@@ -30,12 +31,17 @@ HasOnly known d = (members : Members) → as_object d ≡ Some members → HasNo
 abbrev pub IsFirstUnknown : List (List ℕ) → Data → UnknownMember → Type 0
 IsFirstUnknown known d told = (members : Members) × (as_object d ≡ Some members) × IsLeastName (IsUnknown known members) (string_bytes told.name)
 
--- Where both trees have the member, its compact text is the same in both. Nothing is said of one that holds a number that isn't whole.
-abbrev pub Agree : List ℕ → Data → Data → Type 0
-Agree field d other = (one also : Data) → get field d ≡ Some one → get field other ≡ Some also → has_float one ≡ false → has_float also ≡ false
-    → compact_text one ≡ compact_text also
+-- The two values are the same: their compact texts, where they have only whole numbers; and any that nest no deeper than JSON that is read.
+pub record AreSame (one other : Data) : Type 0 where
+  pub texts : has_float one ≡ false → has_float other ≡ false → compact_text one ≡ compact_text other
+  pub values : depth one ≤ max_depth → depth other ≤ max_depth → one ≡ other
 
--- both have it, and its compact text isn't the same
+-- If both trees have the member, its values are the same.
+abbrev pub Agree : List ℕ → Data → Data → Type 0
+Agree field d other = (one also : Data) → get field d ≡ Some one → get field other ≡ Some also → AreSame one also
+
+-- Both have it, and its compact text isn't the same. If each number is whole, this is the opposite of `Agree`. The text of any other number isn't known:
+-- values with one are the same if they agree, and may be the same if they differ.
 abbrev pub Differ : List ℕ → Data → Data → Type 0
 Differ field d other = (one : Data) × (also : Data) × (get field d ≡ Some one) × (get field other ≡ Some also)
     × (has_float one ≡ false → has_float also ≡ false → compact_text one ≢ compact_text also)

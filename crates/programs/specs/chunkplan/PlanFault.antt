@@ -18,11 +18,11 @@ use Rattle.documents.specs.Stored.{IsCreateFault, IsStored, Stored}
 use Rattle.programs.specs.chunkplan.Document.{Document, IsDocument, RangesWanted, copy_to, read_of, rechunk_by_source, rechunk_to}
 use Rattle.programs.specs.chunkplan.Document.{Wanted, counts_wanted, lines_wanted, rechunk_within, resize_to}
 use Rattle.programs.specs.chunkplan.DocumentFault.{IsInputFault}
-use Rattle.programs.specs.chunkplan.Keys.{AreKeys, HasKeysBehind, IsKeysFault, behind_first, first_line}
+use Rattle.programs.specs.chunkplan.Keys.{HasKeysBehind, IsKeysFault, behind_first, closed_lines, first_line}
 use Rattle.programs.specs.chunkplan.Planned.{ArePlanned, HoldsMore, begins_at}
 use Rattle.programs.specs.chunkplan.RunFault.{of_create, of_region as of_region_error}
 use Rattle.programs.specs.declared.chunkplan.run_fault.RunFault.{RunFault}
-use Rattle.programs.specs.declared.chunkplan.run_fault.RunFault.TheVariants.{Copies, KeysOfLongDocument, NoShape, NotInOneStage, ResizedGrid}
+use Rattle.programs.specs.declared.chunkplan.run_fault.RunFault.TheVariants.{Copies, KeysOfLongDocument, NoShape, NotInOneStage, NotJson, ResizedGrid}
 use Rattle.programs.specs.declared.chunkplan.run_fault.RunFault.TheVariants.{Stages, SubsetDimensionality, TargetEncoding, TargetGrid, Uncovered}
 use Rattle.programs.specs.declared.chunkplan.stage.Stage.{Stage}
 use Rattle.documents.specs.declared.stored.CreateFault.{CreateFault}
@@ -115,20 +115,26 @@ pub data IsPlanFault (document : Document) (fault : RunFault) : Type 0 where
   of_resize : (shape : List ℕ) (keep : Bool) (grid : ChunkGrid) (encoding : KeyEncoding) → document.task ≡ resize_to shape keep
       → IsStored document.stored document.shape grid encoding → IsResizeFault document.stored shape fault → IsPlanFault document fault
 
--- the first fault of a document before keys: it has no plan; or what is wrong with the keys beside its plan
-pub data IsFaultBeside (document : Document) (keys : List (List ℕ)) (fault : RunFault) : Type 0 where
-  of_plan : IsPlanFault document fault → IsFaultBeside document keys fault
+-- the first fault of a document before lines of keys: it has no plan; or what is wrong with these beside its plan
+pub data IsFaultBeside (document : Document) (bytes : List ℕ) (fault : RunFault) : Type 0 where
+  of_plan : IsPlanFault document fault → IsFaultBeside document bytes fault
   of_keys : (target : ChunkGrid) (encoding : KeyEncoding) (groups : List Group) → ArePlanned document target encoding groups
-      → IsKeysFault groups keys fault → IsFaultBeside document keys fault
+      → IsKeysFault groups bytes fault → IsFaultBeside document bytes fault
+
+-- The first fault of an input that is no document, and whose first line has no keys after it. If the input is no JSON, but its first lines are a document
+-- with keys after it, the fault is that this isn't one line.
+pub data IsWholeFault (input : List ℕ) (fault : RunFault) : Type 0 where
+  of_input : IsInputFault input fault → (fault ≡ NotJson → ¬ HasKeysBehind (closed_lines input)) → IsWholeFault input fault
+  several_lines : IsInputFault input NotJson → HasKeysBehind (closed_lines input) → fault ≡ KeysOfLongDocument → IsWholeFault input fault
 
 -- The first fault of an input that has no plan: it is no document; or `keys` is true in a document that is more than the first line; or the document
 -- has no plan. Where keys stand behind it: the first line is no document; or of it and the keys.
 pub data IsFirstFault (input : List ℕ) (fault : RunFault) : Type 0 where
-  no_document : (¬ HasKeysBehind (first_line input)) → IsInputFault input fault → IsFirstFault input fault
+  no_document : (¬ HasKeysBehind (first_line input)) → IsWholeFault input fault → IsFirstFault input fault
   long_document : (tree : Data) (document : Document) → (¬ HasKeysBehind (first_line input)) → IsJsonOf input tree → IsDocument tree document
       → document.keys ≡ true → fault ≡ KeysOfLongDocument → IsFirstFault input fault
   no_plan : (tree : Data) (document : Document) → (¬ HasKeysBehind (first_line input)) → IsJsonOf input tree → IsDocument tree document
       → document.keys ≡ false → IsPlanFault document fault → IsFirstFault input fault
   no_first_document : HasKeysBehind (first_line input) → IsInputFault (first_line input) fault → IsFirstFault input fault
-  beside_keys : (tree : Data) (document : Document) (keys : List (List ℕ)) → HasKeysBehind (first_line input) → IsJsonOf (first_line input) tree
-      → IsDocument tree document → AreKeys (behind_first input) keys → IsFaultBeside document keys fault → IsFirstFault input fault
+  beside_keys : (tree : Data) (document : Document) → HasKeysBehind (first_line input) → IsJsonOf (first_line input) tree
+      → IsDocument tree document → IsFaultBeside document (behind_first input) fault → IsFirstFault input fault

@@ -1,4 +1,5 @@
 -- The faults of what the programs share, as a run of this program tells them.
+use Rattle.std.specs.Prelude.{Bool, true, false}
 use Rattle.zarrs_chunk_base.specs.declared.refusal.Refusal.{Refusal}
 use Rattle.zarrs_chunk_base.specs.declared.refusal.Refusal.TheVariants as refusal
 use Rattle.zarrs_chunk_plan.specs.declared.region_error.RegionError.{RegionError}
@@ -13,6 +14,11 @@ use Rattle.programs.specs.declared.chunkplan.run_fault.RunFault.{RunFault}
 use Rattle.programs.specs.declared.chunkplan.run_fault.RunFault.TheVariants.{AtDimensionality, Encoding, Grid, Memory, Metadata, Missing, NotJson}
 use Rattle.programs.specs.declared.chunkplan.run_fault.RunFault.TheVariants.{NotObject, PastArray, PastTarget, Read, SubsetDimensionality}
 use Rattle.programs.specs.declared.chunkplan.run_fault.RunFault.TheVariants.{TargetDimensionality, Write, WrongValue}
+
+-- the fault is that the input is no text of JSON
+abbrev pub is_not_json : RunFault → Bool
+is_not_json NotJson = true
+is_not_json _ = false
 
 abbrev pub of_stream : StreamFault → RunFault
 of_stream stream.Read = Read

@@ -6,12 +6,12 @@ ghost use Rattle.streams.specs.Watched.{IsWriteFailure, has_failed, watched};
 ghost use Rattle.programs.specs.chunkcalls.Lines.{AreAnswers, IsReply, IsReplyTo};
 ghost use Rattle.programs.specs.chunkcalls.Run.{TellsFailure};
 ghost use Rattle.programs.specs.chunkcalls.seen.Answered.{HasAnsweredBefore, HasAnsweredPiece, HasStopped, HasStoppedAt, HasStoppedIn, IsBegun};
-ghost use Rattle.streams.specs.seen.Sent.{IsSent, output};
+ghost use Rattle.streams.specs.seen.Sent.{IsSent, written};
 
 use crate::chunkcalls::RunFault;
 use std::alloc::{AllocError, Global};
 use std::io::{Read, Write};
-use streams::{BUFFER_LEN, Watched, send, write_all};
+use streams::{BUFFER_LEN, Sink, Watched};
 use zarrs_chunk_questions::answer_within;
 
 /// How many bytes a line may have.
@@ -32,25 +32,22 @@ const LONG_ANSWER: &[u8] =
 pub(crate) fn answer_lines<R: Read, W: Write>(
     alloc: Global,
     reader: &mut Watched<R>,
-    held_back: &mut Vec<u8>,
-    writer: &mut Watched<W>,
+    sink: &mut Sink<W>,
 ) -> Result<(), RunFault>
     ensures answered { OnOk result (IfSome (R.remaining (watched reader.old)) (λ input.
         (answers : List ℕ) × AreAnswers input answers
-        × IsSent (output W.contents held_back.old.items writer.old)
-        (output W.contents held_back.new.items writer.new) answers)) }
+        × IsSent (written W.contents sink.old) (written W.contents sink.new) answers)) }
     ensures no_read_failed { OnOk result (has_failed reader.new ≡ has_failed reader.old) }
-    ensures no_write_failed { OnOk result (has_failed writer.new ≡ has_failed writer.old) }
+    ensures no_write_failed { OnOk result ((written W.contents sink.new).failed
+        ≡ (written W.contents sink.old).failed) }
     ensures failed { IfErr result (λ fault. TellsFailure fault
-        (has_failed reader.old) (has_failed reader.new) (has_failed writer.new)) }
+        (has_failed reader.old) (has_failed reader.new) (written W.contents sink.new).failed) }
     ensures stopped { IfErr result (λ fault. IfSome (R.remaining (watched reader.old)) (λ input.
-        HasStopped input fault (output W.contents held_back.old.items writer.old)
-        (output W.contents held_back.new.items writer.new))) }
+        HasStopped input fault (written W.contents sink.old) (written W.contents sink.new))) }
     ensures read { IfErr result (λ fault. fault ≡ ReadFailed
         → IfSome (R.remaining (watched reader.old)) (λ input.
         HasAnsweredBefore input (R.remaining (watched reader.new))
-        (output W.contents held_back.old.items writer.old)
-        (output W.contents held_back.new.items writer.new))) }
+        (written W.contents sink.old) (written W.contents sink.new))) }
 {
     let mut buffer = [0; BUFFER_LEN];
     let mut line = Vec::new(alloc);
@@ -59,11 +56,10 @@ pub(crate) fn answer_lines<R: Read, W: Write>(
             return Err(RunFault::Read);
         };
         if count == 0 {
-            return answer_rest(alloc, &line, held_back, writer);
+            return answer_rest(alloc, &line, sink);
         }
-        answer_piece(alloc, &buffer[..count], &mut line, held_back, writer)?;
-        write_all(writer, held_back)?;
-        held_back.clear();
+        answer_piece(alloc, &buffer[..count], &mut line, sink)?;
+        sink.flush()?;
     }
     // No input is so long.
     Err(RunFault::Memory)
@@ -78,25 +74,24 @@ fn answer_piece<W: Write>(
     alloc: Global,
     piece: &[u8],
     line: &mut Vec<u8>,
-    held_back: &mut Vec<u8>,
-    writer: &mut Watched<W>,
+    sink: &mut Sink<W>,
 ) -> Result<(), RunFault>
     ensures answered { OnOk result ((whole : List ℕ) → IsBegun whole line.old.items
         → HasAnsweredPiece whole piece.now line.new.items
-        (output W.contents held_back.old.items writer.old)
-        (output W.contents held_back.new.items writer.new)) }
-    ensures failed { MatchResult result (λ _. has_failed writer.new ≡ has_failed writer.old)
-        (λ fault. IsWriteFailure fault (has_failed writer.old) (has_failed writer.new)) }
+        (written W.contents sink.old) (written W.contents sink.new)) }
+    ensures failed { MatchResult result
+        (λ _. (written W.contents sink.new).failed ≡ (written W.contents sink.old).failed)
+        (λ fault. IsWriteFailure fault (written W.contents sink.old).failed
+        (written W.contents sink.new).failed) }
     ensures stopped { IfErr result (λ fault. (whole : List ℕ) → IsBegun whole line.old.items
-        → HasStoppedIn whole piece.now fault (output W.contents held_back.old.items writer.old)
-        (output W.contents held_back.new.items writer.new)) }
+        → HasStoppedIn whole piece.now fault (written W.contents sink.old) (written W.contents sink.new)) }
 {
     for byte in piece {
         if *byte != b'\n' {
             push_within(line, *byte)?;
             continue;
         }
-        answer_line(alloc, line, held_back, writer)?;
+        answer_line(alloc, line, sink)?;
         line.clear();
     }
     Ok(())
@@ -120,50 +115,40 @@ fn push_within(line: &mut Vec<u8>, byte: u8) -> Result<(), AllocError>
 ///
 /// # Errors
 /// A write failed; or out of memory.
-fn answer_rest<W: Write>(
-    alloc: Global,
-    line: &[u8],
-    held_back: &mut Vec<u8>,
-    writer: &mut Watched<W>,
-) -> Result<(), RunFault>
+fn answer_rest<W: Write>(alloc: Global, line: &[u8], sink: &mut Sink<W>) -> Result<(), RunFault>
     ensures answered { OnOk result ((whole : List ℕ) → IsBegun whole line.now
         → (answers : List ℕ) × AreAnswers whole answers
-        × IsSent (output W.contents held_back.old.items writer.old)
-        (output W.contents held_back.new.items writer.new) answers) }
-    ensures failed { MatchResult result (λ _. has_failed writer.new ≡ has_failed writer.old)
-        (λ fault. IsWriteFailure fault (has_failed writer.old) (has_failed writer.new)) }
+        × IsSent (written W.contents sink.old) (written W.contents sink.new) answers) }
+    ensures failed { MatchResult result
+        (λ _. (written W.contents sink.new).failed ≡ (written W.contents sink.old).failed)
+        (λ fault. IsWriteFailure fault (written W.contents sink.old).failed
+        (written W.contents sink.new).failed) }
     ensures stopped { IfErr result (λ fault. HasStoppedAt line.now fault
-        (output W.contents held_back.old.items writer.old)
-        (output W.contents held_back.new.items writer.new)) }
+        (written W.contents sink.old) (written W.contents sink.new)) }
     ensures some { OnErr result (0 < length line.now) }
 {
     if line.is_empty() {
         return Ok(());
     }
-    answer_line(alloc, line, held_back, writer)
+    answer_line(alloc, line, sink)
 }
 
 /// Sends the answer to a line.
 ///
 /// # Errors
 /// A write failed; or out of memory.
-fn answer_line<W: Write>(
-    alloc: Global,
-    line: &[u8],
-    held_back: &mut Vec<u8>,
-    writer: &mut Watched<W>,
-) -> Result<(), RunFault>
+fn answer_line<W: Write>(alloc: Global, line: &[u8], sink: &mut Sink<W>) -> Result<(), RunFault>
     ensures answered { OnOk result ((answer : List ℕ) × IsReplyTo line.now answer
-        × IsSent (output W.contents held_back.old.items writer.old)
-        (output W.contents held_back.new.items writer.new) answer) }
-    ensures failed { MatchResult result (λ _. has_failed writer.new ≡ has_failed writer.old)
-        (λ fault. IsWriteFailure fault (has_failed writer.old) (has_failed writer.new)) }
+        × IsSent (written W.contents sink.old) (written W.contents sink.new) answer) }
+    ensures failed { MatchResult result
+        (λ _. (written W.contents sink.new).failed ≡ (written W.contents sink.old).failed)
+        (λ fault. IsWriteFailure fault (written W.contents sink.old).failed
+        (written W.contents sink.new).failed) }
     ensures stopped { IfErr result (λ fault. HasStoppedAt line.now fault
-        (output W.contents held_back.old.items writer.old)
-        (output W.contents held_back.new.items writer.new)) }
+        (written W.contents sink.old) (written W.contents sink.new)) }
 {
     let reply = reply_to(alloc, line)?;
-    send(&reply, held_back, writer)
+    sink.send(&reply)
 }
 
 /// What is written for a line.

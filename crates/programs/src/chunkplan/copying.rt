@@ -16,14 +16,14 @@ ghost use Rattle.programs.specs.chunkplan.seen.Missing.{is_left_out as left_out,
 ghost use Rattle.programs.specs.chunkplan.seen.Opened.{CanGiveCopies, CanGiveParts, CopiesToCome, PartsToCome, dimensions_in, key_in};
 ghost use Rattle.programs.specs.chunkplan.seen.Pieces.{text_as};
 ghost use Rattle.programs.specs.chunkplan.seen.Steps.{IsMade, StepLeaves};
-ghost use Rattle.streams.specs.seen.Sent.{output};
+ghost use Rattle.streams.specs.seen.Sent.{written};
 
 use crate::chunkplan::RunFault;
 use crate::chunkplan::line::{Form, Order, change_line, line_begin, line_end, part_text};
 use crate::chunkplan::opened::{OpenedCopies, OpenedGroup, OpenedParts};
 use std::alloc::{AllocError, Global};
 use std::io::Write;
-use streams::{Watched, send};
+use streams::Sink;
 use zarrs_chunk_keys::ChunkKeyEncoding;
 use zarrs_chunk_plan::{Changes, ChunkCopies, Part, StoredChunks};
 use zarrs_chunks::ChunkGrid;
@@ -37,8 +37,7 @@ pub(crate) fn write_parts<W: Write>(
     walk: OpenedParts<'_>,
     form: Form<'_>,
     first: Option<u64>,
-    held_back: &mut Vec<u8>,
-    writer: &mut Watched<W>,
+    sink: &mut Sink<W>,
 ) -> Result<(), RunFault>
     requires meet { CanGiveParts walk }
     requires is_box { IsBox walk.array_subset }
@@ -46,12 +45,11 @@ pub(crate) fn write_parts<W: Write>(
         (λ text. (parts : List PartValue) × PartsToCome walk.entry parts
         × (text ≡ lines_from (λ number. text_as form.entry (counted number)) begin parts))
         (λ _. ⊥) result
-        (output W.contents held_back.old.items writer.old)
-        (output W.contents held_back.new.items writer.new) }
+        (written W.contents sink.old) (written W.contents sink.new) }
 {
     let mut number = first;
     for part in walk {
-        send_text(part_text(alloc, &part?, number, form), held_back, writer)?;
+        send_text(part_text(alloc, &part?, number, form), sink)?;
         number = following(number);
     }
     Ok(())
@@ -68,8 +66,7 @@ pub(crate) fn write_copies<W: Write>(
     order: Order,
     first: Option<u64>,
     stored: Option<&StoredChunks>,
-    held_back: &mut Vec<u8>,
-    writer: &mut Watched<W>,
+    sink: &mut Sink<W>,
 ) -> Result<(), RunFault>
     requires can { CanGiveCopies walk }
     requires is_box { IsBox walk.targets.array_subset }
@@ -82,13 +79,12 @@ pub(crate) fn write_copies<W: Write>(
         (option_map (λ s. s.now) stored.entry) (counted number)
         (counted (length (all_targets walk.entry)))) begin groups))
         (λ _. ⊥) result
-        (output W.contents held_back.old.items writer.old)
-        (output W.contents held_back.new.items writer.new) }
+        (written W.contents sink.old) (written W.contents sink.new) }
 {
     let of = walk.in_all();
     let mut number = first;
     for group in walk {
-        write_unless_stored(alloc, group?, order, stored, number, of, held_back, writer)?;
+        write_unless_stored(alloc, group?, order, stored, number, of, sink)?;
         number = following(number);
     }
     Ok(())
@@ -102,8 +98,7 @@ fn write_unless_stored<W: Write>(
     stored: Option<&StoredChunks>,
     number: Option<u64>,
     of: Option<u64>,
-    held_back: &mut Vec<u8>,
-    writer: &mut Watched<W>,
+    sink: &mut Sink<W>,
 ) -> Result<(), RunFault>
     requires meet { CanGiveParts group.from }
     requires is_box { IsBox group.from.array_subset }
@@ -113,13 +108,12 @@ fn write_unless_stored<W: Write>(
         × (text ≡ line_unless_stored order (option_map (λ s. s.now) stored.entry) number of
         (group.entry.to, from)))
         (λ _. ⊥) result
-        (output W.contents held_back.old.items writer.old)
-        (output W.contents held_back.new.items writer.new) }
+        (written W.contents sink.old) (written W.contents sink.new) }
 {
     if is_left_out(stored, number, &group.to) {
         return Ok(());
     }
-    write_group(alloc, group, order, number, of, held_back, writer)
+    write_group(alloc, group, order, number, of, sink)
 }
 
 /// Whether the line of a chunk of the target, which has this number, is left out: the chunk is stored, and would be written whole.
@@ -139,8 +133,7 @@ fn is_left_out(stored: Option<&StoredChunks>, number: Option<u64>, to: &Part) ->
 pub(crate) fn write_changes<W: Write>(
     alloc: Global,
     walk: Changes<'_, ChunkGrid, ChunkGrid, ChunkKeyEncoding>,
-    held_back: &mut Vec<u8>,
-    writer: &mut Watched<W>,
+    sink: &mut Sink<W>,
 ) -> Result<(), RunFault>
     requires can { CanChange dimensions_in dimensions_in walk }
     requires used { AllByRecursion (λ chunk. IsUsed (dimensions_in walk.before.now) chunk
@@ -153,13 +146,12 @@ pub(crate) fn write_changes<W: Write>(
         × AreChangesToCome dimensions_in dimensions_in key_in walk.entry changes
         × (text ≡ resize_lines changes))
         (λ _. ⊥) result
-        (output W.contents held_back.old.items writer.old)
-        (output W.contents held_back.new.items writer.new) }
+        (written W.contents sink.old) (written W.contents sink.new) }
 {
     let of = walk.in_all();
     let mut number = Some(0);
     for change in walk {
-        send_text(change_line(alloc, &change?, number, of), held_back, writer)?;
+        send_text(change_line(alloc, &change?, number, of), sink)?;
         number = following(number);
     }
     Ok(())
@@ -172,8 +164,7 @@ fn write_group<W: Write>(
     order: Order,
     number: Option<u64>,
     of: Option<u64>,
-    held_back: &mut Vec<u8>,
-    writer: &mut Watched<W>,
+    sink: &mut Sink<W>,
 ) -> Result<(), RunFault>
     requires meet { CanGiveParts group.from }
     requires is_box { IsBox group.from.array_subset }
@@ -182,14 +173,13 @@ fn write_group<W: Write>(
         × PartsToCome group.entry.from from
         × (text ≡ group_line order number of (group.entry.to, from)))
         (λ _. ⊥) result
-        (output W.contents held_back.old.items writer.old)
-        (output W.contents held_back.new.items writer.new) }
+        (written W.contents sink.old) (written W.contents sink.new) }
 {
     let ChunkCopies { to, from } = group;
-    send_text(line_begin(alloc, order, &to, number, of), held_back, writer)?;
+    send_text(line_begin(alloc, order, &to, number, of), sink)?;
     let form = Form::Piece(order, &to);
-    write_parts(alloc, from, form, Some(0), held_back, writer)?;
-    send_text(line_end(alloc, order, &to, number, of), held_back, writer)
+    write_parts(alloc, from, form, Some(0), sink)?;
+    send_text(line_end(alloc, order, &to, number, of), sink)
 }
 
 /// Sends a text that was made, if there was memory for it.
@@ -198,14 +188,12 @@ fn write_group<W: Write>(
 /// As `write_parts`.
 pub(crate) fn send_text<W: Write>(
     text: Result<Vec<u8>, AllocError>,
-    held_back: &mut Vec<u8>,
-    writer: &mut Watched<W>,
+    sink: &mut Sink<W>,
 ) -> Result<(), RunFault>
     ensures { StepLeaves (IsMade text) (λ _. ⊥) result
-        (output W.contents held_back.old.items writer.old)
-        (output W.contents held_back.new.items writer.new) }
+        (written W.contents sink.old) (written W.contents sink.new) }
 {
-    send(&text?, held_back, writer)?;
+    sink.send(&text?)?;
     Ok(())
 }
 

@@ -1,9 +1,9 @@
 //! The keys behind a document, a line each.
-ghost use Rattle.std.specs.Prelude.{◌≡◌, ◌≢◌, ◌↔◌, ◌⊎◌, ◌++◌, ◌∷◌, [], ℕ, IfErr, IfOk, IfSome, IsTrue, List, OnOk, Some};
+ghost use Rattle.std.specs.Prelude.{◌≡◌, ◌↔◌, ◌⊎◌, ◌++◌, ◌+◌, ◌<◌, ◌≤◌, ◌^◌, ◌∷◌, [], length, ℕ, IfErr, IfOk, IfSome, IsTrue, List, OnOk, Some};
 ghost use Rattle.std.specs.Io.BufRead.{take_through};
 ghost use Rattle.std.specs.Str.{IsUtf8};
 ghost use Rattle.streams.specs.Watched.{has_failed, watched};
-ghost use Rattle.programs.specs.chunkplan.Keys.{AreKeys, HasKeysBehind, IsKeyOfTarget, unended};
+ghost use Rattle.programs.specs.chunkplan.Keys.{AreKeys, HasKeysBehind, IsKeyOfTarget, braces_after, closed_length, closed_lines, unended};
 ghost use Rattle.programs.specs.chunkplan.seen.Missing.{HaveMarked, HaveNoted, IsKeysStop, with_line};
 ghost use Rattle.programs.specs.chunkplan.seen.Opened.{dimensions_of, key_of};
 ghost use Rattle.programs.specs.declared.chunkplan.run_fault.RunFault.TheVariants.{KeyNotText, Memory};
@@ -31,6 +31,44 @@ pub(crate) fn has_keys_behind(alloc: Global, line: &[u8]) -> Result<bool, AllocE
     match tree.get("keys") {
         Some(keys) => Ok(keys.as_bool() == Some(true)),
         None => Ok(false),
+    }
+}
+
+/// Returns the lines of an input up to the first one at whose end no brace is open.
+pub(crate) fn closed_lines(input: &[u8]) -> &[u8]
+    ensures { result.now ≡ closed_lines input.now }
+{
+    &input[..closed_length(input)]
+}
+
+/// Returns how many bytes these lines have.
+fn closed_length(input: &[u8]) -> usize
+    ensures says { result ≡ closed_length 0 input.now }
+    ensures within { result ≤ length input.now }
+{
+    let mut braces = 0;
+    let mut length = 0;
+    let mut rest = input;
+    while let Some((byte, behind)) = rest.split_first() {
+        length += 1;
+        if *byte == b'\n' && braces == 0 {
+            return length;
+        }
+        braces = braces_after(braces, *byte);
+        rest = behind;
+    }
+    length
+}
+
+/// Returns how many braces are open after a byte.
+fn braces_after(braces: usize, byte: u8) -> usize
+    requires { braces + 1 < 2 ^ 64 }
+    ensures { result ≡ braces_after braces byte }
+{
+    match byte {
+        b'{' => braces + 1,
+        b'}' => braces.saturating_sub(1),
+        _ => braces,
     }
 }
 
@@ -62,9 +100,10 @@ pub(crate) fn note_keys<R: Read>(
     ensures failed { OnOk result (has_failed reader.new ≡ has_failed reader.old) }
 {
     let mut line = Vec::new(alloc);
-    for _ in 0..u64::MAX {
+    // The document is line 1.
+    for number in 2..u64::MAX {
         let ended = lines.read_line(reader, &mut line)?;
-        note_line(alloc, target, stored, foreign, without_feed(&line))?;
+        note_line(alloc, target, stored, foreign, without_feed(&line), number)?;
         if !ended {
             return Ok(());
         }
@@ -74,7 +113,7 @@ pub(crate) fn note_keys<R: Read>(
     Err(RunFault::Memory)
 }
 
-/// Notes the key in a line, if the line isn't empty.
+/// Notes the key in the line with this number, if the line isn't empty.
 ///
 /// # Errors
 /// The key is no text; or out of memory.
@@ -84,20 +123,22 @@ fn note_line(
     stored: &mut StoredChunks,
     foreign: &mut Vec<u8>,
     line: &[u8],
+    number: u64,
 ) -> Result<(), RunFault>
+    ensures text { OnOk result (IsUtf8 line.now) }
     ensures noted { OnOk result ((targets keys : List (List ℕ))
         → HaveNoted (dimensions_of target.now) (key_of target.now) targets keys
         stored.old foreign.old.items
         → HaveNoted (dimensions_of target.now) (key_of target.now) targets
         (with_line keys line.now) stored.new foreign.new.items) }
     ensures refused { IfErr result (λ fault. (fault ≡ Memory)
-        ⊎ ((fault ≡ KeyNotText) × (line.now ≢ []) × (¬ IsUtf8 line.now))) }
+        ⊎ ((fault ≡ KeyNotText number) × (¬ IsUtf8 line.now))) }
 {
     if line.is_empty() {
         return Ok(());
     }
     let Ok(key) = str::from_utf8(line) else {
-        return Err(RunFault::KeyNotText);
+        return Err(RunFault::KeyNotText(number));
     };
     if note_key(alloc, target, stored, key)? {
         return Ok(());

@@ -14,7 +14,7 @@ ghost use Rattle.programs.specs.chunkplan.Planned.{IsPlannedBeside};
 ghost use Rattle.programs.specs.chunkplan.seen.Missing.{KeyStepLeaves};
 ghost use Rattle.programs.specs.chunkplan.seen.Opened.{CanGiveCopies, CopiesToCome, dimensions_of, key_of, sizes_of};
 ghost use Rattle.streams.specs.seen.Lines.{left};
-ghost use Rattle.streams.specs.seen.Sent.{output};
+ghost use Rattle.streams.specs.seen.Sent.{written};
 
 use crate::chunkplan::RunFault;
 use crate::chunkplan::copying::send_text;
@@ -26,7 +26,7 @@ use crate::chunkplan::plan::{open_target, or_all_chunks, or_zeros, write_share};
 use documents::Stored;
 use std::alloc::Global;
 use std::io::{Read, Write};
-use streams::{Lines, Watched};
+use streams::{Lines, Sink, Watched};
 use zarrs_chunk_base::ArraySubset;
 use zarrs_chunk_plan::{Share, copies, copies_of_region};
 
@@ -41,16 +41,14 @@ pub(crate) fn write_beside_keys<R: Read, W: Write>(
     document: Document,
     lines: &mut Lines,
     reader: &mut Watched<R>,
-    held_back: &mut Vec<u8>,
-    writer: &mut Watched<W>,
+    sink: &mut Sink<W>,
 ) -> Result<(), RunFault>
     requires { AsksForLinesOfCopy (document_of document) }
     ensures { (bytes : List ℕ) → left lines.old (R.remaining (watched reader.old)) ≡ Some bytes
         → KeyStepLeaves (IsPlannedBeside (document_of document))
-        (IsFaultBeside (document_of document)) bytes result
+        (IsFaultBeside (document_of document) bytes) bytes result
         (has_failed reader.old) (has_failed reader.new) (R.remaining (watched reader.new))
-        (output W.contents held_back.old.items writer.old)
-        (output W.contents held_back.new.items writer.new) }
+        (written W.contents sink.old) (written W.contents sink.new) }
 {
     let Document {
         shape,
@@ -63,7 +61,7 @@ pub(crate) fn write_beside_keys<R: Read, W: Write>(
     drop(stored);
     match (task, wanted) {
         (Task::Rechunk(target, chunks), Wanted::Lines(share)) => write_rechunking(
-            alloc, &array, &shape, target, chunks, &share, lines, reader, held_back, writer,
+            alloc, &array, &shape, target, chunks, &share, lines, reader, sink,
         ),
         (
             Task::Copy {
@@ -74,7 +72,7 @@ pub(crate) fn write_beside_keys<R: Read, W: Write>(
             },
             Wanted::Lines(share),
         ) => write_region(
-            alloc, &array, &shape, target, &region, at, &share, lines, reader, held_back, writer,
+            alloc, &array, &shape, target, &region, at, &share, lines, reader, sink,
         ),
         // Never: keys stand behind a copy whose lines are asked for.
         _ => unreachable!(),
@@ -91,8 +89,7 @@ fn write_rechunking<R: Read, W: Write>(
     share: &Share,
     lines: &mut Lines,
     reader: &mut Watched<R>,
-    held_back: &mut Vec<u8>,
-    writer: &mut Watched<W>,
+    sink: &mut Sink<W>,
 ) -> Result<(), RunFault>
     ensures { (document : PlanDocument) (bytes : List ℕ)
         → IsStored document.stored document.shape (grid_in array.now.grid)
@@ -101,17 +98,14 @@ fn write_rechunking<R: Read, W: Write>(
         → document.task ≡ rechunk_to (stored_of target) chunks
         → document.wanted ≡ lines_wanted share.now
         → left lines.old (R.remaining (watched reader.old)) ≡ Some bytes
-        → KeyStepLeaves (IsPlannedBeside document) (IsFaultBeside document) bytes result
+        → KeyStepLeaves (IsPlannedBeside document) (IsFaultBeside document bytes) bytes result
         (has_failed reader.old) (has_failed reader.new) (R.remaining (watched reader.new))
-        (output W.contents held_back.old.items writer.old)
-        (output W.contents held_back.new.items writer.new) }
+        (written W.contents sink.old) (written W.contents sink.new) }
 {
     let target = open_target(alloc, target, shape)?;
     let chunks = or_all_chunks(alloc, chunks, &target.grid)?;
     let walk = copies(alloc, array, &target, &chunks)?;
-    write_missing(
-        alloc, walk, &target, share, lines, reader, held_back, writer,
-    )
+    write_missing(alloc, walk, &target, share, lines, reader, sink)
 }
 
 /// As `write_beside_keys`, of the copy of a region to an array of a shape, to begin there at an index.
@@ -125,8 +119,7 @@ fn write_region<R: Read, W: Write>(
     share: &Share,
     lines: &mut Lines,
     reader: &mut Watched<R>,
-    held_back: &mut Vec<u8>,
-    writer: &mut Watched<W>,
+    sink: &mut Sink<W>,
 ) -> Result<(), RunFault>
     ensures { (document : PlanDocument) (bytes : List ℕ)
         → IsStored document.stored document.shape (grid_in array.now.grid)
@@ -135,18 +128,15 @@ fn write_region<R: Read, W: Write>(
         (option_map (λ v. v.items) at)
         → document.wanted ≡ lines_wanted share.now
         → left lines.old (R.remaining (watched reader.old)) ≡ Some bytes
-        → KeyStepLeaves (IsPlannedBeside document) (IsFaultBeside document) bytes result
+        → KeyStepLeaves (IsPlannedBeside document) (IsFaultBeside document bytes) bytes result
         (has_failed reader.old) (has_failed reader.new) (R.remaining (watched reader.new))
-        (output W.contents held_back.old.items writer.old)
-        (output W.contents held_back.new.items writer.new) }
+        (written W.contents sink.old) (written W.contents sink.new) }
 {
     let target = open_target(alloc, target, shape)?;
     let at = or_zeros(alloc, at, region.dimensionality())?;
     region.is_a_box();
     let walk = copies_of_region(alloc, array, &target, region, &at)?;
-    write_missing(
-        alloc, walk, &target, share, lines, reader, held_back, writer,
-    )
+    write_missing(alloc, walk, &target, share, lines, reader, sink)
 }
 
 /// Reads the keys in the lines that a reader has left, and sends the lines of a share of all that a walk gives which is at its beginning, without
@@ -158,8 +148,7 @@ fn write_missing<R: Read, W: Write>(
     share: &Share,
     lines: &mut Lines,
     reader: &mut Watched<R>,
-    held_back: &mut Vec<u8>,
-    writer: &mut Watched<W>,
+    sink: &mut Sink<W>,
 ) -> Result<(), RunFault>
     requires target { target_of walk ≡ target.now }
     requires can { CanGiveCopies walk }
@@ -172,26 +161,17 @@ fn write_missing<R: Read, W: Write>(
         × CopiesToCome walk.entry groups
         × IsMissingText (dimensions_of target.now) (key_of target.now) keys share.now
         groups text)
-        (λ keys fault. (groups : List Group)
+        (λ fault. (groups : List Group)
         × CopiesToCome walk.entry groups
-        × IsKeysFault groups keys fault) bytes result
+        × IsKeysFault groups bytes fault) bytes result
         (has_failed reader.old) (has_failed reader.new) (R.remaining (watched reader.new))
-        (output W.contents held_back.old.items writer.old)
-        (output W.contents held_back.new.items writer.new) }
+        (written W.contents sink.old) (written W.contents sink.new) }
 {
     let Some(mut stored) = walk.none_stored(alloc)? else {
         return Err(RunFault::TooManyForKeys);
     };
     let mut foreign = Vec::new(alloc);
     note_keys(alloc, target, &mut stored, &mut foreign, lines, reader)?;
-    write_share(
-        alloc,
-        walk,
-        Order::Target,
-        share,
-        Some(&stored),
-        held_back,
-        writer,
-    )?;
-    send_text(Ok(foreign), held_back, writer)
+    write_share(alloc, walk, Order::Target, share, Some(&stored), sink)?;
+    send_text(Ok(foreign), sink)
 }

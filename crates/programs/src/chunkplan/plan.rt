@@ -22,7 +22,7 @@ ghost use Rattle.programs.specs.chunkplan.seen.Opened.{CanGiveCopies, CopiesToCo
 ghost use Rattle.programs.specs.chunkplan.seen.Steps.{StepLeaves};
 ghost use Rattle.programs.specs.declared.chunkplan.line.Order.TheVariants.{Target};
 ghost use Rattle.programs.specs.declared.chunkplan.run_fault.RunFault.TheVariants.{Memory};
-ghost use Rattle.streams.specs.seen.Sent.{output};
+ghost use Rattle.streams.specs.seen.Sent.{written};
 
 use crate::chunkplan::RunFault;
 use crate::chunkplan::copying::{send_text, write_changes, write_copies, write_parts};
@@ -35,7 +35,7 @@ use crate::chunkplan::within::write_within;
 use documents::{CreateFault, Stored};
 use std::alloc::{AllocError, Global};
 use std::io::Write;
-use streams::Watched;
+use streams::Sink;
 use zarrs_chunk_base::{ArraySubset, IncompatibleDimensionalityError, Refusal};
 use zarrs_chunk_plan::{
     Counts, Share, StoredChunks, all_chunks, changes, copies, copies_of_region, counts_of_read,
@@ -52,13 +52,11 @@ use zarrs_chunks::{ChunkGrid, ChunkGridTraits};
 pub(crate) fn write_plan<W: Write>(
     alloc: Global,
     document: Document,
-    held_back: &mut Vec<u8>,
-    writer: &mut Watched<W>,
+    sink: &mut Sink<W>,
 ) -> Result<(), RunFault>
     ensures { StepLeaves (IsPlanned (document_of document)) (IsPlanFault (document_of document))
         result
-        (output W.contents held_back.old.items writer.old)
-        (output W.contents held_back.new.items writer.new) }
+        (written W.contents sink.old) (written W.contents sink.new) }
 {
     let Document {
         shape,
@@ -76,27 +74,21 @@ pub(crate) fn write_plan<W: Write>(
         } => {
             drop(stored);
             let subset = or_whole_array(alloc, subset, &array.grid)?;
-            write_read(
-                alloc, &array, subset, clip, &ranges, &wanted, held_back, writer,
-            )
+            write_read(alloc, &array, subset, clip, &ranges, &wanted, sink)
         }
         Task::Rechunk(target, chunks) => {
             drop(stored);
             let target = open_target(alloc, target, &shape)?;
             let chunks = or_all_chunks(alloc, chunks, &target.grid)?;
             let order = Order::Target;
-            write_rechunking(
-                alloc, &array, &target, &chunks, order, &wanted, held_back, writer,
-            )
+            write_rechunking(alloc, &array, &target, &chunks, order, &wanted, sink)
         }
         Task::RechunkBySource(target) => {
             drop(stored);
             let target = open_target(alloc, target, &shape)?;
             let chunks = all_chunks(alloc, &array.grid)?;
             let order = Order::Source;
-            write_rechunking(
-                alloc, &target, &array, &chunks, order, &wanted, held_back, writer,
-            )
+            write_rechunking(alloc, &target, &array, &chunks, order, &wanted, sink)
         }
         Task::RechunkWithin {
             target,
@@ -105,9 +97,7 @@ pub(crate) fn write_plan<W: Write>(
         } => {
             drop(stored);
             let target = open_target(alloc, target, &shape)?;
-            write_within(
-                alloc, &array, &target, most, stage, &wanted, held_back, writer,
-            )
+            write_within(alloc, &array, &target, most, stage, &wanted, sink)
         }
         Task::Copy {
             shape,
@@ -118,13 +108,11 @@ pub(crate) fn write_plan<W: Write>(
             drop(stored);
             let target = open_target(alloc, target, &shape)?;
             let at = or_zeros(alloc, at, region.dimensionality())?;
-            write_region(
-                alloc, &array, &target, &region, &at, &wanted, held_back, writer,
-            )
+            write_region(alloc, &array, &target, &region, &at, &wanted, sink)
         }
         Task::Resize { shape, keep } => {
             let after = resized_grid(alloc, stored, &shape)?;
-            write_resize(alloc, &array, &after, keep, held_back, writer)
+            write_resize(alloc, &array, &after, keep, sink)
         }
     }
 }
@@ -218,8 +206,7 @@ fn write_read<W: Write>(
     clip: bool,
     ranges: &Option<RangesAsked>,
     wanted: &Wanted,
-    held_back: &mut Vec<u8>,
-    writer: &mut Watched<W>,
+    sink: &mut Sink<W>,
 ) -> Result<(), RunFault>
     ensures { StepLeaves
         (λ text. (asked : Box) × (parts : List PartValue)
@@ -227,11 +214,10 @@ fn write_read<W: Write>(
         × IsReadPlan (dimensions_of array.now) (key_of array.now) asked parts
         × IsReadText (wanted_of wanted.now) (option_map ranges_asked_of ranges.now) asked parts text)
         (IsReadFault clip (dimensions_of array.now) subset) result
-        (output W.contents held_back.old.items writer.old)
-        (output W.contents held_back.new.items writer.new) }
+        (written W.contents sink.old) (written W.contents sink.new) }
 {
     let asked = asked_box(alloc, &array.grid, subset, clip)?;
-    write_asked(alloc, array, &asked, ranges, wanted, held_back, writer)
+    write_asked(alloc, array, &asked, ranges, wanted, sink)
 }
 
 /// The box that is read for a box of elements: it itself, or what it has of the array, where it is clipped.
@@ -262,8 +248,7 @@ fn write_asked<W: Write>(
     subset: &ArraySubset,
     ranges: &Option<RangesAsked>,
     wanted: &Wanted,
-    held_back: &mut Vec<u8>,
-    writer: &mut Watched<W>,
+    sink: &mut Sink<W>,
 ) -> Result<(), RunFault>
     ensures { StepLeaves
         (λ text. (parts : List PartValue)
@@ -271,8 +256,7 @@ fn write_asked<W: Write>(
         × IsReadText (wanted_of wanted.now) (option_map ranges_asked_of ranges.now) subset.now parts
         text)
         (IsReadFault false (dimensions_of array.now) subset.now) result
-        (output W.contents held_back.old.items writer.old)
-        (output W.contents held_back.new.items writer.new) }
+        (written W.contents sink.old) (written W.contents sink.new) }
 {
     let dimensionality = subset.start().len();
     let expected = array.grid.dimensionality();
@@ -281,10 +265,8 @@ fn write_asked<W: Write>(
         return Err(RunFault::SubsetDimensionality(error));
     }
     match wanted {
-        Wanted::Lines(share) => {
-            write_parts_of(alloc, array, subset, ranges, share, held_back, writer)
-        }
-        Wanted::Counts => write_counts_of(alloc, array, subset, held_back, writer),
+        Wanted::Lines(share) => { write_parts_of(alloc, array, subset, ranges, share, sink) }
+        Wanted::Counts => write_counts_of(alloc, array, subset, sink),
     }
 }
 
@@ -295,8 +277,7 @@ fn write_parts_of<W: Write>(
     subset: &ArraySubset,
     ranges: &Option<RangesAsked>,
     share: &Share,
-    held_back: &mut Vec<u8>,
-    writer: &mut Watched<W>,
+    sink: &mut Sink<W>,
 ) -> Result<(), RunFault>
     requires lengths { length subset.now.start ≡ length (dimensions_of array.now) }
     ensures { StepLeaves
@@ -304,15 +285,14 @@ fn write_parts_of<W: Write>(
         × IsReadPlan (dimensions_of array.now) (key_of array.now) subset.now parts
         × (text ≡ read_lines (option_map ranges_asked_of ranges.now) share.now parts))
         (IsReadFault false (dimensions_of array.now) subset.now) result
-        (output W.contents held_back.old.items writer.old)
-        (output W.contents held_back.new.items writer.new) }
+        (written W.contents sink.old) (written W.contents sink.new) }
 {
     subset.is_a_box();
     match parts(alloc, &array.grid, &array.encoding, subset) {
         Ok(Some(mut walk)) => {
             let form = Form::Line(walk.in_all(), *ranges);
             let first = walk.share(share)?;
-            write_parts(alloc, walk, form, first, held_back, writer)
+            write_parts(alloc, walk, form, first, sink)
         }
         Ok(None) => Err(RunFault::Uncovered),
         Err(Refusal::Refused(error)) => Err(RunFault::SubsetDimensionality(error)),
@@ -325,8 +305,7 @@ fn write_counts_of<W: Write>(
     alloc: Global,
     array: &OpenedArray,
     subset: &ArraySubset,
-    held_back: &mut Vec<u8>,
-    writer: &mut Watched<W>,
+    sink: &mut Sink<W>,
 ) -> Result<(), RunFault>
     requires lengths { length subset.now.start ≡ length (dimensions_of array.now) }
     ensures { StepLeaves
@@ -334,12 +313,11 @@ fn write_counts_of<W: Write>(
         × IsReadPlan (dimensions_of array.now) (key_of array.now) subset.now parts
         × IsReadText counts_wanted None subset.now parts text)
         (IsReadFault false (dimensions_of array.now) subset.now) result
-        (output W.contents held_back.old.items writer.old)
-        (output W.contents held_back.new.items writer.new) }
+        (written W.contents sink.old) (written W.contents sink.new) }
 {
     subset.is_a_box();
     match counts_of_read(alloc, array, subset) {
-        Ok(Some(counts)) => write_counts(alloc, &counts, held_back, writer),
+        Ok(Some(counts)) => write_counts(alloc, &counts, sink),
         Ok(None) => Err(RunFault::Uncovered),
         Err(Refusal::Refused(error)) => Err(RunFault::SubsetDimensionality(error)),
         Err(Refusal::Memory(_)) => Err(RunFault::Memory),
@@ -350,14 +328,12 @@ fn write_counts_of<W: Write>(
 fn write_counts<W: Write>(
     alloc: Global,
     counts: &Counts,
-    held_back: &mut Vec<u8>,
-    writer: &mut Watched<W>,
+    sink: &mut Sink<W>,
 ) -> Result<(), RunFault>
     ensures { StepLeaves (IsCountsLine counts.now) (λ _. ⊥) result
-        (output W.contents held_back.old.items writer.old)
-        (output W.contents held_back.new.items writer.new) }
+        (written W.contents sink.old) (written W.contents sink.new) }
 {
-    send_text(counts_line(alloc, counts), held_back, writer)
+    send_text(counts_line(alloc, counts), sink)
 }
 
 /// Sends what is wanted of the plan of a rechunking into the chunks of a box. In the order of the source, what is given as the source is the array as
@@ -369,8 +345,7 @@ pub(crate) fn write_rechunking<W: Write>(
     chunks: &ArraySubset,
     order: Order,
     wanted: &Wanted,
-    held_back: &mut Vec<u8>,
-    writer: &mut Watched<W>,
+    sink: &mut Sink<W>,
 ) -> Result<(), RunFault>
     requires one_array { sizes_of source.now ≡ sizes_of target.now }
     ensures { StepLeaves
@@ -381,17 +356,16 @@ pub(crate) fn write_rechunking<W: Write>(
         × IsRechunkingText order (wanted_of wanted.now) (dimensions_of source.now)
         (dimensions_of target.now) chunks.now groups text)
         (IsChunksFault (dimensions_of target.now) chunks.now) result
-        (output W.contents held_back.old.items writer.old)
-        (output W.contents held_back.new.items writer.new) }
+        (written W.contents sink.old) (written W.contents sink.new) }
 {
     match wanted {
         Wanted::Lines(share) => {
             let walk = copies(alloc, source, target, chunks)?;
-            write_share(alloc, walk, order, share, None, held_back, writer)
+            write_share(alloc, walk, order, share, None, sink)
         }
         Wanted::Counts => {
             let counts = counts_of_rechunking(alloc, source, target, chunks)?;
-            write_counts(alloc, &counts, held_back, writer)
+            write_counts(alloc, &counts, sink)
         }
     }
 }
@@ -404,8 +378,7 @@ pub(crate) fn write_share<W: Write>(
     order: Order,
     share: &Share,
     stored: Option<&StoredChunks>,
-    held_back: &mut Vec<u8>,
-    writer: &mut Watched<W>,
+    sink: &mut Sink<W>,
 ) -> Result<(), RunFault>
     requires can { CanGiveCopies walk }
     requires is_box { IsBox walk.targets.array_subset }
@@ -417,11 +390,10 @@ pub(crate) fn write_share<W: Write>(
         × (text ≡ share_unless_stored order (option_map (λ s. s.now) stored.entry) share.now
         groups))
         (λ _. ⊥) result
-        (output W.contents held_back.old.items writer.old)
-        (output W.contents held_back.new.items writer.new) }
+        (written W.contents sink.old) (written W.contents sink.new) }
 {
     let first = walk.share(share)?;
-    write_copies(alloc, walk, order, first, stored, held_back, writer)
+    write_copies(alloc, walk, order, first, stored, sink)
 }
 
 /// Sends what is wanted of the plan of the copy of a region.
@@ -432,8 +404,7 @@ fn write_region<W: Write>(
     region: &ArraySubset,
     at: &[u64],
     wanted: &Wanted,
-    held_back: &mut Vec<u8>,
-    writer: &mut Watched<W>,
+    sink: &mut Sink<W>,
 ) -> Result<(), RunFault>
     ensures { StepLeaves
         (λ text. (groups : List Group)
@@ -443,18 +414,17 @@ fn write_region<W: Write>(
         (dimensions_of target.now) region.now at.now groups text)
         (IsCopyFault (dimensions_of source.now) (dimensions_of target.now)
         region.now at.now) result
-        (output W.contents held_back.old.items writer.old)
-        (output W.contents held_back.new.items writer.new) }
+        (written W.contents sink.old) (written W.contents sink.new) }
 {
     region.is_a_box();
     match wanted {
         Wanted::Lines(share) => {
             let walk = copies_of_region(alloc, source, target, region, at)?;
-            write_share(alloc, walk, Order::Target, share, None, held_back, writer)
+            write_share(alloc, walk, Order::Target, share, None, sink)
         }
         Wanted::Counts => {
             let counts = counts_of_region(alloc, source, target, region, at)?;
-            write_counts(alloc, &counts, held_back, writer)
+            write_counts(alloc, &counts, sink)
         }
     }
 }
@@ -465,8 +435,7 @@ fn write_resize<W: Write>(
     array: &OpenedArray,
     after: &ChunkGrid,
     keep: bool,
-    held_back: &mut Vec<u8>,
-    writer: &mut Watched<W>,
+    sink: &mut Sink<W>,
 ) -> Result<(), RunFault>
     requires resized { AreResized (dimensions_of array.now) (dimensions_in after.now) }
     ensures { StepLeaves
@@ -475,13 +444,12 @@ fn write_resize<W: Write>(
         (key_of array.now) keep changes
         × (text ≡ resize_lines changes))
         (λ _. ⊥) result
-        (output W.contents held_back.old.items writer.old)
-        (output W.contents held_back.new.items writer.new) }
+        (written W.contents sink.old) (written W.contents sink.new) }
 {
     fit(array.grid.array_shape());
     fit(after.array_shape());
     match changes(alloc, &array.grid, after, &array.encoding, keep) {
-        Ok(walk) => write_changes(alloc, walk, held_back, writer),
+        Ok(walk) => write_changes(alloc, walk, sink),
         // Never: a resize keeps the number of dimensions.
         Err(Refusal::Refused(_)) => unreachable!(),
         Err(Refusal::Memory(_)) => Err(RunFault::Memory),

@@ -44,8 +44,8 @@ pub enum RunFault {
     /// A member of the document doesn't go with the others.
     #[error(transparent)]
     Misfit(MemberRule),
-    /// The document says that keys stand behind it, and isn't the first line.
-    #[error("field `keys`: the document is to be the first line, and each line behind it a key")]
+    /// The document has keys after it, and isn't the first line alone.
+    #[error("field `keys`: the document must be one line, the first, and each line after it a key")]
     KeysOfLongDocument,
     /// A member of the target isn't known.
     #[error("field `target`: {0}")]
@@ -104,9 +104,9 @@ pub enum RunFault {
     /// The plan has more lines than there are bits for, one a line.
     #[error("field `keys`: the plan has more than 536870911 lines: plan the chunks of a smaller box with `chunks`, or a smaller region")]
     TooManyForKeys,
-    /// A key behind the document is no text.
-    #[error("field `keys`: a line behind the document isn't UTF-8")]
-    KeyNotText,
+    /// The line with this number isn't UTF-8. The document is line 1.
+    #[error("field `keys`: line {0} is not UTF-8")]
+    KeyNotText(u64),
     /// A write or the flush failed, or a write took nothing. A beginning of the plan may have been written.
     #[error("output failed")]
     Write,

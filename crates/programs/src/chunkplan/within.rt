@@ -8,7 +8,7 @@ ghost use Rattle.programs.specs.chunkplan.seen.Between.{TellsStages};
 ghost use Rattle.programs.specs.chunkplan.seen.Opened.{dimensions_of, key_of, sizes_of};
 ghost use Rattle.programs.specs.chunkplan.seen.Steps.{StepLeaves};
 ghost use Rattle.programs.specs.declared.chunkplan.run_fault.RunFault.TheVariants.{Memory};
-ghost use Rattle.streams.specs.seen.Sent.{output};
+ghost use Rattle.streams.specs.seen.Sent.{written};
 
 use crate::chunkplan::RunFault;
 use crate::chunkplan::between::{Between, find_between};
@@ -21,7 +21,7 @@ use crate::chunkplan::stage::Stage;
 use crate::chunkplan::stages_line::{StagesCounts, stages_line};
 use std::alloc::{AllocError, Global};
 use std::io::Write;
-use streams::Watched;
+use streams::Sink;
 use zarrs_chunk_base::Refusal;
 use zarrs_chunk_plan::{Counts, StagesError, all_chunks, counts_of_rechunking, hold_at_most};
 
@@ -38,8 +38,7 @@ pub(crate) fn write_within<W: Write>(
     most: u64,
     stage: Option<Stage>,
     wanted: &Wanted,
-    held_back: &mut Vec<u8>,
-    writer: &mut Watched<W>,
+    sink: &mut Sink<W>,
 ) -> Result<(), RunFault>
     requires one_array { sizes_of source.now ≡ sizes_of target.now }
     ensures { StepLeaves
@@ -48,20 +47,13 @@ pub(crate) fn write_within<W: Write>(
         (wanted_of wanted.now))
         (IsFaultWithin (dimensions_of source.now) (dimensions_of target.now) most stage
         (wanted_of wanted.now)) result
-        (output W.contents held_back.old.items writer.old)
-        (output W.contents held_back.new.items writer.new) }
+        (written W.contents sink.old) (written W.contents sink.new) }
 {
     match stage {
-        Some(stage) => write_stage(
-            alloc, source, target, most, stage, wanted, held_back, writer,
-        ),
+        Some(stage) => write_stage(alloc, source, target, most, stage, wanted, sink),
         None => match wanted {
-            Wanted::Lines(_) => {
-                write_one_stage(alloc, source, target, most, wanted, held_back, writer)
-            }
-            Wanted::Counts => {
-                write_stages_counts(alloc, source, target, most, held_back, writer)
-            }
+            Wanted::Lines(_) => { write_one_stage(alloc, source, target, most, wanted, sink) }
+            Wanted::Counts => { write_stages_counts(alloc, source, target, most, sink) }
         },
     }
 }
@@ -74,8 +66,7 @@ fn write_stage<W: Write>(
     most: u64,
     stage: Stage,
     wanted: &Wanted,
-    held_back: &mut Vec<u8>,
-    writer: &mut Watched<W>,
+    sink: &mut Sink<W>,
 ) -> Result<(), RunFault>
     requires one_array { sizes_of source.now ≡ sizes_of target.now }
     ensures { StepLeaves
@@ -83,15 +74,14 @@ fn write_stage<W: Write>(
         (dimensions_of target.now) (key_of target.now) most stage
         (wanted_of wanted.now))
         (IsBetweenFault (dimensions_of source.now) (dimensions_of target.now) most) result
-        (output W.contents held_back.old.items writer.old)
-        (output W.contents held_back.new.items writer.new) }
+        (written W.contents sink.old) (written W.contents sink.new) }
 {
     let Some(between) = find_between(alloc, source, target, most)? else {
         return Err(RunFault::NoShape);
     };
     match stage {
-        Stage::First => write_whole(alloc, source, &between.array, wanted, held_back, writer),
-        Stage::Second => write_whole(alloc, &between.array, target, wanted, held_back, writer),
+        Stage::First => write_whole(alloc, source, &between.array, wanted, sink),
+        Stage::Second => write_whole(alloc, &between.array, target, wanted, sink),
     }
 }
 
@@ -102,8 +92,7 @@ fn write_one_stage<W: Write>(
     target: &OpenedArray,
     most: u64,
     wanted: &Wanted,
-    held_back: &mut Vec<u8>,
-    writer: &mut Watched<W>,
+    sink: &mut Sink<W>,
 ) -> Result<(), RunFault>
     requires one_array { sizes_of source.now ≡ sizes_of target.now }
     ensures { StepLeaves
@@ -111,14 +100,13 @@ fn write_one_stage<W: Write>(
         × IsWholeText (dimensions_of source.now) (key_of source.now)
         (dimensions_of target.now) (key_of target.now) (wanted_of wanted.now) text)
         (IsOneStageFault (dimensions_of source.now) (dimensions_of target.now) most) result
-        (output W.contents held_back.old.items writer.old)
-        (output W.contents held_back.new.items writer.new) }
+        (written W.contents sink.old) (written W.contents sink.new) }
 {
     let fits = fits_one_stage(alloc, source, target, most)?;
     if !fits {
         return Err(RunFault::NotInOneStage);
     }
-    write_whole(alloc, source, target, wanted, held_back, writer)
+    write_whole(alloc, source, target, wanted, sink)
 }
 
 /// Sends the line of the counts of one stage and of two.
@@ -127,22 +115,20 @@ fn write_stages_counts<W: Write>(
     source: &OpenedArray,
     target: &OpenedArray,
     most: u64,
-    held_back: &mut Vec<u8>,
-    writer: &mut Watched<W>,
+    sink: &mut Sink<W>,
 ) -> Result<(), RunFault>
     requires one_array { sizes_of source.now ≡ sizes_of target.now }
     ensures { StepLeaves
         (IsStagesCountsText (dimensions_of source.now) (key_of source.now)
         (dimensions_of target.now) (key_of target.now) most)
         (IsStagesCountsFault (dimensions_of source.now) (dimensions_of target.now)) result
-        (output W.contents held_back.old.items writer.old)
-        (output W.contents held_back.new.items writer.new) }
+        (written W.contents sink.old) (written W.contents sink.new) }
 {
     let fits = fits_one_stage(alloc, source, target, most)?;
     let one_stage = counts_of_all(alloc, source, target)?;
     let stages = counts_between(alloc, source, target, most)?;
     let line = stages_line(alloc, fits, &one_stage, &stages);
-    send_text(line, held_back, writer)
+    send_text(line, sink)
 }
 
 /// The counts of the two stages; `None` where no array between fits.
@@ -202,22 +188,18 @@ fn write_whole<W: Write>(
     source: &OpenedArray,
     target: &OpenedArray,
     wanted: &Wanted,
-    held_back: &mut Vec<u8>,
-    writer: &mut Watched<W>,
+    sink: &mut Sink<W>,
 ) -> Result<(), RunFault>
     requires one_array { sizes_of source.now ≡ sizes_of target.now }
     ensures { StepLeaves
         (IsWholeText (dimensions_of source.now) (key_of source.now)
         (dimensions_of target.now) (key_of target.now) (wanted_of wanted.now))
         (λ _. ⊥) result
-        (output W.contents held_back.old.items writer.old)
-        (output W.contents held_back.new.items writer.new) }
+        (written W.contents sink.old) (written W.contents sink.new) }
 {
     let chunks = all_chunks(alloc, &target.grid)?;
     let order = Order::Target;
-    write_rechunking(
-        alloc, source, target, &chunks, order, wanted, held_back, writer,
-    )
+    write_rechunking(alloc, source, target, &chunks, order, wanted, sink)
 }
 
 /// The counts of a rechunking into all chunks of the target.

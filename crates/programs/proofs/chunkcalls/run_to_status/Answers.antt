@@ -3,27 +3,29 @@ use Rattle.streams.specs.Streams.{Streams}
 use Rattle.streams.specs.Watched.{watched}
 use Rattle.streams.specs.declared.stream_fault.StreamFault.{StreamFault}
 use Rattle.streams.specs.declared.stream_fault.StreamFault.TheVariants.{Read}
-use Rattle.streams.proofs.Known.{for_both}
+use Rattle.streams.specs.seen.Sent.{HoldsAll, Output, written}
+use Rattle.streams.proofs.Known.{for_known}
 use Rattle.programs.specs.chunkcalls.Lines.{HasAnsweredRead, HasBegunAnswers, HoldsAnswers}
 use Rattle.programs.specs.chunkcalls.Run.{RunLeaves, TellsFailure}
 use Rattle.programs.proofs.chunkcalls.run_to_status.Goals as goal
 
 -- what a run promises of each outcome, together
-leaves : (input held : List ℕ) (outcome : Result (Unit {0}) StreamFault) (s : Streams) → OnOk outcome (HoldsAnswers input held s.holds)
+leaves : (input held : List ℕ) (before : Output) → HoldsAll held before → (outcome : Result (Unit {0}) StreamFault) (s : Streams)
+    → OnOk outcome ((held : List ℕ) → HoldsAll held before → HoldsAnswers input held s.holds)
     → OnOk outcome (s.read_failed ≡ false) → OnOk outcome (s.write_failed ≡ false)
-    → IfErr outcome (λ fault. TellsFailure fault false s.read_failed s.write_failed) → OnErr outcome (HasBegunAnswers input held s.holds)
-    → IfErr outcome (λ fault. fault ≡ Read → HasAnsweredRead input held s.left s.holds) → RunLeaves input held outcome s
-leaves input held (Ok u) s says read written failed begun at_read = (says, read, written)
-leaves input held (Err fault) s says read written failed begun at_read = (failed, begun, at_read)
+    → IfErr outcome (λ fault. TellsFailure fault false s.read_failed s.write_failed)
+    → OnErr outcome ((held : List ℕ) → HoldsAll held before → HasBegunAnswers input held s.holds)
+    → IfErr outcome (λ fault. fault ≡ Read → (held : List ℕ) → HoldsAll held before → HasAnsweredRead input held s.left s.holds)
+    → RunLeaves input held outcome s
+leaves input held before all (Ok u) s says read written failed begun at_read = (says held all, read, written)
+leaves input held before all (Err fault) s says read written failed begun at_read = (failed, begun held all, λ is_read. at_read is_read held all)
 
 pub returns-clause-outcome : goal.returns-clause-outcome
 returns-clause-outcome g c =
-    for_both (g.R.Read.remaining (watched c.args.reader.now)) (g.W.Write.contents (watched c.args.writer.now)) _
-    (λ input held is_input is_held not_read not_written.
+    for_known (g.R.Read.remaining (watched c.args.reader.now)) _ (λ input is_input held all not_read not_written.
     let run = c.run-outcome.ensures in (
       c.run-outcome.result,
-      leaves input held c.run-outcome.result _ (rw (is_input, is_held) at run.says) (rw not_read at run.no_read_failed)
-          (rw not_written at run.no_write_failed) (rw not_read at run.failed) (rw (is_input, is_held) at run.begun)
-          (rw (is_input, is_held) at run.read),
+      leaves input held (written g.W.Write.contents c.args.sink.now) all c.run-outcome.result _ (rw is_input at run.says) (rw not_read at run.no_read_failed)
+          (rw not_written at run.no_write_failed) (rw not_read at run.failed) (rw is_input at run.begun) (rw is_input at run.read),
       c.finish.ensures.status,
     ))

@@ -15,16 +15,16 @@ write_beside_keys-requires g c =
 pub returns-in_err-document : goal.returns-in_err-document
 returns-in_err-document g c = λ bytes is.
     let line = c.args.line.items in
-    early_beside _ (IsFaultOfLine line) bytes _ _ _
-    (λ keys is. ⊎_elim (no_read_of_input line) (λ (tree, document, json, stands, beside). no_read_beside document keys beside) is)
-    (λ keys is. ⊎_elim (no_write_of_input line) (λ (tree, document, json, stands, beside). no_write_beside document keys beside) is)
-    _ _ c.from_residual.ensures.1 (rw c.deref.ensures.value at c.in_err-document.ensures) (λ is keys. inl is)
+    early_beside _ (IsFaultOfLine line bytes) bytes _ _ _
+    (λ is. ⊎_elim (no_read_of_input line) (λ (tree, document, json, stands, beside). no_read_beside document bytes beside) is)
+    (λ is. ⊎_elim (no_write_of_input line) (λ (tree, document, json, stands, beside). no_write_beside document bytes beside) is)
+    _ _ c.from_residual.ensures.1 (rw c.deref.ensures.value at c.in_err-document.ensures) (λ is. inl is)
 
 pub returns : goal.returns
 returns g c = λ bytes is.
     let line = c.args.line.items in
     let (tree, json, stands) = rw c.deref.ensures.value at c.in_ok-document.ensures in
     let document = document_of c.in_ok-document.document in
-    key_step_follows _ _ (IsFaultBeside document) (IsFaultOfLine line)
-    (λ keys text planned. (tree, document, json, stands, planned)) (λ keys fault beside. inr (tree, document, json, stands, beside))
+    key_step_follows _ _ (IsFaultBeside document bytes) (IsFaultOfLine line bytes)
+    (λ keys text planned. (tree, document, json, stands, planned)) (λ fault beside. inr (tree, document, json, stands, beside))
     bytes _ _ _ _ _ _ (c.write_beside_keys.ensures bytes is)

@@ -2,7 +2,7 @@ use Rattle.std.proofs.Common.{◌≡◌, ◌∙◌, ◌++◌, [], Some, ap, appe
 use Rattle.streams.specs.Watched.{has_failed, watched}
 use Rattle.programs.specs.chunkplan.Keys.{HasKeysBehind, behind_first, first_line}
 use Rattle.streams.specs.seen.Lines.{left}
-use Rattle.streams.specs.seen.Sent.{output}
+use Rattle.streams.specs.seen.Sent.{written}
 use Rattle.streams.proofs.Known.{for_known}
 use Rattle.streams.proofs.LineBytes.{both_parts, nothing_left}
 use Rattle.programs.proofs.chunkplan.Inputs.{sent_after_reading, sent_beside_keys}
@@ -21,8 +21,8 @@ returns-then-branch g c =
     let behind = rw all at c.in_ok-ended.ensures.behind in
     let has : HasKeysBehind (first_line input) = rw (c.deref.ensures.value ∙ line) at (c.in_ok-has_keys_behind.ensures.0 c.if-branch.true) in
     sent_beside_keys input has _ _ (c.in_ok-ended.ensures.failed ∙ not_read) _
-    (output g.W.Write.contents c.args.held_back.now.items c.args.writer.now)
-    (output g.W.Write.contents c.answer_beside_keys.new.held_back.items c.answer_beside_keys.new.writer) c.answer_beside_keys.result
+    (written g.W.Write.contents c.args.sink.now)
+    (written g.W.Write.contents c.answer_beside_keys.new.sink) c.answer_beside_keys.result
     ((rw line at c.answer_beside_keys.ensures) (behind_first input) behind))
 
 pub returns : goal.returns
@@ -55,5 +55,5 @@ returns g c =
           )
     ]
     in
-    sent_after_reading input _ _ (output g.W.Write.contents c.args.held_back.now.items c.args.writer.now)
-    (output g.W.Write.contents c.answer.new.held_back.items c.answer.new.writer) c.answer.result read.0 read.1 ((rw read.2 at c.answer.ensures) none))
+    sent_after_reading input _ _ (written g.W.Write.contents c.args.sink.now)
+    (written g.W.Write.contents c.answer.new.sink) c.answer.result read.0 read.1 ((rw read.2 at c.answer.ensures) none))

@@ -11,7 +11,7 @@ use Rattle.zarrs_chunk_parts.specs.declared.part.Part.{Part}
 use Rattle.zarrs_chunk_plan.specs.declared.share.Share.{Share}
 use Rattle.zarrs_chunk_plan.specs.declared.stored_chunks.StoredChunks.{StoredChunks}
 use Rattle.zarrs_chunk_plan.specs.seen.StoredChunks.{Knows, is_stored}
-use Rattle.programs.specs.chunkplan.Keys.{AreForeign, AreKeys, foreign_lines}
+use Rattle.programs.specs.chunkplan.Keys.{AreForeign, AreKeys, IsFirstNoText, foreign_lines}
 use Rattle.programs.specs.chunkplan.Line.{group_line, lines_from}
 use Rattle.programs.specs.chunkplan.seen.Steps.{HasBegun, HasSent}
 use Rattle.streams.specs.seen.Sent.{Output}
@@ -54,17 +54,16 @@ abbrev pub with_line : List (List ℕ) → (line : List ℕ) → List (List ℕ)
 with_line keys [] = keys
 with_line keys (byte ∷ line) = keys ++ (byte ∷ line) ∷ []
 
--- why noting the keys in some lines stops, by whether a read had failed before, and after it: a read failed; memory ran out; a key is no text
+-- why noting the keys in some lines stops, by whether a read had failed before, and after it: a read failed; memory ran out; a line is no text
 abbrev pub IsKeysStop : RunFault → (bytes : Option (List ℕ)) → (read_before read_after : Bool) → Type 0
 IsKeysStop Read bytes read_before read_after = read_after ≡ true
 IsKeysStop Memory bytes read_before read_after = read_after ≡ read_before
-IsKeysStop KeyNotText bytes read_before read_after = (read_after ≡ read_before)
-    × IfSome bytes (λ bs. (keys : List (List ℕ)) × AreKeys bs keys × (key : List ℕ) × Contains keys key × (¬ IsUtf8 key))
+IsKeysStop (KeyNotText line) bytes read_before read_after = (read_after ≡ read_before) × IfSome bytes (λ bs. IsFirstNoText 2 bs line)
 IsKeysStop _ bytes read_before read_after = ⊥
 
 -- By the outcome of a step that reads the keys in some lines and then sends a text: it read all of them, and such a text was sent, or is held back;
 -- a read failed; memory ran out; a write failed; or there is another fault, of which IsFault holds, and nothing was sent.
-abbrev pub KeyStepLeaves : (Planned : List (List ℕ) → List ℕ → Type 0) (IsFault : List (List ℕ) → RunFault → Type 0) (bytes : List ℕ)
+abbrev pub KeyStepLeaves : (Planned : List (List ℕ) → List ℕ → Type 0) (IsFault : RunFault → Type 0) (bytes : List ℕ)
     → Result (Unit {0}) RunFault → (read_before read_after : Bool) (left_after : Option (List ℕ)) → Output → Output → Type 0
 KeyStepLeaves Planned IsFault bytes (Ok _) read_before read_after left_after before after =
     (read_after ≡ read_before) × (left_after ≡ Some []) × (keys : List (List ℕ)) × AreKeys bytes keys × HasSent (Planned keys) before after
@@ -77,5 +76,4 @@ KeyStepLeaves Planned IsFault bytes (Err Write) read_before read_after left_afte
     (read_after ≡ read_before) × (left_after ≡ Some []) × (after.failed ≡ true)
     × (keys : List (List ℕ)) × AreKeys bytes keys × HasBegun (Planned keys) before after
 KeyStepLeaves Planned IsFault bytes (Err fault) read_before read_after left_after before after =
-    (read_after ≡ read_before) × (after.failed ≡ before.failed) × (after.holds ≡ before.holds)
-    × (keys : List (List ℕ)) × AreKeys bytes keys × IsFault keys fault
+    (read_after ≡ read_before) × (after.failed ≡ before.failed) × (after.holds ≡ before.holds) × IsFault fault

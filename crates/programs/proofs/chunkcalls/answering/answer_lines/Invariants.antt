@@ -1,6 +1,6 @@
 use Rattle.std.proofs.Common.{◌≡◌, ℕ, List, [], Some}
 use Rattle.streams.specs.Watched.{has_failed, watched}
-use Rattle.streams.specs.seen.Sent.{output}
+use Rattle.streams.specs.seen.Sent.{written}
 use Rattle.programs.proofs.chunkcalls.PartWay.{IsPartWay}
 use Rattle.programs.proofs.chunkcalls.answering.answer_lines.Given as goal
 
@@ -8,8 +8,8 @@ use Rattle.programs.proofs.chunkcalls.answering.answer_lines.Given as goal
 abbrev pub invariant-loop : goal.invariant-loop
 invariant-loop g l =
     ((input : List ℕ) → g.R.Read.remaining (watched l.initial.reader) ≡ Some input
-    → IsPartWay input (output g.W.Write.contents l.initial.held_back.items l.initial.writer) (g.R.Read.remaining (watched l.reader)) l.line.items
-    (output g.W.Write.contents l.held_back.items l.writer))
+    → IsPartWay input (written g.W.Write.contents l.initial.sink) (g.R.Read.remaining (watched l.reader)) l.line.items
+    (written g.W.Write.contents l.sink))
     × (has_failed l.reader ≡ has_failed l.initial.reader)
-    × (has_failed l.writer ≡ has_failed l.initial.writer)
-    × (l.initial.held_back.items ≡ [] → l.held_back.items ≡ [])
+    × ((written g.W.Write.contents l.sink).failed ≡ (written g.W.Write.contents l.initial.sink).failed)
+    × ((written g.W.Write.contents l.initial.sink).held_back ≡ [] → (written g.W.Write.contents l.sink).held_back ≡ [])

@@ -4,13 +4,13 @@ use Rattle.std.proofs.lemmas.List.{take-append-drop}
 use Rattle.std.proofs.lemmas.Result.{err_from_is_err_and}
 use Rattle.programs.specs.chunkcalls.Lines.{IsReplyTo}
 use Rattle.programs.specs.chunkcalls.seen.Answered.{HasStoppedAt, HasStoppedIn}
-use Rattle.streams.specs.seen.Sent.{Output, output}
+use Rattle.streams.specs.seen.Sent.{Output, written}
 use Rattle.programs.proofs.chunkcalls.PartWay.{no_byte, one_byte, one_line, stopped_at, stopped_behind, take_next}
 use Rattle.programs.proofs.chunkcalls.answering.answer_piece.Goals as goal
 
 pub loop-byte-init : goal.loop-byte-init
 loop-byte-init g c = (
-  λ whole begun. no_byte whole (output g.W.Write.contents c.args.held_back.now.items c.args.writer.now) c.args.line.now.items begun,
+  λ whole begun. no_byte whole (written g.W.Write.contents c.args.sink.now) c.args.line.now.items begun,
   refl,
 )
 
@@ -24,8 +24,8 @@ loop-byte-preserved-then-byte-ne10 g c =
       λ whole begun.
           let so_far = c.loop-byte.invariant.0 whole begun in
           rw more
-          (one_byte whole (output g.W.Write.contents c.args.held_back.now.items c.args.writer.now) (take i piece) c.loop-byte.line.items
-          (output g.W.Write.contents c.loop-byte.held_back.items c.loop-byte.writer) so_far (get_or piece i 0) c.push_within.new.line.items
+          (one_byte whole (written g.W.Write.contents c.args.sink.now) (take i piece) c.loop-byte.line.items
+          (written g.W.Write.contents c.loop-byte.sink) so_far (get_or piece i 0) c.push_within.new.line.items
           (c.in_ok-push_within.ensures so_far.left other so_far.begun)),
       c.loop-byte.invariant.1,
     )
@@ -40,10 +40,10 @@ loop-byte-preserved g c =
     let (answer, is, sent) = c.in_ok-answer_line.ensures.answered in (
       λ whole begun.
           rw (more, c.clear.ensures.items)
-          (one_line whole (output g.W.Write.contents c.args.held_back.now.items c.args.writer.now) (take i piece) c.loop-byte.line.items
-          (output g.W.Write.contents c.loop-byte.held_back.items c.loop-byte.writer) (c.loop-byte.invariant.0 whole begun) answer
+          (one_line whole (written g.W.Write.contents c.args.sink.now) (take i piece) c.loop-byte.line.items
+          (written g.W.Write.contents c.loop-byte.sink) (c.loop-byte.invariant.0 whole begun) answer
           (subst (λ line. IsReplyTo line answer) c.deref.ensures.value is)
-          (output g.W.Write.contents c.answer_line.new.held_back.items c.answer_line.new.writer) sent),
+          (written g.W.Write.contents c.answer_line.new.sink) sent),
       c.in_ok-answer_line.ensures.failed ∙ c.loop-byte.invariant.1,
     )
 
@@ -51,8 +51,8 @@ pub returns-in_err-push_within-clause-stopped : goal.returns-in_err-push_within-
 returns-in_err-push_within-clause-stopped g c =
     let p = err_from_is_err_and c.from_residual.result c.from_residual.ensures.1 in
     let i = c.loop-byte.byte-index in
-    let before : Output = output g.W.Write.contents c.args.held_back.now.items c.args.writer.now in
-    let now : Output = output g.W.Write.contents c.loop-byte.held_back.items c.loop-byte.writer in
+    let before : Output = written g.W.Write.contents c.args.sink.now in
+    let now : Output = written g.W.Write.contents c.loop-byte.sink in
     rw p.1
     (λ whole begun. subst (λ piece. HasStoppedIn whole piece p.0 before now) (take-append-drop i c.args.piece.now)
     (stopped_behind whole before (take i c.args.piece.now) c.loop-byte.line.items now (c.loop-byte.invariant.0 whole begun) p.0
@@ -63,9 +63,9 @@ returns-in_err-answer_line-clause-stopped g c =
     let p = err_from_is_err_and c.from_residual-in_err-answer_line.result c.from_residual-in_err-answer_line.ensures.1 in
     let i = c.loop-byte.byte-index in
     let piece = c.args.piece.now in
-    let before : Output = output g.W.Write.contents c.args.held_back.now.items c.args.writer.now in
-    let now : Output = output g.W.Write.contents c.loop-byte.held_back.items c.loop-byte.writer in
-    let after : Output = output g.W.Write.contents c.answer_line.new.held_back.items c.answer_line.new.writer in
+    let before : Output = written g.W.Write.contents c.args.sink.now in
+    let now : Output = written g.W.Write.contents c.loop-byte.sink in
+    let after : Output = written g.W.Write.contents c.answer_line.new.sink in
     let fault = c.in_err-answer_line.field-0.0 in
     let feed : get_or piece i 0 ≡ 10 = grind (arith, nat_tests) in
     let more : take (i + 1) piece ≡ take i piece ++ 10 ∷ [] = rw feed at (take_next piece i (omega arith)) in

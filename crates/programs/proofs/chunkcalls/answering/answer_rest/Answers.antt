@@ -3,7 +3,7 @@ use Rattle.std.proofs.lemmas.Bool.Decides.{nat_tests}
 use Rattle.std.proofs.lemmas.List.{nil_from_length}
 use Rattle.std.proofs.lemmas.Result.{on_ok_weaker}
 use Rattle.programs.specs.chunkcalls.Lines.{AreAnswers, last_line, no_line}
-use Rattle.streams.specs.seen.Sent.{output}
+use Rattle.streams.specs.seen.Sent.{written}
 use Rattle.streams.proofs.Sent.{sends_nothing}
 use Rattle.programs.proofs.chunkcalls.KeptLines.{kept_bytes, of_whole}
 use Rattle.programs.proofs.chunkcalls.answering.answer_rest.Goals as goal
@@ -15,7 +15,7 @@ returns-then-is_empty-clause-answered g c = λ whole begun.
     let none : length whole ≡ 0 = omega arith in (
       [],
       subst (λ line. AreAnswers line []) (sym (nil_from_length whole none)) no_line,
-      sends_nothing (output g.W.Write.contents c.args.held_back.now.items c.args.writer.now),
+      sends_nothing (written g.W.Write.contents c.args.sink.now),
     )
 
 pub returns-clause-answered : goal.returns-clause-answered

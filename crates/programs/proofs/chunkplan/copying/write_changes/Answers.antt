@@ -9,7 +9,7 @@ use Rattle.zarrs_chunks.specs.seen.Grids.{chained_in}
 use Rattle.programs.specs.chunkplan.Line.{change_line, lines_from, resize_lines}
 use Rattle.programs.specs.chunkplan.seen.Opened.{dimensions_in, key_in}
 use Rattle.programs.specs.chunkplan.seen.Steps.{StepLeaves}
-use Rattle.streams.specs.seen.Sent.{Output, output}
+use Rattle.streams.specs.seen.Sent.{Output, written}
 use Rattle.programs.specs.declared.chunkplan.run_fault.RunFault.{RunFault}
 use Rattle.programs.specs.declared.chunkplan.run_fault.RunFault.TheVariants.{Memory}
 use Rattle.streams.proofs.Sent.{sends_nothing}
@@ -50,7 +50,7 @@ loop-change-init g c = (
       omega arith,
       refl,
     ),
-    sends_nothing (output g.W.Write.contents c.args.held_back.now.items c.args.writer.now),
+    sends_nothing (written g.W.Write.contents c.args.sink.now),
     refl,
   ),
 )
@@ -79,7 +79,7 @@ returns-in_err-change g c =
     let (n, number_is, sent) = c.loop-change.invariant in
     let walk = c.args.walk in
     rw (handed _ _ c.from_residual.ensures.1)
-    (in_lines (IsChangeOf dimensions_in dimensions_in key_in walk) (all_changes walk) (changes_to_come walk) c.requires.all (Err Memory) _ (output g.W.Write.contents c.loop-change.held_back.items c.loop-change.writer)
+    (in_lines (IsChangeOf dimensions_in dimensions_in key_in walk) (all_changes walk) (changes_to_come walk) c.requires.all (Err Memory) _ (written g.W.Write.contents c.loop-change.sink)
     (way_memory (line_of_one (all_changes walk)) 0 _ _ n _ _ sent
     (changes_ahead dimensions_in dimensions_in key_in walk (chained_in walk.before.now) (chained_in walk.after.now)
     c.requires.fit c.requires.also_fit (keys_in walk.encoding.now) c.requires.can c.requires.used c.loop-change.change-iterator)))
@@ -91,8 +91,8 @@ returns-in_err-send_text g c =
     let walk = c.args.walk in
     let gives = rw c.in_ok-change.was at c.in-Some.ensures.steps in
     let of = counted (length (all_changes walk)) in
-    let between : Output = output g.W.Write.contents c.loop-change.held_back.items c.loop-change.writer in
-    let last : Output = output g.W.Write.contents c.send_text.new.held_back.items c.send_text.new.writer in
+    let between : Output = written g.W.Write.contents c.loop-change.sink in
+    let last : Output = written g.W.Write.contents c.send_text.new.sink in
     let told = ap (λ of. change_line c.loop-change.number of change) c.in_all-of.ensures ∙ ap (λ number. change_line number of change) number_is in
     let ahead = changes_ahead dimensions_in dimensions_in key_in walk (chained_in walk.before.now) (chained_in walk.after.now)
     c.requires.fit c.requires.also_fit (keys_in walk.encoding.now) c.requires.can c.requires.used in

@@ -5,7 +5,7 @@ use Rattle.zarrs_chunk_plan.specs.seen.Changes.{all_changes}
 use Rattle.programs.specs.chunkplan.Line.{change_line}
 use Rattle.programs.specs.chunkplan.seen.Opened.{dimensions_in, key_in}
 use Rattle.programs.specs.chunkplan.seen.Steps.{HasSent}
-use Rattle.streams.specs.seen.Sent.{output}
+use Rattle.streams.specs.seen.Sent.{written}
 use Rattle.programs.proofs.chunkplan.Numbered.{Came}
 use Rattle.programs.proofs.chunkplan.copying.write_changes.Given as goal
 
@@ -16,4 +16,4 @@ invariant-loop-change g l =
     × HasSent
     (Came (λ n. change_line (counted n) (counted (length (all_changes l.fn.walk)))) 0
     (ChangesHaveCome dimensions_in dimensions_in key_in l.fn.walk l.change-iterator) n)
-    (output g.W.Write.contents l.initial.held_back.items l.initial.writer) (output g.W.Write.contents l.held_back.items l.writer)
+    (written g.W.Write.contents l.initial.sink) (written g.W.Write.contents l.sink)

@@ -6,7 +6,7 @@ use Rattle.zarrs_chunk_plan.specs.seen.Copies.{all_targets}
 use Rattle.zarrs_chunk_plan.proofs.Copied.{first_move, last_move, one_more_move}
 use Rattle.programs.specs.chunkplan.seen.Missing.{line_unless_stored}
 use Rattle.programs.specs.chunkplan.seen.Opened.{PartsToCome, dimensions_in, key_in}
-use Rattle.streams.specs.seen.Sent.{Output, output}
+use Rattle.streams.specs.seen.Sent.{Output, written}
 use Rattle.streams.proofs.Sent.{sends_nothing}
 use Rattle.programs.proofs.chunkplan.Begun.{copies_ahead}
 use Rattle.programs.proofs.chunkplan.Exits.{handed}
@@ -27,7 +27,7 @@ loop-group-init g c = λ begin is_first. (
       omega arith,
       refl,
     ),
-    sends_nothing (output g.W.Write.contents c.args.held_back.now.items c.args.writer.now),
+    sends_nothing (written g.W.Write.contents c.args.sink.now),
     refl,
   ),
 )
@@ -78,8 +78,8 @@ returns-in_err-write_unless_stored g c = λ begin is_first.
     let (n, number_is, sent) = c.loop-group.invariant begin is_first in
     let group = c.in_ok-group.field-0 in
     let gives = rw c.in_ok-group.was at c.in-Some.ensures.steps in
-    let between : Output = output g.W.Write.contents c.loop-group.held_back.items c.loop-group.writer in
-    let after : Output = output g.W.Write.contents c.write_unless_stored.new.held_back.items c.write_unless_stored.new.writer in
+    let between : Output = written g.W.Write.contents c.loop-group.sink in
+    let after : Output = written g.W.Write.contents c.write_unless_stored.new.sink in
     let of = counted (length (all_targets c.args.walk)) in
     let Line : ℕ → Group → List ℕ = λ n. line_unless_stored c.args.order (option_map (λ s. s.now) c.args.stored) (counted n) of in
     let IsOne : Group → Type 0 = λ y. (from : List Part) × PartsToCome group.from from × (y ≡ (group.to, from)) in

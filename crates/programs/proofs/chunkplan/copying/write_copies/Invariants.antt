@@ -3,7 +3,7 @@ use Rattle.zarrs_chunk_plan.specs.Counted.{counted}
 use Rattle.zarrs_chunk_plan.specs.seen.Copies.{all_targets}
 use Rattle.programs.specs.chunkplan.seen.Missing.{line_unless_stored}
 use Rattle.programs.specs.chunkplan.seen.Steps.{HasSent}
-use Rattle.streams.specs.seen.Sent.{output}
+use Rattle.streams.specs.seen.Sent.{written}
 use Rattle.programs.proofs.chunkplan.Begun.{CopiesHaveCome}
 use Rattle.programs.proofs.chunkplan.Numbered.{Came}
 use Rattle.programs.proofs.chunkplan.copying.write_copies.Given as goal
@@ -15,4 +15,4 @@ invariant-loop-group g l =
     × HasSent
     (Came (λ n. line_unless_stored l.fn.order (option_map (λ s. s.now) l.fn.stored) (counted n) (counted (length (all_targets l.fn.walk)))) begin
     (CopiesHaveCome l.fn.walk l.group-iterator) n)
-    (output g.W.Write.contents l.initial.held_back.items l.initial.writer) (output g.W.Write.contents l.held_back.items l.writer)
+    (written g.W.Write.contents l.initial.sink) (written g.W.Write.contents l.sink)

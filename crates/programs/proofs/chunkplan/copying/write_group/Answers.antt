@@ -10,7 +10,7 @@ use Rattle.programs.specs.chunkplan.Line.{group_line, lines_from}
 use Rattle.programs.specs.chunkplan.seen.Opened.{CanGiveParts, PartsToCome, dimensions_in, key_in}
 use Rattle.programs.specs.chunkplan.seen.Pieces.{begin_of_line, end_of_line, piece_text}
 use Rattle.programs.specs.declared.chunkplan.line.Order.{Order}
-use Rattle.streams.specs.seen.Sent.{output}
+use Rattle.streams.specs.seen.Sent.{written}
 use Rattle.programs.proofs.chunkplan.Begun.{parts_ahead}
 use Rattle.programs.proofs.chunkplan.Behind.{Begins, Behind, ends_behind, sent_behind, stops_behind, stops_whole}
 use Rattle.programs.proofs.chunkplan.Exits.{handed}
@@ -50,8 +50,8 @@ module _ (walk : Parts ChunkGrid ChunkKeyEncoding) (order : Order) (of : Part) (
 pub returns-in_err-send_text : goal.returns-in_err-send_text
 returns-in_err-send_text g c =
     let group = c.args.group in
-    let before = output g.W.Write.contents c.args.held_back.now.items c.args.writer.now in
-    let after = output g.W.Write.contents c.send_text.new.held_back.items c.send_text.new.writer in
+    let before = written g.W.Write.contents c.args.sink.now in
+    let after = written g.W.Write.contents c.send_text.new.sink in
     rw (handed _ _ c.from_residual.ensures.1)
     (stops_whole _ _ (head_begins group.from c.args.order group.to c.args.number c.args.of c.requires.is_box c.requires.meet) _ _ _
     (step_made (Head group.from c.args.order group.to c.args.number c.args.of) c.line_begin.result c.line_begin.ensures before after (Err _)

@@ -4,7 +4,7 @@ use Rattle.zarrs_chunk_parts.specs.declared.part.Part.{Part}
 use Rattle.zarrs_chunk_plan.proofs.Walked.{at_first, at_last, one_more}
 use Rattle.programs.specs.chunkplan.seen.Opened.{dimensions_in, key_in}
 use Rattle.programs.specs.chunkplan.seen.Pieces.{text_as}
-use Rattle.streams.specs.seen.Sent.{Output, output}
+use Rattle.streams.specs.seen.Sent.{Output, written}
 use Rattle.streams.proofs.Sent.{sends_nothing}
 use Rattle.programs.proofs.chunkplan.Begun.{parts_ahead}
 use Rattle.programs.proofs.chunkplan.Exits.{handed}
@@ -25,7 +25,7 @@ loop-part-init g c = λ begin is_first. (
       omega arith,
       refl,
     ),
-    sends_nothing (output g.W.Write.contents c.args.held_back.now.items c.args.writer.now),
+    sends_nothing (written g.W.Write.contents c.args.sink.now),
     refl,
   ),
 )
@@ -59,8 +59,8 @@ returns-in_err-send_text g c = λ begin is_first.
     let (n, number_is, sent) = c.loop-part.invariant begin is_first in
     let part = c.in_ok-part.field-0 in
     let gives = rw c.in_ok-part.was at c.in-Some.ensures.steps in
-    let between : Output = output g.W.Write.contents c.loop-part.held_back.items c.loop-part.writer in
-    let after : Output = output g.W.Write.contents c.send_text.new.held_back.items c.send_text.new.writer in
+    let between : Output = written g.W.Write.contents c.loop-part.sink in
+    let after : Output = written g.W.Write.contents c.send_text.new.sink in
     let Line : ℕ → Part → List ℕ = λ n. text_as c.args.form (counted n) in
     let of_number = ap (λ number. text_as c.args.form number part) number_is in
     let ahead = parts_ahead c.args.walk c.requires.is_box in

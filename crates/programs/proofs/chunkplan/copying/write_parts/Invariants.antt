@@ -2,7 +2,7 @@ use Rattle.std.proofs.Common.{◌≡◌, ℕ}
 use Rattle.zarrs_chunk_plan.specs.Counted.{counted}
 use Rattle.programs.specs.chunkplan.seen.Pieces.{text_as}
 use Rattle.programs.specs.chunkplan.seen.Steps.{HasSent}
-use Rattle.streams.specs.seen.Sent.{output}
+use Rattle.streams.specs.seen.Sent.{written}
 use Rattle.programs.proofs.chunkplan.Begun.{PartsHaveCome}
 use Rattle.programs.proofs.chunkplan.Numbered.{Came}
 use Rattle.programs.proofs.chunkplan.copying.write_parts.Given as goal
@@ -14,4 +14,4 @@ invariant-loop-part g l =
     × HasSent
     (Came (λ n. text_as l.fn.form (counted n)) begin
     (PartsHaveCome l.fn.walk l.part-iterator) n)
-    (output g.W.Write.contents l.initial.held_back.items l.initial.writer) (output g.W.Write.contents l.held_back.items l.writer)
+    (written g.W.Write.contents l.initial.sink) (written g.W.Write.contents l.sink)

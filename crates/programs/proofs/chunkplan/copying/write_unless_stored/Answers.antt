@@ -2,7 +2,7 @@ use Rattle.std.proofs.Common.{◌∙◌, [], cond, ap, refl, sym}
 use Rattle.zarrs_chunk_plan.proofs.Walked.{at_first}
 use Rattle.programs.specs.chunkplan.Line.{group_line}
 use Rattle.programs.specs.chunkplan.seen.Opened.{dimensions_in, key_in}
-use Rattle.streams.specs.seen.Sent.{output}
+use Rattle.streams.specs.seen.Sent.{written}
 use Rattle.streams.proofs.Sent.{sends_nothing}
 use Rattle.programs.proofs.chunkplan.Begun.{parts_ahead}
 use Rattle.programs.proofs.chunkplan.Steps.{text_follows}
@@ -17,7 +17,7 @@ returns-then-is_left_out g c =
     let left = sym c.is_left_out.ensures ∙ c.if-is_left_out.true in (
       [],
       (from, are, sym (ap (λ b. cond b [] (group_line c.args.order c.args.number c.args.of (group.to, from))) left)),
-      sends_nothing (output g.W.Write.contents c.args.held_back.now.items c.args.writer.now),
+      sends_nothing (written g.W.Write.contents c.args.sink.now),
       refl,
     )
 

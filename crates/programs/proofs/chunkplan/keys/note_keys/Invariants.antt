@@ -1,20 +1,22 @@
 use Rattle.std.proofs.Common.{◌≡◌, [], ℕ, List, Some}
 use Rattle.streams.specs.Watched.{has_failed, watched}
+use Rattle.programs.specs.chunkplan.Keys.{IsFirstNoText}
 use Rattle.programs.specs.chunkplan.seen.Missing.{HaveNoted}
 use Rattle.programs.specs.chunkplan.seen.Opened.{dimensions_of, key_of}
 use Rattle.streams.specs.seen.Lines.{left}
 use Rattle.programs.proofs.chunkplan.KeyLines.{HaveCome}
 use Rattle.programs.proofs.chunkplan.keys.note_keys.Given as goal
 
--- some keys were read and noted, the others are left, and no read failed
-abbrev pub invariant-loop : goal.invariant-loop
-invariant-loop g l =
+-- some keys were read and noted, the others are left, all lines so far are texts, and no read failed
+abbrev pub invariant-loop-number : goal.invariant-loop-number
+invariant-loop-number g l =
     ((bytes : List ℕ) → left l.initial.lines (g.R.Read.remaining (watched l.initial.reader)) ≡ Some bytes
     → (came : List (List ℕ)) × (rest : List ℕ) × (left l.lines (g.R.Read.remaining (watched l.reader)) ≡ Some rest) × HaveCome bytes came rest
     × ((targets : List (List ℕ))
     → HaveNoted (dimensions_of l.fn.target) (key_of l.fn.target) targets []
     l.initial.stored l.initial.foreign.items
     → HaveNoted (dimensions_of l.fn.target) (key_of l.fn.target) targets came
-    l.stored l.foreign.items))
+    l.stored l.foreign.items)
+    × ((number : ℕ) → IsFirstNoText l.number rest number → IsFirstNoText 2 bytes number))
     × (l.line.items ≡ [])
     × (has_failed l.reader ≡ has_failed l.initial.reader)

@@ -16,11 +16,10 @@ use Rattle.programs.specs.chunkplan.Keys.{IsMissingText}
 use Rattle.programs.specs.chunkplan.seen.Missing.{HaveNoted, share_unless_stored}
 use Rattle.programs.specs.chunkplan.seen.Opened.{CanGiveCopies, CopiesToCome, dimensions_in, dimensions_of, key_in, key_of}
 use Rattle.programs.specs.declared.chunkplan.line.Order.TheVariants.{Target}
-use Rattle.streams.specs.seen.Sent.{Output, output}
+use Rattle.streams.specs.seen.Sent.{Output, written}
 use Rattle.programs.proofs.chunkplan.Begun.{copies_ahead}
 use Rattle.programs.proofs.chunkplan.Behind.{Begins, Behind, ends_behind, stops_whole}
 use Rattle.programs.proofs.chunkplan.Exits.{handed}
-use Rattle.programs.proofs.chunkplan.KeyLines.{some_keys}
 use Rattle.programs.proofs.chunkplan.KeySteps.{noting_stops, sent_after_keys}
 use Rattle.programs.proofs.chunkplan.StoredLines.{FaultOf, TextOf, missing_text, none_noted}
 use Rattle.programs.proofs.chunkplan.missing.write_missing.Goals as goal
@@ -61,11 +60,10 @@ module _ (walk : Copies ChunkGrid ChunkKeyEncoding ChunkGrid ChunkKeyEncoding) (
 pub returns-in_default : goal.returns-in_default
 returns-in_default g c = λ bytes is.
     let walk = c.args.walk in
-    let (keys, are) = some_keys bytes in
     let (groups, moves) = some_groups walk c.requires.is_box c.requires.region c.requires.can in
     let long = ap length c.requires.all ∙ sym (AllZip-long _ (targets_to_come walk) groups moves) in
     let many : 2 ^ 29 ≤ length (all_targets walk) = rw c.in_default.is at c.in_ok-stored.ensures.none in
-    (refl, refl, refl, keys, are, (groups, moves, omega (arith, long, many)))
+    (refl, refl, refl, (groups, moves, omega (arith, long, many)))
 
 pub returns-in_err-note_keys : goal.returns-in_err-note_keys
 returns-in_err-note_keys g c = λ bytes is.
@@ -75,8 +73,8 @@ returns-in_err-note_keys g c = λ bytes is.
     let few : length (all_targets walk) < 2 ^ 29 = rw c.in-Some.is at c.in_ok-stored.ensures.few in
     rw (handed _ _ c.from_residual-in_err-note_keys.ensures.1)
     (noting_stops (TextOf walk (dimensions_of c.args.target.now) (key_of c.args.target.now) c.args.share.now)
-    (FaultOf walk) bytes _ _ _ _ _ (rw is at c.in_err-note_keys.ensures.refused)
-    (λ keys key there not_text. (groups, moves, (omega (arith, long, few), key, there, not_text))))
+    (FaultOf walk bytes) bytes _ _ _ _ _ (rw is at c.in_err-note_keys.ensures.refused)
+    (λ number first. (groups, moves, (omega (arith, long, few), first))))
 
 pub returns-in_err-write_share : goal.returns-in_err-write_share
 returns-in_err-write_share g c = λ bytes is.
@@ -90,14 +88,14 @@ returns-in_err-write_share g c = λ bytes is.
     let (keys, are, noted) = c.in_ok-note_keys.ensures.noted bytes (all_targets walk) is
     (none_noted target IsKeyOf (all_targets walk) c.in-Some.stored _ knows c.new-foreign.ensures.items)
     in
-    let before : Output = output g.W.Write.contents c.args.held_back.now.items c.args.writer.now in
-    let after : Output = output g.W.Write.contents c.write_share.new.held_back.items c.write_share.new.writer in
+    let before : Output = written g.W.Write.contents c.args.sink.now in
+    let after : Output = written g.W.Write.contents c.write_share.new.sink in
     let begins = lines_begin walk c.requires.all few target IsKeyOf keys c.note_keys.new.stored c.note_keys.new.foreign.items noted
     c.args.share.now
     in
     rw (handed _ _ c.from_residual-in_err-write_share.ensures.1)
     (sent_after_keys (TextOf walk (dimensions_of c.args.target.now) (key_of c.args.target.now) c.args.share.now)
-    (FaultOf walk) bytes _ _ before after keys _ are c.in_ok-note_keys.ensures.failed (rw is at c.in_ok-note_keys.ensures.end) (Err _)
+    (FaultOf walk bytes) bytes _ _ before after keys _ are c.in_ok-note_keys.ensures.failed (rw is at c.in_ok-note_keys.ensures.end) (Err _)
     (stops_whole _ _ begins before after _ c.in_err-write_share.ensures))
 
 pub returns : goal.returns
@@ -112,9 +110,9 @@ returns g c = λ bytes is.
     let (keys, are, noted) = c.in_ok-note_keys.ensures.noted bytes (all_targets walk) is
     (none_noted target IsKeyOf (all_targets walk) c.in-Some.stored _ knows c.new-foreign.ensures.items)
     in
-    let before : Output = output g.W.Write.contents c.args.held_back.now.items c.args.writer.now in
-    let between : Output = output g.W.Write.contents c.write_share.new.held_back.items c.write_share.new.writer in
-    let after : Output = output g.W.Write.contents c.send_text.new.held_back.items c.send_text.new.writer in
+    let before : Output = written g.W.Write.contents c.args.sink.now in
+    let between : Output = written g.W.Write.contents c.write_share.new.sink in
+    let after : Output = written g.W.Write.contents c.send_text.new.sink in
     let begins = lines_begin walk c.requires.all few target IsKeyOf keys c.note_keys.new.stored c.note_keys.new.foreign.items noted
     c.args.share.now
     in
@@ -122,6 +120,6 @@ returns g c = λ bytes is.
     c.args.share.now
     in
     sent_after_keys (TextOf walk (dimensions_of c.args.target.now) (key_of c.args.target.now) c.args.share.now)
-    (FaultOf walk) bytes _ _ before after keys _ are c.in_ok-note_keys.ensures.failed (rw is at c.in_ok-note_keys.ensures.end) c.send_text.result
+    (FaultOf walk bytes) bytes _ _ before after keys _ are c.in_ok-note_keys.ensures.failed (rw is at c.in_ok-note_keys.ensures.end) c.send_text.result
     (ends_behind _ (λ text. text ≡ c.note_keys.new.foreign.items) _ before between after c.in_ok-write_share.ensures begins ends c.send_text.result
     c.send_text.ensures)

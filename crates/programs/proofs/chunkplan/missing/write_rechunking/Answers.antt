@@ -22,9 +22,9 @@ use Rattle.programs.proofs.chunkplan.missing.write_rechunking.Goals as goal
 
 pub returns-in_err-target : goal.returns-in_err-target
 returns-in_err-target g c = λ document bytes stored shape_is sizes task wanted is.
-    early_beside _ (IsFaultBeside document) bytes _ _ _ (no_read_beside document) (no_write_beside document) _ _ c.from_residual.ensures.1
+    early_beside _ (IsFaultBeside document bytes) bytes _ _ _ (no_read_beside document bytes) (no_write_beside document bytes) _ _ c.from_residual.ensures.1
     (rw (← shape_is) at c.in_err-target.ensures.refused)
-    (λ is keys. of_plan (of_target (stored_of c.args.target) c.args.chunks (grid_in c.args.array.now.grid) (encoding_in c.args.array.now.encoding)
+    (λ is. of_plan (of_target (stored_of c.args.target) c.args.chunks (grid_in c.args.array.now.grid) (encoding_in c.args.array.now.encoding)
     task stored is))
 
 pub returns : goal.returns
@@ -46,7 +46,7 @@ returns g c = λ document bytes stored shape_is sizes task wanted is.
     (IsInside c.in_ok-chunks.chunks) targets walk groups (can_stay (dimensions_of array) (dimensions_of to) said.one_array) said.about said.first is_box
     targets_are left moves))
     in
-    key_step_follows (TextOf walk (dimensions_of to) (key_of to) c.args.share.now) _ (FaultOf walk) (IsFaultBeside document)
+    key_step_follows (TextOf walk (dimensions_of to) (key_of to) c.args.share.now) _ (FaultOf walk bytes) (IsFaultBeside document bytes)
     (λ keys text (groups, moves, missing). record {
       target = grid_in to.grid;
       encoding = encoding_in to.encoding;
@@ -56,7 +56,7 @@ returns g c = λ document bytes stored shape_is sizes task wanted is.
       wanted = wanted;
       is_text = missing;
     })
-    (λ keys fault (groups, moves, stops). of_keys (grid_in to.grid) (encoding_in to.encoding) groups (planned groups moves) stops)
+    (λ fault (groups, moves, stops). of_keys (grid_in to.grid) (encoding_in to.encoding) groups (planned groups moves) stops)
     bytes _ _ _ _ _ _ (c.write_missing.ensures bytes is)
 
 pub returns-in_err-walk : goal.returns-in_err-walk
@@ -69,7 +69,7 @@ returns-in_err-walk g c = λ document bytes stored shape_is sizes task wanted is
     (chunks_fault _ _ (dimensions_of to) c.in_ok-chunks.chunks error (sizes ∙ sym c.in_ok-target.ensures.sizes) is)) _
     c.in_err-walk.ensures.refused
     in
-    early_beside _ (IsFaultBeside document) bytes _ _ _ (no_read_beside document) (no_write_beside document) _ _
+    early_beside _ (IsFaultBeside document bytes) bytes _ _ _ (no_read_beside document bytes) (no_write_beside document bytes) _ _
     c.from_residual-in_err-walk.ensures.1 refused
-    (λ is keys. of_plan (of_chunks (stored_of c.args.target) c.args.chunks (grid_in array.grid) (grid_in to.grid) (encoding_in array.encoding)
+    (λ is. of_plan (of_chunks (stored_of c.args.target) c.args.chunks (grid_in array.grid) (grid_in to.grid) (encoding_in array.encoding)
     (encoding_in to.encoding) task stored made_target is))

@@ -19,9 +19,9 @@ use Rattle.programs.proofs.chunkplan.missing.write_region.Goals as goal
 
 pub returns-in_err-target : goal.returns-in_err-target
 returns-in_err-target g c = λ document bytes stored task wanted is.
-    early_beside _ (IsFaultBeside document) bytes _ _ _ (no_read_beside document) (no_write_beside document) _ _ c.from_residual.ensures.1
+    early_beside _ (IsFaultBeside document bytes) bytes _ _ _ (no_read_beside document bytes) (no_write_beside document bytes) _ _ c.from_residual.ensures.1
     c.in_err-target.ensures.refused
-    (λ is keys. of_plan (of_region_target c.args.shape.now (stored_of c.args.target) c.args.region.now (option_map (λ v. v.items) c.args.at)
+    (λ is. of_plan (of_region_target c.args.shape.now (stored_of c.args.target) c.args.region.now (option_map (λ v. v.items) c.args.at)
     (grid_in c.args.array.now.grid) (encoding_in c.args.array.now.encoding) task stored is))
 
 pub returns : goal.returns
@@ -44,7 +44,7 @@ returns g c = λ document bytes stored task wanted is.
     (copy_of dimensions_in key_in dimensions_in key_in array to region first AnyChunk targets walk groups said.lies said.about said.first is_box are left
     moves))
     in
-    key_step_follows (TextOf walk (dimensions_of to) (key_of to) c.args.share.now) _ (FaultOf walk) (IsFaultBeside document)
+    key_step_follows (TextOf walk (dimensions_of to) (key_of to) c.args.share.now) _ (FaultOf walk bytes) (IsFaultBeside document bytes)
     (λ keys text (groups, moves, missing). record {
       target = grid_in to.grid;
       encoding = encoding_in to.encoding;
@@ -54,7 +54,7 @@ returns g c = λ document bytes stored task wanted is.
       wanted = wanted;
       is_text = missing;
     })
-    (λ keys fault (groups, moves, stops). of_keys (grid_in to.grid) (encoding_in to.encoding) groups (planned groups moves) stops)
+    (λ fault (groups, moves, stops). of_keys (grid_in to.grid) (encoding_in to.encoding) groups (planned groups moves) stops)
     bytes _ _ _ _ _ _ (c.write_missing.ensures bytes is)
 
 pub returns-in_err-walk : goal.returns-in_err-walk
@@ -69,7 +69,7 @@ returns-in_err-walk g c = λ document bytes stored task wanted is.
     (λ error is. subst (λ first. IsCopyFault (dimensions_of array) (dimensions_of to) region first (of_region_error error)) begins (error, is, refl)) _
     c.in_err-walk.ensures.refused
     in
-    early_beside _ (IsFaultBeside document) bytes _ _ _ (no_read_beside document) (no_write_beside document) _ _
+    early_beside _ (IsFaultBeside document bytes) bytes _ _ _ (no_read_beside document bytes) (no_write_beside document bytes) _ _
     c.from_residual-in_err-walk.ensures.1 refused
-    (λ is keys. of_plan (of_region_fault c.args.shape.now (stored_of c.args.target) region at (grid_in array.grid) (grid_in to.grid)
+    (λ is. of_plan (of_region_fault c.args.shape.now (stored_of c.args.target) region at (grid_in array.grid) (grid_in to.grid)
     (encoding_in array.encoding) (encoding_in to.encoding) task stored made_target is))
