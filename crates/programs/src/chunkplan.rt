@@ -7,11 +7,7 @@
 //! | `keys` | the keys behind a document |
 //! | `known_members` | the members that a document may have |
 //! | `member_rules` | which members go together |
-//! | `boxes` | a box as a document writes it |
-//! | `flag` | a flag as a document writes it |
-//! | `share` | a share of a plan as a document writes it |
-//! | `order` | the order of the lines as a document writes it |
-//! | `stage` | how much a worker may hold, and which stage is wanted, as a document writes them |
+//! | `members` | what a member says, in the form in which a document writes it |
 //! | `ranges` | the byte ranges that a document wants in the lines of a read |
 //! | `opened` | the arrays that a document stores, and the walks over them |
 //! | `plan` | the plan that a document asks for |
@@ -30,40 +26,36 @@ ghost use Rattle.std.specs.Io.KnownBytes.{Keeps};
 ghost use Rattle.streams.specs.Watched.{has_failed, watched};
 ghost use Rattle.serde_json.specs.Data.{Data};
 ghost use Rattle.zarrs_chunk_base.specs.Json.{IsJsonOf};
-ghost use Rattle.programs.specs.chunkplan.Document.{Document as PlanDocument, IsDocument, document_of};
+ghost use Rattle.programs.specs.chunkplan.Document.{IsDocument, document_of};
 ghost use Rattle.programs.specs.chunkplan.DocumentFault.{IsInputFault};
 ghost use Rattle.programs.specs.chunkplan.Keys.{HasKeysBehind, first_line};
-ghost use Rattle.programs.specs.chunkplan.PlanFault.{IsFaultBeside, IsFirstFault, IsWholeFault};
-ghost use Rattle.programs.specs.chunkplan.Planned.{IsPlanOf, IsPlannedBeside};
-ghost use Rattle.programs.specs.chunkplan.seen.Missing.{KeyStepLeaves};
+ghost use Rattle.programs.specs.chunkplan.PlanFault.{IsFirstFault, IsWholeFault};
+ghost use Rattle.programs.specs.chunkplan.Planned.{IsPlanOf};
+ghost use Rattle.programs.specs.chunkplan.seen.Missing.{IsFaultOfLine, IsTextOfLine};
 ghost use Rattle.streams.specs.seen.Lines.{left};
 ghost use Rattle.programs.specs.chunkplan.Run.{RunEndsWith, RunLeaves};
-ghost use Rattle.programs.specs.chunkplan.seen.Steps.{InputStepLeaves, StepLeaves};
+ghost use Rattle.programs.specs.chunkplan.seen.Steps.{InputStepLeaves, ReadStepLeaves, StepLeaves};
 ghost use Rattle.programs.specs.chunkplan.RunFault.{is_not_json};
 ghost use Rattle.programs.specs.declared.chunkplan.run_fault.RunFault.TheVariants.{Memory};
 ghost use Rattle.streams.specs.Streams.{streams_of};
 ghost use Rattle.streams.specs.seen.Sent.{HoldsAll, written};
 
 mod between;
-mod boxes;
 mod copying;
 mod counting;
 mod document;
-mod flag;
 mod keys;
 mod known_members;
 mod line;
 mod member_rules;
+mod members;
 mod missing;
 mod opened;
-mod order;
 mod part_ranges;
 mod plan;
 mod product;
 mod ranges;
 mod run_fault;
-mod share;
-mod stage;
 mod stages_line;
 mod within;
 
@@ -156,12 +148,7 @@ fn answer_beside_keys<R: Read, W: Write>(
 ) -> Result<(), RunFault>
     requires { HasKeysBehind line.items }
     ensures { (bytes : List ℕ) → left lines.old (R.remaining (watched reader.old)) ≡ Some bytes
-        → KeyStepLeaves
-        (λ keys text. (tree : Data) × (document : PlanDocument) × IsJsonOf line.items tree
-        × IsDocument tree document × IsPlannedBeside document keys text)
-        (λ fault. IsInputFault line.items fault
-        ⊎ ((tree : Data) × (document : PlanDocument) × IsJsonOf line.items tree
-        × IsDocument tree document × IsFaultBeside document bytes fault)) bytes result
+        → ReadStepLeaves (IsTextOfLine line.items bytes) (IsFaultOfLine line.items bytes) result
         (has_failed reader.old) (has_failed reader.new) (R.remaining (watched reader.new))
         (written W.contents sink.old) (written W.contents sink.new) }
 {

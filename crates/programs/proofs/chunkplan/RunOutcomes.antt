@@ -22,7 +22,7 @@ use Rattle.programs.specs.chunkplan.seen.Steps.{HasBegun, InputStepLeaves}
 use Rattle.streams.specs.seen.Sent.{Output}
 use Rattle.programs.specs.declared.chunkplan.run_fault.RunFault.{RunFault}
 use Rattle.programs.specs.declared.chunkplan.run_fault.RunFault.TheVariants.{Memory, Read, Write}
-use Rattle.programs.specs.declared.chunkplan.stage.Stage.{Stage}
+use Rattle.programs.specs.declared.chunkplan.document.Stage.{Stage}
 use Rattle.documents.specs.declared.document_fault.DocumentFault.{DocumentFault}
 use Rattle.documents.specs.declared.stored.CreateFault.{CreateFault}
 use Rattle.streams.specs.declared.stream_fault.StreamFault.{StreamFault}
@@ -136,10 +136,10 @@ module _ (input held : List ℕ) (s : Streams) (before : Output) (known : before
 
   pub sending_stops : (fault : RunFault) → InputStepLeaves input (Err fault) s.read_failed s.left before After → RunLeaves input held (Err fault) s
   sending_stops Read leaves = (leaves.0, (leaves.2 ∙ known, leaves.1 ∙ not_failed))
-  sending_stops Write leaves = ((leaves.1, leaves.0), begun leaves.3, leaves.2)
+  sending_stops Write leaves = ((leaves.1, leaves.0), begun leaves.2.1, leaves.2.0)
   sending_stops Memory leaves =
-      (leaves.0, leaves.1 ∙ not_failed, ⊎_elim (λ unsent. inl (unsent ∙ known)) (λ has. inr (begun has)) leaves.2)
-  sending_stops _ leaves = ((leaves.0, leaves.1), leaves.4, (leaves.3 ∙ known, leaves.2 ∙ not_failed))
+      (leaves.0, leaves.1.0 ∙ not_failed, ⊎_elim (λ unsent. inl (unsent ∙ known)) (λ has. inr (begun has)) leaves.1.1)
+  sending_stops _ leaves = ((leaves.0, leaves.1.2.0), leaves.1.2.1, (leaves.1.1 ∙ known, leaves.1.0 ∙ not_failed))
 
 -- ---- writing what was held back
 

@@ -1,10 +1,12 @@
 -- What a store hasn't of a plan, by the keys that were noted.
 use Rattle.std.proofs.Common.{◌≡◌, ◌↔◌, ◌<◌, ◌^◌, ◌++◌, ◌&&◌, ℕ, Bool, IsSomeAnd, IsTrue, List, [], Option, Some, None, ap, arith, length, refl}
-use Rattle.std.proofs.Common.{slice_get, ⊎_elim}
+use Rattle.std.proofs.Common.{Result, slice_get, ⊎_elim}
 use Rattle.std.proofs.lemmas.Option.{slice_get_within}
 use Rattle.std.proofs.lemmas.Slice.Zip.{AllZip-long, AllZip-right}
 use Rattle.std.specs.List.{AllZip}
 use Rattle.zarrs_chunk_base.specs.Dimension.{Dimension}
+use Rattle.zarrs_chunk_base.specs.Grid.{Grid}
+use Rattle.zarrs_chunk_keys.specs.ChunkKey.{Encoding, IsKey}
 use Rattle.zarrs_chunk_keys.specs.declared.chunk_key_encoding.named.ChunkKeyEncoding.{ChunkKeyEncoding}
 use Rattle.zarrs_chunk_plan.specs.Counted.{counted}
 use Rattle.zarrs_chunk_plan.specs.Rechunking.{Group}
@@ -15,11 +17,17 @@ use Rattle.zarrs_chunk_plan.specs.declared.stored_chunks.StoredChunks.{StoredChu
 use Rattle.zarrs_chunk_plan.specs.seen.StoredChunks.{Knows, is_stored}
 use Rattle.zarrs_chunk_plan.proofs.ByNumber.{counted_cases}
 use Rattle.zarrs_chunks.specs.declared.chunk_grid.named.ChunkGrid.{ChunkGrid}
+use Rattle.programs.specs.chunkplan.Document.{Document, lines_wanted}
+use Rattle.programs.specs.chunkplan.PlanFault.{IsFaultBeside, of_keys}
+use Rattle.programs.specs.chunkplan.Planned.{ArePlanned, IsPlannedBeside}
 use Rattle.programs.specs.chunkplan.Keys.{AsStoreKey, IsKeysFault, IsMissingText, TellsThere}
 use Rattle.programs.specs.declared.chunkplan.line.Order.TheVariants.{Target}
 use Rattle.programs.specs.declared.chunkplan.run_fault.RunFault.{RunFault}
-use Rattle.programs.specs.chunkplan.seen.Missing.{HaveMarked, HaveNoted, is_left_out, share_unless_stored}
+use Rattle.programs.specs.chunkplan.seen.Missing.{BesideKeys, HaveMarked, HaveNoted, is_left_out, share_unless_stored}
 use Rattle.programs.specs.chunkplan.seen.Opened.{CopiesToCome}
+use Rattle.programs.specs.chunkplan.seen.Steps.{ReadStepLeaves}
+use Rattle.streams.specs.seen.Sent.{Output}
+use Rattle.programs.proofs.chunkplan.KeySteps.{read_step_follows}
 
 both_true : (one other : Bool) → IsTrue (one && other) ↔ (IsTrue one × IsTrue other)
 both_true one other = grind arith
@@ -94,3 +102,27 @@ module _ (walk : Copies ChunkGrid ChunkKeyEncoding ChunkGrid ChunkKeyEncoding) w
 
   abbrev pub FaultOf : (bytes : List ℕ) → RunFault → Type 0
   FaultOf bytes fault = (groups : List Group) × CopiesToCome walk groups × IsKeysFault groups bytes fault
+
+  -- so of the plan that a document asks for
+  pub planned_beside : (document : Document) (target : Grid) (encoding : Encoding) (share : Share) → document.wanted ≡ lines_wanted share
+      → ((groups : List Group) → CopiesToCome walk groups → ArePlanned document target encoding groups)
+      → (bytes : List ℕ) (start read : Bool) (left : Option (List ℕ)) (before after : Output) (r : Result (Unit {0}) RunFault)
+      → ReadStepLeaves (BesideKeys (TextOf target.dimensions (IsKey encoding) share) bytes) (FaultOf bytes) r start read left before after
+      → ReadStepLeaves (BesideKeys (IsPlannedBeside document) bytes) (IsFaultBeside document bytes) r start read left before after
+  planned_beside document target encoding share wanted planned bytes =
+      read_step_follows (BesideKeys (TextOf target.dimensions (IsKey encoding) share) bytes) (BesideKeys (IsPlannedBeside document) bytes)
+      (FaultOf bytes) (IsFaultBeside document bytes)
+      (λ text (keys, are, (groups, moves, missing)). (
+        keys,
+        are,
+        record {
+          target = target;
+          encoding = encoding;
+          groups = groups;
+          share = share;
+          planned = planned groups moves;
+          wanted = wanted;
+          is_text = missing;
+        },
+      ))
+      (λ fault (groups, moves, stops). of_keys target encoding groups (planned groups moves) stops)

@@ -22,8 +22,8 @@ use Rattle.programs.specs.chunkplan.MemberRules.{Fit}
 use Rattle.programs.specs.declared.chunkplan.line.Order.{Order}
 use Rattle.programs.specs.declared.chunkplan.line.Order.TheVariants.{Source, Target}
 use Rattle.programs.specs.declared.chunkplan.ranges.RangesAsked.{RangesAsked}
-use Rattle.programs.specs.declared.chunkplan.stage.Stage.{Stage}
-use Rattle.programs.specs.declared.chunkplan.stage.Stage.TheVariants.{First, Second}
+use Rattle.programs.specs.declared.chunkplan.document.Stage.{Stage}
+use Rattle.programs.specs.declared.chunkplan.document.Stage.TheVariants.{First, Second}
 use Rattle.programs.specs.declared.chunkplan.document.Document.{Document as DocumentValue}
 use Rattle.programs.specs.declared.chunkplan.document.Task.{Task as TaskValue}
 use Rattle.programs.specs.declared.chunkplan.document.Task.TheVariants.{Copy as CopyValue, Read as ReadValue, Rechunk as RechunkValue}

@@ -24,7 +24,7 @@ use Rattle.programs.specs.chunkplan.RunFault.{of_create, of_region as of_region_
 use Rattle.programs.specs.declared.chunkplan.run_fault.RunFault.{RunFault}
 use Rattle.programs.specs.declared.chunkplan.run_fault.RunFault.TheVariants.{Copies, KeysOfLongDocument, NoShape, NotInOneStage, NotJson, ResizedGrid}
 use Rattle.programs.specs.declared.chunkplan.run_fault.RunFault.TheVariants.{Stages, SubsetDimensionality, TargetEncoding, TargetGrid, Uncovered}
-use Rattle.programs.specs.declared.chunkplan.stage.Stage.{Stage}
+use Rattle.programs.specs.declared.chunkplan.document.Stage.{Stage}
 use Rattle.documents.specs.declared.stored.CreateFault.{CreateFault}
 use Rattle.documents.specs.declared.stored.CreateFault.TheVariants.{Encoding, Grid}
 

@@ -28,8 +28,8 @@ use Rattle.programs.specs.chunkplan.Line.{read_lines, rechunking_lines, resize_l
 use Rattle.programs.specs.chunkplan.StagesLine.{IsStagesLine}
 use Rattle.programs.specs.declared.chunkplan.line.Order.{Order}
 use Rattle.programs.specs.declared.chunkplan.line.Order.TheVariants.{Source, Target}
-use Rattle.programs.specs.declared.chunkplan.stage.Stage.{Stage}
-use Rattle.programs.specs.declared.chunkplan.stage.Stage.TheVariants.{First, Second}
+use Rattle.programs.specs.declared.chunkplan.document.Stage.{Stage}
+use Rattle.programs.specs.declared.chunkplan.document.Stage.TheVariants.{First, Second}
 use Rattle.programs.specs.declared.chunkplan.stages_line.StagesCounts.{StagesCounts}
 
 -- the plan of reading a box of elements, which has as many dimensions as the grid; an empty box has no parts

@@ -15,15 +15,14 @@ ghost use Rattle.programs.specs.declared.chunkplan.run_fault.RunFault.TheVariant
 ghost use Rattle.documents.specs.declared.document_fault.DocumentFault.TheVariants.{Memory as DocumentMemory};
 
 use crate::chunkplan::RunFault;
-use crate::chunkplan::boxes::{member_box, member_numbers, read_box};
-use crate::chunkplan::flag::member_flag;
 use crate::chunkplan::known_members::{DOCUMENT, UnknownMember, ZARR_JSON, agree, check_known};
 use crate::chunkplan::line::Order;
 use crate::chunkplan::member_rules::check_rules;
-use crate::chunkplan::order::member_order;
+use crate::chunkplan::members::{
+    member_bound, member_box, member_flag, member_numbers, member_order, member_share,
+    member_stage, read_box,
+};
 use crate::chunkplan::ranges::{RangesAsked, member_ranges};
-use crate::chunkplan::share::member_share;
-use crate::chunkplan::stage::{Stage, member_bound, member_stage};
 use documents::{DocumentFault, Stored, read_object, read_shape, required_member, take_stored};
 use serde_json::Value;
 use std::alloc::Global;
@@ -61,6 +60,15 @@ pub(crate) enum Task {
         shape: Vec<u64>,
         keep: bool,
     },
+}
+
+/// One of the two stages of a rechunking by an array between.
+#[derive(Clone, Copy, Drop)]
+pub(crate) enum Stage {
+    /// From the source to the array between.
+    First,
+    /// From the array between to the target.
+    Second,
 }
 
 /// What is wanted of a plan.

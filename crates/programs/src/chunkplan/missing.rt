@@ -11,7 +11,8 @@ ghost use Rattle.programs.specs.chunkplan.Document.{AsksForLinesOfCopy, Document
 ghost use Rattle.programs.specs.chunkplan.Keys.{IsKeysFault, IsMissingText};
 ghost use Rattle.programs.specs.chunkplan.PlanFault.{IsFaultBeside};
 ghost use Rattle.programs.specs.chunkplan.Planned.{IsPlannedBeside};
-ghost use Rattle.programs.specs.chunkplan.seen.Missing.{KeyStepLeaves};
+ghost use Rattle.programs.specs.chunkplan.seen.Missing.{BesideKeys};
+ghost use Rattle.programs.specs.chunkplan.seen.Steps.{ReadStepLeaves};
 ghost use Rattle.programs.specs.chunkplan.seen.Opened.{CanGiveCopies, CopiesToCome, dimensions_of, key_of, sizes_of};
 ghost use Rattle.streams.specs.seen.Lines.{left};
 ghost use Rattle.streams.specs.seen.Sent.{written};
@@ -45,8 +46,8 @@ pub(crate) fn write_beside_keys<R: Read, W: Write>(
 ) -> Result<(), RunFault>
     requires { AsksForLinesOfCopy (document_of document) }
     ensures { (bytes : List ℕ) → left lines.old (R.remaining (watched reader.old)) ≡ Some bytes
-        → KeyStepLeaves (IsPlannedBeside (document_of document))
-        (IsFaultBeside (document_of document) bytes) bytes result
+        → ReadStepLeaves (BesideKeys (IsPlannedBeside (document_of document)) bytes)
+        (IsFaultBeside (document_of document) bytes) result
         (has_failed reader.old) (has_failed reader.new) (R.remaining (watched reader.new))
         (written W.contents sink.old) (written W.contents sink.new) }
 {
@@ -98,7 +99,8 @@ fn write_rechunking<R: Read, W: Write>(
         → document.task ≡ rechunk_to (stored_of target) chunks
         → document.wanted ≡ lines_wanted share.now
         → left lines.old (R.remaining (watched reader.old)) ≡ Some bytes
-        → KeyStepLeaves (IsPlannedBeside document) (IsFaultBeside document bytes) bytes result
+        → ReadStepLeaves (BesideKeys (IsPlannedBeside document) bytes)
+        (IsFaultBeside document bytes) result
         (has_failed reader.old) (has_failed reader.new) (R.remaining (watched reader.new))
         (written W.contents sink.old) (written W.contents sink.new) }
 {
@@ -128,7 +130,8 @@ fn write_region<R: Read, W: Write>(
         (option_map (λ v. v.items) at)
         → document.wanted ≡ lines_wanted share.now
         → left lines.old (R.remaining (watched reader.old)) ≡ Some bytes
-        → KeyStepLeaves (IsPlannedBeside document) (IsFaultBeside document bytes) bytes result
+        → ReadStepLeaves (BesideKeys (IsPlannedBeside document) bytes)
+        (IsFaultBeside document bytes) result
         (has_failed reader.old) (has_failed reader.new) (R.remaining (watched reader.new))
         (written W.contents sink.old) (written W.contents sink.new) }
 {
@@ -156,14 +159,14 @@ fn write_missing<R: Read, W: Write>(
     requires region { IsBox (region_of walk) }
     requires all { all_targets walk ≡ targets_to_come walk }
     ensures { (bytes : List ℕ) → left lines.old (R.remaining (watched reader.old)) ≡ Some bytes
-        → KeyStepLeaves
-        (λ keys text. (groups : List Group)
+        → ReadStepLeaves
+        (BesideKeys (λ keys text. (groups : List Group)
         × CopiesToCome walk.entry groups
         × IsMissingText (dimensions_of target.now) (key_of target.now) keys share.now
-        groups text)
+        groups text) bytes)
         (λ fault. (groups : List Group)
         × CopiesToCome walk.entry groups
-        × IsKeysFault groups bytes fault) bytes result
+        × IsKeysFault groups bytes fault) result
         (has_failed reader.old) (has_failed reader.new) (R.remaining (watched reader.new))
         (written W.contents sink.old) (written W.contents sink.new) }
 {

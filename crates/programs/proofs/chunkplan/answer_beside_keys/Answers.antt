@@ -1,9 +1,10 @@
 use Rattle.std.proofs.Common.{inl, inr, ⊎_elim}
 use Rattle.programs.specs.chunkplan.Document.{document_of}
 use Rattle.programs.specs.chunkplan.PlanFault.{IsFaultBeside}
-use Rattle.programs.proofs.chunkplan.Inputs.{IsFaultOfLine}
+use Rattle.programs.specs.chunkplan.Planned.{IsPlannedBeside}
+use Rattle.programs.specs.chunkplan.seen.Missing.{BesideKeys, IsFaultOfLine, IsTextOfLine}
 use Rattle.programs.proofs.chunkplan.KeyDocuments.{copy_of_lines}
-use Rattle.programs.proofs.chunkplan.KeySteps.{early_beside, key_step_follows}
+use Rattle.programs.proofs.chunkplan.KeySteps.{early_beside, read_step_follows}
 use Rattle.programs.proofs.chunkplan.RunOutcomes.{no_read_beside, no_read_of_input, no_write_beside, no_write_of_input}
 use Rattle.programs.proofs.chunkplan.answer_beside_keys.Goals as goal
 
@@ -15,7 +16,7 @@ write_beside_keys-requires g c =
 pub returns-in_err-document : goal.returns-in_err-document
 returns-in_err-document g c = λ bytes is.
     let line = c.args.line.items in
-    early_beside _ (IsFaultOfLine line bytes) bytes _ _ _
+    early_beside _ (IsFaultOfLine line bytes) _ _ _
     (λ is. ⊎_elim (no_read_of_input line) (λ (tree, document, json, stands, beside). no_read_beside document bytes beside) is)
     (λ is. ⊎_elim (no_write_of_input line) (λ (tree, document, json, stands, beside). no_write_beside document bytes beside) is)
     _ _ c.from_residual.ensures.1 (rw c.deref.ensures.value at c.in_err-document.ensures) (λ is. inl is)
@@ -25,6 +26,6 @@ returns g c = λ bytes is.
     let line = c.args.line.items in
     let (tree, json, stands) = rw c.deref.ensures.value at c.in_ok-document.ensures in
     let document = document_of c.in_ok-document.document in
-    key_step_follows _ _ (IsFaultBeside document bytes) (IsFaultOfLine line bytes)
-    (λ keys text planned. (tree, document, json, stands, planned)) (λ fault beside. inr (tree, document, json, stands, beside))
-    bytes _ _ _ _ _ _ (c.write_beside_keys.ensures bytes is)
+    read_step_follows (BesideKeys (IsPlannedBeside document) bytes) (IsTextOfLine line bytes) (IsFaultBeside document bytes) (IsFaultOfLine line bytes)
+    (λ text planned. (tree, document, json, stands, planned)) (λ fault beside. inr (tree, document, json, stands, beside))
+    _ _ _ _ _ _ (c.write_beside_keys.ensures bytes is)

@@ -20,9 +20,8 @@ returns-then-branch g c =
     in
     let behind = rw all at c.in_ok-ended.ensures.behind in
     let has : HasKeysBehind (first_line input) = rw (c.deref.ensures.value ∙ line) at (c.in_ok-has_keys_behind.ensures.0 c.if-branch.true) in
-    sent_beside_keys input has _ _ (c.in_ok-ended.ensures.failed ∙ not_read) _
-    (written g.W.Write.contents c.args.sink.now)
-    (written g.W.Write.contents c.answer_beside_keys.new.sink) c.answer_beside_keys.result
+    sent_beside_keys input _ _ (written g.W.Write.contents c.args.sink.now) (written g.W.Write.contents c.answer_beside_keys.new.sink)
+    c.answer_beside_keys.result has _ (c.in_ok-ended.ensures.failed ∙ not_read)
     ((rw line at c.answer_beside_keys.ensures) (behind_first input) behind))
 
 pub returns : goal.returns

@@ -1,6 +1,5 @@
 -- What is known after some keys were read.
 use Rattle.std.specs.Prelude.{◌≡◌, ◌↔◌, ◌⊎◌, ◌++◌, ◌&&◌, ℕ, Bool, true, false, if◌then◌else◌, Contains, IfSome, length, List, [], ◌∷◌, Option, Some}
-use Rattle.std.specs.Prelude.{Result, Ok, Err}
 use Rattle.std.specs.Str.{IsUtf8}
 use Rattle.zarrs_chunk_base.specs.Dimension.{Dimension}
 use Rattle.zarrs_chunk_base.specs.StoreKey.{EndsInSlash}
@@ -11,13 +10,17 @@ use Rattle.zarrs_chunk_parts.specs.declared.part.Part.{Part}
 use Rattle.zarrs_chunk_plan.specs.declared.share.Share.{Share}
 use Rattle.zarrs_chunk_plan.specs.declared.stored_chunks.StoredChunks.{StoredChunks}
 use Rattle.zarrs_chunk_plan.specs.seen.StoredChunks.{Knows, is_stored}
+use Rattle.serde_json.specs.Data.{Data}
+use Rattle.zarrs_chunk_base.specs.Json.{IsJsonOf}
+use Rattle.programs.specs.chunkplan.Document.{Document, IsDocument}
+use Rattle.programs.specs.chunkplan.DocumentFault.{IsInputFault}
+use Rattle.programs.specs.chunkplan.PlanFault.{IsFaultBeside}
+use Rattle.programs.specs.chunkplan.Planned.{IsPlannedBeside}
 use Rattle.programs.specs.chunkplan.Keys.{AreForeign, AreKeys, IsFirstNoText, foreign_lines}
 use Rattle.programs.specs.chunkplan.Line.{group_line, lines_from}
-use Rattle.programs.specs.chunkplan.seen.Steps.{HasBegun, HasSent}
-use Rattle.streams.specs.seen.Sent.{Output}
 use Rattle.programs.specs.declared.chunkplan.line.Order.{Order}
 use Rattle.programs.specs.declared.chunkplan.run_fault.RunFault.{RunFault}
-use Rattle.programs.specs.declared.chunkplan.run_fault.RunFault.TheVariants.{KeyNotText, Memory, Read, Write}
+use Rattle.programs.specs.declared.chunkplan.run_fault.RunFault.TheVariants.{KeyNotText, Memory, Read}
 
 -- whether the line of a chunk of the target is left out, by its number: it is stored, and would be written whole
 abbrev pub is_left_out : Option StoredChunks → (at : Option ℕ) → Part → Bool
@@ -61,19 +64,15 @@ IsKeysStop Memory bytes read_before read_after = read_after ≡ read_before
 IsKeysStop (KeyNotText line) bytes read_before read_after = (read_after ≡ read_before) × IfSome bytes (λ bs. IsFirstNoText 2 bs line)
 IsKeysStop _ bytes read_before read_after = ⊥
 
--- By the outcome of a step that reads the keys in some lines and then sends a text: it read all of them, and such a text was sent, or is held back;
--- a read failed; memory ran out; a write failed; or there is another fault, of which IsFault holds, and nothing was sent.
-abbrev pub KeyStepLeaves : (Planned : List (List ℕ) → List ℕ → Type 0) (IsFault : RunFault → Type 0) (bytes : List ℕ)
-    → Result (Unit {0}) RunFault → (read_before read_after : Bool) (left_after : Option (List ℕ)) → Output → Output → Type 0
-KeyStepLeaves Planned IsFault bytes (Ok _) read_before read_after left_after before after =
-    (read_after ≡ read_before) × (left_after ≡ Some []) × (keys : List (List ℕ)) × AreKeys bytes keys × HasSent (Planned keys) before after
-KeyStepLeaves Planned IsFault bytes (Err Read) read_before read_after left_after before after =
-    (read_after ≡ true) × (after.failed ≡ before.failed) × (after.holds ≡ before.holds)
-KeyStepLeaves Planned IsFault bytes (Err Memory) read_before read_after left_after before after =
-    (read_after ≡ read_before) × (after.failed ≡ before.failed)
-    × ((after.holds ≡ before.holds) ⊎ ((keys : List (List ℕ)) × AreKeys bytes keys × HasBegun (Planned keys) before after))
-KeyStepLeaves Planned IsFault bytes (Err Write) read_before read_after left_after before after =
-    (read_after ≡ read_before) × (left_after ≡ Some []) × (after.failed ≡ true)
-    × (keys : List (List ℕ)) × AreKeys bytes keys × HasBegun (Planned keys) before after
-KeyStepLeaves Planned IsFault bytes (Err fault) read_before read_after left_after before after =
-    (read_after ≡ read_before) × (after.failed ≡ before.failed) × (after.holds ≡ before.holds) × IsFault fault
+-- a text of which Planned holds with the keys in some lines
+abbrev pub BesideKeys : (Planned : List (List ℕ) → List ℕ → Type 0) → (bytes text : List ℕ) → Type 0
+BesideKeys Planned bytes text = (keys : List (List ℕ)) × AreKeys bytes keys × Planned keys text
+
+-- what is written for a first line with lines of keys after it, and the first fault of both
+abbrev pub IsTextOfLine : (line bytes text : List ℕ) → Type 0
+IsTextOfLine line bytes text =
+    (tree : Data) × (document : Document) × IsJsonOf line tree × IsDocument tree document × BesideKeys (IsPlannedBeside document) bytes text
+
+abbrev pub IsFaultOfLine : (line bytes : List ℕ) → RunFault → Type 0
+IsFaultOfLine line bytes fault =
+    IsInputFault line fault ⊎ ((tree : Data) × (document : Document) × IsJsonOf line tree × IsDocument tree document × IsFaultBeside document bytes fault)

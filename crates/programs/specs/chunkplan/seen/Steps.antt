@@ -31,16 +31,21 @@ StepLeaves Planned IsFault (Err Write) before after = (after.failed ≡ true) ×
 StepLeaves Planned IsFault (Err fault) before after =
     (after.failed ≡ before.failed) × (after.holds ≡ before.holds) × IsFault fault
 
--- What a step leaves that reads an input and sends its plan, by its outcome: whether a read failed, and what is left to read; and as of a step that
--- sends. Keys behind a document are left where that has a fault.
+-- What a step leaves that reads before it sends, by its outcome: as of a step that sends, and no read failed, and nothing was left to read when it began
+-- to send; or a read failed, and nothing was sent.
+abbrev pub ReadStepLeaves : (Planned : List ℕ → Type 0) (IsFault : RunFault → Type 0) → Result (Unit {0}) RunFault
+    → (read_before read_after : Bool) (left : Option (List ℕ)) → Output → Output → Type 0
+ReadStepLeaves Planned IsFault (Ok u) read_before read_after left before after =
+    (read_after ≡ read_before) × (left ≡ Some []) × StepLeaves Planned IsFault (Ok u) before after
+ReadStepLeaves Planned IsFault (Err Read) read_before read_after left before after =
+    (read_after ≡ true) × (after.failed ≡ before.failed) × (after.holds ≡ before.holds)
+ReadStepLeaves Planned IsFault (Err Write) read_before read_after left before after =
+    (read_after ≡ read_before) × (left ≡ Some []) × StepLeaves Planned IsFault (Err Write) before after
+ReadStepLeaves Planned IsFault (Err fault) read_before read_after left before after =
+    (read_after ≡ read_before) × StepLeaves Planned IsFault (Err fault) before after
+
+-- so of one that reads an input and sends its plan; keys after a document are left if that has a fault
 abbrev pub InputStepLeaves : (input : List ℕ) → Result (Unit {0}) RunFault → (read_failed : Bool) (left : Option (List ℕ)) → Output → Output → Type 0
-InputStepLeaves input (Ok _) read_failed left before after = (read_failed ≡ false) × (left ≡ Some []) × HasSent (IsPlanOf input) before after
-InputStepLeaves input (Err Read) read_failed left before after =
-    (read_failed ≡ true) × (after.failed ≡ before.failed) × (after.holds ≡ before.holds)
-InputStepLeaves input (Err Memory) read_failed left before after =
-    (read_failed ≡ false) × (after.failed ≡ before.failed) × ((after.holds ≡ before.holds) ⊎ HasBegun (IsPlanOf input) before after)
-InputStepLeaves input (Err Write) read_failed left before after =
-    (read_failed ≡ false) × (left ≡ Some []) × (after.failed ≡ true) × HasBegun (IsPlanOf input) before after
-InputStepLeaves input (Err fault) read_failed left before after =
-    (read_failed ≡ false) × ((¬ HasKeysBehind (first_line input)) → left ≡ Some [])
-    × (after.failed ≡ before.failed) × (after.holds ≡ before.holds) × IsFirstFault input fault
+InputStepLeaves input r read_failed left before after =
+    ReadStepLeaves (IsPlanOf input) (λ fault. ((¬ HasKeysBehind (first_line input)) → left ≡ Some []) × IsFirstFault input fault) r false read_failed left
+    before after

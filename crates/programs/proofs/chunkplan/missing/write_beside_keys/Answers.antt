@@ -9,7 +9,7 @@ use Rattle.programs.proofs.chunkplan.missing.write_beside_keys.Goals as goal
 pub returns-in_err-array : goal.returns-in_err-array
 returns-in_err-array g c = λ bytes is.
     let document = document_of c.args.document in
-    early_beside _ (IsFaultBeside document bytes) bytes _ _ _ (no_read_beside document bytes) (no_write_beside document bytes) _ _ c.from_residual.ensures.1
+    early_beside _ (IsFaultBeside document bytes) _ _ _ (no_read_beside document bytes) (no_write_beside document bytes) _ _ c.from_residual.ensures.1
     (⊎_elim (λ memory. inl (ap of_create memory)) inr (rw c.deref.ensures.value at c.in_err-array.ensures.refused))
     (λ is. of_plan (of_source _ is refl))
 

@@ -13,14 +13,15 @@ use Rattle.zarrs_chunk_plan.specs.seen.StoredChunks.{Knows}
 use Rattle.zarrs_chunk_plan.proofs.Copied.{first_move}
 use Rattle.zarrs_chunks.specs.declared.chunk_grid.named.ChunkGrid.{ChunkGrid}
 use Rattle.programs.specs.chunkplan.Keys.{IsMissingText}
-use Rattle.programs.specs.chunkplan.seen.Missing.{HaveNoted, share_unless_stored}
+use Rattle.programs.specs.chunkplan.seen.Missing.{BesideKeys, HaveNoted, share_unless_stored}
 use Rattle.programs.specs.chunkplan.seen.Opened.{CanGiveCopies, CopiesToCome, dimensions_in, dimensions_of, key_in, key_of}
 use Rattle.programs.specs.declared.chunkplan.line.Order.TheVariants.{Target}
 use Rattle.streams.specs.seen.Sent.{Output, written}
 use Rattle.programs.proofs.chunkplan.Begun.{copies_ahead}
 use Rattle.programs.proofs.chunkplan.Behind.{Begins, Behind, ends_behind, stops_whole}
 use Rattle.programs.proofs.chunkplan.Exits.{handed}
-use Rattle.programs.proofs.chunkplan.KeySteps.{noting_stops, sent_after_keys}
+use Rattle.programs.proofs.chunkplan.KeySteps.{after_reading, noting_stops}
+use Rattle.programs.proofs.chunkplan.Steps.{text_follows}
 use Rattle.programs.proofs.chunkplan.StoredLines.{FaultOf, TextOf, missing_text, none_noted}
 use Rattle.programs.proofs.chunkplan.missing.write_missing.Goals as goal
 
@@ -63,7 +64,7 @@ returns-in_default g c = λ bytes is.
     let (groups, moves) = some_groups walk c.requires.is_box c.requires.region c.requires.can in
     let long = ap length c.requires.all ∙ sym (AllZip-long _ (targets_to_come walk) groups moves) in
     let many : 2 ^ 29 ≤ length (all_targets walk) = rw c.in_default.is at c.in_ok-stored.ensures.none in
-    (refl, refl, refl, (groups, moves, omega (arith, long, many)))
+    (refl, (refl, refl, (groups, moves, omega (arith, long, many))))
 
 pub returns-in_err-note_keys : goal.returns-in_err-note_keys
 returns-in_err-note_keys g c = λ bytes is.
@@ -72,8 +73,7 @@ returns-in_err-note_keys g c = λ bytes is.
     let long = ap length c.requires.all ∙ sym (AllZip-long _ (targets_to_come walk) groups moves) in
     let few : length (all_targets walk) < 2 ^ 29 = rw c.in-Some.is at c.in_ok-stored.ensures.few in
     rw (handed _ _ c.from_residual-in_err-note_keys.ensures.1)
-    (noting_stops (TextOf walk (dimensions_of c.args.target.now) (key_of c.args.target.now) c.args.share.now)
-    (FaultOf walk bytes) bytes _ _ _ _ _ (rw is at c.in_err-note_keys.ensures.refused)
+    (noting_stops _ (FaultOf walk bytes) _ _ _ bytes _ _ (rw is at c.in_err-note_keys.ensures.refused)
     (λ number first. (groups, moves, (omega (arith, long, few), first))))
 
 pub returns-in_err-write_share : goal.returns-in_err-write_share
@@ -81,6 +81,7 @@ returns-in_err-write_share g c = λ bytes is.
     let walk = c.args.walk in
     let target = dimensions_of c.args.target.now in
     let IsKeyOf = key_of c.args.target.now in
+    let Text = TextOf walk target IsKeyOf c.args.share.now in
     let few : length (all_targets walk) < 2 ^ 29 = rw c.in-Some.is at c.in_ok-stored.ensures.few in
     let knows = subst (λ to. Knows (dimensions_in to.grid) (key_in to.encoding) (all_targets walk) []
     c.in-Some.stored) c.requires.target (rw c.in-Some.is at c.in_ok-stored.ensures.none)
@@ -94,15 +95,17 @@ returns-in_err-write_share g c = λ bytes is.
     c.args.share.now
     in
     rw (handed _ _ c.from_residual-in_err-write_share.ensures.1)
-    (sent_after_keys (TextOf walk (dimensions_of c.args.target.now) (key_of c.args.target.now) c.args.share.now)
-    (FaultOf walk bytes) bytes _ _ before after keys _ are c.in_ok-note_keys.ensures.failed (rw is at c.in_ok-note_keys.ensures.end) (Err _)
-    (stops_whole _ _ begins before after _ c.in_err-write_share.ensures))
+    (after_reading (BesideKeys Text bytes) (FaultOf walk bytes) _ _ before (λ (groups, moves, none). none) after _ c.in_ok-note_keys.ensures.failed
+    (rw is at c.in_ok-note_keys.ensures.end) (Err _)
+    (text_follows (Text keys) (BesideKeys Text bytes) (FaultOf walk bytes) (λ text said. (keys, are, said)) before after (Err _)
+    (stops_whole _ _ begins before after _ c.in_err-write_share.ensures)))
 
 pub returns : goal.returns
 returns g c = λ bytes is.
     let walk = c.args.walk in
     let target = dimensions_of c.args.target.now in
     let IsKeyOf = key_of c.args.target.now in
+    let Text = TextOf walk target IsKeyOf c.args.share.now in
     let few : length (all_targets walk) < 2 ^ 29 = rw c.in-Some.is at c.in_ok-stored.ensures.few in
     let knows = subst (λ to. Knows (dimensions_in to.grid) (key_in to.encoding) (all_targets walk) []
     c.in-Some.stored) c.requires.target (rw c.in-Some.is at c.in_ok-stored.ensures.none)
@@ -119,7 +122,8 @@ returns g c = λ bytes is.
     let ends = whole walk c.requires.all few target IsKeyOf keys c.note_keys.new.stored c.note_keys.new.foreign.items noted
     c.args.share.now
     in
-    sent_after_keys (TextOf walk (dimensions_of c.args.target.now) (key_of c.args.target.now) c.args.share.now)
-    (FaultOf walk bytes) bytes _ _ before after keys _ are c.in_ok-note_keys.ensures.failed (rw is at c.in_ok-note_keys.ensures.end) c.send_text.result
+    after_reading (BesideKeys Text bytes) (FaultOf walk bytes) _ _ before (λ (groups, moves, none). none) after _ c.in_ok-note_keys.ensures.failed
+    (rw is at c.in_ok-note_keys.ensures.end) c.send_text.result
+    (text_follows (Text keys) (BesideKeys Text bytes) (FaultOf walk bytes) (λ text said. (keys, are, said)) before after c.send_text.result
     (ends_behind _ (λ text. text ≡ c.note_keys.new.foreign.items) _ before between after c.in_ok-write_share.ensures begins ends c.send_text.result
-    c.send_text.ensures)
+    c.send_text.ensures))

@@ -4,22 +4,22 @@ use Rattle.zarrs_chunks.specs.seen.Grids.{grid_in}
 use Rattle.zarrs_chunk_plan.specs.Region.{AnyChunk, Group, IsRegionCopy}
 use Rattle.zarrs_chunk_plan.proofs.Copied.{copy_of}
 use Rattle.documents.specs.Stored.{stored_of}
-use Rattle.programs.specs.chunkplan.PlanFault.{IsCopyFault, IsFaultBeside, of_keys, of_plan, of_region_target}
+use Rattle.programs.specs.chunkplan.PlanFault.{IsCopyFault, IsFaultBeside, of_plan, of_region_target}
 use Rattle.programs.specs.chunkplan.PlanFault.{of_region as of_region_fault}
 use Rattle.programs.specs.chunkplan.Planned.{ArePlanned, begins_at, of_region}
 use Rattle.programs.specs.chunkplan.RunFault.{of_region as of_region_error}
 use Rattle.programs.specs.chunkplan.seen.Opened.{CopiesToCome, dimensions_in, dimensions_of, key_in, key_of}
-use Rattle.programs.proofs.chunkplan.KeySteps.{early_beside, key_step_follows}
+use Rattle.programs.proofs.chunkplan.KeySteps.{early_beside}
 use Rattle.programs.proofs.chunkplan.RunOutcomes.{no_read_beside, no_write_beside}
 use Rattle.programs.proofs.chunkplan.Steps.{refused_or}
-use Rattle.programs.proofs.chunkplan.StoredLines.{FaultOf, TextOf}
+use Rattle.programs.proofs.chunkplan.StoredLines.{planned_beside}
 use Rattle.programs.proofs.chunkplan.missing.write_region.Goals as goal
 
 -- ---- what is sent, and why it stops
 
 pub returns-in_err-target : goal.returns-in_err-target
 returns-in_err-target g c = λ document bytes stored task wanted is.
-    early_beside _ (IsFaultBeside document bytes) bytes _ _ _ (no_read_beside document bytes) (no_write_beside document bytes) _ _ c.from_residual.ensures.1
+    early_beside _ (IsFaultBeside document bytes) _ _ _ (no_read_beside document bytes) (no_write_beside document bytes) _ _ c.from_residual.ensures.1
     c.in_err-target.ensures.refused
     (λ is. of_plan (of_region_target c.args.shape.now (stored_of c.args.target) c.args.region.now (option_map (λ v. v.items) c.args.at)
     (grid_in c.args.array.now.grid) (encoding_in c.args.array.now.encoding) task stored is))
@@ -44,18 +44,7 @@ returns g c = λ document bytes stored task wanted is.
     (copy_of dimensions_in key_in dimensions_in key_in array to region first AnyChunk targets walk groups said.lies said.about said.first is_box are left
     moves))
     in
-    key_step_follows (TextOf walk (dimensions_of to) (key_of to) c.args.share.now) _ (FaultOf walk bytes) (IsFaultBeside document bytes)
-    (λ keys text (groups, moves, missing). record {
-      target = grid_in to.grid;
-      encoding = encoding_in to.encoding;
-      groups = groups;
-      share = c.args.share.now;
-      planned = planned groups moves;
-      wanted = wanted;
-      is_text = missing;
-    })
-    (λ fault (groups, moves, stops). of_keys (grid_in to.grid) (encoding_in to.encoding) groups (planned groups moves) stops)
-    bytes _ _ _ _ _ _ (c.write_missing.ensures bytes is)
+    planned_beside walk document (grid_in to.grid) (encoding_in to.encoding) c.args.share.now wanted planned bytes _ _ _ _ _ _ (c.write_missing.ensures bytes is)
 
 pub returns-in_err-walk : goal.returns-in_err-walk
 returns-in_err-walk g c = λ document bytes stored task wanted is.
@@ -69,7 +58,7 @@ returns-in_err-walk g c = λ document bytes stored task wanted is.
     (λ error is. subst (λ first. IsCopyFault (dimensions_of array) (dimensions_of to) region first (of_region_error error)) begins (error, is, refl)) _
     c.in_err-walk.ensures.refused
     in
-    early_beside _ (IsFaultBeside document bytes) bytes _ _ _ (no_read_beside document bytes) (no_write_beside document bytes) _ _
+    early_beside _ (IsFaultBeside document bytes) _ _ _ (no_read_beside document bytes) (no_write_beside document bytes) _ _
     c.from_residual-in_err-walk.ensures.1 refused
     (λ is. of_plan (of_region_fault c.args.shape.now (stored_of c.args.target) region at (grid_in array.grid) (grid_in to.grid)
     (encoding_in array.encoding) (encoding_in to.encoding) task stored made_target is))
