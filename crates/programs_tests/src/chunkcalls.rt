@@ -34,9 +34,8 @@ fn check_read(
         reads,
         fault,
     });
-    let mut written = Vec::new(rt.alloc());
+    let mut sink = Sink::new(rt.alloc(), Vec::new(rt.alloc()));
     let mut errors = Vec::new(rt.alloc());
-    let mut sink = Sink::new(rt.alloc(), &mut written);
     let status = run_to_status(rt.alloc(), &mut reader, &mut sink, &mut errors);
     check_ending(
         rt,
@@ -50,7 +49,7 @@ fn check_read(
     for _ in 0..lines_read.min(2) {
         answers.extend_from_slice(ANSWER)?;
     }
-    check_bytes(rt, &written, &answers, reads);
+    check_bytes(rt, sink.writer().inner(), &answers, reads);
     Ok(())
 }
 
@@ -85,13 +84,13 @@ fn failing_writer(
 fn check_write(
     rt: &(impl Abort + AllocGlobal),
     input: &[u8],
-    mut writer: FailingWriter,
+    writer: FailingWriter,
     taken: &[u8],
     succeeds: bool,
 ) {
     let mut errors = Vec::new(rt.alloc());
     let mut reader = Watched::new(input);
-    let mut sink = Sink::new(rt.alloc(), &mut writer);
+    let mut sink = Sink::new(rt.alloc(), writer);
     let status = run_to_status(rt.alloc(), &mut reader, &mut sink, &mut errors);
     let writes = taken.len();
     check_ending(
@@ -101,7 +100,7 @@ fn check_write(
         "chunkcalls: output failed\n",
         writes,
     );
-    check_bytes(rt, &writer.taken, taken, writes);
+    check_bytes(rt, &sink.writer().inner().taken, taken, writes);
 }
 
 #[test]
@@ -127,13 +126,13 @@ fn check_flush(
 ) -> Result<(), Fail> {
     let input = joined(rt, input)?;
     let output = joined(rt, output)?;
-    let mut writer = failing_writer(rt.alloc(), 100, None, true);
+    let writer = failing_writer(rt.alloc(), 100, None, true);
     let mut errors = Vec::new(rt.alloc());
     let mut reader = Watched::new(input.as_slice());
-    let mut sink = Sink::new(rt.alloc(), &mut writer);
+    let mut sink = Sink::new(rt.alloc(), writer);
     let status = run_to_status(rt.alloc(), &mut reader, &mut sink, &mut errors);
     check_that(rt, status == 1, output.len());
-    check_bytes(rt, &writer.taken, &output, output.len());
+    check_bytes(rt, &sink.writer().inner().taken, &output, output.len());
     Ok(())
 }
 
