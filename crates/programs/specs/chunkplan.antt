@@ -9,5 +9,4 @@ pub mod PlanFault
 pub mod Planned
 pub mod Run
 pub mod RunFault
-pub mod StagesLine
 pub mod seen

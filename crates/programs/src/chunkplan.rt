@@ -16,8 +16,7 @@
 //! | `copying` | the lines of a plan, sent as they are made |
 //! | `line` | one line |
 //! | `part_ranges` | the byte ranges of a part, as a line has them |
-//! | `counting` | the counts of a plan, as one line |
-//! | `stages_line` | the counts of a rechunking and of its two stages, as one line |
+//! | `counting` | the counts of a plan, and those of a rechunking and of its two stages, as one line |
 //! | `missing` | what is left of a plan beside keys |
 //! | `product` | products of numbers, in decimal digits |
 //! | `run_fault` | why a run stops |
@@ -56,7 +55,6 @@ mod plan;
 mod product;
 mod ranges;
 mod run_fault;
-mod stages_line;
 mod within;
 
 use document::{Document, parse};

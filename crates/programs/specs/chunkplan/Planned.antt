@@ -20,17 +20,16 @@ use Rattle.zarrs_chunk_parts.specs.declared.part.Part.{Part}
 use Rattle.zarrs_chunk_plan.specs.declared.resize.ChunkChange.{ChunkChange}
 use Rattle.zarrs_chunk_plan.specs.declared.share.Share.{Share}
 use Rattle.documents.specs.Stored.{IsStored, Stored}
-use Rattle.programs.specs.chunkplan.CountsLine.{IsCountsLine}
+use Rattle.programs.specs.chunkplan.CountsLine.{IsCountsLine, IsStagesLine}
 use Rattle.programs.specs.chunkplan.Document.{Document, IsDocument, RangesWanted, Wanted, copy_to, counts_wanted, lines_wanted, read_of}
 use Rattle.programs.specs.chunkplan.Document.{rechunk_by_source, rechunk_to, rechunk_within, resize_to}
 use Rattle.programs.specs.chunkplan.Keys.{AreKeys, HasKeysBehind, IsMissingText, behind_first, first_line}
 use Rattle.programs.specs.chunkplan.Line.{read_lines, rechunking_lines, resize_lines}
-use Rattle.programs.specs.chunkplan.StagesLine.{IsStagesLine}
 use Rattle.programs.specs.declared.chunkplan.line.Order.{Order}
 use Rattle.programs.specs.declared.chunkplan.line.Order.TheVariants.{Source, Target}
 use Rattle.programs.specs.declared.chunkplan.document.Stage.{Stage}
 use Rattle.programs.specs.declared.chunkplan.document.Stage.TheVariants.{First, Second}
-use Rattle.programs.specs.declared.chunkplan.stages_line.StagesCounts.{StagesCounts}
+use Rattle.programs.specs.declared.chunkplan.counting.StagesCounts.{StagesCounts}
 
 -- the plan of reading a box of elements, which has as many dimensions as the grid; an empty box has no parts
 pub record IsReadPlan (ds : List Dimension) (IsKeyOf : List ℕ → List ℕ → Type 0) (subset : Box) (parts : List Part) : Type 0 where

@@ -188,7 +188,7 @@ fn check_known_target(alloc: Global, target: &Value) -> Result<(), RunFault>
         (λ fault. (fault ≡ Memory) ⊎ ((told : UnknownMember) × (fault ≡ UnknownOfTarget told)
         × IsFirstUnknown zarr_json_members (view target.now) told)) }
 {
-    match check_known(alloc, target, &ZARR_JSON) {
+    match check_known(alloc, target, &DOCUMENT[..ZARR_JSON]) {
         Ok(()) => Ok(()),
         Err(Refusal::Refused(member)) => Err(RunFault::UnknownOfTarget(member)),
         Err(Refusal::Memory(_)) => Err(RunFault::Memory),

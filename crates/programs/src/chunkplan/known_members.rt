@@ -10,22 +10,10 @@ use std::fmt;
 use strsim::levenshtein;
 use zarrs_chunk_base::{ConfigurationFault, Refusal, refuse_unknown};
 
-/// What an array's `zarr.json` may have, and so a target.
-pub(crate) const ZARR_JSON: [&str; 11] = [
-    "attributes",
-    "chunk_grid",
-    "chunk_key_encoding",
-    "codecs",
-    "data_type",
-    "dimension_names",
-    "fill_value",
-    "node_type",
-    "shape",
-    "storage_transformers",
-    "zarr_format",
-];
+/// How many members an array's `zarr.json` may have, and so a target.
+pub(crate) const ZARR_JSON: usize = 11;
 
-/// What a document may have.
+/// What a document may have, first what stands in a `zarr.json`.
 pub(crate) const DOCUMENT: [&str; 27] = [
     "attributes",
     "chunk_grid",

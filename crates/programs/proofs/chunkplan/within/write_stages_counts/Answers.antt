@@ -1,5 +1,5 @@
 use Rattle.programs.specs.chunkplan.PlanFault.{IsStagesCountsFault}
-use Rattle.programs.specs.chunkplan.StagesLine.{IsStagesLine}
+use Rattle.programs.specs.chunkplan.CountsLine.{IsStagesLine}
 use Rattle.programs.specs.chunkplan.seen.Opened.{dimensions_of}
 use Rattle.programs.proofs.chunkplan.Steps.{made_text, text_follows}
 use Rattle.programs.proofs.chunkplan.within.write_stages_counts.Goals as goal

@@ -1,7 +1,7 @@
 use Rattle.std.proofs.Common.{◌∙◌, ◌++◌, [], ap, codes}
-use Rattle.programs.specs.chunkplan.StagesLine.{between_text, flag_text}
+use Rattle.programs.specs.chunkplan.CountsLine.{between_text, flag_text}
 use Rattle.programs.proofs.chunkplan.Appended.{more}
-use Rattle.programs.proofs.chunkplan.stages_line.stages_line.Goals as goal
+use Rattle.programs.proofs.chunkplan.counting.stages_line.Goals as goal
 
 pub returns : goal.returns
 returns c =
