@@ -16,7 +16,7 @@
 //! | `copying` | the lines of a plan, sent as they are made |
 //! | `line` | one line |
 //! | `part_ranges` | the byte ranges of a part, as a line has them |
-//! | `counting` | the counts of a plan, and those of a rechunking and of its two stages, as one line |
+//! | `counting` | the counts of a plan, and the counts of a rechunking and of its two stages, as one line |
 //! | `missing` | what is left of a plan beside keys |
 //! | `product` | products of numbers, in decimal digits |
 //! | `run_fault` | why a run stops |
@@ -97,8 +97,9 @@ pub fn run_to_status<R: Read, W: Write, E: Write>(
 /// doesn't go with the others, then one that isn't of its form; a grid or an encoding that can't be made, then those of the target; a box with
 /// another number of dimensions; a box of elements that has no cover, where it isn't clipped to the array; a region that doesn't lie in the array, or
 /// in the target's; lines of one stage that would hold too many elements, no array between, or too much to go through for either; a grid of the new
-/// shape that can't be made. Where keys stand behind the document, behind its own faults more lines than there are bits for, a failed read, and a key
-/// that is no text. Nothing has been written then. After a failed write, or where memory runs out, a beginning of the plan may have been written.
+/// shape that can't be made. If keys follow the document, then more lines than there are bits for, a failed read, and the first line that isn't UTF-8. If
+/// keys follow a document of several lines, this is the fault in place of no JSON. Nothing has been written then. After a failed write, or where memory
+/// runs out, a beginning of the plan may have been written.
 pub fn run<R: Read, W: Write>(
     alloc: Global,
     reader: &mut Watched<R>,

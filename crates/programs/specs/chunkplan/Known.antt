@@ -31,7 +31,7 @@ HasOnly known d = (members : Members) → as_object d ≡ Some members → HasNo
 abbrev pub IsFirstUnknown : List (List ℕ) → Data → UnknownMember → Type 0
 IsFirstUnknown known d told = (members : Members) × (as_object d ≡ Some members) × IsLeastName (IsUnknown known members) (string_bytes told.name)
 
--- The two values are the same: their compact texts, where they have only whole numbers; and any that nest no deeper than JSON that is read.
+-- Two values are the same. If their numbers are whole, so are their compact texts; if they nest no deeper than JSON that is read, so are they themselves.
 pub record AreSame (one other : Data) : Type 0 where
   pub texts : has_float one ≡ false → has_float other ≡ false → compact_text one ≡ compact_text other
   pub values : depth one ≤ max_depth → depth other ≤ max_depth → one ≡ other

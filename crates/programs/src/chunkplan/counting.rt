@@ -1,4 +1,4 @@
-//! The counts of a plan, as an object and as one line, and those of a rechunking and of its two stages.
+//! The counts of a plan, and the counts of a rechunking and of its two stages, as one line.
 ghost use Rattle.std.specs.Prelude.{◌≡◌, ◌++◌, ℕ, IfOk, List, OnOk};
 ghost use Rattle.json.specs.Print.{print};
 ghost use Rattle.json.specs.Tree.{json_tokens};

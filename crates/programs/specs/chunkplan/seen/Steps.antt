@@ -31,8 +31,8 @@ StepLeaves Planned IsFault (Err Write) before after = (after.failed ≡ true) ×
 StepLeaves Planned IsFault (Err fault) before after =
     (after.failed ≡ before.failed) × (after.holds ≡ before.holds) × IsFault fault
 
--- What a step leaves that reads before it sends, by its outcome: as of a step that sends, and no read failed, and nothing was left to read when it began
--- to send; or a read failed, and nothing was sent.
+-- What a step leaves that reads before it sends, by its outcome. If a read failed, nothing was sent. Otherwise it leaves what a step does that sends,
+-- and nothing was left to read when it began to send.
 abbrev pub ReadStepLeaves : (Planned : List ℕ → Type 0) (IsFault : RunFault → Type 0) → Result (Unit {0}) RunFault
     → (read_before read_after : Bool) (left : Option (List ℕ)) → Output → Output → Type 0
 ReadStepLeaves Planned IsFault (Ok u) read_before read_after left before after =
